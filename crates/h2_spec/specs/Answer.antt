@@ -1,0 +1,62 @@
+-- The book of answers, and the response to a request (the server's own choice; RFC 9113, 8.3.2, and RFC 7541, 6).
+use Rattle.std.specs.Prelude.{ℕ, ◌+◌, ◌/◌, ◌%◌, Bool, ◌&&◌, List, [], ◌∷◌, ◌++◌, length, bytes_eq, if◌then◌else◌, Option, Some, None, position, slice_get, flat_map, ◌==◌}
+use Rattle.h2_spec.specs.Field.{Field}
+use Rattle.h2_spec.specs.Integer.{spell_int}
+use Rattle.h2_spec.specs.Request.{Request}
+use Rattle.h2_spec.specs.declared.streams.Pick.{Pick}
+use Rattle.h2_spec.specs.declared.streams.Pick.TheVariants.{Listed, NotFound, Connect}
+
+pub record Answer : Type 0 where
+  pub status : ℕ
+  pub fields : List Field
+  pub body : List ℕ
+
+pub record Entry : Type 0 where
+  pub method : List ℕ
+  pub path : List ℕ
+  pub answer : Answer
+
+abbrev pub is_for : Request → Entry → Bool
+is_for r e = bytes_eq e.method r.method && bytes_eq e.path r.path
+
+abbrev pub pick_or : Option ℕ → Pick
+pick_or (Some i) = Listed i
+pick_or None = NotFound
+
+-- the first entry whose method and path are the request's
+unfoldable pub pick_of : List Entry → Request → Pick
+pick_of book r = if r.connect then Connect else pick_or (position (is_for r) book)
+
+abbrev pub bare : ℕ → Answer
+bare status = record { status = status; fields = []; body = [] }
+
+abbrev pub entry_or : Option Entry → Answer
+entry_or (Some e) = e.answer
+entry_or None = bare 404
+
+abbrev pub picked : List Entry → Pick → Answer
+picked book (Listed i) = entry_or (slice_get book i)
+picked book NotFound = bare 404
+picked book Connect = bare 501
+
+-- a string without a Huffman code
+abbrev pub string : List ℕ → List ℕ
+string s = spell_int 7 0 (length s) ++ s
+
+-- a literal without indexing whose name is spelled
+abbrev pub literal : Field → List ℕ
+literal f = 0 ∷ string f.name ++ string f.value
+
+-- the statuses that the static table has, from index 8 on
+abbrev pub indexed_statuses : List ℕ
+indexed_statuses = 200 ∷ 204 ∷ 206 ∷ 304 ∷ 400 ∷ 404 ∷ 500 ∷ []
+
+abbrev pub status_at : Option ℕ → ℕ → List ℕ
+status_at (Some i) status = (136 + i) ∷ []
+status_at None status = 8 ∷ 3 ∷ (48 + status / 100) ∷ (48 + status / 10 % 10) ∷ (48 + status % 10) ∷ []
+
+-- the octets of the response's header block; signal: the dynamic table's size becomes 0 first
+unfoldable pub response_block : Bool → ℕ → List Field → List ℕ
+unfolding spell_int
+response_block signal status fields =
+    (if signal then 0x20 ∷ [] else []) ++ status_at (position (λ s. s == status) indexed_statuses) status ++ flat_map literal fields

@@ -1,0 +1,155 @@
+-- What an item changes and what is sent for it (RFC 9113, 5.4).
+use Rattle.std.specs.Prelude.{ℕ, ◌+◌, Bool, true, false, ◌&&◌, List, [], ◌∷◌, ◌++◌, length, map, ◌==◌, if◌then◌else◌, Option, Some, None, ℤ, pos, ◌+ℤ◌, ◌-ℤ◌}
+use Rattle.h2_spec.specs.declared.connection.Core.{Core}
+use Rattle.h2_spec.specs.declared.connection.Phase.TheVariants as phase
+use Rattle.h2_spec.specs.declared.errors.ErrorCode.{ErrorCode}
+use Rattle.h2_spec.specs.declared.reactions.Answering.{Answering}
+use Rattle.h2_spec.specs.declared.reactions.Change.{Change}
+use Rattle.h2_spec.specs.declared.reactions.ConnectionFrame.{ConnectionFrame}
+use Rattle.h2_spec.specs.declared.reactions.ConnectionFrame.TheVariants.{Quiet, SettingsAck, PingAck, Credit}
+use Rattle.h2_spec.specs.declared.reactions.Reaction.{Reaction}
+use Rattle.h2_spec.specs.declared.reactions.Reaction.TheVariants.{ConnectionError, Continues}
+use Rattle.h2_spec.specs.declared.reactions.StreamFrame.{StreamFrame}
+use Rattle.h2_spec.specs.declared.reactions.StreamFrame.TheVariants.{Still, Reset, StreamCredit}
+use Rattle.h2_spec.specs.declared.reactions.Touch.{Touch}
+use Rattle.h2_spec.specs.declared.reactions.Touch.TheVariants.{Same, Put, Shift}
+use Rattle.h2_spec.specs.declared.reactions.Turn.{Turn}
+use Rattle.h2_spec.specs.declared.streams.Kind.{Kind}
+use Rattle.h2_spec.specs.declared.streams.Kind.TheVariants.{Idle, Skipped, BothOpen, HalfRemote, HalfLocal, Ended, PeerReset, WeReset}
+use Rattle.h2_spec.specs.declared.streams.Stream.{Stream}
+use Rattle.h2_spec.specs.Octets.{big_endian}
+use Rattle.h2_spec.specs.FrameType.{HEADERS, RST_STREAM, SETTINGS, PING, GOAWAY, WINDOW_UPDATE, END_STREAM, END_HEADERS, ACK}
+use Rattle.h2_spec.specs.Frame.{Frame}
+use Rattle.h2_spec.specs.Errors.{code_number}
+use Rattle.h2_spec.specs.Window.{is_above_max}
+use Rattle.h2_spec.specs.Stream.{not_live, put}
+use Rattle.h2_spec.specs.State.{State, OpenBlock}
+use Rattle.h2_spec.specs.Answer.{Answer, Entry, picked, response_block}
+
+-- ---- rules of one stream
+
+-- the stream's record, with nothing sent
+abbrev pub quiet_turn : Bool → Stream → Turn
+quiet_turn signal st = record { stream = st; frame = Still; answer = None; signal = signal }
+
+-- a stream error (5.4.2)
+abbrev pub stream_error : Bool → ℕ → ErrorCode → Turn
+stream_error signal id code = record { stream = not_live id WeReset; frame = Reset id code; answer = None; signal = signal }
+
+-- ---- changes
+
+-- nothing but the counts changes, and nothing is sent
+abbrev pub stay : Core → Change
+stay core = record { core = core; touch = Same; first = Quiet; second = Still; answer = None }
+
+abbrev pub with_signal : Core → Bool → Core
+with_signal core signal = record core { peer = record core.peer { signal = signal } }
+
+-- a change, and then what a rule does to one stream
+unfoldable pub turned : Change → Turn → Change
+turned c t = record { core = with_signal c.core t.signal; touch = Put t.stream; first = c.first; second = t.frame; answer = t.answer }
+
+-- streams whose send windows settings move (6.9.2)
+abbrev pub follows_initial_window : Kind → Bool
+follows_initial_window Idle = false
+follows_initial_window Skipped = false
+follows_initial_window BothOpen = true
+follows_initial_window HalfRemote = true
+follows_initial_window HalfLocal = false
+follows_initial_window Ended = false
+follows_initial_window PeerReset = false
+follows_initial_window WeReset = false
+
+abbrev pub with_send : Stream → ℤ → Stream
+with_send st w = record st { numbers = record st.numbers { send = w } }
+
+abbrev pub shifted_one : ℤ → Stream → Stream
+shifted_one d st = if follows_initial_window st.kind then with_send st (st.numbers.send +ℤ d) else st
+
+unfoldable pub shifted : ℤ → List Stream → List Stream
+shifted d streams = map (shifted_one d) streams
+
+abbrev pub overflows_one : ℤ → Stream → Bool
+overflows_one d st = follows_initial_window st.kind && is_above_max (st.numbers.send +ℤ d)
+
+-- whether a window would pass the largest one
+unfoldable pub overflows : ℤ → List Stream → Bool
+overflows d [] = false
+overflows d (st ∷ sts) = if overflows_one d st then true else overflows d sts
+
+-- from one initial window to another
+abbrev pub moved_by : ℕ → ℕ → ℤ
+moved_by from to = pos to -ℤ pos from
+
+abbrev pub touched : Touch → List Stream → List Stream
+touched Same streams = streams
+touched (Put st) streams = put st streams
+touched (Shift from to) streams = shifted (moved_by from to) streams
+
+-- the state after a change
+abbrev pub after : State → Change → State
+after s c = record s { core = c.core; streams = touched c.touch s.streams }
+
+-- ---- the frames
+
+abbrev pub goaway : ℕ → ErrorCode → Frame
+goaway last code = record { kind = GOAWAY; flags = 0; stream = 0; payload = big_endian 4 last ++ big_endian 4 (code_number code) }
+
+abbrev pub rst_stream : ℕ → ErrorCode → Frame
+rst_stream id code = record { kind = RST_STREAM; flags = 0; stream = id; payload = big_endian 4 (code_number code) }
+
+abbrev pub window_update : ℕ → ℕ → Frame
+window_update id n = record { kind = WINDOW_UPDATE; flags = 0; stream = id; payload = big_endian 4 n }
+
+abbrev pub flag_if : Bool → ℕ → ℕ
+flag_if true f = f
+flag_if false f = 0
+
+-- the HEADERS of a response (8.1)
+abbrev pub response : Bool → ℕ → Answer → Frame
+response signal id a = record { kind = HEADERS; flags = END_HEADERS + flag_if (length a.body == 0) END_STREAM; stream = id; payload = response_block signal a.status a.fields }
+
+-- with the item's payload
+abbrev pub first_frames : List ℕ → ConnectionFrame → List Frame
+first_frames p Quiet = []
+first_frames p SettingsAck = record { kind = SETTINGS; flags = ACK; stream = 0; payload = [] } ∷ []
+first_frames p PingAck = record { kind = PING; flags = ACK; stream = 0; payload = p } ∷ []
+first_frames p (Credit n) = window_update 0 n ∷ []
+
+abbrev pub second_frames : StreamFrame → List Frame
+second_frames Still = []
+second_frames (Reset id code) = rst_stream id code ∷ []
+second_frames (StreamCredit id n) = window_update id n ∷ []
+
+abbrev pub answer_frames : List Entry → Option Answering → List Frame
+answer_frames book None = []
+answer_frames book (Some a) = response a.signal a.id (picked book a.pick) ∷ []
+
+-- what is sent for an item, in the order of its parts
+unfoldable pub frames_of : List Entry → List ℕ → Change → List Frame
+frames_of book p c = first_frames p c.first ++ second_frames c.second ++ answer_frames book c.answer
+
+-- a state and the frames sent on the way to it
+pub record Step : Type 0 where
+  pub state : State
+  pub sent : List Frame
+
+-- an open block is decoded no more
+abbrev pub only_shown : Option OpenBlock → Option OpenBlock
+only_shown None = None
+only_shown (Some b) = Some (record b { decoding = None })
+
+-- a connection error changes the phase alone, and ends the decoding of an open block (5.4.1)
+abbrev pub ended : State → ErrorCode → State
+ended s code = record s { core = record s.core { phase = phase.Ended code }; block = only_shown s.block }
+
+abbrev pub broken : State → ErrorCode → Step
+broken s code = record { state = ended s code; sent = goaway s.core.last code ∷ [] }
+
+-- a change is made, for an item with this payload
+abbrev pub made : State → List ℕ → Change → Step
+made s p c = record { state = after s c; sent = frames_of s.book p c }
+
+abbrev pub settled : State → List ℕ → Reaction → Step
+settled s p (ConnectionError code) = broken s code
+settled s p (Continues c) = made s p c

@@ -1,0 +1,134 @@
+-- What one item does to a connection (RFC 9113, 5 and 6).
+use Rattle.std.specs.Prelude.{ℕ, Bool, List, [], length, ◌==◌, if◌then◌else◌, Option, Some, None, Result, Ok, Err}
+use Rattle.h2_spec.specs.declared.connection.Config.{Config}
+use Rattle.h2_spec.specs.declared.connection.Core.{Core}
+use Rattle.h2_spec.specs.declared.connection.Phase.TheVariants as phase
+use Rattle.h2_spec.specs.declared.connection.Purpose.{Purpose}
+use Rattle.h2_spec.specs.declared.errors.ErrorCode.{ErrorCode}
+use Rattle.h2_spec.specs.declared.errors.ErrorCode.TheVariants.{ProtocolError, FrameSizeError}
+use Rattle.h2_spec.specs.declared.frames.Head.{Head}
+use Rattle.h2_spec.specs.declared.reactions.Came.{Came}
+use Rattle.h2_spec.specs.declared.reactions.ConnectionFrame.TheVariants.{PingAck}
+use Rattle.h2_spec.specs.declared.reactions.Reaction.{Reaction}
+use Rattle.h2_spec.specs.declared.reactions.Reaction.TheVariants.{ConnectionError, Continues}
+use Rattle.h2_spec.specs.declared.reactions.Turn.{Turn}
+use Rattle.h2_spec.specs.declared.streams.Kind.TheVariants.{PeerReset}
+use Rattle.h2_spec.specs.declared.streams.Stream.{Stream}
+use Rattle.h2_spec.specs.FrameType.{ACK, END_STREAM, END_HEADERS, has}
+use Rattle.h2_spec.specs.Frame.{Item, Preface, BadPreface, WholeFrame, Oversize}
+use Rattle.h2_spec.specs.Payload.{DataPart, HeadersPart, Part, OfData, OfHeaders, OfPriority, OfRstStream, OfSettings, OfSettingsAck, OfPushPromise, OfPing, OfGoaway, OfWindowUpdate, OfContinuation, OfUnknown, PayloadFault, SizeFault, PadFault, part_as, part_of}
+use Rattle.h2_spec.specs.Block.{decoded}
+use Rattle.h2_spec.specs.Request.{malformed, malformed_trailers, declared_length, request_of}
+use Rattle.h2_spec.specs.Answer.{Entry, picked, pick_of, response_block}
+use Rattle.h2_spec.specs.Stream.{not_live, stream_at}
+use Rattle.h2_spec.specs.State.{State, OpenBlock}
+use Rattle.h2_spec.specs.Change.{Step, stay, turned, quiet_turn, broken, made, frames_of, shifted}
+use Rattle.h2_spec.specs.Checks.{refusal}
+use Rattle.h2_spec.specs.Table.{Cell, DataRule, Take, Refuse, Count, ResetRule, PeerResets, WindowRule, MoveWindow, data_cell, headers_cell, reset_cell, window_cell, run_cell}
+use Rattle.h2_spec.specs.Data.{data_taken, data_refused, data_counted}
+use Rattle.h2_spec.specs.WindowUpdate.{window_turn, connection_window}
+use Rattle.h2_spec.specs.SettingsFrame.{settings_rule, acknowledged}
+use Rattle.h2_spec.specs.Headers.{FrameEffect, Breaks, Makes, makes, request_turn, trailers_turn, block_opens, continuation}
+
+-- nothing happens
+abbrev pub nothing : Core → Reaction
+nothing core = Continues (stay core)
+
+-- ---- DATA
+
+abbrev pub data_rule : DataRule → Config → Core → ℕ → Came → Stream → Reaction
+data_rule Take config core body d st = data_taken config core body d st
+data_rule (Refuse code) config core body d st = data_refused config core d st code
+data_rule Count config core body d st = data_counted config core d
+
+-- DATA that comes on a stream, with the length of the body of the stream's answer
+unfoldable pub on_data : Config → Core → ℕ → Came → Stream → Reaction
+unfolding data_taken data_refused data_counted
+on_data config core body d st = run_cell ConnectionError (nothing core) (λ rule. data_rule rule config core body d st) (data_cell st.kind)
+
+abbrev pub came : Head → List ℕ → DataPart → Came
+came h p part = record { octets = length p; content = length part.content; ends = has h.flags END_STREAM }
+
+-- the length of the body of a stream's answer
+abbrev pub body_length : List Entry → Stream → ℕ
+body_length book st = length (picked book st.pick).body
+
+-- ---- RST_STREAM and WINDOW_UPDATE
+
+-- a live stream that the peer resets (6.4)
+abbrev pub reset_turn : Bool → Stream → Turn
+reset_turn signal st = quiet_turn signal (not_live st.id PeerReset)
+
+abbrev pub reset_rule : ResetRule → Core → Stream → Reaction
+reset_rule PeerResets core st = Continues (turned (stay core) (reset_turn core.peer.signal st))
+
+unfoldable pub on_reset : Core → Stream → Reaction
+unfolding turned
+on_reset core st = run_cell ConnectionError (nothing core) (λ rule. reset_rule rule core st) (reset_cell st.kind)
+
+abbrev pub window_rule : WindowRule → Core → ℕ → Stream → Reaction
+window_rule MoveWindow core increment st = Continues (turned (stay core) (window_turn core.peer.signal increment st))
+
+unfoldable pub on_window : Core → ℕ → Stream → Reaction
+unfolding turned window_turn
+on_window core increment st = run_cell ConnectionError (nothing core) (λ rule. window_rule rule core increment st) (window_cell st.kind)
+
+-- ---- HEADERS
+
+abbrev pub on_headers : State → Head → HeadersPart → Cell Purpose → FrameEffect
+on_headers s h part cell = run_cell Breaks (Makes s (stay s.core)) (λ purpose. block_opens s purpose h part) cell
+
+-- ---- a frame that has passed the checks, by what it holds
+
+abbrev pub frame_effect : State → Head → List ℕ → Part → FrameEffect
+frame_effect s h p (OfData part) = let st = stream_at s.core.last s.streams h.stream in makes s (on_data s.config s.core (body_length s.book st) (came h p part) st)
+frame_effect s h p (OfHeaders part) = on_headers s h part (headers_cell h.stream (stream_at s.core.last s.streams h.stream).kind)
+frame_effect s h p OfPriority = makes s (nothing s.core)
+frame_effect s h p (OfRstStream code) = makes s (on_reset s.core (stream_at s.core.last s.streams h.stream))
+frame_effect s h p (OfSettings pairs) = makes s (settings_rule s.streams s.core pairs)
+frame_effect s h p OfSettingsAck = makes s (acknowledged s.core)
+frame_effect s h p OfPushPromise = Breaks ProtocolError
+frame_effect s h p (OfPing octets) = makes s (if has h.flags ACK then nothing s.core else Continues (record (stay s.core) { first = PingAck }))
+frame_effect s h p (OfGoaway last code) = makes s (Continues (stay (record s.core { goaway = Some (last, code) })))
+frame_effect s h p (OfWindowUpdate increment) = makes s (if h.stream == 0 then connection_window s.core increment else on_window s.core increment (stream_at s.core.last s.streams h.stream))
+frame_effect s h p (OfContinuation fragment) = continuation s s.block fragment (has h.flags END_HEADERS)
+frame_effect s h p OfUnknown = makes s (nothing s.core)
+
+-- ---- an item
+
+-- a payload of a bad length, or with too much padding, is a connection error
+abbrev pub part_effect : State → Head → List ℕ → Result Part PayloadFault → FrameEffect
+part_effect s h p (Err SizeFault) = Breaks FrameSizeError
+part_effect s h p (Err PadFault) = Breaks ProtocolError
+part_effect s h p (Ok part) = frame_effect s h p part
+
+-- after the checks of the head
+abbrev pub checked_effect : State → Head → List ℕ → Option ErrorCode → FrameEffect
+checked_effect s h p None = part_effect s h p (part_of h p)
+checked_effect s h p (Some code) = Breaks code
+
+abbrev pub block_stream : Option OpenBlock → Option ℕ
+block_stream None = None
+block_stream (Some b) = Some b.shown.stream
+
+abbrev pub item_effect : State → Item → FrameEffect
+item_effect s Preface = Makes s (stay (record s.core { phase = phase.Settings }))
+item_effect s BadPreface = Breaks ProtocolError
+item_effect s (Oversize h) = Breaks FrameSizeError
+item_effect s (WholeFrame h p) = checked_effect s h p (refusal (block_stream s.block) s.core.phase h)
+
+-- what a PING's answer holds
+abbrev pub payload_of : Item → List ℕ
+payload_of Preface = []
+payload_of BadPreface = []
+payload_of (Oversize h) = []
+payload_of (WholeFrame h p) = p
+
+abbrev pub concluded : State → List ℕ → FrameEffect → Step
+concluded s p (Breaks code) = broken s code
+concluded s p (Makes t c) = made t p c
+
+-- the effect of one item
+unfoldable pub effect : State → Item → Step
+unfolding refusal part_as on_data on_reset on_window connection_window settings_rule request_turn trailers_turn stream_at turned decoded frames_of shifted malformed malformed_trailers declared_length request_of pick_of response_block
+effect s item = concluded s (payload_of item) (item_effect s item)

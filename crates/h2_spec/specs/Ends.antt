@@ -1,0 +1,61 @@
+-- How the sides of a stream end, and how its answer begins (RFC 9113, 5.1 and 8.1).
+use Rattle.std.specs.Prelude.{ℕ, Bool, true, false, ◌==◌, if◌then◌else◌, Some, None, is_some}
+use Rattle.h2_spec.specs.declared.reactions.StreamFrame.TheVariants.{Still}
+use Rattle.h2_spec.specs.declared.reactions.Turn.{Turn}
+use Rattle.h2_spec.specs.declared.streams.Kind.{Kind}
+use Rattle.h2_spec.specs.declared.streams.Kind.TheVariants.{Idle, Skipped, BothOpen, HalfRemote, HalfLocal, Ended, PeerReset, WeReset}
+use Rattle.h2_spec.specs.declared.streams.Stream.{Stream}
+use Rattle.h2_spec.specs.Stream.{not_live}
+use Rattle.h2_spec.specs.Change.{quiet_turn}
+
+abbrev pub with_left : Stream → ℕ → Stream
+with_left st n = record st { numbers = record st.numbers { left = Some n } }
+
+abbrev pub with_kind : Stream → Kind → Stream
+with_kind st kind = record st { kind = kind }
+
+-- a stream whose server side has ended, by its state before
+abbrev pub server_ended_as : Kind → Stream → Stream
+server_ended_as BothOpen st = record st { kind = HalfLocal; numbers = record st.numbers { left = None } }
+server_ended_as HalfRemote st = not_live st.id Ended
+server_ended_as Idle st = st
+server_ended_as Skipped st = st
+server_ended_as HalfLocal st = st
+server_ended_as Ended st = st
+server_ended_as PeerReset st = st
+server_ended_as WeReset st = st
+
+-- the stream after the server's last frame
+unfoldable pub server_ended : Stream → Stream
+server_ended st = server_ended_as st.kind st
+
+-- the stream as its answer begins, with the length of the answer's body
+unfoldable pub begun : ℕ → Stream → Stream
+unfolding server_ended
+begun body st = if body == 0 then server_ended st else with_left st body
+
+-- the answer begins: HEADERS is sent, and the body waits
+unfoldable pub answered : Bool → ℕ → Stream → Turn
+unfolding begun
+answered signal body st = record { stream = begun body st; frame = Still; answer = Some (record { id = st.id; pick = st.pick; signal = signal }); signal = false }
+
+-- unless it has begun
+abbrev pub answered_unless : Bool → Bool → ℕ → Stream → Turn
+answered_unless true signal body st = quiet_turn signal st
+answered_unless false signal body st = answered signal body st
+
+-- a stream whose peer's side ends, by its state before
+abbrev pub peer_ended_as : Kind → Bool → ℕ → Stream → Turn
+peer_ended_as BothOpen signal body st = answered_unless (is_some st.numbers.left) signal body (with_kind st HalfRemote)
+peer_ended_as HalfLocal signal body st = quiet_turn signal (not_live st.id Ended)
+peer_ended_as HalfRemote signal body st = quiet_turn signal st
+peer_ended_as Idle signal body st = quiet_turn signal st
+peer_ended_as Skipped signal body st = quiet_turn signal st
+peer_ended_as Ended signal body st = quiet_turn signal st
+peer_ended_as PeerReset signal body st = quiet_turn signal st
+peer_ended_as WeReset signal body st = quiet_turn signal st
+
+-- the peer's side ends: what was open is answered, with this length of the answer's body
+unfoldable pub peer_ended : Bool → ℕ → Stream → Turn
+unfolding answered
+peer_ended signal body st = peer_ended_as st.kind signal body st

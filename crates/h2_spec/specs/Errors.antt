@@ -1,0 +1,14 @@
+-- Error codes (RFC 9113, 7).
+use Rattle.std.specs.Prelude.{ℕ}
+use Rattle.h2_spec.specs.declared.errors.ErrorCode.{ErrorCode}
+use Rattle.h2_spec.specs.declared.errors.ErrorCode.TheVariants.{ProtocolError, FlowControlError, StreamClosed, FrameSizeError, RefusedStream, CompressionError, EnhanceYourCalm}
+
+-- the number that stands for a code in RST_STREAM and GOAWAY
+abbrev pub code_number : ErrorCode → ℕ
+code_number ProtocolError = 1
+code_number FlowControlError = 3
+code_number StreamClosed = 5
+code_number FrameSizeError = 6
+code_number RefusedStream = 7
+code_number CompressionError = 9
+code_number EnhanceYourCalm = 11

@@ -1,0 +1,70 @@
+-- Frame types and flags (RFC 9113, 6).
+use Rattle.std.specs.Prelude.{ℕ, ◌/◌, ◌%◌, Bool, ◌==◌, if◌then◌else◌}
+use Rattle.h2_spec.specs.declared.frames.FrameType.{FrameType}
+use Rattle.h2_spec.specs.declared.frames.FrameType.TheVariants.{Data, Headers, Priority, RstStream, Settings, PushPromise, Ping, Goaway, WindowUpdate, Continuation, Unknown}
+
+-- the numbers of the types
+abbrev pub DATA : ℕ
+DATA = 0
+
+abbrev pub HEADERS : ℕ
+HEADERS = 1
+
+abbrev pub PRIORITY : ℕ
+PRIORITY = 2
+
+abbrev pub RST_STREAM : ℕ
+RST_STREAM = 3
+
+abbrev pub SETTINGS : ℕ
+SETTINGS = 4
+
+abbrev pub PUSH_PROMISE : ℕ
+PUSH_PROMISE = 5
+
+abbrev pub PING : ℕ
+PING = 6
+
+abbrev pub GOAWAY : ℕ
+GOAWAY = 7
+
+abbrev pub WINDOW_UPDATE : ℕ
+WINDOW_UPDATE = 8
+
+abbrev pub CONTINUATION : ℕ
+CONTINUATION = 9
+
+-- the type that a number stands for
+abbrev pub frame_type : ℕ → FrameType
+frame_type kind =
+    if kind == DATA then Data
+    else if kind == HEADERS then Headers
+    else if kind == PRIORITY then Priority
+    else if kind == RST_STREAM then RstStream
+    else if kind == SETTINGS then Settings
+    else if kind == PUSH_PROMISE then PushPromise
+    else if kind == PING then Ping
+    else if kind == GOAWAY then Goaway
+    else if kind == WINDOW_UPDATE then WindowUpdate
+    else if kind == CONTINUATION then Continuation
+    else Unknown kind
+
+-- the flags, as the bit's value: END_STREAM and ACK are the same bit
+abbrev pub END_STREAM : ℕ
+END_STREAM = 1
+
+abbrev pub ACK : ℕ
+ACK = 1
+
+abbrev pub END_HEADERS : ℕ
+END_HEADERS = 4
+
+abbrev pub PADDED : ℕ
+PADDED = 8
+
+abbrev pub WITH_PRIORITY : ℕ
+WITH_PRIORITY = 32
+
+-- whether a flag is set
+abbrev pub has : ℕ → ℕ → Bool
+has flags flag = flags / flag % 2 == 1

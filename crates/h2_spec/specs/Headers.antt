@@ -1,0 +1,149 @@
+-- Field blocks: HEADERS and CONTINUATION, and the end of a block (RFC 9113, 4.3, 6.2, 6.10 and 8.1).
+use Rattle.std.specs.Prelude.{ℕ, ◌+◌, Bool, true, false, ◌&&◌, ◌||◌, not, List, [], ◌++◌, length, nat_lt, nat_le, ◌==◌, if◌then◌else◌, Option, Some, None, is_some, pos}
+use Rattle.h2_spec.specs.declared.connection.BlockView.{BlockView}
+use Rattle.h2_spec.specs.declared.connection.Config.{Config}
+use Rattle.h2_spec.specs.declared.connection.Core.{Core}
+use Rattle.h2_spec.specs.declared.connection.Purpose.{Purpose}
+use Rattle.h2_spec.specs.declared.connection.Purpose.TheVariants.{Request, Trailers, Closed, TableOnly}
+use Rattle.h2_spec.specs.declared.errors.ErrorCode.{ErrorCode}
+use Rattle.h2_spec.specs.declared.errors.ErrorCode.TheVariants.{ProtocolError, StreamClosed, RefusedStream, CompressionError, EnhanceYourCalm}
+use Rattle.h2_spec.specs.declared.frames.Head.{Head}
+use Rattle.h2_spec.specs.declared.reactions.Change.{Change}
+use Rattle.h2_spec.specs.declared.reactions.Facts.{Facts}
+use Rattle.h2_spec.specs.declared.reactions.Reaction.{Reaction}
+use Rattle.h2_spec.specs.declared.reactions.Reaction.TheVariants.{ConnectionError, Continues}
+use Rattle.h2_spec.specs.declared.reactions.Turn.{Turn}
+use Rattle.h2_spec.specs.declared.streams.Kind.TheVariants.{BothOpen}
+use Rattle.h2_spec.specs.declared.streams.Stream.{Stream}
+use Rattle.h2_spec.specs.FrameType.{END_STREAM, END_HEADERS, has}
+use Rattle.h2_spec.specs.Payload.{HeadersPart}
+use Rattle.h2_spec.specs.Field.{Field}
+use Rattle.h2_spec.specs.Block.{Decoded, Unfinished, Faulty, decoded, list_size}
+use Rattle.h2_spec.specs.Request.{malformed, malformed_trailers, declared_length, request_of}
+use Rattle.h2_spec.specs.Answer.{Entry, pick_of, picked}
+use Rattle.h2_spec.specs.Stream.{stream_at, live_count}
+use Rattle.h2_spec.specs.State.{State, OpenBlock, Decoding, is_due}
+use Rattle.h2_spec.specs.Change.{stay, turned, quiet_turn, stream_error}
+use Rattle.h2_spec.specs.Ends.{peer_ended}
+use Rattle.h2_spec.specs.Data.{breaks_length}
+
+-- the most octets of a block's fragments
+abbrev pub max_block : ℕ
+max_block = 65536
+
+-- the largest list of fields (10.5.1)
+abbrev pub max_list : ℕ
+max_list = 65536
+
+-- ---- the end of a block
+
+-- what the fields of a request come to
+abbrev pub request_facts : List Entry → List Field → Facts
+request_facts book fields = record { size = list_size fields; malformed = is_some (malformed fields); declared = declared_length fields; pick = pick_of book (request_of fields) }
+
+-- a stream that a request opens
+abbrev pub new_stream : Core → ℕ → Facts → Stream
+new_stream core id f = record {
+  id = id;
+  kind = BothOpen;
+  numbers = record { recv = pos core.own.window; owed = 0; send = pos core.peer.window; got = 0; declared = f.declared; left = None };
+  pick = f.pick;
+}
+
+abbrev pub is_zero_or_none : Option ℕ → Bool
+is_zero_or_none None = true
+is_zero_or_none (Some n) = n == 0
+
+-- the stream that a request opens, with the number of live streams and the length of its answer's body
+unfoldable pub request_turn : Config → ℕ → ℕ → Core → ℕ → Bool → Facts → Turn
+unfolding peer_ended
+request_turn config live body core id ends f =
+    if nat_le config.streams live then stream_error core.peer.signal id RefusedStream
+    else if nat_lt max_list f.size then stream_error core.peer.signal id EnhanceYourCalm
+    else if f.malformed || (ends && not (is_zero_or_none f.declared)) then stream_error core.peer.signal id ProtocolError
+    else if ends then peer_ended core.peer.signal body (new_stream core id f)
+    else quiet_turn core.peer.signal (new_stream core id f)
+
+-- what trailers do to their stream: the size of their list, whether a reason stands against them, and the length of the answer's body
+unfoldable pub trailers_turn : ℕ → Bool → ℕ → Bool → Bool → Stream → Turn
+unfolding peer_ended
+trailers_turn size malformed body signal ends st =
+    if nat_lt max_list size then stream_error signal st.id EnhanceYourCalm
+    else if malformed || not ends || breaks_length st.numbers.declared st.numbers.got true then stream_error signal st.id ProtocolError
+    else peer_ended signal body st
+
+-- the end of a request's block
+abbrev pub request_ends : State → ℕ → Bool → List Field → Change
+request_ends s id ends fields =
+    let f = request_facts s.book fields in
+    turned (stay (record s.core { last = id })) (request_turn s.config (live_count s.streams) (length (picked s.book f.pick).body) s.core id ends f)
+
+-- the end of a block of trailers
+abbrev pub trailers_end : State → ℕ → Bool → List Field → Change
+trailers_end s id ends fields =
+    let st = stream_at s.core.last s.streams id in
+    turned (stay s.core) (trailers_turn (list_size fields) (is_some (malformed_trailers fields)) (length (picked s.book st.pick).body) s.core.peer.signal ends st)
+
+-- the end of a block, by its purpose
+abbrev pub block_ends : State → ℕ → Bool → List Field → Purpose → Change
+block_ends s id ends fields Request = request_ends s id ends fields
+block_ends s id ends fields Trailers = trailers_end s id ends fields
+block_ends s id ends fields Closed = turned (stay s.core) (stream_error s.core.peer.signal id StreamClosed)
+block_ends s id ends fields TableOnly = stay s.core
+
+-- ---- fragments
+
+-- what a frame comes to: a connection error, or a state, with its block and table, in which the change is made
+pub data FrameEffect : Type 0 where
+  Breaks : ErrorCode → FrameEffect
+  Makes : State → Change → FrameEffect
+
+abbrev pub makes : State → Reaction → FrameEffect
+makes s (ConnectionError code) = Breaks code
+makes s (Continues c) = Makes s c
+
+abbrev pub with_block : State → Option OpenBlock → State
+with_block s b = record s { block = b }
+
+-- the fragments so far are decoded, up to the beginning of an instruction
+abbrev pub fragment_read : State → BlockView → Decoding → Bool → FrameEffect
+fragment_read s b d false = Makes (with_block s (Some (record { shown = b; decoding = Some d }))) (stay s.core)
+fragment_read s b d true = if length d.rest == 0 then Makes (with_block s None) (block_ends s b.stream b.ends d.fields d.purpose) else Breaks CompressionError
+
+-- a fragment was decoded: the block and the table stand so, or it has a fault
+abbrev pub fragment_decoded : State → BlockView → Purpose → Bool → Decoded → FrameEffect
+fragment_decoded s b purpose end_headers d = elim d.outcome [
+  | Unfinished rest ↦ fragment_read (record s { table = d.progress.table }) (record b { list_size = list_size d.progress.fields }) (record { purpose = purpose; fields = d.progress.fields; rest = rest }) end_headers
+  | Faulty fault ↦ Breaks CompressionError
+]
+
+-- what the octets of a fragment do, behind those of the block that are not decoded yet
+abbrev pub decoded_with : State → Decoding → List ℕ → Decoded
+decoded_with s d octets = decoded s.core.own.table (record { fields = d.fields; table = s.table; due = is_due s }) (d.rest ++ octets)
+
+-- a fragment of a block
+abbrev pub fragment : State → BlockView → Decoding → List ℕ → Bool → FrameEffect
+fragment s b d octets end_headers =
+    if nat_lt max_block (b.octets + length octets) then Breaks EnhanceYourCalm
+    else fragment_decoded s (record b { octets = b.octets + length octets }) d.purpose end_headers (decoded_with s d octets)
+
+-- a block of which nothing has come yet
+abbrev pub fresh_block : Head → BlockView
+fresh_block h = record { stream = h.stream; octets = 0; list_size = 0; ends = has h.flags END_STREAM }
+
+abbrev pub fresh_decoding : Purpose → Decoding
+fresh_decoding purpose = record { purpose = purpose; fields = []; rest = [] }
+
+-- HEADERS opens a block
+abbrev pub block_opens : State → Purpose → Head → HeadersPart → FrameEffect
+block_opens s purpose h part = fragment s (fresh_block h) (fresh_decoding purpose) part.fragment (has h.flags END_HEADERS)
+
+-- CONTINUATION goes on with the open block; there is none after the end of the connection
+abbrev pub continued : State → BlockView → Option Decoding → List ℕ → Bool → FrameEffect
+continued s b None octets end_headers = Breaks ProtocolError
+continued s b (Some d) octets end_headers = fragment s b d octets end_headers
+
+-- CONTINUATION where no block is open is an error
+abbrev pub continuation : State → Option OpenBlock → List ℕ → Bool → FrameEffect
+continuation s None octets end_headers = Breaks ProtocolError
+continuation s (Some b) octets end_headers = continued s b.shown b.decoding octets end_headers

@@ -1,0 +1,45 @@
+-- Settings of the peer and of the server (RFC 9113, 6.5.2).
+use Rattle.std.specs.Prelude.{ℕ, true, false, ◌&&◌, nat_le, ◌==◌, if◌then◌else◌, Some, None, Result, Ok, Err}
+use Rattle.h2_spec.specs.declared.errors.ErrorCode.{ErrorCode}
+use Rattle.h2_spec.specs.declared.errors.ErrorCode.TheVariants.{ProtocolError, FlowControlError}
+use Rattle.h2_spec.specs.declared.flow.Settings.{Settings}
+use Rattle.h2_spec.specs.declared.flow.Own.{Own}
+use Rattle.h2_spec.specs.Window.{max_window}
+
+-- the identifiers of settings
+abbrev pub SETTINGS_HEADER_TABLE_SIZE : ℕ
+SETTINGS_HEADER_TABLE_SIZE = 1
+
+abbrev pub SETTINGS_ENABLE_PUSH : ℕ
+SETTINGS_ENABLE_PUSH = 2
+
+abbrev pub SETTINGS_MAX_CONCURRENT_STREAMS : ℕ
+SETTINGS_MAX_CONCURRENT_STREAMS = 3
+
+abbrev pub SETTINGS_INITIAL_WINDOW_SIZE : ℕ
+SETTINGS_INITIAL_WINDOW_SIZE = 4
+
+abbrev pub SETTINGS_MAX_FRAME_SIZE : ℕ
+SETTINGS_MAX_FRAME_SIZE = 5
+
+abbrev pub SETTINGS_MAX_HEADER_LIST_SIZE : ℕ
+SETTINGS_MAX_HEADER_LIST_SIZE = 6
+
+-- the peer's settings before it has sent any
+abbrev pub initial : Settings
+initial = record { header_table = 4096; push = 1; streams = None; window = 65535; frame = 16384; list = None; signal = false }
+
+-- the server's settings that are in force until the peer has acknowledged others
+abbrev pub own_initial : Own
+own_initial = record { table = 4096; window = 65535; frame = 16384 }
+
+-- the settings after one of them, or the error code
+unfoldable pub with_setting : Settings → ℕ → ℕ → Result Settings ErrorCode
+with_setting s id v =
+    if id == SETTINGS_HEADER_TABLE_SIZE then Ok (record s { header_table = v; signal = true })
+    else if id == SETTINGS_ENABLE_PUSH then (if nat_le v 1 then Ok (record s { push = v }) else Err ProtocolError)
+    else if id == SETTINGS_MAX_CONCURRENT_STREAMS then Ok (record s { streams = Some v })
+    else if id == SETTINGS_INITIAL_WINDOW_SIZE then (if nat_le v max_window then Ok (record s { window = v }) else Err FlowControlError)
+    else if id == SETTINGS_MAX_FRAME_SIZE then (if nat_le 16384 v && nat_le v 16777215 then Ok (record s { frame = v }) else Err ProtocolError)
+    else if id == SETTINGS_MAX_HEADER_LIST_SIZE then Ok (record s { list = Some v })
+    else Ok s

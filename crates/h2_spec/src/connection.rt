@@ -1,0 +1,73 @@
+//! What a connection counts and knows, besides its streams and its header table (RFC 9113, 3.4 and 5.4).
+//! Rests on `errors` and `flow`; definitions: `specs/State.antt`.
+
+use crate::errors::ErrorCode;
+use crate::flow::{Credit, Own, Settings, Window};
+
+/// How far a connection has come (RFC 9113, 3.4 and 5.4.1).
+#[derive(Clone, Copy, Debug, PartialEq, Eq)]
+pub enum Phase {
+    /// The client's preface is awaited.
+    Preface,
+    /// The first SETTINGS is awaited.
+    Settings,
+    Running,
+    /// A connection error with this code ended it.
+    Ended(ErrorCode),
+}
+
+/// The limits that the server was given.
+#[derive(Clone, Copy, Debug, PartialEq, Eq)]
+pub struct Config {
+    /// The most live streams at a time, 1 to 1000.
+    pub streams: u32,
+    /// How many octets are owed before they are given back by WINDOW_UPDATE, 1 to 65535.
+    pub credit: u32,
+}
+
+/// What a connection counts and knows, besides its streams, table and open block.
+#[derive(Clone, Copy, Debug, PartialEq, Eq)]
+pub struct Core {
+    pub phase: Phase,
+    /// The highest client stream whose request block has ended, 0 at first.
+    pub last: u32,
+    /// The receive window of the connection (RFC 9113, 6.9).
+    pub recv: Window,
+    /// Octets received that the server has not yet given back by WINDOW_UPDATE.
+    pub owed: Credit,
+    /// The send window of the connection (RFC 9113, 6.9).
+    pub send: Window,
+    /// The peer's settings.
+    pub peer: Settings,
+    /// The server's settings that are in force.
+    pub own: Own,
+    /// Whether the peer has acknowledged the server's settings.
+    pub acked: bool,
+    /// The last stream and the code of the latest GOAWAY received.
+    pub goaway: Option<(u32, u32)>,
+}
+
+/// What the fields of an open block are for.
+#[derive(Clone, Copy, Debug, PartialEq, Eq)]
+pub enum Purpose {
+    /// They open a stream.
+    Request,
+    /// They end the peer's side of one.
+    Trailers,
+    /// The peer has ended the stream: a stream error at the block's end.
+    Closed,
+    /// The server has reset the stream: only the header table follows them.
+    TableOnly,
+}
+
+/// A field block that is open, as it is shown (RFC 9113, 4.3).
+#[derive(Clone, Copy, Debug, PartialEq, Eq)]
+pub struct BlockView {
+    pub stream: u32,
+    /// The octets of its fragments so far.
+    pub octets: u32,
+    /// The size of its list of fields so far (RFC 9113, 6.5.2); stays at 2^64 - 1 once there.
+    pub list_size: u64,
+    /// Whether its HEADERS had END_STREAM.
+    pub ends: bool,
+}

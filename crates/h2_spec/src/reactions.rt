@@ -1,0 +1,89 @@
+//! What a rule answers: a connection error, or a small change with at most one frame of each place in the order of sending.
+//! Rests on `errors`, `streams` and `connection`; definitions: `specs/Change.antt`.
+
+use crate::connection::Core;
+use crate::errors::ErrorCode;
+use crate::streams::{Pick, Stream};
+
+/// What becomes of the streams' records.
+#[derive(Clone, Copy, Debug, PartialEq, Eq)]
+pub enum Touch {
+    Same,
+    /// A record takes the place of the one with its identifier, or goes last.
+    Put(Stream),
+    /// Send windows move by the difference of these initial windows (RFC 9113, 6.9.2).
+    Shift(u32, u32),
+}
+
+/// What is sent first for an item, on the connection.
+#[derive(Clone, Copy, Debug, PartialEq, Eq)]
+pub enum ConnectionFrame {
+    Quiet,
+    SettingsAck,
+    /// With the payload of the PING that is answered.
+    PingAck,
+    /// WINDOW_UPDATE with this increment.
+    Credit(u32),
+}
+
+/// What is sent next for an item, on a stream.
+#[derive(Clone, Copy, Debug, PartialEq, Eq)]
+pub enum StreamFrame {
+    Still,
+    /// RST_STREAM on this stream, with this code.
+    Reset(u32, ErrorCode),
+    /// WINDOW_UPDATE on this stream, with this increment.
+    StreamCredit(u32, u32),
+}
+
+/// An answer that begins: HEADERS is sent.
+#[derive(Clone, Copy, Debug, PartialEq, Eq)]
+pub struct Answering {
+    pub id: u32,
+    pub pick: Pick,
+    /// Whether the block begins with a table size update to 0.
+    pub signal: bool,
+}
+
+/// What a rule of one stream answers: its record, what is sent on it, and whether a table size update is still to be sent.
+#[derive(Clone, Copy, Debug, PartialEq, Eq)]
+pub struct Turn {
+    pub stream: Stream,
+    pub frame: StreamFrame,
+    pub answer: Option<Answering>,
+    pub signal: bool,
+}
+
+/// What an item changes, and what is sent for it.
+#[derive(Clone, Copy, Debug, PartialEq, Eq)]
+pub struct Change {
+    pub core: Core,
+    pub touch: Touch,
+    pub first: ConnectionFrame,
+    pub second: StreamFrame,
+    pub answer: Option<Answering>,
+}
+
+/// What an item comes to: a connection error, or a change (RFC 9113, 5.4).
+#[derive(Clone, Copy, Debug, PartialEq, Eq)]
+pub enum Reaction {
+    ConnectionError(ErrorCode),
+    Continues(Change),
+}
+
+/// DATA that comes: its octets, those of its content, and whether it ends the peer's side.
+#[derive(Clone, Copy, Debug, PartialEq, Eq)]
+pub struct Came {
+    pub octets: u32,
+    pub content: u32,
+    pub ends: bool,
+}
+
+/// What the fields of a block come to: their size, whether a reason stands against them, what they declare, and the answer that is picked.
+#[derive(Clone, Copy, Debug, PartialEq, Eq)]
+pub struct Facts {
+    pub size: u64,
+    pub malformed: bool,
+    pub declared: Option<u64>,
+    pub pick: Pick,
+}

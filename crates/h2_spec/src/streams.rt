@@ -1,0 +1,62 @@
+//! Streams: their states, what is counted on them, and their records (RFC 9113, 5.1).
+//! Rests on `flow`; definitions: `specs/Stream.antt`.
+
+use crate::flow::{Credit, Window};
+
+/// The states of a stream (RFC 9113, 5.1). Client streams alone have records.
+#[derive(Clone, Copy, Debug, PartialEq, Eq)]
+pub enum Kind {
+    /// Not begun.
+    Idle,
+    /// Passed over by a request on a higher stream, and so closed.
+    Skipped,
+    BothOpen,
+    /// The peer has ended its side.
+    HalfRemote,
+    /// The server has ended its side.
+    HalfLocal,
+    /// Both sides have ended.
+    Ended,
+    /// The peer has reset it.
+    PeerReset,
+    /// The server has reset it.
+    WeReset,
+}
+
+/// What is counted on a live stream; all 0 and `None` on one that is not live.
+#[derive(Clone, Copy, Debug, PartialEq, Eq)]
+pub struct Numbers {
+    /// The receive window (RFC 9113, 6.9).
+    pub recv: Window,
+    /// Octets received that the server has not yet given back by WINDOW_UPDATE.
+    pub owed: Credit,
+    /// The send window (RFC 9113, 6.9).
+    pub send: Window,
+    /// Octets of content received; stays at 2^64 - 1 once there.
+    pub got: u64,
+    /// The content-length of the request, if it has one (RFC 9113, 8.1.1).
+    pub declared: Option<u64>,
+    /// The octets of the answer that wait to be sent, if there are any.
+    pub left: Option<u64>,
+}
+
+/// Which answer a request gets.
+#[derive(Clone, Copy, Debug, PartialEq, Eq)]
+pub enum Pick {
+    /// The entry of the book at this place, from 0.
+    Listed(usize),
+    /// None of the book: 404.
+    NotFound,
+    /// CONNECT, which is not done here: 501.
+    Connect,
+}
+
+/// The record of a stream.
+#[derive(Clone, Copy, Debug, PartialEq, Eq)]
+pub struct Stream {
+    pub id: u32,
+    pub kind: Kind,
+    pub numbers: Numbers,
+    /// The answer that its request picked.
+    pub pick: Pick,
+}
