@@ -1,9 +1,10 @@
 mod BlockRows
-pub mod ParseLaws
 mod Hex
 mod HuffmanLaws
 mod IntegerLaws
+pub mod ParseLaws
 mod Rows
+mod ShowRows
 mod TableLaws
 mod TraceLaws
 mod TraceRows

@@ -3,6 +3,7 @@ pub mod Block
 pub mod Change
 pub mod Checks
 pub mod Data
+pub mod Debug
 pub mod DynamicTable
 pub mod Effect
 pub mod Ends
@@ -23,10 +24,12 @@ pub mod Read
 pub mod Request
 pub mod Settings
 pub mod SettingsFrame
+pub mod Show
 pub mod State
 pub mod StaticTable
 pub mod Stream
 pub mod Table
 pub mod Trace
+pub mod View
 pub mod Window
 pub mod WindowUpdate

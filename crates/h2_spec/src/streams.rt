@@ -60,3 +60,11 @@ pub struct Stream {
     /// The answer that its request picked.
     pub pick: Pick,
 }
+
+/// A stream as it is shown: its record without the answer.
+#[derive(Clone, Copy, Debug, PartialEq, Eq)]
+pub struct StreamView {
+    pub id: u32,
+    pub kind: Kind,
+    pub numbers: Numbers,
+}
