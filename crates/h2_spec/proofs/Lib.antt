@@ -5,6 +5,6 @@ mod IntegerLaws
 pub mod ParseLaws
 mod Rows
 mod ShowRows
-mod TableLaws
+pub mod TableLaws
 mod TraceLaws
 mod TraceRows

@@ -8,3 +8,4 @@ pub mod frames;
 pub mod laws;
 pub mod reactions;
 pub mod streams;
+pub mod table_laws;
