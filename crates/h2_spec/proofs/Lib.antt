@@ -1,10 +1,11 @@
 mod BlockRows
+mod DebugRows
 mod Hex
 mod HuffmanLaws
 mod IntegerLaws
+mod LongBodies
 pub mod ParseLaws
 mod Rows
-mod ShowRows
+mod Runs
 pub mod TableLaws
 mod TraceLaws
-mod TraceRows

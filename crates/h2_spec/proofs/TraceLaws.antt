@@ -6,24 +6,15 @@ use Rattle.std.proofs.lemmas.List.Sums.{common_prefix_len-le}
 use Rattle.std.proofs.Math.ListN.{get_or-append}
 use Rattle.std.specs.List.{common_prefix_len}
 use Rattle.std.specs.Prelude.{slice_range}
-use Rattle.h2_spec.specs.Parse.{parse_all}
+use Rattle.h2_spec.specs.Parse.{Parsed, parse_all}
+use Rattle.h2_spec.specs.declared.errors.ErrorCode.{ErrorCode}
 use Rattle.h2_spec.specs.declared.frames.Head.{Head}
 use Rattle.h2_spec.specs.Frame.{Next, NoItem, Got, next, Preface, BadPreface, WholeFrame, Oversize, head_of, frame_item, preface_item, preface}
 use Rattle.h2_spec.specs.State.{State}
 use Rattle.h2_spec.specs.declared.connection.Phase.{Phase}
 use Rattle.h2_spec.specs.declared.connection.Phase.TheVariants as phase
-use Rattle.h2_spec.specs.Trace.{next_event, event_on, next_in}
+use Rattle.h2_spec.specs.Trace.{Event, Run, left_by, IsKept, IsWithin, next_event, event_on, next_in, trace, carried_on}
 use Rattle.h2_spec.proofs.ParseLaws as laws
-
--- an item takes at least one octet, and no more than there are
-abbrev pub Uses : List ℕ → Next → Type 0
-Uses b NoItem = Unit {0}
-Uses b (Got item used) = (0 < used) × (used ≤ length b)
-
--- an item that is there stays
-abbrev pub Stays : Next → Next → Type 0
-Stays NoItem y = Unit {0}
-Stays (Got item used) y = y ≡ Got item used
 
 -- ---- the preface
 
@@ -41,13 +32,13 @@ common-append (x ∷ xs) zs (y ∷ ys) h = at (nat_eq x y) (λ g. common-append 
     at true more (inr g) = ap (λ n. 1 + n) (more (inr (omega arith)))
     at false more g = refl
 
-preface-uses : (same : ℕ) (b : List ℕ) → same ≤ length b → Uses b (preface_item same b)
+preface-uses : (same : ℕ) (b : List ℕ) → same ≤ length b → IsWithin b (preface_item same b)
 preface-uses same b h =
-    cond_both (eqb same 24) (Got Preface 24) (cond (ltb same (length b)) (Got BadPreface (same + 1)) NoItem) (Uses b)
+    cond_both (eqb same 24) (Got Preface 24) (cond (ltb same (length b)) (Got BadPreface (same + 1)) NoItem) (IsWithin b)
     (λ e. (omega arith, omega (arith, eqb-true same 24 e)))
-    (λ e. cond_both (ltb same (length b)) (Got BadPreface (same + 1)) NoItem (Uses b) (λ g. (omega arith, omega (arith, ltb-true same (length b) g))) (λ g. tt))
+    (λ e. cond_both (ltb same (length b)) (Got BadPreface (same + 1)) NoItem (IsWithin b) (λ g. (omega arith, omega (arith, ltb-true same (length b) g))) (λ g. tt))
 
-preface-stays : (b c : List ℕ) → Stays (preface_item (common_prefix_len nat_eq b preface) b) (preface_item (common_prefix_len nat_eq (b ++ c) preface) (b ++ c))
+preface-stays : (b c : List ℕ) → IsKept (preface_item (common_prefix_len nat_eq b preface) b) (preface_item (common_prefix_len nat_eq (b ++ c) preface) (b ++ c))
 unfolding preface
 preface-stays b c = whole (eqb same 24) refl
   where
@@ -57,7 +48,7 @@ preface-stays b c = whole (eqb same 24) refl
     more : ℕ
     more = common_prefix_len nat_eq (b ++ c) preface
 
-    bad : (t : Bool) → eqb same 24 ≡ false → ltb same (length b) ≡ t → Stays (cond t (Got BadPreface (same + 1)) NoItem) (preface_item more (b ++ c))
+    bad : (t : Bool) → eqb same 24 ≡ false → ltb same (length b) ≡ t → IsKept (cond t (Got BadPreface (same + 1)) NoItem) (preface_item more (b ++ c))
     bad false g e = tt
     bad true g e =
         let less = ltb-true same (length b) e in
@@ -65,7 +56,7 @@ preface-stays b c = whole (eqb same 24) refl
         let longer : ltb same (length (b ++ c)) ≡ true = lt-ltb same (length (b ++ c)) (omega (arith, less, length-append b c)) in
         rw (equal, g, longer) refl
 
-    whole : (t : Bool) → eqb same 24 ≡ t → Stays (cond t (Got Preface 24) (cond (ltb same (length b)) (Got BadPreface (same + 1)) NoItem)) (preface_item more (b ++ c))
+    whole : (t : Bool) → eqb same 24 ≡ t → IsKept (cond t (Got Preface 24) (cond (ltb same (length b)) (Got BadPreface (same + 1)) NoItem)) (preface_item more (b ++ c))
     whole true e =
         let equal : more ≡ same = common-append b c preface (inr (eqb-true same 24 e)) in
         rw (equal, e) refl
@@ -73,11 +64,11 @@ preface-stays b c = whole (eqb same 24) refl
 
 -- ---- a frame
 
-frame-uses : (limit : ℕ) (h : Head) (b : List ℕ) → 9 ≤ length b → Uses b (frame_item limit h b)
+frame-uses : (limit : ℕ) (h : Head) (b : List ℕ) → 9 ≤ length b → IsWithin b (frame_item limit h b)
 frame-uses limit h b enough =
-    cond_both (ltb limit h.length) (Got (Oversize h) 9) _ (Uses b)
+    cond_both (ltb limit h.length) (Got (Oversize h) 9) _ (IsWithin b)
     (λ e. (omega arith, enough))
-    (λ e. cond_both (ltb (length b) (9 + h.length)) NoItem _ (Uses b) (λ g. tt) (λ g. (omega arith, omega (arith, ltb-false (length b) (9 + h.length) g))))
+    (λ e. cond_both (ltb (length b) (9 + h.length)) NoItem _ (IsWithin b) (λ g. tt) (λ g. (omega arith, omega (arith, ltb-false (length b) (9 + h.length) g))))
 
 head-append : (b c : List ℕ) → 9 ≤ length b → head_of (b ++ c) ≡ head_of b
 unfolding head_of
@@ -91,47 +82,47 @@ range-append b c n h =
     let within : 9 + n - 9 ≤ length (drop 9 b) = omega (arith, h, length-drop 9 b) in
     rw (drop-append-le 9 b c front, take-append-le (9 + n - 9) (drop 9 b) c within) refl
 
-frame-stays : (limit : ℕ) (h : Head) (b c : List ℕ) → Stays (frame_item limit h b) (frame_item limit h (b ++ c))
+frame-stays : (limit : ℕ) (h : Head) (b c : List ℕ) → IsKept (frame_item limit h b) (frame_item limit h (b ++ c))
 frame-stays limit h b c = large (ltb limit h.length) refl
   where
-    whole : (t : Bool) → ltb limit h.length ≡ false → ltb (length b) (9 + h.length) ≡ t → Stays (cond t NoItem (Got (WholeFrame h (slice_range b 9 (9 + h.length))) (9 + h.length))) (frame_item limit h (b ++ c))
+    whole : (t : Bool) → ltb limit h.length ≡ false → ltb (length b) (9 + h.length) ≡ t → IsKept (cond t NoItem (Got (WholeFrame h (slice_range b 9 (9 + h.length))) (9 + h.length))) (frame_item limit h (b ++ c))
     whole true g e = tt
     whole false g e =
         let enough = ltb-false (length b) (9 + h.length) e in
         let more : ltb (length (b ++ c)) (9 + h.length) ≡ false = le-ltb (length (b ++ c)) (9 + h.length) (omega (arith, enough, length-append b c)) in
         rw (g, more, range-append b c h.length enough) refl
 
-    large : (t : Bool) → ltb limit h.length ≡ t → Stays (cond t (Got (Oversize h) 9) (cond (ltb (length b) (9 + h.length)) NoItem (Got (WholeFrame h (slice_range b 9 (9 + h.length))) (9 + h.length)))) (frame_item limit h (b ++ c))
+    large : (t : Bool) → ltb limit h.length ≡ t → IsKept (cond t (Got (Oversize h) 9) (cond (ltb (length b) (9 + h.length)) NoItem (Got (WholeFrame h (slice_range b 9 (9 + h.length))) (9 + h.length)))) (frame_item limit h (b ++ c))
     large true e = rw e refl
     large false e = whole (ltb (length b) (9 + h.length)) e refl
 
 -- ---- an item
 
-next-uses : (p : Bool) (limit : ℕ) (b : List ℕ) → Uses b (next p limit b)
+pub next-uses : (p : Bool) (limit : ℕ) (b : List ℕ) → IsWithin b (next p limit b)
 unfolding next
 next-uses true limit b = preface-uses (common_prefix_len nat_eq b preface) b (common_prefix_len-le nat_eq b preface).0
 next-uses false limit b =
-    cond_both (ltb (length b) 9) NoItem (frame_item limit (head_of b) b) (Uses b) (λ e. tt) (λ e. frame-uses limit (head_of b) b (ltb-false (length b) 9 e))
+    cond_both (ltb (length b) 9) NoItem (frame_item limit (head_of b) b) (IsWithin b) (λ e. tt) (λ e. frame-uses limit (head_of b) b (ltb-false (length b) 9 e))
 
-next-stays : (p : Bool) (limit : ℕ) (b c : List ℕ) → Stays (next p limit b) (next p limit (b ++ c))
+pub next-stays : (p : Bool) (limit : ℕ) (b c : List ℕ) → IsKept (next p limit b) (next p limit (b ++ c))
 unfolding next
 next-stays true limit b c = preface-stays b c
 next-stays false limit b c = at (ltb (length b) 9) refl
   where
-    at : (t : Bool) → ltb (length b) 9 ≡ t → Stays (cond t NoItem (frame_item limit (head_of b) b)) (cond (ltb (length (b ++ c)) 9) NoItem (frame_item limit (head_of (b ++ c)) (b ++ c)))
+    at : (t : Bool) → ltb (length b) 9 ≡ t → IsKept (cond t NoItem (frame_item limit (head_of b) b)) (cond (ltb (length (b ++ c)) 9) NoItem (frame_item limit (head_of (b ++ c)) (b ++ c)))
     at true e = tt
     at false e =
         let enough = ltb-false (length b) 9 e in
         let more : ltb (length (b ++ c)) 9 ≡ false = le-ltb (length (b ++ c)) 9 (omega (arith, enough, length-append b c)) in
-        rw more (subst (λ h. Stays (frame_item limit (head_of b) b) (frame_item limit h (b ++ c))) (sym (head-append b c enough)) (frame-stays limit (head_of b) b c))
+        rw more (subst (λ h. IsKept (frame_item limit (head_of b) b) (frame_item limit h (b ++ c))) (sym (head-append b c enough)) (frame-stays limit (head_of b) b c))
 
-next_in-uses : (phase : Phase) (limit : ℕ) (b : List ℕ) → Uses b (next_in phase limit b)
+next_in-uses : (phase : Phase) (limit : ℕ) (b : List ℕ) → IsWithin b (next_in phase limit b)
 next_in-uses phase.Preface limit b = next-uses true limit b
 next_in-uses phase.Settings limit b = next-uses false limit b
 next_in-uses phase.Running limit b = next-uses false limit b
 next_in-uses (phase.Ended code) limit b = tt
 
-next_in-stays : (phase : Phase) (limit : ℕ) (b c : List ℕ) → Stays (next_in phase limit b) (next_in phase limit (b ++ c))
+next_in-stays : (phase : Phase) (limit : ℕ) (b c : List ℕ) → IsKept (next_in phase limit b) (next_in phase limit (b ++ c))
 next_in-stays phase.Preface limit b c = next-stays true limit b c
 next_in-stays phase.Settings limit b c = next-stays false limit b c
 next_in-stays phase.Running limit b c = next-stays false limit b c
@@ -143,7 +134,7 @@ pub event-uses : (s : State) (b : List ℕ) → laws.Uses b (next_event s b)
 unfolding next_event
 event-uses s b = at (next_in s.core.phase s.core.own.frame b) (next_in-uses s.core.phase s.core.own.frame b)
   where
-    at : (x : Next) → Uses b x → laws.Uses b (event_on s x)
+    at : (x : Next) → IsWithin b x → laws.Uses b (event_on s x)
     at NoItem u = tt
     at (Got item used) u = u
 
@@ -151,10 +142,35 @@ pub event-stays : (s : State) (b c : List ℕ) → laws.Stays (next_event s b) (
 unfolding next_event
 event-stays s b c = at (next_in s.core.phase s.core.own.frame b) (next_in s.core.phase s.core.own.frame (b ++ c)) (next_in-stays s.core.phase s.core.own.frame b c)
   where
-    at : (x y : Next) → Stays x y → laws.Stays (event_on s x) (event_on s y)
+    at : (x y : Next) → IsKept x y → laws.Stays (event_on s x) (event_on s y)
     at NoItem y e = tt
     at (Got item used) y e = ap (event_on s) e
 
 -- octets that come in two pieces make the run of their sum
 pub events-append : (s : State) (b c : List ℕ) → parse_all next_event s (b ++ c) ≡ laws.joined next_event (parse_all next_event s b) c
 events-append s b c = laws.parse_all-append next_event event-uses event-stays (length b) s b c (omega arith)
+
+-- ---- whole runs
+
+-- after the end there are no items
+ended-run : (s : State) (b : List ℕ) (code : ErrorCode) → s.core.phase ≡ phase.Ended code → parse_all next_event s b ≡ record { elements = []; state = s; rest = b }
+unfolding next_event
+ended-run s b code e = rw (laws.parse_all-step next_event event-uses s b, e) refl
+
+-- the run of these elements behind others
+abbrev run_of : List Event → Parsed State Event → Run
+run_of before t = record { events = before ++ t.elements; state = t.state; rest = left_by t.state.core.phase t.rest }
+
+-- a run over octets in two pieces is the run over their sum
+pub trace-append : (s : State) (b c : List ℕ) → trace s (b ++ c) ≡ carried_on (trace s b) c
+unfolding trace carried_on
+trace-append s b c = rw (events-append s b c) (at t.state.core.phase refl)
+  where
+    t : Parsed State Event
+    t = parse_all next_event s b
+
+    at : (p : Phase) → t.state.core.phase ≡ p → run_of t.elements (parse_all next_event t.state (t.rest ++ c)) ≡ run_of t.elements (parse_all next_event t.state (left_by p t.rest ++ c))
+    at phase.Preface e = refl
+    at phase.Settings e = refl
+    at phase.Running e = refl
+    at (phase.Ended code) e = rw (ended-run t.state (t.rest ++ c) code e, ended-run t.state ([] ++ c) code e, e) refl

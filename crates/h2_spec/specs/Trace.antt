@@ -1,5 +1,5 @@
 -- A whole run: the items of octets one by one, each with what it does and what is sent (RFC 9113, 3.4 to 6).
-use Rattle.std.specs.Prelude.{ℕ, true, false, List, [], ◌++◌, flat_map}
+use Rattle.std.specs.Prelude.{◌≡◌, ℕ, ◌<◌, ◌≤◌, true, false, List, [], ◌++◌, length, flat_map}
 use Rattle.h2_spec.specs.Parse.{Front, Stop, One, parse_all}
 use Rattle.h2_spec.specs.Frame.{Frame, Item, Next, NoItem, Got, next, frames_octets, frame_octets}
 use Rattle.h2_spec.specs.State.{State}
@@ -71,3 +71,17 @@ trace s b = let t = parse_all next_event s b in record { events = t.elements; st
 unfoldable pub sent_octets : List Event → List ℕ
 unfolding frame_octets
 sent_octets es = flat_map (λ e. frames_octets e.sent) es
+
+-- a run, carried on with more octets behind those that were left
+unfoldable pub carried_on : Run → List ℕ → Run
+carried_on r more = let t = trace r.state (r.rest ++ more) in record { events = r.events ++ t.events; state = t.state; rest = t.rest }
+
+-- the first answer stands, where it is an item
+abbrev pub IsKept : Next → Next → Type 0
+IsKept NoItem later = Unit {0}
+IsKept (Got item used) later = later ≡ Got item used
+
+-- an item takes at least one octet, and no more than there are
+abbrev pub IsWithin : List ℕ → Next → Type 0
+IsWithin b NoItem = Unit {0}
+IsWithin b (Got item used) = (0 < used) × (used ≤ length b)

@@ -9,3 +9,4 @@ pub mod laws;
 pub mod reactions;
 pub mod streams;
 pub mod table_laws;
+pub mod trace_laws;
