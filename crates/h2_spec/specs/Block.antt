@@ -1,9 +1,9 @@
--- What a header block does: its fields, and the table after it (RFC 7541, 3).
-use Rattle.std.specs.Prelude.{ℕ, ◌-◌, ◌^◌, Bool, true, false, ◌&&◌, List, [], ◌∷◌, ◌++◌, min, nat_le, if◌then◌else◌, Option, Some, None, Result, Ok, Err}
+-- What a field block does: its fields, and the table after it (RFC 7541, 3; RFC 9113, 4.3).
+use Rattle.std.specs.Prelude.{ℕ, ◌-◌, ◌^◌, Bool, true, false, ◌&&◌, not, List, [], ◌∷◌, ◌++◌, min, nat_le, if◌then◌else◌, Option, Some, None, Result, Ok, Err}
 use Rattle.h2_spec.specs.Field.{Field, field}
 use Rattle.h2_spec.specs.DynamicTable.{Table, total_size, insert, resize, field_at}
 use Rattle.h2_spec.specs.Huffman.{HuffRead, Text, Eos, Padding, huffman_text}
-use Rattle.h2_spec.specs.Instruction.{Instr, Indexed, Update, Literal, Mode, Add, Without, Never, NameRef, Ref, Named, text_of, instr_at}
+use Rattle.h2_spec.specs.Instruction.{Str, Shape, Indexed, Update, Literal, Mode, Add, Without, Never, NameRef, Ref, Named, text_of, instr_at}
 use Rattle.h2_spec.specs.Read.{Read, Whole, More, TooLong}
 use Rattle.h2_spec.specs.Parse.{Front, Stop, One, parse_all}
 
@@ -18,11 +18,18 @@ pub data Fault : Type 0 where
   -- a table size update after a field, or above the limit, or none where one is due
   SizeUpdate : Fault
 
--- how far a block has come: its fields, the table, and whether it still has to begin with a size update
-pub record Progress : Type 0 where
-  pub fields : List Field
+-- ---- one instruction
+
+-- what the next instruction of a block depends on: the table, whether a field has come, and whether the block still has to begin with a size update
+pub record Decoding : Type 0 where
   pub table : Table
+  pub begun : Bool
   pub due : Bool
+
+-- what an instruction gives: its field, if it has one, and what the next one depends on
+pub record Given : Type 0 where
+  pub field : Option Field
+  pub after : Decoding
 
 -- the text of a string
 abbrev pub text_result : HuffRead → Result (List ℕ) Fault
@@ -30,88 +37,127 @@ text_result (Text t) = Ok t
 text_result Eos = Err Huffman
 text_result Padding = Err Huffman
 
--- the name of an entry, as the table is before the instruction
+-- the name of an entry
 abbrev pub name_in : Option Field → Result (List ℕ) Fault
 name_in (Some f) = Ok f.name
 name_in None = Err Index
 
-abbrev pub name_of : NameRef → List Field → Result (List ℕ) Fault
+-- the name of a literal, from the table as it is before the instruction (4.4)
+abbrev pub name_of : NameRef Str → List Field → Result (List ℕ) Fault
 name_of (Ref i) entries = name_in (field_at i entries)
 name_of (Named s) entries = text_result (text_of s)
 
--- a field more, and what becomes of the table
-abbrev pub with_field : Mode → Progress → Field → Progress
-with_field Add p f = record { fields = p.fields ++ f ∷ []; table = insert p.table f; due = p.due }
-with_field Without p f = record { fields = p.fields ++ f ∷ []; table = p.table; due = p.due }
-with_field Never p f = record { fields = p.fields ++ f ∷ []; table = p.table; due = p.due }
+-- a literal enters the table, or not (6.2)
+abbrev pub table_after : Mode → Table → Field → Table
+table_after Add t f = insert t f
+table_after Without t f = t
+table_after Never t f = t
 
-abbrev pub literal_result : Mode → Progress → Result (List ℕ) Fault → Result (List ℕ) Fault → Result Progress Fault
-literal_result mode p (Ok name) (Ok value) = Ok (with_field mode p (field name value))
-literal_result mode p (Ok name) (Err fault) = Err fault
-literal_result mode p (Err fault) value = Err fault
+-- a field, and the table after it
+abbrev pub given : Decoding → Table → Field → Given
+given d table f = record { field = Some f; after = record d { table = table; begun = true } }
 
-abbrev pub indexed_result : Progress → Option Field → Result Progress Fault
-indexed_result p (Some f) = Ok (record { fields = p.fields ++ f ∷ []; table = p.table; due = p.due })
-indexed_result p None = Err Index
+abbrev pub literal_result : Mode → Decoding → Result (List ℕ) Fault → Result (List ℕ) Fault → Result Given Fault
+literal_result mode d (Ok name) (Ok value) = Ok (given d (table_after mode d.table (field name value)) (field name value))
+literal_result mode d (Ok name) (Err fault) = Err fault
+literal_result mode d (Err fault) value = Err fault
 
-abbrev pub is_first : List Field → Bool
-is_first [] = true
-is_first (f ∷ fs) = false
+abbrev pub indexed_result : Decoding → Option Field → Result Given Fault
+indexed_result d (Some f) = Ok (given d d.table f)
+indexed_result d None = Err Index
 
--- an instruction that is no size update, where none is due
-abbrev pub where_not_due : Bool → Result Progress Fault → Result Progress Fault
+-- an instruction that is no size update, where none is due (RFC 9113, 4.3.1)
+abbrev pub where_not_due : Bool → Result Given Fault → Result Given Fault
 where_not_due true r = Err SizeUpdate
 where_not_due false r = r
 
--- the effect of one instruction, or why it is refused: Update is decided first, then Index, then Huffman
-abbrev pub apply : ℕ → Progress → Instr → Result Progress Fault
-apply limit p (Update n) =
-    if is_first p.fields && nat_le n limit then Ok (record { fields = p.fields; table = resize p.table n; due = false }) else Err SizeUpdate
-apply limit p (Indexed i) = where_not_due p.due (indexed_result p (field_at i p.table.entries))
-apply limit p (Literal mode name value) = where_not_due p.due (literal_result mode p (name_of name p.table.entries) (text_result (text_of value)))
+-- the effect of one instruction, or why it is refused: a size update is decided first, then an index, then a Huffman string
+unfoldable pub apply : ℕ → Decoding → Shape → Result Given Fault
+unfolding field_at insert resize huffman_text
+apply limit d (Update n) = if not d.begun && nat_le n limit then Ok (record { field = None; after = record d { table = resize d.table n; due = false } }) else Err SizeUpdate
+apply limit d (Indexed i) = where_not_due d.due (indexed_result d (field_at i d.table.entries))
+apply limit d (Literal mode name value) = where_not_due d.due (literal_result mode d (name_of name d.table.entries) (text_result (text_of value)))
+
+-- ---- one after another
+
+-- an instruction that is whole is taken unless it is refused
+abbrev pub taken_unless : ℕ → Result Given Fault → Front Decoding (Option Field)
+taken_unless used (Ok g) = One g.field g.after used
+taken_unless used (Err fault) = Stop
+
+abbrev pub instr_taken : ℕ → Decoding → Read Shape → Front Decoding (Option Field)
+instr_taken limit d (Whole i used) = taken_unless used (apply limit d i)
+instr_taken limit d More = Stop
+instr_taken limit d TooLong = Stop
+
+-- what the instruction at the front of the octets gives, if it is whole and not refused
+unfoldable pub next_instr : ℕ → Decoding → List ℕ → Front Decoding (Option Field)
+unfolding instr_at apply
+next_instr limit d b = instr_taken limit d (instr_at b)
 
 -- how a block ends so far: with the beginning of an instruction, or by a fault
 pub data Outcome : Type 0 where
   Unfinished : List ℕ → Outcome
   Faulty : Fault → Outcome
 
+-- why no instruction was taken at the front of these octets
+abbrev pub refused_by : List ℕ → Result Given Fault → Outcome
+refused_by b (Ok g) = Unfinished b
+refused_by b (Err fault) = Faulty fault
+
+unfoldable pub outcome_of : ℕ → Decoding → List ℕ → Read Shape → Outcome
+unfolding apply
+outcome_of limit d b (Whole i used) = refused_by b (apply limit d i)
+outcome_of limit d b More = Unfinished b
+outcome_of limit d b TooLong = Faulty Integer
+
+-- the fields that instructions give
+abbrev pub fields_given : List (Option Field) → List Field
+fields_given [] = []
+fields_given (None ∷ given) = fields_given given
+fields_given (Some f ∷ given) = f ∷ fields_given given
+
+-- ---- a block
+
+-- how far a block has come: its fields, the table, and whether it still has to begin with a size update
+pub record Progress : Type 0 where
+  pub fields : List Field
+  pub table : Table
+  pub due : Bool
+
+-- a block so far, and how it ends
 pub record Decoded : Type 0 where
   pub progress : Progress
   pub outcome : Outcome
 
--- an instruction that is whole is taken unless it is refused
-abbrev pub taken_unless : Instr → ℕ → Result Progress Fault → Front Progress Instr
-taken_unless i used (Ok after) = One i after used
-taken_unless i used (Err fault) = Stop
+-- a block from its beginning
+abbrev pub start : Table → Bool → Progress
+start table due = record { fields = []; table = table; due = due }
 
-abbrev pub instr_taken : ℕ → Progress → Read Instr → Front Progress Instr
-instr_taken limit p (Whole i used) = taken_unless i used (apply limit p i)
-instr_taken limit p More = Stop
-instr_taken limit p TooLong = Stop
+abbrev pub has_fields : List Field → Bool
+has_fields [] = false
+has_fields (f ∷ fs) = true
 
-unfoldable pub next_instr : ℕ → Progress → List ℕ → Front Progress Instr
-unfolding instr_at field_at insert resize huffman_text
-next_instr limit p b = instr_taken limit p (instr_at b)
-
--- why no instruction was taken at the front of these octets
-abbrev pub refused_by : List ℕ → Result Progress Fault → Outcome
-refused_by b (Ok after) = Unfinished b
-refused_by b (Err fault) = Faulty fault
-
-abbrev pub outcome_of : ℕ → Progress → List ℕ → Read Instr → Outcome
-outcome_of limit p b (Whole i used) = refused_by b (apply limit p i)
-outcome_of limit p b More = Unfinished b
-outcome_of limit p b TooLong = Faulty Integer
+abbrev pub decoding : Progress → Decoding
+decoding p = record { table = p.table; begun = has_fields p.fields; due = p.due }
 
 -- the block carried on over more octets: its instructions in order, up to the first that is refused
 unfoldable pub decoded : ℕ → Progress → List ℕ → Decoded
-unfolding parse_all next_instr
-decoded limit p b = let t = parse_all (next_instr limit) p b in record { progress = t.state; outcome = outcome_of limit t.state t.rest (instr_at t.rest) }
+unfolding parse_all next_instr outcome_of
+decoded limit p b =
+    let t = parse_all (next_instr limit) (decoding p) b in
+    record { progress = record { fields = p.fields ++ fields_given t.elements; table = t.state.table; due = t.state.due }; outcome = outcome_of limit t.state t.rest (instr_at t.rest) }
+
+-- a block in pieces: the rest goes before the next piece, and a fault stays
+unfoldable pub carried_on : ℕ → Decoded → List ℕ → Decoded
+unfolding decoded
+carried_on limit d piece = elim d.outcome [ Unfinished rest ↦ decoded limit d.progress (rest ++ piece) | Faulty fault ↦ d ]
+
+unfoldable pub carried_through : ℕ → Decoded → List (List ℕ) → Decoded
+unfolding carried_on
+carried_through limit d [] = d
+carried_through limit d (piece ∷ pieces) = carried_through limit (carried_on limit d piece) pieces
 
 -- the size of a list of fields, as far as 64 bits go (RFC 9113, 6.5.2)
 abbrev pub list_size : List Field → ℕ
 list_size fields = min (total_size fields) (2 ^ 64 - 1)
-
--- a block from its beginning
-abbrev pub start : Table → Bool → Progress
-start table due = record { fields = []; table = table; due = due }

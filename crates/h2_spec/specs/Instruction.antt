@@ -1,90 +1,218 @@
--- Instructions of a header block and their spellings (RFC 7541, 5.2 and 6).
-use Rattle.std.specs.Prelude.{◌≡◌, ℕ, zero, suc, ◌+◌, Bool, List, [], ◌∷◌, length, take, drop, nat_le, if◌then◌else◌}
+-- Instructions of a field block and their spellings (RFC 7541, 5.2 and 6).
+use Rattle.std.specs.Prelude.{◌≡◌, ℕ, zero, suc, ◌+◌, Bool, true, false, List, [], ◌∷◌, ◌++◌, length, take, drop, nat_le, if◌then◌else◌, Option, Some, None}
 use Rattle.h2_spec.specs.Parse.{Front, Stop, One, Parsed, parse_all}
-use Rattle.h2_spec.specs.Huffman.{HuffRead, Text, huffman_text}
-use Rattle.h2_spec.specs.Integer.{int_at}
-use Rattle.h2_spec.specs.Read.{Read, Whole, More, TooLong, read_map, read_behind}
+use Rattle.h2_spec.specs.Huffman.{HuffRead, Text, Eos, Padding, IsHuffman, huffman_text, spell_huffman}
+use Rattle.h2_spec.specs.Integer.{int_at, spell_int}
+use Rattle.h2_spec.specs.Read.{Read, Whole, More, TooLong, read_map}
 
--- a string as it stands: whether its octets are a Huffman code, and its octets
-pub record Str : Type 0 where
-  pub huffman : Bool
-  pub octets : List ℕ
+-- ---- instructions
 
--- the name of a literal: an index of the tables, or a string
-pub data NameRef : Type 0 where
-  Ref : ℕ → NameRef
-  Named : Str → NameRef
-
--- what becomes of a literal: it enters the dynamic table, or not, or must never
+-- what becomes of a literal: it enters the dynamic table, or not, or must never (6.2)
 pub data Mode : Type 0 where
   Add : Mode
   Without : Mode
   Never : Mode
 
-pub data Instr : Type 0 where
-  Indexed : ℕ → Instr
-  Update : ℕ → Instr
-  Literal : Mode → NameRef → Str → Instr
+-- the name of a literal: an index of the tables, or a string
+pub data NameRef (S : Type 0) : Type 0 where
+  Ref : ℕ → NameRef S
+  Named : S → NameRef S
 
--- this many octets after an integer
-abbrev pub string_after : Bool → Read ℕ → List ℕ → Read Str
-string_after huffman (Whole n used) xs =
-    if nat_le n (length (drop used xs)) then Whole (record { huffman = huffman; octets = take n (drop used xs) }) (used + n) else More
-string_after huffman More xs = More
-string_after huffman TooLong xs = TooLong
+-- an instruction: a field of the tables, a size update, or a literal
+pub data Instr (S : Type 0) : Type 0 where
+  Indexed : ℕ → Instr S
+  Update : ℕ → Instr S
+  Literal : Mode → NameRef S → S → Instr S
 
--- the string at the front of the octets (5.2)
+-- a string as it stands: whether its octets are a Huffman string, and its octets (5.2)
+pub record Str : Type 0 where
+  pub huffman : Bool
+  pub octets : List ℕ
+
+-- a string by its text: whether it stands as a Huffman string, and the octets that it means
+pub record TextStr : Type 0 where
+  pub huffman : Bool
+  pub text : List ℕ
+
+-- an instruction with its strings as they stand, whatever their octets
+abbrev pub Shape : Type 0
+Shape = Instr Str
+
+-- an instruction with the texts of its strings
+abbrev pub Instruction : Type 0
+Instruction = Instr TextStr
+
+-- ---- what stands at the front of octets
+
+-- what was read behind this many octets
+abbrev pub read_past : {A : Type 0} → ℕ → Read A → Read A
+read_past used (Whole a more) = Whole a (used + more)
+read_past used More = More
+read_past used TooLong = TooLong
+
+-- one thing, and then what is read behind it
+abbrev pub read_then : {A B : Type 0} → List ℕ → Read A → (A → List ℕ → Read B) → Read B
+read_then xs (Whole a used) behind = read_past used (behind a (drop used xs))
+read_then xs More behind = More
+read_then xs TooLong behind = TooLong
+
+-- this many octets of a string
+abbrev pub octets_at : Bool → ℕ → List ℕ → Read Str
+octets_at huffman n xs = if nat_le n (length xs) then Whole (record { huffman = huffman; octets = take n xs }) n else More
+
+-- the string at the front of the octets: a flag, a length, and its octets (5.2)
 unfoldable pub string_at : List ℕ → Read Str
 unfolding int_at
 string_at [] = More
-string_at (o ∷ xs) = string_after (nat_le 128 o) (int_at 7 (o ∷ xs)) (o ∷ xs)
+string_at (o ∷ xs) = read_then (o ∷ xs) (int_at 7 (o ∷ xs)) (octets_at (nat_le 128 o))
 
--- the value behind the name
-abbrev pub literal_after : Mode → Read NameRef → List ℕ → Read Instr
-literal_after mode (Whole name used) xs = read_behind (Literal mode) name used (string_at (drop used xs))
-literal_after mode More xs = More
-literal_after mode TooLong xs = TooLong
+-- the bits of an index behind each literal's mark, and the mark (6.2)
+abbrev pub mode_prefix : Mode → ℕ
+mode_prefix Add = 6
+mode_prefix Without = 4
+mode_prefix Never = 4
 
--- index 0 means that the name is the string after it
-abbrev pub name_after : Read ℕ → List ℕ → Read NameRef
-name_after (Whole zero used) xs = read_behind (λ (i : ℕ) s. Named s) 0 used (string_at (drop used xs))
-name_after (Whole (suc i) used) xs = Whole (Ref (suc i)) used
-name_after More xs = More
-name_after TooLong xs = TooLong
+abbrev pub mode_high : Mode → ℕ
+mode_high Add = 64
+mode_high Without = 0
+mode_high Never = 16
 
--- a literal whose index has a prefix of n bits
-abbrev pub literal_at : Mode → ℕ → List ℕ → Read Instr
-literal_at mode n xs = literal_after mode (name_after (int_at n xs) xs) xs
+-- index 0 means that the name is the string behind it
+abbrev pub name_by : ℕ → List ℕ → Read (NameRef Str)
+name_by zero xs = read_map Named (string_at xs)
+name_by (suc i) xs = Whole (Ref (suc i)) 0
 
--- the instruction of this first octet at the front of the octets (6.1 to 6.3)
-abbrev pub instr_of : ℕ → List ℕ → Read Instr
-instr_of o xs =
+-- the value behind a name
+abbrev pub value_at : Mode → NameRef Str → List ℕ → Read Shape
+value_at mode name xs = read_map (Literal mode name) (string_at xs)
+
+-- a literal: an index, a name where the index is 0, and a value
+abbrev pub literal_at : Mode → List ℕ → Read Shape
+literal_at mode xs = read_then xs (read_then xs (int_at (mode_prefix mode) xs) name_by) (value_at mode)
+
+-- the instruction that this first octet announces (6.1 to 6.3)
+abbrev pub instr_by : ℕ → List ℕ → Read Shape
+instr_by o xs =
     if nat_le 128 o then read_map Indexed (int_at 7 xs)
-    else (if nat_le 64 o then literal_at Add 6 xs
-    else (if nat_le 32 o then read_map Update (int_at 5 xs)
-    else (if nat_le 16 o then literal_at Never 4 xs else literal_at Without 4 xs)))
+    else if nat_le 64 o then literal_at Add xs
+    else if nat_le 32 o then read_map Update (int_at 5 xs)
+    else if nat_le 16 o then literal_at Never xs
+    else literal_at Without xs
 
 -- the instruction at the front of the octets, with any octets in its strings
-unfoldable pub instr_at : List ℕ → Read Instr
+unfoldable pub instr_at : List ℕ → Read Shape
 unfolding int_at string_at
 instr_at [] = More
-instr_at (o ∷ xs) = instr_of o (o ∷ xs)
+instr_at (o ∷ xs) = instr_by o (o ∷ xs)
+
+-- ---- texts
 
 -- the octets that a string stands for
 abbrev pub text_of : Str → HuffRead
 text_of s = if s.huffman then huffman_text s.octets else Text s.octets
 
--- the octets are the instruction's whole spelling
-abbrev pub IsShape : Instr → List ℕ → Type 0
-IsShape i o = instr_at o ≡ Whole i (length o)
+abbrev pub with_text : Bool → HuffRead → Option TextStr
+with_text huffman (Text t) = Some (record { huffman = huffman; text = t })
+with_text huffman Eos = None
+with_text huffman Padding = None
+
+-- the string by its text, if it has one
+abbrev pub text_str : Str → Option TextStr
+text_str s = with_text s.huffman (text_of s)
+
+abbrev pub named_text : Option TextStr → Option (NameRef TextStr)
+named_text (Some t) = Some (Named t)
+named_text None = None
+
+abbrev pub name_text : NameRef Str → Option (NameRef TextStr)
+name_text (Ref i) = Some (Ref i)
+name_text (Named s) = named_text (text_str s)
+
+abbrev pub literal_text : Mode → Option (NameRef TextStr) → Option TextStr → Option Instruction
+literal_text mode (Some name) (Some value) = Some (Literal mode name value)
+literal_text mode (Some name) None = None
+literal_text mode None value = None
+
+-- the instruction by its texts, if each of its strings has one
+abbrev pub instruction_of : Shape → Option Instruction
+instruction_of (Indexed i) = Some (Indexed i)
+instruction_of (Update n) = Some (Update n)
+instruction_of (Literal mode name value) = literal_text mode (name_text name) (text_str value)
+
+-- the instruction at the front of the octets, by its texts; none where it is whole and a string of it has no text
+unfoldable pub instruction_at : List ℕ → Read (Option Instruction)
+unfolding instr_at huffman_text
+instruction_at xs = read_map instruction_of (instr_at xs)
+
+-- the octets of a string stand for this text: as they are, or as a Huffman string of it (5.2)
+abbrev pub StandsFor : Bool → List ℕ → List ℕ → Type 0
+StandsFor true octets text = IsHuffman text octets
+StandsFor false octets text = octets ≡ text
+
+abbrev pub IsStringOf : Str → TextStr → Type 0
+IsStringOf s t = (s.huffman ≡ t.huffman) × StandsFor s.huffman s.octets t.text
+
+abbrev pub IsNameOf : NameRef Str → NameRef TextStr → Type 0
+IsNameOf name (Ref i) = name ≡ Ref i
+IsNameOf name (Named t) = (s : Str) × (name ≡ Named s) × IsStringOf s t
+
+-- the shape is the instruction's, its strings standing for the instruction's texts
+abbrev pub IsShapeOf : Shape → Instruction → Type 0
+IsShapeOf shape (Indexed i) = shape ≡ Indexed i
+IsShapeOf shape (Update n) = shape ≡ Update n
+IsShapeOf shape (Literal mode n v) = (name : NameRef Str) × (value : Str) × (shape ≡ Literal mode name value) × IsNameOf name n × IsStringOf value v
+
+-- the octets are one whole spelling of the instruction
+abbrev pub IsSpelling : Instruction → List ℕ → Type 0
+IsSpelling i o = (shape : Shape) × (instr_at o ≡ Whole shape (length o)) × IsShapeOf shape i
+
+-- ---- the spelling with the shortest integers
+
+-- the octets that a text stands as
+abbrev pub coded : Bool → List ℕ → List ℕ
+coded true text = spell_huffman text
+coded false text = text
+
+abbrev pub coded_str : TextStr → Str
+coded_str t = record { huffman = t.huffman; octets = coded t.huffman t.text }
+
+abbrev pub coded_name : NameRef TextStr → NameRef Str
+coded_name (Ref i) = Ref i
+coded_name (Named t) = Named (coded_str t)
+
+-- the shape that an instruction is written as
+abbrev pub shape_of : Instruction → Shape
+shape_of (Indexed i) = Indexed i
+shape_of (Update n) = Update n
+shape_of (Literal mode name value) = Literal mode (coded_name name) (coded_str value)
+
+abbrev pub spell_string : Bool → List ℕ → List ℕ
+spell_string huffman octets = spell_int 7 (if huffman then 128 else 0) (length octets) ++ octets
+
+abbrev pub spell_name : Mode → NameRef Str → List ℕ
+spell_name mode (Ref i) = spell_int (mode_prefix mode) (mode_high mode) i
+spell_name mode (Named s) = mode_high mode ∷ spell_string s.huffman s.octets
+
+-- the octets of a shape, each integer the shortest
+unfoldable pub spell : Shape → List ℕ
+unfolding spell_int
+spell (Indexed i) = spell_int 7 128 i
+spell (Update n) = spell_int 5 32 n
+spell (Literal mode name value) = spell_name mode name ++ spell_string value.huffman value.octets
+
+-- ---- one after another
 
 -- a whole instruction is taken
-abbrev pub instr_only : Read Instr → Front (Unit {0}) Instr
+abbrev pub instr_only : Read Shape → Front (Unit {0}) Shape
 instr_only (Whole i used) = One i tt used
 instr_only More = Stop
 instr_only TooLong = Stop
 
--- the octets as instructions and a rest that begins with none
-unfoldable pub split : List ℕ → Parsed (Unit {0}) Instr
+-- the shape at the front of the octets, if it is whole
+abbrev pub next_shape : Unit {0} → List ℕ → Front (Unit {0}) Shape
+next_shape u xs = instr_only (instr_at xs)
+
+-- the octets as shapes and a rest that begins with none
+unfoldable pub split : List ℕ → Parsed (Unit {0}) Shape
 unfolding instr_at parse_all
-split b = parse_all (λ u xs. instr_only (instr_at xs)) tt b
+split b = parse_all next_shape tt b
