@@ -5,6 +5,7 @@ mod HuffmanLaws
 mod IntegerLaws
 mod LongBodies
 pub mod ParseLaws
+mod RequestRows
 mod Rows
 mod Runs
 pub mod TableLaws

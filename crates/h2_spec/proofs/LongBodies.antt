@@ -3,7 +3,7 @@ use Rattle.std.specs.Prelude.{◌≡◌, ℕ, ◌++◌, List, [], ◌∷◌, ref
 use Prim.Native.String.{String}
 use Rattle.h2_spec.specs.declared.connection.Config.{Config}
 use Rattle.h2_spec.specs.declared.streams.Stream.{Stream}
-use Rattle.h2_spec.specs.Answer.{Entry}
+use Rattle.h2_spec.specs.Answer.{Entry, answer}
 use Rattle.h2_spec.specs.State.{State, opening}
 use Rattle.h2_spec.specs.Trace.{trace, sent_octets}
 use Rattle.h2_spec.proofs.Hex.{hex}
@@ -13,7 +13,7 @@ default = record { streams = 100; credit = 32768 }
 
 -- one answer with a body of this many octets
 abbrev long : ℕ → List Entry
-long n = record { method = codes "GET"; path = codes "/"; answer = record { status = 200; fields = []; body = replicate n 120 } } ∷ []
+long n = record { method = codes "GET"; path = codes "/"; answer = answer 200 [] (replicate n 120) } ∷ []
 
 abbrev request : List ℕ
 request = hex (codes "505249202a20485454502f322e300d0a0d0a534d0d0a0d0a000000040000000000000014010500000001828684410f7777772e6578616d706c652e636f6d")

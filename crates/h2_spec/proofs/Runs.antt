@@ -4,7 +4,7 @@ use Rattle.std.specs.Fmt.{digits}
 use Rattle.hex.specs.Hex.{encode_with}
 use Prim.Native.String.{String}
 use Rattle.h2_spec.specs.declared.connection.Config.{Config}
-use Rattle.h2_spec.specs.Answer.{Entry}
+use Rattle.h2_spec.specs.Answer.{Entry, answer}
 use Rattle.h2_spec.specs.Opening.{opening_octets}
 use Rattle.h2_spec.specs.State.{State, opening}
 use Rattle.h2_spec.specs.Trace.{trace, sent_octets}
@@ -20,7 +20,7 @@ default = limits 100 32768
 
 -- an entry without fields
 abbrev entry_of : String → ℕ → List ℕ → Entry
-entry_of method status body = record { method = codes method; path = codes "/"; answer = record { status = status; fields = []; body = body } }
+entry_of method status body = record { method = codes method; path = codes "/"; answer = answer status [] body }
 
 -- a book of one answer: 200 to GET of /
 abbrev get : List ℕ → List Entry

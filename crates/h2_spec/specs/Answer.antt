@@ -6,34 +6,44 @@ use Rattle.h2_spec.specs.Request.{Request}
 use Rattle.h2_spec.specs.declared.streams.Pick.{Pick}
 use Rattle.h2_spec.specs.declared.streams.Pick.TheVariants.{Listed, NotFound, Connect}
 
+-- a response: its status, its fields besides that, and its content
 pub record Answer : Type 0 where
   pub status : ℕ
   pub fields : List Field
   pub body : List ℕ
 
+abbrev pub answer : ℕ → List Field → List ℕ → Answer
+answer status fields body = record { status = status; fields = fields; body = body }
+
+-- an entry of the book: the requests that it is for, and their answer
 pub record Entry : Type 0 where
   pub method : List ℕ
   pub path : List ℕ
   pub answer : Answer
 
+-- the entry's method and path are the request's octets
 abbrev pub is_for : Request → Entry → Bool
 is_for r e = bytes_eq e.method r.method && bytes_eq e.path r.path
 
+-- the entry at this place, or none
 abbrev pub pick_or : Option ℕ → Pick
 pick_or (Some i) = Listed i
 pick_or None = NotFound
 
--- the first entry whose method and path are the request's
+-- the first entry that is for the request; CONNECT has none (8.5)
 unfoldable pub pick_of : List Entry → Request → Pick
 pick_of book r = if r.connect then Connect else pick_or (position (is_for r) book)
 
+-- a status alone
 abbrev pub bare : ℕ → Answer
-bare status = record { status = status; fields = []; body = [] }
+bare status = answer status [] []
 
+-- the entry's answer, or 404
 abbrev pub entry_or : Option Entry → Answer
 entry_or (Some e) = e.answer
 entry_or None = bare 404
 
+-- the answer that is picked: 404 where no entry is for the request, and 501 to CONNECT (RFC 9110, 15.5.5 and 15.6.2)
 abbrev pub picked : List Entry → Pick → Answer
 picked book (Listed i) = entry_or (slice_get book i)
 picked book NotFound = bare 404

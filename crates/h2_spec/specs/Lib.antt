@@ -1,5 +1,7 @@
 pub mod Answer
+pub mod AnswerWords
 pub mod Block
+pub mod Book
 pub mod Change
 pub mod Checks
 pub mod Data
