@@ -9,4 +9,7 @@ mod RequestRows
 mod Rows
 mod Runs
 pub mod TableLaws
+mod ShowRows
+mod ScriptRows
+mod TableLaws
 mod TraceLaws

@@ -1,5 +1,6 @@
 pub mod Answer
 pub mod AnswerWords
+pub mod Assemble
 pub mod Block
 pub mod Book
 pub mod Change
@@ -24,9 +25,11 @@ pub mod Payload
 pub mod Pump
 pub mod Read
 pub mod Request
+pub mod Script
 pub mod Settings
 pub mod SettingsFrame
 pub mod Show
+pub mod Spelling
 pub mod State
 pub mod StaticTable
 pub mod Stream
@@ -35,3 +38,4 @@ pub mod Trace
 pub mod View
 pub mod Window
 pub mod WindowUpdate
+pub mod Written

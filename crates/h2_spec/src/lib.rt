@@ -7,6 +7,7 @@ pub mod flow;
 pub mod frames;
 pub mod laws;
 pub mod reactions;
+pub mod scripts;
 pub mod streams;
 pub mod table_laws;
 pub mod trace_laws;

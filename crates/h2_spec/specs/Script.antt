@@ -1,0 +1,172 @@
+-- What a script says: a line says a statement, and a statement stands for octets.
+use Rattle.std.specs.Prelude.{◌≡◌, ◌⊎◌, ℕ, ◌+◌, ◌-◌, ◌^◌, ◌<◌, ◌≤◌, ◌==◌, ◌&&◌, ◌||◌, not, nat_le, Bool, true, false, IsTrue, List, [], ◌∷◌, ◌++◌, length, codes, flat_map, if◌then◌else◌, Ok, Some, slice_get}
+use Rattle.std.specs.List.{slice_split}
+use Rattle.std.specs.Str.Parse.{IsNumeral, digits_value}
+use Rattle.hex.specs.Hex.{decode_of}
+use Rattle.h2_spec.specs.Frame.{preface}
+use Rattle.h2_spec.specs.Instruction.{Instr, Indexed, Update, Literal, Mode, Add, Without, Never, NameRef, Ref, Named, Str}
+use Rattle.h2_spec.specs.Octets.{big_endian}
+use Rattle.h2_spec.specs.Spelling.{spell}
+
+-- ---- what can be said
+
+-- a payload: octets, settings as identifier and value, a window's increment, an error code, or instructions, whose strings are texts
+pub data Payload : Type 0 where
+  Empty : Payload
+  Octets : List ℕ → Payload
+  Pairs : List (ℕ × ℕ) → Payload
+  Increment : ℕ → Payload
+  Code : ℕ → Payload
+  Instructions : List Instr → Payload
+
+-- a line: nothing, the client's preface, octets as they are, or a frame by its type, flags, stream, reserved bit and payload
+pub data Statement : Type 0 where
+  Nothing : Statement
+  Preface : Statement
+  Raw : List ℕ → Statement
+  AFrame : (kind flags stream : ℕ) → (reserved : Bool) → Payload → Statement
+
+-- ---- the octets that it stands for
+
+-- a setting's identifier and value (RFC 9113, 6.5.1)
+abbrev pub setting_octets : ℕ × ℕ → List ℕ
+setting_octets p = big_endian 2 p.0 ++ big_endian 4 p.1
+
+abbrev pub payload_octets : Payload → List ℕ
+payload_octets Empty = []
+payload_octets (Octets octets) = octets
+payload_octets (Pairs pairs) = flat_map setting_octets pairs
+payload_octets (Increment n) = big_endian 4 n
+payload_octets (Code n) = big_endian 4 n
+payload_octets (Instructions instructions) = flat_map spell instructions
+
+-- the last four octets of a head, the reserved bit above the stream's identifier (RFC 9113, 4.1)
+abbrev pub stream_octets : ℕ → Bool → List ℕ
+stream_octets stream reserved = big_endian 4 (if reserved then 2 ^ 31 + stream else stream)
+
+abbrev pub octets_of : Statement → List ℕ
+octets_of Nothing = []
+octets_of Preface = preface
+octets_of (Raw octets) = octets
+octets_of (AFrame kind flags stream reserved payload) =
+    big_endian 3 (length (payload_octets payload)) ++ kind ∷ flags ∷ (stream_octets stream reserved ++ payload_octets payload)
+
+-- ---- words: numbers, octets, strings
+
+-- hex digits of either case, two for each octet
+abbrev pub SaysOctets : List ℕ → List ℕ → Type 0
+SaysOctets text octets = decode_of text ≡ Ok octets
+
+abbrev pub SaysOctet : List ℕ → ℕ → Type 0
+SaysOctet text n = SaysOctets text (n ∷ [])
+
+-- the same, at least one octet
+abbrev pub SaysSomeOctets : List ℕ → List ℕ → Type 0
+SaysSomeOctets text octets = (0 < length octets) × SaysOctets text octets
+
+-- 1 to 10 decimal digits, leading zeros allowed, of a number that is at most the limit
+abbrev pub SaysNumber : ℕ → List ℕ → ℕ → Type 0
+SaysNumber most text n = IsNumeral 10 text × (length text ≤ 10) × (n ≡ digits_value 10 text) × (n ≤ most)
+
+abbrev pub max_u32 : ℕ
+max_u32 = 2 ^ 32 - 1
+
+abbrev pub max_stream : ℕ
+max_stream = 2 ^ 31 - 1
+
+-- a printable ASCII octet other than a quote of either kind and the backslash
+abbrev pub is_plain : ℕ → Bool
+is_plain c = nat_le 0x20 c && nat_le c 0x7e && not (c == 34 || c == 39 || c == 92)
+
+-- an octet in a string: itself, or a backslash and two hex digits
+abbrev pub SaysCharacter : List ℕ → ℕ → Type 0
+SaysCharacter text c = ((text ≡ c ∷ []) × IsTrue (is_plain c)) ⊎ ((digits : List ℕ) × (text ≡ 92 ∷ digits) × SaysOctet digits c)
+
+abbrev pub SaysText : List ℕ → List ℕ → Type 0
+SaysText text [] = text ≡ []
+SaysText text (c ∷ cs) = (first rest : List ℕ) × (text ≡ first ++ rest) × SaysCharacter first c × SaysText rest cs
+
+-- a string stands between double quotes, or between single quotes where it is to be coded by Huffman
+abbrev pub quote_of : Bool → ℕ
+quote_of huffman = if huffman then 39 else 34
+
+abbrev pub SaysString : List ℕ → Str → Type 0
+SaysString text s = (inside : List ℕ) × (text ≡ quote_of s.huffman ∷ (inside ++ quote_of s.huffman ∷ [])) × SaysText inside s.octets
+
+-- ---- instructions
+
+-- the name of a literal: an index of 1 or more, or a string
+abbrev pub SaysName : List ℕ → NameRef → Type 0
+SaysName text (Ref i) = SaysNumber max_u32 text i × (0 < i)
+SaysName text (Named s) = SaysString text s
+
+-- a, n and v: with indexing, without, and never
+abbrev pub mode_letter : Mode → ℕ
+mode_letter Add = 97
+mode_letter Without = 110
+mode_letter Never = 118
+
+-- i and an index, u and a table size, or a literal: its mode, its name, an equals sign, its value
+abbrev pub SaysInstruction : List ℕ → Instr → Type 0
+SaysInstruction text (Indexed i) = (digits : List ℕ) × (text ≡ 105 ∷ digits) × SaysNumber max_u32 digits i
+SaysInstruction text (Update n) = (digits : List ℕ) × (text ≡ 117 ∷ digits) × SaysNumber max_u32 digits n
+SaysInstruction text (Literal mode name value) = (a b : List ℕ) × (text ≡ mode_letter mode ∷ (a ++ 61 ∷ b)) × SaysName a name × SaysString b value
+
+-- identifier, equals sign, value
+abbrev pub SaysSetting : List ℕ → ℕ × ℕ → Type 0
+SaysSetting text p = (a b : List ℕ) × (text ≡ a ++ 61 ∷ b) × SaysNumber 65535 a p.0 × SaysNumber max_u32 b p.1
+
+-- at least one, with commas between
+abbrev pub SaysEach : {A : Type 0} → (List ℕ → A → Type 0) → List ℕ → List A → Type 0
+SaysEach Says text [] = ⊥
+SaysEach Says text (x ∷ []) = Says text x
+SaysEach Says text (x ∷ y ∷ ys) = (first rest : List ℕ) × (text ≡ first ++ 44 ∷ rest) × Says first x × SaysEach Says rest (y ∷ ys)
+
+-- ---- payloads, frames, lines
+
+abbrev pub SaysPayload : List ℕ → Payload → Type 0
+SaysPayload text Empty = text ≡ codes "-"
+SaysPayload text (Octets octets) = (digits : List ℕ) × (text ≡ 120 ∷ digits) × SaysSomeOctets digits octets
+SaysPayload text (Pairs pairs) = (each : List ℕ) × (text ≡ 115 ∷ each) × SaysEach SaysSetting each pairs
+SaysPayload text (Increment n) = (digits : List ℕ) × (text ≡ 119 ∷ digits) × SaysNumber max_stream digits n
+SaysPayload text (Code n) = (digits : List ℕ) × (text ≡ 99 ∷ digits) × SaysNumber max_u32 digits n
+SaysPayload text (Instructions instructions) = (each : List ℕ) × (text ≡ 104 ∷ each) × SaysEach SaysInstruction each instructions
+
+-- the names of the frame types 0 to 9 (RFC 9113, 6)
+abbrev pub type_names : List (List ℕ)
+type_names = codes "DATA" ∷ codes "HEADERS" ∷ codes "PRIORITY" ∷ codes "RST_STREAM" ∷ codes "SETTINGS" ∷ codes "PUSH_PROMISE" ∷ codes "PING" ∷ codes "GOAWAY" ∷ codes "WINDOW_UPDATE" ∷ codes "CONTINUATION" ∷ []
+
+-- a frame type: its name, or T and two hex digits
+abbrev pub SaysType : List ℕ → ℕ → Type 0
+SaysType text kind = (slice_get type_names kind ≡ Some text) ⊎ ((digits : List ℕ) × (text ≡ 84 ∷ digits) × SaysOctet digits kind)
+
+-- a stream's identifier, and an R behind it where the reserved bit is set
+abbrev pub SaysStream : List ℕ → ℕ → Bool → Type 0
+SaysStream text stream false = SaysNumber max_stream text stream
+SaysStream text stream true = (digits : List ℕ) × (text ≡ digits ++ codes "R") × SaysNumber max_stream digits stream
+
+-- the line says the statement; a frame's four parts have one space between, and its payload is everything behind the third
+abbrev pub Says : List ℕ → Statement → Type 0
+Says text Nothing = (text ≡ []) ⊎ (slice_get text 0 ≡ Some 59)
+Says text Preface = text ≡ codes "PREFACE"
+Says text (Raw octets) = (digits : List ℕ) × (text ≡ codes "RAW " ++ digits) × SaysSomeOctets digits octets
+Says text (AFrame kind flags stream reserved payload) = (a b c d : List ℕ) × (text ≡ a ++ 32 ∷ (b ++ 32 ∷ (c ++ 32 ∷ d))) ×
+    SaysType a kind × SaysOctet b flags × SaysStream c stream reserved × SaysPayload d payload × (length (payload_octets payload) < 2 ^ 24)
+
+-- the line stands for the octets
+abbrev pub Line : List ℕ → List ℕ → Type 0
+Line text octets = (s : Statement) × Says text s × (octets ≡ octets_of s)
+
+-- ---- scripts
+
+-- the texts between line feeds; behind the last one an empty line may stand, which is no octets
+abbrev pub lines_of : List ℕ → List (List ℕ)
+lines_of text = slice_split (λ b. b == 10) text
+
+abbrev pub AreLines : List (List ℕ) → List ℕ → Type 0
+AreLines [] octets = octets ≡ []
+AreLines (line ∷ lines) octets = (first rest : List ℕ) × Line line first × AreLines lines rest × (octets ≡ first ++ rest)
+
+-- the script stands for the octets
+abbrev pub Script : List ℕ → List ℕ → Type 0
+Script text octets = AreLines (lines_of text) octets

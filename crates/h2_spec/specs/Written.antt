@@ -1,0 +1,155 @@
+-- The one script that is written for octets: what each frame is said to be, and the text of it.
+use Rattle.std.specs.Prelude.{ℕ, ◌+◌, ◌*◌, ◌%◌, ◌^◌, Bool, true, false, ◌&&◌, ◌||◌, not, List, [], ◌∷◌, ◌++◌, length, take, drop, codes, bytes_eq, nat_eq, flat_map, nat_lt, ◌==◌, if◌then◌else◌, Option, Some, None, option_map, option_and_then, slice_index, slice_get, unwrap_or}
+use Rattle.std.specs.Fmt.{decimal}
+use Rattle.std.specs.List.{list_all, starts_with}
+use Rattle.hex.specs.Hex.{encode_lower}
+use Rattle.h2_spec.specs.Frame.{head_of, preface}
+use Rattle.h2_spec.specs.FrameType.{has, CONTINUATION, HEADERS, PADDED, RST_STREAM, SETTINGS, WINDOW_UPDATE, WITH_PRIORITY}
+use Rattle.h2_spec.specs.Huffman.{HuffRead, Text, Eos, Padding, huffman_text, spell_huffman}
+use Rattle.h2_spec.specs.Instruction.{Instr, Indexed, Update, Literal, Mode, NameRef, Ref, Named, Str, text_of, split}
+use Rattle.h2_spec.specs.Integer.{spell_int}
+use Rattle.h2_spec.specs.Octets.{four_octets}
+use Rattle.h2_spec.specs.Parse.{Front, Stop, One, parse_all}
+use Rattle.h2_spec.specs.Payload.{setting_pairs}
+use Rattle.h2_spec.specs.Script.{Payload, Empty, Octets, Pairs, Increment, Code, Instructions, Statement, Nothing, Preface, Raw, AFrame, is_plain, mode_letter, quote_of, type_names}
+use Rattle.h2_spec.specs.Spelling.{spell, spell_string}
+use Rattle.h2_spec.specs.declared.frames.Head.{Head}
+
+-- ---- what is said of octets
+
+-- a string by its text, if it has one
+abbrev pub with_text : Bool → HuffRead → Option Str
+with_text huffman (Text t) = Some (record { huffman = huffman; octets = t })
+with_text huffman Eos = None
+with_text huffman Padding = None
+
+abbrev pub string_said : Str → Option Str
+string_said s = with_text s.huffman (text_of s)
+
+abbrev pub u32_only : ℕ → Option ℕ
+u32_only n = if nat_lt n (2 ^ 32) then Some n else None
+
+abbrev pub name_said : NameRef → Option NameRef
+name_said (Ref i) = option_map Ref (u32_only i)
+name_said (Named s) = option_map Named (string_said s)
+
+abbrev pub literal_said : Mode → Option NameRef → Option Str → Option Instr
+literal_said mode None value = None
+literal_said mode (Some name) None = None
+literal_said mode (Some name) (Some value) = Some (Literal mode name value)
+
+-- an instruction with the texts of its strings, if a script can say it
+abbrev pub instruction_said : Instr → Option Instr
+instruction_said (Indexed i) = option_map Indexed (u32_only i)
+instruction_said (Update n) = option_map Update (u32_only n)
+instruction_said (Literal mode name value) = literal_said mode (name_said name) (string_said value)
+
+abbrev pub in_front : {A : Type 0} → Option A → Option (List A) → Option (List A)
+in_front None more = None
+in_front (Some x) more = option_map (λ xs. x ∷ xs) more
+
+-- all of them, if a script can say each
+abbrev pub instructions_said : List Instr → Option (List Instr)
+instructions_said [] = Some []
+instructions_said (i ∷ is) = in_front (instruction_said i) (instructions_said is)
+
+-- octets that a script would spell so: the shortest integers, and strings without fault
+abbrev pub or_octets : List ℕ → Option (List Instr) → Payload
+or_octets p None = Octets p
+or_octets p (Some is) = if bytes_eq (flat_map spell is) p then Instructions is else Octets p
+
+-- whole instructions, spelled as a script spells them, or octets
+unfoldable pub block_said : List ℕ → Payload
+unfolding split spell spell_string spell_int spell_huffman huffman_text
+block_said p = if length (split p).rest == 0 then or_octets p (instructions_said (split p).elements) else Octets p
+
+-- the frame is HEADERS without padding and priority, or CONTINUATION: its payload is a fragment of a field block alone
+abbrev pub is_fragment : ℕ → ℕ → Bool
+is_fragment kind flags = kind == CONTINUATION || (kind == HEADERS && not (has flags PADDED) && not (has flags WITH_PRIORITY))
+
+-- the form of a payload, by its frame's type and flags
+unfoldable pub payload_said : ℕ → ℕ → List ℕ → Payload
+unfolding block_said
+payload_said kind flags p =
+    if length p == 0 then Empty
+    else if kind == SETTINGS && length p % 6 == 0 then Pairs (setting_pairs p)
+    else if kind == WINDOW_UPDATE && (length p == 4 && nat_lt (slice_index p 0) 128) then Increment (four_octets p 0)
+    else if kind == RST_STREAM && length p == 4 then Code (four_octets p 0)
+    else if is_fragment kind flags then block_said p
+    else Octets p
+
+abbrev pub frame_said : Head → List ℕ → Statement
+frame_said h p = AFrame h.kind h.flags h.stream h.reserved (payload_said h.kind h.flags p)
+
+-- a whole frame at the front
+abbrev pub frame_front : Head → List ℕ → Front Bool Statement
+frame_front h b = if nat_lt (length b) (9 + h.length) then Stop else One (frame_said h (take h.length (drop 9 b))) false (9 + h.length)
+
+-- the preface, where octets begin, or a whole frame, of any length
+unfoldable pub next_said : Bool → List ℕ → Front Bool Statement
+unfolding preface head_of payload_said
+next_said first b =
+    if first && starts_with nat_eq b preface then One Preface false 24
+    else if nat_lt (length b) 9 then Stop else frame_front (head_of b) b
+
+-- ---- texts
+
+-- an octet of a string: itself, or a backslash and two digits
+abbrev pub character_text : ℕ → List ℕ
+character_text c = if is_plain c then c ∷ [] else 92 ∷ encode_lower (c ∷ [])
+
+abbrev pub string_text : Str → List ℕ
+string_text s = quote_of s.huffman ∷ (flat_map character_text s.octets ++ quote_of s.huffman ∷ [])
+
+abbrev pub name_text : NameRef → List ℕ
+name_text (Ref i) = decimal i
+name_text (Named s) = string_text s
+
+abbrev pub instruction_text : Instr → List ℕ
+instruction_text (Indexed i) = 105 ∷ decimal i
+instruction_text (Update n) = 117 ∷ decimal n
+instruction_text (Literal mode name value) = mode_letter mode ∷ (name_text name ++ 61 ∷ string_text value)
+
+abbrev pub setting_text : ℕ × ℕ → List ℕ
+setting_text p = decimal p.0 ++ 61 ∷ decimal p.1
+
+-- with commas between
+abbrev pub each_text : {A : Type 0} → (A → List ℕ) → List A → List ℕ
+each_text text [] = []
+each_text text (x ∷ []) = text x
+each_text text (x ∷ y ∷ ys) = text x ++ 44 ∷ each_text text (y ∷ ys)
+
+abbrev pub payload_text : Payload → List ℕ
+payload_text Empty = codes "-"
+payload_text (Octets octets) = 120 ∷ encode_lower octets
+payload_text (Pairs pairs) = 115 ∷ each_text setting_text pairs
+payload_text (Increment n) = 119 ∷ decimal n
+payload_text (Code n) = 99 ∷ decimal n
+payload_text (Instructions is) = 104 ∷ each_text instruction_text is
+
+-- the name of a frame type, or T and two digits
+abbrev pub type_text : ℕ → List ℕ
+type_text kind = unwrap_or (slice_get type_names kind) (84 ∷ encode_lower (kind ∷ []))
+
+abbrev pub stream_text : ℕ → Bool → List ℕ
+stream_text stream reserved = if reserved then decimal stream ++ codes "R" else decimal stream
+
+abbrev pub statement_text : Statement → List ℕ
+statement_text Nothing = []
+statement_text Preface = codes "PREFACE"
+statement_text (Raw octets) = codes "RAW " ++ encode_lower octets
+statement_text (AFrame kind flags stream reserved payload) =
+    type_text kind ++ 32 ∷ (encode_lower (flags ∷ []) ++ 32 ∷ (stream_text stream reserved ++ 32 ∷ payload_text payload))
+
+abbrev pub line_text : Statement → List ℕ
+line_text s = statement_text s ++ 10 ∷ []
+
+-- what is left behind the last whole frame
+abbrev pub rest_text : List ℕ → List ℕ
+rest_text [] = []
+rest_text (x ∷ xs) = line_text (Raw (x ∷ xs))
+
+-- the script that is written for octets
+unfoldable pub written : List ℕ → List ℕ
+unfolding parse_all next_said
+written b = let t = parse_all next_said true b in flat_map line_text t.elements ++ rest_text t.rest
