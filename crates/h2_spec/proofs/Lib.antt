@@ -8,8 +8,6 @@ pub mod ParseLaws
 mod RequestRows
 mod Rows
 mod Runs
-pub mod TableLaws
-mod ShowRows
 mod ScriptRows
-mod TableLaws
+pub mod TableLaws
 mod TraceLaws

@@ -5,9 +5,9 @@ use Rattle.std.specs.Str.{bytes_eq}
 use Rattle.hex.specs.Hex.{decode_of, decode_sized}
 use Rattle.hex.specs.declared.FromHexError.{FromHexError}
 use Rattle.h2_spec.specs.Frame.{preface}
-use Rattle.h2_spec.specs.Instruction.{Instr, Indexed, Update, Literal, Mode, Add, Without, Never, NameRef, Ref, Named, Str}
+use Rattle.h2_spec.specs.Huffman.{spell_huffman}
+use Rattle.h2_spec.specs.Instruction.{Instruction, Indexed, Update, Literal, Mode, Add, Without, Never, NameRef, Ref, Named, TextStr, spell}
 use Rattle.h2_spec.specs.Script.{Payload, Empty, Octets, Pairs, Increment, Code, Instructions, Statement, Nothing, Preface, Raw, AFrame, is_plain, lines_of, max_stream, max_u32, octets_of, payload_octets}
-use Rattle.h2_spec.specs.Spelling.{spell}
 use Rattle.h2_spec.specs.declared.scripts.SyntaxKind.{SyntaxKind}
 use Rattle.h2_spec.specs.declared.scripts.SyntaxKind.TheVariants as kind
 
@@ -78,11 +78,11 @@ unescaped (c ∷ a ∷ b ∷ cs) =
     else None
 
 -- a string of these octets, and the text behind it
-abbrev pub string_of : Bool → List ℕ × List ℕ → Option (Str × List ℕ)
-string_of huffman p = option_map (λ octets. (record { huffman = huffman; octets = octets }, p.1)) (unescaped p.0)
+abbrev pub string_of : Bool → List ℕ × List ℕ → Option (TextStr × List ℕ)
+string_of huffman p = option_map (λ octets. (record { huffman = huffman; text = octets }, p.1)) (unescaped p.0)
 
 -- the string at the front of a text, and the text behind it
-abbrev pub string_at : List ℕ → Option (Str × List ℕ)
+abbrev pub string_at : List ℕ → Option (TextStr × List ℕ)
 string_at [] = None
 string_at (q ∷ xs) =
     if q == 34 then option_and_then (string_of false) (cut_at 34 xs)
@@ -94,24 +94,24 @@ string_at (q ∷ xs) =
 abbrev pub is_quote : ℕ → Bool
 is_quote c = c == 34 || c == 39
 
-abbrev pub index_of : ℕ → Option NameRef
+abbrev pub index_of : ℕ → Option (NameRef TextStr)
 index_of i = if i == 0 then None else Some (Ref i)
 
-abbrev pub name_at : List ℕ → Option (NameRef × List ℕ)
+abbrev pub name_at : List ℕ → Option (NameRef TextStr × List ℕ)
 name_at text =
     if is_quote (slice_index text 0) then option_map (λ p. (Named p.0, p.1)) (string_at text)
     else option_map (λ name. (name, onwards 61 text)) (option_and_then index_of (number_at max_u32 (before 61 text)))
 
-abbrev pub value_at : Mode → NameRef → List ℕ → Option (Instr × List ℕ)
+abbrev pub value_at : Mode → NameRef TextStr → List ℕ → Option (Instruction × List ℕ)
 value_at mode name text = option_map (λ p. (Literal mode name p.0, p.1)) (option_and_then string_at (behind 61 text))
 
-abbrev pub literal_at : Mode → List ℕ → Option (Instr × List ℕ)
+abbrev pub literal_at : Mode → List ℕ → Option (Instruction × List ℕ)
 literal_at mode text = option_and_then (λ p. value_at mode p.0 p.1) (name_at text)
 
-abbrev pub numbered_at : (ℕ → Instr) → List ℕ → Option (Instr × List ℕ)
+abbrev pub numbered_at : (ℕ → Instruction) → List ℕ → Option (Instruction × List ℕ)
 numbered_at f text = option_map (λ n. (f n, onwards 44 text)) (number_at max_u32 (before 44 text))
 
-unfoldable pub instruction_at : List ℕ → Option (Instr × List ℕ)
+unfoldable pub instruction_at : List ℕ → Option (Instruction × List ℕ)
 unfolding scanned unescaped
 instruction_at [] = None
 instruction_at (c ∷ cs) =
@@ -239,5 +239,5 @@ lines_at n (line ∷ lines) = line_then n (statement_at line) (lines_at (n + 1) 
 
 -- the octets of a script, or its first bad line, counted from 1, and the least kind of fault in it
 unfoldable pub assembled : List ℕ → Result (List ℕ) (ℕ × SyntaxKind)
-unfolding statement_at spell preface
+unfolding statement_at spell spell_huffman preface
 assembled text = lines_at 1 (lines_of text)

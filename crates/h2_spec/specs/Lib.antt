@@ -29,7 +29,6 @@ pub mod Script
 pub mod Settings
 pub mod SettingsFrame
 pub mod Show
-pub mod Spelling
 pub mod State
 pub mod StaticTable
 pub mod Stream

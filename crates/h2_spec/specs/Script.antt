@@ -4,9 +4,8 @@ use Rattle.std.specs.List.{slice_split}
 use Rattle.std.specs.Str.Parse.{IsNumeral, digits_value}
 use Rattle.hex.specs.Hex.{decode_of}
 use Rattle.h2_spec.specs.Frame.{preface}
-use Rattle.h2_spec.specs.Instruction.{Instr, Indexed, Update, Literal, Mode, Add, Without, Never, NameRef, Ref, Named, Str}
+use Rattle.h2_spec.specs.Instruction.{Instruction, Indexed, Update, Literal, Mode, Add, Without, Never, NameRef, Ref, Named, TextStr, shape_of, spell}
 use Rattle.h2_spec.specs.Octets.{big_endian}
-use Rattle.h2_spec.specs.Spelling.{spell}
 
 -- ---- what can be said
 
@@ -17,7 +16,7 @@ pub data Payload : Type 0 where
   Pairs : List (ℕ × ℕ) → Payload
   Increment : ℕ → Payload
   Code : ℕ → Payload
-  Instructions : List Instr → Payload
+  Instructions : List Instruction → Payload
 
 -- a line: nothing, the client's preface, octets as they are, or a frame by its type, flags, stream, reserved bit and payload
 pub data Statement : Type 0 where
@@ -32,13 +31,17 @@ pub data Statement : Type 0 where
 abbrev pub setting_octets : ℕ × ℕ → List ℕ
 setting_octets p = big_endian 2 p.0 ++ big_endian 4 p.1
 
+-- an instruction with the shortest integers (RFC 7541, 6)
+abbrev pub instruction_octets : Instruction → List ℕ
+instruction_octets i = spell (shape_of i)
+
 abbrev pub payload_octets : Payload → List ℕ
 payload_octets Empty = []
 payload_octets (Octets octets) = octets
 payload_octets (Pairs pairs) = flat_map setting_octets pairs
 payload_octets (Increment n) = big_endian 4 n
 payload_octets (Code n) = big_endian 4 n
-payload_octets (Instructions instructions) = flat_map spell instructions
+payload_octets (Instructions instructions) = flat_map instruction_octets instructions
 
 -- the last four octets of a head, the reserved bit above the stream's identifier (RFC 9113, 4.1)
 abbrev pub stream_octets : ℕ → Bool → List ℕ
@@ -90,13 +93,13 @@ SaysText text (c ∷ cs) = (first rest : List ℕ) × (text ≡ first ++ rest) �
 abbrev pub quote_of : Bool → ℕ
 quote_of huffman = if huffman then 39 else 34
 
-abbrev pub SaysString : List ℕ → Str → Type 0
-SaysString text s = (inside : List ℕ) × (text ≡ quote_of s.huffman ∷ (inside ++ quote_of s.huffman ∷ [])) × SaysText inside s.octets
+abbrev pub SaysString : List ℕ → TextStr → Type 0
+SaysString text s = (inside : List ℕ) × (text ≡ quote_of s.huffman ∷ (inside ++ quote_of s.huffman ∷ [])) × SaysText inside s.text
 
 -- ---- instructions
 
 -- the name of a literal: an index of 1 or more, or a string
-abbrev pub SaysName : List ℕ → NameRef → Type 0
+abbrev pub SaysName : List ℕ → NameRef TextStr → Type 0
 SaysName text (Ref i) = SaysNumber max_u32 text i × (0 < i)
 SaysName text (Named s) = SaysString text s
 
@@ -107,7 +110,7 @@ mode_letter Without = 110
 mode_letter Never = 118
 
 -- i and an index, u and a table size, or a literal: its mode, its name, an equals sign, its value
-abbrev pub SaysInstruction : List ℕ → Instr → Type 0
+abbrev pub SaysInstruction : List ℕ → Instruction → Type 0
 SaysInstruction text (Indexed i) = (digits : List ℕ) × (text ≡ 105 ∷ digits) × SaysNumber max_u32 digits i
 SaysInstruction text (Update n) = (digits : List ℕ) × (text ≡ 117 ∷ digits) × SaysNumber max_u32 digits n
 SaysInstruction text (Literal mode name value) = (a b : List ℕ) × (text ≡ mode_letter mode ∷ (a ++ 61 ∷ b)) × SaysName a name × SaysString b value

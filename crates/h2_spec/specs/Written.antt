@@ -5,62 +5,40 @@ use Rattle.std.specs.List.{list_all, starts_with}
 use Rattle.hex.specs.Hex.{encode_lower}
 use Rattle.h2_spec.specs.Frame.{head_of, preface}
 use Rattle.h2_spec.specs.FrameType.{has, CONTINUATION, HEADERS, PADDED, RST_STREAM, SETTINGS, WINDOW_UPDATE, WITH_PRIORITY}
-use Rattle.h2_spec.specs.Huffman.{HuffRead, Text, Eos, Padding, huffman_text, spell_huffman}
-use Rattle.h2_spec.specs.Instruction.{Instr, Indexed, Update, Literal, Mode, NameRef, Ref, Named, Str, text_of, split}
-use Rattle.h2_spec.specs.Integer.{spell_int}
+use Rattle.h2_spec.specs.Huffman.{huffman_text, spell_huffman}
+use Rattle.h2_spec.specs.Instruction.{Shape, Instruction, Indexed, Update, Literal, NameRef, Ref, Named, TextStr, instruction_of, spell, split}
 use Rattle.h2_spec.specs.Octets.{four_octets}
 use Rattle.h2_spec.specs.Parse.{Front, Stop, One, parse_all}
 use Rattle.h2_spec.specs.Payload.{setting_pairs}
-use Rattle.h2_spec.specs.Script.{Payload, Empty, Octets, Pairs, Increment, Code, Instructions, Statement, Nothing, Preface, Raw, AFrame, is_plain, mode_letter, quote_of, type_names}
-use Rattle.h2_spec.specs.Spelling.{spell, spell_string}
+use Rattle.h2_spec.specs.Script.{Payload, Empty, Octets, Pairs, Increment, Code, Instructions, Statement, Nothing, Preface, Raw, AFrame, instruction_octets, is_plain, mode_letter, quote_of, type_names}
 use Rattle.h2_spec.specs.declared.frames.Head.{Head}
 
 -- ---- what is said of octets
 
--- a string by its text, if it has one
-abbrev pub with_text : Bool → HuffRead → Option Str
-with_text huffman (Text t) = Some (record { huffman = huffman; octets = t })
-with_text huffman Eos = None
-with_text huffman Padding = None
+-- a script can write its numbers
+abbrev pub is_writable : Instruction → Bool
+is_writable (Indexed i) = nat_lt i (2 ^ 32)
+is_writable (Update n) = nat_lt n (2 ^ 32)
+is_writable (Literal mode (Ref i) value) = nat_lt i (2 ^ 32)
+is_writable (Literal mode (Named name) value) = true
 
-abbrev pub string_said : Str → Option Str
-string_said s = with_text s.huffman (text_of s)
-
-abbrev pub u32_only : ℕ → Option ℕ
-u32_only n = if nat_lt n (2 ^ 32) then Some n else None
-
-abbrev pub name_said : NameRef → Option NameRef
-name_said (Ref i) = option_map Ref (u32_only i)
-name_said (Named s) = option_map Named (string_said s)
-
-abbrev pub literal_said : Mode → Option NameRef → Option Str → Option Instr
-literal_said mode None value = None
-literal_said mode (Some name) None = None
-literal_said mode (Some name) (Some value) = Some (Literal mode name value)
-
--- an instruction with the texts of its strings, if a script can say it
-abbrev pub instruction_said : Instr → Option Instr
-instruction_said (Indexed i) = option_map Indexed (u32_only i)
-instruction_said (Update n) = option_map Update (u32_only n)
-instruction_said (Literal mode name value) = literal_said mode (name_said name) (string_said value)
-
-abbrev pub in_front : {A : Type 0} → Option A → Option (List A) → Option (List A)
+abbrev pub in_front : Option Instruction → Option (List Instruction) → Option (List Instruction)
 in_front None more = None
-in_front (Some x) more = option_map (λ xs. x ∷ xs) more
+in_front (Some i) more = if is_writable i then option_map (λ is. i ∷ is) more else None
 
--- all of them, if a script can say each
-abbrev pub instructions_said : List Instr → Option (List Instr)
+-- the instructions with the texts of their strings, if a script can say each
+abbrev pub instructions_said : List Shape → Option (List Instruction)
 instructions_said [] = Some []
-instructions_said (i ∷ is) = in_front (instruction_said i) (instructions_said is)
+instructions_said (s ∷ shapes) = in_front (instruction_of s) (instructions_said shapes)
 
 -- octets that a script would spell so: the shortest integers, and strings without fault
-abbrev pub or_octets : List ℕ → Option (List Instr) → Payload
+abbrev pub or_octets : List ℕ → Option (List Instruction) → Payload
 or_octets p None = Octets p
-or_octets p (Some is) = if bytes_eq (flat_map spell is) p then Instructions is else Octets p
+or_octets p (Some is) = if bytes_eq (flat_map instruction_octets is) p then Instructions is else Octets p
 
 -- whole instructions, spelled as a script spells them, or octets
 unfoldable pub block_said : List ℕ → Payload
-unfolding split spell spell_string spell_int spell_huffman huffman_text
+unfolding split spell spell_huffman huffman_text
 block_said p = if length (split p).rest == 0 then or_octets p (instructions_said (split p).elements) else Octets p
 
 -- the frame is HEADERS without padding and priority, or CONTINUATION: its payload is a fragment of a field block alone
@@ -98,14 +76,14 @@ next_said first b =
 abbrev pub character_text : ℕ → List ℕ
 character_text c = if is_plain c then c ∷ [] else 92 ∷ encode_lower (c ∷ [])
 
-abbrev pub string_text : Str → List ℕ
-string_text s = quote_of s.huffman ∷ (flat_map character_text s.octets ++ quote_of s.huffman ∷ [])
+abbrev pub string_text : TextStr → List ℕ
+string_text s = quote_of s.huffman ∷ (flat_map character_text s.text ++ quote_of s.huffman ∷ [])
 
-abbrev pub name_text : NameRef → List ℕ
+abbrev pub name_text : NameRef TextStr → List ℕ
 name_text (Ref i) = decimal i
 name_text (Named s) = string_text s
 
-abbrev pub instruction_text : Instr → List ℕ
+abbrev pub instruction_text : Instruction → List ℕ
 instruction_text (Indexed i) = 105 ∷ decimal i
 instruction_text (Update n) = 117 ∷ decimal n
 instruction_text (Literal mode name value) = mode_letter mode ∷ (name_text name ++ 61 ∷ string_text value)
