@@ -1,0 +1,45 @@
+-- What one eviction takes from the ring.
+use Rattle.std.proofs.Common.{◌≡◌, ℕ, ◌+◌, ◌-◌, ◌<◌, ◌≤◌, List, [], ◌∷◌, ◌++◌, length, take, Some, None, get_or, refl, ap, ◌∙◌, sym, arith}
+use Rattle.std.proofs.lemmas.List.{take_more, take_all}
+use Rattle.std.proofs.lemmas.Option.{slice_get_within, get_or_from_slice_get, slice_get-get_or}
+use Rattle.circular_buffer.specs.Buffer.{last_item}
+use Rattle.h2_spec.specs.Field.{Field, size}
+use Rattle.h2_spec.specs.DynamicTable.{total_size, fit}
+use Rattle.h2_spec.proofs.TableLaws.{fit-evict, total_size-append, total_size-length}
+use Rattle.h2_table.specs.Held.{places_for}
+
+last-split : {X : Type 0} (xs : List X) (x : X) → last_item xs ≡ Some x → xs ≡ take (length xs - 1) xs ++ x ∷ []
+last-split xs x h =
+    let i = length xs - 1 in
+    let inside : i < length xs = slice_get_within xs i x h in
+    let whole : length xs ≤ i + 1 = omega arith in
+    sym (take_all (i + 1) xs whole) ∙ take_more xs i x inside ∙ ap (λ y. take i xs ++ y ∷ []) (get_or_from_slice_get xs i x x h)
+
+-- a list with no last item has none
+pub last-none : {X : Type 0} (xs : List X) → None ≡ last_item xs → xs ≡ []
+last-none [] h = refl
+last-none (x ∷ xs) h = let e : last_item (x ∷ xs) ≡ Some (get_or (x ∷ xs) (length (x ∷ xs) - 1) x) = slice_get-get_or (x ∷ xs) (length (x ∷ xs) - 1) x (omega arith) in cc
+
+-- the oldest entry of too many: it counts what the others don't, and what fits is the same without it
+pub record Evicts (xs rest : List Field) (x : Field) (room : ℕ) : Type 0 where
+  pub counted : total_size xs ≡ total_size rest + size x
+  pub same : fit rest room ≡ fit xs room
+
+pub evicts : (xs : List Field) (x : Field) (room : ℕ) → Some x ≡ last_item xs → room < total_size xs → Evicts xs (take (length xs - 1) xs) x room
+evicts xs x room h over =
+    let rest = take (length xs - 1) xs in
+    let split : xs ≡ rest ++ x ∷ [] = last-split xs x (sym h) in
+    let sizes = ap total_size split ∙ total_size-append rest (x ∷ []) in
+    let over_too : room < total_size (rest ++ x ∷ []) = omega (arith, ap total_size split) in
+    record {
+      counted = omega (arith, sizes);
+      same = sym (ap (λ es. fit es room) split ∙ fit-evict rest x room over_too);
+    }
+
+-- where one more entry is within the limit, a place is free
+pub has_place : (es : List Field) (limit : ℕ) → total_size es + 32 ≤ limit → length es < places_for limit
+has_place es limit h = omega (arith, total_size-length es)
+
+-- a ring that holds too much has an oldest entry
+pub not_empty : (xs : List Field) (room : ℕ) → room < total_size xs → None ≡ last_item xs → ⊥
+not_empty xs room over none = omega (arith, ap total_size (last-none xs none))

@@ -1,0 +1,216 @@
+//! The dynamic table of one decoder (RFC 7541, 2.3.2 and 4): what enters, what is evicted, and what is found.
+//! Its entries stand in a ring that is made with the table, the newest at the front; beside it runs what they count.
+//! The definitions are `Table`, `insert` and `resize` of `h2_spec`, specs/DynamicTable.antt.
+
+ghost use Rattle.std.specs.Prelude.{◌≡◌, ◌<◌, ◌≤◌, [], ◌∷◌, ◌++◌, ◌↔◌, length, option_map, true, OnOk, OnErr, IfOk, IfErr, IsErr};
+ghost use Rattle.circular_buffer.specs.Buffer.{buffer};
+ghost use Rattle.h2_spec.specs.DynamicTable.{fit, insert, resize, total_size, entry_at};
+ghost use Rattle.h2_table.specs.Lent.{lent_field};
+ghost use Rattle.h2_table.specs.declared.fault.TableFault.TheVariants as faults;
+
+use crate::entry::Entry;
+use crate::fault::TableFault;
+use circular_buffer::HeapCircularBuffer;
+use std::alloc::{AllocError, Allocator};
+use std::marker::Model;
+
+/// The dynamic table of one decoder: its entries, the newest first, the maximum of what they count together, and the
+/// limit that the maximum may be given.
+///
+/// An entry counts the octets of its name and value and 32 more (RFC 7541, 4.1).
+#[derive(Drop)]
+pub struct DynTable<A: Allocator> {
+    ring: HeapCircularBuffer<Entry<A>, A>,
+    size: usize,
+    max: u32,
+    limit: u32,
+}
+
+impl<A: Allocator> Model for DynTable<A> {
+    ghost use Rattle.h2_spec.specs.DynamicTable.{LimitedTable};
+    ghost use Rattle.h2_table.specs.Held.{IsHeld};
+
+    ghost Value = { LimitedTable };
+
+    ghost view = { λ t. record { table = record { entries = t.ring.items; max = t.max }; limit = t.limit } };
+
+    ghost invariant = { λ t. IsHeld t.ring.items t.ring.capacity t.size t.max t.limit };
+}
+
+impl<A: Allocator> DynTable<A> {
+    /// An empty table whose maximum is its limit, in octets as entries count them.
+    ///
+    /// # Errors
+    ///
+    /// `AllocError` where the places for its entries, one for each 32 octets of the limit, were refused.
+    pub fn new(alloc: A, limit: u32) -> Result<Self, AllocError>
+        ensures empty { IfOk result (λ t. t ≡ record { table = record { entries = []; max = limit }; limit = limit }) }
+    {
+        let places = (limit / 32).max(1);
+        let ring = HeapCircularBuffer::with_capacity(alloc, places as usize)?;
+        Ok(DynTable {
+            ring,
+            size: 0,
+            max: limit,
+            limit,
+        })
+    }
+
+    /// How many entries there are.
+    pub fn len(&self) -> usize
+        ensures { result ≡ length self.now.table.entries }
+    {
+        self.ring.len()
+    }
+
+    /// Whether there is no entry.
+    pub fn is_empty(&self) -> bool
+        ensures { (result ≡ true) ↔ (self.now.table.entries ≡ []) }
+    {
+        self.ring.is_empty()
+    }
+
+    /// What the entries count together, in octets; at most the maximum (RFC 7541, 4.1).
+    pub fn size(&self) -> usize
+        ensures sum { result ≡ total_size self.now.table.entries }
+        ensures within { result ≤ self.now.table.max }
+    {
+        self.size
+    }
+
+    /// The most that the entries may count together, in octets; at most the limit (RFC 7541, 4.2).
+    pub fn max(&self) -> u32
+        ensures is { result ≡ self.now.table.max }
+        ensures within { result ≤ self.now.limit }
+    {
+        self.max
+    }
+
+    /// The most that the maximum may be set to, in octets.
+    pub fn limit(&self) -> u32
+        ensures { result ≡ self.now.limit }
+    {
+        self.limit
+    }
+
+    /// The name and the value of the `i`-th entry, counted from 1, the newest; none past the oldest, and none for 0.
+    pub fn get(&self, i: usize) -> Option<(&[u8], &[u8])>
+        ensures { option_map lent_field result ≡ entry_at i self.now.table.entries }
+    {
+        if i == 0 {
+            return None;
+        }
+        let entry = self.ring.get(i - 1)?;
+        Some((entry.name(), entry.value()))
+    }
+
+    /// Sets the maximum to `n` octets, and evicts the oldest entries until the others are within it (RFC 7541, 4.3).
+    ///
+    /// # Errors
+    ///
+    /// `OverLimit` where `n` is above the limit; the table is as it was. No memory is taken.
+    #[tactic(auto, unfolding(h2_spec::specs::DynamicTable::resize))]
+    pub fn set_max(&mut self, n: u64) -> Result<(), TableFault>
+        ensures over_limit { IsErr result ↔ (self.old.limit < n) }
+        ensures resized { OnOk result (self.new ≡ record self.old { table = resize self.old.table n }) }
+        ensures fault { IfErr result (λ fault. fault ≡ faults.OverLimit) }
+        ensures unchanged { OnErr result (self.new ≡ self.old) }
+    {
+        if n > u64::from(self.limit) {
+            return Err(TableFault::OverLimit);
+        }
+        let max = n as u32;
+        self.size = evict(&mut self.ring, self.size, max as usize);
+        self.max = max;
+        Ok(())
+    }
+
+    /// Adds a field as the newest entry, once the oldest ones have made room for it; one that counts more than the
+    /// maximum empties the table and is no error (RFC 7541, 4.4). No memory is taken.
+    pub fn insert(&mut self, name: Vec<u8, A>, value: Vec<u8, A>)
+        ensures { self.new ≡ record self.old { table = insert self.old.table (record { name = name.items; value = value.items }) } }
+    {
+        let size = name.len().saturating_add(value.len()).saturating_add(32);
+        let max = self.max as usize;
+        if size > max {
+            self.size = evict(&mut self.ring, self.size, 0);
+            return;
+        }
+        self.size = evict(&mut self.ring, self.size, max - size) + size;
+        put_newest(&mut self.ring, Entry::new(name, value));
+    }
+}
+
+impl<A: Allocator + Copy> DynTable<A> {
+    /// The same table once more, in memory of its own.
+    ///
+    /// # Errors
+    ///
+    /// `AllocError` where the memory was refused; `self` is as it was.
+    pub fn try_clone(&self) -> Result<DynTable<A>, AllocError>
+        ensures same { IfOk result (λ copy. copy ≡ self.now) }
+    {
+        let ring = copy_of(&self.ring)?;
+        Ok(DynTable {
+            ring,
+            size: self.size,
+            max: self.max,
+            limit: self.limit,
+        })
+    }
+}
+
+/// Takes out the oldest entries until those left, which count `size` together, count at most `room`; what is left
+/// counts the answer.
+fn evict<A: Allocator>(
+    ring: &mut HeapCircularBuffer<Entry<A>, A>,
+    size: usize,
+    room: usize,
+) -> usize
+    requires { size ≡ total_size ring.old.items }
+    ensures kept { ring.new.items ≡ fit ring.old.items room }
+    ensures counted { result ≡ total_size ring.new.items }
+    ensures within { result ≤ room }
+    ensures places { ring.new.capacity ≡ ring.old.capacity }
+{
+    let mut left = size;
+    while left > room {
+        match ring.pop_back() {
+            Some(entry) => left -= entry.name().len() + entry.value().len() + 32,
+            None => return left,
+        }
+    }
+    left
+}
+
+/// Puts an entry in a free place, as the newest.
+fn put_newest<A: Allocator>(ring: &mut HeapCircularBuffer<Entry<A>, A>, entry: Entry<A>)
+    requires { length ring.old.items < ring.old.capacity }
+    ensures { ring.new ≡ buffer (entry ∷ ring.old.items) ring.old.capacity }
+{
+    let _ = ring.try_push_front(entry);
+}
+
+/// Puts an entry in a free place, as the oldest.
+fn put_oldest<A: Allocator>(ring: &mut HeapCircularBuffer<Entry<A>, A>, entry: Entry<A>)
+    requires { length ring.old.items < ring.old.capacity }
+    ensures { ring.new ≡ buffer (ring.old.items ++ entry ∷ []) ring.old.capacity }
+{
+    let _ = ring.try_push_back(entry);
+}
+
+/// The same entries in as many places.
+fn copy_of<A: Allocator + Copy>(
+    ring: &HeapCircularBuffer<Entry<A>, A>,
+) -> Result<HeapCircularBuffer<Entry<A>, A>, AllocError>
+    ensures { IfOk result (λ copy. copy ≡ ring.now) }
+{
+    let mut copy = HeapCircularBuffer::with_capacity(*ring.allocator(), ring.capacity())?;
+    for i in 0..ring.len() {
+        if let Some(entry) = ring.get(i) {
+            let entry = entry.try_clone()?;
+            put_oldest(&mut copy, entry);
+        }
+    }
+    Ok(copy)
+}
