@@ -50,9 +50,10 @@ new_stream core id f = record {
   pick = f.pick;
 }
 
-abbrev pub is_zero_or_none : Option ℕ → Bool
-is_zero_or_none None = true
-is_zero_or_none (Some n) = n == 0
+-- whether a content-length other than 0 is declared
+abbrev pub declares_content : Option ℕ → Bool
+declares_content None = false
+declares_content (Some n) = not (n == 0)
 
 -- the stream that a request opens, with the number of live streams and the length of its answer's body
 unfoldable pub request_turn : Config → ℕ → ℕ → Core → ℕ → Bool → Facts → Turn
@@ -60,7 +61,7 @@ unfolding peer_ended
 request_turn config live body core id ends f =
     if nat_le config.streams live then stream_error core.peer.signal id RefusedStream
     else if nat_lt max_list f.size then stream_error core.peer.signal id EnhanceYourCalm
-    else if f.malformed || (ends && not (is_zero_or_none f.declared)) then stream_error core.peer.signal id ProtocolError
+    else if f.malformed || (ends && declares_content f.declared) then stream_error core.peer.signal id ProtocolError
     else if ends then peer_ended core.peer.signal body (new_stream core id f)
     else quiet_turn core.peer.signal (new_stream core id f)
 

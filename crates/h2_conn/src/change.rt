@@ -1,0 +1,91 @@
+//! Changes, and what a rule of one stream adds to them (RFC 9113, 5.4).
+//! Rests on h2_spec's types; definition: `specs/Change.antt` there.
+
+ghost use Rattle.std.specs.Prelude.{◌≡◌, ℕ, List};
+ghost use Rattle.h2_spec.specs.Change as changes;
+ghost use Rattle.h2_spec.specs.Stream as stream;
+ghost use Rattle.h2_spec.specs.declared.streams.Stream.{Stream};
+ghost use Rattle.h2_spec.specs.declared.connection.Core.{Core};
+ghost use Rattle.h2_conn.specs.Sound.{IsCalm, IsSoundChange, IsSoundStream};
+
+use h2_spec::connection::Core;
+use h2_spec::errors::ErrorCode;
+use h2_spec::flow::{Credit, Settings, Window};
+use h2_spec::reactions::{Change, ConnectionFrame, StreamFrame, Touch, Turn};
+use h2_spec::streams::{Kind, Numbers, Pick, Stream};
+
+/// The record of a stream that is not live.
+pub fn not_live(id: u32, kind: Kind) -> Stream
+    ensures { result ≡ stream.not_live id kind }
+{
+    Stream {
+        id,
+        kind,
+        numbers: Numbers {
+            recv: Window::start(0),
+            owed: Credit::none(),
+            send: Window::start(0),
+            got: 0,
+            declared: None,
+            left: None,
+        },
+        pick: Pick::NotFound,
+    }
+}
+
+/// The stream's record, with nothing sent.
+pub fn quiet_turn(signal: bool, stream: Stream) -> Turn
+    ensures { result ≡ changes.quiet_turn signal stream }
+{
+    Turn {
+        stream,
+        frame: StreamFrame::Still,
+        answer: None,
+        signal,
+    }
+}
+
+/// A stream error (RFC 9113, 5.4.2).
+pub fn stream_error(signal: bool, id: u32, code: ErrorCode) -> Turn
+    ensures { result ≡ changes.stream_error signal id code }
+{
+    Turn {
+        stream: not_live(id, Kind::WeReset),
+        frame: StreamFrame::Reset(id, code),
+        answer: None,
+        signal,
+    }
+}
+
+/// Nothing but the counts changes, and nothing is sent.
+pub fn stay(core: Core) -> Change
+    ensures { result ≡ changes.stay core }
+{
+    Change {
+        core,
+        touch: Touch::Same,
+        first: ConnectionFrame::Quiet,
+        second: StreamFrame::Still,
+        answer: None,
+    }
+}
+
+/// A change, and then what a rule does to one stream.
+#[tactic(auto, unfolding(h2_spec::specs::Change::turned))]
+pub fn turned(change: Change, turn: Turn) -> Change
+    ensures rule { result ≡ changes.turned change turn }
+    ensures sound { (streams : List Stream) (core : Core) → IsCalm core change → IsSoundStream core.peer.window turn.stream → IsSoundChange streams core.peer.window result }
+{
+    let core = change.core;
+    let peer = Settings {
+        signal: turn.signal,
+        ..core.peer
+    };
+    Change {
+        core: Core { peer, ..core },
+        touch: Touch::Put(turn.stream),
+        first: change.first,
+        second: turn.frame,
+        answer: turn.answer,
+    }
+}

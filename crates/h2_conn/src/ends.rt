@@ -1,0 +1,110 @@
+//! How the sides of a stream end, and how its answer begins (RFC 9113, 5.1 and 8.1).
+//! Rests on `change`; definition: h2_spec's `specs/Ends.antt`.
+
+ghost use Rattle.std.specs.Prelude.{◌≡◌, ℕ, ◌≤◌};
+ghost use Rattle.h2_spec.specs.Ends as rule;
+ghost use Rattle.h2_conn.specs.Sound.{IsSoundStream};
+
+use crate::change::{not_live, quiet_turn};
+use h2_spec::reactions::{Answering, StreamFrame, Turn};
+use h2_spec::streams::{Kind, Numbers, Stream};
+
+/// The stream after the server's last frame.
+#[tactic(auto, unfolding(h2_spec::specs::Ends::server_ended))]
+pub fn server_ended(stream: Stream) -> Stream
+    ensures rule { result ≡ rule.server_ended stream }
+    ensures sound { (window : ℕ) → window ≤ 2147483647 → IsSoundStream window stream → IsSoundStream window result }
+{
+    match stream.kind {
+        Kind::BothOpen => {
+            let numbers = Numbers {
+                left: None,
+                ..stream.numbers
+            };
+            Stream {
+                kind: Kind::HalfLocal,
+                numbers,
+                ..stream
+            }
+        }
+        Kind::HalfRemote => not_live(stream.id, Kind::Ended),
+        Kind::Idle
+        | Kind::Skipped
+        | Kind::HalfLocal
+        | Kind::Ended
+        | Kind::PeerReset
+        | Kind::WeReset => stream,
+    }
+}
+
+/// With this many octets of the answer left.
+pub fn with_left(stream: Stream, left: u64) -> Stream
+    ensures rule { result ≡ rule.with_left stream left }
+    ensures sound { (window : ℕ) → IsSoundStream window stream → IsSoundStream window result }
+{
+    let numbers = Numbers {
+        left: Some(left),
+        ..stream.numbers
+    };
+    Stream { numbers, ..stream }
+}
+
+/// The stream as its answer begins, with the length of the answer's body.
+#[tactic(auto, unfolding(h2_spec::specs::Ends::begun))]
+fn begun(body: u64, stream: Stream) -> Stream
+    ensures rule { result ≡ rule.begun body stream }
+    ensures sound { (window : ℕ) → window ≤ 2147483647 → IsSoundStream window stream → IsSoundStream window result }
+{
+    if body == 0 {
+        server_ended(stream)
+    } else {
+        with_left(stream, body)
+    }
+}
+
+/// The answer begins.
+#[tactic(auto, unfolding(h2_spec::specs::Ends::answered))]
+fn answered(signal: bool, body: u64, stream: Stream) -> Turn
+    ensures rule { result ≡ rule.answered signal body stream }
+    ensures sound { (window : ℕ) → window ≤ 2147483647 → IsSoundStream window stream → IsSoundStream window result.stream }
+{
+    let answer = Answering {
+        id: stream.id,
+        pick: stream.pick,
+        signal,
+    };
+    Turn {
+        stream: begun(body, stream),
+        frame: StreamFrame::Still,
+        answer: Some(answer),
+        signal: false,
+    }
+}
+
+/// The peer's side ends: what was open is answered, with this length of the answer's body, unless that has begun.
+#[tactic(auto, unfolding(h2_spec::specs::Ends::peer_ended))]
+pub fn peer_ended(signal: bool, body: u64, stream: Stream) -> Turn
+    ensures rule { result ≡ rule.peer_ended signal body stream }
+    ensures sound { (window : ℕ) → window ≤ 2147483647 → IsSoundStream window stream → IsSoundStream window result.stream }
+{
+    match stream.kind {
+        Kind::BothOpen => {
+            let half = Stream {
+                kind: Kind::HalfRemote,
+                ..stream
+            };
+            if stream.numbers.left.is_some() {
+                quiet_turn(signal, half)
+            } else {
+                answered(signal, body, half)
+            }
+        }
+        Kind::HalfLocal => quiet_turn(signal, not_live(stream.id, Kind::Ended)),
+        Kind::Idle
+        | Kind::Skipped
+        | Kind::HalfRemote
+        | Kind::Ended
+        | Kind::PeerReset
+        | Kind::WeReset => quiet_turn(signal, stream),
+    }
+}

@@ -1,0 +1,117 @@
+//! Field blocks: HEADERS and CONTINUATION, and the end of a block (RFC 9113, 4.3, 6.2, 6.10 and 8.1).
+//! Rests on `change` and `ends`; definition: h2_spec's `specs/Headers.antt`.
+
+ghost use Rattle.std.specs.Prelude.{◌≡◌, ℕ, ◌≤◌};
+ghost use Rattle.h2_spec.specs.Headers as rule;
+ghost use Rattle.h2_spec.specs.Data as data_rule;
+ghost use Rattle.h2_conn.specs.Sound.{IsSoundCore, IsSoundStream};
+
+use crate::change::{quiet_turn, stream_error};
+use crate::ends::peer_ended;
+use h2_spec::connection::{Config, Core};
+use h2_spec::errors::ErrorCode;
+use h2_spec::flow::{Credit, Window};
+use h2_spec::reactions::{Facts, Turn};
+use h2_spec::streams::{Kind, Numbers, Stream};
+
+/// The largest list of fields, in octets (RFC 9113, 10.5.1).
+const MAX_LIST: u64 = 65_536;
+
+/// Whether the content does not fit what was declared (RFC 9113, 8.1.1).
+pub fn breaks_length(declared: Option<u64>, got: u64, ends: bool) -> bool
+    ensures { result ≡ data_rule.breaks_length declared got ends }
+{
+    match declared {
+        None => false,
+        Some(count) => count < got || (ends && got != count),
+    }
+}
+
+/// A stream that a request opens.
+fn new_stream(core: Core, id: u32, facts: Facts) -> Stream
+    requires core { IsSoundCore core }
+    ensures rule { result ≡ rule.new_stream core id facts }
+    ensures sound { IsSoundStream core.peer.window result }
+{
+    let numbers = Numbers {
+        recv: Window::start(core.own.window),
+        owed: Credit::none(),
+        send: Window::start(core.peer.window),
+        got: 0,
+        declared: facts.declared,
+        left: None,
+    };
+    Stream {
+        id,
+        kind: Kind::BothOpen,
+        numbers,
+        pick: facts.pick,
+    }
+}
+
+/// Whether a content-length other than 0 is declared.
+fn declares_content(declared: Option<u64>) -> bool
+    ensures { result ≡ rule.declares_content declared }
+{
+    match declared {
+        None => false,
+        Some(count) => count != 0,
+    }
+}
+
+/// What becomes of the stream that a request opens, with the number of live streams and the length of its answer's body.
+#[tactic(auto, unfolding(h2_spec::specs::Headers::request_turn))]
+pub fn request_turn(
+    config: Config,
+    live: usize,
+    body: u64,
+    core: Core,
+    id: u32,
+    ends: bool,
+    facts: Facts,
+) -> Turn
+    requires core { IsSoundCore core }
+    ensures rule { result ≡ rule.request_turn config live body core id ends facts }
+    ensures sound { IsSoundStream core.peer.window result.stream }
+{
+    let signal = core.peer.signal;
+    if config.streams as usize <= live {
+        return stream_error(signal, id, ErrorCode::RefusedStream);
+    }
+    if MAX_LIST < facts.size {
+        return stream_error(signal, id, ErrorCode::EnhanceYourCalm);
+    }
+    if facts.malformed || (ends && declares_content(facts.declared)) {
+        return stream_error(signal, id, ErrorCode::ProtocolError);
+    }
+    let stream = new_stream(core, id, facts);
+    if ends {
+        peer_ended(signal, body, stream)
+    } else {
+        quiet_turn(signal, stream)
+    }
+}
+
+/// What trailers do to their stream: the size of their list, whether a reason stands against them, and the length of the answer's body.
+#[tactic(auto, unfolding(h2_spec::specs::Headers::trailers_turn))]
+pub fn trailers_turn(
+    size: u64,
+    malformed: bool,
+    body: u64,
+    signal: bool,
+    ends: bool,
+    stream: Stream,
+) -> Turn
+    ensures rule { result ≡ rule.trailers_turn size malformed body signal ends stream }
+    ensures sound { (window : ℕ) → window ≤ 2147483647 → IsSoundStream window stream → IsSoundStream window result.stream }
+{
+    if MAX_LIST < size {
+        return stream_error(signal, stream.id, ErrorCode::EnhanceYourCalm);
+    }
+    let numbers = stream.numbers;
+    let breaks = breaks_length(numbers.declared, numbers.got, true);
+    if malformed || !ends || breaks {
+        return stream_error(signal, stream.id, ErrorCode::ProtocolError);
+    }
+    peer_ended(signal, body, stream)
+}

@@ -1,0 +1,8 @@
+//! One connection: what each item changes, and what is sent for it (RFC 9113, 3.4 to 6).
+#![tactic(auto)]
+
+mod change;
+mod ends;
+mod headers;
+mod reset;
+mod window_update;

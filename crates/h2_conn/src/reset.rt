@@ -1,0 +1,32 @@
+//! The rule for RST_STREAM (RFC 9113, 6.4).
+//! Rests on `change`; definition: `on_reset` of h2_spec's `specs/Effect.antt`.
+
+ghost use Rattle.std.specs.Prelude.{◌≡◌, List};
+ghost use Rattle.h2_spec.specs.Effect as rule;
+ghost use Rattle.h2_spec.specs.declared.streams.Stream.{Stream};
+ghost use Rattle.h2_conn.specs.Sound.{IsSound, IsSoundCore};
+
+use crate::change::{not_live, quiet_turn, stay, turned};
+use h2_spec::connection::Core;
+use h2_spec::errors::ErrorCode;
+use h2_spec::reactions::Reaction;
+use h2_spec::streams::{Kind, Stream};
+
+/// RST_STREAM on a stream.
+#[tactic(auto, unfolding(h2_spec::specs::Effect::on_reset, h2_spec::specs::Effect::reset_turn))]
+pub fn on_reset(core: Core, stream: Stream) -> Reaction
+    requires core { IsSoundCore core }
+    ensures rule { result ≡ rule.on_reset core stream }
+    ensures sound { (streams : List Stream) → IsSound streams core.peer.window result }
+{
+    match stream.kind {
+        Kind::Idle => Reaction::ConnectionError(ErrorCode::ProtocolError),
+        Kind::Skipped | Kind::Ended | Kind::PeerReset | Kind::WeReset => {
+            Reaction::Continues(stay(core))
+        }
+        Kind::BothOpen | Kind::HalfLocal | Kind::HalfRemote => {
+            let turn = quiet_turn(core.peer.signal, not_live(stream.id, Kind::PeerReset));
+            Reaction::Continues(turned(stay(core), turn))
+        }
+    }
+}
