@@ -2,6 +2,7 @@
 #![tactic(auto)]
 
 mod change;
+mod checks;
 mod ends;
 mod headers;
 mod reset;
