@@ -11,6 +11,10 @@ pub record Frame : Type 0 where
   pub stream : ℕ
   pub payload : List ℕ
 
+-- the frame that is sent with this head and payload
+abbrev pub frame_of : Head → List ℕ → Frame
+frame_of h p = record { kind = h.kind; flags = h.flags; stream = h.stream; payload = p }
+
 -- the head that nine octets spell
 unfoldable pub head_of : List ℕ → Head
 head_of b = record {

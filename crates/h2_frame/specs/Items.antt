@@ -1,0 +1,46 @@
+-- The items that a splitter finds (RFC 9113, 3.4, 4.1 and 4.2).
+use Rattle.std.specs.Prelude.{ℕ, Bool, true, false, drop, if◌then◌else◌, Option, Some, None}
+use Rattle.h2_frame.specs.declared.splitter.Item.{Item}
+use Rattle.h2_frame.specs.declared.splitter.Item.TheVariants as code
+use Rattle.h2_frame.specs.Rest.{Rest}
+use Rattle.h2_spec.specs.Frame as spec
+use Rattle.h2_spec.specs.Frame.{Next, NoItem, Got, next}
+
+-- an item with its payload as a list
+abbrev pub item_of : Item → spec.Item
+item_of code.Preface = spec.Preface
+item_of code.BadPreface = spec.BadPreface
+item_of (code.Frame f) = spec.WholeFrame f.head f.payload.now
+item_of (code.Oversize h) = spec.Oversize h
+
+-- an item and how many octets it takes, if there is one
+abbrev pub found_in : Option (Item × ℕ) → Next
+found_in None = NoItem
+found_in (Some x) = Got (item_of x.0) x.1
+
+-- after a bad preface or an oversized head no item follows
+abbrev pub ends_items : spec.Item → Bool
+ends_items spec.Preface = false
+ends_items spec.BadPreface = true
+ends_items (spec.WholeFrame h p) = false
+ends_items (spec.Oversize h) = true
+
+-- what is found in the octets that are held
+abbrev pub found : ℕ → Rest → Next
+found limit r = if r.is_over then NoItem else next r.expects_preface limit r.octets
+
+abbrev pub item_in : Next → Option spec.Item
+item_in NoItem = None
+item_in (Got item used) = Some item
+
+abbrev pub rest_behind : Rest → Next → Rest
+rest_behind r NoItem = r
+rest_behind r (Got item used) = record { octets = drop used r.octets; expects_preface = false; is_over = ends_items item }
+
+-- the next item
+abbrev pub next_in : ℕ → Rest → Option spec.Item
+next_in limit r = item_in (found limit r)
+
+-- what is held after it is taken
+abbrev pub rest_after : ℕ → Rest → Rest
+rest_after limit r = rest_behind r (found limit r)

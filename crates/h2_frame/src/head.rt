@@ -1,0 +1,72 @@
+//! Heads of frames: reading them, and writing whole frames (RFC 9113, 4.1).
+//! Rests on `h2_spec`; definitions: `h2_spec/specs/Frame.antt`.
+
+ghost use Rattle.std.specs.Prelude.{◌≡◌, ◌<◌, ◌≤◌, ◌^◌, ◌++◌, length, OnOk, OnErr};
+ghost use Rattle.h2_spec.specs.Frame.{head_at, head_of, frame_octets, frame_of};
+
+use h2_spec::frames::Head;
+use std::alloc::{AllocError, Allocator};
+
+/// A whole frame: its head, and its payload where it lies.
+#[derive(Clone, Copy, Debug, PartialEq, Eq)]
+pub struct FrameRef<'a> {
+    pub head: Head,
+    /// As many octets as the head's length says.
+    pub payload: &'a [u8],
+}
+
+/// The head in the first nine octets; `None` where there are fewer (RFC 9113, 4.1).
+#[tactic(auto, unfolding(h2_spec::specs::Frame::head_at))]
+pub fn read_head(octets: &[u8]) -> Option<Head>
+    ensures { result ≡ head_at octets.now }
+{
+    if octets.len() < 9 {
+        return None;
+    }
+    Some(first_head(octets))
+}
+
+/// The head that the first nine octets spell.
+#[tactic(auto, unfolding(h2_spec::specs::Frame::head_of))]
+pub(crate) fn first_head(octets: &[u8]) -> Head
+    requires { 9 ≤ length octets.now }
+    ensures { result ≡ head_of octets.now }
+{
+    let length = u32::from(octets[0]) * 65536 + u32::from(octets[1]) * 256 + u32::from(octets[2]);
+    let stream = u32::from(octets[5] % 128) * 16_777_216
+        + u32::from(octets[6]) * 65536
+        + u32::from(octets[7]) * 256
+        + u32::from(octets[8]);
+    Head {
+        length,
+        kind: octets[3],
+        flags: octets[4],
+        reserved: octets[5] >= 128,
+        stream,
+    }
+}
+
+/// Appends the frame with this head and payload to `out` (RFC 9113, 4.1).
+///
+/// The head's length is the payload's, and the reserved bit is written as 0 whatever the head says.
+/// `AllocError` where `out` could not grow; then `out` is as before.
+#[tactic(auto, unfolding(h2_spec::specs::Frame::frame_octets))]
+pub fn write_frame<A: Allocator>(
+    head: &Head,
+    payload: &[u8],
+    out: &mut Vec<u8, A>,
+) -> Result<(), AllocError>
+    requires length { head.now.length ≡ length payload.now }
+    requires fits { head.now.length < 2 ^ 24 }
+    requires stream { head.now.stream < 2 ^ 31 }
+    ensures ok { OnOk result (out.new.items ≡ out.old.items ++ frame_octets (frame_of head.now payload.now)) }
+    ensures no_memory { OnErr result (out.new.items ≡ out.old.items) }
+{
+    let length = head.length.to_be_bytes();
+    let stream = head.stream.to_be_bytes();
+    out.reserve(9 + payload.len())?;
+    out.extend_from_slice(&[length[1], length[2], length[3], head.kind, head.flags])?;
+    out.extend_from_slice(&stream)?;
+    out.extend_from_slice(payload)?;
+    Ok(())
+}

@@ -1,0 +1,14 @@
+//! Frames of HTTP/2: their heads, the items that octets are split into, and what payloads hold (RFC 9113, 3.4, 4 and 6).
+//! Rests on `h2_spec` alone.
+//! Definitions: `h2_spec/specs/Frame.antt`, `h2_spec/specs/Payload.antt`, and `specs/` here for what a splitter holds.
+#![tactic(auto)]
+
+pub mod head;
+pub mod splitter;
+
+pub use h2_spec::frames::{FrameType, Head};
+pub use head::{FrameRef, read_head, write_frame};
+pub use splitter::{Item, Splitter};
+
+#[cfg(test)]
+mod tests;

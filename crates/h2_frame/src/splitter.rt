@@ -1,0 +1,209 @@
+//! The splitter: octets come in pieces of any length, and items are taken from their front (RFC 9113, 3.4, 4.1 and 4.2).
+//! Rests on `head`; definitions: `next` of `h2_spec/specs/Frame.antt`, and `specs/Items.antt` for what a splitter holds.
+
+ghost use Rattle.std.specs.Prelude.{◌≡◌, ℕ, ◌+◌, ◌-◌, ◌≤◌, ◌++◌, [], length, take, drop, vec_len, true, false, nat_eq, IfSome, OnOk, OnErr};
+ghost use Rattle.std.specs.List.{common_prefix_len};
+ghost use Rattle.std.specs.Option.{option_map};
+ghost use Rattle.std.specs.Borrow.{sem};
+ghost use Rattle.std.specs.Io.BufRead.{Rests};
+ghost use Rattle.h2_spec.specs.Frame.{next, preface};
+ghost use Rattle.h2_frame.specs.Items.{item_of, ends_items, found_in, found, item_in, next_in, rest_after};
+ghost use Rattle.h2_frame.specs.contracts.splitter.Splitter.{the_row};
+
+use crate::head::{FrameRef, first_head};
+use h2_spec::frames::Head;
+use std::alloc::{AllocError, Allocator};
+use std::marker::Model;
+
+/// The client's connection preface (RFC 9113, 3.4).
+static PREFACE: [u8; 24] = *b"PRI * HTTP/2.0\r\n\r\nSM\r\n\r\n";
+
+/// One step of the input.
+#[derive(Clone, Copy, Debug, PartialEq, Eq)]
+pub enum Item<'a> {
+    /// The client's connection preface (RFC 9113, 3.4).
+    Preface,
+    /// Octets that are no preface, up to the first that differs.
+    BadPreface,
+    /// A whole frame.
+    Frame(FrameRef<'a>),
+    /// The head of a frame whose length is above the limit; its payload is not awaited (RFC 9113, 4.2).
+    Oversize(Head),
+}
+
+/// Octets that were pushed and not yet taken.
+///
+/// Memory follows what is held: once half of the list has been taken, a push gives it back first.
+#[derive(Drop)]
+pub struct Splitter<A: Allocator> {
+    /// All octets, those already taken in front.
+    buffer: Vec<u8, A>,
+    /// How many of them are taken.
+    offset: usize,
+    /// Whether the preface is still awaited.
+    expects_preface: bool,
+    /// Whether an item was taken that ends all items.
+    is_over: bool,
+}
+
+impl<A: Allocator> Model for Splitter<A> {
+    ghost use Rattle.std.specs.Prelude.{◌≤◌, drop, vec_len};
+    ghost use Rattle.h2_frame.specs.Rest.{Rest};
+
+    ghost Value = { Rest };
+
+    ghost view = { λ s. record { octets = drop s.offset s.buffer.items; expects_preface = s.expects_preface; is_over = s.is_over } };
+
+    ghost invariant = { λ s. s.offset ≤ vec_len s.buffer };
+}
+
+impl<A: Allocator> Splitter<A> {
+    /// A splitter that holds nothing and awaits the preface. Takes no memory.
+    pub fn new(alloc: A) -> Self
+        ensures { result ≡ record { octets = []; expects_preface = true; is_over = false } }
+    {
+        Splitter {
+            buffer: Vec::new(alloc),
+            offset: 0,
+            expects_preface: true,
+            is_over: false,
+        }
+    }
+
+    /// Adds the octets behind those that are held.
+    ///
+    /// `AllocError` where the list could not grow; then what is held is as before.
+    pub fn push(&mut self, octets: &[u8]) -> Result<(), AllocError>
+        ensures ok { OnOk result (self.new ≡ record self.old { octets = self.old.octets ++ octets.now }) }
+        ensures no_memory { OnErr result (self.new ≡ self.old) }
+    {
+        if self.offset >= self.buffer.len() - self.offset {
+            self.give_back();
+        }
+        self.buffer.extend_from_slice(octets)
+    }
+
+    /// How many octets are held: pushed, and not yet taken.
+    pub fn rest_len(&self) -> usize
+        ensures { result ≡ length self.now.octets }
+    {
+        self.buffer.len() - self.offset
+    }
+
+    /// Takes the next item, if the octets held begin with a whole one; a frame is oversized when its length is above the limit.
+    ///
+    /// The first item is the preface or a bad one. After a bad preface or an oversized head the answer is `None` for good.
+    /// The payload is lent from the splitter.
+    pub fn next(&mut self, limit: u32) -> Option<Item<'_>>
+        ensures* leaves { sem 𝓛 (Rests (the_row A.row A.Allocator) self.entry (λ rest. rest ≡ rest_after limit self.old)) }
+        ensures item { option_map item_of result ≡ next_in limit self.old }
+    {
+        if self.is_over {
+            return None;
+        }
+        let held = octets_from(self.buffer.as_slice(), self.offset);
+        let (item, used) = first_item(held, self.expects_preface, limit)?;
+        self.offset += used;
+        self.expects_preface = false;
+        self.is_over = item.ends_items();
+        Some(item)
+    }
+
+    /// Gives the octets that were taken back to the list.
+    fn give_back(&mut self)
+        ensures { self.new ≡ self.old }
+    {
+        self.buffer.drain(..self.offset);
+        self.offset = 0;
+    }
+}
+
+impl Item<'_> {
+    /// Whether no item follows.
+    fn ends_items(&self) -> bool
+        ensures { result ≡ ends_items (item_of self.now) }
+    {
+        match self {
+            Item::Preface | Item::Frame(_) => false,
+            Item::BadPreface | Item::Oversize(_) => true,
+        }
+    }
+}
+
+fn octets_from(octets: &[u8], start: usize) -> &[u8]
+    requires { start ≤ length octets.now }
+    ensures { result.now ≡ drop start octets.now }
+{
+    &octets[start..]
+}
+
+fn octets_up_to(octets: &[u8], end: usize) -> &[u8]
+    requires { end ≤ length octets.now }
+    ensures { result.now ≡ take end octets.now }
+{
+    &octets[..end]
+}
+
+/// The item that the octets begin with, if there is a whole one, and how many octets it takes.
+fn first_item(octets: &[u8], expects_preface: bool, limit: u32) -> Option<(Item<'_>, usize)>
+    ensures item { found_in result ≡ next expects_preface limit octets.now }
+    ensures within { IfSome result (λ x. x.1 ≤ length octets.now) }
+{
+    if expects_preface {
+        preface_item(octets)
+    } else {
+        frame_item(octets, limit)
+    }
+}
+
+/// How many octets agree with those expected.
+fn agreeing(octets: &[u8], expected: &[u8]) -> usize
+    ensures within { result ≤ length octets.now }
+    ensures common { result ≡ common_prefix_len nat_eq octets.now expected.now }
+{
+    let shorter = octets.len().min(expected.len());
+    for count in 0..shorter {
+        if octets[count] != expected[count] {
+            return count;
+        }
+    }
+    shorter
+}
+
+/// The preface or a bad one, if it is decided, and how many octets it takes.
+#[tactic(auto, unfolding(h2_spec::specs::Frame::next))]
+fn preface_item(octets: &[u8]) -> Option<(Item<'_>, usize)>
+    ensures item { (limit : ℕ) → found_in result ≡ next true limit octets.now }
+    ensures within { IfSome result (λ x. x.1 ≤ length octets.now) }
+{
+    let agreeing = agreeing(octets, &PREFACE);
+    if agreeing == 24 {
+        return Some((Item::Preface, 24));
+    }
+    if agreeing < octets.len() {
+        return Some((Item::BadPreface, agreeing + 1));
+    }
+    None
+}
+
+/// The first frame or oversized head, and how many octets it takes.
+#[tactic(auto, unfolding(h2_spec::specs::Frame::next))]
+fn frame_item(octets: &[u8], limit: u32) -> Option<(Item<'_>, usize)>
+    ensures item { found_in result ≡ next false limit octets.now }
+    ensures within { IfSome result (λ x. x.1 ≤ length octets.now) }
+{
+    if octets.len() < 9 {
+        return None;
+    }
+    let head = first_head(octets);
+    if head.length > limit {
+        return Some((Item::Oversize(head), 9));
+    }
+    let size = head.length as usize;
+    let rest = octets_from(octets, 9);
+    if rest.len() < size {
+        return None;
+    }
+    let payload = octets_up_to(rest, size);
+    Some((Item::Frame(FrameRef { head, payload }), 9 + size))
+}
