@@ -1,11 +1,11 @@
 -- What is read at the front of octets is what the octets spell.
-use Rattle.std.proofs.Common.{◌≡◌, ℕ, zero, suc, ◌+◌, ◌-◌, ◌*◌, ◌%◌, ◌^◌, ◌<◌, ◌≤◌, Bool, true, false, cond, List, [], ◌∷◌, ◌++◌, length, take, refl, ap, arith, ltb, ltb-true, ltb-false}
+use Rattle.std.proofs.Common.{◌≡◌, ℕ, zero, suc, ◌+◌, ◌-◌, ◌*◌, ◌/◌, ◌%◌, ◌^◌, ◌<◌, ◌≤◌, Bool, true, false, cond, List, [], ◌∷◌, ◌++◌, length, take, refl, ap, sym, ◌∙◌, arith, ltb, ltb-true, ltb-false, lt-ltb, le-ltb, length-append}
 use Rattle.std.proofs.lemmas.Nat.{pow_pos}
-use Rattle.std.proofs.lemmas.List.{length-take-le}
-use Rattle.std.proofs.Math.Nat.{mod-lt}
+use Rattle.std.proofs.lemmas.List.{length-take-le, append-nil}
+use Rattle.std.proofs.Math.Nat.{mod-lt, mod-add-mod, mod-eq_of_lt}
 use Rattle.std.specs.List.{AllByRecursion}
 use Rattle.h2_spec.specs.Read.{Read, Whole, More, TooLong}
-use Rattle.h2_spec.specs.Integer.{groups, IsContinuation, IsReadOf, scaled, groups_at, int_at}
+use Rattle.h2_spec.specs.Integer.{groups, IsContinuation, IsInt, IsUnfinished, IsTooLong, IsShortest, IsReadOf, scaled, groups_at, int_at, groups_of, spell_int}
 
 -- the same of the groups behind the prefix
 abbrev GroupsRead : ℕ → List ℕ → Read ℕ → Type 0
@@ -85,3 +85,131 @@ int-stays n (o ∷ cs) ys = at (ltb (o % 2 ^ n) (2 ^ n - 1))
     at : (t : Bool) → Stays (cond t (Whole (o % 2 ^ n) 1) (scaled (2 ^ n - 1) 1 1 (groups_at 5 cs))) (cond t (Whole (o % 2 ^ n) 1) (scaled (2 ^ n - 1) 1 1 (groups_at 5 (cs ++ ys))))
     at true = refl
     at false = scaled-stays (2 ^ n - 1) 1 1 (groups_at 5 cs) (groups_at 5 (cs ++ ys)) (groups-stays 5 cs ys)
+
+-- ---- what the octets spell is what is read
+
+groups_whole : (room : ℕ) (cs ys : List ℕ) → IsContinuation cs → length cs ≤ room → groups_at room (cs ++ ys) ≡ Whole (groups cs) (length cs)
+groups_whole room [] ys h k = absurd h
+groups_whole zero (c ∷ cs) ys h k = absurd (omega arith)
+groups_whole (suc room) (c ∷ []) ys h k =
+    let value : c ≡ c % 128 + 128 * 0 = omega arith in
+    rw (lt-ltb c 128 h) (ap (λ n. Whole n 1) value)
+groups_whole (suc room) (c ∷ d ∷ cs) ys h k =
+    let one : 1 + suc (length cs) ≡ suc (suc (length cs)) = omega arith in
+    rw (le-ltb c 128 h.0) (ap (scaled (c % 128) 128 1) (groups_whole room (d ∷ cs) ys h.1 (omega arith)) ∙ ap (λ u. Whole (c % 128 + 128 * groups (d ∷ cs)) u) one)
+
+groups_unfinished : (room : ℕ) (cs : List ℕ) → AllByRecursion (λ c. 128 ≤ c) cs → length cs < room → groups_at room cs ≡ More
+groups_unfinished zero cs h k = absurd (omega arith)
+groups_unfinished (suc room) [] h k = refl
+groups_unfinished (suc room) (c ∷ cs) h k = rw (le-ltb c 128 h.0) (ap (scaled (c % 128) 128 1) (groups_unfinished room cs h.1 (omega arith)))
+
+groups_too_long : (room : ℕ) (cs : List ℕ) → AllByRecursion (λ c. 128 ≤ c) (take room cs) → room ≤ length cs → groups_at room cs ≡ TooLong
+groups_too_long zero cs h k = refl
+groups_too_long (suc room) [] h k = absurd (omega arith)
+groups_too_long (suc room) (c ∷ cs) h k = rw (le-ltb c 128 h.0) (ap (scaled (c % 128) 128 1) (groups_too_long room cs h.1 (omega arith)))
+
+-- a full prefix leads to the groups
+full : (n o : ℕ) (cs : List ℕ) (r : Read ℕ) → o % 2 ^ n ≡ 2 ^ n - 1 → groups_at 5 cs ≡ r → int_at n (o ∷ cs) ≡ scaled (2 ^ n - 1) 1 1 r
+unfolding int_at
+full n o cs r e g = rw (e, le-ltb (2 ^ n - 1) (2 ^ n - 1) (omega arith), g) refl
+
+pub int_whole : (n v : ℕ) (xs ys : List ℕ) → IsInt n v xs → int_at n (xs ++ ys) ≡ Whole v (length xs)
+unfolding int_at
+int_whole n v [] ys h = absurd h
+int_whole n v (o ∷ []) ys h = rw (h.0, lt-ltb v (2 ^ n - 1) h.1) refl
+int_whole n v (o ∷ c ∷ cs) ys h =
+    let value : 2 ^ n - 1 + 1 * groups (c ∷ cs) ≡ v = omega (arith, h.3) in
+    let used : 1 + suc (length cs) ≡ suc (suc (length cs)) = omega arith in
+    full n o (c ∷ cs ++ ys) _ h.0 (groups_whole 5 (c ∷ cs) ys h.1 (omega (arith, h.2))) ∙ rw (value, used) refl
+
+pub int_unfinished : (n : ℕ) (xs : List ℕ) → IsUnfinished n xs → int_at n xs ≡ More
+unfolding int_at
+int_unfinished n [] h = refl
+int_unfinished n (o ∷ cs) h = full n o cs _ h.0 (groups_unfinished 5 cs h.1 h.2)
+
+pub int_too_long : (n : ℕ) (xs : List ℕ) → IsTooLong n xs → int_at n xs ≡ TooLong
+int_too_long n [] h = absurd h
+int_too_long n (o ∷ cs) h = full n o cs _ h.0 (groups_too_long 5 cs h.2 h.1)
+
+-- no spelling begins another, and none is that of two numbers
+pub one_int : (n v w : ℕ) (xs ys : List ℕ) → IsInt n v xs → IsInt n w (xs ++ ys) → (v ≡ w) × (ys ≡ [])
+one_int n v w xs ys h g =
+    let read : Whole v (length xs) ≡ Whole w (length (xs ++ ys)) = sym (int_whole n v xs ys h) ∙ ap (int_at n) (sym (append-nil (xs ++ ys))) ∙ int_whole n w (xs ++ ys) [] g in
+    let values : v ≡ w = cc in
+    let lengths : length xs ≡ length (xs ++ ys) = cc in
+    (values, empty ys (omega (arith, length-append xs ys, lengths)))
+  where
+    empty : (zs : List ℕ) → length zs ≡ 0 → zs ≡ []
+    empty [] e = refl
+    empty (z ∷ zs) e = absurd (omega arith)
+
+-- ---- the shortest spelling
+
+-- groups that write a number, and no fewer do
+record AreShortest (room v : ℕ) (cs : List ℕ) : Type 0 where
+  continued : IsContinuation cs
+  within : length cs ≤ room
+  value : groups cs ≡ v
+  shortest : (ds : List ℕ) → IsContinuation ds → groups ds ≡ v → length cs ≤ length ds
+
+one_group : (room v : ℕ) → v < 128 → AreShortest (suc room) v (v ∷ [])
+one_group room v h = record { continued = h; within = omega arith; value = omega arith; shortest = some }
+  where
+    some : (ds : List ℕ) → IsContinuation ds → groups ds ≡ v → 1 ≤ length ds
+    some [] h e = absurd h
+    some (d ∷ ds) h e = omega arith
+
+group_more : (room v : ℕ) (cs : List ℕ) → 128 ≤ v → AreShortest room (v / 128) cs → AreShortest (suc room) v ((v % 128 + 128) ∷ cs)
+group_more room v cs h r = record { continued = continues (v % 128 + 128) cs (omega arith) r.continued; within = omega (arith, r.within); value = omega (arith, r.value); shortest = some }
+  where
+    some : (ds : List ℕ) → IsContinuation ds → groups ds ≡ v → suc (length cs) ≤ length ds
+    some [] g e = absurd g
+    some (d ∷ []) g e = absurd (omega arith)
+    some (d ∷ b ∷ ds) g e = let more = r.shortest (b ∷ ds) g.1 (omega arith) in omega arith
+
+groups_of_shortest : (room v : ℕ) → v < 128 ^ suc room → AreShortest (suc room) v (groups_of (suc room) v)
+groups_of_shortest zero v h = let small : v < 128 = omega arith in rw (lt-ltb v 128 small) (one_group zero v small)
+groups_of_shortest (suc room) v h = at (λ g. groups_of_shortest room (v / 128) g) (ltb v 128) refl
+  where
+    at : (v / 128 < 128 ^ suc room → AreShortest (suc room) (v / 128) (groups_of (suc room) (v / 128))) →
+        (t : Bool) → ltb v 128 ≡ t → AreShortest (suc (suc room)) v (cond t (v ∷ []) ((v % 128 + 128) ∷ groups_of (suc room) (v / 128)))
+    at more true e = one_group (suc room) v (ltb-true v 128 e)
+    at more false e =
+        let power : 128 ^ suc (suc room) ≡ 128 * 128 ^ suc room = omega arith in
+        group_more (suc room) v _ (ltb-false v 128 e) (more (omega (arith, h, power)))
+
+-- bits above the prefix leave it as it is
+low_bits : (m high v : ℕ) → high % m ≡ 0 → v < m → (high + v) % m ≡ v
+low_bits m high v e h =
+    let none : (0 + v) % m ≡ v = let zero_first : 0 + v ≡ v = omega arith in ap (λ n. n % m) zero_first ∙ mod-eq_of_lt h in
+    sym (mod-add-mod high m v) ∙ ap (λ r. (r + v) % m) e ∙ none
+
+-- a full prefix and shortest groups behind it
+prefixed : (n o v : ℕ) (cs : List ℕ) → o % 2 ^ n ≡ 2 ^ n - 1 → 2 ^ n - 1 ≤ v → AreShortest 5 (v - (2 ^ n - 1)) cs → IsShortest n v (o ∷ cs)
+prefixed n o v [] e h r = absurd r.continued
+prefixed n o v (c ∷ cs) e h r = record { spelled = (e, r.continued, omega (arith, r.within), omega (arith, r.value)); shortest = some }
+  where
+    some : (p : List ℕ) → IsInt n v p → suc (suc (length cs)) ≤ length p
+    some [] g = absurd g
+    some (d ∷ []) g = absurd (omega arith)
+    some (d ∷ b ∷ ds) g = let more = r.shortest (b ∷ ds) g.1 (omega arith) in omega arith
+
+pub spelled_shortest : (n high v : ℕ) → high % 2 ^ n ≡ 0 → v < 2 ^ 35 → IsShortest n v (spell_int n high v)
+unfolding spell_int
+spelled_shortest n high v e h = at (ltb v (2 ^ n - 1)) refl
+  where
+    some : (p : List ℕ) → IsInt n v p → 1 ≤ length p
+    some [] g = absurd g
+    some (o ∷ cs) g = omega arith
+
+    at : (t : Bool) → ltb v (2 ^ n - 1) ≡ t → IsShortest n v (cond t ((high + v) ∷ []) ((high + (2 ^ n - 1)) ∷ groups_of 5 (v - (2 ^ n - 1))))
+    at true g =
+        let small = ltb-true v (2 ^ n - 1) g in
+        record { spelled = (low_bits (2 ^ n) high v e (omega arith), small); shortest = some }
+    at false g =
+        let large = ltb-false v (2 ^ n - 1) g in
+        prefixed n (high + (2 ^ n - 1)) v _ (low_bits (2 ^ n) high (2 ^ n - 1) e (omega (arith, pow_pos n))) large (groups_of_shortest 4 (v - (2 ^ n - 1)) (omega arith))
+
+-- what is written is read back, whatever follows
+pub spelled_read : (n high v : ℕ) (ys : List ℕ) → high % 2 ^ n ≡ 0 → v < 2 ^ 35 → int_at n (spell_int n high v ++ ys) ≡ Whole v (length (spell_int n high v))
+spelled_read n high v ys e h = int_whole n v (spell_int n high v) ys (spelled_shortest n high v e h).spelled

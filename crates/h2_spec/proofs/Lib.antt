@@ -1,3 +1,4 @@
+pub mod BitLaws
 mod BlockRows
 mod DebugRows
 mod Hex
@@ -10,4 +11,15 @@ mod Rows
 mod Runs
 mod ScriptRows
 pub mod TableLaws
+pub mod CodeTree
+pub mod Computed
+mod Hex
+pub mod HuffmanLaws
+mod HuffmanRows
+pub mod IntegerLaws
+mod IntegerRows
+pub mod ParseLaws
+mod Rows
+pub mod SpellingLaws
+mod TableLaws
 mod TraceLaws

@@ -3,7 +3,7 @@ use Rattle.std.specs.Prelude.{◌≡◌, ℕ, zero, suc, ◌+◌, ◌-◌, ◌*�
 use Rattle.std.specs.List.{AllByRecursion}
 use Rattle.h2_spec.specs.Read.{Read, Whole, More, TooLong}
 
--- the number of groups of seven bits, the lowest first
+-- the number that groups of seven bits write, the lowest first
 abbrev pub groups : List ℕ → ℕ
 groups [] = 0
 groups (c ∷ cs) = c % 128 + 128 * groups cs
@@ -47,14 +47,19 @@ unfoldable pub int_at : ℕ → List ℕ → Read ℕ
 int_at n [] = More
 int_at n (o ∷ cs) = if nat_lt (o % 2 ^ n) (2 ^ n - 1) then Whole (o % 2 ^ n) 1 else scaled (2 ^ n - 1) 1 1 (groups_at 5 cs)
 
--- the groups of seven bits of a number, the lowest first, in at most this many octets
+-- the groups of seven bits of a number below 128 ^ room, the lowest first
 abbrev pub groups_of : ℕ → ℕ → List ℕ
 groups_of zero v = []
 groups_of (suc room) v = if nat_lt v 128 then v ∷ [] else (v % 128 + 128) ∷ groups_of room (v / 128)
 
--- the shortest spelling, with high in the bits above the prefix
+-- the shortest spelling of a number below 2 ^ 35, with high in the bits above the prefix
 unfoldable pub spell_int : ℕ → ℕ → ℕ → List ℕ
 spell_int n high v = if nat_lt v (2 ^ n - 1) then (high + v) ∷ [] else (high + (2 ^ n - 1)) ∷ groups_of 5 (v - (2 ^ n - 1))
+
+-- the octets spell the number, and no fewer do
+pub record IsShortest (n v : ℕ) (o : List ℕ) : Type 0 where
+  pub spelled : IsInt n v o
+  pub shortest : (p : List ℕ) → IsInt n v p → length o ≤ length p
 
 -- what is read at the front of octets is spelled there
 abbrev pub IsReadOf : ℕ → List ℕ → Read ℕ → Type 0

@@ -16,6 +16,7 @@ pub mod Frame
 pub mod FrameType
 pub mod Headers
 pub mod Huffman
+pub mod HuffmanCode
 pub mod Instruction
 pub mod Integer
 pub mod Octets

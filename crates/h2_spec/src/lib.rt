@@ -1,11 +1,12 @@
-//! What everything means: the words that definitions and code share, the definitions (`specs/`), and their laws (`laws`).
+//! What everything means: the words that definitions and code share, the definitions (`specs/`), and their laws (`.._laws`).
 #![tactic(auto)]
 
 pub mod connection;
 pub mod errors;
 pub mod flow;
 pub mod frames;
-pub mod laws;
+pub mod huffman_laws;
+pub mod integer_laws;
 pub mod reactions;
 pub mod scripts;
 pub mod streams;
