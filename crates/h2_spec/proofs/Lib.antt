@@ -1,25 +1,19 @@
 pub mod BitLaws
 mod BlockRows
+pub mod CodeTree
+pub mod Computed
 mod DebugRows
 mod Hex
-mod HuffmanLaws
-mod IntegerLaws
+pub mod HuffmanLaws
+mod HuffmanRows
+pub mod IntegerLaws
+mod IntegerRows
 mod LongBodies
 pub mod ParseLaws
 mod RequestRows
 mod Rows
 mod Runs
 mod ScriptRows
-pub mod TableLaws
-pub mod CodeTree
-pub mod Computed
-mod Hex
-pub mod HuffmanLaws
-mod HuffmanRows
-pub mod IntegerLaws
-mod IntegerRows
-pub mod ParseLaws
-mod Rows
 pub mod SpellingLaws
-mod TableLaws
+pub mod TableLaws
 mod TraceLaws
