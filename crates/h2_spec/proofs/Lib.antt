@@ -10,6 +10,7 @@ pub mod IntegerLaws
 mod IntegerRows
 mod LongBodies
 pub mod ParseLaws
+mod RequestLaws
 mod RequestRows
 mod Rows
 mod Runs

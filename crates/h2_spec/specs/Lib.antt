@@ -25,6 +25,7 @@ pub mod Parse
 pub mod Payload
 pub mod Pump
 pub mod Read
+pub mod Reasons
 pub mod Request
 pub mod Script
 pub mod Settings

@@ -9,6 +9,7 @@ pub mod huffman_laws;
 pub mod integer_laws;
 pub mod reactions;
 pub mod scripts;
+pub mod request_laws;
 pub mod streams;
 pub mod table_laws;
 pub mod trace_laws;
