@@ -3,7 +3,7 @@ use Rattle.std.specs.Prelude.{ℕ, Bool, ◌&&◌, ◌||◌, not, List, [], ◌�
 use Rattle.std.specs.List.{list_any}
 use Rattle.h2_spec.specs.Field.{Field}
 use Rattle.h2_spec.specs.Request.{is_between, is_pseudo, has_bad_name, has_bad_value, is_of_connection, is_content_length, least_holding}
-use Rattle.h2_spec.specs.Answer.{Answer, Entry, response_block}
+use Rattle.h2_spec.specs.Answer.{Entry, response_block}
 
 -- the most entries of a book
 abbrev pub max_entries : ℕ
