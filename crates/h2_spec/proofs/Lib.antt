@@ -10,7 +10,7 @@ pub mod IntegerLaws
 mod IntegerRows
 mod LongBodies
 pub mod ParseLaws
-mod RequestLaws
+pub mod RequestLaws
 mod RequestRows
 mod Rows
 mod Runs

@@ -7,6 +7,7 @@ use Rattle.std.proofs.lemmas.Bool.Decides.{nat_tests, leb_tells}
 use Rattle.std.proofs.Math.Nat.{eq-or-lt_of_le}
 use Rattle.h2_spec.specs.Field.{Field}
 use Rattle.h2_spec.specs.Request.{is_pseudo, is_named, has_bad_name, has_bad_value, is_unknown_pseudo, is_of_connection, has_bad_te, is_content_length, is_digits, decimal_value, has_bad_length, is_other_length, is_late_pseudo, is_double_pseudo, value_named, is_connect, lacks_pseudo, any_two, malformed, malformed_trailers}
+use Rattle.h2_spec.specs.Answer.{response_block}
 use Rattle.h2_spec.specs.Reasons.{SomeField, SomeTwo, IsReason, IsTrailersReason, IsLeast, IsValueNamed, bad_name, bad_value, late_pseudo, unknown_pseudo, double_pseudo, no_method, connect_without_authority, connect_with_scheme, connect_with_path, no_scheme, no_path, empty_path, connection_field, bad_te, bad_length, two_lengths, bad_trailer_name, bad_trailer_value, trailer_pseudo, trailer_of_connection, bad_trailer_te}
 
 -- ---- tests
@@ -297,3 +298,10 @@ value_named-is name (f ∷ fs) = by (is_named name f) refl (value_named-is name 
     by : (t : Bool) → is_named name f ≡ t → IsValueNamed name fs (value_named name fs) → IsValueNamed name (f ∷ fs) (cond t (Some f.value) (value_named name fs))
     by true e h = record { place = 0; field = f; stands = refl; named = (bytes_eq-Decides f.name name).0 e; has = refl; first = λ i g below at. absurd (omega arith) }
     by false e h = behind name f fs (value_named name fs) (λ same. false_is (sym e ∙ (bytes_eq-Decides f.name name).1 same)) h
+
+-- ---- responses
+
+-- a size update stands before the same block
+pub response_block-signal : (status : ℕ) (fields : List Field) → response_block true status fields ≡ 0x20 ∷ response_block false status fields
+unfolding response_block
+response_block-signal status fields = refl

@@ -3,7 +3,7 @@ use Rattle.std.specs.Prelude.{◌≡◌, ℕ, Bool, true, false, List, [], ◌�
 use Prim.Native.String.{String}
 use Rattle.h2_spec.specs.Field.{Field, field}
 use Rattle.h2_spec.specs.Request.{Request, malformed, malformed_trailers, request_of}
-use Rattle.h2_spec.specs.Answer.{Entry, answer}
+use Rattle.h2_spec.specs.Answer.{Entry, answer, response_block}
 use Rattle.h2_spec.specs.Book.{entry_fault}
 use Rattle.h2_spec.specs.AnswerWords.{entry_of}
 
@@ -135,6 +135,24 @@ full_book = refl
 last_place : entry_fault (replicate 999 (to_get 200 [] [])) (to_get 200 [] []) ≡ None
 unfolding entry_fault
 last_place = refl
+
+-- ---- field blocks of responses
+
+indexed_status : response_block false 200 [] ≡ 0x88 ∷ []
+unfolding response_block
+indexed_status = refl
+
+behind_a_size_update : response_block true 200 [] ≡ 0x20 ∷ 0x88 ∷ []
+unfolding response_block
+behind_a_size_update = refl
+
+literal_status : response_block false 501 [] ≡ 0x08 ∷ 0x03 ∷ codes "501"
+unfolding response_block
+literal_status = refl
+
+literal_field : response_block false 302 (pair "a" "b" ∷ []) ≡ 0x08 ∷ 0x03 ∷ 0x33 ∷ 0x30 ∷ 0x32 ∷ 0x00 ∷ 0x01 ∷ 0x61 ∷ 0x01 ∷ 0x62 ∷ []
+unfolding response_block
+literal_field = refl
 
 -- ---- the words of an answer
 

@@ -1,7 +1,7 @@
 -- The book of answers, and the response to a request (the server's own choice; RFC 9113, 8.3.2, and RFC 7541, 6).
-use Rattle.std.specs.Prelude.{ℕ, ◌+◌, ◌/◌, ◌%◌, Bool, ◌&&◌, List, [], ◌∷◌, ◌++◌, length, bytes_eq, if◌then◌else◌, Option, Some, None, position, slice_get, flat_map, ◌==◌}
+use Rattle.std.specs.Prelude.{ℕ, ◌+◌, ◌/◌, ◌%◌, Bool, true, false, ◌&&◌, List, [], ◌∷◌, ◌++◌, map, bytes_eq, if◌then◌else◌, Option, Some, None, position, slice_get, flat_map, ◌==◌}
 use Rattle.h2_spec.specs.Field.{Field}
-use Rattle.h2_spec.specs.Integer.{spell_int}
+use Rattle.h2_spec.specs.Instruction.{Str, Shape, Without, Ref, Named, Indexed, Update, Literal, spell}
 use Rattle.h2_spec.specs.Request.{Request}
 use Rattle.h2_spec.specs.declared.streams.Pick.{Pick}
 use Rattle.h2_spec.specs.declared.streams.Pick.TheVariants.{Listed, NotFound, Connect}
@@ -49,24 +49,42 @@ picked book (Listed i) = entry_or (slice_get book i)
 picked book NotFound = bare 404
 picked book Connect = bare 501
 
--- a string without a Huffman code
-abbrev pub string : List ℕ → List ℕ
-string s = spell_int 7 0 (length s) ++ s
+-- ---- the response's field block
 
--- a literal without indexing whose name is spelled
-abbrev pub literal : Field → List ℕ
-literal f = 0 ∷ string f.name ++ string f.value
+-- a string without a Huffman code (RFC 7541, 5.2)
+abbrev pub plain_string : List ℕ → Str
+plain_string octets = record { huffman = false; octets = octets }
 
--- the statuses that the static table has, from index 8 on
+-- a literal without indexing whose name is spelled (RFC 7541, 6.2.2)
+abbrev pub plain_literal : Field → Shape
+plain_literal f = Literal Without (Named (plain_string f.name)) (plain_string f.value)
+
+-- the statuses that the static table has, from index 8 on (RFC 7541, Appendix A)
 abbrev pub indexed_statuses : List ℕ
 indexed_statuses = 200 ∷ 204 ∷ 206 ∷ 304 ∷ 400 ∷ 404 ∷ 500 ∷ []
 
-abbrev pub status_at : Option ℕ → ℕ → List ℕ
-status_at (Some i) status = (136 + i) ∷ []
-status_at None status = 8 ∷ 3 ∷ (48 + status / 100) ∷ (48 + status / 10 % 10) ∷ (48 + status % 10) ∷ []
+-- the three digits of a status
+abbrev pub status_digits : ℕ → List ℕ
+status_digits status = (48 + status / 100) ∷ (48 + status / 10 % 10) ∷ (48 + status % 10) ∷ []
 
--- the octets of the response's header block; signal: the dynamic table's size becomes 0 first
+-- a status that stands at this place among those: its index; any other: a literal with the name of index 8, :status (8.3.2)
+abbrev pub status_at : Option ℕ → ℕ → Shape
+status_at (Some place) status = Indexed (8 + place)
+status_at None status = Literal Without (Ref 8) (plain_string (status_digits status))
+
+abbrev pub status_instruction : ℕ → Shape
+status_instruction status = status_at (position (λ s. s == status) indexed_statuses) status
+
+-- a size update to 0, where the dynamic table has to be given up first (RFC 7541, 4.2 and 6.3)
+abbrev pub update_if : Bool → List Shape
+update_if true = Update 0 ∷ []
+update_if false = []
+
+-- the instructions of the response's field block: nothing enters the dynamic table
+abbrev pub response_instructions : Bool → ℕ → List Field → List Shape
+response_instructions signal status fields = update_if signal ++ status_instruction status ∷ map plain_literal fields
+
+-- the octets of the response's field block; signal: the dynamic table's size becomes 0 first
 unfoldable pub response_block : Bool → ℕ → List Field → List ℕ
-unfolding spell_int
-response_block signal status fields =
-    (if signal then 0x20 ∷ [] else []) ++ status_at (position (λ s. s == status) indexed_statuses) status ++ flat_map literal fields
+unfolding spell
+response_block signal status fields = flat_map spell (response_instructions signal status fields)
