@@ -1,4 +1,5 @@
 pub mod BitLaws
+pub mod BlockLaws
 mod BlockRows
 pub mod CodeTree
 pub mod Computed
@@ -8,6 +9,9 @@ pub mod HuffmanLaws
 mod HuffmanRows
 pub mod IntegerLaws
 mod IntegerRows
+mod HuffmanLaws
+pub mod InstructionLaws
+mod IntegerLaws
 mod LongBodies
 pub mod ParseLaws
 pub mod RequestLaws

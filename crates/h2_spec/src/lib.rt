@@ -1,6 +1,7 @@
 //! What everything means: the words that definitions and code share, the definitions (`specs/`), and their laws (`.._laws`).
 #![tactic(auto)]
 
+pub mod block_laws;
 pub mod connection;
 pub mod errors;
 pub mod flow;

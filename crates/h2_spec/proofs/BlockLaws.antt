@@ -1,0 +1,194 @@
+-- Blocks instruction by instruction, and blocks in pieces.
+use Rattle.std.proofs.Common.{◌≡◌, ℕ, zero, suc, ◌+◌, ◌<◌, ◌≤◌, Bool, true, false, ◌||◌, cond, List, [], ◌∷◌, ◌++◌, length, drop, Option, Some, None, Result, Ok, Err, refl, sym, ap, ◌∙◌, arith, append_assoc, length-drop}
+use Rattle.std.proofs.lemmas.List.{append-nil, drop-append-le}
+use Rattle.std.specs.List.{concat}
+use Rattle.std.specs.Prelude.{option_to_list, nat_le, not, ◌&&◌}
+use Rattle.h2_spec.specs.DynamicTable.{Table, field_at}
+use Rattle.h2_spec.specs.Field.{Field, field}
+use Rattle.h2_spec.specs.Instruction.{Shape, Indexed, Update, Literal, Mode, instr_at, text_of}
+use Rattle.h2_spec.specs.Parse.{Front, Stop, One, Parsed, after_one, parse_first, parse_upto, parse_all}
+use Rattle.h2_spec.specs.Read.{Read, Whole, More, TooLong}
+use Rattle.h2_spec.specs.Block.{Fault, Index, Integer, Huffman, SizeUpdate, Decoding, Given, given, literal_result, indexed_result, where_not_due, table_after, name_of, text_result, apply, taken_unless, instr_taken, next_instr, Outcome, Unfinished, Faulty, refused_by, outcome_of, fields_given, Progress, Decoded, has_fields, decoding, decoded, carried_on, carried_through}
+use Rattle.h2_spec.proofs.InstructionLaws.{Stays, Within, Takes, instr-stays, instr-within, instr-takes}
+use Rattle.h2_spec.proofs.ParseLaws as laws
+
+-- ---- the premises of the laws of parsing
+
+taken-uses : (b : List ℕ) (used : ℕ) (r : Result Given Fault) → 0 < used → used ≤ length b → laws.Uses b (taken_unless used r)
+taken-uses b used (Ok g) h k = (h, k)
+taken-uses b used (Err fault) h k = tt
+
+read-uses : (limit : ℕ) (d : Decoding) (b : List ℕ) (r : Read Shape) → Within (length b) r → Takes r → laws.Uses b (instr_taken limit d r)
+read-uses limit d b (Whole i used) h k = taken-uses b used (apply limit d i) k h
+read-uses limit d b More h k = tt
+read-uses limit d b TooLong h k = tt
+
+next-uses : (limit : ℕ) (d : Decoding) (b : List ℕ) → laws.Uses b (next_instr limit d b)
+unfolding next_instr
+next-uses limit d b = read-uses limit d b (instr_at b) (instr-within b) (instr-takes b)
+
+taken-stays : (used : ℕ) (r : Result Given Fault) → laws.Stays (taken_unless used r) (taken_unless used r)
+taken-stays used (Ok g) = refl
+taken-stays used (Err fault) = tt
+
+read-stays : (limit : ℕ) (d : Decoding) (x y : Read Shape) → Stays x y → laws.Stays (instr_taken limit d x) (instr_taken limit d y)
+read-stays limit d (Whole i used) y h = rw h (taken-stays used (apply limit d i))
+read-stays limit d More y h = tt
+read-stays limit d TooLong y h = tt
+
+next-stays : (limit : ℕ) (d : Decoding) (b c : List ℕ) → laws.Stays (next_instr limit d b) (next_instr limit d (b ++ c))
+unfolding next_instr
+next-stays limit d b c = read-stays limit d (instr_at b) (instr_at (b ++ c)) (instr-stays b c)
+
+-- ---- the fields of a block
+
+given-append : (xs ys : List (Option Field)) → fields_given (xs ++ ys) ≡ fields_given xs ++ fields_given ys
+given-append [] ys = refl
+given-append (None ∷ xs) ys = given-append xs ys
+given-append (Some f ∷ xs) ys = ap (λ fs. f ∷ fs) (given-append xs ys)
+
+-- a field has come, before or with this instruction
+abbrev begun_with : Bool → Option Field → Bool
+begun_with begun None = begun
+begun_with begun (Some f) = true
+
+abbrev Begins : Bool → Result Given Fault → Type 0
+Begins begun (Ok g) = g.after.begun ≡ begun_with begun g.field
+Begins begun (Err fault) = Unit {0}
+
+due-begins : (begun due : Bool) (r : Result Given Fault) → Begins begun r → Begins begun (where_not_due due r)
+due-begins begun true r h = tt
+due-begins begun false r h = h
+
+literal-begins : (mode : Mode) (d : Decoding) (name value : Result (List ℕ) Fault) → Begins d.begun (literal_result mode d name value)
+literal-begins mode d (Ok name) (Ok value) = refl
+literal-begins mode d (Ok name) (Err fault) = tt
+literal-begins mode d (Err fault) value = tt
+
+indexed-begins : (d : Decoding) (f : Option Field) → Begins d.begun (indexed_result d f)
+indexed-begins d (Some f) = refl
+indexed-begins d None = tt
+
+update-begins : (d : Decoding) (table : Table) (t : Bool) → Begins d.begun (cond t (Ok (record { field = None; after = record d { table = table; due = false } })) (Err SizeUpdate))
+update-begins d table true = refl
+update-begins d table false = tt
+
+apply-begins : (limit : ℕ) (d : Decoding) (i : Shape) → Begins d.begun (apply limit d i)
+unfolding apply
+apply-begins limit d (Update n) = update-begins d _ (not d.begun && nat_le n limit)
+apply-begins limit d (Indexed i) = due-begins d.begun d.due _ (indexed-begins d (field_at i d.table.entries))
+apply-begins limit d (Literal mode name value) = due-begins d.begun d.due _ (literal-begins mode d (name_of name d.table.entries) (text_result (text_of value)))
+
+-- how far a block has come after an instruction
+abbrev pub progress_after : Progress → Given → Progress
+progress_after p g = record { fields = p.fields ++ option_to_list g.field; table = g.after.table; due = g.after.due }
+
+has-fields : (fields : List Field) (f : Option Field) → has_fields (fields ++ option_to_list f) ≡ begun_with (has_fields fields) f
+has-fields [] None = refl
+has-fields [] (Some f) = refl
+has-fields (x ∷ fields) None = refl
+has-fields (x ∷ fields) (Some f) = refl
+
+begins-given : (begun : Bool) (r : Result Given Fault) (g : Given) → r ≡ Ok g → Begins begun r → g.after.begun ≡ begun_with begun g.field
+begins-given begun (Ok h) g e k = let same : h ≡ g = cc in rw (sym same) k
+begins-given begun (Err fault) g e k = absurd cc
+
+decoding-after : (limit : ℕ) (p : Progress) (i : Shape) (g : Given) → apply limit (decoding p) i ≡ Ok g → decoding (progress_after p g) ≡ g.after
+decoding-after limit p i g e =
+    let begun = begins-given (has_fields p.fields) (apply limit (decoding p) i) g e (apply-begins limit (decoding p) i) in
+    ap (λ (t : Bool). let d : Decoding = record { table = g.after.table; begun = t; due = g.after.due } in d) (has-fields p.fields g.field ∙ sym begun)
+
+-- ---- one instruction more
+
+-- a block after these fields, whose instructions these are
+ended : ℕ → List Field → Parsed Decoding (Option Field) → Decoded
+ended limit fields t = record { progress = record { fields = fields ++ fields_given t.elements; table = t.state.table; due = t.state.due }; outcome = outcome_of limit t.state t.rest (instr_at t.rest) }
+
+ended-one : (limit : ℕ) (fields : List Field) (x : Option Field) (t : Parsed Decoding (Option Field)) → ended limit fields (after_one x t) ≡ ended limit (fields ++ option_to_list x) t
+unfolding ended
+ended-one limit fields None t = rw (append-nil fields) refl
+ended-one limit fields (Some f) t = rw (append_assoc fields (f ∷ []) (fields_given t.elements)) refl
+
+-- the block whose first instruction is this
+by_first : ℕ → Progress → List ℕ → Front Decoding (Option Field) → Decoded
+by_first limit p b x = ended limit p.fields (parse_first (decoding p) b x (λ d rest. parse_all (next_instr limit) d rest))
+
+decoded-first : (limit : ℕ) (p : Progress) (b : List ℕ) → decoded limit p b ≡ by_first limit p b (next_instr limit (decoding p) b)
+unfolding decoded ended by_first
+decoded-first limit p b = ap (ended limit p.fields) (laws.parse_all-step (next_instr limit) (next-uses limit) (decoding p) b)
+
+-- a whole instruction that is not refused, and then the rest
+pub decoded-step : (limit : ℕ) (p : Progress) (b : List ℕ) (i : Shape) (used : ℕ) (g : Given) → instr_at b ≡ Whole i used → apply limit (decoding p) i ≡ Ok g → decoded limit p b ≡ decoded limit (progress_after p g) (drop used b)
+unfolding decoded ended by_first next_instr
+decoded-step limit p b i used g e k =
+    let first : next_instr limit (decoding p) b ≡ One g.field g.after used = ap (instr_taken limit (decoding p)) e ∙ ap (taken_unless used) k in
+    decoded-first limit p b ∙ ap (by_first limit p b) first
+    ∙ ended-one limit p.fields g.field (parse_all (next_instr limit) g.after (drop used b))
+    ∙ ap (λ d. ended limit (p.fields ++ option_to_list g.field) (parse_all (next_instr limit) d (drop used b))) (sym (decoding-after limit p i g k))
+
+stopped : (limit : ℕ) (p : Progress) (b : List ℕ) → next_instr limit (decoding p) b ≡ Stop → decoded limit p b ≡ record { progress = p; outcome = outcome_of limit (decoding p) b (instr_at b) }
+unfolding decoded ended by_first
+stopped limit p b e =
+    decoded-first limit p b ∙ ap (by_first limit p b) e
+    ∙ ap (λ (fs : List Field). let d : Decoded = record { progress = record p { fields = fs }; outcome = outcome_of limit (decoding p) b (instr_at b) } in d) (append-nil p.fields)
+
+with_outcome : Progress → Outcome → Decoded
+with_outcome p o = record { progress = p; outcome = o }
+
+-- nothing whole
+pub decoded-more : (limit : ℕ) (p : Progress) (b : List ℕ) → instr_at b ≡ More → decoded limit p b ≡ record { progress = p; outcome = Unfinished b }
+unfolding next_instr outcome_of with_outcome
+decoded-more limit p b e = stopped limit p b (ap (instr_taken limit (decoding p)) e) ∙ ap (λ r. with_outcome p (outcome_of limit (decoding p) b r)) e
+
+-- an integer that is too long
+pub decoded-too_long : (limit : ℕ) (p : Progress) (b : List ℕ) → instr_at b ≡ TooLong → decoded limit p b ≡ record { progress = p; outcome = Faulty Integer }
+unfolding next_instr outcome_of with_outcome
+decoded-too_long limit p b e = stopped limit p b (ap (instr_taken limit (decoding p)) e) ∙ ap (λ r. with_outcome p (outcome_of limit (decoding p) b r)) e
+
+-- a whole instruction that is refused
+pub decoded-refused : (limit : ℕ) (p : Progress) (b : List ℕ) (i : Shape) (used : ℕ) (fault : Fault) → instr_at b ≡ Whole i used → apply limit (decoding p) i ≡ Err fault → decoded limit p b ≡ record { progress = p; outcome = Faulty fault }
+unfolding next_instr outcome_of with_outcome
+decoded-refused limit p b i used fault e k =
+    stopped limit p b (ap (instr_taken limit (decoding p)) e ∙ ap (taken_unless used) k)
+    ∙ ap (λ r. with_outcome p (outcome_of limit (decoding p) b r)) e ∙ ap (λ r. with_outcome p (refused_by b r)) k
+
+-- ---- blocks in pieces
+
+carried-to : (limit : ℕ) (d e : Decoded) (c : List ℕ) → d ≡ e → carried_on limit e c ≡ carried_on limit d c
+carried-to limit d e c same = ap (λ x. carried_on limit x c) (sym same)
+
+-- the rest behind an instruction of so many octets may be cut off from what follows
+abbrev Follows : ℕ → List ℕ → List ℕ → Type 0
+Follows limit b c = (p : Progress) (used : ℕ) → 0 < used → used ≤ length b → decoded limit p (drop used b ++ c) ≡ carried_on limit (decoded limit p (drop used b)) c
+
+append-taken : (limit : ℕ) (p : Progress) (b c : List ℕ) (i : Shape) (used : ℕ) (r : Result Given Fault) → Follows limit b c → instr_at b ≡ Whole i used → apply limit (decoding p) i ≡ r →
+    instr_at (b ++ c) ≡ Whole i used → 0 < used → used ≤ length b → decoded limit p (b ++ c) ≡ carried_on limit (decoded limit p b) c
+unfolding carried_on with_outcome
+append-taken limit p b c i used (Ok g) follows e k s t w =
+    decoded-step limit p (b ++ c) i used g s k ∙ ap (decoded limit (progress_after p g)) (drop-append-le used b c w)
+    ∙ follows (progress_after p g) used t w ∙ carried-to limit (decoded limit p b) (decoded limit (progress_after p g) (drop used b)) c (decoded-step limit p b i used g e k)
+append-taken limit p b c i used (Err fault) follows e k s t w =
+    decoded-refused limit p (b ++ c) i used fault s k ∙ carried-to limit (decoded limit p b) (with_outcome p (Faulty fault)) c (decoded-refused limit p b i used fault e k)
+
+append-read : (limit : ℕ) (p : Progress) (b c : List ℕ) (r : Read Shape) → Follows limit b c → instr_at b ≡ r → Stays r (instr_at (b ++ c)) → Within (length b) r → Takes r → decoded limit p (b ++ c) ≡ carried_on limit (decoded limit p b) c
+unfolding carried_on with_outcome
+append-read limit p b c (Whole i used) follows e s w t = append-taken limit p b c i used (apply limit (decoding p) i) follows e refl s t w
+append-read limit p b c More follows e s w t = carried-to limit (decoded limit p b) (with_outcome p (Unfinished b)) c (decoded-more limit p b e)
+append-read limit p b c TooLong follows e s w t = decoded-too_long limit p (b ++ c) s ∙ carried-to limit (decoded limit p b) (with_outcome p (Faulty Integer)) c (decoded-too_long limit p b e)
+
+append-upto : (n limit : ℕ) (p : Progress) (b c : List ℕ) → length b ≤ n → decoded limit p (b ++ c) ≡ carried_on limit (decoded limit p b) c
+append-upto zero limit p b c h = append-read limit p b c (instr_at b) (λ q used t w. absurd (omega arith)) refl (instr-stays b c) (instr-within b) (instr-takes b)
+append-upto (suc n) limit p b c h =
+    append-read limit p b c (instr_at b) (λ q used t w. let less = length-drop used b in append-upto n limit q (drop used b) c (omega arith)) refl (instr-stays b c) (instr-within b) (instr-takes b)
+
+-- decoded over octets in two pieces
+pub decoded-append : (limit : ℕ) (p : Progress) (b c : List ℕ) → decoded limit p (b ++ c) ≡ carried_on limit (decoded limit p b) c
+decoded-append limit p b c = append-upto (length b) limit p b c (omega arith)
+
+-- decoded over octets in any number of pieces
+pub decoded-pieces : (limit : ℕ) (p : Progress) (b : List ℕ) (pieces : List (List ℕ)) → carried_through limit (decoded limit p b) pieces ≡ decoded limit p (b ++ concat pieces)
+unfolding carried_through
+decoded-pieces limit p b [] = ap (decoded limit p) (sym (append-nil b))
+decoded-pieces limit p b (c ∷ cs) =
+    ap (λ d. carried_through limit d cs) (sym (decoded-append limit p b c))
+    ∙ decoded-pieces limit p (b ++ c) cs ∙ ap (decoded limit p) (append_assoc b c (concat cs))

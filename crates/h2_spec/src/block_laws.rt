@@ -1,0 +1,24 @@
+//! Laws of instructions and field blocks, each on a function with an empty body: its contract is the law.
+//! They speak of `specs/Instruction.antt` and `specs/Block.antt`; their lemmas stand in `proofs/InstructionLaws.antt` and
+//! `proofs/BlockLaws.antt`.
+
+ghost use Rattle.std.specs.Prelude.{◌≡◌, ◌<◌, ◌≤◌, ℕ, List, ◌++◌, length};
+ghost use Rattle.std.specs.List.{concat};
+ghost use Rattle.h2_spec.specs.Read.{Whole, TooLong};
+ghost use Rattle.h2_spec.specs.Instruction.{Shape, instr_at};
+ghost use Rattle.h2_spec.specs.Block.{Progress, decoded, carried_on, carried_through};
+
+/// An instruction at the front of octets takes some of them, and is there whatever follows: no spelling begins another.
+/// Nor does an integer that is too long become any shorter by more octets (RFC 7541, 5 and 6).
+pub fn no_spelling_begins_another()
+    ensures takes { (octets : List ℕ) (shape : Shape) (used : ℕ) → instr_at octets ≡ Whole shape used → (0 < used) × (used ≤ length octets) }
+    ensures stays { (octets more : List ℕ) (shape : Shape) (used : ℕ) → instr_at octets ≡ Whole shape used → instr_at (octets ++ more) ≡ Whole shape used }
+    ensures stays_too_long { (octets more : List ℕ) → instr_at octets ≡ TooLong → instr_at (octets ++ more) ≡ TooLong }
+{}
+
+/// However a field block is cut into fragments, it means the same: its fields, the table after it, and how it ends
+/// (RFC 9113, 4.3).
+pub fn blocks_are_cut_anywhere()
+    ensures once { (limit : ℕ) (before : Progress) (octets more : List ℕ) → decoded limit before (octets ++ more) ≡ carried_on limit (decoded limit before octets) more }
+    ensures often { (limit : ℕ) (before : Progress) (octets : List ℕ) (pieces : List (List ℕ)) → carried_through limit (decoded limit before octets) pieces ≡ decoded limit before (octets ++ concat pieces) }
+{}
