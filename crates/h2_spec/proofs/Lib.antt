@@ -20,5 +20,7 @@ mod Rows
 mod Runs
 mod ScriptRows
 pub mod SpellingLaws
+pub mod ScriptTexts
 pub mod TableLaws
 mod TraceLaws
+mod WrittenLaws
