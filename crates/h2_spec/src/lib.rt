@@ -10,6 +10,7 @@ pub mod huffman_laws;
 pub mod integer_laws;
 pub mod reactions;
 pub mod request_laws;
+pub mod script_laws;
 pub mod scripts;
 pub mod streams;
 pub mod table_laws;
