@@ -1,6 +1,6 @@
 -- Worked field blocks (RFC 7541, Appendix C, and the limits of this server).
-use Rattle.std.specs.Prelude.{◌≡◌, ℕ, ◌++◌, List, [], ◌∷◌, length, replicate, refl, codes, true, false}
-use Rattle.h2_spec.specs.Field.{Field, field}
+use Rattle.std.specs.Prelude.{◌≡◌, ℕ, List, [], ◌∷◌, replicate, refl, codes, true, false}
+use Rattle.h2_spec.specs.Field.{field}
 use Rattle.h2_spec.specs.DynamicTable.{Table, total_size}
 use Rattle.h2_spec.specs.Block.{Decoded, Unfinished, Faulty, Index, Integer, Huffman, SizeUpdate, decoded, carried_on, list_size, start}
 use Rattle.h2_spec.proofs.Hex.{hex}

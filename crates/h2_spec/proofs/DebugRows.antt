@@ -1,9 +1,7 @@
 -- Positions of the debugger, computed: 130 items, which are the preface, SETTINGS, 97 PING, HEADERS on stream 3, and 30 PING.
 use Rattle.std.specs.Prelude.{◌≡◌, ℕ, ◌++◌, List, [], ◌∷◌, refl, codes, replicate, flat_map, length}
-use Prim.Native.String.{String}
 use Rattle.h2_spec.specs.declared.connection.Config.{Config}
-use Rattle.h2_spec.specs.Frame.{Frame}
-use Rattle.h2_spec.specs.Opening.{opening_octets, opening_settings}
+use Rattle.h2_spec.specs.Opening.{opening_settings}
 use Rattle.h2_spec.specs.State.{State, opening}
 use Rattle.h2_spec.specs.Trace.{Event, trace}
 use Rattle.h2_spec.specs.Debug.{state_at, sent_at, stop, Break, AtPosition, OnType, OnStream, OnSent}

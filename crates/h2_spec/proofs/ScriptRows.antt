@@ -1,5 +1,5 @@
 -- Worked scripts, both ways.
-use Rattle.std.specs.Prelude.{◌≡◌, ◌++◌, [], ◌∷◌, refl, codes, Ok, Err}
+use Rattle.std.specs.Prelude.{◌≡◌, [], refl, codes, Ok, Err}
 use Rattle.std.specs.Fmt.{digits}
 use Rattle.hex.specs.Hex.{encode_with, decode_pairs}
 use Rattle.h2_spec.specs.Assemble.{assembled}

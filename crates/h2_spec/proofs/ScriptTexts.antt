@@ -1,5 +1,5 @@
 -- Octets that the texts of a script lack, and octets that are bytes.
-use Rattle.std.proofs.Common.{◌≡◌, ◌∙◌, ◌⊎◌, ◌+◌, ◌<◌, ◌≤◌, ◌++◌, ◌==◌, ◌&&◌, ◌||◌, not, ℕ, Bool, true, false, zero, suc, List, [], ◌∷◌, Some, None, Ok, codes, drop, take, length, refl, sym, ap, arith, inl, inr, cond, get_or, lit<, lit≤, subst, eqb-true, true≢false, slice_get, IsTrue}
+use Rattle.std.proofs.Common.{◌≡◌, ◌∙◌, ◌+◌, ◌<◌, ◌≤◌, ◌++◌, ◌==◌, ◌&&◌, not, ℕ, Bool, true, false, zero, suc, List, [], ◌∷◌, Some, codes, drop, take, refl, sym, ap, arith, inl, inr, get_or, lit<, lit≤, subst, eqb-true, true≢false, slice_get, IsTrue}
 use Rattle.std.specs.List.{All, AllPass, list_all}
 use Rattle.std.specs.Char.{digit_value}
 use Rattle.std.specs.Str.Parse.{AllDigits}
@@ -8,7 +8,7 @@ use Rattle.std.proofs.lemmas.List.Elements.{All-append, All-cons}
 use Rattle.hex.specs.Hex.{IsBytes, is_hex_digit}
 use Rattle.hex.proofs.HexLemmas.{decode_of-ok}
 use Rattle.h2_spec.specs.Instruction.{Instruction, Indexed, Update, Literal, Mode, Add, Without, Never, NameRef, Ref, Named, TextStr}
-use Rattle.h2_spec.specs.Script.{Payload, Empty, Octets, Pairs, Increment, Code, Instructions, Statement, Nothing, Preface, Raw, AFrame, is_plain, mode_letter, quote_of, type_names, Says, SaysCharacter, SaysEach, SaysInstruction, SaysName, SaysNumber, SaysOctet, SaysOctets, SaysPayload, SaysSetting, SaysStream, SaysString, SaysText, SaysType}
+use Rattle.h2_spec.specs.Script.{Payload, Empty, Octets, Pairs, Increment, Code, Instructions, AFrame, is_plain, mode_letter, quote_of, type_names, Says, SaysCharacter, SaysEach, SaysInstruction, SaysName, SaysNumber, SaysOctets, SaysPayload, SaysSetting, SaysStream, SaysString, SaysText, SaysType}
 
 -- ---- no octet of a text is c
 

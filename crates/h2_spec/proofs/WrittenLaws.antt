@@ -1,26 +1,26 @@
 -- What is written for octets stands for them.
-use Rattle.std.proofs.Common.{◌≡◌, ◌∙◌, ◌⊎◌, ◌+◌, ◌-◌, ◌*◌, ◌/◌, ◌%◌, ◌<◌, ◌≤◌, ◌^◌, ◌++◌, ◌==◌, ◌&&◌, ◌||◌, not, ℕ, Bool, true, false, zero, suc, List, [], ◌∷◌, Option, Some, None, Ok, codes, drop, take, length, refl, sym, ap, arith, inl, inr, cond, nat_lt, nat_eq, nat_le, slice_index, slice_get, unwrap_or, get_or, lit<, lit≤, append-nil, leb-true, eqb-true, true≢false, ltb-true, subst, ltb-false, flat_map, option_map, bytes_eq, append_assoc}
-use Rattle.std.specs.List.{AllByRecursion, list_all, slice_split, starts_with}
+use Rattle.std.proofs.Common.{◌≡◌, ◌∙◌, ◌+◌, ◌*◌, ◌/◌, ◌%◌, ◌<◌, ◌≤◌, ◌^◌, ◌++◌, ◌==◌, ◌&&◌, ℕ, Bool, true, false, zero, suc, List, [], ◌∷◌, Option, Some, None, codes, drop, take, length, refl, sym, ap, arith, inl, inr, cond, nat_lt, nat_eq, nat_le, slice_index, slice_get, unwrap_or, lit<, append-nil, leb-true, eqb-true, true≢false, ltb-true, subst, ltb-false, flat_map, option_map, bytes_eq, append_assoc}
+use Rattle.std.specs.List.{AllByRecursion, starts_with}
 use Rattle.std.specs.Fmt.{decimal}
 use Rattle.std.proofs.lemmas.Fmt.{decimal_is_IsNumeral, length-decimal-le}
 use Rattle.std.proofs.lemmas.List.{length-drop, length-take-le, take-append-drop}
 use Rattle.std.proofs.lemmas.List.Splits.{slice_split_at}
 use Rattle.std.proofs.lemmas.Slice.Eq.{bytes_eq-Decides, starts_is}
 use Rattle.std.proofs.lemmas.Bool.{eq-eqb}
-use Rattle.hex.specs.Hex.{IsBytes, decode_of, encode_lower}
+use Rattle.hex.specs.Hex.{IsBytes, encode_lower}
 use Rattle.hex.proofs.HexLemmas.{decode_of-encode_lower}
 use Rattle.h2_spec.specs.Frame.{head_of, preface}
 use Rattle.h2_spec.specs.FrameType.{RST_STREAM, SETTINGS, WINDOW_UPDATE}
-use Rattle.h2_spec.specs.Huffman.{HuffRead, Text, Eos, Padding, Row, code_rows, symbol_in, symbol_among, symbol_at, is_padding, after, text_upto, huffman_text, bits, end_of_string}
-use Rattle.h2_spec.specs.Instruction.{Shape, Instruction, Instr, Indexed, Update, Literal, Mode, NameRef, Ref, Named, Str, TextStr, instruction_of, literal_text, name_text as name_by_text, text_str, text_of, with_text, split, instr_at, instr_by, instr_only, next_shape, string_at, octets_at, read_then, read_past, name_by, literal_at, value_at, mode_prefix}
+use Rattle.h2_spec.specs.Huffman.{HuffRead, Text, Eos, Padding, IsDecodingOf, IsText, huffman_text}
+use Rattle.h2_spec.specs.Instruction.{Shape, Instruction, Indexed, Update, Literal, Mode, NameRef, Ref, Named, Str, TextStr, instruction_of, literal_text, name_text as name_by_text, text_str, text_of, with_text, split, instr_at, instr_by, instr_only, next_shape, string_at, octets_at, read_then, read_past, name_by, literal_at, value_at, mode_prefix}
 use Rattle.h2_spec.specs.Integer.{int_at}
 use Rattle.h2_spec.specs.Octets.{big_endian, four_octets}
-use Rattle.h2_spec.specs.Parse.{Front, Stop, One, Parsed, after_one, parse_first, parse_upto, parse_all}
+use Rattle.h2_spec.specs.Parse.{Front, Stop, One, parse_first, parse_upto, parse_all}
 use Rattle.h2_spec.specs.Payload.{setting_pairs}
 use Rattle.h2_spec.specs.Read.{Read, Whole, More, TooLong, read_map}
-use Rattle.h2_spec.specs.Script.{Payload, Empty, Octets, Pairs, Increment, Code, Instructions, Statement, Nothing, Preface, Raw, AFrame, AreLines, Line, Says, SaysCharacter, SaysEach, SaysInstruction, SaysName, SaysNumber, SaysOctet, SaysOctets, SaysPayload, SaysSetting, SaysStream, SaysString, SaysText, SaysType, Script, instruction_octets, is_plain, lines_of, max_u32, octets_of, payload_octets, quote_of, setting_octets, stream_octets, type_names}
+use Rattle.h2_spec.specs.Script.{Payload, Empty, Octets, Pairs, Increment, Code, Instructions, Statement, Nothing, Preface, Raw, Says, SaysCharacter, SaysEach, SaysInstruction, SaysName, SaysNumber, SaysOctet, SaysPayload, SaysSetting, SaysStream, SaysString, SaysText, SaysType, Script, instruction_octets, is_plain, max_u32, octets_of, payload_octets, setting_octets, stream_octets, type_names}
 use Rattle.h2_spec.specs.Written.{block_said, character_text, each_text, frame_front, frame_said, in_front, instruction_text, instructions_said, is_fragment, is_writable, line_text, name_text, next_said, or_octets, payload_said, payload_text, rest_text, setting_text, statement_text, stream_text, string_text, type_text, written}
-use Rattle.h2_spec.specs.declared.frames.Head.{Head}
+use Rattle.h2_spec.proofs.HuffmanLaws.{text_read}
 use Rattle.h2_spec.proofs.ScriptTexts.{Lacks, append_lacks, bytes_after, bytes_below, frame_lacks, literal_lacks, octets_lack}
 
 -- ---- words
@@ -91,75 +91,23 @@ both : (a b : Bool) → (a && b) ≡ true → (a ≡ true) × (b ≡ true)
 both true b e = (refl, e)
 both false b e = absurd (true≢false (sym e))
 
-abbrev are_symbols : List ℕ → Bool
-are_symbols xs = list_all (λ s. nat_lt s 257) xs
-
-symbols_small : list_all (λ (r : Row). are_symbols r.symbols) code_rows ≡ true
-unfolding code_rows
-symbols_small = refl
-
-symbol_small : (xs : List ℕ) (i : ℕ) → are_symbols xs ≡ true → slice_index xs i < 257
-symbol_small [] i h = lit< tt
-symbol_small (x ∷ xs) zero h = ltb-true x 257 (both (nat_lt x 257) (are_symbols xs) h).0
-symbol_small (x ∷ xs) (suc i) h = symbol_small xs i (both (nat_lt x 257) (are_symbols xs) h).1
-
-abbrev IsSymbol : Option (ℕ × List ℕ) → Type 0
-IsSymbol None = Unit {0}
-IsSymbol (Some found) = found.0 < 257
-
-one_symbol : (b : Bool) (xs rest : List ℕ) (i : ℕ) → are_symbols xs ≡ true → IsSymbol (cond b (Some (slice_index xs i, rest)) None)
-one_symbol true xs rest i h = symbol_small xs i h
-one_symbol false xs rest i h = tt
-
-in_row : (r : Row) (bs : List ℕ) → are_symbols r.symbols ≡ true → IsSymbol (symbol_in r bs)
-in_row r bs h = one_symbol _ r.symbols (drop r.bits bs) _ h
-
-in_rows : (rs : List Row) (bs : List ℕ) → list_all (λ (r : Row). are_symbols r.symbols) rs ≡ true → IsSymbol (symbol_among rs bs)
-in_rows [] bs h = tt
-in_rows (r ∷ rs) bs h = go (symbol_in r bs) (in_row r bs (both _ _ h).0) (in_rows rs bs (both _ _ h).1)
-  where
-    go : (o : Option (ℕ × List ℕ)) → IsSymbol o → IsSymbol (symbol_among rs bs) → IsSymbol (elim o [ Some found ↦ Some found | None ↦ symbol_among rs bs ])
-    go (Some found) h more = h
-    go None h more = more
-
 abbrev IsByteText : HuffRead → Type 0
 IsByteText (Text t) = IsBytes t
 IsByteText Eos = Unit {0}
 IsByteText Padding = Unit {0}
 
-nothing_bytes : IsBytes []
-nothing_bytes i = lit< tt
-
-cons_bytes : (c : ℕ) (cs : List ℕ) → c < 256 → IsBytes cs → IsBytes (c ∷ cs)
-cons_bytes c cs small h zero = small
-cons_bytes c cs small h (suc i) = h i
-
-after_bytes : (s : ℕ) (r : HuffRead) → s < 256 → IsByteText r → IsByteText (after s r)
-after_bytes s (Text t) small h = cons_bytes s t small h
-after_bytes s Eos small h = tt
-after_bytes s Padding small h = tt
-
-end_bytes : (b : Bool) → IsByteText (cond b (Text []) Padding)
-end_bytes true = nothing_bytes
-end_bytes false = tt
-
-upto_bytes : (n : ℕ) (bs : List ℕ) → IsByteText (text_upto n bs)
-unfolding symbol_at
-upto_bytes zero bs = end_bytes (is_padding bs)
-upto_bytes (suc n) bs = go (symbol_among code_rows bs) (in_rows code_rows bs symbols_small) (λ rest. upto_bytes n rest)
-  where
-    last : (b : Bool) (found : ℕ × List ℕ) → (found.0 == end_of_string) ≡ b → found.0 < 257 → IsByteText (text_upto n found.1) → IsByteText (cond b Eos (after found.0 (text_upto n found.1)))
-    last true found e h more = tt
-    last false found e h more = after_bytes found.0 (text_upto n found.1) (grind arith) more
-
-    go : (o : Option (ℕ × List ℕ)) → IsSymbol o → ((rest : List ℕ) → IsByteText (text_upto n rest))
-        → IsByteText (elim o [ None ↦ cond (is_padding bs) (Text []) Padding | Some found ↦ cond (found.0 == end_of_string) Eos (after found.0 (text_upto n found.1)) ])
-    go None h more = end_bytes (is_padding bs)
-    go (Some found) h more = last (found.0 == end_of_string) found refl h (more found.1)
+bytes_of : (t : List ℕ) → IsText t → IsBytes t
+bytes_of [] h i = lit< tt
+bytes_of (c ∷ cs) h zero = h.0
+bytes_of (c ∷ cs) h (suc i) = bytes_of cs h.1 i
 
 huffman_bytes : (o : List ℕ) → IsByteText (huffman_text o)
-unfolding huffman_text
-huffman_bytes o = upto_bytes (8 * length o) (bits o)
+huffman_bytes o = go (huffman_text o) (text_read o)
+  where
+    go : (r : HuffRead) → IsDecodingOf o r → IsByteText r
+    go (Text t) h = bytes_of t h.text
+    go Eos h = tt
+    go Padding h = tt
 
 -- ---- the instructions that stand in octets
 

@@ -1,5 +1,5 @@
 -- Frames, their octets, and the items that octets begin with (RFC 9113, 3.4, 4.1 and 4.2).
-use Rattle.std.specs.Prelude.{ℕ, ◌+◌, ◌/◌, ◌%◌, Bool, true, false, List, [], ◌∷◌, ◌++◌, length, slice_range, slice_index, nat_lt, nat_le, nat_eq, ◌==◌, if◌then◌else◌, codes, Option, Some, None, flat_map}
+use Rattle.std.specs.Prelude.{ℕ, ◌+◌, Bool, true, false, List, [], ◌∷◌, ◌++◌, length, slice_range, slice_index, nat_lt, nat_le, nat_eq, ◌==◌, if◌then◌else◌, codes, Option, Some, None, flat_map}
 use Rattle.std.specs.List.{common_prefix_len}
 use Rattle.h2_spec.specs.Octets.{three_octets, low_31_bits, big_endian}
 use Rattle.h2_spec.specs.declared.frames.Head.{Head}

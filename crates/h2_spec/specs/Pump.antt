@@ -1,5 +1,5 @@
 -- Sending what waits, as far as the windows go (RFC 9113, 5.2 and 6.9).
-use Rattle.std.specs.Prelude.{ℕ, zero, suc, ◌-◌, Bool, false, List, [], ◌∷◌, ◌++◌, length, min, take, drop, nat_le, ◌==◌, if◌then◌else◌, Option, Some, None, ℤ, pos, negsuc, ◌-ℤ◌}
+use Rattle.std.specs.Prelude.{ℕ, zero, suc, ◌-◌, Bool, false, List, [], ◌∷◌, ◌++◌, length, min, take, drop, nat_le, ◌==◌, if◌then◌else◌, pos, ◌-ℤ◌}
 use Rattle.h2_spec.specs.declared.streams.Stream.{Stream}
 use Rattle.h2_spec.specs.FrameType.{DATA, END_STREAM}
 use Rattle.h2_spec.specs.Frame.{Frame}

@@ -1,7 +1,7 @@
 -- The one script that is written for octets: what each frame is said to be, and the text of it.
-use Rattle.std.specs.Prelude.{ℕ, ◌+◌, ◌*◌, ◌%◌, ◌^◌, Bool, true, false, ◌&&◌, ◌||◌, not, List, [], ◌∷◌, ◌++◌, length, take, drop, codes, bytes_eq, nat_eq, flat_map, nat_lt, ◌==◌, if◌then◌else◌, Option, Some, None, option_map, option_and_then, slice_index, slice_get, unwrap_or}
+use Rattle.std.specs.Prelude.{ℕ, ◌+◌, ◌%◌, ◌^◌, Bool, true, false, ◌&&◌, ◌||◌, not, List, [], ◌∷◌, ◌++◌, length, take, drop, codes, bytes_eq, nat_eq, flat_map, nat_lt, ◌==◌, if◌then◌else◌, Option, Some, None, option_map, slice_index, slice_get, unwrap_or}
 use Rattle.std.specs.Fmt.{decimal}
-use Rattle.std.specs.List.{list_all, starts_with}
+use Rattle.std.specs.List.{starts_with}
 use Rattle.hex.specs.Hex.{encode_lower}
 use Rattle.h2_spec.specs.Frame.{head_of, preface}
 use Rattle.h2_spec.specs.FrameType.{has, CONTINUATION, HEADERS, PADDED, RST_STREAM, SETTINGS, WINDOW_UPDATE, WITH_PRIORITY}
