@@ -6,7 +6,8 @@ ghost use Rattle.h2_spec.specs.Change as changes;
 ghost use Rattle.h2_spec.specs.Stream as stream;
 ghost use Rattle.h2_spec.specs.declared.streams.Stream.{Stream};
 ghost use Rattle.h2_spec.specs.declared.connection.Core.{Core};
-ghost use Rattle.h2_conn.specs.Sound.{IsCalm, IsSoundChange, IsSoundStream};
+ghost use Rattle.h2_spec.specs.Answer.{Entry};
+ghost use Rattle.h2_conn.specs.Sound.{HasBody, IsCalm, IsSoundChange, IsSoundStream};
 
 use h2_spec::connection::Core;
 use h2_spec::errors::ErrorCode;
@@ -74,7 +75,7 @@ pub fn stay(core: Core) -> Change
 #[tactic(auto, unfolding(h2_spec::specs::Change::turned))]
 pub fn turned(change: Change, turn: Turn) -> Change
     ensures rule { result ≡ changes.turned change turn }
-    ensures sound { (streams : List Stream) (core : Core) → IsCalm core change → IsSoundStream core.peer.window turn.stream → IsSoundChange streams core.peer.window result }
+    ensures sound { (book : List Entry) (streams : List Stream) (core : Core) → IsCalm core change → IsSoundStream core.peer.window turn.stream → HasBody book turn.stream → IsSoundChange book streams core.peer.window result }
 {
     let core = change.core;
     let peer = Settings {

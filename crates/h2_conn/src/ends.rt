@@ -1,19 +1,21 @@
 //! How the sides of a stream end, and how its answer begins (RFC 9113, 5.1 and 8.1).
 //! Rests on `change`; definition: h2_spec's `specs/Ends.antt`.
 
-ghost use Rattle.std.specs.Prelude.{◌≡◌, ℕ, ◌≤◌};
+ghost use Rattle.std.specs.Prelude.{◌≡◌, ℕ, ◌≤◌, List, length};
 ghost use Rattle.h2_spec.specs.Ends as rule;
-ghost use Rattle.h2_conn.specs.Sound.{IsSoundStream};
+ghost use Rattle.h2_spec.specs.Answer.{Entry, picked};
+ghost use Rattle.h2_conn.specs.Sound.{HasBody, IsSoundStream};
 
 use crate::change::{not_live, quiet_turn};
 use h2_spec::reactions::{Answering, StreamFrame, Turn};
 use h2_spec::streams::{Kind, Numbers, Stream};
 
 /// The stream after the server's last frame.
-#[tactic(auto, unfolding(h2_spec::specs::Ends::server_ended))]
+#[tactic(auto, unfolding(h2_spec::specs::Ends::server_ended, h2_spec::specs::Stream::octets_waiting))]
 pub fn server_ended(stream: Stream) -> Stream
     ensures rule { result ≡ rule.server_ended stream }
     ensures sound { (window : ℕ) → window ≤ 2147483647 → IsSoundStream window stream → IsSoundStream window result }
+    ensures waits { (book : List Entry) → HasBody book stream → HasBody book result }
 {
     match stream.kind {
         Kind::BothOpen => {
@@ -38,9 +40,11 @@ pub fn server_ended(stream: Stream) -> Stream
 }
 
 /// With this many octets of the answer left.
+#[tactic(auto, unfolding(h2_spec::specs::Stream::octets_waiting))]
 pub fn with_left(stream: Stream, left: u64) -> Stream
     ensures rule { result ≡ rule.with_left stream left }
     ensures sound { (window : ℕ) → IsSoundStream window stream → IsSoundStream window result }
+    ensures waits { (book : List Entry) → left ≤ length (picked book stream.pick).body → HasBody book result }
 {
     let numbers = Numbers {
         left: Some(left),
@@ -54,6 +58,7 @@ pub fn with_left(stream: Stream, left: u64) -> Stream
 fn begun(body: u64, stream: Stream) -> Stream
     ensures rule { result ≡ rule.begun body stream }
     ensures sound { (window : ℕ) → window ≤ 2147483647 → IsSoundStream window stream → IsSoundStream window result }
+    ensures waits { (book : List Entry) → body ≡ length (picked book stream.pick).body → HasBody book stream → HasBody book result }
 {
     if body == 0 {
         server_ended(stream)
@@ -67,6 +72,7 @@ fn begun(body: u64, stream: Stream) -> Stream
 fn answered(signal: bool, body: u64, stream: Stream) -> Turn
     ensures rule { result ≡ rule.answered signal body stream }
     ensures sound { (window : ℕ) → window ≤ 2147483647 → IsSoundStream window stream → IsSoundStream window result.stream }
+    ensures waits { (book : List Entry) → body ≡ length (picked book stream.pick).body → HasBody book stream → HasBody book result.stream }
 {
     let answer = Answering {
         id: stream.id,
@@ -82,10 +88,11 @@ fn answered(signal: bool, body: u64, stream: Stream) -> Turn
 }
 
 /// The peer's side ends: what was open is answered, with this length of the answer's body, unless that has begun.
-#[tactic(auto, unfolding(h2_spec::specs::Ends::peer_ended))]
+#[tactic(auto, unfolding(h2_spec::specs::Ends::peer_ended, h2_spec::specs::Stream::octets_waiting))]
 pub fn peer_ended(signal: bool, body: u64, stream: Stream) -> Turn
     ensures rule { result ≡ rule.peer_ended signal body stream }
     ensures sound { (window : ℕ) → window ≤ 2147483647 → IsSoundStream window stream → IsSoundStream window result.stream }
+    ensures waits { (book : List Entry) → body ≡ length (picked book stream.pick).body → HasBody book stream → HasBody book result.stream }
 {
     match stream.kind {
         Kind::BothOpen => {

@@ -1,10 +1,11 @@
 //! Field blocks: HEADERS and CONTINUATION, and the end of a block (RFC 9113, 4.3, 6.2, 6.10 and 8.1).
 //! Rests on `change` and `ends`; definition: h2_spec's `specs/Headers.antt`.
 
-ghost use Rattle.std.specs.Prelude.{◌≡◌, ℕ, ◌≤◌};
+ghost use Rattle.std.specs.Prelude.{◌≡◌, ℕ, ◌≤◌, List, length};
 ghost use Rattle.h2_spec.specs.Headers as rule;
 ghost use Rattle.h2_spec.specs.Data as data_rule;
-ghost use Rattle.h2_conn.specs.Sound.{IsSoundCore, IsSoundStream};
+ghost use Rattle.h2_spec.specs.Answer.{Entry, picked};
+ghost use Rattle.h2_conn.specs.Sound.{HasBody, IsSoundCore, IsSoundStream};
 
 use crate::change::{quiet_turn, stream_error};
 use crate::ends::peer_ended;
@@ -28,10 +29,12 @@ pub fn breaks_length(declared: Option<u64>, got: u64, ends: bool) -> bool
 }
 
 /// A stream that a request opens.
+#[tactic(auto, unfolding(h2_spec::specs::Stream::octets_waiting))]
 fn new_stream(core: Core, id: u32, facts: Facts) -> Stream
     requires core { IsSoundCore core }
     ensures rule { result ≡ rule.new_stream core id facts }
     ensures sound { IsSoundStream core.peer.window result }
+    ensures waits { (book : List Entry) → HasBody book result }
 {
     let numbers = Numbers {
         recv: Window::start(core.own.window),
@@ -60,7 +63,7 @@ fn declares_content(declared: Option<u64>) -> bool
 }
 
 /// What becomes of the stream that a request opens, with the number of live streams and the length of its answer's body.
-#[tactic(auto, unfolding(h2_spec::specs::Headers::request_turn))]
+#[tactic(auto, unfolding(h2_spec::specs::Headers::request_turn, h2_spec::specs::Stream::octets_waiting))]
 pub fn request_turn(
     config: Config,
     live: usize,
@@ -73,6 +76,7 @@ pub fn request_turn(
     requires core { IsSoundCore core }
     ensures rule { result ≡ rule.request_turn config live body core id ends facts }
     ensures sound { IsSoundStream core.peer.window result.stream }
+    ensures waits { (book : List Entry) → body ≡ length (picked book facts.pick).body → HasBody book result.stream }
 {
     let signal = core.peer.signal;
     if config.streams as usize <= live {
@@ -93,7 +97,7 @@ pub fn request_turn(
 }
 
 /// What trailers do to their stream: the size of their list, whether a reason stands against them, and the length of the answer's body.
-#[tactic(auto, unfolding(h2_spec::specs::Headers::trailers_turn))]
+#[tactic(auto, unfolding(h2_spec::specs::Headers::trailers_turn, h2_spec::specs::Stream::octets_waiting))]
 pub fn trailers_turn(
     size: u64,
     malformed: bool,
@@ -104,6 +108,7 @@ pub fn trailers_turn(
 ) -> Turn
     ensures rule { result ≡ rule.trailers_turn size malformed body signal ends stream }
     ensures sound { (window : ℕ) → window ≤ 2147483647 → IsSoundStream window stream → IsSoundStream window result.stream }
+    ensures waits { (book : List Entry) → body ≡ length (picked book stream.pick).body → HasBody book stream → HasBody book result.stream }
 {
     if MAX_LIST < size {
         return stream_error(signal, stream.id, ErrorCode::EnhanceYourCalm);

@@ -4,6 +4,7 @@
 ghost use Rattle.std.specs.Prelude.{◌≡◌, List};
 ghost use Rattle.h2_spec.specs.Effect as rule;
 ghost use Rattle.h2_spec.specs.declared.streams.Stream.{Stream};
+ghost use Rattle.h2_spec.specs.Answer.{Entry};
 ghost use Rattle.h2_conn.specs.Sound.{IsSound, IsSoundCore};
 
 use crate::change::{not_live, quiet_turn, stay, turned};
@@ -13,11 +14,11 @@ use h2_spec::reactions::Reaction;
 use h2_spec::streams::{Kind, Stream};
 
 /// RST_STREAM on a stream.
-#[tactic(auto, unfolding(h2_spec::specs::Effect::on_reset, h2_spec::specs::Effect::reset_turn))]
+#[tactic(auto, unfolding(h2_spec::specs::Effect::on_reset, h2_spec::specs::Effect::reset_turn, h2_spec::specs::Stream::octets_waiting))]
 pub fn on_reset(core: Core, stream: Stream) -> Reaction
     requires core { IsSoundCore core }
     ensures rule { result ≡ rule.on_reset core stream }
-    ensures sound { (streams : List Stream) → IsSound streams core.peer.window result }
+    ensures sound { (book : List Entry) (streams : List Stream) → IsSound book streams core.peer.window result }
 {
     match stream.kind {
         Kind::Idle => Reaction::ConnectionError(ErrorCode::ProtocolError),

@@ -5,7 +5,8 @@ ghost use Rattle.std.specs.Prelude.{◌≡◌, ℕ, List, ◌≤◌};
 ghost use Rattle.h2_spec.specs.WindowUpdate as rule;
 ghost use Rattle.h2_spec.specs.Effect as effect;
 ghost use Rattle.h2_spec.specs.declared.streams.Stream.{Stream};
-ghost use Rattle.h2_conn.specs.Sound.{IsSound, IsSoundCore, IsSoundStream};
+ghost use Rattle.h2_spec.specs.Answer.{Entry};
+ghost use Rattle.h2_conn.specs.Sound.{HasBody, IsSound, IsSoundCore, IsSoundStream};
 
 use crate::change::{quiet_turn, stay, stream_error, turned};
 use h2_spec::connection::Core;
@@ -14,10 +15,11 @@ use h2_spec::reactions::{Reaction, Turn};
 use h2_spec::streams::{Kind, Numbers, Stream};
 
 /// An increment of a live stream's send window.
-#[tactic(auto, unfolding(h2_spec::specs::WindowUpdate::window_turn))]
+#[tactic(auto, unfolding(h2_spec::specs::WindowUpdate::window_turn, h2_spec::specs::Stream::octets_waiting))]
 fn window_turn(signal: bool, increment: u32, stream: Stream) -> Turn
     ensures rule { result ≡ rule.window_turn signal increment stream }
     ensures sound { (window : ℕ) → window ≤ 2147483647 → IsSoundStream window stream → IsSoundStream window result.stream }
+    ensures waits { (book : List Entry) → HasBody book stream → HasBody book result.stream }
 {
     if increment == 0 {
         return stream_error(signal, stream.id, ErrorCode::ProtocolError);
@@ -39,7 +41,7 @@ pub fn on_window(core: Core, increment: u32, stream: Stream) -> Reaction
     requires core { IsSoundCore core }
     requires stream { IsSoundStream core.peer.window stream }
     ensures rule { result ≡ effect.on_window core increment stream }
-    ensures sound { (streams : List Stream) → IsSound streams core.peer.window result }
+    ensures sound { (book : List Entry) (streams : List Stream) → HasBody book stream → IsSound book streams core.peer.window result }
 {
     match stream.kind {
         Kind::Idle => Reaction::ConnectionError(ErrorCode::ProtocolError),
@@ -58,7 +60,7 @@ pub fn on_window(core: Core, increment: u32, stream: Stream) -> Reaction
 pub fn connection_window(core: Core, increment: u32) -> Reaction
     requires core { IsSoundCore core }
     ensures rule { result ≡ rule.connection_window core increment }
-    ensures sound { (streams : List Stream) → IsSound streams core.peer.window result }
+    ensures sound { (book : List Entry) (streams : List Stream) → IsSound book streams core.peer.window result }
 {
     if increment == 0 {
         return Reaction::ConnectionError(ErrorCode::ProtocolError);
