@@ -7,3 +7,4 @@ mod ends;
 mod headers;
 mod reset;
 mod window_update;
+mod write;

@@ -1,8 +1,8 @@
 //! Heads of frames: reading them, and writing whole frames (RFC 9113, 4.1).
 //! Rests on `h2_spec`; definitions: `h2_spec/specs/Frame.antt`.
 
-ghost use Rattle.std.specs.Prelude.{◌≡◌, ◌<◌, ◌≤◌, ◌^◌, ◌++◌, length, OnOk, OnErr};
-ghost use Rattle.h2_spec.specs.Frame.{head_at, head_of, frame_octets, frame_of};
+ghost use Rattle.std.specs.Prelude.{◌≡◌, ◌+◌, ◌<◌, ◌≤◌, ◌^◌, ◌++◌, length, OnOk, OnErr};
+ghost use Rattle.h2_spec.specs.Frame.{head_at, head_of, frame, frame_octets, frame_of};
 
 use h2_spec::frames::Head;
 use std::alloc::{AllocError, Allocator};
@@ -62,11 +62,32 @@ pub fn write_frame<A: Allocator>(
     ensures ok { OnOk result (out.new.items ≡ out.old.items ++ frame_octets (frame_of head.now payload.now)) }
     ensures no_memory { OnErr result (out.new.items ≡ out.old.items) }
 {
-    let length = head.length.to_be_bytes();
-    let stream = head.stream.to_be_bytes();
-    out.reserve(9 + payload.len())?;
-    out.extend_from_slice(&[length[1], length[2], length[3], head.kind, head.flags])?;
+    append_frame(head.kind, head.flags, head.stream, &[], payload, out)
+}
+
+/// Appends a frame whose payload is in two parts, as a response's header block behind a table size update.
+///
+/// `AllocError` where `out` could not grow; then `out` is as before.
+#[tactic(auto, unfolding(h2_spec::specs::Frame::frame_octets))]
+pub fn append_frame<A: Allocator>(
+    kind: u8,
+    flags: u8,
+    stream: u32,
+    front: &[u8],
+    rest: &[u8],
+    out: &mut Vec<u8, A>,
+) -> Result<(), AllocError>
+    requires fits { length front.now + length rest.now < 2 ^ 24 }
+    ensures ok { OnOk result (out.new.items ≡ out.old.items ++ frame_octets (frame kind flags stream (front.now ++ rest.now))) }
+    ensures no_memory { OnErr result (out.new.items ≡ out.old.items) }
+{
+    let count = front.len() + rest.len();
+    let length = (count as u32).to_be_bytes();
+    let stream = stream.to_be_bytes();
+    out.reserve(9 + count)?;
+    out.extend_from_slice(&[length[1], length[2], length[3], kind, flags])?;
     out.extend_from_slice(&stream)?;
-    out.extend_from_slice(payload)?;
+    out.extend_from_slice(front)?;
+    out.extend_from_slice(rest)?;
     Ok(())
 }

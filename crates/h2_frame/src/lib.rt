@@ -7,7 +7,7 @@ pub mod head;
 pub mod splitter;
 
 pub use h2_spec::frames::{FrameType, Head};
-pub use head::{FrameRef, read_head, write_frame};
+pub use head::{FrameRef, append_frame, read_head, write_frame};
 pub use splitter::{Item, Splitter};
 
 #[cfg(test)]

@@ -11,6 +11,10 @@ pub record Frame : Type 0 where
   pub stream : ℕ
   pub payload : List ℕ
 
+-- the frame of a type's number, flags, a stream and a payload
+abbrev pub frame : ℕ → ℕ → ℕ → List ℕ → Frame
+frame kind flags stream payload = record { kind = kind; flags = flags; stream = stream; payload = payload }
+
 -- the frame that is sent with this head and payload
 abbrev pub frame_of : Head → List ℕ → Frame
 frame_of h p = record { kind = h.kind; flags = h.flags; stream = h.stream; payload = p }

@@ -1,0 +1,108 @@
+//! The frames that are sent, as octets behind `out` (RFC 9113, 4.1 and 6).
+//! Rests on h2_frame; definitions: h2_spec's `specs/Change.antt` for what is sent, `specs/Frame.antt` for its octets.
+
+ghost use Rattle.std.specs.Prelude.{◌≡◌, ℕ, ◌+◌, ◌<◌, ◌≤◌, ◌^◌, ◌++◌, ◌∷◌, [], length, OnOk, OnErr, if◌then◌else◌};
+ghost use Rattle.h2_spec.specs.Change as changes;
+ghost use Rattle.h2_spec.specs.Errors.{code_number};
+ghost use Rattle.h2_spec.specs.Frame.{frame, frame_octets, frames_octets};
+ghost use Rattle.h2_spec.specs.Octets.{big_endian};
+
+use h2_frame::append_frame;
+use h2_spec::errors::ErrorCode;
+use h2_spec::reactions::{ConnectionFrame, StreamFrame};
+use std::alloc::{AllocError, Allocator};
+
+/// Writes a frame whose payload is a number of four octets, or nothing.
+fn write_number<A: Allocator>(
+    kind: u8,
+    stream: u32,
+    number: u32,
+    out: &mut Vec<u8, A>,
+) -> Result<(), AllocError>
+    ensures ok { OnOk result (out.new.items ≡ out.old.items ++ frame_octets (frame kind 0 stream (big_endian 4 number))) }
+    ensures err { OnErr result (out.new.items ≡ out.old.items) }
+{
+    append_frame(kind, 0, stream, &[], &number.to_be_bytes(), out)
+}
+
+/// Writes what is sent on the connection, with the payload of the item, or nothing.
+pub fn write_first<A: Allocator>(
+    first: ConnectionFrame,
+    payload: &[u8],
+    out: &mut Vec<u8, A>,
+) -> Result<(), AllocError>
+    requires fits { length payload.now < 2 ^ 24 }
+    ensures ok { OnOk result (out.new.items ≡ out.old.items ++ frames_octets (changes.first_frames payload.now first)) }
+    ensures err { OnErr result (out.new.items ≡ out.old.items) }
+{
+    match first {
+        ConnectionFrame::Quiet => Ok(()),
+        ConnectionFrame::SettingsAck => append_frame(4, 1, 0, &[], &[], out),
+        ConnectionFrame::PingAck => append_frame(6, 1, 0, &[], payload, out),
+        ConnectionFrame::Credit(count) => write_number(8, 0, count, out),
+    }
+}
+
+/// Writes what is sent on a stream, or nothing.
+pub fn write_second<A: Allocator>(
+    second: StreamFrame,
+    out: &mut Vec<u8, A>,
+) -> Result<(), AllocError>
+    ensures ok { OnOk result (out.new.items ≡ out.old.items ++ frames_octets (changes.second_frames second)) }
+    ensures err { OnErr result (out.new.items ≡ out.old.items) }
+{
+    match second {
+        StreamFrame::Still => Ok(()),
+        StreamFrame::Reset(id, code) => write_number(3, id, code.number(), out),
+        StreamFrame::StreamCredit(id, count) => write_number(8, id, count, out),
+    }
+}
+
+/// Writes the GOAWAY of a connection error, or nothing (RFC 9113, 6.8).
+pub fn write_goaway<A: Allocator>(
+    last: u32,
+    code: ErrorCode,
+    out: &mut Vec<u8, A>,
+) -> Result<(), AllocError>
+    ensures ok { OnOk result (out.new.items ≡ out.old.items ++ frames_octets (changes.goaway last code ∷ [])) }
+    ensures err { OnErr result (out.new.items ≡ out.old.items) }
+{
+    let number = code.number();
+    append_frame(7, 0, 0, &last.to_be_bytes(), &number.to_be_bytes(), out)
+}
+
+/// The table size update to 0 before a response's block, where one is to be sent (RFC 7541, 4.2 and 6.3).
+fn signal_octets(signal: bool) -> &'static [u8]
+    ensures { result.now ≡ (if signal then 32 ∷ [] else []) }
+{
+    if signal { &[32] } else { &[] }
+}
+
+/// END_HEADERS, and END_STREAM where the response has no body.
+fn response_flags(is_empty: bool) -> u8
+    ensures { result ≡ 4 + changes.flag_if is_empty 1 }
+{
+    if is_empty { 5 } else { 4 }
+}
+
+/// Writes the HEADERS of a response, from its block without a table size update, or nothing.
+pub fn write_response<A: Allocator>(
+    signal: bool,
+    id: u32,
+    is_empty: bool,
+    block: &[u8],
+    out: &mut Vec<u8, A>,
+) -> Result<(), AllocError>
+    requires fits { length block.now ≤ 16383 }
+    ensures ok { OnOk result (out.new.items ≡ out.old.items ++ frame_octets (frame 1 (4 + changes.flag_if is_empty 1) id ((if signal then 32 ∷ [] else []) ++ block.now))) }
+    ensures err { OnErr result (out.new.items ≡ out.old.items) }
+{
+    append_frame(
+        1,
+        response_flags(is_empty),
+        id,
+        signal_octets(signal),
+        block,
+        out,
+    )
+}
