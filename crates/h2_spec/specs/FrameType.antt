@@ -49,6 +49,20 @@ frame_type kind =
     else if kind == CONTINUATION then Continuation
     else Unknown kind
 
+-- the number of a type
+abbrev pub type_number : FrameType → ℕ
+type_number Data = DATA
+type_number Headers = HEADERS
+type_number Priority = PRIORITY
+type_number RstStream = RST_STREAM
+type_number Settings = SETTINGS
+type_number PushPromise = PUSH_PROMISE
+type_number Ping = PING
+type_number Goaway = GOAWAY
+type_number WindowUpdate = WINDOW_UPDATE
+type_number Continuation = CONTINUATION
+type_number (Unknown kind) = kind
+
 -- the flags, as the bit's value: END_STREAM and ACK are the same bit
 abbrev pub END_STREAM : ℕ
 END_STREAM = 1

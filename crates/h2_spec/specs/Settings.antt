@@ -1,7 +1,9 @@
 -- Settings of the peer and of the server (RFC 9113, 6.5.2).
-use Rattle.std.specs.Prelude.{ℕ, true, false, ◌&&◌, nat_le, ◌==◌, if◌then◌else◌, Some, None, Result, Ok, Err}
+use Rattle.std.specs.Prelude.{ℕ, true, false, ◌&&◌, nat_le, ◌==◌, if◌then◌else◌, Some, None, Result, Ok, Err, ℤ, pos, ◌-ℤ◌}
 use Rattle.h2_spec.specs.declared.errors.ErrorCode.{ErrorCode}
 use Rattle.h2_spec.specs.declared.errors.ErrorCode.TheVariants.{ProtocolError, FlowControlError}
+use Rattle.h2_spec.specs.declared.errors.FlowFault.{FlowFault}
+use Rattle.h2_spec.specs.declared.errors.FlowFault.TheVariants.{BadSetting}
 use Rattle.h2_spec.specs.declared.flow.Settings.{Settings}
 use Rattle.h2_spec.specs.declared.flow.Own.{Own}
 use Rattle.h2_spec.specs.Window.{max_window}
@@ -43,3 +45,13 @@ with_setting s id v =
     else if id == SETTINGS_MAX_FRAME_SIZE then (if nat_le 16384 v && nat_le v 16777215 then Ok (record s { frame = v }) else Err ProtocolError)
     else if id == SETTINGS_MAX_HEADER_LIST_SIZE then Ok (record s { list = Some v })
     else Ok s
+
+-- the change of the initial window, which moves the streams' send windows (6.9.2), or the fault
+abbrev pub window_change : Settings → Result Settings ErrorCode → Result ℤ FlowFault
+window_change s (Ok t) = Ok (pos t.window -ℤ pos s.window)
+window_change s (Err code) = Err (BadSetting code)
+
+-- the settings after one of them, or as they were where it is refused
+abbrev pub settings_or : Settings → Result Settings ErrorCode → Settings
+settings_or s (Ok t) = t
+settings_or s (Err code) = s

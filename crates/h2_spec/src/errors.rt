@@ -2,7 +2,9 @@
 //! Rests on nothing; definitions: `specs/Errors.antt`.
 
 ghost use Rattle.std.specs.Prelude.{◌≡◌};
-ghost use Rattle.h2_spec.specs.Errors.{code_number};
+ghost use Rattle.h2_spec.specs.Errors.{code_number, fault_number};
+
+use thiserror::Error;
 
 /// The error codes that this server sends (RFC 9113, 7).
 #[derive(Clone, Copy, Debug, PartialEq, Eq)]
@@ -29,6 +31,33 @@ impl ErrorCode {
             ErrorCode::RefusedStream => 7,
             ErrorCode::CompressionError => 9,
             ErrorCode::EnhanceYourCalm => 11,
+        }
+    }
+}
+
+/// What windows and settings refuse.
+#[derive(Clone, Copy, Debug, PartialEq, Eq, Error)]
+pub enum FlowFault {
+    /// A setting has a value that is not allowed; the code of the connection error that follows (RFC 9113, 6.5.2).
+    #[error("a setting has a value that is not allowed: error code {}", .0.number())]
+    BadSetting(ErrorCode),
+    /// A window would pass 2147483647 (RFC 9113, 6.9.1).
+    #[error("a flow-control window would pass its largest value")]
+    Overflow,
+    /// A window holds fewer octets than are taken (RFC 9113, 6.9.1).
+    #[error("more octets than the flow-control window holds")]
+    Exceeded,
+}
+
+impl FlowFault {
+    /// The number of the fault, as the program prints it.
+    pub fn number(self) -> u32
+        ensures { result ≡ fault_number self }
+    {
+        match self {
+            FlowFault::BadSetting(_) => 9,
+            FlowFault::Overflow => 10,
+            FlowFault::Exceeded => 11,
         }
     }
 }

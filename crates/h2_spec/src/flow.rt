@@ -1,11 +1,19 @@
 //! Windows, credit and settings: the small values that flow control counts with (RFC 9113, 5.2, 6.5.2 and 6.9).
 //! Rests on `errors`; definitions: `specs/Window.antt`, `specs/Settings.antt`.
 
-ghost use Rattle.std.specs.Prelude.{◌≡◌, ℕ, ℤ, pos, ◌+◌, ◌≤◌, ◌-ℤ◌, ◌+ℤ◌, ◌≤ℤ◌, int_lt};
+ghost use Rattle.std.specs.Prelude.{◌≡◌, ℕ, ℤ, pos, negsuc, ◌+◌, ◌<◌, ◌≤◌, ◌^◌, ◌-ℤ◌, ◌+ℤ◌, ◌≤ℤ◌, ◌↔◌, int_lt, IsOk, OnOk, IfErr};
+ghost use Rattle.h2_spec.specs.Window.{max_window, given_back, still_owed};
+ghost use Rattle.h2_spec.specs.Settings.{initial, own_initial, with_setting, window_change, settings_or};
 
+use crate::errors::{ErrorCode, FlowFault};
 use std::marker::Model;
 
-/// A window of at most 2147483647 octets, which settings can make negative.
+/// The largest window (RFC 9113, 6.9.1).
+pub const MAX_WINDOW: u32 = 2_147_483_647;
+
+/// A flow-control window: how many octets may still come or go, at most 2147483647 (RFC 9113, 6.9.1).
+///
+/// Settings can make it negative (RFC 9113, 6.9.2); nothing then goes until it has risen above 0. Contracts see the integer.
 #[derive(Clone, Copy, Debug, PartialEq, Eq)]
 pub struct Window {
     size: i32,
@@ -22,19 +30,73 @@ impl Model for Window {
 }
 
 impl Window {
+    /// A window of this many octets, at most 2147483647.
     pub fn start(value: u32) -> Self
-        requires { value ≤ 2147483647 }
+        requires { value ≤ max_window }
         ensures { result ≡ pos value }
     {
         Window { size: value as i32 }
     }
 
+    /// The octets that it holds, or how far it is below 0.
     pub fn value(self) -> i32
         ensures { result ≡ self }
     {
         self.size
     }
 
+    /// Takes octets that are sent or received.
+    ///
+    /// `Exceeded` where it holds fewer; then it stays as it is.
+    pub fn take(&mut self, count: u32) -> Result<(), FlowFault>
+        ensures within { IsOk result ↔ (pos count ≤ℤ self.old) }
+        ensures taken { OnOk result (self.new ≡ self.old -ℤ pos count) }
+        ensures refused { IfErr result (λ e. (e ≡ FlowFault.Exceeded) × (self.new ≡ self.old)) }
+    {
+        if self.is_below(count) {
+            return Err(FlowFault::Exceeded);
+        }
+        *self = self.minus(count);
+        Ok(())
+    }
+
+    /// Adds the increment of a WINDOW_UPDATE (RFC 9113, 6.9.1).
+    ///
+    /// `Overflow` where it would pass 2147483647; then it stays as it is.
+    pub fn add(&mut self, count: u32) -> Result<(), FlowFault>
+        ensures fits { IsOk result ↔ ((self.old +ℤ pos count) ≤ℤ pos max_window) }
+        ensures added { OnOk result (self.new ≡ self.old +ℤ pos count) }
+        ensures refused { IfErr result (λ e. (e ≡ FlowFault.Overflow) × (self.new ≡ self.old)) }
+    {
+        if self.overflows(count) {
+            return Err(FlowFault::Overflow);
+        }
+        *self = self.plus(count);
+        Ok(())
+    }
+
+    /// Moves it by a change of SETTINGS_INITIAL_WINDOW_SIZE (RFC 9113, 6.9.2); it may become negative, not below -2147483648.
+    ///
+    /// `Overflow` where it would pass 2147483647; then it stays as it is.
+    pub fn shift(&mut self, delta: i64) -> Result<(), FlowFault>
+        requires { negsuc max_window ≤ℤ (self.old +ℤ delta) }
+        ensures fits { IsOk result ↔ ((self.old +ℤ delta) ≤ℤ pos max_window) }
+        ensures shifted { OnOk result (self.new ≡ self.old +ℤ delta) }
+        ensures refused { IfErr result (λ e. (e ≡ FlowFault.Overflow) × (self.new ≡ self.old)) }
+    {
+        let size = i64::from(self.size);
+        if delta > i64::from(MAX_WINDOW) - size {
+            return Err(FlowFault::Overflow);
+        }
+        *self = Window {
+            size: (size + delta) as i32,
+        };
+        Ok(())
+    }
+}
+
+/// The same as questions and new values, for rules that answer a changed record.
+impl Window {
     /// Whether it holds fewer octets than these.
     pub fn is_below(self, count: u32) -> bool
         ensures { result ≡ int_lt self (pos count) }
@@ -42,6 +104,7 @@ impl Window {
         i64::from(self.size) < i64::from(count)
     }
 
+    /// Without these octets, which it has to hold.
     pub fn minus(self, count: u32) -> Window
         requires { pos count ≤ℤ self }
         ensures { result ≡ self -ℤ pos count }
@@ -51,36 +114,36 @@ impl Window {
         }
     }
 
-    /// Whether it would pass its greatest value with these.
+    /// Whether it would pass 2147483647 with these octets.
     pub fn overflows(self, count: u32) -> bool
-        ensures { result ≡ int_lt (pos 2147483647) (self +ℤ pos count) }
+        ensures { result ≡ int_lt (pos max_window) (self +ℤ pos count) }
     {
-        i64::from(self.size) + i64::from(count) > 2_147_483_647
+        i64::from(self.size) + i64::from(count) > i64::from(MAX_WINDOW)
     }
 
+    /// With these octets, where it does not pass 2147483647.
     pub fn plus(self, count: u32) -> Window
-        requires { (self +ℤ pos count) ≤ℤ pos 2147483647 }
+        requires { (self +ℤ pos count) ≤ℤ pos max_window }
         ensures { result ≡ self +ℤ pos count }
     {
         Window {
             size: (i64::from(self.size) + i64::from(count)) as i32,
         }
     }
-}
 
-impl Window {
-    /// Whether it would pass its greatest value when settings move it.
+    /// Whether it would pass 2147483647 where the initial window goes from one value to another (RFC 9113, 6.9.2).
     pub fn overflows_by(self, from: u32, to: u32) -> bool
-        ensures { result ≡ int_lt (pos 2147483647) (self +ℤ (pos to -ℤ pos from)) }
+        ensures { result ≡ int_lt (pos max_window) (self +ℤ (pos to -ℤ pos from)) }
     {
         let delta = i64::from(to) - i64::from(from);
         let moved = i64::from(self.size) + delta;
-        moved > 2_147_483_647
+        moved > i64::from(MAX_WINDOW)
     }
 
+    /// Where the initial window goes from one value to another; it may become negative (RFC 9113, 6.9.2).
     pub fn moved(self, from: u32, to: u32) -> Window
-        requires most { (self +ℤ (pos to -ℤ pos from)) ≤ℤ pos 2147483647 }
-        requires least { pos from ≤ℤ (self +ℤ pos 2147483647) }
+        requires most { (self +ℤ (pos to -ℤ pos from)) ≤ℤ pos max_window }
+        requires least { pos from ≤ℤ (self +ℤ pos max_window) }
         ensures { result ≡ self +ℤ (pos to -ℤ pos from) }
     {
         if from <= to {
@@ -90,9 +153,9 @@ impl Window {
         }
     }
 
-    /// May become negative.
+    /// Without these octets, whether it holds them or not.
     fn lowered(self, count: u32) -> Window
-        requires { pos count ≤ℤ (self +ℤ pos 2147483647) }
+        requires { pos count ≤ℤ (self +ℤ pos max_window) }
         ensures { result ≡ self -ℤ pos count }
     {
         Window {
@@ -101,7 +164,7 @@ impl Window {
     }
 }
 
-/// Octets received that are not yet given back by WINDOW_UPDATE.
+/// Octets received that are not yet given back by WINDOW_UPDATE (RFC 9113, 6.9). Contracts see their number.
 #[derive(Clone, Copy, Debug, PartialEq, Eq)]
 pub struct Credit {
     octets: u32,
@@ -125,6 +188,21 @@ impl Credit {
         Credit { octets: 0 }
     }
 
+    /// Owes the peer these octets too, and answers how many are to be given back now: all that are owed, once they reach the threshold.
+    pub fn owe(&mut self, count: u32, threshold: u32) -> Option<u32>
+        requires { self.old + count < 2 ^ 32 }
+        ensures answer { result ≡ given_back threshold (self.old + count) }
+        ensures owed { self.new ≡ still_owed threshold (self.old + count) }
+    {
+        let owed = self.octets + count;
+        if owed < threshold {
+            self.octets = owed;
+            return None;
+        }
+        self.octets = 0;
+        Some(owed)
+    }
+
     /// The octets that are owed.
     pub fn owed(self) -> u32
         ensures { result ≡ self }
@@ -133,32 +211,114 @@ impl Credit {
     }
 }
 
+/// The identifiers of settings (RFC 9113, 6.5.2).
+pub const SETTINGS_HEADER_TABLE_SIZE: u16 = 1;
+
+pub const SETTINGS_ENABLE_PUSH: u16 = 2;
+
+pub const SETTINGS_MAX_CONCURRENT_STREAMS: u16 = 3;
+
+pub const SETTINGS_INITIAL_WINDOW_SIZE: u16 = 4;
+
+pub const SETTINGS_MAX_FRAME_SIZE: u16 = 5;
+
+pub const SETTINGS_MAX_HEADER_LIST_SIZE: u16 = 6;
+
 /// What the peer's SETTINGS said last (RFC 9113, 6.5.2).
 #[derive(Clone, Copy, Debug, PartialEq, Eq)]
 pub struct Settings {
-    /// SETTINGS_HEADER_TABLE_SIZE.
+    /// SETTINGS_HEADER_TABLE_SIZE, in octets.
     pub header_table: u32,
     /// SETTINGS_ENABLE_PUSH, 0 or 1.
     pub push: u32,
     /// SETTINGS_MAX_CONCURRENT_STREAMS, if it was given.
     pub streams: Option<u32>,
-    /// SETTINGS_INITIAL_WINDOW_SIZE, at most 2147483647.
+    /// SETTINGS_INITIAL_WINDOW_SIZE, in octets, at most 2147483647.
     pub window: u32,
-    /// SETTINGS_MAX_FRAME_SIZE, 16384 to 16777215.
+    /// SETTINGS_MAX_FRAME_SIZE, in octets, 16384 to 16777215.
     pub frame: u32,
-    /// SETTINGS_MAX_HEADER_LIST_SIZE, if it was given.
+    /// SETTINGS_MAX_HEADER_LIST_SIZE, in octets, if it was given.
     pub list: Option<u32>,
     /// Whether the next response has to begin with a table size update (RFC 7541, 4.2).
     pub signal: bool,
 }
 
+impl Settings {
+    /// The settings of a peer that has sent none (RFC 9113, 6.5.2).
+    pub fn initial() -> Self
+        ensures { result ≡ initial }
+    {
+        Settings {
+            header_table: 4096,
+            push: 1,
+            streams: None,
+            window: 65_535,
+            frame: 16_384,
+            list: None,
+            signal: false,
+        }
+    }
+
+    /// Applies one setting, and answers by how much the initial window changes; other identifiers change nothing (RFC 9113, 6.5.2).
+    ///
+    /// `BadSetting` with the error code where the value is not allowed; then the settings stay as they are.
+    #[tactic(auto, unfolding(crate::specs::Settings::with_setting))]
+    pub fn apply(&mut self, id: u16, value: u32) -> Result<i64, FlowFault>
+        ensures answer { result ≡ window_change self.old (with_setting self.old id value) }
+        ensures settings { self.new ≡ settings_or self.old (with_setting self.old id value) }
+    {
+        let window = self.window;
+        match id {
+            SETTINGS_HEADER_TABLE_SIZE => {
+                self.header_table = value;
+                self.signal = true;
+            }
+            SETTINGS_ENABLE_PUSH => {
+                if value > 1 {
+                    return Err(FlowFault::BadSetting(ErrorCode::ProtocolError));
+                }
+                self.push = value;
+            }
+            SETTINGS_MAX_CONCURRENT_STREAMS => self.streams = Some(value),
+            SETTINGS_INITIAL_WINDOW_SIZE => {
+                if value > MAX_WINDOW {
+                    return Err(FlowFault::BadSetting(ErrorCode::FlowControlError));
+                }
+                self.window = value;
+            }
+            SETTINGS_MAX_FRAME_SIZE => {
+                if !(16_384..=16_777_215).contains(&value) {
+                    return Err(FlowFault::BadSetting(ErrorCode::ProtocolError));
+                }
+                self.frame = value;
+            }
+            SETTINGS_MAX_HEADER_LIST_SIZE => self.list = Some(value),
+            _ => {}
+        }
+        Ok(i64::from(self.window) - i64::from(window))
+    }
+}
+
 /// The server's own settings that are in force.
 #[derive(Clone, Copy, Debug, PartialEq, Eq)]
 pub struct Own {
-    /// The limit of the header table.
+    /// The limit of the header table, in octets.
     pub table: u32,
-    /// The receive window of a new stream.
+    /// The receive window of a new stream, in octets.
     pub window: u32,
-    /// The longest payload of a frame.
+    /// The longest payload of a frame, in octets.
     pub frame: u32,
+}
+
+impl Own {
+    /// The settings in force until the peer has acknowledged others (RFC 9113, 6.5.3).
+    pub fn initial() -> Self
+        ensures { result ≡ own_initial }
+    {
+        Own {
+            table: 4096,
+            window: 65_535,
+            frame: 16_384,
+        }
+    }
 }
