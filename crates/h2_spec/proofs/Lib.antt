@@ -7,11 +7,9 @@ mod DebugRows
 mod Hex
 pub mod HuffmanLaws
 mod HuffmanRows
+pub mod InstructionLaws
 pub mod IntegerLaws
 mod IntegerRows
-mod HuffmanLaws
-pub mod InstructionLaws
-mod IntegerLaws
 mod LongBodies
 pub mod ParseLaws
 pub mod RequestLaws
@@ -19,8 +17,8 @@ mod RequestRows
 mod Rows
 mod Runs
 mod ScriptRows
-pub mod SpellingLaws
 pub mod ScriptTexts
+pub mod SpellingLaws
 pub mod TableLaws
 mod TraceLaws
 mod WrittenLaws
