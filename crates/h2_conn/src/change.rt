@@ -47,8 +47,10 @@ pub fn quiet_turn(signal: bool, stream: Stream) -> Turn
 }
 
 /// A stream error (RFC 9113, 5.4.2).
+#[tactic(auto, unfolding(h2_spec::specs::Stream::octets_waiting))]
 pub fn stream_error(signal: bool, id: u32, code: ErrorCode) -> Turn
-    ensures { result ≡ changes.stream_error signal id code }
+    ensures rule { result ≡ changes.stream_error signal id code }
+    ensures waits { (book : List Entry) → HasBody book result.stream }
 {
     Turn {
         stream: not_live(id, Kind::WeReset),

@@ -3,6 +3,7 @@
 
 ghost use Rattle.std.specs.Prelude.{◌≡◌, ℕ, ◌≤◌, List, length};
 ghost use Rattle.h2_spec.specs.Ends as rule;
+ghost use Rattle.h2_spec.specs.Data as data_rule;
 ghost use Rattle.h2_spec.specs.Answer.{Entry, picked};
 ghost use Rattle.h2_conn.specs.Sound.{HasBody, IsSoundStream};
 
@@ -113,5 +114,15 @@ pub fn peer_ended(signal: bool, body: u64, stream: Stream) -> Turn
         | Kind::Ended
         | Kind::PeerReset
         | Kind::WeReset => quiet_turn(signal, stream),
+    }
+}
+
+/// Whether the content does not fit what was declared (RFC 9113, 8.1.1).
+pub fn breaks_length(declared: Option<u64>, got: u64, ends: bool) -> bool
+    ensures { result ≡ data_rule.breaks_length declared got ends }
+{
+    match declared {
+        None => false,
+        Some(count) => count < got || (ends && got != count),
     }
 }

@@ -3,12 +3,11 @@
 
 ghost use Rattle.std.specs.Prelude.{◌≡◌, ℕ, ◌≤◌, List, length};
 ghost use Rattle.h2_spec.specs.Headers as rule;
-ghost use Rattle.h2_spec.specs.Data as data_rule;
 ghost use Rattle.h2_spec.specs.Answer.{Entry, picked};
 ghost use Rattle.h2_conn.specs.Sound.{HasBody, IsSoundCore, IsSoundStream};
 
 use crate::change::{quiet_turn, stream_error};
-use crate::ends::peer_ended;
+use crate::ends::{breaks_length, peer_ended};
 use h2_spec::connection::{Config, Core};
 use h2_spec::errors::ErrorCode;
 use h2_spec::flow::{Credit, Window};
@@ -17,16 +16,6 @@ use h2_spec::streams::{Kind, Numbers, Stream};
 
 /// The largest list of fields, in octets (RFC 9113, 10.5.1).
 const MAX_LIST: u64 = 65_536;
-
-/// Whether the content does not fit what was declared (RFC 9113, 8.1.1).
-pub fn breaks_length(declared: Option<u64>, got: u64, ends: bool) -> bool
-    ensures { result ≡ data_rule.breaks_length declared got ends }
-{
-    match declared {
-        None => false,
-        Some(count) => count < got || (ends && got != count),
-    }
-}
 
 /// A stream that a request opens.
 #[tactic(auto, unfolding(h2_spec::specs::Stream::octets_waiting))]

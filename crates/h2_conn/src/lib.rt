@@ -3,6 +3,7 @@
 
 mod change;
 mod checks;
+mod data;
 mod ends;
 mod headers;
 mod reset;

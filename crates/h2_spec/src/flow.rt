@@ -203,6 +203,16 @@ impl Credit {
         Some(owed)
     }
 
+    /// With these octets too.
+    pub fn plus(self, count: u32) -> Credit
+        requires { self + count < 2 ^ 32 }
+        ensures { result ≡ self + count }
+    {
+        Credit {
+            octets: self.octets + count,
+        }
+    }
+
     /// The octets that are owed.
     pub fn owed(self) -> u32
         ensures { result ≡ self }
