@@ -14,6 +14,7 @@ pub mod Errors
 pub mod Field
 pub mod Frame
 pub mod FrameType
+pub mod Grants
 pub mod Headers
 pub mod Huffman
 pub mod HuffmanCode
@@ -21,6 +22,7 @@ pub mod Instruction
 pub mod Integer
 pub mod Octets
 pub mod Opening
+pub mod Order
 pub mod Parse
 pub mod Payload
 pub mod Pump

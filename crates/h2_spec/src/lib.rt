@@ -6,6 +6,7 @@ pub mod connection;
 pub mod errors;
 pub mod flow;
 pub mod frames;
+pub mod grants_laws;
 pub mod huffman_laws;
 pub mod integer_laws;
 pub mod reactions;

@@ -1,0 +1,10 @@
+pub mod Agreement
+pub mod Blocks
+pub mod Items
+pub mod Law
+pub mod Records
+pub mod Rules
+pub mod Sending
+pub mod SettingsRule
+pub mod Tallies
+pub mod Turns

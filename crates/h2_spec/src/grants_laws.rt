@@ -1,0 +1,21 @@
+//! Flow control as the peer sees it, over whole runs: what is sent keeps to what was granted, and is held back no further (RFC 9113, 5.2, 6.9 and 8.1).
+//! Rests on the definitions alone: each function's contract is a law of them, and its body is empty.
+//! Definitions: `specs/Grants.antt`, `specs/Order.antt`.
+
+ghost use Rattle.std.specs.Prelude.{ℕ, List};
+ghost use Rattle.h2_spec.specs.declared.connection.Config.{Config};
+ghost use Rattle.h2_spec.specs.Answer.{Entry};
+ghost use Rattle.h2_spec.specs.Grants.{KeepsGrants};
+ghost use Rattle.h2_spec.specs.Order.{KeepsOrder};
+
+/// Whatever octets a peer sends, after each of their items, on each stream: DATA is within what the peer has granted on the connection and on the
+/// stream, and within its frame size; at most one response is sent, with a prefix of its body, and the whole where END_STREAM is sent; nothing
+/// follows the end; and nothing that may be sent is held back.
+pub fn grants_are_kept()
+    ensures { (book : List Entry) (config : Config) (octets : List ℕ) → KeepsGrants book config octets }
+{}
+
+/// After each item the records of the streams stand by rising identifier, up to the last stream that was opened; so what waits is sent in that order.
+pub fn records_are_in_order()
+    ensures { (book : List Entry) (config : Config) (octets : List ℕ) → KeepsOrder book config octets }
+{}
