@@ -15,6 +15,9 @@ mod LongBodies
 pub mod ParseLaws
 pub mod RequestLaws
 mod RequestRows
+pub mod ReadingLines
+pub mod ReadingParts
+pub mod ReadingWords
 mod Rows
 mod Runs
 mod ScriptRows

@@ -7,7 +7,7 @@ use Rattle.hex.specs.declared.FromHexError.{FromHexError}
 use Rattle.h2_spec.specs.Frame.{preface}
 use Rattle.h2_spec.specs.Huffman.{spell_huffman}
 use Rattle.h2_spec.specs.Instruction.{Instruction, Indexed, Update, Literal, Mode, Add, Without, Never, NameRef, Ref, Named, TextStr, spell}
-use Rattle.h2_spec.specs.Script.{Payload, Empty, Octets, Pairs, Increment, Code, Instructions, Statement, Nothing, Preface, Raw, AFrame, is_plain, lines_of, max_stream, max_u32, octets_of, payload_octets}
+use Rattle.h2_spec.specs.Script.{Payload, Empty, Octets, Pairs, Increment, Code, Instructions, Statement, Nothing, Preface, Raw, AFrame, cut_at, is_plain, lines_of, max_stream, max_u32, octets_of, payload_octets}
 use Rattle.h2_spec.specs.declared.scripts.SyntaxKind.{SyntaxKind}
 use Rattle.h2_spec.specs.declared.scripts.SyntaxKind.TheVariants as kind
 
@@ -23,10 +23,6 @@ wanted kind None = Err kind
 wanted kind (Some x) = Ok x
 
 -- ---- parts of a text
-
--- the text before the first such octet, and the text behind it
-abbrev pub cut_at : ℕ → List ℕ → Option (List ℕ × List ℕ)
-cut_at c xs = option_map (λ i. (take i xs, drop (i + 1) xs)) (position (λ b. b == c) xs)
 
 -- the text before the first such octet, or all of it, and what begins there
 abbrev pub before : ℕ → List ℕ → List ℕ
@@ -192,16 +188,21 @@ stream_at text =
 abbrev pub fitting : Payload → Result Payload SyntaxKind
 fitting payload = if nat_lt (length (payload_octets payload)) (2 ^ 24) then Ok payload else Err kind.Size
 
--- the frame of a first word and the text behind it: the kinds of fault in their order
+-- the frame of four parts: the kinds of fault in their order
+abbrev pub frame_of : List ℕ → List ℕ → List ℕ → List ℕ → Result Statement SyntaxKind
+frame_of name flags stream payload = do
+  type ← wanted kind.Name (type_at name)
+  flag ← wanted kind.Flags (octet_at flags)
+  id ← wanted kind.Stream (stream_at stream)
+  content ← wanted kind.Payload (payload_at payload) >>= fitting
+  Ok (AFrame type flag id.0 id.1 content)
+
+-- the frame of a first word and the text behind it
 abbrev pub frame_at : List ℕ → List ℕ → Result Statement SyntaxKind
 frame_at name rest = do
   b ← wanted kind.Parts (cut_at 32 rest)
   c ← wanted kind.Parts (cut_at 32 b.1)
-  type ← wanted kind.Name (type_at name)
-  flags ← wanted kind.Flags (octet_at b.0)
-  stream ← wanted kind.Stream (stream_at c.0)
-  payload ← wanted kind.Payload (payload_at c.1) >>= fitting
-  Ok (AFrame type flags stream.0 stream.1 payload)
+  frame_of name b.0 c.0 c.1
 
 -- ---- lines
 

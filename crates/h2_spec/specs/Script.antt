@@ -1,11 +1,13 @@
 -- What a script says: a line says a statement, and a statement stands for octets.
-use Rattle.std.specs.Prelude.{◌≡◌, ◌⊎◌, ℕ, ◌+◌, ◌-◌, ◌^◌, ◌<◌, ◌≤◌, ◌==◌, ◌&&◌, ◌||◌, not, nat_le, Bool, true, false, IsTrue, List, [], ◌∷◌, ◌++◌, length, codes, flat_map, if◌then◌else◌, Ok, Some, slice_get}
-use Rattle.std.specs.List.{slice_split}
+use Rattle.std.specs.Prelude.{◌≡◌, ◌≢◌, ◌⊎◌, ℕ, ◌+◌, ◌-◌, ◌^◌, ◌<◌, ◌≤◌, ◌==◌, ◌&&◌, ◌||◌, not, nat_le, Bool, true, false, IsTrue, List, [], ◌∷◌, ◌++◌, length, codes, flat_map, if◌then◌else◌, Option, Some, None, Result, Ok, Err, slice_get, take, drop, option_map, position}
+use Rattle.std.specs.List.{AllByRecursion, before_first, slice_split}
 use Rattle.std.specs.Str.Parse.{IsNumeral, digits_value}
 use Rattle.hex.specs.Hex.{decode_of}
 use Rattle.h2_spec.specs.Frame.{preface}
 use Rattle.h2_spec.specs.Instruction.{Instruction, Indexed, Update, Literal, Mode, Add, Without, Never, NameRef, Ref, Named, TextStr, shape_of, spell}
 use Rattle.h2_spec.specs.Octets.{big_endian}
+use Rattle.h2_spec.specs.declared.scripts.SyntaxKind.{SyntaxKind}
+use Rattle.h2_spec.specs.declared.scripts.SyntaxKind.TheVariants as kind
 
 -- ---- what can be said
 
@@ -160,6 +162,78 @@ Says text (AFrame kind flags stream reserved payload) = (a b c d : List ℕ) × 
 abbrev pub Line : List ℕ → List ℕ → Type 0
 Line text octets = (s : Statement) × Says text s × (octets ≡ octets_of s)
 
+-- ---- bad lines
+
+-- the text before the first such octet, and the text behind it
+abbrev pub cut_at : ℕ → List ℕ → Option (List ℕ × List ℕ)
+cut_at c xs = option_map (λ i. (take i xs, drop (i + 1) xs)) (position (λ b. b == c) xs)
+
+-- the word before the first space, or the whole line where there is none
+abbrev pub first_word : List ℕ → List ℕ
+first_word line = before_first (λ b. b == 32) line
+
+-- the parts of a frame's line, which is cut at its first three spaces
+pub record FourParts : Type 0 where
+  pub name : List ℕ
+  pub flags : List ℕ
+  pub stream : List ℕ
+  pub payload : List ℕ
+
+abbrev pub third_cut : List ℕ → List ℕ → Option (List ℕ × List ℕ) → Option FourParts
+third_cut name flags None = None
+third_cut name flags (Some c) = Some (record { name = name; flags = flags; stream = c.0; payload = c.1 })
+
+abbrev pub second_cut : List ℕ → Option (List ℕ × List ℕ) → Option FourParts
+second_cut name None = None
+second_cut name (Some b) = third_cut name b.0 (cut_at 32 b.1)
+
+abbrev pub first_cut : Option (List ℕ × List ℕ) → Option FourParts
+first_cut None = None
+first_cut (Some a) = second_cut a.0 (cut_at 32 a.1)
+
+-- the four parts; none on a line with fewer than three spaces
+abbrev pub parts_of : List ℕ → Option FourParts
+parts_of line = first_cut (cut_at 32 line)
+
+abbrev pub IsFrameLine : List ℕ → Type 0
+IsFrameLine line = (first_word line ≢ codes "PREFACE") × (first_word line ≢ codes "RAW")
+
+abbrev pub HasParts : (FourParts → Type 0) → List ℕ → Type 0
+HasParts P line = IsFrameLine line × ((p : FourParts) × (parts_of line ≡ Some p) × P p)
+
+-- the first word is PREFACE with a space behind it, or RAW without digits, or neither and there are fewer than three spaces
+abbrev pub HasBadParts : List ℕ → Type 0
+HasBadParts line =
+    ((first_word line ≡ codes "PREFACE") × (line ≢ codes "PREFACE")) ⊎ ((line ≡ codes "RAW") ⊎ ((line ≡ codes "RAW ") ⊎ (IsFrameLine line × (parts_of line ≡ None))))
+
+-- the payload, or the digits of RAW, are of no form
+abbrev pub HasBadPayload : List ℕ → Type 0
+HasBadPayload line =
+    HasParts (λ p. (payload : Payload) → ¬ SaysPayload p.payload payload) line
+    ⊎ ((digits : List ℕ) × (line ≡ codes "RAW " ++ digits) × (0 < length digits) × ((octets : List ℕ) → ¬ SaysSomeOctets digits octets))
+
+-- what is wrong with a line
+abbrev pub HasFault : SyntaxKind → List ℕ → Type 0
+HasFault kind.Parts line = HasBadParts line
+HasFault kind.Name line = HasParts (λ p. (number : ℕ) → ¬ SaysType p.name number) line
+HasFault kind.Flags line = HasParts (λ p. (flags : ℕ) → ¬ SaysOctet p.flags flags) line
+HasFault kind.Stream line = HasParts (λ p. (stream : ℕ) (reserved : Bool) → ¬ SaysStream p.stream stream reserved) line
+HasFault kind.Payload line = HasBadPayload line
+HasFault kind.Size line = HasParts (λ p. (payload : Payload) × SaysPayload p.payload payload × (2 ^ 24 ≤ length (payload_octets payload))) line
+
+-- the numbers of the kinds
+abbrev pub kind_number : SyntaxKind → ℕ
+kind_number kind.Parts = 1
+kind_number kind.Name = 2
+kind_number kind.Flags = 3
+kind_number kind.Stream = 4
+kind_number kind.Payload = 5
+kind_number kind.Size = 6
+
+-- the line has a fault of this kind, and none of a lesser number
+abbrev pub IsLeastFault : SyntaxKind → List ℕ → Type 0
+IsLeastFault kind line = HasFault kind line × ((other : SyntaxKind) → kind_number other < kind_number kind → ¬ HasFault other line)
+
 -- ---- scripts
 
 -- the texts between line feeds; behind the last one an empty line may stand, which is no octets
@@ -173,3 +247,19 @@ AreLines (line ∷ lines) octets = (first rest : List ℕ) × Line line first ×
 -- the script stands for the octets
 abbrev pub Script : List ℕ → List ℕ → Type 0
 Script text octets = AreLines (lines_of text) octets
+
+-- the n-th line, counted from 1, is the first that stands for nothing, and this is its least fault
+pub record Bad (text : List ℕ) (n : ℕ) (kind : SyntaxKind) : Type 0 where
+  pub above : List (List ℕ)
+  pub line : List ℕ
+  pub below : List (List ℕ)
+  pub lines : lines_of text ≡ above ++ line ∷ below
+  pub number : n ≡ length above + 1
+  pub first : AllByRecursion (λ l. (octets : List ℕ) × Line l octets) above
+  pub nothing : (octets : List ℕ) → ¬ Line line octets
+  pub least : IsLeastFault kind line
+
+-- what an answer says of the text
+abbrev pub IsReadingOf : List ℕ → Result (List ℕ) (ℕ × SyntaxKind) → Type 0
+IsReadingOf text (Ok octets) = Script text octets
+IsReadingOf text (Err (n, kind)) = Bad text n kind
