@@ -3,11 +3,17 @@
 //! Definitions: `h2_spec/specs/Frame.antt`, `h2_spec/specs/Payload.antt`, and `specs/` here for what a splitter holds.
 #![tactic(auto)]
 
+mod cuts;
 pub mod head;
+pub mod payload;
 pub mod splitter;
 
-pub use h2_spec::frames::{FrameType, Head};
+pub use h2_spec::frames::{FrameType, Head, PayloadFault};
 pub use head::{FrameRef, append_frame, read_head, write_frame};
+pub use payload::{
+    DataPart, HeadersPart, Part, SettingsPart, data_of, goaway_of, headers_of, part_of, reset_of,
+    settings_of, window_of,
+};
 pub use splitter::{Item, Splitter};
 
 #[cfg(test)]

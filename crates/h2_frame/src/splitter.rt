@@ -10,6 +10,7 @@ ghost use Rattle.h2_spec.specs.Frame.{next, preface};
 ghost use Rattle.h2_frame.specs.Items.{item_of, ends_items, found_in, found, item_in, next_in, rest_after};
 ghost use Rattle.h2_frame.specs.contracts.splitter.Splitter.{the_row};
 
+use crate::cuts::{octets_from, octets_up_to};
 use crate::head::{FrameRef, first_head};
 use h2_spec::frames::Head;
 use std::alloc::{AllocError, Allocator};
@@ -128,20 +129,6 @@ impl Item<'_> {
             Item::BadPreface | Item::Oversize(_) => true,
         }
     }
-}
-
-fn octets_from(octets: &[u8], start: usize) -> &[u8]
-    requires { start ≤ length octets.now }
-    ensures { result.now ≡ drop start octets.now }
-{
-    &octets[start..]
-}
-
-fn octets_up_to(octets: &[u8], end: usize) -> &[u8]
-    requires { end ≤ length octets.now }
-    ensures { result.now ≡ take end octets.now }
-{
-    &octets[..end]
 }
 
 /// The item that the octets begin with, if there is a whole one, and how many octets it takes.

@@ -3,13 +3,10 @@ use Rattle.std.specs.Prelude.{ℕ, ◌+◌, ◌-◌, ◌*◌, ◌%◌, Bool, tru
 use Rattle.h2_spec.specs.declared.frames.FrameType.{FrameType}
 use Rattle.h2_spec.specs.declared.frames.FrameType.TheVariants.{Data, Headers, Priority, RstStream, Settings, PushPromise, Ping, Goaway, WindowUpdate, Continuation, Unknown}
 use Rattle.h2_spec.specs.declared.frames.Head.{Head}
+pub use Rattle.h2_spec.specs.declared.frames.PayloadFault.{PayloadFault}
+pub use Rattle.h2_spec.specs.declared.frames.PayloadFault.TheVariants.{SizeFault, PadFault}
 use Rattle.h2_spec.specs.FrameType.{frame_type, has, PADDED, WITH_PRIORITY, ACK}
 use Rattle.h2_spec.specs.Octets.{four_octets, low_31_bits}
-
--- a payload of a length that its type does not allow, or more padding than there are octets
-pub data PayloadFault : Type 0 where
-  SizeFault : PayloadFault
-  PadFault : PayloadFault
 
 -- DATA: the length of the padding if it is given, the content, the padding (6.1)
 pub record DataPart : Type 0 where

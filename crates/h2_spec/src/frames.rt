@@ -4,6 +4,8 @@
 ghost use Rattle.std.specs.Prelude.{◌≡◌, ◌<◌};
 ghost use Rattle.h2_spec.specs.FrameType.{frame_type, type_number, has};
 
+use thiserror::Error;
+
 /// The stream has ended on the sender's side: DATA, HEADERS (RFC 9113, 6.1 and 6.2).
 pub const END_STREAM: u8 = 0x1;
 /// An acknowledgement: SETTINGS, PING (RFC 9113, 6.5 and 6.7).
@@ -101,4 +103,15 @@ impl Head {
     {
         self.flags / flag % 2 == 1
     }
+}
+
+/// Why a payload is refused, each a connection error (RFC 9113, 4.2 and 6.1).
+#[derive(Clone, Copy, Debug, PartialEq, Eq, Error)]
+pub enum PayloadFault {
+    /// Its length is not one that its type allows: FRAME_SIZE_ERROR.
+    #[error("a payload of a length that its type does not allow")]
+    SizeFault,
+    /// More padding than there is room for: PROTOCOL_ERROR.
+    #[error("more padding than the payload has room for")]
+    PadFault,
 }

@@ -1,0 +1,291 @@
+//! What the payload of a frame holds, by its type, borrowed from it (RFC 9113, 6).
+//! Rests on `head`; definitions: `h2_spec/specs/Payload.antt`.
+
+ghost use Rattle.std.specs.Prelude.{◌≡◌, ℕ, ◌+◌, ◌-◌, ◌*◌, ◌%◌, ◌≤◌, ◌<◌, List, length, take, drop, slice_get, nat_lt, ◌==◌, if◌then◌else◌, Some, Ok, Err};
+ghost use Rattle.h2_spec.specs.FrameType.{DATA, HEADERS, RST_STREAM, SETTINGS, GOAWAY, WINDOW_UPDATE, ACK, PADDED, has};
+ghost use Rattle.h2_spec.specs.Octets.{four_octets};
+ghost use Rattle.h2_spec.specs.Payload as spec;
+ghost use Rattle.h2_spec.specs.Payload.{octets_if, fixed_len, pad_or_0, pad_length, priority_of, setting_pairs, data_part, headers_part, settings_part, window_part, goaway_part, reset_part, with_part, settings_or_ack};
+ghost use Rattle.h2_spec.specs.declared.frames.PayloadFault.TheVariants.{SizeFault, PadFault};
+ghost use Rattle.h2_frame.specs.Parts.{both_seen, cut_between, data_seen, headers_seen, settings_in, part_seen, seen};
+
+use crate::cuts::{octets_from, octets_up_to, u16_at, u31_at, u32_at};
+use crate::head::FrameRef;
+use h2_spec::frames::{ACK, FrameType, PADDED, PRIORITY, PayloadFault};
+
+/// What DATA holds (RFC 9113, 6.1).
+#[derive(Clone, Copy, Debug, PartialEq, Eq)]
+pub struct DataPart<'a> {
+    /// The length of the padding, if the frame is padded.
+    pub pad: Option<u8>,
+    pub content: &'a [u8],
+    pub padding: &'a [u8],
+}
+
+/// What HEADERS hold (RFC 9113, 6.2).
+#[derive(Clone, Copy, Debug, PartialEq, Eq)]
+pub struct HeadersPart<'a> {
+    /// The length of the padding, if the frame is padded.
+    pub pad: Option<u8>,
+    /// The 32 bits of the dependency, the exclusive bit first, and the weight, if the frame has them.
+    pub priority: Option<(u32, u8)>,
+    /// A fragment of a field block.
+    pub fragment: &'a [u8],
+    pub padding: &'a [u8],
+}
+
+/// The settings of a SETTINGS frame in their order, six octets each (RFC 9113, 6.5.1).
+#[derive(Clone, Copy, Debug, PartialEq, Eq)]
+pub struct SettingsPart<'a> {
+    octets: &'a [u8],
+}
+
+impl SettingsPart<'_> {
+    /// How many settings there are.
+    #[tactic(auto, using(crate::proofs::Pairs::counted))]
+    pub fn count(self) -> usize
+        ensures { result ≡ length (settings_in self.entry) }
+    {
+        self.octets.len() / 6
+    }
+
+    /// The identifier and the value of the setting at a place below `count`, from 0.
+    #[tactic(auto, using(crate::proofs::Pairs::found))]
+    pub fn pair(self, place: usize) -> (u16, u32)
+        requires { place < length (settings_in self) }
+        ensures { slice_get (settings_in self.entry) place ≡ Some result }
+    {
+        let octets = octets_from(self.octets, 6 * place);
+        (u16_at(octets, 0), u32_at(octets, 2))
+    }
+}
+
+/// What DATA holds (RFC 9113, 6.1).
+///
+/// `SizeFault` where the length of the padding is missing, then `PadFault` where the padding is longer than what follows.
+#[tactic(auto, unfolding(h2_spec::specs::Payload::data_part))]
+pub fn data_of(frame: FrameRef<'_>) -> Result<DataPart<'_>, PayloadFault>
+    requires { frame.head.kind ≡ DATA }
+    ensures { seen data_seen result ≡ data_part frame.entry.head.flags frame.entry.payload.now }
+{
+    let fixed = octets_if(frame.head.has(PADDED), 1);
+    if frame.payload.len() < fixed {
+        return Err(PayloadFault::SizeFault);
+    }
+    let pad = pad_length(frame);
+    let (content, padding) = unpadded(frame.payload, fixed, pad)?;
+    Ok(DataPart {
+        pad,
+        content,
+        padding,
+    })
+}
+
+/// What HEADERS hold (RFC 9113, 6.2).
+///
+/// `SizeFault` where the length of the padding, the dependency or the weight is missing, then `PadFault` where the padding is
+/// longer than what follows them.
+#[tactic(auto, unfolding(h2_spec::specs::Payload::headers_part))]
+pub fn headers_of(frame: FrameRef<'_>) -> Result<HeadersPart<'_>, PayloadFault>
+    requires { frame.head.kind ≡ HEADERS }
+    ensures { seen headers_seen result ≡ headers_part frame.entry.head.flags frame.entry.payload.now }
+{
+    let pad_octets = octets_if(frame.head.has(PADDED), 1);
+    let fixed = pad_octets + octets_if(frame.head.has(PRIORITY), 5);
+    if frame.payload.len() < fixed {
+        return Err(PayloadFault::SizeFault);
+    }
+    let pad = pad_length(frame);
+    let priority = priority_of(frame, pad_octets);
+    let (fragment, padding) = unpadded(frame.payload, fixed, pad)?;
+    Ok(HeadersPart {
+        pad,
+        priority,
+        fragment,
+        padding,
+    })
+}
+
+/// This many octets, where the flag is set.
+fn octets_if(flag: bool, count: usize) -> usize
+    ensures { result ≡ octets_if flag count }
+{
+    if flag { count } else { 0 }
+}
+
+/// The length of the padding, if the frame is padded.
+fn pad_length(frame: FrameRef<'_>) -> Option<u8>
+    requires { octets_if (has frame.head.flags PADDED) 1 ≤ length frame.payload.now }
+    ensures { result ≡ pad_length frame.entry.head.flags frame.entry.payload.now }
+{
+    if frame.head.has(PADDED) {
+        Some(frame.payload[0])
+    } else {
+        None
+    }
+}
+
+/// The 32 bits of the dependency and the weight from a place on, if the frame has them.
+fn priority_of(frame: FrameRef<'_>, start: usize) -> Option<(u32, u8)>
+    requires place { start ≡ octets_if (has frame.head.flags PADDED) 1 }
+    requires fits { fixed_len frame.head.flags ≤ length frame.payload.now }
+    ensures { result ≡ priority_of frame.entry.head.flags frame.entry.payload.now }
+{
+    if frame.head.has(PRIORITY) {
+        Some((u32_at(frame.payload, start), frame.payload[start + 4]))
+    } else {
+        None
+    }
+}
+
+/// The octets between the fixed ones in front and the padding, and the padding; `PadFault` where they overlap.
+fn unpadded(octets: &[u8], fixed: usize, pad: Option<u8>) -> Result<(&[u8], &[u8]), PayloadFault>
+    requires { fixed ≤ length octets.now }
+    ensures { seen both_seen result ≡ cut_between fixed (pad_or_0 pad) octets.now }
+{
+    let pad = usize::from(pad.unwrap_or(0));
+    if octets.len() - fixed < pad {
+        return Err(PayloadFault::PadFault);
+    }
+    let end = octets.len() - pad;
+    let content = octets_up_to(octets_from(octets, fixed), end - fixed);
+    Ok((content, octets_from(octets, end)))
+}
+
+/// The settings of a SETTINGS frame, none in an acknowledgement (RFC 9113, 6.5).
+///
+/// `SizeFault` where the length is no multiple of 6, or not 0 in an acknowledgement.
+#[tactic(auto, unfolding(h2_spec::specs::Payload::settings_part))]
+pub fn settings_of(frame: FrameRef<'_>) -> Result<SettingsPart<'_>, PayloadFault>
+    requires { frame.head.kind ≡ SETTINGS }
+    ensures { seen settings_in result ≡ settings_part frame.entry.head.flags frame.entry.payload.now }
+{
+    let fits = if frame.head.has(ACK) {
+        frame.payload.is_empty()
+    } else {
+        frame.payload.len() % 6 == 0
+    };
+    if !fits {
+        return Err(PayloadFault::SizeFault);
+    }
+    Ok(SettingsPart {
+        octets: frame.payload,
+    })
+}
+
+/// The increment of a WINDOW_UPDATE frame, below 2^31; 0 is not refused here (RFC 9113, 6.9).
+///
+/// `SizeFault` where the payload is not 4 octets.
+#[tactic(auto, unfolding(h2_spec::specs::Payload::window_part))]
+pub fn window_of(frame: FrameRef<'_>) -> Result<u32, PayloadFault>
+    requires { frame.head.kind ≡ WINDOW_UPDATE }
+    ensures { result ≡ window_part frame.entry.payload.now }
+{
+    if frame.payload.len() != 4 {
+        return Err(PayloadFault::SizeFault);
+    }
+    Ok(u31_at(frame.payload, 0))
+}
+
+/// The last stream and the error code of a GOAWAY frame; what follows them is not looked at (RFC 9113, 6.8).
+///
+/// `SizeFault` where the payload is below 8 octets.
+#[tactic(auto, unfolding(h2_spec::specs::Payload::goaway_part))]
+pub fn goaway_of(frame: FrameRef<'_>) -> Result<(u32, u32), PayloadFault>
+    requires { frame.head.kind ≡ GOAWAY }
+    ensures { result ≡ goaway_part frame.entry.payload.now }
+{
+    if frame.payload.len() < 8 {
+        return Err(PayloadFault::SizeFault);
+    }
+    Ok((u31_at(frame.payload, 0), u32_at(frame.payload, 4)))
+}
+
+/// The error code of a RST_STREAM frame (RFC 9113, 6.4).
+///
+/// `SizeFault` where the payload is not 4 octets.
+#[tactic(auto, unfolding(h2_spec::specs::Payload::reset_part))]
+pub fn reset_of(frame: FrameRef<'_>) -> Result<u32, PayloadFault>
+    requires { frame.head.kind ≡ RST_STREAM }
+    ensures { result ≡ reset_part frame.entry.payload.now }
+{
+    if frame.payload.len() != 4 {
+        return Err(PayloadFault::SizeFault);
+    }
+    Ok(u32_at(frame.payload, 0))
+}
+
+/// What a payload holds, by the frame's type (RFC 9113, 6).
+#[derive(Clone, Copy, Debug, PartialEq, Eq)]
+pub enum Part<'a> {
+    Data(DataPart<'a>),
+    Headers(HeadersPart<'a>),
+    /// A dependency and a weight, which are not looked at.
+    Priority,
+    /// The error code.
+    RstStream(u32),
+    Settings(SettingsPart<'a>),
+    SettingsAck,
+    /// Not looked at, since a client may not send it.
+    PushPromise,
+    /// Eight octets.
+    Ping(&'a [u8]),
+    /// The last stream and the error code.
+    Goaway(u32, u32),
+    /// The increment.
+    WindowUpdate(u32),
+    /// A fragment of a field block.
+    Continuation(&'a [u8]),
+    /// Ignored (RFC 9113, 4.1).
+    Unknown,
+}
+
+/// What a frame's payload holds, by the frame's type; the refusals are those of the readers above, and PRIORITY has 5 octets,
+/// PING 8 (RFC 9113, 6).
+#[tactic(auto, unfolding(h2_spec::specs::Payload::part_as))]
+pub fn part_of(frame: FrameRef<'_>) -> Result<Part<'_>, PayloadFault>
+    ensures { seen part_seen result ≡ spec.part_of frame.entry.head frame.entry.payload.now }
+{
+    let part = match frame.head.frame_type() {
+        FrameType::Data => Part::Data(data_of(frame)?),
+        FrameType::Headers => Part::Headers(headers_of(frame)?),
+        FrameType::Priority => {
+            octets_of_length(frame.payload, 5)?;
+            Part::Priority
+        }
+        FrameType::RstStream => Part::RstStream(reset_of(frame)?),
+        FrameType::Settings => settings_or_ack(frame)?,
+        FrameType::PushPromise => Part::PushPromise,
+        FrameType::Ping => Part::Ping(octets_of_length(frame.payload, 8)?),
+        FrameType::Goaway => {
+            let (last, code) = goaway_of(frame)?;
+            Part::Goaway(last, code)
+        }
+        FrameType::WindowUpdate => Part::WindowUpdate(window_of(frame)?),
+        FrameType::Continuation => Part::Continuation(frame.payload),
+        FrameType::Unknown(_) => Part::Unknown,
+    };
+    Ok(part)
+}
+
+/// The octets, where they are this many.
+fn octets_of_length(octets: &[u8], count: usize) -> Result<&[u8], PayloadFault>
+    ensures { seen {B = List ℕ} (λ x. x.now) result ≡ (if length octets.now == count then Ok octets.now else Err SizeFault) }
+{
+    if octets.len() != count {
+        return Err(PayloadFault::SizeFault);
+    }
+    Ok(octets)
+}
+
+/// The settings of a SETTINGS frame, or its acknowledgement.
+fn settings_or_ack(frame: FrameRef<'_>) -> Result<Part<'_>, PayloadFault>
+    requires { frame.head.kind ≡ SETTINGS }
+    ensures { seen part_seen result ≡ with_part (settings_or_ack (has frame.entry.head.flags ACK)) (settings_part frame.entry.head.flags frame.entry.payload.now) }
+{
+    let settings = settings_of(frame)?;
+    if frame.head.has(ACK) {
+        return Ok(Part::SettingsAck);
+    }
+    Ok(Part::Settings(settings))
+}
