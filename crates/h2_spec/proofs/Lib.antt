@@ -10,6 +10,7 @@ mod HuffmanRows
 pub mod InstructionLaws
 pub mod IntegerLaws
 mod IntegerRows
+mod GrantsRows
 pub mod grants
 mod LongBodies
 pub mod ParseLaws

@@ -15,6 +15,7 @@ pub mod Field
 pub mod Frame
 pub mod FrameType
 pub mod Grants
+pub mod GrantsTest
 pub mod Headers
 pub mod Huffman
 pub mod HuffmanCode
