@@ -1,0 +1,6 @@
+use Rattle.std.proofs.Common.{◌∙◌, ap, sym}
+use Rattle.h2_streams.proofs.KeptLaws.{found-id}
+use Rattle.h2_streams.proofs.records.Streams.stream_at.Goals as goal
+
+pub returns-in-Some-clause-id : goal.returns-in-Some-clause-id
+returns-in-Some-clause-id g c = found-id c.args.self.now.streams c.args.id c.in-Some.stream.now (sym c.in-Some.ensures)

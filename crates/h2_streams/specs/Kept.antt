@@ -1,0 +1,35 @@
+-- What the map and the list of live identifiers keep.
+use Rattle.std.specs.Prelude.{◌≡◌, ℕ, ◌<◌, List, [], ◌∷◌, map, ◌==◌, if◌then◌else◌}
+use Rattle.h2_spec.specs.declared.streams.Stream.{Stream}
+use Rattle.h2_spec.specs.Stream.{is_live, AreRising}
+
+abbrev pub records_of : List (ℕ × Stream) → List Stream
+records_of entries = map (λ e. e.1) entries
+
+-- each record under its identifier
+abbrev pub keyed : List Stream → List (ℕ × Stream)
+keyed streams = map (λ st. (st.id, st)) streams
+
+abbrev pub live_ids : List Stream → List ℕ
+live_ids [] = []
+live_ids (st ∷ sts) = if is_live st.kind then st.id ∷ live_ids sts else live_ids sts
+
+-- identifiers that rise above this number
+abbrev pub IdsRise : ℕ → List ℕ → Type 0
+IdsRise low [] = Unit {0}
+IdsRise low (id ∷ ids) = (low < id) × IdsRise id ids
+
+-- identifiers without this one
+abbrev pub without : ℕ → List ℕ → List ℕ
+without id [] = []
+without id (x ∷ xs) = if x == id then xs else x ∷ without id xs
+
+-- the live identifiers after a live stream has this record
+abbrev pub still_live : Stream → List ℕ → List ℕ
+still_live st ids = if is_live st.kind then ids else without st.id ids
+
+-- the entries of the map, the live identifiers and the last stream that was opened
+pub record IsKept (entries : List (ℕ × Stream)) (live : List ℕ) (last : ℕ) : Type 0 where
+  pub under_ids : entries ≡ keyed (records_of entries)
+  pub rising : AreRising 0 last (records_of entries)
+  pub live_listed : live ≡ live_ids (records_of entries)

@@ -1,0 +1,12 @@
+//! The records of a connection's streams, in the order of their opening (RFC 9113, 5.1).
+//! Rests on `h2_spec` (the types and the definitions) and on `indexmap`.
+//! What each call does to the list of records is said in `h2_spec/specs/Stream.antt`.
+#![tactic(auto)]
+
+mod hash;
+mod kinds;
+mod records;
+
+pub use h2_spec::streams::{Kind, Numbers, Pick, Stream};
+pub use kinds::{is_live, not_live, octets_waiting};
+pub use records::Streams;

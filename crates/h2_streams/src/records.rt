@@ -1,0 +1,226 @@
+//! The records: what opens, changes and ends a stream.
+//! Rests on `kinds`, `hash` and `indexmap`.
+//! Definitions: `h2_spec/specs/Stream.antt`; what the fields keep: `specs/Kept.antt`.
+
+ghost use Rattle.std.specs.Prelude.{◌≡◌, ◌<◌, ◌%◌, [], ◌∷◌, ◌++◌, nat_eq, OnOk, OnErr, IfOk, IsTrue, slice_get};
+ghost use Rattle.std.specs.Map.{set_value};
+ghost use Rattle.indexmap.specs.IndexMap.{insert_entry};
+ghost use Rattle.std.specs.Option.{option_copied};
+ghost use Rattle.h2_spec.specs.Stream as spec;
+ghost use Rattle.h2_streams.specs.Kept as kept;
+
+use std::alloc::{AllocError, Allocator};
+use std::marker::Model;
+
+use h2_spec::streams::{Kind, Numbers, Pick, Stream};
+use indexmap::IndexMap;
+
+use crate::hash::IdHash;
+use crate::kinds::{is_live, not_live};
+
+/// The records of a connection's streams.
+#[derive(Drop)]
+pub struct Streams<A: Allocator> {
+    records: IndexMap<u32, Stream, IdHash, A>,
+    /// The identifiers of the live streams, rising.
+    live: Vec<u32, A>,
+    last: u32,
+}
+
+impl<A: Allocator> Model for Streams<A> {
+    ghost use Rattle.h2_spec.specs.Stream.{Records};
+
+    ghost Value = { Records };
+
+    ghost use Rattle.h2_streams.specs.Kept.{records_of, IsKept};
+
+    ghost view = { λ s. record { streams = records_of s.records.entries; last = s.last } };
+
+    ghost invariant = { λ s. IsKept s.records.entries s.live.items s.last };
+}
+
+impl<A: Allocator + Copy> Streams<A> {
+    /// No stream is open yet. Takes no memory.
+    pub fn new(alloc: A) -> Self
+        ensures { result ≡ spec.no_records }
+    {
+        Streams {
+            records: IndexMap::with_hasher(alloc, IdHash),
+            live: Vec::new(alloc),
+            last: 0,
+        }
+    }
+}
+
+impl<A: Allocator> Streams<A> {
+    /// The last stream that was opened, 0 before the first.
+    pub fn last(&self) -> u32
+        ensures value { result ≡ self.now.last }
+        ensures rising { spec.AreRising 0 self.now.last self.now.streams }
+    {
+        self.last
+    }
+
+    /// The record of the stream, if it has one.
+    pub fn get(&self, id: u32) -> Option<&Stream>
+        ensures { option_copied result ≡ spec.record_of self.now.streams id }
+    {
+        self.records.get(&id)
+    }
+
+    /// The i-th record in the order of opening, from 0.
+    pub fn at(&self, i: usize) -> Option<&Stream>
+        ensures { option_copied result ≡ slice_get self.now.streams i }
+    {
+        let (_, stream) = self.records.get_index(i)?;
+        Some(stream)
+    }
+
+    /// The number of live streams.
+    pub fn live_count(&self) -> usize
+        ensures { result ≡ spec.live_count self.now.streams }
+    {
+        self.live.as_slice().len()
+    }
+
+    /// The stream with this identifier: its record, or, where it has none, `Idle` or `Skipped` without numbers.
+    #[tactic(auto, unfolding(h2_spec::specs::Stream::stream_at))]
+    pub fn stream_at(&self, id: u32) -> Stream
+        ensures value { result ≡ spec.stream_at self.now.last self.now.streams id }
+        ensures id { result.id ≡ id }
+    {
+        if id % 2 == 0 || self.last() < id {
+            return not_live(id, Kind::Idle);
+        }
+        match self.get(id) {
+            None => not_live(id, Kind::Skipped),
+            Some(stream) => *stream,
+        }
+    }
+
+    /// The state of the stream (RFC 9113, 5.1): even identifiers and those above `last` are idle.
+    pub fn kind(&self, id: u32) -> Kind
+        ensures { result ≡ spec.kind_of self.now.last self.now.streams id }
+    {
+        self.stream_at(id).kind
+    }
+
+    /// Opens the stream at the end of its request's block, which may end the peer's side.
+    /// `Err` leaves the records as they were.
+    pub fn open_stream(
+        &mut self,
+        id: u32,
+        numbers: Numbers,
+        pick: Pick,
+        ends: bool,
+    ) -> Result<(), AllocError>
+        requires odd { id % 2 ≡ 1 }
+        requires above { self.old.last < id }
+        ensures ok { OnOk result (self.new ≡ spec.added (spec.requested id numbers pick ends) self.old) }
+        ensures err { OnErr result (self.new ≡ self.old) }
+    {
+        let kind = if ends {
+            Kind::HalfRemote
+        } else {
+            Kind::BothOpen
+        };
+        self.add(Stream {
+            id,
+            kind,
+            numbers,
+            pick,
+        })
+    }
+
+    /// Records the stream as reset by the server, as one that it refuses.
+    /// `Err` leaves the records as they were.
+    pub fn open_reset(&mut self, id: u32) -> Result<(), AllocError>
+        requires odd { id % 2 ≡ 1 }
+        requires above { self.old.last < id }
+        ensures ok { OnOk result (self.new ≡ spec.added (spec.not_live id Kind.WeReset) self.old) }
+        ensures err { OnErr result (self.new ≡ self.old) }
+    {
+        self.add(not_live(id, Kind::WeReset))
+    }
+
+    /// Gives a live stream these numbers.
+    pub fn set(&mut self, id: u32, numbers: Numbers)
+        requires { IsTrue (spec.is_live (spec.kind_of self.old.last self.old.streams id)) }
+        ensures { self.new ≡ spec.changed id (spec.with_numbers numbers) self.old }
+    {
+        let stream = self.stream_at(id);
+        self.replace(Stream { numbers, ..stream });
+    }
+
+    /// Records a stream above all others.
+    fn add(&mut self, stream: Stream) -> Result<(), AllocError>
+        requires odd { stream.id % 2 ≡ 1 }
+        requires above { self.old.last < stream.id }
+        ensures ok { OnOk result (self.new ≡ spec.added stream self.old) }
+        ensures err { OnErr result (self.new ≡ self.old) }
+    {
+        let id = stream.id;
+        append(&mut self.records, &mut self.live, stream)?;
+        self.last = id;
+        Ok(())
+    }
+
+    /// Puts the record of a live stream in the place of its old one.
+    fn replace(&mut self, stream: Stream)
+        requires { IsTrue (spec.is_live (spec.kind_of self.old.last self.old.streams stream.id)) }
+        ensures { self.new ≡ record self.old { streams = spec.put stream self.old.streams } }
+    {
+        drop_ended(&mut self.live, &stream);
+        write(&mut self.records, stream);
+    }
+}
+
+/// Appends a record, and its identifier where it is live. An `Err` leaves both as they were.
+fn append<A: Allocator>(
+    records: &mut IndexMap<u32, Stream, IdHash, A>,
+    live: &mut Vec<u32, A>,
+    stream: Stream,
+) -> Result<(), AllocError>
+    ensures entries { OnOk result (records.new.entries ≡ insert_entry nat_eq records.old.entries stream.id stream) }
+    ensures live { OnOk result (live.new.items ≡ live.old.items ++ kept.live_ids (stream ∷ [])) }
+    ensures err { OnErr result ((records.new.entries ≡ records.old.entries) × (live.new.items ≡ live.old.items)) }
+{
+    let id = stream.id;
+    if is_live(stream.kind) {
+        live.reserve(1)?;
+        records.insert(id, stream)?;
+        live.push_reserved(id);
+    } else {
+        records.insert(id, stream)?;
+    }
+    Ok(())
+}
+
+/// Writes a record in the place of the one with its identifier, if there is one.
+fn write<A: Allocator>(records: &mut IndexMap<u32, Stream, IdHash, A>, stream: Stream)
+    ensures { records.new.entries ≡ set_value (nat_eq stream.id) records.old.entries stream }
+{
+    if let Some(record) = records.get_mut(&stream.id) {
+        *record = stream;
+    }
+}
+
+/// Takes the identifier of a stream that has ended out of the rising list.
+fn drop_ended<A: Allocator>(live: &mut Vec<u32, A>, stream: &Stream)
+    requires { kept.IdsRise 0 live.old.items }
+    ensures { live.new.items ≡ kept.still_live stream.now live.old.items }
+{
+    if !is_live(stream.kind) {
+        remove_id(live, stream.id);
+    }
+}
+
+/// Takes an identifier out of a rising list.
+fn remove_id<A: Allocator>(live: &mut Vec<u32, A>, id: u32)
+    requires { kept.IdsRise 0 live.old.items }
+    ensures { live.new.items ≡ kept.without id live.old.items }
+{
+    if let Ok(place) = live.binary_search(&id) {
+        live.remove(place);
+    }
+}
