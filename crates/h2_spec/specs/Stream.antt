@@ -125,10 +125,13 @@ peer_closed_as WeReset st = st
 abbrev pub peer_closed : Stream → Stream
 peer_closed st = peer_closed_as st.kind st
 
--- a stream after RST_STREAM, which the peer or the server sent (6.4)
+-- the state after RST_STREAM, which the peer or the server sent (6.4)
+abbrev pub reset_kind : Bool → Kind
+reset_kind true = PeerReset
+reset_kind false = WeReset
+
 abbrev pub reset_as : Bool → Stream → Stream
-reset_as true st = not_live st.id PeerReset
-reset_as false st = not_live st.id WeReset
+reset_as by_peer st = not_live st.id (reset_kind by_peer)
 
 -- a stream above all others opens
 abbrev pub added : Stream → Records → Records
@@ -141,6 +144,10 @@ changed id f r = record r { streams = put (f (stream_at r.last r.streams id)) r.
 -- a record is put, perhaps of a stream above all others
 abbrev pub with_record : Stream → Records → Records
 with_record st r = record { streams = put st r.streams; last = max r.last st.id }
+
+-- whether a record can be put: of a client's stream above the others, or of a live one
+abbrev pub CanPut : Stream → Records → Type 0
+CanPut st r = (r.last < st.id → st.id % 2 ≡ 1) × (st.id ≤ r.last → is_live (kind_of r.last r.streams st.id) ≡ true)
 
 -- a stream above this one that has octets to send
 abbrev pub waits_above : ℕ → Stream → Bool

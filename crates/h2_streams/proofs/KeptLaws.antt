@@ -1,15 +1,16 @@
 -- Laws of the records and of the live identifiers.
-use Rattle.std.proofs.Common.{◌≡◌, ℕ, zero, suc, ◌+◌, ◌%◌, ◌<◌, ◌≤◌, Bool, true, false, cond, eqb, nat_eq, nat_lt, List, [], ◌∷◌, ◌++◌, length, map, take, drop, get_or, remove, count_by, Some, None, Option, Err, nat_cmp, refl, ap, ◌∙◌, sym, arith, subst, true≢false}
+use Rattle.std.proofs.Common.{◌≡◌, ℕ, zero, suc, ◌+◌, ◌%◌, ◌<◌, ◌≤◌, Bool, true, false, cond, eqb, nat_eq, nat_lt, leb, List, [], ◌∷◌, ◌++◌, length, map, take, drop, get_or, remove, max, count_by, Some, None, Option, Err, nat_cmp, refl, ap, ◌∙◌, sym, arith, subst, true≢false}
 use Rattle.std.proofs.lemmas.Bool.Decides.{nat_tests}
 use Rattle.std.proofs.lemmas.List.Recursion.{is_count_by}
 use Rattle.std.proofs.lemmas.List.Sorted.{searched}
+use Rattle.std.specs.List.{AllWithin}
 use Rattle.std.specs.List.Sorted.{IsBinarySearchResult}
 use Rattle.std.specs.Map.{lookup, set_value}
 use Rattle.indexmap.specs.IndexMap.{insert_entry}
 use Rattle.h2_spec.specs.declared.streams.Stream.{Stream}
-use Rattle.h2_spec.specs.Stream.{is_live, is_id, record_of, put, live_count, AreRising, stream_at, kind_of, recorded, not_live}
+use Rattle.h2_spec.specs.Stream.{is_live, is_id, record_of, put, live_count, Records, added, with_record, AreRising, stream_at, kind_of, recorded, not_live}
 use Rattle.h2_spec.specs.declared.streams.Kind.TheVariants.{Idle}
-use Rattle.h2_streams.specs.Kept.{records_of, keyed, live_ids, IdsRise, without, still_live, IsKept}
+use Rattle.h2_streams.specs.Kept.{records_of, keyed, live_ids, IdsRise, without, still_live, above, IsKept}
 
 eqb_comm : (a b : ℕ) → eqb a b ≡ eqb b a
 eqb_comm a b = grind (arith, nat_tests)
@@ -17,7 +18,7 @@ eqb_comm a b = grind (arith, nat_tests)
 eqb-same : (a b : ℕ) → eqb a b ≡ true → a ≡ b
 eqb-same a b h = grind (arith, nat_tests, h)
 
-eqb-refl : (a b : ℕ) → a ≡ b → eqb a b ≡ true
+pub eqb-refl : (a b : ℕ) → a ≡ b → eqb a b ≡ true
 eqb-refl a b h = grind (arith, nat_tests, h)
 
 pub records_of-keyed : (rs : List Stream) → records_of (keyed rs) ≡ rs
@@ -222,3 +223,30 @@ kept-put es live last st old kept found alive =
     let rs = records_of es in
     kept-keyed _ _ last (put st rs) (written es live last st old kept found) (rising-put 0 last rs st old kept.rising found)
       (ap (still_live st) kept.live_listed ∙ sym (live_ids-put rs st old found alive))
+
+-- a record of a stream above the others goes last, and is then the last that was opened
+pub added-is-put : (st : Stream) (r : Records) → AreRising 0 r.last r.streams → r.last < st.id → added st r ≡ with_record st r
+added-is-put st r h l =
+    let top : st.id ≡ max r.last st.id = omega arith in
+    let streams = sym (put-new 0 r.last r.streams st h l) in
+    ap (λ (xs : List Stream). let s : Records = record { streams = xs; last = st.id } in s) streams ∙ ap (λ n. let s : Records = record { streams = put st r.streams; last = n } in s) top
+
+-- a live stream's record has its identifier
+pub live-id : (last : ℕ) (rs : List Stream) (id : ℕ) → is_live (kind_of last rs id) ≡ true → (stream_at last rs id).id ≡ id
+unfolding stream_at
+live-id last rs id h = by_test (eqb (id % 2) 0) (nat_lt last id) (record_of rs id) (found-id rs id) where
+  by_test : (a b : Bool) (o : Option Stream) → ((st : Stream) → o ≡ Some st → st.id ≡ id) → (cond a (not_live id Idle) (cond b (not_live id Idle) (recorded id o))).id ≡ id
+  by_test true b o f = refl
+  by_test false true o f = refl
+  by_test false false None f = refl
+  by_test false false (Some st) f = f st refl
+
+-- what lies from the point of a search on is above the number
+pub above-point : (ids : List ℕ) (k after : ℕ) → k ≤ length ids → AllWithin (λ y. leb y after ≡ true) ids 0 k → AllWithin (λ y. leb y after ≡ false) ids k (length ids) → drop k ids ≡ above after ids
+above-point [] k after le below from = let none : k ≡ 0 = omega arith in rw none refl
+above-point (x ∷ xs) zero after le below from =
+    let over : nat_lt after x ≡ true = let f = from 0 0 (omega arith) (omega arith) in grind (arith, nat_tests, f) in
+    rw over refl
+above-point (x ∷ xs) (suc k) after le below from =
+    let under : nat_lt after x ≡ false = let b = below 0 0 (omega arith) (omega arith) in grind (arith, nat_tests, b) in
+    rw under (above-point xs k after (omega arith) (λ i d a b. below (suc i) d (omega arith) (omega arith)) (λ i d a b. from (suc i) d (omega arith) (omega arith)))

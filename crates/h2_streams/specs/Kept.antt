@@ -1,7 +1,9 @@
 -- What the map and the list of live identifiers keep.
-use Rattle.std.specs.Prelude.{◌≡◌, ℕ, ◌<◌, List, [], ◌∷◌, map, ◌==◌, if◌then◌else◌}
+use Rattle.std.specs.Prelude.{◌≡◌, ℕ, ◌<◌, Bool, false, List, [], ◌∷◌, map, nat_eq, nat_lt, ◌==◌, if◌then◌else◌}
+use Rattle.std.specs.Map.{lookup}
+use Rattle.std.specs.Option.{option_map_or}
 use Rattle.h2_spec.specs.declared.streams.Stream.{Stream}
-use Rattle.h2_spec.specs.Stream.{is_live, AreRising}
+use Rattle.h2_spec.specs.Stream.{is_live, octets_waiting, AreRising}
 
 abbrev pub records_of : List (ℕ × Stream) → List Stream
 records_of entries = map (λ e. e.1) entries
@@ -33,3 +35,15 @@ pub record IsKept (entries : List (ℕ × Stream)) (live : List ℕ) (last : ℕ
   pub under_ids : entries ≡ keyed (records_of entries)
   pub rising : AreRising 0 last (records_of entries)
   pub live_listed : live ≡ live_ids (records_of entries)
+
+-- identifiers that rise, from the first above this number on
+abbrev pub above : ℕ → List ℕ → List ℕ
+above after [] = []
+above after (x ∷ xs) = if nat_lt after x then x ∷ xs else above after xs
+
+-- whether the record with this identifier passes a test
+abbrev pub passes_at : (Stream → Bool) → List (ℕ × Stream) → ℕ → Bool
+passes_at test entries id = option_map_or test (lookup (nat_eq id) entries) false
+
+abbrev pub waits : Stream → Bool
+waits st = nat_lt 0 (octets_waiting st)

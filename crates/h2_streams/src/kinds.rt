@@ -2,14 +2,15 @@
 //! Rests on the types of `h2_spec`; definitions: its `specs/Stream.antt`.
 
 ghost use Rattle.std.specs.Prelude.{◌≡◌};
-ghost use Rattle.h2_spec.specs.Stream as stream;
+ghost use Rattle.h2_spec.specs.Stream as spec;
+ghost use Rattle.h2_spec.specs.Ends as ends;
 
 use h2_spec::flow::{Credit, Window};
 use h2_spec::streams::{Kind, Numbers, Pick, Stream};
 
 /// Whether one side of the stream or both are open.
 pub fn is_live(kind: Kind) -> bool
-    ensures { result ≡ stream.is_live kind }
+    ensures { result ≡ spec.is_live kind }
 {
     match kind {
         Kind::BothOpen | Kind::HalfRemote | Kind::HalfLocal => true,
@@ -19,18 +20,18 @@ pub fn is_live(kind: Kind) -> bool
 
 /// The octets of its answer that a stream still has to send: 0 where it is not live or nothing waits.
 #[tactic(auto, unfolding(h2_spec::specs::Stream::octets_waiting))]
-pub fn octets_waiting(record: &Stream) -> u64
-    ensures { result ≡ stream.octets_waiting record.now }
+pub fn octets_waiting(stream: &Stream) -> u64
+    ensures { result ≡ spec.octets_waiting stream.now }
 {
-    match record.numbers.left {
-        Some(octets) if is_live(record.kind) => octets,
+    match stream.numbers.left {
+        Some(octets) if is_live(stream.kind) => octets,
         _ => 0,
     }
 }
 
 /// A stream that is not live: its identifier and its state alone.
 pub fn not_live(id: u32, kind: Kind) -> Stream
-    ensures { result ≡ stream.not_live id kind }
+    ensures { result ≡ spec.not_live id kind }
 {
     Stream {
         id,
@@ -44,5 +45,53 @@ pub fn not_live(id: u32, kind: Kind) -> Stream
             left: None,
         },
         pick: Pick::NotFound,
+    }
+}
+
+/// The stream after the peer's last frame.
+pub(crate) fn peer_closed(stream: Stream) -> Stream
+    ensures { result ≡ spec.peer_closed stream }
+{
+    match stream.kind {
+        Kind::BothOpen => Stream {
+            kind: Kind::HalfRemote,
+            ..stream
+        },
+        Kind::HalfLocal => not_live(stream.id, Kind::Ended),
+        _ => stream,
+    }
+}
+
+/// The stream after the server's last frame.
+#[tactic(auto, unfolding(h2_spec::specs::Ends::server_ended))]
+pub(crate) fn server_closed(stream: Stream) -> Stream
+    ensures value { result ≡ ends.server_ended stream }
+    ensures id { result.id ≡ stream.id }
+{
+    match stream.kind {
+        Kind::BothOpen => {
+            let numbers = Numbers {
+                left: None,
+                ..stream.numbers
+            };
+            Stream {
+                kind: Kind::HalfLocal,
+                numbers,
+                ..stream
+            }
+        }
+        Kind::HalfRemote => not_live(stream.id, Kind::Ended),
+        _ => stream,
+    }
+}
+
+/// The state after RST_STREAM, from the peer or from the server.
+pub(crate) fn reset_kind(by_peer: bool) -> Kind
+    ensures { result ≡ spec.reset_kind by_peer }
+{
+    if by_peer {
+        Kind::PeerReset
+    } else {
+        Kind::WeReset
     }
 }

@@ -2,11 +2,12 @@
 //! Rests on `kinds`, `hash` and `indexmap`.
 //! Definitions: `h2_spec/specs/Stream.antt`; what the fields keep: `specs/Kept.antt`.
 
-ghost use Rattle.std.specs.Prelude.{◌≡◌, ◌<◌, ◌%◌, [], ◌∷◌, ◌++◌, nat_eq, OnOk, OnErr, IfOk, IsTrue, slice_get};
+ghost use Rattle.std.specs.Prelude.{◌≡◌, ◌<◌, ◌≤◌, ◌%◌, [], ◌∷◌, ◌++◌, nat_eq, find, IsOk, OnOk, OnErr, IfOk, IsTrue, slice_get};
 ghost use Rattle.std.specs.Map.{set_value};
 ghost use Rattle.indexmap.specs.IndexMap.{insert_entry};
 ghost use Rattle.std.specs.Option.{option_copied};
 ghost use Rattle.h2_spec.specs.Stream as spec;
+ghost use Rattle.h2_spec.specs.Ends as ends;
 ghost use Rattle.h2_streams.specs.Kept as kept;
 
 use std::alloc::{AllocError, Allocator};
@@ -16,7 +17,7 @@ use h2_spec::streams::{Kind, Numbers, Pick, Stream};
 use indexmap::IndexMap;
 
 use crate::hash::IdHash;
-use crate::kinds::{is_live, not_live};
+use crate::kinds::{is_live, not_live, octets_waiting, peer_closed, reset_kind, server_closed};
 
 /// The records of a connection's streams.
 #[derive(Drop)]
@@ -152,6 +153,54 @@ impl<A: Allocator> Streams<A> {
         self.replace(Stream { numbers, ..stream });
     }
 
+    /// The peer's side ends: a stream that was open on both sides is half-closed then, a half-closed one has ended.
+    pub fn end_remote(&mut self, id: u32)
+        requires { IsTrue (spec.is_peer_open (spec.kind_of self.old.last self.old.streams id)) }
+        ensures { self.new ≡ spec.changed id spec.peer_closed self.old }
+    {
+        let stream = self.stream_at(id);
+        self.replace(peer_closed(stream));
+    }
+
+    /// The server's side ends: nothing of its answer is left to send, and a half-closed stream has ended.
+    pub fn end_local(&mut self, id: u32)
+        requires { IsTrue (spec.is_server_open (spec.kind_of self.old.last self.old.streams id)) }
+        ensures { self.new ≡ spec.changed id ends.server_ended self.old }
+    {
+        let stream = self.stream_at(id);
+        self.replace(server_closed(stream));
+    }
+
+    /// RST_STREAM ends a live stream, from the peer or from the server (RFC 9113, 6.4).
+    pub fn reset(&mut self, id: u32, by_peer: bool)
+        requires { IsTrue (spec.is_live (spec.kind_of self.old.last self.old.streams id)) }
+        ensures { self.new ≡ spec.changed id (spec.reset_as by_peer) self.old }
+    {
+        self.replace(not_live(id, reset_kind(by_peer)));
+    }
+
+    /// Puts a record: in the place of the one of the same live stream, or behind all, of a stream above them.
+    /// Only a new record takes memory; `Err` leaves the records as they were.
+    pub fn put(&mut self, stream: Stream) -> Result<(), AllocError>
+        requires { spec.CanPut stream self.old }
+        ensures ok { OnOk result (self.new ≡ spec.with_record stream self.old) }
+        ensures err { OnErr result (self.new ≡ self.old) }
+        ensures known { stream.id ≤ self.old.last → IsOk result }
+    {
+        if self.last() < stream.id {
+            return self.add(stream);
+        }
+        self.replace(stream);
+        Ok(())
+    }
+
+    /// The first live stream above this one that has octets to send, if there is one.
+    pub fn next_waiting(&self, after: u32) -> Option<u32>
+        ensures first { result ≡ spec.next_waiting after self.now.streams }
+    {
+        first_waiting(&self.records, ids_above(self.live.as_slice(), after))
+    }
+
     /// Records a stream above all others.
     fn add(&mut self, stream: Stream) -> Result<(), AllocError>
         requires odd { stream.id % 2 ≡ 1 }
@@ -222,5 +271,39 @@ fn remove_id<A: Allocator>(live: &mut Vec<u32, A>, id: u32)
 {
     if let Ok(place) = live.binary_search(&id) {
         live.remove(place);
+    }
+}
+
+/// The part of a rising list that lies above this identifier.
+fn ids_above(ids: &[u32], after: u32) -> &[u32]
+    requires { kept.IdsRise 0 ids.now }
+    ensures { result.now ≡ kept.above after ids.now }
+{
+    let start = ids.partition_point(|id| *id <= after);
+    &ids[start..]
+}
+
+/// The first of these streams that has octets to send.
+fn first_waiting<A: Allocator>(
+    records: &IndexMap<u32, Stream, IdHash, A>,
+    ids: &[u32],
+) -> Option<u32>
+    ensures { result ≡ find (kept.passes_at kept.waits records.now.entries) ids.now }
+{
+    for id in ids {
+        if has_waiting(records, *id) {
+            return Some(*id);
+        }
+    }
+    None
+}
+
+/// Whether the stream has octets to send.
+fn has_waiting<A: Allocator>(records: &IndexMap<u32, Stream, IdHash, A>, id: u32) -> bool
+    ensures { result ≡ kept.passes_at kept.waits records.now.entries id }
+{
+    match records.get(&id) {
+        Some(stream) => octets_waiting(stream) > 0,
+        None => false,
     }
 }

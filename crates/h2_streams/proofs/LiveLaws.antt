@@ -1,0 +1,55 @@
+-- What holds of the live streams alone, and what is found or changed by way of them.
+use Rattle.std.proofs.Common.{◌≡◌, ℕ, suc, ◌<◌, Bool, true, false, ◌&&◌, cond, eqb, nat_eq, nat_lt, List, [], ◌∷◌, find, Some, None, Option, refl, ap, ◌∙◌, sym, arith, true≢false}
+use Rattle.std.proofs.lemmas.Bool.Decides.{nat_tests}
+use Rattle.std.specs.List.{AllByRecursion, list_any}
+use Rattle.std.specs.Option.{option_map, option_map_or}
+use Rattle.h2_spec.specs.declared.streams.Stream.{Stream}
+use Rattle.h2_spec.specs.Stream.{is_live, record_of, octets_waiting, octets_left, waits_above, next_waiting, id_of, AreRising}
+use Rattle.h2_streams.specs.Kept.{keyed, live_ids, above, passes_at, waits, IdsRise}
+use Rattle.h2_streams.proofs.KeptLaws.{lookup-keyed, rise-live_ids, eqb-refl}
+
+-- each record is the one that is found with its identifier
+abbrev pub AllFound : List Stream → List Stream → Type 0
+AllFound rs parts = AllByRecursion (λ st. record_of rs st.id ≡ Some st) parts
+
+found-behind : (x : Stream) (xs ys : List Stream) (low last : ℕ) → x.id < suc low → AreRising low last ys → AllFound xs ys → AllFound (x ∷ xs) ys
+found-behind x xs [] low last l r h = tt
+found-behind x xs (y ∷ ys) low last l r h =
+    let apart : eqb x.id y.id ≡ false = let over = r.0 in grind (arith, nat_tests, over, l) in
+    (rw apart h.0, found-behind x xs ys y.id last (let over = r.0 in omega arith) r.3 h.1)
+
+pub all-found : (low last : ℕ) (rs : List Stream) → AreRising low last rs → AllFound rs rs
+all-found low last [] r = tt
+all-found low last (x ∷ xs) r = (rw (eqb-refl x.id x.id refl) refl, found-behind x xs xs x.id last (omega arith) r.3 (all-found x.id last xs r.3))
+
+above-all : (after low : ℕ) (ids : List ℕ) → after < suc low → IdsRise low ids → above after ids ≡ ids
+above-all after low [] l r = refl
+above-all after low (x ∷ xs) l r = let over : nat_lt after x ≡ true = let b = r.0 in grind (arith, nat_tests, b, l) in rw over refl
+
+and-false : (b : Bool) → (b && false) ≡ false
+and-false true = refl
+and-false false = refl
+
+-- a stream that is not live has nothing to send
+idle : (st : Stream) → is_live st.kind ≡ false → nat_lt 0 (octets_waiting st) ≡ false
+unfolding octets_waiting
+idle st h = rw h refl
+
+passes-found : (test : Stream → Bool) (rs : List Stream) (x : Stream) → record_of rs x.id ≡ Some x → passes_at test (keyed rs) x.id ≡ test x
+passes-found test rs x f = ap (λ o. option_map_or test o false) (lookup-keyed rs x.id ∙ f)
+
+-- the first waiting stream is found among the live ones
+pub waiting-live : (after low last : ℕ) (rs parts : List Stream) → AreRising low last parts → AllFound rs parts
+    → find (passes_at waits (keyed rs)) (above after (live_ids parts)) ≡ option_map id_of (find (waits_above after) parts)
+waiting-live after low last rs [] r f = refl
+waiting-live after low last rs (x ∷ xs) r f = by (is_live x.kind) refl (nat_lt after x.id) refl (waiting-live after x.id last rs xs r.3 f.1) where
+  chosen : (t : Bool) (ids : Option ℕ) (found : Option Stream) → ids ≡ option_map id_of found → cond t (Some x.id) ids ≡ option_map id_of (cond t (Some x) found)
+  chosen true ids found e = refl
+  chosen false ids found e = e
+  by : (b : Bool) → is_live x.kind ≡ b → (t : Bool) → nat_lt after x.id ≡ t → find (passes_at waits (keyed rs)) (above after (live_ids xs)) ≡ option_map id_of (find (waits_above after) xs)
+    → find (passes_at waits (keyed rs)) (above after (cond (is_live x.kind) (x.id ∷ live_ids xs) (live_ids xs))) ≡ option_map id_of (cond (nat_lt after x.id && waits x) (Some x) (find (waits_above after) xs))
+  by true live true over rest =
+      let all : above after (live_ids xs) ≡ live_ids xs = above-all after x.id (live_ids xs) (grind (arith, nat_tests, over)) (rise-live_ids x.id last xs r.3) in
+      rw (live, over, passes-found waits rs x f.0) (chosen (waits x) (find (passes_at waits (keyed rs)) (live_ids xs)) (find (waits_above after) xs) (rw all at rest))
+  by true live false over rest = rw (live, over) rest
+  by false live t over rest = rw (live, idle x live, and-false (nat_lt after x.id)) rest

@@ -1,0 +1,23 @@
+use Rattle.std.proofs.Common.{◌≡◌, ◌∙◌, ap, subst, sym, find, nat_eq, List, ℕ}
+use Rattle.h2_spec.specs.declared.streams.Stream.{Stream}
+use Rattle.h2_spec.specs.Stream.{Records, next_waiting}
+use Rattle.h2_streams.specs.Kept.{IdsRise, records_of, live_ids, above, passes_at, waits}
+use Rattle.h2_streams.proofs.KeptLaws.{rise-live_ids}
+use Rattle.h2_streams.proofs.LiveLaws.{waiting-live, all-found}
+use Rattle.h2_streams.proofs.records.Streams.next_waiting.Goals as goal
+
+pub ids_above-requires : goal.ids_above-requires
+ids_above-requires g c =
+    subst (IdsRise 0) (sym (c.as_slice.ensures.value ∙ c.self.invariant.live_listed)) (rise-live_ids 0 c.self.inside.last (records_of c.self.inside.records.entries) c.self.invariant.rising)
+
+pub returns : goal.returns
+unfolding next_waiting
+returns g c =
+    let s = c.self.inside in
+    let after = c.args.after in
+    let rs = records_of s.records.entries in
+    let listed = c.ids_above.ensures ∙ ap (above after) (c.as_slice.ensures.value ∙ c.self.invariant.live_listed) in
+    record {
+      first = c.first_waiting.ensures ∙ ap (find (passes_at waits s.records.entries)) listed ∙ ap (λ (es : List (ℕ × Stream)). find (passes_at waits es) (above after (live_ids rs))) c.self.invariant.under_ids
+        ∙ waiting-live after 0 s.last rs rs c.self.invariant.rising (all-found 0 s.last rs c.self.invariant.rising) ∙ ap (λ (v : Records). next_waiting after v.streams) c.self.view_is
+    }
