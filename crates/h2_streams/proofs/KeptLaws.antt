@@ -1,5 +1,5 @@
 -- Laws of the records and of the live identifiers.
-use Rattle.std.proofs.Common.{◌≡◌, ℕ, zero, suc, ◌+◌, ◌%◌, ◌<◌, ◌≤◌, Bool, true, false, cond, eqb, nat_eq, nat_lt, leb, List, [], ◌∷◌, ◌++◌, length, map, take, drop, get_or, remove, max, count_by, Some, None, Option, Err, nat_cmp, refl, ap, ◌∙◌, sym, arith, subst, true≢false}
+use Rattle.std.proofs.Common.{◌≡◌, ℕ, zero, suc, ◌+◌, ◌%◌, ◌<◌, ◌≤◌, Bool, true, false, cond, eqb, nat_eq, nat_lt, leb, List, [], ◌∷◌, ◌++◌, length, drop, get_or, remove, max, Some, None, Option, Err, nat_cmp, refl, ap, ◌∙◌, sym, arith, subst, true≢false}
 use Rattle.std.proofs.lemmas.Bool.Decides.{nat_tests}
 use Rattle.std.proofs.lemmas.List.Recursion.{is_count_by}
 use Rattle.std.proofs.lemmas.List.Sorted.{searched}
@@ -8,7 +8,7 @@ use Rattle.std.specs.List.Sorted.{IsBinarySearchResult}
 use Rattle.std.specs.Map.{lookup, set_value}
 use Rattle.indexmap.specs.IndexMap.{insert_entry}
 use Rattle.h2_spec.specs.declared.streams.Stream.{Stream}
-use Rattle.h2_spec.specs.Stream.{is_live, is_id, record_of, put, live_count, Records, added, with_record, AreRising, stream_at, kind_of, recorded, not_live}
+use Rattle.h2_spec.specs.Stream.{is_live, record_of, put, live_count, Records, added, with_record, AreRising, stream_at, kind_of, recorded, not_live}
 use Rattle.h2_spec.specs.declared.streams.Kind.TheVariants.{Idle}
 use Rattle.h2_streams.specs.Kept.{records_of, keyed, live_ids, IdsRise, without, still_live, above, IsKept}
 
@@ -51,7 +51,7 @@ pub insert-keyed : (rs : List Stream) (st : Stream) → insert_entry nat_eq (key
 insert-keyed [] st = refl
 insert-keyed (x ∷ xs) st = by (eqb x.id st.id) refl (eqb_comm st.id x.id) (insert-keyed xs st) where
   by : (b : Bool) → eqb x.id st.id ≡ b → eqb st.id x.id ≡ eqb x.id st.id → insert_entry nat_eq (keyed xs) st.id st ≡ keyed (put st xs)
-    → cond (eqb st.id x.id) ((x.id, st) ∷ keyed xs) ((x.id, x) ∷ insert_entry nat_eq (keyed xs) st.id st) ≡ keyed (cond (eqb x.id st.id) (st ∷ xs) (x ∷ put st xs))
+      → cond (eqb st.id x.id) ((x.id, st) ∷ keyed xs) ((x.id, x) ∷ insert_entry nat_eq (keyed xs) st.id st) ≡ keyed (cond (eqb x.id st.id) (st ∷ xs) (x ∷ put st xs))
   by true e c rest = rw (c, e) (ap (λ n. (n, st) ∷ keyed xs) (eqb-same x.id st.id e))
   by false e c rest = rw (c, e) (ap (λ ys. (x.id, x) ∷ ys) rest)
 
@@ -60,7 +60,7 @@ pub set_value-keyed : (rs : List Stream) (st old : Stream) → record_of rs st.i
 set_value-keyed [] st old h = cc
 set_value-keyed (x ∷ xs) st old h = by (eqb x.id st.id) refl (eqb_comm st.id x.id) (set_value-keyed xs st old) where
   by : (b : Bool) → eqb x.id st.id ≡ b → eqb st.id x.id ≡ eqb x.id st.id → (record_of xs st.id ≡ Some old → set_value (nat_eq st.id) (keyed xs) st ≡ keyed (put st xs))
-    → cond (eqb st.id x.id) ((x.id, st) ∷ keyed xs) ((x.id, x) ∷ set_value (nat_eq st.id) (keyed xs) st) ≡ keyed (cond (eqb x.id st.id) (st ∷ xs) (x ∷ put st xs))
+      → cond (eqb st.id x.id) ((x.id, st) ∷ keyed xs) ((x.id, x) ∷ set_value (nat_eq st.id) (keyed xs) st) ≡ keyed (cond (eqb x.id st.id) (st ∷ xs) (x ∷ put st xs))
   by true e c rest = rw (c, e) (ap (λ n. (n, st) ∷ keyed xs) (eqb-same x.id st.id e))
   by false e c rest = let g : record_of xs st.id ≡ Some old = rw e at h in rw (c, e) (ap (λ ys. (x.id, x) ∷ ys) (rest g))
 
@@ -89,7 +89,7 @@ pub live_ids-put_live : (rs : List Stream) (st old : Stream) → record_of rs st
 live_ids-put_live [] st old f a b = cc
 live_ids-put_live (x ∷ xs) st old f a b = by (eqb x.id st.id) refl (live_ids-put_live xs st old) where
   by : (t : Bool) → eqb x.id st.id ≡ t → (record_of xs st.id ≡ Some old → is_live old.kind ≡ true → is_live st.kind ≡ true → live_ids (put st xs) ≡ live_ids xs)
-    → live_ids (cond (eqb x.id st.id) (st ∷ xs) (x ∷ put st xs)) ≡ live_ids (x ∷ xs)
+      → live_ids (cond (eqb x.id st.id) (st ∷ xs) (x ∷ put st xs)) ≡ live_ids (x ∷ xs)
   by true e rest =
       let g : Some x ≡ Some old = rw e at f in
       let same : x ≡ old = cc in
@@ -104,8 +104,9 @@ live_ids-put_ended (x ∷ xs) st old f a b = by (eqb x.id st.id) refl (live_ids-
   kept : (t : Bool) (ys : List ℕ) → eqb x.id st.id ≡ false → ys ≡ without st.id (live_ids xs) → cond t (x.id ∷ ys) ys ≡ without st.id (cond t (x.id ∷ live_ids xs) (live_ids xs))
   kept true ys e h = rw e (ap (λ zs. x.id ∷ zs) h)
   kept false ys e h = h
+
   by : (t : Bool) → eqb x.id st.id ≡ t → (record_of xs st.id ≡ Some old → is_live old.kind ≡ true → is_live st.kind ≡ false → live_ids (put st xs) ≡ without st.id (live_ids xs))
-    → live_ids (cond (eqb x.id st.id) (st ∷ xs) (x ∷ put st xs)) ≡ without st.id (live_ids (x ∷ xs))
+      → live_ids (cond (eqb x.id st.id) (st ∷ xs) (x ∷ put st xs)) ≡ without st.id (live_ids (x ∷ xs))
   by true e rest =
       let g : Some x ≡ Some old = rw e at f in
       let same : x ≡ old = cc in
@@ -119,7 +120,7 @@ length-live_ids rs = is_count_by (λ (xs : List Stream). length (live_ids xs)) (
   by true id ids = omega arith
   by false id ids = refl
 
-rise-weaken : (a b : ℕ) (ids : List ℕ) → a ≤ b → IdsRise b ids → IdsRise a ids
+pub rise-weaken : (a b : ℕ) (ids : List ℕ) → a ≤ b → IdsRise b ids → IdsRise a ids
 rise-weaken a b [] le h = tt
 rise-weaken a b (x ∷ xs) le h = (let l = h.0 in omega arith, h.1)
 
@@ -157,6 +158,7 @@ live-found last rs id h = by_test (eqb (id % 2) 0) (nat_lt last id) (record_of r
   by_record : (o : Option Stream) → record_of rs id ≡ o → is_live (recorded id o).kind ≡ true → (old : Stream) × (record_of rs id ≡ Some old) × (is_live old.kind ≡ true)
   by_record None e k = absurd (true≢false (sym k))
   by_record (Some st) e k = (st, e, k)
+
   by_test : (a b : Bool) (o : Option Stream) → record_of rs id ≡ o → is_live (cond a (not_live id Idle) (cond b (not_live id Idle) (recorded id o))).kind ≡ true → (old : Stream) × (record_of rs id ≡ Some old) × (is_live old.kind ≡ true)
   by_test true b o e k = absurd (true≢false (sym k))
   by_test false true o e k = absurd (true≢false (sym k))
@@ -214,7 +216,7 @@ pub kept-added : (es : List (ℕ × Stream)) (live : List ℕ) (last : ℕ) (st 
 kept-added es live last st kept odd above =
     let rs = records_of es in
     kept-keyed _ _ st.id (rs ++ st ∷ []) (inserted-new es live last st kept above) (rising-push 0 last rs st kept.rising (omega arith) above odd)
-      (ap (λ ids. ids ++ live_ids (st ∷ [])) kept.live_listed ∙ sym (live_ids-append rs (st ∷ [])))
+    (ap (λ ids. ids ++ live_ids (st ∷ [])) kept.live_listed ∙ sym (live_ids-append rs (st ∷ [])))
 
 -- a live stream has another record
 pub kept-put : (es : List (ℕ × Stream)) (live : List ℕ) (last : ℕ) (st old : Stream) → IsKept es live last → record_of (records_of es) st.id ≡ Some old → is_live old.kind ≡ true
@@ -222,7 +224,7 @@ pub kept-put : (es : List (ℕ × Stream)) (live : List ℕ) (last : ℕ) (st ol
 kept-put es live last st old kept found alive =
     let rs = records_of es in
     kept-keyed _ _ last (put st rs) (written es live last st old kept found) (rising-put 0 last rs st old kept.rising found)
-      (ap (still_live st) kept.live_listed ∙ sym (live_ids-put rs st old found alive))
+    (ap (still_live st) kept.live_listed ∙ sym (live_ids-put rs st old found alive))
 
 -- a record of a stream above the others goes last, and is then the last that was opened
 pub added-is-put : (st : Stream) (r : Records) → AreRising 0 r.last r.streams → r.last < st.id → added st r ≡ with_record st r

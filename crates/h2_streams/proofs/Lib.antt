@@ -1,2 +1,3 @@
 mod KeptLaws
 mod LiveLaws
+mod ShiftLaws

@@ -1,10 +1,10 @@
 -- What holds of the live streams alone, and what is found or changed by way of them.
-use Rattle.std.proofs.Common.{◌≡◌, ℕ, suc, ◌<◌, Bool, true, false, ◌&&◌, cond, eqb, nat_eq, nat_lt, List, [], ◌∷◌, find, Some, None, Option, refl, ap, ◌∙◌, sym, arith, true≢false}
+use Rattle.std.proofs.Common.{◌≡◌, ℕ, suc, ◌<◌, Bool, true, false, ◌&&◌, cond, eqb, nat_lt, List, [], ◌∷◌, find, Some, Option, refl, ap, ◌∙◌, arith}
 use Rattle.std.proofs.lemmas.Bool.Decides.{nat_tests}
-use Rattle.std.specs.List.{AllByRecursion, list_any}
+use Rattle.std.specs.List.{AllByRecursion}
 use Rattle.std.specs.Option.{option_map, option_map_or}
 use Rattle.h2_spec.specs.declared.streams.Stream.{Stream}
-use Rattle.h2_spec.specs.Stream.{is_live, record_of, octets_waiting, octets_left, waits_above, next_waiting, id_of, AreRising}
+use Rattle.h2_spec.specs.Stream.{is_live, record_of, octets_waiting, waits_above, id_of, AreRising}
 use Rattle.h2_streams.specs.Kept.{keyed, live_ids, above, passes_at, waits, IdsRise}
 use Rattle.h2_streams.proofs.KeptLaws.{lookup-keyed, rise-live_ids, eqb-refl}
 
@@ -35,7 +35,8 @@ idle : (st : Stream) → is_live st.kind ≡ false → nat_lt 0 (octets_waiting 
 unfolding octets_waiting
 idle st h = rw h refl
 
-passes-found : (test : Stream → Bool) (rs : List Stream) (x : Stream) → record_of rs x.id ≡ Some x → passes_at test (keyed rs) x.id ≡ test x
+-- the test of a record that is found
+pub passes-found : (test : Stream → Bool) (rs : List Stream) (x : Stream) → record_of rs x.id ≡ Some x → passes_at test (keyed rs) x.id ≡ test x
 passes-found test rs x f = ap (λ o. option_map_or test o false) (lookup-keyed rs x.id ∙ f)
 
 -- the first waiting stream is found among the live ones
@@ -46,8 +47,9 @@ waiting-live after low last rs (x ∷ xs) r f = by (is_live x.kind) refl (nat_lt
   chosen : (t : Bool) (ids : Option ℕ) (found : Option Stream) → ids ≡ option_map id_of found → cond t (Some x.id) ids ≡ option_map id_of (cond t (Some x) found)
   chosen true ids found e = refl
   chosen false ids found e = e
+
   by : (b : Bool) → is_live x.kind ≡ b → (t : Bool) → nat_lt after x.id ≡ t → find (passes_at waits (keyed rs)) (above after (live_ids xs)) ≡ option_map id_of (find (waits_above after) xs)
-    → find (passes_at waits (keyed rs)) (above after (cond (is_live x.kind) (x.id ∷ live_ids xs) (live_ids xs))) ≡ option_map id_of (cond (nat_lt after x.id && waits x) (Some x) (find (waits_above after) xs))
+      → find (passes_at waits (keyed rs)) (above after (cond (is_live x.kind) (x.id ∷ live_ids xs) (live_ids xs))) ≡ option_map id_of (cond (nat_lt after x.id && waits x) (Some x) (find (waits_above after) xs))
   by true live true over rest =
       let all : above after (live_ids xs) ≡ live_ids xs = above-all after x.id (live_ids xs) (grind (arith, nat_tests, over)) (rise-live_ids x.id last xs r.3) in
       rw (live, over, passes-found waits rs x f.0) (chosen (waits x) (find (passes_at waits (keyed rs)) (live_ids xs)) (find (waits_above after) xs) (rw all at rest))

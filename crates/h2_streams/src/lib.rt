@@ -5,8 +5,11 @@
 
 mod hash;
 mod kinds;
+mod live;
 mod records;
+mod shift;
 
+pub use h2_spec::errors::FlowFault;
 pub use h2_spec::streams::{Kind, Numbers, Pick, Stream};
 pub use kinds::{is_live, not_live, octets_waiting};
 pub use records::Streams;

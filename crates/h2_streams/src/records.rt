@@ -2,22 +2,26 @@
 //! Rests on `kinds`, `hash` and `indexmap`.
 //! Definitions: `h2_spec/specs/Stream.antt`; what the fields keep: `specs/Kept.antt`.
 
-ghost use Rattle.std.specs.Prelude.{◌≡◌, ◌<◌, ◌≤◌, ◌%◌, [], ◌∷◌, ◌++◌, nat_eq, find, IsOk, OnOk, OnErr, IfOk, IsTrue, slice_get};
+ghost use Rattle.std.specs.Prelude.{◌≡◌, ◌<◌, ◌≤◌, ◌%◌, [], ◌∷◌, ◌++◌, nat_eq, IsOk, OnOk, OnErr, IfOk, IfErr, IsTrue, is_err, slice_get};
+ghost use Rattle.std.specs.List.{AllByRecursion};
 ghost use Rattle.std.specs.Map.{set_value};
 ghost use Rattle.indexmap.specs.IndexMap.{insert_entry};
 ghost use Rattle.std.specs.Option.{option_copied};
 ghost use Rattle.h2_spec.specs.Stream as spec;
 ghost use Rattle.h2_spec.specs.Ends as ends;
+ghost use Rattle.h2_spec.specs.Change as changes;
 ghost use Rattle.h2_streams.specs.Kept as kept;
-
-use std::alloc::{AllocError, Allocator};
-use std::marker::Model;
-
-use h2_spec::streams::{Kind, Numbers, Pick, Stream};
-use indexmap::IndexMap;
+ghost use Rattle.h2_streams.specs.Shift as shift;
 
 use crate::hash::IdHash;
-use crate::kinds::{is_live, not_live, octets_waiting, peer_closed, reset_kind, server_closed};
+use crate::kinds::{is_live, not_live, peer_closed, reset_kind, server_closed};
+use crate::live::{drop_ended, first_waiting, ids_above};
+use crate::shift::{any_is_stuck, move_each};
+use h2_spec::errors::FlowFault;
+use h2_spec::streams::{Kind, Numbers, Pick, Stream};
+use indexmap::IndexMap;
+use std::alloc::{AllocError, Allocator};
+use std::marker::Model;
 
 /// The records of a connection's streams.
 #[derive(Drop)]
@@ -50,6 +54,19 @@ impl<A: Allocator + Copy> Streams<A> {
             live: Vec::new(alloc),
             last: 0,
         }
+    }
+
+    /// The same records again.
+    pub fn try_clone(&self) -> Result<Self, AllocError>
+        ensures { IfOk result (λ copy. copy ≡ self.now) }
+    {
+        let records = self.records.clone()?;
+        let live = self.live.clone()?;
+        Ok(Streams {
+            records,
+            live,
+            last: self.last,
+        })
     }
 }
 
@@ -201,6 +218,22 @@ impl<A: Allocator> Streams<A> {
         first_waiting(&self.records, ids_above(self.live.as_slice(), after))
     }
 
+    /// Moves the send windows of the streams that settings move, as SETTINGS_INITIAL_WINDOW_SIZE changes by `delta` (RFC 9113, 6.9.2).
+    /// A window may become negative, but not less than -2147483648.
+    /// `Overflow`, and nothing is changed, where one would pass 2147483647.
+    pub fn shift_send(&mut self, delta: i64) -> Result<(), FlowFault>
+        requires { AllByRecursion (shift.CanShift delta) self.old.streams }
+        ensures moved { OnOk result (self.new ≡ record self.old { streams = changes.shifted delta self.old.streams }) }
+        ensures refused { IfErr result (λ e. (e ≡ FlowFault.Overflow) × (self.new ≡ self.old)) }
+        ensures overflow { is_err result ≡ changes.overflows delta self.old.streams }
+    {
+        if any_is_stuck(&self.records, self.live.as_slice(), delta) {
+            return Err(FlowFault::Overflow);
+        }
+        move_each(&mut self.records, self.live.as_slice(), delta);
+        Ok(())
+    }
+
     /// Records a stream above all others.
     fn add(&mut self, stream: Stream) -> Result<(), AllocError>
         requires odd { stream.id % 2 ≡ 1 }
@@ -251,59 +284,5 @@ fn write<A: Allocator>(records: &mut IndexMap<u32, Stream, IdHash, A>, stream: S
 {
     if let Some(record) = records.get_mut(&stream.id) {
         *record = stream;
-    }
-}
-
-/// Takes the identifier of a stream that has ended out of the rising list.
-fn drop_ended<A: Allocator>(live: &mut Vec<u32, A>, stream: &Stream)
-    requires { kept.IdsRise 0 live.old.items }
-    ensures { live.new.items ≡ kept.still_live stream.now live.old.items }
-{
-    if !is_live(stream.kind) {
-        remove_id(live, stream.id);
-    }
-}
-
-/// Takes an identifier out of a rising list.
-fn remove_id<A: Allocator>(live: &mut Vec<u32, A>, id: u32)
-    requires { kept.IdsRise 0 live.old.items }
-    ensures { live.new.items ≡ kept.without id live.old.items }
-{
-    if let Ok(place) = live.binary_search(&id) {
-        live.remove(place);
-    }
-}
-
-/// The part of a rising list that lies above this identifier.
-fn ids_above(ids: &[u32], after: u32) -> &[u32]
-    requires { kept.IdsRise 0 ids.now }
-    ensures { result.now ≡ kept.above after ids.now }
-{
-    let start = ids.partition_point(|id| *id <= after);
-    &ids[start..]
-}
-
-/// The first of these streams that has octets to send.
-fn first_waiting<A: Allocator>(
-    records: &IndexMap<u32, Stream, IdHash, A>,
-    ids: &[u32],
-) -> Option<u32>
-    ensures { result ≡ find (kept.passes_at kept.waits records.now.entries) ids.now }
-{
-    for id in ids {
-        if has_waiting(records, *id) {
-            return Some(*id);
-        }
-    }
-    None
-}
-
-/// Whether the stream has octets to send.
-fn has_waiting<A: Allocator>(records: &IndexMap<u32, Stream, IdHash, A>, id: u32) -> bool
-    ensures { result ≡ kept.passes_at kept.waits records.now.entries id }
-{
-    match records.get(&id) {
-        Some(stream) => octets_waiting(stream) > 0,
-        None => false,
     }
 }

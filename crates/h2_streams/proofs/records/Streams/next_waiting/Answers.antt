@@ -1,4 +1,4 @@
-use Rattle.std.proofs.Common.{◌≡◌, ◌∙◌, ap, subst, sym, find, nat_eq, List, ℕ}
+use Rattle.std.proofs.Common.{◌∙◌, ap, subst, sym, find, List, ℕ}
 use Rattle.h2_spec.specs.declared.streams.Stream.{Stream}
 use Rattle.h2_spec.specs.Stream.{Records, next_waiting}
 use Rattle.h2_streams.specs.Kept.{IdsRise, records_of, live_ids, above, passes_at, waits}
@@ -19,5 +19,5 @@ returns g c =
     let listed = c.ids_above.ensures ∙ ap (above after) (c.as_slice.ensures.value ∙ c.self.invariant.live_listed) in
     record {
       first = c.first_waiting.ensures ∙ ap (find (passes_at waits s.records.entries)) listed ∙ ap (λ (es : List (ℕ × Stream)). find (passes_at waits es) (above after (live_ids rs))) c.self.invariant.under_ids
-        ∙ waiting-live after 0 s.last rs rs c.self.invariant.rising (all-found 0 s.last rs c.self.invariant.rising) ∙ ap (λ (v : Records). next_waiting after v.streams) c.self.view_is
+          ∙ waiting-live after 0 s.last rs rs c.self.invariant.rising (all-found 0 s.last rs c.self.invariant.rising) ∙ ap (λ (v : Records). next_waiting after v.streams) c.self.view_is;
     }

@@ -1,5 +1,5 @@
 use Rattle.std.proofs.Common.{arith, ◌≡◌, ◌<◌, subst, OnOk}
-use Rattle.h2_spec.specs.Stream.{Records, AreRising}
+use Rattle.h2_spec.specs.Stream.{Records}
 use Rattle.h2_streams.proofs.KeptLaws.{added-is-put}
 use Rattle.h2_streams.proofs.records.Streams.put.Goals as goal
 

@@ -1,4 +1,4 @@
-use Rattle.std.proofs.Common.{◌∙◌, ap, sym}
+use Rattle.std.proofs.Common.{sym}
 use Rattle.h2_streams.proofs.KeptLaws.{found-id}
 use Rattle.h2_streams.proofs.records.Streams.stream_at.Goals as goal
 

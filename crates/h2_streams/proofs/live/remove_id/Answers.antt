@@ -2,7 +2,7 @@ use Rattle.std.proofs.Common.{◌≡◌, ◌<◌, length, get_or, ◌∙◌, ap,
 use Rattle.std.proofs.lemmas.Map.Lookups.{exact_unsigned}
 use Rattle.std.specs.List.Sorted.{IsBinarySearchResult}
 use Rattle.h2_streams.proofs.KeptLaws.{without-at, without-searched}
-use Rattle.h2_streams.proofs.records.remove_id.Goals as goal
+use Rattle.h2_streams.proofs.live.remove_id.Goals as goal
 
 pub returns-in-Ok : goal.returns-in-Ok
 returns-in-Ok g c =
@@ -15,4 +15,4 @@ returns-in-Ok g c =
 pub returns-in_default : goal.returns-in_default
 returns-in_default g c =
     sym (without-searched c.args.live.now.items c.args.id c.in_default.field-0 c.requires
-      (subst (λ xs. IsBinarySearchResult (λ y. nat_cmp y c.args.id) xs (Err c.in_default.field-0)) c.deref.ensures.value c.in_default.ensures.position))
+    (subst (λ xs. IsBinarySearchResult (λ y. nat_cmp y c.args.id) xs (Err c.in_default.field-0)) c.deref.ensures.value c.in_default.ensures.position))

@@ -1,0 +1,10 @@
+use Rattle.std.proofs.Common.{arith}
+use Rattle.std.proofs.Math.Facts.{to_z-of_z}
+use Rattle.std.proofs.lemmas.List.{drop_all}
+use Rattle.h2_streams.proofs.shift.any_is_stuck.Goals as goal
+
+pub returns : goal.returns
+returns g c =
+    let none = drop_all c.loop-id.id-index c.args.ids.now (omega arith) in
+    let all = rw (to_z-of_z c.ranges.delta, none) at c.loop-id.invariant in
+    all
