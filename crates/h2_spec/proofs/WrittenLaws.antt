@@ -12,14 +12,14 @@ use Rattle.hex.proofs.HexLemmas.{decode_of-encode_lower}
 use Rattle.h2_spec.specs.Frame.{head_of, preface}
 use Rattle.h2_spec.specs.FrameType.{RST_STREAM, SETTINGS, WINDOW_UPDATE}
 use Rattle.h2_spec.specs.Huffman.{HuffRead, Text, Eos, Padding, IsDecodingOf, IsText, huffman_text}
-use Rattle.h2_spec.specs.Instruction.{Shape, Instruction, Indexed, Update, Literal, Mode, NameRef, Ref, Named, Str, TextStr, instruction_of, literal_text, name_text as name_by_text, text_str, text_of, with_text, split, instr_at, instr_by, instr_only, next_shape, string_at, octets_at, read_then, read_past, name_by, literal_at, value_at, mode_prefix}
+use Rattle.h2_spec.specs.Instruction.{Shape, Instruction, Indexed, Update, Literal, Mode, NameRef, Ref, Named, Str, TextStr, instruction_at, instruction_of, literal_text, name_text as name_by_text, text_str, text_of, with_text, split, instr_at, instr_by, instr_only, next_shape, string_at, octets_at, read_then, read_past, name_by, literal_at, value_at, mode_prefix}
 use Rattle.h2_spec.specs.Integer.{int_at}
 use Rattle.h2_spec.specs.Octets.{big_endian, four_octets}
 use Rattle.h2_spec.specs.Parse.{Front, Stop, One, parse_first, parse_upto, parse_all}
 use Rattle.h2_spec.specs.Payload.{setting_pairs}
 use Rattle.h2_spec.specs.Read.{Read, Whole, More, TooLong, read_map}
 use Rattle.h2_spec.specs.Script.{Payload, Empty, Octets, Pairs, Increment, Code, Instructions, Statement, Nothing, Preface, Raw, Says, SaysCharacter, SaysEach, SaysInstruction, SaysName, SaysNumber, SaysOctet, SaysPayload, SaysSetting, SaysStream, SaysString, SaysText, SaysType, Script, instruction_octets, is_plain, max_u32, octets_of, payload_octets, setting_octets, stream_octets, type_names}
-use Rattle.h2_spec.specs.Written.{block_said, character_text, each_text, frame_front, frame_said, in_front, instruction_text, instructions_said, is_fragment, is_writable, line_text, name_text, next_said, or_octets, payload_said, payload_text, rest_text, setting_text, statement_text, stream_text, string_text, type_text, written}
+use Rattle.h2_spec.specs.Written.{block_said, character_text, each_text, first_said, frame_front, frame_said, instruction_text, instructions_in, is_fragment, is_writable, line_text, name_text, next_said, or_octets, payload_said, payload_text, rest_text, setting_text, statement_text, stream_text, string_text, type_text, written}
 use Rattle.h2_spec.proofs.HuffmanLaws.{text_read}
 use Rattle.h2_spec.proofs.ScriptTexts.{Lacks, append_lacks, bytes_after, bytes_below, frame_lacks, literal_lacks, octets_lack}
 
@@ -185,33 +185,10 @@ shape_whole o xs h = go (nat_le 128 o) (nat_le 64 o) (nat_le 32 o) (nat_le 16 o)
     go false false false true = literal_whole Mode.Never xs h
     go false false false false = literal_whole Mode.Without xs h
 
-abbrev OnFront : {S E : Type 0} → (E → Type 0) → Front S E → Type 0
-OnFront P Stop = Unit {0}
-OnFront P (One e s used) = P e
-
-front_whole : (r : Read Shape) → OnRead IsWholeShape r → OnFront IsWholeShape (instr_only r)
-front_whole (Whole i used) h = h
-front_whole More h = tt
-front_whole TooLong h = tt
-
-next_whole : (u : Unit {0}) (xs : List ℕ) → IsBytes xs → OnFront IsWholeShape (next_shape u xs)
+first_whole : (xs : List ℕ) → IsBytes xs → OnRead IsWholeShape (instr_at xs)
 unfolding instr_at
-next_whole u [] h = tt
-next_whole u (o ∷ xs) h = front_whole (instr_by o (o ∷ xs)) (shape_whole o (o ∷ xs) h)
-
-elements_all : {S E : Type 0} (next : S → List ℕ → Front S E) (P : E → Type 0) → ((s : S) (b : List ℕ) → IsBytes b → OnFront P (next s b))
-    → (n : ℕ) (s : S) (b : List ℕ) → IsBytes b → AllByRecursion P (parse_upto next n s b).elements
-elements_all next P one zero s b h = tt
-elements_all next P one (suc n) s b h = go (next s b) (one s b h) (λ t c k. elements_all next P one n t c k)
-  where
-    go : (f : Front _ _) → OnFront P f → ((t : _) (c : List ℕ) → IsBytes c → AllByRecursion P (parse_upto next n t c).elements)
-        → AllByRecursion P (parse_first s b f (λ t rest. parse_upto next n t rest)).elements
-    go Stop h more = tt
-    go (One e t used) k more = (k, more t (drop used b) (bytes_after used b h))
-
-shapes_whole : (p : List ℕ) → IsBytes p → AllByRecursion IsWholeShape (split p).elements
-unfolding split parse_all
-shapes_whole p h = elements_all next_shape IsWholeShape next_whole (length p) tt p h
+first_whole [] h = tt
+first_whole (o ∷ xs) h = shape_whole o (o ∷ xs) h
 
 -- ---- what is said of whole instructions can be said
 
@@ -231,7 +208,7 @@ name_sayable : (s : NameRef Str) (t : NameRef TextStr) (v : TextStr) (mode : Mod
 name_sayable (Ref i) t v mode h e w =
     let same : Ref i ≡ t = cc in
     let small : is_writable (Literal mode (Ref i) v) ≡ true = subst (λ (x : NameRef TextStr). is_writable (Literal mode x v) ≡ true) (sym same) w in
-    subst IsNameSayable same (h, ltb-true i (2 ^ 32) small)
+    subst IsNameSayable same (h, ltb-true i (2 ^ 32) (both _ _ small).1)
 name_sayable (Named s) t v mode h e w = go (text_str s) refl e
   where
     go : (o : Option TextStr) → text_str s ≡ o → (elim o [ Some x ↦ Some (Named x) | None ↦ None ]) ≡ Some t → IsNameSayable t
@@ -257,24 +234,33 @@ sayable (Literal mode name value) i h e w = go (name_by_text name) (text_str val
         let small : is_writable (Literal mode n v) ≡ true = subst (λ (x : Instruction). is_writable x ≡ true) (sym same) w in
         subst IsSayable same (name_sayable name n v mode h.0 a small, string_sayable value v h.1 b)
 
-all_sayable : (shapes : List Shape) (is : List Instruction) → AllByRecursion IsWholeShape shapes → instructions_said shapes ≡ Some is → AllByRecursion IsSayable is
-all_sayable [] is h e = let same : [] ≡ is = cc in subst (AllByRecursion IsSayable) same tt
-all_sayable (s ∷ shapes) is h e = first (λ js k. all_sayable shapes js h.1 k) (instruction_of s) refl e
+all_sayable : (most : ℕ) (xs : List ℕ) (is : List Instruction) → IsBytes xs → instructions_in most xs ≡ Some is → AllByRecursion IsSayable is
+unfolding instruction_at
+all_sayable zero [] is h e = let same : [] ≡ is = cc in subst (AllByRecursion IsSayable) same tt
+all_sayable (suc fewer) [] is h e = let same : [] ≡ is = cc in subst (AllByRecursion IsSayable) same tt
+all_sayable zero (o ∷ xs) is h e = absurd (cc)
+all_sayable (suc fewer) (o ∷ xs) is h e =
+    first (instr_at (o ∷ xs)) (first_whole (o ∷ xs) h) e (λ used js k. all_sayable fewer (drop used (o ∷ xs)) js (bytes_after used (o ∷ xs) h) k)
   where
-    rest : (i : Instruction) → IsSayable i → ((js : List Instruction) → instructions_said shapes ≡ Some js → AllByRecursion IsSayable js)
-        → (o : Option (List Instruction)) → instructions_said shapes ≡ o → option_map (λ js. i ∷ js) o ≡ Some is → AllByRecursion IsSayable is
-    rest i k more None a e = absurd (cc)
-    rest i k more (Some js) a e = let same : i ∷ js ≡ is = cc in subst (AllByRecursion IsSayable) same (k, more js a)
+    Below : Type 0
+    Below = (used : ℕ) (js : List Instruction) → instructions_in fewer (drop used (o ∷ xs)) ≡ Some js → AllByRecursion IsSayable js
 
-    small : (i : Instruction) → instruction_of s ≡ Some i → ((js : List Instruction) → instructions_said shapes ≡ Some js → AllByRecursion IsSayable js)
-        → (b : Bool) → is_writable i ≡ b → cond b (option_map (λ js. i ∷ js) (instructions_said shapes)) None ≡ Some is → AllByRecursion IsSayable is
-    small i a more true w e = rest i (sayable s i h.0 a w) more (instructions_said shapes) refl e
-    small i a more false w e = absurd (cc)
+    rest : (i : Instruction) → IsSayable i → Below → (used : ℕ) → (r : Option (List Instruction)) → instructions_in fewer (drop used (o ∷ xs)) ≡ r → option_map (λ js. i ∷ js) r ≡ Some is → AllByRecursion IsSayable is
+    rest i k more used None a e = absurd (cc)
+    rest i k more used (Some js) a e = let same : i ∷ js ≡ is = cc in subst (AllByRecursion IsSayable) same (k, more used js a)
 
-    first : ((js : List Instruction) → instructions_said shapes ≡ Some js → AllByRecursion IsSayable js)
-        → (o : Option Instruction) → instruction_of s ≡ o → in_front o (instructions_said shapes) ≡ Some is → AllByRecursion IsSayable is
-    first more None a e = absurd (cc)
-    first more (Some i) a e = small i a more (is_writable i) refl e
+    small : (s : Shape) → IsWholeShape s → (i : Instruction) → instruction_of s ≡ Some i → Below → (used : ℕ) → (b : Bool) → is_writable i ≡ b → cond b (option_map (λ js. i ∷ js) (instructions_in fewer (drop used (o ∷ xs)))) None ≡ Some is → AllByRecursion IsSayable is
+    small s k i a more used true w e = rest i (sayable s i k a w) more used (instructions_in fewer (drop used (o ∷ xs))) refl e
+    small s k i a more used false w e = absurd (cc)
+
+    known : (s : Shape) → IsWholeShape s → Below → (used : ℕ) → (r : Option Instruction) → instruction_of s ≡ r → first_said (Whole r used) (λ used. instructions_in fewer (drop used (o ∷ xs))) ≡ Some is → AllByRecursion IsSayable is
+    known s k more used None a e = absurd (cc)
+    known s k more used (Some i) a e = small s k i a more used (is_writable i) refl e
+
+    first : (r : Read Shape) → OnRead IsWholeShape r → first_said (read_map instruction_of r) (λ used. instructions_in fewer (drop used (o ∷ xs))) ≡ Some is → Below → AllByRecursion IsSayable is
+    first (Whole s used) k e more = known s k more used (instruction_of s) refl e
+    first More k e more = absurd (cc)
+    first TooLong k e more = absurd (cc)
 
 -- ---- payloads
 
@@ -291,19 +277,15 @@ instructions_again p (i ∷ is) some h e = ((each_text instruction_text (i ∷ i
 
 block_again : (p : List ℕ) → IsBytes p → 0 < length p → IsSaid p (block_said p)
 unfolding block_said
-block_again p h some = whole (length (split p).rest == 0)
+block_again p h some = there (instructions_in (length p) p) refl
   where
     spelled : (is : List Instruction) → AllByRecursion IsSayable is → (b : Bool) → bytes_eq (flat_map instruction_octets is) p ≡ b → IsSaid p (cond b (Instructions is) (Octets p))
     spelled is k true e = instructions_again p is some k ((bytes_eq-Decides (flat_map instruction_octets is) p).0 e)
     spelled is k false e = octets_said p h some
 
-    there : (o : Option (List Instruction)) → instructions_said (split p).elements ≡ o → IsSaid p (or_octets p o)
+    there : (o : Option (List Instruction)) → instructions_in (length p) p ≡ o → IsSaid p (or_octets p o)
     there None e = octets_said p h some
-    there (Some is) e = spelled is (all_sayable (split p).elements is (shapes_whole p h) e) (bytes_eq (flat_map instruction_octets is) p) refl
-
-    whole : (b : Bool) → IsSaid p (cond b (or_octets p (instructions_said (split p).elements)) (Octets p))
-    whole true = there (instructions_said (split p).elements) refl
-    whole false = octets_said p h some
+    there (Some is) e = spelled is (all_sayable (length p) p is h e) (bytes_eq (flat_map instruction_octets is) p) refl
 
 four_back : (a b c d : ℕ) → a < 256 → b < 256 → c < 256 → d < 256 → big_endian 4 (16777216 * a + 65536 * b + 256 * c + d) ≡ a ∷ b ∷ c ∷ d ∷ []
 four_back a b c d ha hb hc hd =

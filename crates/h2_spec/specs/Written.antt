@@ -1,15 +1,16 @@
 -- The one script that is written for octets: what each frame is said to be, and the text of it.
-use Rattle.std.specs.Prelude.{ℕ, ◌+◌, ◌%◌, ◌^◌, Bool, true, false, ◌&&◌, ◌||◌, not, List, [], ◌∷◌, ◌++◌, length, take, drop, codes, bytes_eq, nat_eq, flat_map, nat_lt, ◌==◌, if◌then◌else◌, Option, Some, None, option_map, slice_index, slice_get, unwrap_or}
+use Rattle.std.specs.Prelude.{ℕ, zero, suc, ◌+◌, ◌%◌, ◌^◌, Bool, true, false, ◌&&◌, ◌||◌, not, List, [], ◌∷◌, ◌++◌, length, take, drop, codes, bytes_eq, nat_eq, flat_map, nat_lt, ◌==◌, if◌then◌else◌, Option, Some, None, option_map, slice_index, slice_get, unwrap_or}
 use Rattle.std.specs.Fmt.{decimal}
 use Rattle.std.specs.List.{starts_with}
 use Rattle.hex.specs.Hex.{encode_lower}
 use Rattle.h2_spec.specs.Frame.{head_of, preface}
 use Rattle.h2_spec.specs.FrameType.{has, CONTINUATION, HEADERS, PADDED, RST_STREAM, SETTINGS, WINDOW_UPDATE, WITH_PRIORITY}
-use Rattle.h2_spec.specs.Huffman.{huffman_text, spell_huffman}
-use Rattle.h2_spec.specs.Instruction.{Shape, Instruction, Indexed, Update, Literal, NameRef, Ref, Named, TextStr, instruction_of, spell, split}
+use Rattle.h2_spec.specs.Huffman.{spell_huffman}
+use Rattle.h2_spec.specs.Instruction.{Instruction, Indexed, Update, Literal, NameRef, Ref, Named, TextStr, instruction_at, spell}
 use Rattle.h2_spec.specs.Octets.{four_octets}
 use Rattle.h2_spec.specs.Parse.{Front, Stop, One, parse_all}
 use Rattle.h2_spec.specs.Payload.{setting_pairs}
+use Rattle.h2_spec.specs.Read.{Read, Whole, More, TooLong}
 use Rattle.h2_spec.specs.Script.{Payload, Empty, Octets, Pairs, Increment, Code, Instructions, Statement, Nothing, Preface, Raw, AFrame, instruction_octets, is_plain, mode_letter, quote_of, type_names}
 use Rattle.h2_spec.specs.declared.frames.Head.{Head}
 
@@ -19,17 +20,21 @@ use Rattle.h2_spec.specs.declared.frames.Head.{Head}
 abbrev pub is_writable : Instruction → Bool
 is_writable (Indexed i) = nat_lt i (2 ^ 32)
 is_writable (Update n) = nat_lt n (2 ^ 32)
-is_writable (Literal mode (Ref i) value) = nat_lt i (2 ^ 32)
+is_writable (Literal mode (Ref i) value) = nat_lt 0 i && nat_lt i (2 ^ 32)
 is_writable (Literal mode (Named name) value) = true
 
-abbrev pub in_front : Option Instruction → Option (List Instruction) → Option (List Instruction)
-in_front None more = None
-in_front (Some i) more = if is_writable i then option_map (λ is. i ∷ is) more else None
+-- the first instruction, if a script can say it, and those behind it
+abbrev pub first_said : Read (Option Instruction) → (ℕ → Option (List Instruction)) → Option (List Instruction)
+first_said (Whole (Some i) used) more = if is_writable i then option_map (λ is. i ∷ is) (more used) else None
+first_said (Whole None used) more = None
+first_said More more = None
+first_said TooLong more = None
 
--- the instructions with the texts of their strings, if a script can say each
-abbrev pub instructions_said : List Shape → Option (List Instruction)
-instructions_said [] = Some []
-instructions_said (s ∷ shapes) = in_front (instruction_of s) (instructions_said shapes)
+-- octets as whole instructions that a script can say, at most this many
+abbrev pub instructions_in : ℕ → List ℕ → Option (List Instruction)
+instructions_in most [] = Some []
+instructions_in zero (o ∷ xs) = None
+instructions_in (suc fewer) (o ∷ xs) = first_said (instruction_at (o ∷ xs)) (λ used. instructions_in fewer (drop used (o ∷ xs)))
 
 -- octets that a script would spell so: the shortest integers, and strings without fault
 abbrev pub or_octets : List ℕ → Option (List Instruction) → Payload
@@ -38,8 +43,8 @@ or_octets p (Some is) = if bytes_eq (flat_map instruction_octets is) p then Inst
 
 -- whole instructions, spelled as a script spells them, or octets
 unfoldable pub block_said : List ℕ → Payload
-unfolding split spell spell_huffman huffman_text
-block_said p = if length (split p).rest == 0 then or_octets p (instructions_said (split p).elements) else Octets p
+unfolding instruction_at spell spell_huffman
+block_said p = or_octets p (instructions_in (length p) p)
 
 -- the frame is HEADERS without padding and priority, or CONTINUATION: its payload is a fragment of a field block alone
 abbrev pub is_fragment : ℕ → ℕ → Bool
