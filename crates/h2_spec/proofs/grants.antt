@@ -6,5 +6,6 @@ pub mod Records
 pub mod Rules
 pub mod Sending
 pub mod SettingsRule
+pub mod Sharing
 pub mod Tallies
 pub mod Turns

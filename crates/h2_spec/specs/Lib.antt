@@ -33,6 +33,7 @@ pub mod Request
 pub mod Script
 pub mod Settings
 pub mod SettingsFrame
+pub mod Shares
 pub mod Show
 pub mod State
 pub mod StaticTable

@@ -1,4 +1,5 @@
--- Sending what waits, as far as the windows go (RFC 9113, 5.2 and 6.9).
+-- Sending what waits, as far as the windows go (RFC 9113, 5.2 and 6.9): each stream in turn sends the least of what waits on it, its own window and what is left of the connection's,
+-- in DATA of the peer's frame size and one last, shorter or equal, which has END_STREAM where nothing waits any more.
 use Rattle.std.specs.Prelude.{ℕ, zero, suc, ◌-◌, Bool, false, List, [], ◌∷◌, ◌++◌, length, min, take, drop, nat_le, ◌==◌, if◌then◌else◌, pos, ◌-ℤ◌}
 use Rattle.h2_spec.specs.declared.streams.Stream.{Stream}
 use Rattle.h2_spec.specs.FrameType.{DATA, END_STREAM}
@@ -47,7 +48,7 @@ after_sending n st =
     else if octets_waiting st == n then server_ended (with_paid st n)
     else with_left (with_paid st n) (octets_waiting st - n)
 
--- each stream sends its share of the connection's window; records stand in the order of opening, in which identifiers rise
+-- each stream sends its share of the connection's window; identifiers rise in the list, as its order law says
 unfoldable pub sent_frames : List Entry → ℕ → ℕ → List Stream → List Frame
 unfolding share share_frames
 sent_frames book size window [] = []
