@@ -1,15 +1,17 @@
 -- Blocks instruction by instruction, and blocks in pieces.
-use Rattle.std.proofs.Common.{◌≡◌, ℕ, zero, suc, ◌+◌, ◌<◌, ◌≤◌, Bool, true, false, ◌||◌, cond, List, [], ◌∷◌, ◌++◌, length, drop, Option, Some, None, Result, Ok, Err, refl, sym, ap, ◌∙◌, arith, append_assoc, length-drop}
-use Rattle.std.proofs.lemmas.List.{append-nil, drop-append-le}
+use Rattle.std.proofs.Common.{◌≡◌, ℕ, zero, suc, ◌+◌, ◌<◌, ◌≤◌, Bool, true, false, ◌||◌, cond, List, [], ◌∷◌, ◌++◌, length, drop, Option, Some, None, Result, Ok, Err, refl, sym, ap, ◌∙◌, arith, append_assoc, length-drop, le-leb, take, subst}
+use Rattle.std.proofs.lemmas.Bool.{lt-leb}
+use Rattle.std.proofs.lemmas.List.{append-nil, drop-append-le, drop-drop, drop_all, length-take-le}
+use Rattle.std.proofs.Math.Seq.{take-add}
 use Rattle.std.specs.List.{concat}
 use Rattle.std.specs.Prelude.{option_to_list, nat_le, not, ◌&&◌}
-use Rattle.h2_spec.specs.DynamicTable.{Table, field_at}
+use Rattle.h2_spec.specs.DynamicTable.{Table, field_at, resize}
 use Rattle.h2_spec.specs.Field.{Field, field}
-use Rattle.h2_spec.specs.Instruction.{Shape, Indexed, Update, Literal, Mode, instr_at, text_of}
+use Rattle.h2_spec.specs.Instruction.{Shape, Indexed, Update, Literal, Mode, NameRef, Str, instr_at, text_of}
 use Rattle.h2_spec.specs.Parse.{Front, Stop, One, Parsed, after_one, parse_first, parse_upto, parse_all}
 use Rattle.h2_spec.specs.Read.{Read, Whole, More, TooLong}
-use Rattle.h2_spec.specs.Block.{Fault, Index, Integer, Huffman, SizeUpdate, Decoding, Given, given, literal_result, indexed_result, where_not_due, table_after, name_of, text_result, apply, taken_unless, instr_taken, next_instr, Outcome, Unfinished, Faulty, refused_by, outcome_of, fields_given, Progress, Decoded, has_fields, decoding, decoded, carried_on, carried_through}
-use Rattle.h2_spec.proofs.InstructionLaws.{Stays, Within, Takes, instr-stays, instr-within, instr-takes}
+use Rattle.h2_spec.specs.Block.{Fault, Index, Integer, Huffman, SizeUpdate, Decoding, Given, given, literal_result, indexed_result, where_not_due, table_after, name_of, text_result, apply, taken_unless, instr_taken, next_instr, Outcome, Unfinished, Faulty, refused_by, outcome_of, fields_given, Progress, Decoded, has_fields, decoding, decoded, carried_on, carried_through, progress_after, progress_by, applied, StandsWithin}
+use Rattle.h2_spec.proofs.InstructionLaws.{Stays, Within, Takes, instr-stays, instr-within, instr-takes, whole-takes, whole-exact}
 use Rattle.h2_spec.proofs.ParseLaws as laws
 
 -- ---- the premises of the laws of parsing
@@ -78,10 +80,6 @@ unfolding apply
 apply-begins limit d (Update n) = update-begins d _ (not d.begun && nat_le n limit)
 apply-begins limit d (Indexed i) = due-begins d.begun d.due _ (indexed-begins d (field_at i d.table.entries))
 apply-begins limit d (Literal mode name value) = due-begins d.begun d.due _ (literal-begins mode d (name_of name d.table.entries) (text_result (text_of value)))
-
--- how far a block has come after an instruction
-abbrev pub progress_after : Progress → Given → Progress
-progress_after p g = record { fields = p.fields ++ option_to_list g.field; table = g.after.table; due = g.after.due }
 
 has-fields : (fields : List Field) (f : Option Field) → has_fields (fields ++ option_to_list f) ≡ begun_with (has_fields fields) f
 has-fields [] None = refl
@@ -192,3 +190,113 @@ decoded-pieces limit p b [] = ap (decoded limit p) (sym (append-nil b))
 decoded-pieces limit p b (c ∷ cs) =
     ap (λ d. carried_through limit d cs) (sym (decoded-append limit p b c))
     ∙ decoded-pieces limit p (b ++ c) cs ∙ ap (decoded limit p) (append_assoc b c (concat cs))
+
+-- ---- the block after one instruction more
+
+applied-ok : (limit : ℕ) (p : Progress) (i : Shape) (g : Given) → apply limit (decoding p) i ≡ Ok g → applied limit p i ≡ Ok (progress_after p g)
+unfolding applied
+applied-ok limit p i g e = ap (progress_by p) e
+
+applied-err : (limit : ℕ) (p : Progress) (i : Shape) (fault : Fault) → apply limit (decoding p) i ≡ Err fault → applied limit p i ≡ Err fault
+unfolding applied
+applied-err limit p i fault e = ap (progress_by p) e
+
+pub applied-update : (limit : ℕ) (p : Progress) (n : ℕ) → has_fields p.fields ≡ false → n ≤ limit → applied limit p (Update n) ≡ Ok (record { fields = p.fields; table = resize p.table n; due = false })
+unfolding applied apply
+applied-update limit p n e h = rw (e, le-leb n limit h) (ap (λ (fs : List Field). let q : Progress = record { fields = fs; table = resize p.table n; due = false } in Ok q) (append-nil p.fields))
+
+pub applied-update_late : (limit : ℕ) (p : Progress) (n : ℕ) → has_fields p.fields ≡ true → applied limit p (Update n) ≡ Err SizeUpdate
+unfolding applied apply
+applied-update_late limit p n e = rw e refl
+
+pub applied-update_large : (limit : ℕ) (p : Progress) (n : ℕ) → has_fields p.fields ≡ false → limit < n → applied limit p (Update n) ≡ Err SizeUpdate
+unfolding applied apply
+applied-update_large limit p n e h = rw (e, lt-leb n limit h) refl
+
+pub applied-indexed_due : (limit : ℕ) (p : Progress) (i : ℕ) → p.due ≡ true → applied limit p (Indexed i) ≡ Err SizeUpdate
+unfolding applied apply
+applied-indexed_due limit p i e = rw e refl
+
+pub applied-indexed : (limit : ℕ) (p : Progress) (i : ℕ) (f : Field) → p.due ≡ false → field_at i p.table.entries ≡ Some f → applied limit p (Indexed i) ≡ Ok (record p { fields = p.fields ++ f ∷ [] })
+unfolding applied apply
+applied-indexed limit p i f e h = rw (e, h) refl
+
+pub applied-no_index : (limit : ℕ) (p : Progress) (i : ℕ) → p.due ≡ false → field_at i p.table.entries ≡ None → applied limit p (Indexed i) ≡ Err Index
+unfolding applied apply
+applied-no_index limit p i e h = rw (e, h) refl
+
+pub applied-literal_due : (limit : ℕ) (p : Progress) (mode : Mode) (name : NameRef Str) (value : Str) → p.due ≡ true → applied limit p (Literal mode name value) ≡ Err SizeUpdate
+unfolding applied apply
+applied-literal_due limit p mode name value e = rw e refl
+
+pub applied-literal : (limit : ℕ) (p : Progress) (mode : Mode) (name : NameRef Str) (value : Str) (n v : List ℕ) → p.due ≡ false → name_of name p.table.entries ≡ Ok n → text_result (text_of value) ≡ Ok v →
+    applied limit p (Literal mode name value) ≡ Ok (record p { fields = p.fields ++ field n v ∷ []; table = table_after mode p.table (field n v) })
+unfolding applied apply
+applied-literal limit p mode name value n v e h k = rw (e, h, k) refl
+
+pub applied-name_refused : (limit : ℕ) (p : Progress) (mode : Mode) (name : NameRef Str) (value : Str) (fault : Fault) → p.due ≡ false → name_of name p.table.entries ≡ Err fault →
+    applied limit p (Literal mode name value) ≡ Err fault
+unfolding applied apply
+applied-name_refused limit p mode name value fault e h = rw (e, h) refl
+
+pub applied-value_refused : (limit : ℕ) (p : Progress) (mode : Mode) (name : NameRef Str) (value : Str) (n : List ℕ) (fault : Fault) → p.due ≡ false → name_of name p.table.entries ≡ Ok n →
+    text_result (text_of value) ≡ Err fault → applied limit p (Literal mode name value) ≡ Err fault
+unfolding applied apply
+applied-value_refused limit p mode name value n fault e h k = rw (e, h, k) refl
+
+-- ---- a loop over the instructions of a block
+
+-- the first octets, so many, are whole instructions that lead to q, and the block goes on from there
+pub record Stands (limit : ℕ) (p : Progress) (b : List ℕ) (at : ℕ) (q : Progress) : Type 0 where
+  pub within : at ≤ length b
+  pub front : decoded limit p (take at b) ≡ record { progress = q; outcome = Unfinished [] }
+  pub rest : decoded limit p b ≡ decoded limit q (drop at b)
+
+nothing-whole : instr_at [] ≡ More
+unfolding instr_at
+nothing-whole = refl
+
+pub stands-start : (limit : ℕ) (p : Progress) (b : List ℕ) → Stands limit p b 0 p
+stands-start limit p b = record { within = omega arith; front = decoded-more limit p [] nothing-whole; rest = refl }
+
+applied-step : (limit : ℕ) (p q : Progress) (b : List ℕ) (i : Shape) (used : ℕ) (r : Result Given Fault) → instr_at b ≡ Whole i used → apply limit (decoding p) i ≡ r → progress_by p r ≡ Ok q → decoded limit p b ≡ decoded limit q (drop used b)
+applied-step limit p q b i used (Ok g) e k h = let same : progress_after p g ≡ q = cc in decoded-step limit p b i used g e k ∙ ap (λ x. decoded limit x (drop used b)) same
+applied-step limit p q b i used (Err fault) e k h = absurd cc
+
+applied-stop : (limit : ℕ) (p : Progress) (b : List ℕ) (i : Shape) (used : ℕ) (fault : Fault) (r : Result Given Fault) → instr_at b ≡ Whole i used → apply limit (decoding p) i ≡ r → progress_by p r ≡ Err fault →
+    decoded limit p b ≡ record { progress = p; outcome = Faulty fault }
+unfolding with_outcome
+applied-stop limit p b i used fault (Ok g) e k h = absurd cc
+applied-stop limit p b i used fault (Err f) e k h = let same : f ≡ fault = cc in decoded-refused limit p b i used f e k ∙ ap (λ x. with_outcome p (Faulty x)) same
+
+-- an instruction more
+pub stands-step : (limit : ℕ) (p q r : Progress) (b : List ℕ) (at used : ℕ) (i : Shape) → Stands limit p b at q → instr_at (drop at b) ≡ Whole i used → applied limit q i ≡ Ok r → Stands limit p b (at + used) r
+unfolding applied carried_on
+stands-step limit p q r b at used i s e k =
+    let u = whole-takes (drop at b) i used e in
+    let len = length-drop at b in
+    let whole = whole-exact (drop at b) i used e in
+    let piece = take used (drop at b) in
+    let step : decoded limit q piece ≡ decoded limit r (drop used piece) = applied-step limit q r piece i used (apply limit (decoding q) i) whole refl k in
+    let gone : drop used piece ≡ [] = drop_all used piece (omega (arith, length-take-le used (drop at b) u.1)) in
+    record {
+      within = omega (arith, s.within, u.1, len);
+      front = ap (decoded limit p) (take-add at used b) ∙ decoded-append limit p (take at b) piece ∙ ap (λ d. carried_on limit d piece) s.front
+          ∙ step ∙ ap (decoded limit r) gone ∙ decoded-more limit r [] nothing-whole;
+      rest = s.rest ∙ applied-step limit q r (drop at b) i used (apply limit (decoding q) i) e refl k ∙ ap (decoded limit r) (drop-drop used at b);
+    }
+
+-- no whole instruction more
+pub stands-more : (limit : ℕ) (p q : Progress) (b : List ℕ) (at : ℕ) → Stands limit p b at q → instr_at (drop at b) ≡ More → decoded limit p b ≡ record { progress = q; outcome = Unfinished (drop at b) }
+stands-more limit p q b at s e = s.rest ∙ decoded-more limit q (drop at b) e
+
+pub stands-too_long : (limit : ℕ) (p q : Progress) (b : List ℕ) (at : ℕ) → Stands limit p b at q → instr_at (drop at b) ≡ TooLong → decoded limit p b ≡ record { progress = q; outcome = Faulty Integer }
+stands-too_long limit p q b at s e = s.rest ∙ decoded-too_long limit q (drop at b) e
+
+pub stands-refused : (limit : ℕ) (p q : Progress) (b : List ℕ) (at used : ℕ) (i : Shape) (fault : Fault) → Stands limit p b at q → instr_at (drop at b) ≡ Whole i used → applied limit q i ≡ Err fault →
+    decoded limit p b ≡ record { progress = q; outcome = Faulty fault }
+unfolding applied
+stands-refused limit p q b at used i fault s e k = s.rest ∙ applied-stop limit q (drop at b) i used fault (apply limit (decoding q) i) e refl k
+
+pub stands-within : (limit : ℕ) (p q : Progress) (b : List ℕ) (at : ℕ) → Stands limit p b at q → StandsWithin limit p b q
+stands-within limit p q b at s = (at, s.front)

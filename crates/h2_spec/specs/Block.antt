@@ -1,5 +1,5 @@
 -- What a field block does: its fields, and the table after it (RFC 7541, 3; RFC 9113, 4.3).
-use Rattle.std.specs.Prelude.{ℕ, ◌-◌, ◌^◌, Bool, true, false, ◌&&◌, not, List, [], ◌∷◌, ◌++◌, min, nat_le, if◌then◌else◌, Option, Some, None, Result, Ok, Err}
+use Rattle.std.specs.Prelude.{◌≡◌, ℕ, ◌-◌, ◌^◌, Bool, true, false, ◌&&◌, not, List, [], ◌∷◌, ◌++◌, take, min, nat_le, if◌then◌else◌, Option, Some, None, option_map, option_to_list, Result, Ok, Err}
 use Rattle.h2_spec.specs.Field.{Field, field}
 use Rattle.h2_spec.specs.DynamicTable.{Table, total_size, insert, resize, field_at}
 use Rattle.h2_spec.specs.Huffman.{HuffRead, Text, Eos, Padding, huffman_text}
@@ -141,6 +141,19 @@ has_fields (f ∷ fs) = true
 abbrev pub decoding : Progress → Decoding
 decoding p = record { table = p.table; begun = has_fields p.fields; due = p.due }
 
+-- how far a block has come after an instruction
+abbrev pub progress_after : Progress → Given → Progress
+progress_after p g = record { fields = p.fields ++ option_to_list g.field; table = g.after.table; due = g.after.due }
+
+abbrev pub progress_by : Progress → Result Given Fault → Result Progress Fault
+progress_by p (Ok g) = Ok (progress_after p g)
+progress_by p (Err fault) = Err fault
+
+-- the block after one instruction more, or why that is refused
+unfoldable pub applied : ℕ → Progress → Shape → Result Progress Fault
+unfolding apply
+applied limit p i = progress_by p (apply limit (decoding p) i)
+
 -- the block carried on over more octets: its instructions in order, up to the first that is refused
 unfoldable pub decoded : ℕ → Progress → List ℕ → Decoded
 unfolding parse_all next_instr outcome_of
@@ -157,6 +170,31 @@ unfoldable pub carried_through : ℕ → Decoded → List (List ℕ) → Decoded
 unfolding carried_on
 carried_through limit d [] = d
 carried_through limit d (piece ∷ pieces) = carried_through limit (carried_on limit d piece) pieces
+
+-- ---- what a decoder holds of a block
+
+-- the fields so far, and whether a size update is still due
+pub record FieldsSoFar : Type 0 where
+  pub fields : List Field
+  pub due : Bool
+
+-- the same, and how the block ends so far; nothing where memory was refused
+pub record BlockSoFar : Type 0 where
+  pub fields : List Field
+  pub due : Bool
+  pub outcome : Option Outcome
+
+-- with the table, how far a block has come
+abbrev pub progress_with : Table → FieldsSoFar → Progress
+progress_with table s = record { fields = s.fields; table = table; due = s.due }
+
+-- with the table, the block decoded so far; none where memory was refused
+abbrev pub decoded_with : Table → BlockSoFar → Option Decoded
+decoded_with table s = option_map (λ o. let d : Decoded = record { progress = record { fields = s.fields; table = table; due = s.due }; outcome = o } in d) s.outcome
+
+-- a block stands as after some of its first octets, which are whole instructions
+abbrev pub StandsWithin : ℕ → Progress → List ℕ → Progress → Type 0
+StandsWithin limit before b now = (n : ℕ) × (decoded limit before (take n b) ≡ record { progress = now; outcome = Unfinished [] })
 
 -- the size of a list of fields, as far as 64 bits go (RFC 9113, 6.5.2)
 abbrev pub list_size : List Field → ℕ
