@@ -1,0 +1,4 @@
+pub mod Asked
+pub mod ReasonNumber
+pub mod Seen
+pub mod Walk

@@ -1,0 +1,9 @@
+//! Requests and the book of answers: which fields make a request or trailers (RFC 9113, 8.1 to 8.5), and what is answered.
+//! It rests on `h2_fields` (fields, response blocks) and the definitions of `h2_spec`: Request, Reasons, Answer, Book and
+//! AnswerWords.
+#![tactic(auto)]
+
+pub mod octets;
+pub mod reason;
+mod walk;
+pub mod well_formed;

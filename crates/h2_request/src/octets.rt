@@ -1,0 +1,145 @@
+//! Tests of one field's name or value (RFC 9113, 8.1.1, 8.2 and 8.3).
+//! It rests on nothing; each is the test of its name in `h2_spec`, specs/Request.antt.
+
+ghost use Rattle.std.specs.Prelude.{◌≡◌, ◌≤◌, ◌==◌, ◌||◌, not, drop, length, codes, bytes_eq, map, if◌then◌else◌};
+ghost use Rattle.std.specs.Char.{to_ascii_lowercase};
+ghost use Rattle.std.specs.List.{list_any, list_all};
+ghost use Rattle.h2_spec.specs.Request.{first_is, last_is, is_between, is_colon, is_outside_names, is_outside_values, is_blank, is_digits, decimal_value, request_pseudo, connection_names};
+
+/// Whether a name is empty, has an octet that no name has, or a colon that is not its first octet.
+pub fn is_bad_name(name: &[u8]) -> bool
+    ensures { result ≡ (length name.now == 0 || list_any is_outside_names name.now || list_any is_colon (drop 1 name.now)) }
+{
+    name.is_empty() || has_outside_names(name) || has_colon(behind_first(name))
+}
+
+fn has_outside_names(octets: &[u8]) -> bool
+    ensures { result ≡ list_any is_outside_names octets.now }
+{
+    octets.iter().any(|octet| is_outside(*octet))
+}
+
+fn has_colon(octets: &[u8]) -> bool
+    ensures { result ≡ list_any is_colon octets.now }
+{
+    octets.iter().any(|octet| *octet == b':')
+}
+
+/// What stands behind the first octet; no octets where there is none.
+fn behind_first(octets: &[u8]) -> &[u8]
+    ensures { result.now ≡ drop 1 octets.now }
+{
+    match octets {
+        [] => octets,
+        [_, rest @ ..] => rest,
+    }
+}
+
+/// Whether no name has this octet: a control, a space, a capital letter, or one from 7f on.
+fn is_outside(octet: u8) -> bool
+    ensures { result ≡ is_outside_names octet }
+{
+    octet <= 0x20 || (0x41 <= octet && octet <= 0x5a) || 0x7f <= octet
+}
+
+/// Whether a value has an octet that no value has, or begins or ends with a blank.
+pub fn is_bad_value(value: &[u8]) -> bool
+    ensures { result ≡ (list_any is_outside_values value.now || first_is is_blank value.now || last_is is_blank value.now) }
+{
+    has_outside_values(value) || begins_blank(value) || ends_blank(value)
+}
+
+fn has_outside_values(octets: &[u8]) -> bool
+    ensures { result ≡ list_any is_outside_values octets.now }
+{
+    octets
+        .iter()
+        .any(|octet| *octet == 0x00 || *octet == 0x0a || *octet == 0x0d)
+}
+
+fn begins_blank(value: &[u8]) -> bool
+    ensures { result ≡ first_is is_blank value.now }
+{
+    match value {
+        [] => false,
+        [first, ..] => is_space_or_tab(*first),
+    }
+}
+
+fn ends_blank(value: &[u8]) -> bool
+    ensures { result ≡ last_is is_blank value.now }
+{
+    match value.last() {
+        None => false,
+        Some(last) => is_space_or_tab(*last),
+    }
+}
+
+fn is_space_or_tab(octet: u8) -> bool
+    ensures { result ≡ is_blank octet }
+{
+    octet == b' ' || octet == b'\t'
+}
+
+/// Whether a name begins with a colon.
+pub fn is_pseudo_name(name: &[u8]) -> bool
+    ensures { result ≡ first_is is_colon name.now }
+{
+    match name {
+        [] => false,
+        [first, ..] => *first == b':',
+    }
+}
+
+/// Whether a name is one of a request's pseudo-fields.
+pub fn is_request_pseudo(name: &[u8]) -> bool
+    ensures { result ≡ list_any (λ other. bytes_eq name.now other) request_pseudo }
+{
+    name == b":method".as_slice()
+        || name == b":scheme".as_slice()
+        || name == b":path".as_slice()
+        || name == b":authority".as_slice()
+}
+
+/// Whether a name is one of an HTTP/1.1 connection's fields.
+pub fn is_connection_name(name: &[u8]) -> bool
+    ensures { result ≡ list_any (λ other. bytes_eq name.now other) connection_names }
+{
+    name == b"connection".as_slice()
+        || name == b"proxy-connection".as_slice()
+        || name == b"keep-alive".as_slice()
+        || name == b"transfer-encoding".as_slice()
+        || name == b"upgrade".as_slice()
+}
+
+/// Whether a value is `trailers`, in any case of its letters.
+pub fn is_trailers(value: &[u8]) -> bool
+    ensures { result ≡ bytes_eq (map to_ascii_lowercase value.now) (codes "trailers") }
+{
+    value.eq_ignore_ascii_case(b"trailers")
+}
+
+/// The number that 1 to 18 decimal digits write, or none where the octets are something else.
+pub fn number_of(digits: &[u8]) -> Option<u64>
+    ensures { result ≡ (if is_digits digits.now then Some (decimal_value digits.now) else None) }
+{
+    if digits.is_empty() || digits.len() > 18 {
+        return None;
+    }
+    number_of_digits(digits)
+}
+
+/// The number that at most 18 decimal digits write.
+fn number_of_digits(digits: &[u8]) -> Option<u64>
+    requires { length digits.now ≤ 18 }
+    ensures { result ≡ (if list_all (is_between 48 57) digits.now then Some (decimal_value digits.now) else None) }
+{
+    let mut number: u64 = 0;
+    for digit in digits {
+        if *digit < b'0' || *digit > b'9' {
+            return None;
+        }
+        number = 10 * number + u64::from(*digit - b'0');
+    }
+    Some(number)
+}

@@ -1,0 +1,213 @@
+//! What one walk over a list of fields notes: marks of fields alone, the pseudo-fields, and the content-length.
+//! It rests on `octets`; how a field more changes each is `marked`, `noted` and `measured` of specs/Walk.antt, and that
+//! they then say what the definitions test of the whole list is proved in proofs/Seen.antt.
+
+ghost use Rattle.std.specs.Prelude.{◌≡◌, false};
+ghost use Rattle.h2_spec.specs.Field.{field};
+ghost use Rattle.h2_request.specs.Walk.{marked, noted, measured, pseudo_of, with_pseudo};
+ghost use Rattle.h2_request.specs.Seen.{AreSeen};
+
+use crate::octets;
+use h2_fields::field::Field;
+use std::alloc::Allocator;
+
+/// Which tests of a field alone some field has passed.
+#[derive(Clone, Copy)]
+pub struct Marks {
+    pub bad_name: bool,
+    pub bad_value: bool,
+    pub pseudo: bool,
+    pub of_connection: bool,
+    pub bad_te: bool,
+}
+
+impl Marks {
+    /// Of no field.
+    pub fn none() -> Self
+        ensures { result ≡ record { bad_name = false; bad_value = false; pseudo = false; of_connection = false; bad_te = false } }
+    {
+        Marks {
+            bad_name: false,
+            bad_value: false,
+            pseudo: false,
+            of_connection: false,
+            bad_te: false,
+        }
+    }
+
+    /// With one field more.
+    pub fn with(self, name: &[u8], value: &[u8]) -> Self
+        ensures { result ≡ marked self (field name.now value.now) }
+    {
+        Marks {
+            bad_name: self.bad_name || octets::is_bad_name(name),
+            bad_value: self.bad_value || octets::is_bad_value(value),
+            pseudo: self.pseudo || octets::is_pseudo_name(name),
+            of_connection: self.of_connection || octets::is_connection_name(name),
+            bad_te: self.bad_te || (name == b"te".as_slice() && !octets::is_trailers(value)),
+        }
+    }
+}
+
+/// The pseudo-fields of a request: the first value of each, and what stands against them.
+#[derive(Clone, Copy)]
+pub struct PseudoFields<'a> {
+    pub regular: bool,
+    pub late: bool,
+    pub unknown: bool,
+    pub double: bool,
+    pub method: Option<&'a [u8]>,
+    pub scheme: Option<&'a [u8]>,
+    pub path: Option<&'a [u8]>,
+    pub authority: Option<&'a [u8]>,
+}
+
+impl<'a> PseudoFields<'a> {
+    /// Of no field; the values are lent by these.
+    pub fn none<A: Allocator>(_lender: &'a [Field<A>]) -> Self
+        ensures { pseudo_of result ≡ record { regular = false; late = false; unknown = false; double = false; method = None; scheme = None; path = None; authority = None } }
+    {
+        PseudoFields {
+            regular: false,
+            late: false,
+            unknown: false,
+            double: false,
+            method: None,
+            scheme: None,
+            path: None,
+            authority: None,
+        }
+    }
+
+    /// With one field more.
+    pub fn with(self, name: &[u8], value: &'a [u8]) -> Self
+        ensures { pseudo_of result ≡ noted (pseudo_of self.entry) (field name.now value.now) }
+    {
+        if octets::is_pseudo_name(name) {
+            let late = self.late || self.regular;
+            PseudoFields { late, ..self }.with_pseudo(name, value)
+        } else {
+            PseudoFields {
+                regular: true,
+                ..self
+            }
+        }
+    }
+
+    /// With one pseudo-field more.
+    fn with_pseudo(self, name: &[u8], value: &'a [u8]) -> Self
+        ensures { pseudo_of result ≡ with_pseudo (pseudo_of self.entry) (field name.now value.now) }
+    {
+        if name == b":method".as_slice() {
+            let double = self.double || self.method.is_some();
+            let method = Some(self.method.unwrap_or(value));
+            PseudoFields {
+                double,
+                method,
+                ..self
+            }
+        } else if name == b":scheme".as_slice() {
+            let double = self.double || self.scheme.is_some();
+            let scheme = Some(self.scheme.unwrap_or(value));
+            PseudoFields {
+                double,
+                scheme,
+                ..self
+            }
+        } else if name == b":path".as_slice() {
+            let double = self.double || self.path.is_some();
+            let path = Some(self.path.unwrap_or(value));
+            PseudoFields {
+                double,
+                path,
+                ..self
+            }
+        } else if name == b":authority".as_slice() {
+            let double = self.double || self.authority.is_some();
+            let authority = Some(self.authority.unwrap_or(value));
+            PseudoFields {
+                double,
+                authority,
+                ..self
+            }
+        } else {
+            PseudoFields {
+                unknown: true,
+                ..self
+            }
+        }
+    }
+}
+
+/// The content-length of a request: its number, and whether one is no number or another number.
+#[derive(Clone, Copy)]
+pub struct ContentLength {
+    pub declared: Option<u64>,
+    pub bad: bool,
+}
+
+impl ContentLength {
+    /// Of no field.
+    pub fn none() -> Self
+        ensures { result ≡ record { declared = None; bad = false } }
+    {
+        ContentLength {
+            declared: None,
+            bad: false,
+        }
+    }
+
+    /// With one field more.
+    pub fn with(self, name: &[u8], value: &[u8]) -> Self
+        ensures { result ≡ measured self (field name.now value.now) }
+    {
+        if name != b"content-length".as_slice() {
+            return self;
+        }
+        match (octets::number_of(value), self.declared) {
+            (None, _) => ContentLength {
+                declared: self.declared,
+                bad: true,
+            },
+            (Some(number), None) => ContentLength {
+                declared: Some(number),
+                bad: self.bad,
+            },
+            (Some(number), Some(first)) => ContentLength {
+                declared: Some(first),
+                bad: self.bad || number != first,
+            },
+        }
+    }
+}
+
+/// All that is seen of a list of fields.
+#[derive(Clone, Copy)]
+pub struct Seen<'a> {
+    pub marks: Marks,
+    pub pseudo: PseudoFields<'a>,
+    pub length: ContentLength,
+}
+
+impl<'a> Seen<'a> {
+    /// Of these fields, in one walk over them.
+    pub fn of<A: Allocator>(fields: &'a [Field<A>]) -> Self
+        ensures { AreSeen fields.now result }
+    {
+        let mut marks = Marks::none();
+        let mut pseudo = PseudoFields::none(fields);
+        let mut length = ContentLength::none();
+        for field in fields {
+            let name = field.name.as_slice();
+            let value = field.value.as_slice();
+            marks = marks.with(name, value);
+            pseudo = pseudo.with(name, value);
+            length = length.with(name, value);
+        }
+        Seen {
+            marks,
+            pseudo,
+            length,
+        }
+    }
+}

@@ -1,0 +1,165 @@
+//! Whether fields make a request or trailers, and what a request asks for (RFC 9113, 8.1 to 8.5).
+//! It rests on `walk`; the definitions are `malformed`, `malformed_trailers` and `request_of` of `h2_spec`,
+//! specs/Request.antt, which specs/Reasons.antt says once more of the places of fields in their list.
+
+ghost use Rattle.std.specs.Prelude.{◌≡◌, ◌==◌, [], length, unwrap_or, IfOk, IfErr, OnOk};
+ghost use Rattle.std.specs.Option.{option_map, option_copied};
+ghost use Rattle.h2_spec.specs.Request.{malformed, malformed_trailers, request_of};
+ghost use Rattle.h2_request.specs.Asked.{asked, request_seen};
+ghost use Rattle.h2_request.specs.ReasonNumber.{reason_number};
+ghost use Rattle.h2_request.specs.Seen.{seen_reason, seen_trailers_reason, is_lacking};
+ghost use Rattle.h2_request.specs.Walk.{pseudo_of};
+
+use crate::reason::{Malformed, Reason};
+use crate::walk::{Marks, PseudoFields, Seen};
+use h2_fields::field::Field;
+use std::alloc::Allocator;
+
+/// What well-formed fields ask for; method and path are lent by the fields.
+#[derive(Clone, Copy, Debug)]
+pub struct Request<'a> {
+    /// Whether the method is CONNECT (RFC 9113, 8.5).
+    pub connect: bool,
+    /// The value of `:method`.
+    pub method: &'a [u8],
+    /// The value of `:path`; empty for CONNECT.
+    pub path: &'a [u8],
+    /// The number of the `content-length`, below 10^18, or none where there is no such field (RFC 9113, 8.1.1).
+    pub declared: Option<u64>,
+}
+
+/// What the fields of a request ask for. One walk over the fields; no memory is taken.
+///
+/// # Errors
+///
+/// `Malformed` with the least reason that stands against the fields (RFC 9113, 8.1.1, 8.2, 8.3 and 8.5).
+pub fn check<A: Allocator>(fields: &[Field<A>]) -> Result<Request<'_>, Malformed>
+    ensures accepted { OnOk result (malformed fields.now ≡ None) }
+    ensures request { IfOk result (λ request. asked request ≡ request_of fields.now) }
+    ensures refused { IfErr result (λ e. malformed fields.now ≡ Some (reason_number e.0)) }
+{
+    let seen = Seen::of(fields);
+    match request_reason(seen) {
+        Some(reason) => Err(Malformed(reason)),
+        None => Ok(requested(seen)),
+    }
+}
+
+/// Whether fields make trailers. One walk over the fields; no memory is taken.
+///
+/// # Errors
+///
+/// `Malformed` with the least reason that stands against the fields: `BadName`, `BadValue`, `UnknownPseudoField` for any
+/// pseudo-field, `ConnectionField` or `BadTe` (RFC 9113, 8.1 and 8.2).
+pub fn check_trailers<A: Allocator>(fields: &[Field<A>]) -> Result<(), Malformed>
+    ensures accepted { OnOk result (malformed_trailers fields.now ≡ None) }
+    ensures refused { IfErr result (λ e. malformed_trailers fields.now ≡ Some (reason_number e.0)) }
+{
+    match trailers_reason(Seen::of(fields).marks) {
+        Some(reason) => Err(Malformed(reason)),
+        None => Ok(()),
+    }
+}
+
+/// The least reason against a request of which this is seen.
+fn request_reason(seen: Seen<'_>) -> Option<Reason>
+    ensures { option_map reason_number result ≡ seen_reason seen.entry.marks (pseudo_of seen.entry.pseudo) seen.entry.length }
+{
+    let Seen {
+        marks,
+        pseudo,
+        length,
+    } = seen;
+    if marks.bad_name {
+        Some(Reason::BadName)
+    } else if marks.bad_value {
+        Some(Reason::BadValue)
+    } else if pseudo.late {
+        Some(Reason::LatePseudoField)
+    } else if pseudo.unknown {
+        Some(Reason::UnknownPseudoField)
+    } else if pseudo.double {
+        Some(Reason::DoublePseudoField)
+    } else if lacks(pseudo) {
+        Some(Reason::LackingPseudoField)
+    } else if marks.of_connection {
+        Some(Reason::ConnectionField)
+    } else if marks.bad_te {
+        Some(Reason::BadTe)
+    } else if length.bad {
+        Some(Reason::BadContentLength)
+    } else {
+        None
+    }
+}
+
+/// The least reason against trailers of which this is seen.
+fn trailers_reason(marks: Marks) -> Option<Reason>
+    ensures { option_map reason_number result ≡ seen_trailers_reason marks }
+{
+    if marks.bad_name {
+        Some(Reason::BadName)
+    } else if marks.bad_value {
+        Some(Reason::BadValue)
+    } else if marks.pseudo {
+        Some(Reason::UnknownPseudoField)
+    } else if marks.of_connection {
+        Some(Reason::ConnectionField)
+    } else if marks.bad_te {
+        Some(Reason::BadTe)
+    } else {
+        None
+    }
+}
+
+/// Whether a pseudo-field that has to be there is not, or one is there that may not be (RFC 9113, 8.3.1 and 8.5).
+fn lacks(pseudo: PseudoFields<'_>) -> bool
+    ensures { result ≡ is_lacking (pseudo_of pseudo.entry) }
+{
+    match pseudo.method {
+        None => true,
+        Some(method) => {
+            if method == b"CONNECT".as_slice() {
+                pseudo.authority.is_none() || pseudo.scheme.is_some() || pseudo.path.is_some()
+            } else {
+                pseudo.scheme.is_none() || is_missing_or_empty(pseudo.path)
+            }
+        }
+    }
+}
+
+fn is_missing_or_empty(value: Option<&[u8]>) -> bool
+    ensures { result ≡ (length (unwrap_or (option_copied value.entry) []) == 0) }
+{
+    match value {
+        None => true,
+        Some(octets) => octets.is_empty(),
+    }
+}
+
+/// What fields of which this is seen ask for, if they are well-formed.
+fn requested(seen: Seen<'_>) -> Request<'_>
+    ensures { asked result ≡ request_seen (pseudo_of seen.entry.pseudo) seen.entry.length }
+{
+    let method = octets_or_none(seen.pseudo.method);
+    let connect = method == b"CONNECT".as_slice();
+    Request {
+        connect,
+        method,
+        path: if connect {
+            b"".as_slice()
+        } else {
+            octets_or_none(seen.pseudo.path)
+        },
+        declared: seen.length.declared,
+    }
+}
+
+fn octets_or_none(value: Option<&[u8]>) -> &[u8]
+    ensures { result.now ≡ unwrap_or (option_copied value.entry) [] }
+{
+    match value {
+        None => b"".as_slice(),
+        Some(octets) => octets,
+    }
+}
