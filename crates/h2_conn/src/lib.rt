@@ -7,5 +7,6 @@ mod data;
 mod ends;
 mod headers;
 mod reset;
+mod settings;
 mod window_update;
 mod write;
