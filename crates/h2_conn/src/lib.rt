@@ -6,6 +6,7 @@ mod checks;
 mod data;
 mod ends;
 mod headers;
+mod pump;
 mod reset;
 mod settings;
 mod window_update;

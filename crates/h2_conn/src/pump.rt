@@ -1,0 +1,157 @@
+//! Sending what waits, as far as the windows go (RFC 9113, 5.2 and 6.9).
+//! Rests on `ends` and on h2_streams; definition: h2_spec's `specs/Pump.antt`.
+
+ghost use Rattle.std.specs.Prelude.{◌≡◌, ℕ, ◌+◌, ◌-◌, ◌<◌, ◌≤◌, ◌++◌, ◌==◌, length, IfOk, OnOk, OnErr, take, drop, vec_len, ◌^◌, pos, ◌-ℤ◌, ◌≤ℤ◌};
+ghost use Rattle.h2_spec.specs.Change as changes;
+ghost use Rattle.h2_spec.specs.Frame.{frames_octets};
+ghost use Rattle.h2_spec.specs.Pump as rule;
+ghost use Rattle.h2_spec.specs.Stream.{octets_waiting};
+ghost use Rattle.h2_spec.specs.Window.{sendable};
+
+use crate::ends::{server_ended, with_left};
+use h2_frame::append_frame;
+use h2_spec::flow::Window;
+use h2_spec::streams::{Numbers, Stream};
+use h2_streams::octets_waiting;
+use std::alloc::{AllocError, Allocator};
+
+/// The octets that a window lets pass.
+fn sendable(window: Window) -> u64
+    ensures sendable { result ≡ sendable window }
+    ensures few { result ≤ 2147483647 }
+{
+    let value = window.value();
+    if value < 0 { 0 } else { value as u64 }
+}
+
+/// What a stream sends, where this much of the connection's window is left by those before it.
+#[tactic(auto, unfolding(h2_spec::specs::Pump::share))]
+fn share(window: u64, stream: &Stream) -> u64
+    ensures share { result ≡ rule.share window stream.now }
+    ensures within { (result ≤ window) × (result ≤ octets_waiting stream.now) × (result ≤ sendable stream.now.numbers.send) × (result ≤ 2147483647) }
+{
+    let waiting = octets_waiting(stream);
+    let most = sendable(stream.numbers.send);
+    waiting.min(most).min(window)
+}
+
+fn octets_at(octets: &[u8], start: usize, count: usize) -> &[u8]
+    requires { start + count ≤ length octets.now }
+    ensures { result.now ≡ take count (drop start octets.now) }
+{
+    &octets[start..start + count]
+}
+
+fn octets_from(octets: &[u8], start: usize) -> &[u8]
+    requires { start ≤ length octets.now }
+    ensures { result.now ≡ drop start octets.now }
+{
+    &octets[start..]
+}
+
+/// END_STREAM, on the frame that ends a body.
+fn end_flag(ends: bool) -> u8
+    ensures { result ≡ changes.flag_if ends 1 }
+{
+    if ends { 1 } else { 0 }
+}
+
+/// Writes one DATA that is not the last of them, or nothing; answers where the next begins.
+fn write_piece<A: Allocator>(
+    id: u32,
+    ends: bool,
+    size: usize,
+    octets: &[u8],
+    at: usize,
+    out: &mut Vec<u8, A>,
+) -> Result<usize, AllocError>
+    requires size { (0 < size) × (size < 2 ^ 24) }
+    requires more { size < length octets.now - at }
+    ensures at { IfOk result (λ next. (at < next) × (next < length octets.now)) }
+    ensures ok { IfOk result (λ next. out.new.items ++ frames_octets (rule.data_frames id ends size (drop next octets.now)) ≡ out.old.items ++ frames_octets (rule.data_frames id ends size (drop at octets.now))) }
+    ensures kept { take (vec_len out.old) out.new.items ≡ out.old.items }
+{
+    append_frame(0, 0, id, &[], octets_at(octets, at, size), out)?;
+    Ok(at + size)
+}
+
+/// Writes octets as DATA of this size and a shorter or equal last one, whole or in part.
+fn write_pieces<A: Allocator>(
+    id: u32,
+    ends: bool,
+    size: usize,
+    octets: &[u8],
+    out: &mut Vec<u8, A>,
+) -> Result<(), AllocError>
+    requires size { (0 < size) × (size < 2 ^ 24) }
+    requires some { 0 < length octets.now }
+    ensures ok { OnOk result (out.new.items ≡ out.old.items ++ frames_octets (rule.data_frames id ends size octets.now)) }
+    ensures kept { take (vec_len out.old) out.new.items ≡ out.old.items }
+{
+    let mut at = 0;
+    while octets.len() - at > size {
+        at = write_piece(id, ends, size, octets, at, out)?;
+    }
+    append_frame(0, end_flag(ends), id, &[], octets_from(octets, at), out)
+}
+
+/// The octets of a body that are sent, where this many are left of it.
+fn share_octets(body: &[u8], left: u64, share: u64) -> &[u8]
+    requires waits { share ≤ left }
+    requires left { left ≤ length body.now }
+    ensures { result.now ≡ take share (drop (length body.now - left) body.now) }
+{
+    octets_at(body, body.len() - left as usize, share as usize)
+}
+
+/// Writes the frames of a stream's share of its answer's body, whole or in part.
+fn write_share<A: Allocator>(
+    size: usize,
+    share: u64,
+    stream: &Stream,
+    body: &[u8],
+    out: &mut Vec<u8, A>,
+) -> Result<(), AllocError>
+    requires size { (0 < size) × (size < 2 ^ 24) }
+    requires some { 0 < share }
+    requires waits { share ≤ octets_waiting stream.now }
+    requires left { octets_waiting stream.now ≤ length body.now }
+    ensures ok { OnOk result (out.new.items ≡ out.old.items ++ frames_octets (rule.data_frames stream.now.id (octets_waiting stream.now == share) size (take share (drop (length body.now - octets_waiting stream.now) body.now)))) }
+    ensures kept { take (vec_len out.old) out.new.items ≡ out.old.items }
+{
+    let left = octets_waiting(stream);
+    let octets = share_octets(body, left, share);
+    write_pieces(stream.id, left == share, size, octets, out)
+}
+
+/// The record with octets taken from its send window.
+fn with_paid(stream: Stream, count: u32) -> Stream
+    requires { pos count ≤ℤ stream.numbers.send }
+    ensures { result ≡ rule.with_paid stream count }
+{
+    let numbers = stream.numbers;
+    let numbers = Numbers {
+        send: numbers.send.minus(count),
+        ..numbers
+    };
+    Stream { numbers, ..stream }
+}
+
+/// The stream after it sent its share.
+#[tactic(auto, unfolding(h2_spec::specs::Pump::after_sending))]
+fn after_sending(share: u64, stream: &Stream) -> Stream
+    requires waits { share ≤ octets_waiting stream.now }
+    requires within { (share ≤ sendable stream.now.numbers.send) × (share ≤ 2147483647) }
+    ensures { result ≡ rule.after_sending share stream.now }
+{
+    if share == 0 {
+        return *stream;
+    }
+    let left = octets_waiting(stream);
+    let paid = with_paid(*stream, share as u32);
+    if left == share {
+        server_ended(paid)
+    } else {
+        with_left(paid, left - share)
+    }
+}
