@@ -1,1 +1,2 @@
+mod AboveLaws
 mod Pieces

@@ -1,0 +1,278 @@
+-- How sending in the order of the identifiers goes forward by one stream that waits.
+use Rattle.std.proofs.Common.{◌≡◌, ℕ, zero, suc, ◌+◌, ◌-◌, ◌*◌, ◌%◌, ◌<◌, ◌≤◌, Bool, true, false, cond, List, [], ◌∷◌, ◌++◌, length, take, drop, refl, sym, ap, subst, ◌∙◌, arith, ltb, ltb-true, ltb-false, le-ltb, lt-ltb, eqb, eqb-true, Option, Some, None, min}
+use Rattle.std.proofs.lemmas.Bool.{false≢true}
+use Rattle.std.proofs.lemmas.Bool.Decides.{nat_tests}
+use Rattle.std.specs.Prelude.{find, nat_lt, ◌&&◌, ◌==◌}
+use Rattle.h2_spec.specs.declared.streams.Stream.{Stream}
+use Rattle.h2_spec.specs.declared.streams.Kind.{Kind}
+use Rattle.h2_spec.specs.declared.streams.Kind.TheVariants.{Idle, Skipped, BothOpen, HalfRemote, HalfLocal, Ended, PeerReset, WeReset}
+use Rattle.h2_spec.specs.Ends.{server_ended_as, with_left}
+use Rattle.h2_spec.specs.Answer.{Entry, picked}
+use Rattle.h2_spec.specs.Frame.{Frame}
+use Rattle.h2_spec.specs.Window.{sendable}
+use Rattle.h2_spec.specs.Stream.{AreRising, put, record_of, stream_at, recorded, is_id, waits_above, octets_waiting}
+use Rattle.h2_spec.specs.Pump.{share, share_frames, after_sending, sent_frames, all_after_sending, window_left, with_paid}
+use Rattle.h2_conn.specs.Above.{share_above, frames_above, streams_above, left_above}
+
+-- ---- a stream that sends nothing
+
+no_frames : (book : List Entry) (size : ℕ) (st : Stream) → share_frames book size 0 st ≡ []
+unfolding share_frames
+no_frames book size st = refl
+
+same_stream : (st : Stream) → after_sending 0 st ≡ st
+unfolding after_sending
+same_stream st = refl
+
+no_share : (window : ℕ) (st : Stream) → octets_waiting st ≡ 0 → share window st ≡ 0
+unfolding share
+no_share window st e = rw e (omega arith)
+
+less_nothing : (n : ℕ) → n - 0 ≡ n
+less_nothing n = omega arith
+
+idle : (after window : ℕ) (st : Stream) → waits_above after st ≡ false → share_above after window st ≡ 0
+idle after window st e = at (nat_lt after st.id) e
+  where
+    none : (n : ℕ) → nat_lt 0 n ≡ false → n ≡ 0
+    none zero e = refl
+    none (suc n) e = absurd (let h = ltb-false 0 (suc n) e in omega (arith, h))
+
+    at : (t : Bool) → (t && nat_lt 0 (octets_waiting st)) ≡ false → cond t (share window st) 0 ≡ 0
+    at false e = refl
+    at true e = no_share window st (none (octets_waiting st) e)
+
+-- ---- the order of the records
+
+some_same : {A : Type 0} (x y : A) → Some x ≡ Some y → x ≡ y
+some_same x y e = cc
+
+none_some : {A : Type 0} (x : A) → None ≡ Some x → ⊥
+none_some x e = cc
+
+found_above : (p : Stream → Bool) (low last : ℕ) (ss : List Stream) (st : Stream) → AreRising low last ss → find p ss ≡ Some st → low < st.id
+found_above p low last [] st r e = absurd (none_some st e)
+found_above p low last (x ∷ xs) st r e = at (λ g. found_above p x.id last xs st r.3 g) (p x) e
+  where
+    at : (find p xs ≡ Some st → x.id < st.id) → (t : Bool) → cond t (Some x) (find p xs) ≡ Some st → low < st.id
+    at more true e = let P : Stream → Type 0 = λ y. low < y.id in subst P (some_same x st e) r.0
+    at more false e = let h = more e in let l = r.0 in omega arith
+
+-- above one identifier and above another, both below all records, the same is sent
+same_frames : (book : List Entry) (size : ℕ) (a b low last window : ℕ) (ss : List Stream) → AreRising low last ss → a ≤ low → b ≤ low → frames_above book size a window ss ≡ frames_above book size b window ss
+same_frames book size a b low last window [] r h g = refl
+same_frames book size a b low last window (x ∷ xs) r h g =
+    let over : nat_lt a x.id ≡ true = let l = r.0 in grind (arith, nat_tests, l, h) in
+    let above : nat_lt b x.id ≡ true = let l = r.0 in grind (arith, nat_tests, l, g) in
+    let l = r.0 in
+    rw (over, above) (ap (λ fs. share_frames book size (share window x) x ++ fs) (same_frames book size a b x.id last (window - share window x) xs r.3 (omega arith) (omega arith)))
+
+same_streams : (a b low last window : ℕ) (ss : List Stream) → AreRising low last ss → a ≤ low → b ≤ low → streams_above a window ss ≡ streams_above b window ss
+same_streams a b low last window [] r h g = refl
+same_streams a b low last window (x ∷ xs) r h g =
+    let over : nat_lt a x.id ≡ true = let l = r.0 in grind (arith, nat_tests, l, h) in
+    let above : nat_lt b x.id ≡ true = let l = r.0 in grind (arith, nat_tests, l, g) in
+    let l = r.0 in
+    rw (over, above) (ap (λ sts. after_sending (share window x) x ∷ sts) (same_streams a b x.id last (window - share window x) xs r.3 (omega arith) (omega arith)))
+
+same_left : (a b low last window : ℕ) (ss : List Stream) → AreRising low last ss → a ≤ low → b ≤ low → left_above a window ss ≡ left_above b window ss
+same_left a b low last window [] r h g = refl
+same_left a b low last window (x ∷ xs) r h g =
+    let over : nat_lt a x.id ≡ true = let l = r.0 in grind (arith, nat_tests, l, h) in
+    let above : nat_lt b x.id ≡ true = let l = r.0 in grind (arith, nat_tests, l, g) in
+    let l = r.0 in
+    rw (over, above) (same_left a b x.id last (window - share window x) xs r.3 (omega arith) (omega arith))
+
+-- ---- from the beginning, all send
+
+pub all_frames : (book : List Entry) (size low last window : ℕ) (ss : List Stream) → AreRising low last ss → frames_above book size low window ss ≡ sent_frames book size window ss
+unfolding sent_frames
+all_frames book size low last window [] r = refl
+all_frames book size low last window (x ∷ xs) r =
+    let over : nat_lt low x.id ≡ true = let l = r.0 in grind (arith, nat_tests, l) in
+    let l = r.0 in
+    rw over (ap (λ fs. share_frames book size (share window x) x ++ fs)
+    (same_frames book size low x.id x.id last (window - share window x) xs r.3 (omega arith) (omega arith) ∙ all_frames book size x.id last (window - share window x) xs r.3))
+
+pub all_streams : (low last window : ℕ) (ss : List Stream) → AreRising low last ss → streams_above low window ss ≡ all_after_sending window ss
+unfolding all_after_sending
+all_streams low last window [] r = refl
+all_streams low last window (x ∷ xs) r =
+    let over : nat_lt low x.id ≡ true = let l = r.0 in grind (arith, nat_tests, l) in
+    let l = r.0 in
+    rw over (ap (λ sts. after_sending (share window x) x ∷ sts)
+    (same_streams low x.id x.id last (window - share window x) xs r.3 (omega arith) (omega arith) ∙ all_streams x.id last (window - share window x) xs r.3))
+
+pub all_left : (low last window : ℕ) (ss : List Stream) → AreRising low last ss → left_above low window ss ≡ window_left window ss
+unfolding window_left
+all_left low last window [] r = refl
+all_left low last window (x ∷ xs) r =
+    let over : nat_lt low x.id ≡ true = let l = r.0 in grind (arith, nat_tests, l) in
+    let l = r.0 in
+    rw over (same_left low x.id x.id last (window - share window x) xs r.3 (omega arith) (omega arith) ∙ all_left x.id last (window - share window x) xs r.3)
+
+-- ---- where none waits, nothing is sent
+
+pub none_frames : (book : List Entry) (size after window : ℕ) (ss : List Stream) → find (waits_above after) ss ≡ None → frames_above book size after window ss ≡ []
+none_frames book size after window [] e = refl
+none_frames book size after window (x ∷ xs) e = at (λ g. none_frames book size after window xs g) (waits_above after x) refl e
+  where
+    at : (find (waits_above after) xs ≡ None → frames_above book size after window xs ≡ []) → (t : Bool) → waits_above after x ≡ t → cond t (Some x) (find (waits_above after) xs) ≡ None → frames_above book size after window (x ∷ xs) ≡ []
+    at more true w e = absurd (none_some x (sym e))
+    at more false w e = rw (idle after window x w, no_frames book size x, less_nothing window) (more e)
+
+pub none_streams : (after window : ℕ) (ss : List Stream) → find (waits_above after) ss ≡ None → streams_above after window ss ≡ ss
+none_streams after window [] e = refl
+none_streams after window (x ∷ xs) e = at (λ g. none_streams after window xs g) (waits_above after x) refl e
+  where
+    at : (find (waits_above after) xs ≡ None → streams_above after window xs ≡ xs) → (t : Bool) → waits_above after x ≡ t → cond t (Some x) (find (waits_above after) xs) ≡ None → streams_above after window (x ∷ xs) ≡ x ∷ xs
+    at more true w e = absurd (none_some x (sym e))
+    at more false w e = rw (idle after window x w, same_stream x, less_nothing window) (ap (λ sts. x ∷ sts) (more e))
+
+pub none_left : (after window : ℕ) (ss : List Stream) → find (waits_above after) ss ≡ None → left_above after window ss ≡ window
+none_left after window [] e = refl
+none_left after window (x ∷ xs) e = at (λ g. none_left after window xs g) (waits_above after x) refl e
+  where
+    at : (find (waits_above after) xs ≡ None → left_above after window xs ≡ window) → (t : Bool) → waits_above after x ≡ t → cond t (Some x) (find (waits_above after) xs) ≡ None → left_above after window (x ∷ xs) ≡ window
+    at more true w e = absurd (none_some x (sym e))
+    at more false w e = rw (idle after window x w, less_nothing window) (more e)
+
+-- ---- the first that waits sends its share
+
+not_above_itself : (n : ℕ) → nat_lt n n ≡ false
+not_above_itself n = grind (arith, nat_tests)
+
+waits_is_above : (after : ℕ) (st : Stream) → waits_above after st ≡ true → nat_lt after st.id ≡ true
+waits_is_above after st e = at (nat_lt after st.id) e
+  where
+    at : (t : Bool) → (t && nat_lt 0 (octets_waiting st)) ≡ true → t ≡ true
+    at true e = refl
+    at false e = absurd (false≢true e)
+
+pub next_frames : (book : List Entry) (size after low last window : ℕ) (ss : List Stream) (st : Stream) → AreRising low last ss → find (waits_above after) ss ≡ Some st →
+    frames_above book size after window ss ≡ share_frames book size (share window st) st ++ frames_above book size st.id (window - share window st) ss
+next_frames book size after low last window [] st r e = absurd (none_some st e)
+next_frames book size after low last window (x ∷ xs) st r e = at (λ g. next_frames book size after x.id last window xs st r.3 g) (waits_above after x) refl e
+  where
+    v : ℕ
+    v = window - share window x
+
+    here : nat_lt after x.id ≡ true → frames_above book size after window (x ∷ xs) ≡ share_frames book size (share window x) x ++ frames_above book size x.id v (x ∷ xs)
+    here over =
+        let same = same_frames book size after x.id x.id last v xs r.3 (grind (arith, nat_tests, over)) (omega arith) in
+        rw (over, not_above_itself x.id, no_frames book size x, less_nothing v) (ap (λ fs. share_frames book size (share window x) x ++ fs) same)
+
+    at : (find (waits_above after) xs ≡ Some st → frames_above book size after window xs ≡ share_frames book size (share window st) st ++ frames_above book size st.id (window - share window st) xs) →
+        (t : Bool) → waits_above after x ≡ t → cond t (Some x) (find (waits_above after) xs) ≡ Some st →
+        frames_above book size after window (x ∷ xs) ≡ share_frames book size (share window st) st ++ frames_above book size st.id (window - share window st) (x ∷ xs)
+    at more true w e =
+        let P : Stream → Type 0 = λ y. frames_above book size after window (x ∷ xs) ≡ share_frames book size (share window y) y ++ frames_above book size y.id (window - share window y) (x ∷ xs) in
+        subst P (some_same x st e) (here (waits_is_above after x w))
+    at more false w e =
+        let behind = found_above (waits_above after) x.id last xs st r.3 e in
+        let under : nat_lt st.id x.id ≡ false = grind (arith, nat_tests, behind) in
+        rw (idle after window x w, under, no_frames book size x, less_nothing window, less_nothing (window - share window st)) (more e)
+
+pub next_left : (after low last window : ℕ) (ss : List Stream) (st : Stream) → AreRising low last ss → find (waits_above after) ss ≡ Some st →
+    left_above after window ss ≡ left_above st.id (window - share window st) ss
+next_left after low last window [] st r e = absurd (none_some st e)
+next_left after low last window (x ∷ xs) st r e = at (λ g. next_left after x.id last window xs st r.3 g) (waits_above after x) refl e
+  where
+    v : ℕ
+    v = window - share window x
+
+    here : nat_lt after x.id ≡ true → left_above after window (x ∷ xs) ≡ left_above x.id v (x ∷ xs)
+    here over =
+        let same = same_left after x.id x.id last v xs r.3 (grind (arith, nat_tests, over)) (omega arith) in
+        rw (over, not_above_itself x.id, less_nothing v) same
+
+    at : (find (waits_above after) xs ≡ Some st → left_above after window xs ≡ left_above st.id (window - share window st) xs) →
+        (t : Bool) → waits_above after x ≡ t → cond t (Some x) (find (waits_above after) xs) ≡ Some st → left_above after window (x ∷ xs) ≡ left_above st.id (window - share window st) (x ∷ xs)
+    at more true w e =
+        let P : Stream → Type 0 = λ y. left_above after window (x ∷ xs) ≡ left_above y.id (window - share window y) (x ∷ xs) in
+        subst P (some_same x st e) (here (waits_is_above after x w))
+    at more false w e =
+        let behind = found_above (waits_above after) x.id last xs st r.3 e in
+        let under : nat_lt st.id x.id ≡ false = grind (arith, nat_tests, behind) in
+        rw (idle after window x w, under, less_nothing window, less_nothing (window - share window st)) (more e)
+
+-- ---- and its record is put in its place
+
+pub id-after_sending : (n : ℕ) (st : Stream) → (after_sending n st).id ≡ st.id
+unfolding after_sending
+id-after_sending n st = at (n == 0) (octets_waiting st == n) st.kind
+  where
+    ended : (kind : Kind) → (server_ended_as kind (with_paid st n)).id ≡ st.id
+    ended Idle = refl
+    ended Skipped = refl
+    ended BothOpen = refl
+    ended HalfRemote = refl
+    ended HalfLocal = refl
+    ended Ended = refl
+    ended PeerReset = refl
+    ended WeReset = refl
+
+    at : (a b : Bool) (kind : Kind) → (cond a st (cond b (server_ended_as kind (with_paid st n)) (with_left (with_paid st n) (octets_waiting st - n)))).id ≡ st.id
+    at true b kind = refl
+    at false true kind = ended kind
+    at false false kind = refl
+
+pub next_streams : (after low last window : ℕ) (ss : List Stream) (st : Stream) → AreRising low last ss → find (waits_above after) ss ≡ Some st →
+    streams_above after window ss ≡ streams_above st.id (window - share window st) (put (after_sending (share window st) st) ss)
+next_streams after low last window [] st r e = absurd (none_some st e)
+next_streams after low last window (x ∷ xs) st r e = at (λ g. next_streams after x.id last window xs st r.3 g) (waits_above after x) refl e
+  where
+    v : ℕ
+    v = window - share window x
+
+    new : Stream
+    new = after_sending (share window x) x
+
+    same_id : eqb x.id new.id ≡ true
+    same_id = let e = id-after_sending (share window x) x in grind (arith, nat_tests, e)
+
+    here : nat_lt after x.id ≡ true → streams_above after window (x ∷ xs) ≡ streams_above x.id v (put new (x ∷ xs))
+    here over =
+        let same = same_streams after x.id x.id last v xs r.3 (grind (arith, nat_tests, over)) (omega arith) in
+        let under : nat_lt x.id new.id ≡ false = let e = id-after_sending (share window x) x in grind (arith, nat_tests, e) in
+        rw (over, same_id, under, same_stream new, less_nothing v) (ap (λ sts. new ∷ sts) same)
+
+    at : (find (waits_above after) xs ≡ Some st → streams_above after window xs ≡ streams_above st.id (window - share window st) (put (after_sending (share window st) st) xs)) →
+        (t : Bool) → waits_above after x ≡ t → cond t (Some x) (find (waits_above after) xs) ≡ Some st →
+        streams_above after window (x ∷ xs) ≡ streams_above st.id (window - share window st) (put (after_sending (share window st) st) (x ∷ xs))
+    at more true w e =
+        let P : Stream → Type 0 = λ y. streams_above after window (x ∷ xs) ≡ streams_above y.id (window - share window y) (put (after_sending (share window y) y) (x ∷ xs)) in
+        subst P (some_same x st e) (here (waits_is_above after x w))
+    at more false w e =
+        let behind = found_above (waits_above after) x.id last xs st r.3 e in
+        let under : nat_lt st.id x.id ≡ false = grind (arith, nat_tests, behind) in
+        let other : eqb x.id (after_sending (share window st) st).id ≡ false = let i = id-after_sending (share window st) st in grind (arith, nat_tests, behind, i) in
+        rw (idle after window x w, other, under, same_stream x, less_nothing window, less_nothing (window - share window st)) (ap (λ sts. x ∷ sts) (more e))
+
+-- ---- the record that is found
+
+pub found_record : (p : Stream → Bool) (low last : ℕ) (ss : List Stream) (st : Stream) → AreRising low last ss → find p ss ≡ Some st →
+    (record_of ss st.id ≡ Some st) × (st.id % 2 ≡ 1) × (st.id ≤ last)
+found_record p low last [] st r e = absurd (none_some st e)
+found_record p low last (x ∷ xs) st r e = at (λ g. found_record p x.id last xs st r.3 g) (p x) e
+  where
+    at : (find p xs ≡ Some st → (record_of xs st.id ≡ Some st) × (st.id % 2 ≡ 1) × (st.id ≤ last)) → (t : Bool) → cond t (Some x) (find p xs) ≡ Some st →
+        (record_of (x ∷ xs) st.id ≡ Some st) × (st.id % 2 ≡ 1) × (st.id ≤ last)
+    at more true e =
+        let P : Stream → Type 0 = λ y. (record_of (x ∷ xs) y.id ≡ Some y) × (y.id % 2 ≡ 1) × (y.id ≤ last) in
+        let itself : eqb x.id x.id ≡ true = grind (arith, nat_tests) in
+        subst P (some_same x st e) (rw itself refl, r.1, r.2)
+    at more false e =
+        let m = more e in
+        let behind = found_above p x.id last xs st r.3 e in
+        let other : eqb x.id st.id ≡ false = grind (arith, nat_tests, behind) in
+        (rw other m.0, m.1, m.2)
+
+-- so it is the stream with its identifier
+pub found_stream : (p : Stream → Bool) (last : ℕ) (ss : List Stream) (st : Stream) → AreRising 0 last ss → find p ss ≡ Some st → stream_at last ss st.id ≡ st
+unfolding stream_at
+found_stream p last ss st r e =
+    let m = found_record p 0 last ss st r e in
+    let odd : eqb (st.id % 2) 0 ≡ false = let o = m.1 in grind (arith, nat_tests, o) in
+    let known : nat_lt last st.id ≡ false = let w = m.2 in grind (arith, nat_tests, w) in
+    rw (odd, known, m.0) refl
