@@ -1,8 +1,8 @@
 -- How sending in the order of the identifiers goes forward by one stream that waits.
-use Rattle.std.proofs.Common.{◌≡◌, ℕ, zero, suc, ◌+◌, ◌-◌, ◌*◌, ◌%◌, ◌<◌, ◌≤◌, Bool, true, false, cond, List, [], ◌∷◌, ◌++◌, length, take, drop, refl, sym, ap, subst, ◌∙◌, arith, ltb, ltb-true, ltb-false, le-ltb, lt-ltb, eqb, eqb-true, Option, Some, None, min}
+use Rattle.std.proofs.Common.{◌≡◌, ℕ, zero, suc, ◌+◌, ◌-◌, ◌*◌, ◌%◌, ◌<◌, ◌≤◌, Bool, true, false, cond, List, [], ◌∷◌, ◌++◌, length, take, drop, refl, sym, ap, subst, ◌∙◌, arith, ltb, ltb-true, ltb-false, le-ltb, lt-ltb, eqb, eqb-true, Option, Some, None, min, max}
 use Rattle.std.proofs.lemmas.Bool.{false≢true}
 use Rattle.std.proofs.lemmas.Bool.Decides.{nat_tests}
-use Rattle.std.specs.Prelude.{find, nat_lt, ◌&&◌, ◌==◌}
+use Rattle.std.specs.Prelude.{Result, Ok, Err, IsOk, OnOk, find, nat_lt, ◌&&◌, ◌==◌}
 use Rattle.h2_spec.specs.declared.streams.Stream.{Stream}
 use Rattle.h2_spec.specs.declared.streams.Kind.{Kind}
 use Rattle.h2_spec.specs.declared.streams.Kind.TheVariants.{Idle, Skipped, BothOpen, HalfRemote, HalfLocal, Ended, PeerReset, WeReset}
@@ -10,9 +10,10 @@ use Rattle.h2_spec.specs.Ends.{server_ended_as, with_left}
 use Rattle.h2_spec.specs.Answer.{Entry, picked}
 use Rattle.h2_spec.specs.Frame.{Frame}
 use Rattle.h2_spec.specs.Window.{sendable}
-use Rattle.h2_spec.specs.Stream.{AreRising, put, record_of, stream_at, recorded, is_id, waits_above, octets_waiting}
+use Rattle.h2_spec.specs.Stream.{AreRising, CanPut, Records, put, record_of, stream_at, recorded, is_id, waits_above, octets_waiting, octets_left, next_waiting, id_of, is_live}
 use Rattle.h2_spec.specs.Pump.{share, share_frames, after_sending, sent_frames, all_after_sending, window_left, with_paid}
-use Rattle.h2_conn.specs.Above.{share_above, frames_above, streams_above, left_above}
+use Rattle.std.specs.Option.{option_map}
+use Rattle.h2_conn.specs.Above.{IsWaiting, share_above, frames_above, streams_above, left_above}
 
 -- ---- a stream that sends nothing
 
@@ -276,3 +277,75 @@ found_stream p last ss st r e =
     let odd : eqb (st.id % 2) 0 ≡ false = let o = m.1 in grind (arith, nat_tests, o) in
     let known : nat_lt last st.id ≡ false = let w = m.2 in grind (arith, nat_tests, w) in
     rw (odd, known, m.0) refl
+
+-- the first that waits is the stream with the identifier that is found
+pub next_is : (after last : ℕ) (ss : List Stream) (id : ℕ) → AreRising 0 last ss → next_waiting after ss ≡ Some id → find (waits_above after) ss ≡ Some (stream_at last ss id)
+unfolding next_waiting
+next_is after last ss id r e = at (find (waits_above after) ss) refl e
+  where
+    at : (o : Option Stream) → find (waits_above after) ss ≡ o → option_map id_of o ≡ Some id → o ≡ Some (stream_at last ss id)
+    at None f e = absurd (none_some id e)
+    at (Some st) f e = ap (λ x. Some x) (sym (ap (λ i. stream_at last ss i) (sym (some_same st.id id e)) ∙ found_stream (waits_above after) last ss st r f))
+
+-- and there is none, where no identifier is found
+pub next_is_none : (after : ℕ) (ss : List Stream) → next_waiting after ss ≡ None → find (waits_above after) ss ≡ None
+unfolding next_waiting
+next_is_none after ss e = at (find (waits_above after) ss) refl e
+  where
+    at : (o : Option Stream) → find (waits_above after) ss ≡ o → option_map id_of o ≡ None → o ≡ None
+    at None f e = refl
+    at (Some st) f e = absurd (none_some st.id (sym e))
+
+waits_is_live : (after : ℕ) (st : Stream) → waits_above after st ≡ true → is_live st.kind ≡ true
+unfolding octets_waiting
+waits_is_live after st e = at (nat_lt after st.id) (is_live st.kind) e
+  where
+    at : (a b : Bool) → (a && nat_lt 0 (cond b (octets_left st.numbers.left) 0)) ≡ true → b ≡ true
+    at true true e = refl
+    at true false e = absurd (false≢true e)
+    at false b e = absurd (false≢true e)
+
+found_passes : (p : Stream → Bool) (ss : List Stream) (st : Stream) → find p ss ≡ Some st → p st ≡ true
+found_passes p [] st e = absurd (none_some st e)
+found_passes p (x ∷ xs) st e = at (λ g. found_passes p xs st g) (p x) refl e
+  where
+    at : (find p xs ≡ Some st → p st ≡ true) → (t : Bool) → p x ≡ t → cond t (Some x) (find p xs) ≡ Some st → p st ≡ true
+    at more true w e = let P : Stream → Type 0 = λ y. p y ≡ true in subst P (some_same x st e) w
+    at more false w e = more e
+
+-- what is known of the first that waits
+pub next_known : (after last : ℕ) (ss : List Stream) (st : Stream) → AreRising 0 last ss → find (waits_above after) ss ≡ Some st → IsWaiting last ss st
+next_known after last ss st r e =
+    let m = found_record (waits_above after) 0 last ss st r e in
+    let w = found_passes (waits_above after) ss st e in
+    record { within = m.2; odd = m.1; live = waits_is_live after st w; found = found_stream (waits_above after) last ss st r e }
+
+pub next_above : (after : ℕ) (ss : List Stream) (st : Stream) → find (waits_above after) ss ≡ Some st → after < st.id
+next_above after ss st e = let w = waits_is_above after st (found_passes (waits_above after) ss st e) in grind (arith, nat_tests, w)
+
+-- the record after it has sent can be put in its place
+pub can_put : (n last : ℕ) (ss : List Stream) (st x : Stream) → IsWaiting last ss st → x ≡ after_sending n st → CanPut x (record { streams = ss; last = last })
+can_put n last ss st x known e =
+    let same : x.id ≡ st.id = ap (λ (y : Stream). y.id) e ∙ id-after_sending n st in
+    let odd : x.id % 2 ≡ 1 = ap (λ i. i % 2) same ∙ known.odd in
+    let live : is_live (stream_at last ss x.id).kind ≡ true = ap (λ i. is_live (stream_at last ss i).kind) same ∙ ap (λ (y : Stream). is_live y.kind) known.found ∙ known.live in
+    (λ above. odd, λ within. live)
+
+-- the last stream stays the last
+pub last_stays : (n last : ℕ) (ss : List Stream) (st x : Stream) → IsWaiting last ss st → x ≡ after_sending n st → max last x.id ≡ last
+last_stays n last ss st x known e =
+    let same : x.id ≡ st.id = ap (λ (y : Stream). y.id) e ∙ id-after_sending n st in
+    let w = known.within in
+    omega (arith, same, w)
+
+-- ---- records put together
+
+abbrev pub both : List Stream → ℕ → Records
+both ss last = record { streams = ss; last = last }
+
+pub records_are : (r : Records) (ss : List Stream) (last : ℕ) → r.streams ≡ ss → r.last ≡ last → r ≡ both ss last
+records_are r ss last e f = ap (λ s. both s r.last) e ∙ ap (λ l. both ss l) f
+
+pub on_ok : {A E : Type 0} (r : Result A E) (P : Type 0) → IsOk r → OnOk r P → P
+on_ok (Ok x) P h o = o
+on_ok (Err e) P h o = absurd (false≢true h)

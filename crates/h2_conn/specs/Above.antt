@@ -1,6 +1,7 @@
 -- Sending from the streams above an identifier alone: how far sending in the order of the identifiers has come.
-use Rattle.std.specs.Prelude.{ℕ, ◌-◌, List, [], ◌∷◌, ◌++◌, nat_lt, if◌then◌else◌}
+use Rattle.std.specs.Prelude.{◌≡◌, ◌≤◌, ◌%◌, true, ℕ, ◌-◌, List, [], ◌∷◌, ◌++◌, nat_lt, if◌then◌else◌}
 use Rattle.h2_spec.specs.declared.streams.Stream.{Stream}
+use Rattle.h2_spec.specs.Stream.{is_live, stream_at}
 use Rattle.h2_spec.specs.Answer.{Entry}
 use Rattle.h2_spec.specs.Frame.{Frame}
 use Rattle.h2_spec.specs.Pump.{share, share_frames, after_sending}
@@ -23,3 +24,10 @@ streams_above after window (st ∷ sts) = after_sending (share_above after windo
 abbrev pub left_above : ℕ → ℕ → List Stream → ℕ
 left_above after window [] = window
 left_above after window (st ∷ sts) = left_above after (window - share_above after window st) sts
+
+-- what is known of a stream that has octets to send
+pub record IsWaiting (last : ℕ) (streams : List Stream) (st : Stream) : Type 0 where
+  pub within : st.id ≤ last
+  pub odd : st.id % 2 ≡ 1
+  pub live : is_live st.kind ≡ true
+  pub found : stream_at last streams st.id ≡ st

@@ -1,18 +1,19 @@
 //! Sending what waits, as far as the windows go (RFC 9113, 5.2 and 6.9).
 //! Rests on `ends` and on h2_streams; definition: h2_spec's `specs/Pump.antt`.
 
-ghost use Rattle.std.specs.Prelude.{◌≡◌, ℕ, ◌+◌, ◌-◌, ◌<◌, ◌≤◌, ◌++◌, ◌==◌, length, IfOk, OnOk, OnErr, take, drop, vec_len, ◌^◌, pos, ◌-ℤ◌, ◌≤ℤ◌};
+ghost use Rattle.std.specs.Prelude.{◌≡◌, ℕ, ◌+◌, ◌-◌, ◌<◌, ◌≤◌, ◌++◌, ◌==◌, length, IfOk, IfSome, OnOk, OnErr, take, drop, find, vec_len, ◌^◌, pos, ◌-ℤ◌, ◌≤ℤ◌};
 ghost use Rattle.h2_spec.specs.Change as changes;
 ghost use Rattle.h2_spec.specs.Frame.{frames_octets};
 ghost use Rattle.h2_spec.specs.Pump as rule;
-ghost use Rattle.h2_spec.specs.Stream.{octets_waiting};
+ghost use Rattle.h2_spec.specs.Stream.{AreRising, octets_waiting, put, waits_above};
+ghost use Rattle.h2_conn.specs.Above.{IsWaiting};
 ghost use Rattle.h2_spec.specs.Window.{sendable};
 
 use crate::ends::{server_ended, with_left};
 use h2_frame::append_frame;
 use h2_spec::flow::Window;
 use h2_spec::streams::{Numbers, Stream};
-use h2_streams::octets_waiting;
+use h2_streams::{Streams, octets_waiting};
 use std::alloc::{AllocError, Allocator};
 
 /// The octets that a window lets pass.
@@ -154,4 +155,41 @@ fn after_sending(share: u64, stream: &Stream) -> Stream
     } else {
         with_left(paid, left - share)
     }
+}
+
+/// The first stream above this one that has octets to send.
+#[tactic(auto, unfolding(h2_spec::specs::Stream::next_waiting))]
+fn next_stream<A: Allocator>(streams: &Streams<A>, after: u32) -> Option<Stream>
+    ensures first { result ≡ find (waits_above after) streams.now.streams }
+    ensures above { IfSome result (λ stream. after < stream.id) }
+    ensures known { IfSome result (λ stream. IsWaiting streams.now.last streams.now.streams stream) }
+    ensures rising { AreRising 0 streams.now.last streams.now.streams }
+{
+    let _last = streams.last();
+    let id = streams.next_waiting(after)?;
+    Some(streams.stream_at(id))
+}
+
+/// Each stream's share is taken from it, in the order of the identifiers.
+fn take_shares<A: Allocator>(window: u64, streams: &mut Streams<A>)
+    ensures { streams.new ≡ record streams.old { streams = rule.all_after_sending window streams.old.streams } }
+{
+    let _last = streams.last();
+    let mut after = 0;
+    let mut left = window;
+    while let Some(stream) = next_stream(streams, after) {
+        after = stream.id;
+        left -= take_share(left, &stream, streams);
+    }
+}
+
+/// One stream's share is taken from it.
+fn take_share<A: Allocator>(window: u64, stream: &Stream, streams: &mut Streams<A>) -> u64
+    requires { IsWaiting streams.old.last streams.old.streams stream.now }
+    ensures share { (result ≡ rule.share window stream.now) × (result ≤ window) }
+    ensures sent { streams.new ≡ record streams.old { streams = put (rule.after_sending (rule.share window stream.now) stream.now) streams.old.streams } }
+{
+    let share = share(window, stream);
+    let _ = streams.put(after_sending(share, stream));
+    share
 }
