@@ -4,6 +4,8 @@ mod BlockRows
 pub mod CodeTree
 pub mod Computed
 mod DebugRows
+mod FrameLaws
+mod FrameRows
 mod Hex
 pub mod HuffmanLaws
 mod HuffmanRows

@@ -1,5 +1,5 @@
 -- Frames, their octets, and the items that octets begin with (RFC 9113, 3.4, 4.1 and 4.2).
-use Rattle.std.specs.Prelude.{ℕ, ◌+◌, Bool, true, false, List, [], ◌∷◌, ◌++◌, length, slice_range, slice_index, nat_lt, nat_le, nat_eq, ◌==◌, if◌then◌else◌, codes, Option, Some, None, flat_map}
+use Rattle.std.specs.Prelude.{ℕ, ◌+◌, ◌^◌, ◌<◌, Bool, true, false, List, [], ◌∷◌, ◌++◌, length, slice_range, slice_index, nat_lt, nat_le, nat_eq, ◌==◌, if◌then◌else◌, codes, Option, Some, None, flat_map}
 use Rattle.std.specs.List.{common_prefix_len}
 use Rattle.h2_spec.specs.Octets.{three_octets, low_31_bits, big_endian}
 use Rattle.h2_spec.specs.declared.frames.Head.{Head}
@@ -17,7 +17,16 @@ frame kind flags stream payload = record { kind = kind; flags = flags; stream = 
 
 -- the frame that is sent with this head and payload
 abbrev pub frame_of : Head → List ℕ → Frame
-frame_of h p = record { kind = h.kind; flags = h.flags; stream = h.stream; payload = p }
+frame_of h p = frame h.kind h.flags h.stream p
+
+-- a frame whose length and stream a head can write: 24 and 31 bits (4.1)
+pub record IsSendable (f : Frame) : Type 0 where
+  pub length_fits : length f.payload < 2 ^ 24
+  pub stream_fits : f.stream < 2 ^ 31
+
+-- the head that is written for a frame: the length is its payload's, and the reserved bit is 0
+abbrev pub head_sent : Frame → Head
+head_sent f = record { length = length f.payload; kind = f.kind; flags = f.flags; reserved = false; stream = f.stream }
 
 -- the head that nine octets spell
 unfoldable pub head_of : List ℕ → Head
