@@ -1,5 +1,5 @@
 -- The six tests of the law of grants, computed for one stream: for examples, and for runs that break them.
-use Rattle.std.specs.Prelude.{ℕ, ◌+◌, Bool, true, false, ◌&&◌, ◌||◌, not, List, [], ◌∷◌, length, take, nat_le, bytes_eq, ◌==◌, if◌then◌else◌}
+use Rattle.std.specs.Prelude.{ℕ, ◌+◌, Bool, true, false, ◌&&◌, ◌||◌, not, List, [], ◌∷◌, length, take, nat_le, bytes_eq, ◌==◌}
 use Rattle.h2_spec.specs.FrameType.{DATA}
 use Rattle.h2_spec.specs.Frame.{Frame}
 use Rattle.h2_spec.specs.Answer.{Entry}

@@ -1,5 +1,5 @@
 -- Field blocks keep the tests: the request that a block ends is the one whose body the tally takes as promised.
-use Rattle.std.proofs.Common.{◌≡◌, ℕ, ◌+◌, ◌<◌, ◌≤◌, Bool, true, false, cond, List, [], ◌∷◌, length, refl, sym, ap, subst, ◌∙◌, arith, eqb, Option, Some, None}
+use Rattle.std.proofs.Common.{◌≡◌, ℕ, ◌+◌, ◌<◌, ◌≤◌, Bool, true, false, cond, List, [], ◌∷◌, length, refl, sym, ap, subst, arith, eqb, Option, Some, None}
 use Rattle.std.proofs.lemmas.Bool.{eqb-true, false≢true}
 use Rattle.std.specs.Option.{is_some}
 use Rattle.std.specs.Prelude.{nat_lt}
@@ -21,11 +21,11 @@ use Rattle.h2_spec.specs.Answer.{Entry, picked}
 use Rattle.h2_spec.specs.Stream.{stream_at, octets_waiting, live_count, put}
 use Rattle.h2_spec.specs.State.{State, OpenBlock, Decoding}
 use Rattle.h2_spec.specs.Change.{stay, turned, stream_error}
-use Rattle.h2_spec.specs.Headers.{FrameEffect, Breaks, Makes, request_facts, new_stream, request_turn, trailers_turn, block_ends, fragment_decoded, decoded_with, fragment}
+use Rattle.h2_spec.specs.Headers.{FrameEffect, Breaks, request_facts, new_stream, request_turn, trailers_turn, block_ends, fragment_decoded, decoded_with, fragment}
 use Rattle.h2_spec.specs.Effect.{body_length}
 use Rattle.h2_spec.specs.Grants.{Mark, Tally, When, with_mark_on, body_promised, with_fields, fields_at_end}
 use Rattle.h2_spec.specs.Order.{Rise}
-use Rattle.h2_spec.proofs.grants.Agreement.{Fits, IsRecorded, IsPlaced, IsFor, IsBlock, BlockStands, Agreement}
+use Rattle.h2_spec.proofs.grants.Agreement.{Fits, IsRecorded, IsBlock, BlockStands, Agreement}
 use Rattle.h2_spec.proofs.grants.Turns.{Proper, Good, just_asked, error-proper, error-good, Uncut-live, trailers_turn-proper, trailers_turn-good, request_turn-proper, request_turn-good}
 use Rattle.h2_spec.proofs.grants.Records.{at-id, put-last}
 use Rattle.h2_spec.proofs.grants.Rules.{Moves, Kept, stays, turned-kept, record-kept}

@@ -1,8 +1,7 @@
 -- Each item keeps the tests: its checks, and the rule of its type and of its stream's state.
-use Rattle.std.proofs.Common.{◌≡◌, ℕ, ◌+◌, ◌%◌, ◌<◌, ◌≤◌, Bool, true, false, cond, ◌&&◌, not, List, [], refl, sym, ap, subst, ◌∙◌, arith, eqb, Option, Some, None, Result, Ok, Err}
+use Rattle.std.proofs.Common.{◌≡◌, ℕ, ◌+◌, ◌%◌, ◌≤◌, Bool, true, false, cond, ◌&&◌, List, [], refl, sym, subst, eqb, Option, Some, None, Result, Ok, Err}
 use Rattle.std.proofs.lemmas.Bool.{eqb-true, and_parts, not-false}
 use Rattle.std.specs.Option.{is_some}
-use Rattle.h2_spec.specs.declared.connection.Core.{Core}
 use Rattle.h2_spec.specs.declared.connection.Phase.{Phase}
 use Rattle.h2_spec.specs.declared.connection.Phase.TheVariants as phase
 use Rattle.h2_spec.specs.declared.connection.Purpose.{Purpose}
@@ -23,13 +22,13 @@ use Rattle.h2_spec.specs.Stream.{record_of, stream_at}
 use Rattle.h2_spec.specs.State.{State, OpenBlock, Decoding}
 use Rattle.h2_spec.specs.Change.{stay}
 use Rattle.h2_spec.specs.Checks.{interrupts, is_early, is_misplaced, refusal}
-use Rattle.h2_spec.specs.Table.{Cell, Rule, Error, headers_cell}
+use Rattle.h2_spec.specs.Table.{Rule, Error, headers_cell}
 use Rattle.h2_spec.specs.WindowUpdate.{connection_window}
 use Rattle.h2_spec.specs.Headers.{makes, fresh_block, fresh_decoding, block_opens, continued}
 use Rattle.h2_spec.specs.Effect.{nothing, came, on_headers, on_window, frame_effect, part_effect, checked_effect, block_stream, item_effect, payload_of}
 use Rattle.h2_spec.specs.Grants.{Tally, When, with_mark_on, with_fields, with_fragment, fields_at_end, received_part, received_frame, received}
 use Rattle.h2_spec.proofs.grants.Tallies.{always}
-use Rattle.h2_spec.proofs.grants.Agreement.{FitsAs, IsRecorded, IsPlaced, IsFor, IsBlock, IsDecoding, BlockStands, Agreement}
+use Rattle.h2_spec.proofs.grants.Agreement.{FitsAs, IsRecorded, IsBlock, IsDecoding, BlockStands, Agreement}
 use Rattle.h2_spec.proofs.grants.Turns.{granted_more, Uncut-live}
 use Rattle.h2_spec.proofs.grants.Records.{at-found, at-idle, found-fits}
 use Rattle.h2_spec.proofs.grants.Rules.{Kept, either-kept, stays, IsLive, live-reset, data-kept, reset-kept, window-kept, connection-kept}

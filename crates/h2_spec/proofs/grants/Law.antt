@@ -1,11 +1,10 @@
 -- Each run keeps to what the peer grants, and keeps its records in order.
-use Rattle.std.proofs.Common.{◌≡◌, ℕ, zero, suc, ◌+◌, ◌<◌, ◌≤◌, Bool, true, false, cond, not, ◌&&◌, ◌||◌, List, [], ◌∷◌, ◌++◌, length, drop, refl, sym, ap, subst, ◌∙◌, arith, eqb, length-drop, Option}
+use Rattle.std.proofs.Common.{◌≡◌, ℕ, zero, suc, ◌<◌, ◌≤◌, Bool, true, false, cond, not, ◌&&◌, ◌||◌, List, [], ◌∷◌, ◌++◌, length, drop, refl, sym, ap, subst, ◌∙◌, arith, eqb, length-drop, Option}
 use Rattle.std.proofs.lemmas.Bool.{false≢true, both_ways}
 use Rattle.std.specs.Prelude.{ℤ}
 use Rattle.h2_spec.specs.declared.connection.Config.{Config}
 use Rattle.h2_spec.specs.declared.connection.Phase.{Phase}
 use Rattle.h2_spec.specs.declared.connection.Phase.TheVariants as phase
-use Rattle.h2_spec.specs.declared.errors.ErrorCode.{ErrorCode}
 use Rattle.h2_spec.specs.declared.streams.Kind.{Kind}
 use Rattle.h2_spec.specs.declared.streams.Kind.TheVariants.{Idle, Skipped, BothOpen, HalfRemote, HalfLocal, Ended, PeerReset, WeReset}
 use Rattle.h2_spec.specs.declared.streams.Stream.{Stream}
@@ -13,7 +12,7 @@ use Rattle.h2_spec.specs.Parse.{parse_first, parse_all}
 use Rattle.h2_spec.specs.Frame.{Frame, Item, Next, NoItem, Got}
 use Rattle.h2_spec.specs.Answer.{Entry, picked}
 use Rattle.h2_spec.specs.State.{State, opening}
-use Rattle.h2_spec.specs.Change.{Step, goaway, broken, made}
+use Rattle.h2_spec.specs.Change.{Step, goaway, made}
 use Rattle.h2_spec.specs.Headers.{FrameEffect, Breaks, Makes}
 use Rattle.h2_spec.specs.Effect.{item_effect, payload_of, concluded, effect}
 use Rattle.h2_spec.specs.Pump.{pump}
@@ -26,7 +25,7 @@ use Rattle.h2_spec.proofs.grants.Tallies.{IsRight, Leads, Leads-append, AtEach-w
 use Rattle.h2_spec.proofs.grants.Agreement.{Fits, FitsAs, Absent, Either, Stands, Agreement}
 use Rattle.h2_spec.proofs.grants.Turns.{other-leads, Uncut-sends}
 use Rattle.h2_spec.proofs.grants.Sending.{Pumped, pump-keeps}
-use Rattle.h2_spec.proofs.grants.Rules.{Moves, Kept, quiet-only, not_zero}
+use Rattle.h2_spec.proofs.grants.Rules.{Kept, quiet-only, not_zero}
 use Rattle.h2_spec.proofs.grants.Items.{item-kept}
 
 -- ---- what the record says of the content

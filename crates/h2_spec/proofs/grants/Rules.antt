@@ -1,5 +1,5 @@
 -- The rules of an item keep the tests, and what state and tally have to do with each other: DATA, RST_STREAM, WINDOW_UPDATE.
-use Rattle.std.proofs.Common.{◌≡◌, ℕ, ◌+◌, ◌-◌, ◌%◌, ◌<◌, ◌≤◌, Bool, true, false, cond, ◌&&◌, List, [], ◌∷◌, ◌++◌, length, refl, sym, ap, subst, ◌∙◌, arith, eqb, append_assoc, Option, Some, None}
+use Rattle.std.proofs.Common.{◌≡◌, ℕ, ◌+◌, ◌<◌, ◌≤◌, Bool, true, false, cond, ◌&&◌, List, [], ◌∷◌, ◌++◌, refl, sym, subst, ◌∙◌, arith, eqb, append_assoc, Option, Some, None}
 use Rattle.std.proofs.lemmas.Bool.{eqb-true, ne_eqb}
 use Rattle.std.proofs.lemmas.Int.{ints}
 use Rattle.std.specs.Prelude.{ℤ, pos, int_lt, ◌+ℤ◌, ◌-ℤ◌}
@@ -20,7 +20,7 @@ use Rattle.h2_spec.specs.Answer.{Entry, picked}
 use Rattle.h2_spec.specs.Window.{is_above_max, given_back}
 use Rattle.h2_spec.specs.Stream.{record_of, stream_at, put}
 use Rattle.h2_spec.specs.State.{State}
-use Rattle.h2_spec.specs.Change.{stay, with_signal, turned, after, first_frames, second_frames, answer_frames, frames_of, stream_error}
+use Rattle.h2_spec.specs.Change.{stay, turned, after, first_frames, second_frames, answer_frames, frames_of, stream_error}
 use Rattle.h2_spec.specs.Table.{run_cell, data_cell, reset_cell, window_cell}
 use Rattle.h2_spec.specs.Data.{counted, owed_on_connection, owed_as, if_within, data_taken, data_refused, data_counted, data_turn}
 use Rattle.h2_spec.specs.WindowUpdate.{connection_window, window_turn}

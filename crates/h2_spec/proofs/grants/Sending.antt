@@ -20,9 +20,9 @@ use Rattle.h2_spec.specs.Ends.{server_ended, server_ended_as, with_left}
 use Rattle.h2_spec.specs.Pump.{share, data_upto, data_frames, share_frames, with_paid, after_sending, sent_frames, all_after_sending, window_left, pump}
 use Rattle.h2_spec.specs.Grants.{Mark, Tally, When, AtEach, IsWithinStream, IsUsedUp, body_or_nothing, is_unfinished, sends_data, sent_all}
 use Rattle.h2_spec.specs.Order.{Rise}
-use Rattle.h2_spec.proofs.grants.Tallies.{always, IsRight, Leads, Leads-nil, Leads-append, Leads-to, elsewhere, nowhere, data-elsewhere, data-own, sends_data-append, quiet-append, finished_by_end, finished_by_reset, not_begun}
+use Rattle.h2_spec.proofs.grants.Tallies.{always, IsRight, Leads, Leads-append, Leads-to, elsewhere, nowhere, data-elsewhere, data-own, sends_data-append, quiet-append, finished_by_end, finished_by_reset, not_begun}
 use Rattle.h2_spec.proofs.grants.Records.{still-recorded}
-use Rattle.h2_spec.proofs.grants.Agreement.{Waits, Sends, Ends, FitsAs, Fits, Absent, Either, Stands, IsRecorded, HasBody, Bodies, BlockStands-same, Agreement}
+use Rattle.h2_spec.proofs.grants.Agreement.{Waits, Sends, Ends, FitsAs, Fits, Absent, Either, Stands, HasBody, Bodies, BlockStands-same, Agreement}
 
 -- ---- the octets of a share
 

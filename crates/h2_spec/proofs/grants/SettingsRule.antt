@@ -1,9 +1,8 @@
 -- SETTINGS keep the tests: the windows of the streams move with the initial window of the tally.
-use Rattle.std.proofs.Common.{◌≡◌, ℕ, ◌+◌, ◌<◌, ◌≤◌, Bool, true, false, cond, List, [], ◌∷◌, length, refl, sym, ap, subst, ◌∙◌, arith, eqb, leb, Option, Some, None, Result, Ok, Err}
+use Rattle.std.proofs.Common.{◌≡◌, ℕ, ◌≤◌, Bool, true, false, cond, List, [], ◌∷◌, refl, sym, subst, arith, eqb, leb, Option, None, Result, Ok, Err}
 use Rattle.std.proofs.lemmas.Bool.{eqb-true, and_parts, leb-true}
 use Rattle.std.proofs.lemmas.Int.{ints}
-use Rattle.std.specs.Prelude.{◌&&◌, ℤ, pos, ◌+ℤ◌, ◌-ℤ◌}
-use Rattle.h2_spec.specs.declared.connection.Phase.TheVariants.{Running}
+use Rattle.std.specs.Prelude.{◌&&◌, ℤ, ◌+ℤ◌}
 use Rattle.h2_spec.specs.declared.errors.ErrorCode.{ErrorCode}
 use Rattle.h2_spec.specs.declared.errors.ErrorCode.TheVariants.{ProtocolError, FlowControlError}
 use Rattle.h2_spec.specs.declared.flow.Settings.{Settings}
@@ -20,7 +19,7 @@ use Rattle.h2_spec.specs.Headers.{makes}
 use Rattle.h2_spec.specs.Grants.{Mark, Tally, with_settings}
 use Rattle.h2_spec.specs.Grants as tally
 use Rattle.h2_spec.specs.Order.{Rise}
-use Rattle.h2_spec.proofs.grants.Agreement.{Sends, FitsAs, Fits, Absent, Either, Stands, HasBody, Bodies, BlockStands, Agreement}
+use Rattle.h2_spec.proofs.grants.Agreement.{Sends, Fits, Absent, Either, Stands, HasBody, Bodies, BlockStands, Agreement}
 use Rattle.h2_spec.proofs.grants.Turns.{other-leads}
 use Rattle.h2_spec.proofs.grants.Rules.{Kept, not_zero}
 
