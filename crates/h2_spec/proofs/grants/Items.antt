@@ -104,7 +104,7 @@ module _ (id : ℕ) (s : State) (t : Tally) (h : Head) (p : List ℕ) (pos_id : 
     where
       at : (b : Bool) → Kept s.book id (cond b (record t { granted = t.granted + n }) (with_mark_on id h.stream t (granted_more n t.mark))) p (makes s (cond b (connection_window s.core n) (on_window s.core n st)))
       at true = connection-kept id s t p n pos_id x
-      at false = window-kept id s t p h.stream n pos_id x none
+      at false = window-kept id s t p h.stream pos_id x none n
   part-kept (OfContinuation fragment) = rw none tt
   part-kept OfUnknown = stays s.book id t p s s.core Quiet pos_id x
 

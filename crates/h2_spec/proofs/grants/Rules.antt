@@ -279,7 +279,12 @@ re-agrees id s t n x none f busy = record {
   of_block = subst (λ o. BlockStands id s.core.last s.streams o n) (sym none) tt;
 }
 
--- a frame on stream j that makes this of the mark of its stream, and has this rule where the stream is live
+-- what is kept where a frame on stream j makes this of the mark of its stream, and has this rule where the stream is live, and none where it is not
+record ByState (id : ℕ) (s : State) (t : Tally) (p : List ℕ) (j : ℕ) (n : Mark) (rule : Stream → Turn) : Type 0 where
+  live : (k : Kind) → IsLive k → IsRecorded k → (stream_at s.core.last s.streams j).kind ≡ k → Moves s.book id (with_mark_on id j t n) p s (turned (stay s.core) (rule (stream_at s.core.last s.streams j)))
+  over : (k : Kind) → IsOver k → IsRecorded k → (stream_at s.core.last s.streams j).kind ≡ k → Moves s.book id (with_mark_on id j t n) p s (stay s.core)
+  skipped : (stream_at s.core.last s.streams j).kind ≡ Skipped → Moves s.book id (with_mark_on id j t n) p s (stay s.core)
+
 module _ (id : ℕ) (s : State) (t : Tally) (p : List ℕ) (j : ℕ) (n : Mark) (rule : Stream → Turn)
     (pos_id : 1 ≤ id) (x : Agreement s.book id s t) (none : s.block ≡ None)
     (proper : (st : Stream) → Proper s.book st (rule st))
@@ -314,77 +319,52 @@ module _ (id : ℕ) (s : State) (t : Tally) (p : List ℕ) (j : ℕ) (n : Mark) 
       (λ own f. rw own (good st f (live-reset st.kind (picked s.book st.pick).body t.window st.numbers.send st.numbers.left t.mark (subst IsLive (sym e) l) f)))
       (λ other. rw other refl)
 
-pub reset-kept : (id : ℕ) (s : State) (t : Tally) (p : List ℕ) (j : ℕ) → 1 ≤ id → Agreement s.book id s t → s.block ≡ None →
-    Kept s.book id (with_mark_on id j t (now_reset t.mark)) p (makes s (on_reset s.core (stream_at s.core.last s.streams j)))
-unfolding on_reset
-reset-kept id s t p j pos_id x none = at st.kind refl
-  where
-    st : Stream
-    st = stream_at s.core.last s.streams j
+  by-state : ByState id s t p j n rule
+  by-state = record { live = rule-live; over = nothing-over; skipped = nothing-skipped }
 
-    n : Mark
-    n = now_reset t.mark
+-- by the state of the stream, with the table of RST_STREAM and that of WINDOW_UPDATE, which are alike
+module _ (id : ℕ) (s : State) (t : Tally) (p : List ℕ) (j : ℕ) (pos_id : 1 ≤ id) (x : Agreement s.book id s t) (none : s.block ≡ None) where
+  abbrev on : Stream
+  on = stream_at s.core.last s.streams j
 
-    rule : Stream → Turn
-    rule = reset_turn s.core.peer.signal
+  unasked-more : (n : Mark) → n.promised ≡ t.mark.promised → n.headers ≡ t.mark.headers → n.content ≡ t.mark.content → n.ended ≡ t.mark.ended → Unasked t.mark → Unasked n
+  unasked-more n a b c d u = record { promised = a ∙ u.promised; headers = b ∙ u.headers; content = c ∙ u.content; ended = d ∙ u.ended }
 
-    unasked : Unasked t.mark → Unasked n
-    unasked u = record { promised = u.promised; headers = u.headers; content = u.content; ended = u.ended }
+  pub reset-kept : Kept s.book id (with_mark_on id j t (now_reset t.mark)) p (makes s (on_reset s.core on))
+  unfolding on_reset
+  reset-kept = at on.kind refl
+    where
+      rules : ByState id s t p j (now_reset t.mark) (reset_turn s.core.peer.signal)
+      rules = by-state id s t p j (now_reset t.mark) (reset_turn s.core.peer.signal) pos_id x none (reset_turn-proper s.book s.core.peer.signal) (reset_turn-good s.book t.window t.mark s.core.peer.signal)
+          (λ st. over-reset st.kind (picked s.book st.pick).body t.window st.numbers.send st.numbers.left t.mark) (unasked-more (now_reset t.mark) refl refl refl refl)
 
-    over : (st : Stream) → IsOver st.kind → Fits s.book t.window st t.mark → Fits s.book t.window st n
-    over st = over-reset st.kind (picked s.book st.pick).body t.window st.numbers.send st.numbers.left t.mark
+      at : (k : Kind) → on.kind ≡ k → Kept s.book id (with_mark_on id j t (now_reset t.mark)) p (makes s (run_cell ConnectionError (nothing s.core) (λ r. reset_rule r s.core on) (reset_cell k)))
+      at Idle e = tt
+      at Skipped e = rules.skipped e
+      at BothOpen e = rules.live BothOpen tt tt e
+      at HalfRemote e = rules.live HalfRemote tt tt e
+      at HalfLocal e = rules.live HalfLocal tt tt e
+      at Ended e = rules.over Ended tt tt e
+      at PeerReset e = rules.over PeerReset tt tt e
+      at WeReset e = rules.over WeReset tt tt e
 
-    live : (k : Kind) → IsLive k → IsRecorded k → st.kind ≡ k → Moves s.book id (with_mark_on id j t n) p s (turned (stay s.core) (rule st))
-    live = rule-live id s t p j n rule pos_id x none (reset_turn-proper s.book s.core.peer.signal) (reset_turn-good s.book t.window t.mark s.core.peer.signal) over unasked
+  pub window-kept : (i : ℕ) → Kept s.book id (with_mark_on id j t (granted_more i t.mark)) p (makes s (on_window s.core i on))
+  unfolding on_window
+  window-kept i = at on.kind refl
+    where
+      rules : ByState id s t p j (granted_more i t.mark) (window_turn s.core.peer.signal i)
+      rules = by-state id s t p j (granted_more i t.mark) (window_turn s.core.peer.signal i) pos_id x none (window_turn-proper s.book s.core.peer.signal i) (window_turn-good s.book t.window t.mark s.core.peer.signal i)
+          (λ st. over-granted st.kind (picked s.book st.pick).body t.window st.numbers.send st.numbers.left t.mark i) (unasked-more (granted_more i t.mark) refl refl refl refl)
 
-    done : (k : Kind) → IsOver k → IsRecorded k → st.kind ≡ k → Moves s.book id (with_mark_on id j t n) p s (stay s.core)
-    done = nothing-over id s t p j n rule pos_id x none (reset_turn-proper s.book s.core.peer.signal) (reset_turn-good s.book t.window t.mark s.core.peer.signal) over unasked
-
-    at : (k : Kind) → st.kind ≡ k → Kept s.book id (with_mark_on id j t n) p (makes s (run_cell ConnectionError (nothing s.core) (λ r. reset_rule r s.core st) (reset_cell k)))
-    at Idle e = tt
-    at Skipped e = nothing-skipped id s t p j n rule pos_id x none (reset_turn-proper s.book s.core.peer.signal) (reset_turn-good s.book t.window t.mark s.core.peer.signal) over unasked e
-    at BothOpen e = live BothOpen tt tt e
-    at HalfRemote e = live HalfRemote tt tt e
-    at HalfLocal e = live HalfLocal tt tt e
-    at Ended e = done Ended tt tt e
-    at PeerReset e = done PeerReset tt tt e
-    at WeReset e = done WeReset tt tt e
-
-pub window-kept : (id : ℕ) (s : State) (t : Tally) (p : List ℕ) (j i : ℕ) → 1 ≤ id → Agreement s.book id s t → s.block ≡ None →
-    Kept s.book id (with_mark_on id j t (granted_more i t.mark)) p (makes s (on_window s.core i (stream_at s.core.last s.streams j)))
-unfolding on_window
-window-kept id s t p j i pos_id x none = at st.kind refl
-  where
-    st : Stream
-    st = stream_at s.core.last s.streams j
-
-    n : Mark
-    n = granted_more i t.mark
-
-    rule : Stream → Turn
-    rule = window_turn s.core.peer.signal i
-
-    unasked : Unasked t.mark → Unasked n
-    unasked u = record { promised = u.promised; headers = u.headers; content = u.content; ended = u.ended }
-
-    over : (st : Stream) → IsOver st.kind → Fits s.book t.window st t.mark → Fits s.book t.window st n
-    over st = over-granted st.kind (picked s.book st.pick).body t.window st.numbers.send st.numbers.left t.mark i
-
-    live : (k : Kind) → IsLive k → IsRecorded k → st.kind ≡ k → Moves s.book id (with_mark_on id j t n) p s (turned (stay s.core) (rule st))
-    live = rule-live id s t p j n rule pos_id x none (window_turn-proper s.book s.core.peer.signal i) (window_turn-good s.book t.window t.mark s.core.peer.signal i) over unasked
-
-    done : (k : Kind) → IsOver k → IsRecorded k → st.kind ≡ k → Moves s.book id (with_mark_on id j t n) p s (stay s.core)
-    done = nothing-over id s t p j n rule pos_id x none (window_turn-proper s.book s.core.peer.signal i) (window_turn-good s.book t.window t.mark s.core.peer.signal i) over unasked
-
-    at : (k : Kind) → st.kind ≡ k → Kept s.book id (with_mark_on id j t n) p (makes s (run_cell ConnectionError (nothing s.core) (λ r. window_rule r s.core i st) (window_cell k)))
-    at Idle e = tt
-    at Skipped e = nothing-skipped id s t p j n rule pos_id x none (window_turn-proper s.book s.core.peer.signal i) (window_turn-good s.book t.window t.mark s.core.peer.signal i) over unasked e
-    at BothOpen e = live BothOpen tt tt e
-    at HalfRemote e = live HalfRemote tt tt e
-    at HalfLocal e = live HalfLocal tt tt e
-    at Ended e = done Ended tt tt e
-    at PeerReset e = done PeerReset tt tt e
-    at WeReset e = done WeReset tt tt e
+      at : (k : Kind) → on.kind ≡ k → Kept s.book id (with_mark_on id j t (granted_more i t.mark)) p (makes s (run_cell ConnectionError (nothing s.core) (λ r. window_rule r s.core i on) (window_cell k)))
+      at Idle e = tt
+      at Skipped e = rules.skipped e
+      at BothOpen e = rules.live BothOpen tt tt e
+      at HalfRemote e = rules.live HalfRemote tt tt e
+      at HalfLocal e = rules.live HalfLocal tt tt e
+      at Ended e = rules.over Ended tt tt e
+      at PeerReset e = rules.over PeerReset tt tt e
+      at WeReset e = rules.over WeReset tt tt e
 
 -- ---- the connection
 
