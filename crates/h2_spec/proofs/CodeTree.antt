@@ -1,7 +1,7 @@
 -- The codes in a tree: none begins another.
 use Rattle.std.proofs.Common.{◌≡◌, ℕ, zero, suc, ◌<◌, Bool, true, false, ◌&&◌, eqb, List, [], ◌∷◌, ◌++◌, Option, Some, None, inl, inr, refl, arith}
 use Rattle.std.proofs.lemmas.Bool.Decides.{nat_tests, eqb_tells}
-use Rattle.h2_spec.proofs.Computed.{and-left, and-right}
+use Rattle.h2_spec.proofs.Computed.{all_below, below-at}
 use Rattle.h2_spec.specs.HuffmanCode.{code}
 
 pub data Tree : Type 0 where
@@ -33,33 +33,20 @@ found : ℕ → Option ℕ → Bool
 found s None = false
 found s (Some t) = eqb s t
 
-all_found : Tree → ℕ → Bool
-all_found t zero = true
-all_found t (suc n) = found n (walk t (code n)) && all_found t n
-
 pub code_tree : Tree
 code_tree = grown 257
 
-all_there : all_found code_tree 257 ≡ true
-unfolding all_found code_tree grown put found code
-all_there = refl
+each_found : all_below (λ s. found s (walk code_tree (code s))) 257 ≡ true
+unfolding code_tree grown put found code
+each_found = refl
 
 found-is : (s : ℕ) (o : Option ℕ) → found s o ≡ true → o ≡ Some s
 unfolding found
 found-is s None h = cc
 found-is s (Some t) h = let e : s ≡ t = grind (arith, nat_tests) in cc
 
-all_found-at : (t : Tree) (n s : ℕ) → all_found t n ≡ true → s < n → walk t (code s) ≡ Some s
-unfolding all_found
-all_found-at t zero s h l = absurd (omega arith)
-all_found-at t (suc n) s h l =
-    elim (eqb_tells s n) [
-      | inl e ↦ rw e.1 (found-is n (walk t (code n)) (and-left (found n (walk t (code n))) (all_found t n) h))
-      | inr d ↦ all_found-at t n s (and-right (found n (walk t (code n))) (all_found t n) h) (omega (arith, d.1))
-    ]
-
 pub walks : (s : ℕ) → s < 257 → walk code_tree (code s) ≡ Some s
-walks s h = all_found-at code_tree 257 s all_there h
+walks s h = found-is s (walk code_tree (code s)) (below-at (λ n. found n (walk code_tree (code n))) 257 s each_found h)
 
 -- of two walks along one list both are the same
 pub one_walk : (t : Tree) (a b : List Bool) (x y : ℕ) (p q : List Bool) → walk t a ≡ Some x → walk t b ≡ Some y → a ++ p ≡ b ++ q → (x ≡ y) × (p ≡ q)

@@ -1,0 +1,4 @@
+pub mod Groups
+pub mod Reading
+pub mod Table
+pub mod Writing

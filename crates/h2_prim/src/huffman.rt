@@ -1,0 +1,206 @@
+//! Huffman strings (RFC 7541, 5.2 and Appendix B): how long one is, writing one, and reading one.
+//! It rests on the arrays of `tables`, which proofs tie to the code of `h2_spec`; its definitions are `spell_huffman` and
+//! `huffman_text` of `h2_spec`, specs/Huffman.antt, and the law that these are what the RFC says is `h2_spec::huffman_laws`.
+
+ghost use Rattle.std.specs.Prelude.{◌≡◌, ℕ, ◌+◌, ◌*◌, ◌^◌, ◌<◌, ◌≤◌, ◌↔◌, ◌++◌, Bool, List, length, take, IfOk, OnOk, OnErr, IsErrOf};
+ghost use Rattle.std.specs.Vec.{vec_len, vec_capacity};
+ghost use Rattle.h2_spec.specs.HuffmanCode.{bits_of, code};
+ghost use Rattle.h2_spec.specs.Huffman.{bits, huffman_text, spell_huffman, Text, Eos, Padding};
+ghost use Rattle.h2_prim.specs.States.{path_of, Leads, Stands, Tells};
+ghost use Rattle.h2_prim.specs.Written.{Written};
+ghost use Rattle.h2_prim.specs.declared.fault.HuffFault.TheVariants as fault;
+
+use crate::fault::HuffFault;
+use crate::tables::{CODES, LENGTHS, NEXT, SYMBOLS};
+use std::alloc::{AllocError, Allocator};
+
+/// How many octets the Huffman string of the text takes. Takes no memory.
+pub fn huff_len(text: &[u8]) -> usize
+    requires { length text.now ≤ 33554432 }
+    ensures { result ≡ length (spell_huffman text.now) }
+{
+    let mut bits = 0;
+    for octet in text {
+        bits += usize::from(code_of(*octet).1);
+    }
+    (bits + 7) / 8
+}
+
+/// Appends the Huffman string of the text: the codes of its octets, and ones up to a whole octet.
+///
+/// # Errors
+///
+/// `AllocError` where memory was refused; `out` is as it was.
+pub fn huff_write<A: Allocator>(text: &[u8], out: &mut Vec<u8, A>) -> Result<(), AllocError>
+    requires { length text.now ≤ 33554432 }
+    ensures ok { OnOk result (out.new.items ≡ out.old.items ++ spell_huffman text.now) }
+    ensures err { OnErr result (out.new.items ≡ out.old.items) }
+{
+    out.reserve(huff_len(text))?;
+    write_codes(text, out);
+    Ok(())
+}
+
+/// The text that the octets are the Huffman string of.
+///
+/// # Errors
+///
+/// `Eos` where the whole code of the end of a string stands in the octets, `Padding` where they are neither a text nor that;
+/// `NoMemory` where they are a text and memory was refused.
+pub fn huff_read<A: Allocator>(alloc: A, octets: &[u8]) -> Result<Vec<u8, A>, HuffFault>
+    ensures text { IfOk result (λ text. huffman_text octets.now ≡ Text text.items) }
+    ensures eos { IsErrOf result fault.Eos ↔ (huffman_text octets.now ≡ Eos) }
+    ensures padding { IsErrOf result fault.Padding ↔ (huffman_text octets.now ≡ Padding) }
+{
+    let Ok(mut text) = vec![in alloc; 0; most_symbols(octets.len())] else {
+        return Err(fault_at(state_after(octets)).unwrap_or(HuffFault::NoMemory));
+    };
+    let (len, state) = decode(octets, text.as_mut_slice());
+    match fault_at(state) {
+        None => {
+            text.truncate(len);
+            Ok(text)
+        }
+        Some(fault) => Err(fault),
+    }
+}
+
+/// The code of an octet as a number, and how many bits it has.
+fn code_of(octet: u8) -> (u32, u8)
+    ensures code { bits_of result.1 result.0 ≡ code octet }
+    ensures bits { (5 ≤ result.1) × (result.1 ≤ 30) }
+    ensures small { result.0 < 2 ^ result.1 }
+{
+    (CODES[usize::from(octet)], LENGTHS[usize::from(octet)])
+}
+
+/// The most octets that a text of this many octets has: a code has 5 bits or more.
+fn most_symbols(octets: usize) -> usize
+    requires { octets < 2 ^ 63 }
+    ensures { 8 * octets ≤ 5 * result }
+{
+    octets + octets / 5 * 3 + (octets % 5 * 3 + 4) / 5
+}
+
+/// The state that four bits lead to from a state, and the octet whose code they make whole, 256 where they make none.
+fn move_at(state: u16, nibble: u8) -> (u16, u16)
+    requires state { state ≤ 256 }
+    requires nibble { nibble < 16 }
+    ensures leads { Leads state (bits_of 4 nibble) result.1 result.0 }
+    ensures small { (result.0 ≤ 256) × (result.1 ≤ 256) }
+{
+    let place = usize::from(state) * 16 + usize::from(nibble);
+    (NEXT[place], SYMBOLS[place])
+}
+
+/// Takes four bits: writes the octet that they may make whole at `len`, and answers the text's length and the state behind them.
+fn step(text: &mut [u8], len: usize, state: u16, nibble: u8) -> (usize, u16)
+    requires room { len < length text.now }
+    requires state { state ≤ 256 }
+    requires nibble { nibble < 16 }
+    ensures read { (bs : List Bool) → Stands bs (take len text.old) state → Stands (bs ++ bits_of 4 nibble) (take result.0 text.new) result.1 }
+    ensures small { (result.0 ≤ length text.new) × (result.1 ≤ 256) }
+{
+    let (next, symbol) = move_at(state, nibble);
+    text[len] = (symbol % 256) as u8;
+    if symbol < 256 {
+        (len + 1, next)
+    } else {
+        (len, next)
+    }
+}
+
+/// Decodes the octets to the front of `text`; answers how many octets that is, and the state behind them.
+fn decode(octets: &[u8], text: &mut [u8]) -> (usize, u16)
+    requires { 8 * length octets.now ≤ 5 * length text.now }
+    ensures read { Stands (bits octets.now) (take result.0 text.new) result.1 }
+    ensures small { (result.0 ≤ length text.new) × (result.1 ≤ 256) }
+{
+    let mut len = 0;
+    let mut state = 0;
+    for octet in octets {
+        let half = step(text, len, state, *octet / 16);
+        let whole = step(text, half.0, half.1, *octet % 16);
+        len = whole.0;
+        state = whole.1;
+    }
+    (len, state)
+}
+
+/// The state behind the octets, with no text written.
+fn state_after(octets: &[u8]) -> u16
+    ensures read { (text : List ℕ) × Stands (bits octets.now) text result }
+    ensures small { result ≤ 256 }
+{
+    let mut state = 0;
+    for octet in octets {
+        state = move_at(state, *octet / 16).0;
+        state = move_at(state, *octet % 16).0;
+    }
+    state
+}
+
+/// What a string that ends in the state is refused for, if it is.
+fn fault_at(state: u16) -> Option<HuffFault>
+    requires { state ≤ 256 }
+    ensures { (octets text : List ℕ) → Stands (bits octets) text state → Tells (huffman_text octets) text result }
+{
+    match state {
+        0..=7 => None,
+        256 => Some(HuffFault::Eos),
+        _ => Some(HuffFault::Padding),
+    }
+}
+
+/// Appends the codes of the text's octets, and then ones up to a whole octet; there is room for them.
+fn write_codes<A: Allocator>(text: &[u8], out: &mut Vec<u8, A>)
+    requires { vec_len out.old + length (spell_huffman text.now) ≤ vec_capacity out.old }
+    ensures { out.new.items ≡ out.old.items ++ spell_huffman text.now }
+{
+    let mut number = 0;
+    let mut count = 0;
+    for octet in text {
+        let (code, length) = code_of(*octet);
+        let left = flush(
+            out,
+            number * power(length) + u64::from(code),
+            count + length,
+        );
+        number = left.0;
+        count = left.1;
+    }
+    if count > 0 {
+        let rest = power(8 - count);
+        out.push_reserved((number * rest + (rest - 1)) as u8);
+    }
+}
+
+/// Two to the power of `bits`.
+fn power(bits: u8) -> u64
+    requires { bits ≤ 40 }
+    ensures { result ≡ 2 ^ bits }
+{
+    1 << bits
+}
+
+/// Appends the whole octets of a number of `count` bits, for which there is room; answers what is left, and how many bits it has.
+fn flush<A: Allocator>(out: &mut Vec<u8, A>, number: u64, count: u8) -> (u64, u8)
+    requires few { count ≤ 40 }
+    requires small { number < 2 ^ count }
+    requires room { 8 * vec_len out.old + count ≤ 8 * vec_capacity out.old }
+    ensures few { result.1 < 8 }
+    ensures small { result.0 < 2 ^ result.1 }
+    ensures written { (before : List ℕ) (bs : List Bool) → Written before out.old.items count number bs → Written before out.new.items result.1 result.0 bs }
+    ensures size { 8 * vec_len out.new + result.1 ≡ 8 * vec_len out.old + count }
+    ensures capacity { vec_capacity out.new ≡ vec_capacity out.old }
+{
+    let mut number = number;
+    let mut count = count;
+    while count >= 8 {
+        count -= 8;
+        let scale = power(count);
+        out.push_reserved((number / scale) as u8);
+        number %= scale;
+    }
+    (number, count)
+}

@@ -1,0 +1,13 @@
+//! The primitive types of HPACK (RFC 7541, 5): integers with a prefix, and strings with their Huffman code.
+//! It rests on the definitions of `h2_spec` alone: Integer, Huffman and HuffmanCode, and strings of Instruction.
+//! How an answer of this crate is one of the definitions' stands in `specs/Answers.antt`.
+#![tactic(auto)]
+
+pub mod fault;
+pub mod huffman;
+pub mod integer;
+mod tables;
+
+pub use fault::HuffFault;
+pub use huffman::{huff_len, huff_read, huff_write};
+pub use integer::{read_int, write_int, IntRead};
