@@ -6,8 +6,13 @@
 pub mod fault;
 pub mod huffman;
 pub mod integer;
+pub mod string;
 mod tables;
 
 pub use fault::HuffFault;
 pub use huffman::{huff_len, huff_read, huff_write};
 pub use integer::{read_int, write_int, IntRead};
+pub use string::{find_str, read_str, StrAt, StrRead};
+
+#[cfg(test)]
+mod tests;
