@@ -140,7 +140,8 @@ fn state_after(octets: &[u8]) -> u16
     state
 }
 
-/// What a string that ends in the state is refused for, if it is.
+/// What a string that ends in the state is refused for, if it is. States 0 to 7 are those of no ones to seven ones, and 256 is
+/// that of the whole end of a string.
 fn fault_at(state: u16) -> Option<HuffFault>
     requires { state ≤ 256 }
     ensures { (octets text : List ℕ) → Stands (bits octets) text state → Tells (huffman_text octets) text result }

@@ -11,8 +11,8 @@ mod tables;
 
 pub use fault::HuffFault;
 pub use huffman::{huff_len, huff_read, huff_write};
-pub use integer::{read_int, write_int, IntRead};
-pub use string::{find_str, read_str, StrAt, StrRead};
+pub use integer::{IntRead, read_int, write_int};
+pub use string::{StrAt, StrRead, find_str, read_str};
 
 #[cfg(test)]
 mod tests;

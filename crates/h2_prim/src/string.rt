@@ -11,7 +11,7 @@ ghost use Rattle.h2_prim.specs.declared.string.StrRead.TheVariants as read;
 
 use crate::fault::HuffFault;
 use crate::huffman::huff_read;
-use crate::integer::{read_int, IntRead};
+use crate::integer::{IntRead, read_int};
 use std::alloc::Allocator;
 
 /// What stands at the front of octets, as a string with its octets as they are (RFC 7541, 5.2).
@@ -91,11 +91,7 @@ fn octets_at(octets: &[u8], start: usize, count: u64) -> Option<&[u8]>
 }
 
 /// The text of a string's octets: what they are the Huffman string of, or the octets themselves.
-fn text_in<A: Allocator>(
-    alloc: A,
-    huffman: bool,
-    octets: &[u8],
-) -> Result<Vec<u8, A>, HuffFault>
+fn text_in<A: Allocator>(alloc: A, huffman: bool, octets: &[u8]) -> Result<Vec<u8, A>, HuffFault>
     ensures text { IfOk result (λ text. text_of (str huffman octets.now) ≡ Text text.items) }
     ensures eos { IsErrOf result fault.Eos ↔ (text_of (str huffman octets.now) ≡ Eos) }
     ensures padding { IsErrOf result fault.Padding ↔ (text_of (str huffman octets.now) ≡ Padding) }

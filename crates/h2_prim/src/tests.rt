@@ -8,13 +8,33 @@ use std::test::Fail;
 fn reads_integers(rt: HostRuntime) -> Result<(), Fail> {
     let cases: [(u8, &[u8], IntRead, &str); 8] = [
         (5, b"\x0a", IntRead::Whole(10, 1), "ten in the prefix"),
-        (5, b"\xea\xff", IntRead::Whole(10, 1), "ten beside other bits"),
+        (
+            5,
+            b"\xea\xff",
+            IntRead::Whole(10, 1),
+            "ten beside other bits",
+        ),
         (5, b"\x1f\x9a\x0a", IntRead::Whole(1337, 3), "1337"),
         (8, b"\x2a", IntRead::Whole(42, 1), "42 in a whole octet"),
-        (5, b"\x1f\x9a\x8a\x80\x00", IntRead::Whole(1337, 5), "1337 with needless octets"),
+        (
+            5,
+            b"\x1f\x9a\x8a\x80\x00",
+            IntRead::Whole(1337, 5),
+            "1337 with needless octets",
+        ),
         (5, b"\x1f\x9a", IntRead::More, "the last octet is missing"),
-        (5, b"\x1f\x80\x80\x80\x80", IntRead::More, "four octets that go on"),
-        (5, b"\x1f\x80\x80\x80\x80\x80", IntRead::TooLong, "five octets that go on"),
+        (
+            5,
+            b"\x1f\x80\x80\x80\x80",
+            IntRead::More,
+            "four octets that go on",
+        ),
+        (
+            5,
+            b"\x1f\x80\x80\x80\x80\x80",
+            IntRead::TooLong,
+            "five octets that go on",
+        ),
     ];
     for (prefix, octets, wanted, name) in cases {
         assert_eq!(rt; read_int(prefix, octets), wanted, "{name}");
@@ -29,7 +49,13 @@ fn writes_integers(rt: HostRuntime) -> Result<(), Fail> {
         (5, 0, 10, b"\x0a", "ten in the prefix"),
         (5, 0x20, 1337, b"\x3f\x9a\x0a", "1337 in a size update"),
         (7, 0x80, 127, b"\xff\x00", "a full prefix and nothing more"),
-        (4, 0, 4294967295, b"\x0f\xf0\xff\xff\xff\x0f", "the largest value"),
+        (
+            4,
+            0,
+            4294967295,
+            b"\x0f\xf0\xff\xff\xff\x0f",
+            "the largest value",
+        ),
     ];
     for (prefix, high, value, wanted, name) in cases {
         let mut out = Vec::new(rt.alloc());
@@ -43,7 +69,10 @@ fn writes_integers(rt: HostRuntime) -> Result<(), Fail> {
 #[test]
 fn codes_texts(rt: HostRuntime) -> Result<(), Fail> {
     let cases: [(&[u8], &[u8]); 6] = [
-        (b"www.example.com", b"\xf1\xe3\xc2\xe5\xf2\x3a\x6b\xa0\xab\x90\xf4\xff"),
+        (
+            b"www.example.com",
+            b"\xf1\xe3\xc2\xe5\xf2\x3a\x6b\xa0\xab\x90\xf4\xff",
+        ),
         (b"no-cache", b"\xa8\xeb\x10\x64\x9c\xbf"),
         (b"302", b"\x64\x02"),
         (b"private", b"\xae\xc3\x77\x1a\x4b"),
@@ -69,8 +98,16 @@ fn refuses_other_octets(rt: HostRuntime) -> Result<(), Fail> {
     let cases: [(&[u8], HuffFault, &str); 4] = [
         (b"\xff", HuffFault::Padding, "eight ones"),
         (b"\x00", HuffFault::Padding, "zeros behind a code"),
-        (b"\xff\xff\xff\xff", HuffFault::Eos, "the end of a string alone"),
-        (b"\x07\xff\xff\xff\xff", HuffFault::Eos, "the end of a string behind a text"),
+        (
+            b"\xff\xff\xff\xff",
+            HuffFault::Eos,
+            "the end of a string alone",
+        ),
+        (
+            b"\x07\xff\xff\xff\xff",
+            HuffFault::Eos,
+            "the end of a string behind a text",
+        ),
     ];
     for (octets, wanted, name) in cases {
         assert_eq!(rt; huff_read(rt.alloc(), octets).err(), Some(wanted), "{name}");
@@ -96,8 +133,16 @@ fn reads_strings(rt: HostRuntime) -> Result<(), Fail> {
         }
     }
     assert!(rt; matches!(read_str(rt.alloc(), b"\x82\x64")?, StrRead::More));
-    assert!(rt; matches!(read_str(rt.alloc(), b"\x7f\x80\x80\x80\x80\x80")?, StrRead::TooLong));
-    assert_eq!(rt; find_str(b"\x82\x64\x02"), StrAt::Whole(true, b"\x64\x02", 3));
+    assert!(rt;
+        matches!(
+            read_str(rt.alloc(), b"\x7f\x80\x80\x80\x80\x80")?,
+            StrRead::TooLong
+        )
+    );
+    assert_eq!(rt;
+        find_str(b"\x82\x64\x02"),
+        StrAt::Whole(true, b"\x64\x02", 3)
+    );
     Ok(())
 }
 

@@ -1,0 +1,14 @@
+#!/usr/bin/env bash
+# Builds the benchmark of h2_prim over the crates as they stand, in a folder of its own, and runs it; with the word
+# `callgrind`, counts its instructions by valgrind. It is no part of the gate.
+set -eu
+here=$(cd "$(dirname "$0")" && pwd)
+work=${WORK:-/tmp/h2_bench_prim}
+mkdir -p "$work/crates"
+rm -rf "$work"/crates/{h2_spec,h2_prim,bench_prim}/{src,specs,proofs}
+cp -r "$here/../../crates/h2_spec" "$here/../../crates/h2_prim" "$work/crates"
+mkdir -p "$work/crates/bench_prim"
+cp -r "$here/src" "$work/crates/bench_prim"
+printf 'h2_spec: hex thiserror\nh2_prim: h2_spec thiserror\nbench_prim: h2_prim anyhow\n' > "$work/crates.txt"
+cd "$work/crates/bench_prim"
+rt run
