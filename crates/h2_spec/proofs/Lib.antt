@@ -4,6 +4,7 @@ mod BlockRows
 pub mod CodeTree
 pub mod Computed
 mod DebugRows
+mod FlowLaws
 mod FrameLaws
 mod FrameRows
 mod Hex

@@ -1,5 +1,5 @@
 -- Settings of the peer and of the server (RFC 9113, 6.5.2).
-use Rattle.std.specs.Prelude.{ℕ, true, false, ◌&&◌, nat_le, ◌==◌, if◌then◌else◌, Some, None, Result, Ok, Err, ℤ, pos, ◌-ℤ◌}
+use Rattle.std.specs.Prelude.{ℕ, ◌≤◌, true, false, ◌&&◌, nat_le, ◌==◌, if◌then◌else◌, Some, None, Result, Ok, Err, ℤ, pos, ◌-ℤ◌}
 use Rattle.h2_spec.specs.declared.errors.ErrorCode.{ErrorCode}
 use Rattle.h2_spec.specs.declared.errors.ErrorCode.TheVariants.{ProtocolError, FlowControlError}
 use Rattle.h2_spec.specs.declared.errors.FlowFault.{FlowFault}
@@ -34,6 +34,13 @@ initial = record { header_table = 4096; push = 1; streams = None; window = 65535
 -- the server's settings that are in force until the peer has acknowledged others
 abbrev pub own_initial : Own
 own_initial = record { table = 4096; window = 65535; frame = 16384 }
+
+-- values that are allowed (6.5.2)
+pub record IsAllowed (s : Settings) : Type 0 where
+  pub push : s.push ≤ 1
+  pub window : s.window ≤ max_window
+  pub least_frame : 16384 ≤ s.frame
+  pub most_frame : s.frame ≤ 16777215
 
 -- the settings after one of them, or the error code
 unfoldable pub with_setting : Settings → ℕ → ℕ → Result Settings ErrorCode

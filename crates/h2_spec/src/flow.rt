@@ -109,9 +109,7 @@ impl Window {
         requires { pos count ≤ℤ self }
         ensures { result ≡ self -ℤ pos count }
     {
-        Window {
-            size: (i64::from(self.size) - i64::from(count)) as i32,
-        }
+        self.lowered(count)
     }
 
     /// Whether it would pass 2147483647 with these octets.

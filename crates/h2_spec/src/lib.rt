@@ -5,6 +5,7 @@ pub mod block_laws;
 pub mod connection;
 pub mod errors;
 pub mod flow;
+pub mod flow_laws;
 pub mod frame_laws;
 pub mod frames;
 pub mod grants_laws;
