@@ -1,3 +1,3 @@
 pub mod Above
-pub mod Greatest
+pub mod OneSetting
 pub mod Sound

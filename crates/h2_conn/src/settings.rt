@@ -1,16 +1,24 @@
 //! The rule for SETTINGS (RFC 9113, 6.5 and 6.9.2).
 //! Rests on `change`; definitions: h2_spec's `specs/SettingsFrame.antt`, `specs/Settings.antt`.
 
-ghost use Rattle.std.specs.Prelude.{◌≡◌, List, pos, ◌-ℤ◌};
+ghost use Rattle.std.specs.Prelude.{◌≡◌, List, Ok, Err};
+ghost use Rattle.h2_frame.specs.Parts.{settings_in};
 ghost use Rattle.h2_spec.specs.Change.{moved_by};
+ghost use Rattle.h2_spec.specs.SettingsFrame as rule;
 ghost use Rattle.h2_spec.specs.declared.streams.Stream.{Stream};
-ghost use Rattle.h2_conn.specs.Greatest.{IsGreatest, one_setting, overflows_with};
+ghost use Rattle.h2_streams.specs.Greatest.{IsGreatest, overflows_with};
+ghost use Rattle.h2_conn.specs.OneSetting.{one_setting};
 
+use h2_frame::SettingsPart;
+use h2_spec::connection::{Core, Phase};
 use h2_spec::errors::{ErrorCode, FlowFault};
 use h2_spec::flow::{Settings, Window};
+use h2_spec::reactions::{Change, ConnectionFrame, Reaction, Touch};
+
+use crate::change::stay;
 
 /// Whether the greatest window, if there is one, passes its limit where the initial window goes from one value to another.
-#[tactic(auto, unfolding(crate::specs::Greatest::overflows_with))]
+#[tactic(auto, unfolding(h2_streams::specs::Greatest::overflows_with))]
 fn overflows(greatest: Option<Window>, from: u32, to: u32) -> bool
     ensures { result ≡ overflows_with greatest (moved_by from to) }
 {
@@ -21,7 +29,7 @@ fn overflows(greatest: Option<Window>, from: u32, to: u32) -> bool
 }
 
 /// The settings after one of them, where they were `from` before the frame.
-#[tactic(auto, unfolding(crate::specs::Greatest::one_setting))]
+#[tactic(auto, unfolding(crate::specs::OneSetting::one_setting))]
 fn one_setting(
     greatest: Option<Window>,
     from: Settings,
@@ -43,4 +51,56 @@ fn one_setting(
         Err(FlowFault::BadSetting(code)) => Err(code),
         Err(_) => unreachable!(),
     }
+}
+
+/// The settings after those of a frame in their order; the first one that is refused decides.
+fn settings_applied(
+    greatest: Option<Window>,
+    from: Settings,
+    part: SettingsPart<'_>,
+) -> Result<Settings, ErrorCode>
+    ensures { (streams : List Stream) → IsGreatest greatest streams → result ≡ rule.settings_applied streams from from (settings_in part.entry) }
+{
+    let mut now = from;
+    for place in 0..part.count() {
+        let (id, value) = part.pair(place);
+        match one_setting(greatest, from, now, id, value) {
+            Ok(next) => now = next,
+            Err(code) => return Err(code),
+        }
+    }
+    Ok(now)
+}
+
+/// SETTINGS without ACK: all of the frame, or none of it; `greatest` is the greatest of the send windows that settings move.
+#[tactic(auto, unfolding(h2_spec::specs::SettingsFrame::settings_rule))]
+pub fn settings_rule(greatest: Option<Window>, core: Core, part: SettingsPart<'_>) -> Reaction
+    ensures { (streams : List Stream) → IsGreatest greatest streams → result ≡ rule.settings_rule streams core (settings_in part.entry) }
+{
+    let before = core.peer.window;
+    match settings_applied(greatest, core.peer, part) {
+        Err(code) => Reaction::ConnectionError(code),
+        Ok(peer) => {
+            let change = stay(Core {
+                peer,
+                phase: Phase::Running,
+                ..core
+            });
+            Reaction::Continues(Change {
+                touch: Touch::Shift(before, peer.window),
+                first: ConnectionFrame::SettingsAck,
+                ..change
+            })
+        }
+    }
+}
+
+/// SETTINGS with ACK: the peer has acknowledged the server's settings.
+pub fn acknowledged(core: Core) -> Reaction
+    ensures { result ≡ rule.acknowledged core }
+{
+    Reaction::Continues(stay(Core {
+        acked: true,
+        ..core
+    }))
 }

@@ -176,3 +176,23 @@ module _ (d : ℤ) (es : List (ℕ × Stream)) (live : List ℕ) (last : ℕ) (k
 
   pub overflow-listed : AllByRecursion (CanShift d) (records_of es) → list_any (passes_at (is_stuck d) es) live ≡ overflows d (records_of es)
   overflow-listed can = stuck-listed ∙ stuck-overflows d (records_of es) can
+
+-- ---- the greatest window
+
+overflows-ended : (d : ℤ) (st : Stream) → is_live st.kind ≡ false → overflows_one d st ≡ false
+overflows-ended d st h = rw (follows-ended st.kind h) refl
+
+any-overflows : (d : ℤ) (rs : List Stream) → list_any (overflows_one d) rs ≡ overflows d rs
+unfolding overflows
+any-overflows d [] = refl
+any-overflows d (x ∷ xs) = by (overflows_one d x) (any-overflows d xs) where
+  by : (b : Bool) → list_any (overflows_one d) xs ≡ overflows d xs → (b || list_any (overflows_one d) xs) ≡ cond b true (overflows d xs)
+  by true rest = refl
+  by false rest = rest
+
+-- whether a window would pass its limit is asked of the live streams
+pub overflows-listed : (d : ℤ) (es : List (ℕ × Stream)) (live : List ℕ) (last : ℕ) → IsKept es live last → list_any (passes_at (overflows_one d) es) live ≡ overflows d (records_of es)
+overflows-listed d es live last kept =
+    ap (list_any (passes_at (overflows_one d) es)) kept.live_listed ∙ ap (λ (xs : List (ℕ × Stream)). list_any (passes_at (overflows_one d) xs) (live_ids (records_of es))) kept.under_ids
+    ∙ any-live (overflows_one d) (overflows-ended d) (records_of es) (records_of es) (all-found 0 last (records_of es) kept.rising)
+    ∙ any-overflows d (records_of es)

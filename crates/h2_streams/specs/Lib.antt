@@ -1,3 +1,4 @@
+pub mod Greatest
 pub mod Hash
 pub mod Kept
 pub mod Shift

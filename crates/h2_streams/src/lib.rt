@@ -3,6 +3,7 @@
 //! What each call does to the list of records is said in `h2_spec/specs/Stream.antt`.
 #![tactic(auto)]
 
+mod greatest;
 mod hash;
 mod kinds;
 mod live;

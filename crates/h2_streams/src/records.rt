@@ -10,14 +10,17 @@ ghost use Rattle.std.specs.Option.{option_copied};
 ghost use Rattle.h2_spec.specs.Stream as spec;
 ghost use Rattle.h2_spec.specs.Ends as ends;
 ghost use Rattle.h2_spec.specs.Change as changes;
+ghost use Rattle.h2_streams.specs.Greatest.{IsGreatest};
 ghost use Rattle.h2_streams.specs.Kept as kept;
 ghost use Rattle.h2_streams.specs.Shift as shift;
 
+use crate::greatest::greatest_of;
 use crate::hash::IdHash;
 use crate::kinds::{is_live, not_live, peer_closed, reset_kind, server_closed};
 use crate::live::{drop_ended, first_waiting, ids_above};
 use crate::shift::{any_is_stuck, move_each};
 use h2_spec::errors::FlowFault;
+use h2_spec::flow::Window;
 use h2_spec::streams::{Kind, Numbers, Pick, Stream};
 use indexmap::IndexMap;
 use std::alloc::{AllocError, Allocator};
@@ -216,6 +219,13 @@ impl<A: Allocator> Streams<A> {
         ensures first { result ≡ spec.next_waiting after self.now.streams }
     {
         first_waiting(&self.records, ids_above(self.live.as_slice(), after))
+    }
+
+    /// The greatest of the send windows that settings move, if there is one: it alone tells whether a move takes a window too far (RFC 9113, 6.9.2).
+    pub fn greatest_send(&self) -> Option<Window>
+        ensures { IsGreatest result self.now.streams }
+    {
+        greatest_of(&self.records, self.live.as_slice())
     }
 
     /// Moves the send windows of the streams that settings move, as SETTINGS_INITIAL_WINDOW_SIZE changes by `delta` (RFC 9113, 6.9.2).

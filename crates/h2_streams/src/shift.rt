@@ -18,7 +18,7 @@ use std::alloc::Allocator;
 const LEAST_WINDOW: i64 = -2_147_483_648;
 
 /// Whether settings move the send window of the stream.
-fn follows_initial_window(kind: Kind) -> bool
+pub(crate) fn follows_initial_window(kind: Kind) -> bool
     ensures { result ≡ changes.follows_initial_window kind }
 {
     match kind {

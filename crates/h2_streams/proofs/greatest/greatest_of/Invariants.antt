@@ -1,0 +1,10 @@
+use Rattle.std.proofs.Common.{◌≡◌, ◌||◌, drop, ℤ}
+use Rattle.std.specs.List.{list_any}
+use Rattle.h2_spec.specs.Change.{overflows_one}
+use Rattle.h2_streams.specs.Greatest.{overflows_with}
+use Rattle.h2_streams.specs.Kept.{passes_at}
+use Rattle.h2_streams.proofs.greatest.greatest_of.Given as goal
+
+abbrev pub invariant-loop-id : goal.invariant-loop-id
+invariant-loop-id g l =
+    (d : ℤ) → (overflows_with l.greatest d || list_any (passes_at (overflows_one d) l.records.entries) (drop l.id-index l.ids)) ≡ list_any (passes_at (overflows_one d) l.records.entries) l.ids
