@@ -1,2 +1,3 @@
 mod AboveLaws
 mod Pieces
+mod SettingsLaws

@@ -9,13 +9,12 @@ ghost use Rattle.h2_spec.specs.declared.streams.Stream.{Stream};
 ghost use Rattle.h2_streams.specs.Greatest.{IsGreatest, overflows_with};
 ghost use Rattle.h2_conn.specs.OneSetting.{one_setting};
 
+use crate::change::stay;
 use h2_frame::SettingsPart;
 use h2_spec::connection::{Core, Phase};
 use h2_spec::errors::{ErrorCode, FlowFault};
 use h2_spec::flow::{Settings, Window};
 use h2_spec::reactions::{Change, ConnectionFrame, Reaction, Touch};
-
-use crate::change::stay;
 
 /// Whether the greatest window, if there is one, passes its limit where the initial window goes from one value to another.
 #[tactic(auto, unfolding(h2_streams::specs::Greatest::overflows_with))]
@@ -31,18 +30,18 @@ fn overflows(greatest: Option<Window>, from: u32, to: u32) -> bool
 /// The settings after one of them, where they were `from` before the frame.
 #[tactic(auto, unfolding(crate::specs::OneSetting::one_setting))]
 fn one_setting(
-    greatest: Option<Window>,
+    greatest: &Option<Window>,
     from: Settings,
     now: Settings,
     id: u16,
     value: u32,
 ) -> Result<Settings, ErrorCode>
-    ensures { (streams : List Stream) → IsGreatest greatest streams → result ≡ one_setting streams from now id value }
+    ensures { (streams : List Stream) → IsGreatest greatest.now streams → result ≡ one_setting streams from now id value }
 {
     let mut next = now;
     match next.apply(id, value) {
         Ok(_) => {
-            if overflows(greatest, from.window, next.window) {
+            if overflows(*greatest, from.window, next.window) {
                 Err(ErrorCode::FlowControlError)
             } else {
                 Ok(next)
@@ -55,11 +54,11 @@ fn one_setting(
 
 /// The settings after those of a frame in their order; the first one that is refused decides.
 fn settings_applied(
-    greatest: Option<Window>,
+    greatest: &Option<Window>,
     from: Settings,
     part: SettingsPart<'_>,
 ) -> Result<Settings, ErrorCode>
-    ensures { (streams : List Stream) → IsGreatest greatest streams → result ≡ rule.settings_applied streams from from (settings_in part.entry) }
+    ensures { (streams : List Stream) → IsGreatest greatest.now streams → result ≡ rule.settings_applied streams from from (settings_in part.entry) }
 {
     let mut now = from;
     for place in 0..part.count() {
@@ -74,8 +73,8 @@ fn settings_applied(
 
 /// SETTINGS without ACK: all of the frame, or none of it; `greatest` is the greatest of the send windows that settings move.
 #[tactic(auto, unfolding(h2_spec::specs::SettingsFrame::settings_rule))]
-pub fn settings_rule(greatest: Option<Window>, core: Core, part: SettingsPart<'_>) -> Reaction
-    ensures { (streams : List Stream) → IsGreatest greatest streams → result ≡ rule.settings_rule streams core (settings_in part.entry) }
+pub fn settings_rule(greatest: &Option<Window>, core: Core, part: SettingsPart<'_>) -> Reaction
+    ensures { (streams : List Stream) → IsGreatest greatest.now streams → result ≡ rule.settings_rule streams core (settings_in part.entry) }
 {
     let before = core.peer.window;
     match settings_applied(greatest, core.peer, part) {

@@ -1,0 +1,57 @@
+-- The settings of a frame, one after another.
+use Rattle.std.proofs.Common.{◌≡◌, ℕ, zero, suc, ◌+◌, Bool, true, false, cond, List, [], ◌∷◌, drop, refl, sym, ap, ◌∙◌, Option, Some, None, Result, Ok, Err}
+use Rattle.std.specs.Prelude.{slice_get}
+use Rattle.std.proofs.lemmas.List.{drop_more}
+use Rattle.std.proofs.lemmas.Option.{get_or_from_slice_get, slice_get_within}
+use Rattle.h2_spec.specs.declared.errors.ErrorCode.{ErrorCode}
+use Rattle.h2_spec.specs.declared.errors.ErrorCode.TheVariants.{FlowControlError}
+use Rattle.h2_spec.specs.declared.flow.Settings.{Settings}
+use Rattle.h2_spec.specs.declared.streams.Stream.{Stream}
+use Rattle.h2_spec.specs.Settings.{with_setting}
+use Rattle.h2_spec.specs.Change.{overflows, moved_by}
+use Rattle.h2_spec.specs.SettingsFrame.{setting_next, settings_applied}
+use Rattle.h2_conn.specs.OneSetting.{one_setting}
+
+abbrev Applied : Type 0
+Applied = Result Settings ErrorCode
+
+ok_same : (x y : Settings) → (let r : Applied = Ok x in r ≡ Ok y) → x ≡ y
+ok_same x y e = cc
+
+ok_not_err : (x : Settings) (y : ErrorCode) → (let r : Applied = Ok x in r ≡ Err y) → ⊥
+ok_not_err x y e = cc
+
+-- what is applied first decides how it goes on
+pub applied-ok : (streams : List Stream) (from now next : Settings) (id value : ℕ) (ps : List (ℕ × ℕ)) → one_setting streams from now id value ≡ Ok next →
+    settings_applied streams from now ((id, value) ∷ ps) ≡ settings_applied streams from next ps
+unfolding settings_applied one_setting
+applied-ok streams from now next id value ps e = at (with_setting now id value) e
+  where
+    moved : (t : Settings) (b : Bool) → cond b (Err FlowControlError) (Ok t) ≡ Ok next → cond b (Err FlowControlError) (settings_applied streams from t ps) ≡ settings_applied streams from next ps
+    moved t true h = absurd (ok_not_err next FlowControlError (sym h))
+    moved t false h = ap (λ x. settings_applied streams from x ps) (ok_same t next h)
+
+    at : (r : Result Settings ErrorCode) → setting_next streams from r (λ x. Ok x) ≡ Ok next → setting_next streams from r (λ x. settings_applied streams from x ps) ≡ settings_applied streams from next ps
+    at (Err code) h = absurd (ok_not_err next code (sym h))
+    at (Ok t) h = moved t (overflows (moved_by from.window t.window) streams) h
+
+pub applied-err : (streams : List Stream) (from now : Settings) (code : ErrorCode) (id value : ℕ) (ps : List (ℕ × ℕ)) → one_setting streams from now id value ≡ Err code →
+    settings_applied streams from now ((id, value) ∷ ps) ≡ Err code
+unfolding settings_applied one_setting
+applied-err streams from now code id value ps e = at (with_setting now id value) e
+  where
+    moved : (t : Settings) (b : Bool) → cond b (Err FlowControlError) (Ok t) ≡ Err code → cond b (Err FlowControlError) (settings_applied streams from t ps) ≡ Err code
+    moved t true h = h
+    moved t false h = absurd (ok_not_err t code h)
+
+    at : (r : Result Settings ErrorCode) → setting_next streams from r (λ x. Ok x) ≡ Err code → setting_next streams from r (λ x. settings_applied streams from x ps) ≡ Err code
+    at (Err c) h = h
+    at (Ok t) h = moved t (overflows (moved_by from.window t.window) streams) h
+
+-- what stands at a place, and then what is behind it
+pub drop-at : (n : ℕ) (ps : List (ℕ × ℕ)) (p : ℕ × ℕ) → slice_get ps n ≡ Some p → drop n ps ≡ p ∷ drop (n + 1) ps
+drop-at n ps p e = drop_more ps n (0, 0) (slice_get_within ps n p e) ∙ ap (λ q. q ∷ drop (n + 1) ps) (get_or_from_slice_get ps n p (0, 0) e)
+
+pub applied-none : (streams : List Stream) (from now : Settings) → settings_applied streams from now [] ≡ Ok now
+unfolding settings_applied
+applied-none streams from now = refl
