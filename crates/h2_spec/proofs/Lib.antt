@@ -16,6 +16,7 @@ mod IntegerRows
 mod GrantsRows
 pub mod grants
 mod LongBodies
+mod LongLists
 pub mod ParseLaws
 pub mod RequestLaws
 mod RequestRows
