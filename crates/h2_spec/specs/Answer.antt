@@ -12,6 +12,7 @@ pub record Answer : Type 0 where
   pub fields : List Field
   pub body : List ℕ
 
+-- a response of this status, these fields and this content
 abbrev pub answer : ℕ → List Field → List ℕ → Answer
 answer status fields body = record { status = status; fields = fields; body = body }
 
@@ -72,6 +73,7 @@ abbrev pub status_at : Option ℕ → ℕ → Shape
 status_at (Some place) status = Indexed (8 + place)
 status_at None status = Literal Without (Ref 8) (plain_string (status_digits status))
 
+-- the status as a field of the response: by its index where the static table has it (8.3.2)
 abbrev pub status_instruction : ℕ → Shape
 status_instruction status = status_at (position (λ s. s == status) indexed_statuses) status
 

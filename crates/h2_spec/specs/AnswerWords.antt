@@ -7,9 +7,11 @@ use Rattle.h2_spec.specs.Field.{Field, field}
 use Rattle.h2_spec.specs.Request.{is_between, decimal_value}
 use Rattle.h2_spec.specs.Answer.{Entry, answer}
 
+-- the sign between parts
 abbrev pub is_bar : ℕ → Bool
 is_bar c = c == 124
 
+-- the sign between a name and its value
 abbrev pub is_equals_sign : ℕ → Bool
 is_equals_sign c = c == 61
 
@@ -27,6 +29,7 @@ parts_of (c ∷ cs) = with_octet c (parts_of cs)
 abbrev pub status_of : List ℕ → Option ℕ
 status_of digits = if length digits == 3 && list_all (is_between 48 57) digits then Some (decimal_value digits) else None
 
+-- what was decoded, if it was
 abbrev pub ok_or_none : Result (List ℕ) FromHexError → Option (List ℕ)
 ok_or_none (Ok octets) = Some octets
 ok_or_none (Err e) = None
@@ -45,6 +48,7 @@ with_field (Some f) (Some fs) = Some (f ∷ fs)
 with_field (Some f) None = None
 with_field None fs = None
 
+-- the fields that parts say, if each says one
 abbrev pub fields_of : List (List ℕ) → Option (List Field)
 fields_of [] = Some []
 fields_of (part ∷ parts) = with_field (field_of part) (fields_of parts)

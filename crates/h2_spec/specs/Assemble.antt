@@ -18,6 +18,7 @@ abbrev pub ◌>>=◌ : {A B : Type 0} → Result A SyntaxKind → (A → Result 
 (Ok x) >>= f = f x
 (Err e) >>= f = Err e
 
+-- a value, or this fault where there is none
 abbrev pub wanted : {A : Type 0} → SyntaxKind → Option A → Result A SyntaxKind
 wanted kind None = Err kind
 wanted kind (Some x) = Ok x
@@ -28,6 +29,7 @@ wanted kind (Some x) = Ok x
 abbrev pub before : ℕ → List ℕ → List ℕ
 before c xs = take (position_or_len (λ b. b == c) xs) xs
 
+-- the text from the first such octet on
 abbrev pub onwards : ℕ → List ℕ → List ℕ
 onwards c xs = drop (position_or_len (λ b. b == c) xs) xs
 
@@ -38,13 +40,16 @@ behind c (x ∷ xs) = if x == c then Some xs else None
 
 -- ---- words: numbers, octets, strings
 
+-- what was decoded, if it was
 abbrev pub decoded : Result (List ℕ) FromHexError → Option (List ℕ)
 decoded (Ok x) = Some x
 decoded (Err e) = None
 
+-- two hex digits
 abbrev pub octet_at : List ℕ → Option ℕ
 octet_at text = option_map (λ xs. slice_index xs 0) (decoded (decode_sized text 1))
 
+-- hex digits, at least two
 abbrev pub octets_at : List ℕ → Option (List ℕ)
 octets_at text = if length text == 0 then None else decoded (decode_of text)
 
@@ -53,9 +58,11 @@ unfoldable pub scanned : ℕ → List ℕ → Option ℕ
 scanned n [] = Some n
 scanned n (c ∷ cs) = if nat_le 48 c && nat_le c 57 then scanned (n * 10 + (c - 48)) cs else None
 
+-- a number that is not above the limit
 abbrev pub up_to : ℕ → ℕ → Option ℕ
 up_to most n = if nat_le n most then Some n else None
 
+-- 1 to 10 decimal digits of a number that is not above the limit
 abbrev pub number_at : ℕ → List ℕ → Option ℕ
 number_at most text = if nat_lt 0 (length text) && nat_le (length text) 10 then option_and_then (up_to most) (scanned 0 text) else None
 
@@ -64,6 +71,7 @@ abbrev pub with_octet : Option ℕ → Option (List ℕ) → Option (List ℕ)
 with_octet None more = None
 with_octet (Some c) more = option_map (λ cs. c ∷ cs) more
 
+-- the octets that stand between quotes
 unfoldable pub unescaped : List ℕ → Option (List ℕ)
 unescaped [] = Some []
 unescaped (c ∷ []) = if is_plain c then Some (c ∷ []) else None
@@ -87,26 +95,33 @@ string_at (q ∷ xs) =
 
 -- ---- instructions and settings, each with the text behind it
 
+-- the sign that begins a string
 abbrev pub is_quote : ℕ → Bool
 is_quote c = c == 34 || c == 39
 
+-- an index of 1 or more
 abbrev pub index_of : ℕ → Option (NameRef TextStr)
 index_of i = if i == 0 then None else Some (Ref i)
 
+-- the name of a literal at the front of a text
 abbrev pub name_at : List ℕ → Option (NameRef TextStr × List ℕ)
 name_at text =
     if is_quote (slice_index text 0) then option_map (λ p. (Named p.0, p.1)) (string_at text)
     else option_map (λ name. (name, onwards 61 text)) (option_and_then index_of (number_at max_u32 (before 61 text)))
 
+-- the value of a literal behind its name
 abbrev pub value_at : Mode → NameRef TextStr → List ℕ → Option (Instruction × List ℕ)
 value_at mode name text = option_map (λ p. (Literal mode name p.0, p.1)) (option_and_then string_at (behind 61 text))
 
+-- a literal at the front of a text
 abbrev pub literal_at : Mode → List ℕ → Option (Instruction × List ℕ)
 literal_at mode text = option_and_then (λ p. value_at mode p.0 p.1) (name_at text)
 
+-- an instruction that is a number
 abbrev pub numbered_at : (ℕ → Instruction) → List ℕ → Option (Instruction × List ℕ)
 numbered_at f text = option_map (λ n. (f n, onwards 44 text)) (number_at max_u32 (before 44 text))
 
+-- the instruction at the front of a text, by its letter
 unfoldable pub instruction_at : List ℕ → Option (Instruction × List ℕ)
 unfolding scanned unescaped
 instruction_at [] = None
@@ -118,6 +133,7 @@ instruction_at (c ∷ cs) =
     else if c == 118 then literal_at Never cs
     else None
 
+-- both, if both are there
 abbrev pub pair_of : Option ℕ → Option ℕ → Option (ℕ × ℕ)
 pair_of None b = None
 pair_of (Some a) None = None
@@ -127,6 +143,7 @@ pair_of (Some a) (Some b) = Some (a, b)
 abbrev pub setting_of : List ℕ × List ℕ → Option (ℕ × ℕ)
 setting_of p = pair_of (number_at 65535 p.0) (number_at max_u32 p.1)
 
+-- the setting at the front of a text
 unfoldable pub setting_at : List ℕ → Option ((ℕ × ℕ) × List ℕ)
 unfolding scanned
 setting_at text = option_map (λ p. (p, onwards 44 text)) (option_and_then setting_of (cut_at 61 (before 44 text)))
@@ -162,6 +179,7 @@ payload_at (form ∷ text) =
 
 -- ---- frames
 
+-- the type of a frame by its name, or T and two hex digits
 abbrev pub type_at : List ℕ → Option ℕ
 type_at text =
     if bytes_eq text (codes "DATA") then Some 0
@@ -180,11 +198,13 @@ type_at text =
 abbrev pub is_reserved : List ℕ → Bool
 is_reserved text = nat_lt 0 (length text) && (slice_index text (length text - 1) == 82)
 
+-- the stream's identifier, and whether the reserved bit is set
 abbrev pub stream_at : List ℕ → Option (ℕ × Bool)
 stream_at text =
     if is_reserved text then option_map (λ n. (n, true)) (number_at max_stream (take (length text - 1) text))
     else option_map (λ n. (n, false)) (number_at max_stream text)
 
+-- a payload that a frame can have (RFC 9113, 4.1)
 abbrev pub fitting : Payload → Result Payload SyntaxKind
 fitting payload = if nat_lt (length (payload_octets payload)) (2 ^ 24) then Ok payload else Err kind.Size
 
@@ -206,6 +226,7 @@ frame_at name rest = do
 
 -- ---- lines
 
+-- RAW and its octets
 abbrev pub raw_at : List ℕ → Result Statement SyntaxKind
 raw_at digits = if length digits == 0 then Err kind.Parts else wanted kind.Payload (option_map Raw (octets_at digits))
 
@@ -225,10 +246,12 @@ statement_at (c ∷ cs) = if c == 59 then Ok Nothing else words_at (c ∷ cs) (c
 
 -- ---- scripts
 
+-- octets before those that follow
 abbrev pub with_front : List ℕ → Result (List ℕ) (ℕ × SyntaxKind) → Result (List ℕ) (ℕ × SyntaxKind)
 with_front front (Ok octets) = Ok (front ++ octets)
 with_front front (Err e) = Err e
 
+-- a line, and then those behind it
 abbrev pub line_then : ℕ → Result Statement SyntaxKind → Result (List ℕ) (ℕ × SyntaxKind) → Result (List ℕ) (ℕ × SyntaxKind)
 line_then n (Err kind) more = Err (n, kind)
 line_then n (Ok s) more = with_front (octets_of s) more

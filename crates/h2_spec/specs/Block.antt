@@ -57,11 +57,13 @@ table_after Never t f = t
 abbrev pub given : Decoding → Table → Field → Given
 given d table f = record { field = Some f; after = record d { table = table; begun = true } }
 
+-- the field of a name and a value, or why one of them is refused: the name is decided first
 abbrev pub literal_result : Mode → Decoding → Result (List ℕ) Fault → Result (List ℕ) Fault → Result Given Fault
 literal_result mode d (Ok name) (Ok value) = Ok (given d (table_after mode d.table (field name value)) (field name value))
 literal_result mode d (Ok name) (Err fault) = Err fault
 literal_result mode d (Err fault) value = Err fault
 
+-- the field at an index, or why there is none
 abbrev pub indexed_result : Decoding → Option Field → Result Given Fault
 indexed_result d (Some f) = Ok (given d d.table f)
 indexed_result d None = Err Index
@@ -85,6 +87,7 @@ abbrev pub taken_unless : ℕ → Result Given Fault → Front Decoding (Option 
 taken_unless used (Ok g) = One g.field g.after used
 taken_unless used (Err fault) = Stop
 
+-- a whole instruction is taken unless it is refused; nothing else is
 abbrev pub instr_taken : ℕ → Decoding → Read Shape → Front Decoding (Option Field)
 instr_taken limit d (Whole i used) = taken_unless used (apply limit d i)
 instr_taken limit d More = Stop
@@ -105,6 +108,7 @@ abbrev pub refused_by : List ℕ → Result Given Fault → Outcome
 refused_by b (Ok g) = Unfinished b
 refused_by b (Err fault) = Faulty fault
 
+-- how a block ends so far, by what stands at the front of the octets left
 unfoldable pub outcome_of : ℕ → Decoding → List ℕ → Read Shape → Outcome
 unfolding apply
 outcome_of limit d b (Whole i used) = refused_by b (apply limit d i)
@@ -134,10 +138,12 @@ pub record Decoded : Type 0 where
 abbrev pub start : Table → Bool → Progress
 start table due = record { fields = []; table = table; due = due }
 
+-- whether a field has come
 abbrev pub has_fields : List Field → Bool
 has_fields [] = false
 has_fields (f ∷ fs) = true
 
+-- how far decoding has come, apart from the fields
 abbrev pub decoding : Progress → Decoding
 decoding p = record { table = p.table; begun = has_fields p.fields; due = p.due }
 
@@ -145,6 +151,7 @@ decoding p = record { table = p.table; begun = has_fields p.fields; due = p.due 
 abbrev pub progress_after : Progress → Given → Progress
 progress_after p g = record { fields = p.fields ++ option_to_list g.field; table = g.after.table; due = g.after.due }
 
+-- how far a block has come after an instruction, or why that is refused
 abbrev pub progress_by : Progress → Result Given Fault → Result Progress Fault
 progress_by p (Ok g) = Ok (progress_after p g)
 progress_by p (Err fault) = Err fault
@@ -166,6 +173,7 @@ unfoldable pub carried_on : ℕ → Decoded → List ℕ → Decoded
 unfolding decoded
 carried_on limit d piece = elim d.outcome [ Unfinished rest ↦ decoded limit d.progress (rest ++ piece) | Faulty fault ↦ d ]
 
+-- a block carried on over fragments, one after another
 unfoldable pub carried_through : ℕ → Decoded → List (List ℕ) → Decoded
 unfolding carried_on
 carried_through limit d [] = d

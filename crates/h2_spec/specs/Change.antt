@@ -42,6 +42,7 @@ stream_error signal id code = record { stream = not_live id WeReset; frame = Res
 abbrev pub stay : Core → Change
 stay core = record { core = core; touch = Same; first = Quiet; second = Still; answer = None }
 
+-- whether the next response begins with a table size update (RFC 7541, 4.2)
 abbrev pub with_signal : Core → Bool → Core
 with_signal core signal = record core { peer = record core.peer { signal = signal } }
 
@@ -60,15 +61,19 @@ follows_initial_window Ended = false
 follows_initial_window PeerReset = false
 follows_initial_window WeReset = false
 
+-- with this send window
 abbrev pub with_send : Stream → ℤ → Stream
 with_send st w = record st { numbers = record st.numbers { send = w } }
 
+-- a stream as settings move its send window
 abbrev pub shifted_one : ℤ → Stream → Stream
 shifted_one d st = if follows_initial_window st.kind then with_send st (st.numbers.send +ℤ d) else st
 
+-- all streams as settings move their send windows (6.9.2)
 unfoldable pub shifted : ℤ → List Stream → List Stream
 shifted d streams = map (shifted_one d) streams
 
+-- whether settings take the stream's send window too far (6.9.2)
 abbrev pub overflows_one : ℤ → Stream → Bool
 overflows_one d st = follows_initial_window st.kind && is_above_max (st.numbers.send +ℤ d)
 
@@ -81,6 +86,7 @@ overflows d (st ∷ sts) = if overflows_one d st then true else overflows d sts
 abbrev pub moved_by : ℕ → ℕ → ℤ
 moved_by from to = pos to -ℤ pos from
 
+-- the records after a change
 abbrev pub touched : Touch → List Stream → List Stream
 touched Same streams = streams
 touched (Put st) streams = put st streams
@@ -92,15 +98,19 @@ after s c = record s { core = c.core; streams = touched c.touch s.streams }
 
 -- ---- the frames
 
+-- GOAWAY of a connection error: the last stream, the code, and no more (6.8)
 abbrev pub goaway : ℕ → ErrorCode → Frame
 goaway last code = record { kind = GOAWAY; flags = 0; stream = 0; payload = big_endian 4 last ++ big_endian 4 (code_number code) }
 
+-- RST_STREAM of a stream error (6.4)
 abbrev pub rst_stream : ℕ → ErrorCode → Frame
 rst_stream id code = record { kind = RST_STREAM; flags = 0; stream = id; payload = big_endian 4 (code_number code) }
 
+-- WINDOW_UPDATE on the connection or on a stream (6.9)
 abbrev pub window_update : ℕ → ℕ → Frame
 window_update id n = record { kind = WINDOW_UPDATE; flags = 0; stream = id; payload = big_endian 4 n }
 
+-- a flag, where this holds
 abbrev pub flag_if : Bool → ℕ → ℕ
 flag_if true f = f
 flag_if false f = 0
@@ -116,11 +126,13 @@ first_frames p SettingsAck = record { kind = SETTINGS; flags = ACK; stream = 0; 
 first_frames p PingAck = record { kind = PING; flags = ACK; stream = 0; payload = p } ∷ []
 first_frames p (Credit n) = window_update 0 n ∷ []
 
+-- what is sent on a stream
 abbrev pub second_frames : StreamFrame → List Frame
 second_frames Still = []
 second_frames (Reset id code) = rst_stream id code ∷ []
 second_frames (StreamCredit id n) = window_update id n ∷ []
 
+-- HEADERS of an answer that begins
 abbrev pub answer_frames : List Entry → Option Answering → List Frame
 answer_frames book None = []
 answer_frames book (Some a) = response a.signal a.id (picked book a.pick) ∷ []
@@ -143,6 +155,7 @@ only_shown (Some b) = Some (record b { decoding = None })
 abbrev pub ended : State → ErrorCode → State
 ended s code = record s { core = record s.core { phase = phase.Ended code }; block = only_shown s.block }
 
+-- a connection error: GOAWAY is sent (5.4.1)
 abbrev pub broken : State → ErrorCode → Step
 broken s code = record { state = ended s code; sent = goaway s.core.last code ∷ [] }
 
@@ -150,6 +163,7 @@ broken s code = record { state = ended s code; sent = goaway s.core.last code �
 abbrev pub made : State → List ℕ → Change → Step
 made s p c = record { state = after s c; sent = frames_of s.book p c }
 
+-- what an item's reaction comes to
 abbrev pub settled : State → List ℕ → Reaction → Step
 settled s p (ConnectionError code) = broken s code
 settled s p (Continues c) = made s p c

@@ -41,6 +41,7 @@ standing WindowUpdate = Anywhere
 standing Continuation = OnStream
 standing (Unknown kind) = Anywhere
 
+-- whether a frame stands where its type may not, by whether its stream is 0
 abbrev pub is_misplaced_as : Standing → Bool → Bool
 is_misplaced_as OnConnection zero = not zero
 is_misplaced_as OnStream zero = zero

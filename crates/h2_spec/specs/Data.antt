@@ -18,6 +18,7 @@ use Rattle.h2_spec.specs.Ends.{peer_ended}
 
 -- ---- on the connection
 
+-- what is owed on the connection is given back, or stays owed
 abbrev pub owed_as : Option ℕ → Core → ℕ → Change
 owed_as (Some n) core owed = record (stay (record core { recv = core.recv +ℤ pos n; owed = 0 })) { first = Credit n }
 owed_as None core owed = stay (record core { owed = owed })
@@ -33,9 +34,11 @@ counted threshold core n = owed_on_connection threshold (record core { recv = co
 
 -- ---- on the stream
 
+-- octets are given back on the stream
 abbrev pub with_returned : Stream → ℕ → Stream
 with_returned st n = record st { numbers = record st.numbers { recv = st.numbers.recv +ℤ pos n; owed = 0 } }
 
+-- what is owed on the stream is given back, or stays owed
 abbrev pub returned_as : Option ℕ → Bool → Stream → Turn
 returned_as (Some n) signal st = record (quiet_turn signal (with_returned st n)) { frame = StreamCredit st.id n }
 returned_as None signal st = quiet_turn signal st

@@ -36,6 +36,7 @@ nothing core = Continues (stay core)
 
 -- ---- DATA
 
+-- DATA by the rule that the table names
 abbrev pub data_rule : DataRule → Config → Core → ℕ → Came → Stream → Reaction
 data_rule Take config core body d st = data_taken config core body d st
 data_rule (Refuse code) config core body d st = data_refused config core d st code
@@ -46,6 +47,7 @@ unfoldable pub on_data : Config → Core → ℕ → Came → Stream → Reactio
 unfolding data_taken data_refused data_counted
 on_data config core body d st = run_cell ConnectionError (nothing core) (λ rule. data_rule rule config core body d st) (data_cell st.kind)
 
+-- what a frame of DATA brings
 abbrev pub came : Head → List ℕ → DataPart → Came
 came h p part = record { octets = length p; content = length part.content; ends = has h.flags END_STREAM }
 
@@ -59,27 +61,33 @@ body_length book st = length (picked book st.pick).body
 abbrev pub reset_turn : Bool → Stream → Turn
 reset_turn signal st = quiet_turn signal (not_live st.id PeerReset)
 
+-- RST_STREAM by the rule that the table names
 abbrev pub reset_rule : ResetRule → Core → Stream → Reaction
 reset_rule PeerResets core st = Continues (turned (stay core) (reset_turn core.peer.signal st))
 
+-- RST_STREAM that comes on a stream (6.4)
 unfoldable pub on_reset : Core → Stream → Reaction
 unfolding turned
 on_reset core st = run_cell ConnectionError (nothing core) (λ rule. reset_rule rule core st) (reset_cell st.kind)
 
+-- WINDOW_UPDATE by the rule that the table names
 abbrev pub window_rule : WindowRule → Core → ℕ → Stream → Reaction
 window_rule MoveWindow core increment st = Continues (turned (stay core) (window_turn core.peer.signal increment st))
 
+-- WINDOW_UPDATE that comes on a stream (6.9)
 unfoldable pub on_window : Core → ℕ → Stream → Reaction
 unfolding turned window_turn
 on_window core increment st = run_cell ConnectionError (nothing core) (λ rule. window_rule rule core increment st) (window_cell st.kind)
 
 -- ---- HEADERS
 
+-- HEADERS by their cell of the table (6.2)
 abbrev pub on_headers : State → Head → HeadersPart → Cell Purpose → FrameEffect
 on_headers s h part cell = run_cell Breaks (Makes s (stay s.core)) (λ purpose. block_opens s purpose h part) cell
 
 -- ---- a frame that has passed the checks, by what it holds
 
+-- a frame, by what it holds
 abbrev pub frame_effect : State → Head → List ℕ → Part → FrameEffect
 frame_effect s h p (OfData part) = let st = stream_at s.core.last s.streams h.stream in makes s (on_data s.config s.core (body_length s.book st) (came h p part) st)
 frame_effect s h p (OfHeaders part) = on_headers s h part (headers_cell h.stream (stream_at s.core.last s.streams h.stream).kind)
@@ -107,10 +115,12 @@ abbrev pub checked_effect : State → Head → List ℕ → Option ErrorCode →
 checked_effect s h p None = part_effect s h p (part_of h p)
 checked_effect s h p (Some code) = Breaks code
 
+-- the stream of the open block
 abbrev pub block_stream : Option OpenBlock → Option ℕ
 block_stream None = None
 block_stream (Some b) = Some b.shown.stream
 
+-- an item: the preface, a frame that is too large, or a frame
 abbrev pub item_effect : State → Item → FrameEffect
 item_effect s Preface = Makes s (stay (record s.core { phase = phase.Settings }))
 item_effect s BadPreface = Breaks ProtocolError
@@ -124,6 +134,7 @@ payload_of BadPreface = []
 payload_of (Oversize h) = []
 payload_of (WholeFrame h p) = p
 
+-- what an item comes to is done: a connection error, or a change
 abbrev pub concluded : State → List ℕ → FrameEffect → Step
 concluded s p (Breaks code) = broken s code
 concluded s p (Makes t c) = made t p c

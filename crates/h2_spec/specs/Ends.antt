@@ -8,9 +8,11 @@ use Rattle.h2_spec.specs.declared.streams.Stream.{Stream}
 use Rattle.h2_spec.specs.Stream.{not_live}
 use Rattle.h2_spec.specs.Change.{quiet_turn}
 
+-- with this many octets of the answer left
 abbrev pub with_left : Stream → ℕ → Stream
 with_left st n = record st { numbers = record st.numbers { left = Some n } }
 
+-- in this state
 abbrev pub with_kind : Stream → Kind → Stream
 with_kind st kind = record st { kind = kind }
 

@@ -7,30 +7,39 @@ use Rattle.h2_spec.specs.declared.frames.FrameType.TheVariants.{Data, Headers, P
 abbrev pub DATA : ℕ
 DATA = 0
 
+-- HEADERS (6.2)
 abbrev pub HEADERS : ℕ
 HEADERS = 1
 
+-- PRIORITY (6.3)
 abbrev pub PRIORITY : ℕ
 PRIORITY = 2
 
+-- RST_STREAM (6.4)
 abbrev pub RST_STREAM : ℕ
 RST_STREAM = 3
 
+-- SETTINGS (6.5)
 abbrev pub SETTINGS : ℕ
 SETTINGS = 4
 
+-- PUSH_PROMISE (6.6)
 abbrev pub PUSH_PROMISE : ℕ
 PUSH_PROMISE = 5
 
+-- PING (6.7)
 abbrev pub PING : ℕ
 PING = 6
 
+-- GOAWAY (6.8)
 abbrev pub GOAWAY : ℕ
 GOAWAY = 7
 
+-- WINDOW_UPDATE (6.9)
 abbrev pub WINDOW_UPDATE : ℕ
 WINDOW_UPDATE = 8
 
+-- CONTINUATION (6.10)
 abbrev pub CONTINUATION : ℕ
 CONTINUATION = 9
 
@@ -67,15 +76,19 @@ type_number (Unknown kind) = kind
 abbrev pub END_STREAM : ℕ
 END_STREAM = 1
 
+-- of SETTINGS and PING (6.5, 6.7)
 abbrev pub ACK : ℕ
 ACK = 1
 
+-- of HEADERS and CONTINUATION (6.2, 6.10)
 abbrev pub END_HEADERS : ℕ
 END_HEADERS = 4
 
+-- of DATA and HEADERS (6.1, 6.2)
 abbrev pub PADDED : ℕ
 PADDED = 8
 
+-- PRIORITY of HEADERS (6.2)
 abbrev pub WITH_PRIORITY : ℕ
 WITH_PRIORITY = 32
 

@@ -36,6 +36,7 @@ pub record Tally : Type 0 where
   pub sent : ℕ
   pub mark : Mark
 
+-- nothing of the stream has come or gone
 abbrev pub blank : Mark
 blank = record { granted = 0; promised = None; headers = 0; content = []; ended = false; reset = false }
 
@@ -79,6 +80,7 @@ body_promised book (Some body) fields = Some body
 body_promised book None None = None
 body_promised book None (Some fields) = Some (picked book (pick_of book (request_of fields))).body
 
+-- the mark with the body that these fields ask for
 abbrev pub with_fields : List Entry → Mark → Option (List Field) → Mark
 with_fields book m fields = record m { promised = body_promised book m.promised fields }
 
@@ -106,6 +108,7 @@ received_part book id s t h (OfPing octets) = t
 received_part book id s t h (OfGoaway last code) = t
 received_part book id s t h OfUnknown = t
 
+-- a frame, if its payload is one that its type allows
 abbrev pub received_frame : List Entry → ℕ → State → Tally → Head → Result Part PayloadFault → Tally
 received_frame book id s t h (Ok part) = received_part book id s t h part
 received_frame book id s t h (Err fault) = t
@@ -127,6 +130,7 @@ marked_by m f =
     else if f.kind == RST_STREAM then record m { reset = true }
     else m
 
+-- how many octets of DATA a frame has
 abbrev pub data_length : Frame → ℕ
 data_length f = if f.kind == DATA then length f.payload else 0
 
@@ -134,6 +138,7 @@ data_length f = if f.kind == DATA then length f.payload else 0
 abbrev pub sent_one : ℕ → Tally → Frame → Tally
 sent_one id t f = record t { sent = t.sent + data_length f; mark = if f.stream == id then marked_by t.mark f else t.mark }
 
+-- frames, one after another
 abbrev pub sent_all : ℕ → Tally → List Frame → Tally
 sent_all id t [] = t
 sent_all id t (f ∷ fs) = sent_all id (sent_one id t f) fs
@@ -150,9 +155,11 @@ abbrev pub AtEach : (Tally → Frame → Type 0) → ℕ → Tally → List Fram
 AtEach P id t [] = Unit {0}
 AtEach P id t (f ∷ fs) = P t f × AtEach P id (sent_one id t f) fs
 
+-- HEADERS on the stream
 abbrev pub is_headers_on : ℕ → Frame → Bool
 is_headers_on id f = f.stream == id && f.kind == HEADERS
 
+-- DATA on the stream
 abbrev pub is_data_on : ℕ → Frame → Bool
 is_data_on id f = f.stream == id && f.kind == DATA
 
@@ -177,10 +184,12 @@ IsWithinFrameSize t f = When (f.kind == DATA) (length f.payload ≤ t.frame)
 abbrev pub IsInOrder : ℕ → Tally → Frame → Type 0
 IsInOrder id t f = When (is_headers_on id f) (t.mark.headers ≡ 0) × When (is_data_on id f) (t.mark.headers ≡ 1)
 
+-- the body that is promised, or none yet
 abbrev pub body_or_nothing : Option (List ℕ) → List ℕ
 body_or_nothing None = []
 body_or_nothing (Some body) = body
 
+-- octets that others begin with
 abbrev pub IsPrefixOf : List ℕ → List ℕ → Type 0
 IsPrefixOf xs ys = (rest : List ℕ) × (xs ++ rest ≡ ys)
 
@@ -217,6 +226,7 @@ pub record Meets (id : ℕ) (ends : Bool) (t : Tally) (sent : List Frame) : Type
 
 -- ---- a run
 
+-- whether the connection has ended
 abbrev pub has_ended : Phase → Bool
 has_ended phase = is_some (ended_code phase)
 

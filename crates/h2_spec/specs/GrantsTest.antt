@@ -21,31 +21,40 @@ abbrev pub when : Bool → Bool → Bool
 when true b = b
 when false b = true
 
+-- a test of each frame that is sent and the tally before it
 abbrev pub at_each : (Tally → Frame → Bool) → ℕ → Tally → List Frame → Bool
 at_each test id t [] = true
 at_each test id t (f ∷ fs) = test t f && at_each test id (sent_one id t f) fs
 
+-- within what is granted on the connection
 abbrev pub is_within_connection : Tally → Bool
 is_within_connection t = nat_le t.sent (65535 + t.granted)
 
+-- within what is granted on the stream
 abbrev pub is_within_stream : Tally → Bool
 is_within_stream t = nat_le (length t.mark.content) (t.window + t.mark.granted)
 
+-- DATA within the frame size
 abbrev pub is_within_frame_size : Tally → Frame → Bool
 is_within_frame_size t f = when (f.kind == DATA) (nat_le (length f.payload) t.frame)
 
+-- HEADERS once, and DATA behind it
 abbrev pub is_in_order : ℕ → Tally → Frame → Bool
 is_in_order id t f = when (is_headers_on id f) (t.mark.headers == 0) && when (is_data_on id f) (t.mark.headers == 1)
 
+-- whether octets are what others begin with
 abbrev pub is_prefix : List ℕ → List ℕ → Bool
 is_prefix xs ys = bytes_eq (take (length xs) ys) xs
 
+-- a prefix of the body that is promised, and all of it at the end
 abbrev pub is_of_body : Mark → Bool
 is_of_body m = is_prefix m.content (body_or_nothing m.promised) && when m.ended (bytes_eq m.content (body_or_nothing m.promised))
 
+-- before END_STREAM, and before RST_STREAM
 abbrev pub is_before_end : ℕ → Tally → Frame → Bool
 is_before_end id t f = when (is_headers_on id f || is_data_on id f) (not t.mark.ended) && when (f.stream == id) (not t.mark.reset)
 
+-- nothing more may be sent
 abbrev pub is_used_up : Tally → Bool
 is_used_up t = t.sent == 65535 + t.granted || nat_le (t.window + t.mark.granted) (length t.mark.content)
 

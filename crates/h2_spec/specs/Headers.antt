@@ -99,10 +99,12 @@ pub data FrameEffect : Type 0 where
   Breaks : ErrorCode → FrameEffect
   Makes : State → Change → FrameEffect
 
+-- a reaction that leaves block and table as they are
 abbrev pub makes : State → Reaction → FrameEffect
 makes s (ConnectionError code) = Breaks code
 makes s (Continues c) = Makes s c
 
+-- the state with this block open
 abbrev pub with_block : State → Option OpenBlock → State
 with_block s b = record s { block = b }
 
@@ -132,6 +134,7 @@ fragment s b d octets end_headers =
 abbrev pub fresh_block : Head → BlockView
 fresh_block h = record { stream = h.stream; octets = 0; list_size = 0; ends = has h.flags END_STREAM }
 
+-- nothing of a block is decoded yet
 abbrev pub fresh_decoding : Purpose → Decoding
 fresh_decoding purpose = record { purpose = purpose; fields = []; rest = [] }
 

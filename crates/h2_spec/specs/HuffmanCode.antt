@@ -7,6 +7,7 @@ pub record CodeRow : Type 0 where
   pub first : ℕ
   pub symbols : List ℕ
 
+-- the codes of one length: how many bits, the first code, and the symbols in their order
 abbrev pub row : ℕ → ℕ → List ℕ → CodeRow
 row bits first symbols = record { bits = bits; first = first; symbols = symbols }
 
@@ -55,6 +56,7 @@ abbrev pub with_codes : ℕ → ℕ → List ℕ → List (ℕ × List Bool) →
 with_codes bits first [] others = others
 with_codes bits first (s ∷ ss) others = (s, bits_of bits first) ∷ with_codes bits (suc first) ss others
 
+-- the codes of all rows, each with its symbol
 abbrev pub codes_of_rows : List CodeRow → List (ℕ × List Bool)
 codes_of_rows [] = []
 codes_of_rows (r ∷ rs) = with_codes r.bits r.first r.symbols (codes_of_rows rs)

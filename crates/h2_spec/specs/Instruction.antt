@@ -72,6 +72,7 @@ mode_prefix Add = 6
 mode_prefix Without = 4
 mode_prefix Never = 4
 
+-- the bits above the prefix of a literal, by its mode (6.2)
 abbrev pub mode_high : Mode → ℕ
 mode_high Add = 64
 mode_high Without = 0
@@ -111,6 +112,7 @@ instr_at (o ∷ xs) = instr_by o (o ∷ xs)
 abbrev pub text_of : Str → HuffRead
 text_of s = if s.huffman then huffman_text s.octets else Text s.octets
 
+-- a string by its text
 abbrev pub with_text : Bool → HuffRead → Option TextStr
 with_text huffman (Text t) = Some (record { huffman = huffman; text = t })
 with_text huffman Eos = None
@@ -120,14 +122,17 @@ with_text huffman Padding = None
 abbrev pub text_str : Str → Option TextStr
 text_str s = with_text s.huffman (text_of s)
 
+-- a name by its text, if it has one
 abbrev pub named_text : Option TextStr → Option (NameRef TextStr)
 named_text (Some t) = Some (Named t)
 named_text None = None
 
+-- the name of a literal by its text
 abbrev pub name_text : NameRef Str → Option (NameRef TextStr)
 name_text (Ref i) = Some (Ref i)
 name_text (Named s) = named_text (text_str s)
 
+-- a literal by its texts
 abbrev pub literal_text : Mode → Option (NameRef TextStr) → Option TextStr → Option Instruction
 literal_text mode (Some name) (Some value) = Some (Literal mode name value)
 literal_text mode (Some name) None = None
@@ -149,9 +154,11 @@ abbrev pub StandsFor : Bool → List ℕ → List ℕ → Type 0
 StandsFor true octets text = IsHuffman text octets
 StandsFor false octets text = octets ≡ text
 
+-- a string stands for this text
 abbrev pub IsStringOf : Str → TextStr → Type 0
 IsStringOf s t = (s.huffman ≡ t.huffman) × StandsFor s.huffman s.octets t.text
 
+-- a name stands for this one
 abbrev pub IsNameOf : NameRef Str → NameRef TextStr → Type 0
 IsNameOf name (Ref i) = name ≡ Ref i
 IsNameOf name (Named t) = (s : Str) × (name ≡ Named s) × IsStringOf s t
@@ -173,9 +180,11 @@ abbrev pub coded : Bool → List ℕ → List ℕ
 coded true text = spell_huffman text
 coded false text = text
 
+-- a string with its text as it is coded
 abbrev pub coded_str : TextStr → Str
 coded_str t = record { huffman = t.huffman; octets = coded t.huffman t.text }
 
+-- a name with its text as it is coded
 abbrev pub coded_name : NameRef TextStr → NameRef Str
 coded_name (Ref i) = Ref i
 coded_name (Named t) = Named (coded_str t)
@@ -186,9 +195,11 @@ shape_of (Indexed i) = Indexed i
 shape_of (Update n) = Update n
 shape_of (Literal mode name value) = Literal mode (coded_name name) (coded_str value)
 
+-- the octets of a string (5.2)
 abbrev pub spell_string : Bool → List ℕ → List ℕ
 spell_string huffman octets = spell_int 7 (if huffman then 128 else 0) (length octets) ++ octets
 
+-- the octets of a literal's name (6.2)
 abbrev pub spell_name : Mode → NameRef Str → List ℕ
 spell_name mode (Ref i) = spell_int (mode_prefix mode) (mode_high mode) i
 spell_name mode (Named s) = mode_high mode ∷ spell_string s.huffman s.octets

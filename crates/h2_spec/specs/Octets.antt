@@ -5,9 +5,11 @@ use Rattle.std.specs.Prelude.{ℕ, zero, suc, ◌+◌, ◌*◌, ◌/◌, ◌%◌
 abbrev pub two_octets : List ℕ → ℕ → ℕ
 two_octets xs i = 256 * slice_index xs i + slice_index xs (i + 1)
 
+-- of three octets
 abbrev pub three_octets : List ℕ → ℕ → ℕ
 three_octets xs i = 65536 * slice_index xs i + 256 * slice_index xs (i + 1) + slice_index xs (i + 2)
 
+-- of four octets
 abbrev pub four_octets : List ℕ → ℕ → ℕ
 four_octets xs i = 16777216 * slice_index xs i + 65536 * slice_index xs (i + 1) + 256 * slice_index xs (i + 2) + slice_index xs (i + 3)
 

@@ -15,6 +15,7 @@ setting id value = big_endian 2 id ++ big_endian 4 value
 abbrev pub opening_settings : Config → Frame
 opening_settings config = record { kind = SETTINGS; flags = 0; stream = 0; payload = setting SETTINGS_MAX_CONCURRENT_STREAMS config.streams ++ setting SETTINGS_MAX_HEADER_LIST_SIZE max_list }
 
+-- the octets of the opening SETTINGS
 unfoldable pub opening_octets : Config → List ℕ
 unfolding frame_octets
 opening_octets config = frame_octets (opening_settings config)

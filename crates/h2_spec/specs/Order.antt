@@ -15,6 +15,7 @@ Rise low high (st ∷ sts) = (low < st.id) × Rise st.id high sts
 abbrev pub IsOrdered : State → Type 0
 IsOrdered s = Rise 0 s.core.last s.streams
 
+-- so it is after each item
 abbrev pub AreOrdered : List Event → Type 0
 AreOrdered [] = Unit {0}
 AreOrdered (e ∷ es) = IsOrdered e.state × AreOrdered es

@@ -12,6 +12,7 @@ pub record Parsed (S E : Type 0) : Type 0 where
   pub state : S
   pub rest : List ℕ
 
+-- an element before those that follow
 abbrev pub after_one : {S E : Type 0} → E → Parsed S E → Parsed S E
 after_one e t = record { elements = e ∷ t.elements; state = t.state; rest = t.rest }
 

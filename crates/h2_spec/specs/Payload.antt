@@ -55,6 +55,7 @@ fixed_len flags = octets_if (has flags PADDED) 1 + octets_if (has flags WITH_PRI
 abbrev pub pad_length : ℕ → List ℕ → Option ℕ
 pad_length flags p = if has flags PADDED then Some (slice_index p 0) else None
 
+-- the length of the padding, 0 where none is given
 abbrev pub pad_or_0 : Option ℕ → ℕ
 pad_or_0 None = 0
 pad_or_0 (Some n) = n
@@ -111,6 +112,7 @@ abbrev pub with_part : {A : Type 0} → (A → Part) → Result A PayloadFault �
 with_part f (Ok a) = Ok (f a)
 with_part f (Err fault) = Err fault
 
+-- SETTINGS with ACK hold nothing
 abbrev pub settings_or_ack : Bool → List (ℕ × ℕ) → Part
 settings_or_ack true pairs = OfSettingsAck
 settings_or_ack false pairs = OfSettings pairs
@@ -134,5 +136,6 @@ part_as WindowUpdate flags p = with_part OfWindowUpdate (window_part p)
 part_as Continuation flags p = Ok (OfContinuation p)
 part_as (Unknown kind) flags p = Ok OfUnknown
 
+-- what the payload of a frame holds (6)
 abbrev pub part_of : Head → List ℕ → Result Part PayloadFault
 part_of h p = part_as (frame_type h.kind) h.flags p

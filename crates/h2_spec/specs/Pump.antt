@@ -16,6 +16,7 @@ unfoldable pub share : ℕ → Stream → ℕ
 unfolding octets_waiting
 share window st = min (min (octets_waiting st) (sendable st.numbers.send)) window
 
+-- DATA of a body (6.1)
 abbrev pub piece : ℕ → Bool → List ℕ → Frame
 piece id ends xs = record { kind = DATA; flags = flag_if ends END_STREAM; stream = id; payload = xs }
 
@@ -26,6 +27,7 @@ data_upto (suc more) id ends size [] = []
 data_upto (suc more) id ends size (x ∷ xs) =
     if nat_le (length (x ∷ xs)) size then piece id ends (x ∷ xs) ∷ [] else piece id false (take size (x ∷ xs)) ∷ data_upto more id ends size (drop size (x ∷ xs))
 
+-- octets as DATA of this size and a shorter or equal last one
 unfoldable pub data_frames : ℕ → Bool → ℕ → List ℕ → List Frame
 unfolding data_upto
 data_frames id ends size xs = data_upto (length xs) id ends size xs
@@ -37,6 +39,7 @@ share_frames book size n st =
     let body = (picked book st.pick).body in
     data_frames st.id (octets_waiting st == n) size (take n (drop (length body - octets_waiting st) body))
 
+-- octets are taken from the stream's send window (6.9)
 abbrev pub with_paid : Stream → ℕ → Stream
 with_paid st n = record st { numbers = record st.numbers { send = st.numbers.send -ℤ pos n } }
 
@@ -54,6 +57,7 @@ unfolding share share_frames
 sent_frames book size window [] = []
 sent_frames book size window (st ∷ sts) = share_frames book size (share window st) st ++ sent_frames book size (window - share window st) sts
 
+-- the records after each stream has sent its share
 unfoldable pub all_after_sending : ℕ → List Stream → List Stream
 unfolding share after_sending
 all_after_sending window [] = []

@@ -7,6 +7,7 @@ pub data Read (A : Type 0) : Type 0 where
   More : Read A
   TooLong : Read A
 
+-- what is read, seen as something else
 abbrev pub read_map : {A B : Type 0} → (A → B) → Read A → Read B
 read_map f (Whole a used) = Whole (f a) used
 read_map f More = More

@@ -37,6 +37,7 @@ setting_octets p = big_endian 2 p.0 ++ big_endian 4 p.1
 abbrev pub instruction_octets : Instruction → List ℕ
 instruction_octets i = spell (shape_of i)
 
+-- the octets of a payload
 abbrev pub payload_octets : Payload → List ℕ
 payload_octets Empty = []
 payload_octets (Octets octets) = octets
@@ -49,6 +50,7 @@ payload_octets (Instructions instructions) = flat_map instruction_octets instruc
 abbrev pub stream_octets : ℕ → Bool → List ℕ
 stream_octets stream reserved = big_endian 4 (if reserved then 2 ^ 31 + stream else stream)
 
+-- the octets that a statement stands for
 abbrev pub octets_of : Statement → List ℕ
 octets_of Nothing = []
 octets_of Preface = preface
@@ -62,6 +64,7 @@ octets_of (AFrame kind flags stream reserved payload) =
 abbrev pub SaysOctets : List ℕ → List ℕ → Type 0
 SaysOctets text octets = decode_of text ≡ Ok octets
 
+-- two hex digits
 abbrev pub SaysOctet : List ℕ → ℕ → Type 0
 SaysOctet text n = SaysOctets text (n ∷ [])
 
@@ -73,9 +76,11 @@ SaysSomeOctets text octets = (0 < length octets) × SaysOctets text octets
 abbrev pub SaysNumber : ℕ → List ℕ → ℕ → Type 0
 SaysNumber most text n = IsNumeral 10 text × (length text ≤ 10) × (n ≡ digits_value 10 text) × (n ≤ most)
 
+-- the largest number of 32 bits
 abbrev pub max_u32 : ℕ
 max_u32 = 2 ^ 32 - 1
 
+-- the largest identifier of a stream (RFC 9113, 4.1)
 abbrev pub max_stream : ℕ
 max_stream = 2 ^ 31 - 1
 
@@ -87,6 +92,7 @@ is_plain c = nat_le 0x20 c && nat_le c 0x7e && not (c == 34 || c == 39 || c == 9
 abbrev pub SaysCharacter : List ℕ → ℕ → Type 0
 SaysCharacter text c = ((text ≡ c ∷ []) × IsTrue (is_plain c)) ⊎ ((digits : List ℕ) × (text ≡ 92 ∷ digits) × SaysOctet digits c)
 
+-- the characters of a text, one after another
 abbrev pub SaysText : List ℕ → List ℕ → Type 0
 SaysText text [] = text ≡ []
 SaysText text (c ∷ cs) = (first rest : List ℕ) × (text ≡ first ++ rest) × SaysCharacter first c × SaysText rest cs
@@ -95,6 +101,7 @@ SaysText text (c ∷ cs) = (first rest : List ℕ) × (text ≡ first ++ rest) �
 abbrev pub quote_of : Bool → ℕ
 quote_of huffman = if huffman then 39 else 34
 
+-- a text between its quotes
 abbrev pub SaysString : List ℕ → TextStr → Type 0
 SaysString text s = (inside : List ℕ) × (text ≡ quote_of s.huffman ∷ (inside ++ quote_of s.huffman ∷ [])) × SaysText inside s.text
 
@@ -129,6 +136,7 @@ SaysEach Says text (x ∷ y ∷ ys) = (first rest : List ℕ) × (text ≡ first
 
 -- ---- payloads, frames, lines
 
+-- the text of a payload, by the letter of its form
 abbrev pub SaysPayload : List ℕ → Payload → Type 0
 SaysPayload text Empty = text ≡ codes "-"
 SaysPayload text (Octets octets) = (digits : List ℕ) × (text ≡ 120 ∷ digits) × SaysSomeOctets digits octets
@@ -179,14 +187,17 @@ pub record FourParts : Type 0 where
   pub stream : List ℕ
   pub payload : List ℕ
 
+-- the parts of a line, where there is a third space
 abbrev pub third_cut : List ℕ → List ℕ → Option (List ℕ × List ℕ) → Option FourParts
 third_cut name flags None = None
 third_cut name flags (Some c) = Some (record { name = name; flags = flags; stream = c.0; payload = c.1 })
 
+-- where there is a second
 abbrev pub second_cut : List ℕ → Option (List ℕ × List ℕ) → Option FourParts
 second_cut name None = None
 second_cut name (Some b) = third_cut name b.0 (cut_at 32 b.1)
 
+-- where there is a first
 abbrev pub first_cut : Option (List ℕ × List ℕ) → Option FourParts
 first_cut None = None
 first_cut (Some a) = second_cut a.0 (cut_at 32 a.1)
@@ -195,9 +206,11 @@ first_cut (Some a) = second_cut a.0 (cut_at 32 a.1)
 abbrev pub parts_of : List ℕ → Option FourParts
 parts_of line = first_cut (cut_at 32 line)
 
+-- the first word is neither PREFACE nor RAW
 abbrev pub IsFrameLine : List ℕ → Type 0
 IsFrameLine line = (first_word line ≢ codes "PREFACE") × (first_word line ≢ codes "RAW")
 
+-- such a line, with a fact of its four parts
 abbrev pub HasParts : (FourParts → Type 0) → List ℕ → Type 0
 HasParts P line = IsFrameLine line × ((p : FourParts) × (parts_of line ≡ Some p) × P p)
 
@@ -240,6 +253,7 @@ IsLeastFault kind line = HasFault kind line × ((other : SyntaxKind) → kind_nu
 abbrev pub lines_of : List ℕ → List (List ℕ)
 lines_of text = slice_split (λ b. b == 10) text
 
+-- lines, one after another
 abbrev pub AreLines : List (List ℕ) → List ℕ → Type 0
 AreLines [] octets = octets ≡ []
 AreLines (line ∷ lines) octets = (first rest : List ℕ) × Line line first × AreLines lines rest × (octets ≡ first ++ rest)

@@ -12,18 +12,23 @@ use Rattle.h2_spec.specs.Window.{max_window}
 abbrev pub SETTINGS_HEADER_TABLE_SIZE : ℕ
 SETTINGS_HEADER_TABLE_SIZE = 1
 
+-- whether the server may push
 abbrev pub SETTINGS_ENABLE_PUSH : ℕ
 SETTINGS_ENABLE_PUSH = 2
 
+-- the most streams at a time
 abbrev pub SETTINGS_MAX_CONCURRENT_STREAMS : ℕ
 SETTINGS_MAX_CONCURRENT_STREAMS = 3
 
+-- the first window of streams
 abbrev pub SETTINGS_INITIAL_WINDOW_SIZE : ℕ
 SETTINGS_INITIAL_WINDOW_SIZE = 4
 
+-- the longest payload
 abbrev pub SETTINGS_MAX_FRAME_SIZE : ℕ
 SETTINGS_MAX_FRAME_SIZE = 5
 
+-- the largest list of fields
 abbrev pub SETTINGS_MAX_HEADER_LIST_SIZE : ℕ
 SETTINGS_MAX_HEADER_LIST_SIZE = 6
 

@@ -24,6 +24,7 @@ unfolding overflows with_setting
 settings_applied streams from now [] = Ok now
 settings_applied streams from now (p ∷ ps) = setting_next streams from (with_setting now p.0 p.1) (λ next. settings_applied streams from next ps)
 
+-- the settings are taken and acknowledged, or refused
 abbrev pub settings_taken : Core → Result Settings ErrorCode → Reaction
 settings_taken core (Err code) = ConnectionError code
 settings_taken core (Ok peer) = Continues (record (stay (record core { peer = peer; phase = Running })) { touch = Shift core.peer.window peer.window; first = SettingsAck })

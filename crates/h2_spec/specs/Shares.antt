@@ -11,6 +11,7 @@ abbrev pub shares : ℕ → List Stream → List ℕ
 shares window [] = []
 shares window (st ∷ sts) = share window st ∷ shares (window - share window st) sts
 
+-- the sum of shares
 abbrev pub total : List ℕ → ℕ
 total [] = 0
 total (n ∷ ns) = n + total ns

@@ -25,14 +25,17 @@ unfoldable pub option_text : Option ℕ → List ℕ
 option_text None = codes "-"
 option_text (Some n) = decimal n
 
+-- a flag, as 1 or 0
 unfoldable pub flag_text : Bool → List ℕ
 flag_text true = codes "1"
 flag_text false = codes "0"
 
+-- octets in hex, a dash for none
 unfoldable pub octets_text : List ℕ → List ℕ
 octets_text [] = codes "-"
 octets_text (x ∷ xs) = encode_lower (x ∷ xs)
 
+-- how far the connection has come
 unfoldable pub phase_text : Phase → List ℕ
 phase_text phase.Preface = codes "preface"
 phase_text phase.Settings = codes "settings"
@@ -55,12 +58,15 @@ unfoldable pub goaway_text : Option (ℕ × ℕ) → List ℕ
 goaway_text None = codes "-"
 goaway_text (Some g) = joined (decimal g.0 ∷ codes " " ∷ decimal g.1 ∷ [])
 
+-- the phase, and the last stream that was opened
 unfoldable pub phase_line : Phase → ℕ → List ℕ
 phase_line p last = joined (codes "phase " ∷ phase_text p ∷ codes " last " ∷ decimal last ∷ codes "\n" ∷ [])
 
+-- the windows of the connection, and what is owed on it
 unfoldable pub window_line : View → List ℕ
 window_line v = joined (codes "window recv " ∷ signed_decimal v.recv ∷ codes " owed " ∷ decimal v.owed ∷ codes " send " ∷ signed_decimal v.send ∷ codes "\n" ∷ [])
 
+-- the peer's settings
 unfoldable pub peer_line : Settings → List ℕ
 peer_line p = joined (
     codes "peer table " ∷ decimal p.header_table ∷
@@ -71,9 +77,11 @@ peer_line p = joined (
     codes " list " ∷ option_text p.list ∷
     codes " signal " ∷ flag_text p.signal ∷ codes "\n" ∷ [])
 
+-- whether the server's settings are acknowledged, and the latest GOAWAY
 unfoldable pub acked_line : Bool → Option (ℕ × ℕ) → List ℕ
 acked_line acked goaway = joined (codes "acked " ∷ flag_text acked ∷ codes " goaway " ∷ goaway_text goaway ∷ codes "\n" ∷ [])
 
+-- the open block
 unfoldable pub block_line : Option BlockView → List ℕ
 block_line None = codes "block -\n"
 block_line (Some b) = joined (
@@ -82,9 +90,11 @@ block_line (Some b) = joined (
     codes " list " ∷ decimal b.list_size ∷
     codes " ends " ∷ flag_text b.ends ∷ codes "\n" ∷ [])
 
+-- the header table: how many entries, their size, the maximum
 unfoldable pub table_line : ℕ → ℕ → ℕ → List ℕ
 table_line count size max = joined (codes "table " ∷ decimal count ∷ codes " " ∷ decimal size ∷ codes " " ∷ decimal max ∷ codes "\n" ∷ [])
 
+-- an entry of the header table
 unfoldable pub entry_line : ℕ → Field → List ℕ
 entry_line index f = joined (codes "entry " ∷ decimal index ∷ codes " " ∷ octets_text f.name ∷ codes " " ∷ octets_text f.value ∷ codes "\n" ∷ [])
 
@@ -106,10 +116,12 @@ stream_line_as true st = joined (
     codes " left " ∷ option_text st.numbers.left ∷ codes "\n" ∷ [])
 stream_line_as false st = joined (codes "stream " ∷ decimal st.id ∷ codes " " ∷ kind_text st.kind ∷ codes "\n" ∷ [])
 
+-- a stream that has a record
 unfoldable pub stream_line : StreamView → List ℕ
 unfolding stream_line_as
 stream_line st = stream_line_as (is_live st.kind) st
 
+-- the streams that have records, in the order of their opening
 unfoldable pub stream_lines : List StreamView → List ℕ
 unfolding stream_line
 stream_lines [] = []

@@ -19,6 +19,7 @@ is_live Ended = false
 is_live PeerReset = false
 is_live WeReset = false
 
+-- what is counted on a stream that is not live
 abbrev pub no_numbers : Numbers
 no_numbers = record { recv = pos 0; owed = 0; send = pos 0; got = 0; declared = None; left = None }
 
@@ -26,6 +27,7 @@ no_numbers = record { recv = pos 0; owed = 0; send = pos 0; got = 0; declared = 
 abbrev pub not_live : ℕ → Kind → Stream
 not_live id kind = record { id = id; kind = kind; numbers = no_numbers; pick = NotFound }
 
+-- whether the record has this identifier
 abbrev pub is_id : ℕ → Stream → Bool
 is_id id st = st.id == id
 
@@ -49,6 +51,7 @@ stream_at last streams id =
 abbrev pub kind_of : ℕ → List Stream → ℕ → Kind
 kind_of last streams id = (stream_at last streams id).kind
 
+-- how many streams are live
 abbrev pub live_count : List Stream → ℕ
 live_count streams = count_by (λ st. is_live st.kind) streams
 
@@ -62,6 +65,7 @@ abbrev pub octets_left : Option ℕ → ℕ
 octets_left None = 0
 octets_left (Some n) = n
 
+-- the octets that wait on a stream, if it is live
 unfoldable pub octets_waiting : Stream → ℕ
 octets_waiting st = if is_live st.kind then octets_left st.numbers.left else 0
 
@@ -72,6 +76,7 @@ pub record Records : Type 0 where
   pub streams : List Stream
   pub last : ℕ
 
+-- no stream has been opened
 abbrev pub no_records : Records
 no_records = record { streams = []; last = 0 }
 
@@ -107,6 +112,7 @@ abbrev pub requested : ℕ → Numbers → Pick → Bool → Stream
 requested id numbers pick true = record { id = id; kind = HalfRemote; numbers = numbers; pick = pick }
 requested id numbers pick false = record { id = id; kind = BothOpen; numbers = numbers; pick = pick }
 
+-- with these counts
 abbrev pub with_numbers : Numbers → Stream → Stream
 with_numbers numbers st = record st { numbers = numbers }
 
@@ -130,6 +136,7 @@ abbrev pub reset_kind : Bool → Kind
 reset_kind true = PeerReset
 reset_kind false = WeReset
 
+-- a stream that the peer or the server has reset (6.4)
 abbrev pub reset_as : Bool → Stream → Stream
 reset_as by_peer st = not_live st.id (reset_kind by_peer)
 
@@ -153,6 +160,7 @@ CanPut st r = (r.last < st.id → st.id % 2 ≡ 1) × (st.id ≤ r.last → is_l
 abbrev pub waits_above : ℕ → Stream → Bool
 waits_above after st = nat_lt after st.id && nat_lt 0 (octets_waiting st)
 
+-- a record's identifier
 abbrev pub id_of : Stream → ℕ
 id_of st = st.id
 

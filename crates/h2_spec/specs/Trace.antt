@@ -25,12 +25,14 @@ pub record Run : Type 0 where
 abbrev pub behind : Step → Step → Step
 behind e p = record { state = p.state; sent = e.sent ++ p.sent }
 
+-- what waits is sent behind an item, unless it ended the connection
 abbrev pub then_sent : Phase → Step → Step
 then_sent (Ended code) e = e
 then_sent Preface e = behind e (pump e.state)
 then_sent Settings e = behind e (pump e.state)
 then_sent Running e = behind e (pump e.state)
 
+-- what one item comes to
 unfoldable pub step : State → Item → Step
 unfolding effect pump
 step s item = let e = effect s item in then_sent e.state.core.phase e
@@ -42,6 +44,7 @@ next_in Settings limit b = next false limit b
 next_in Running limit b = next false limit b
 next_in (Ended code) limit b = NoItem
 
+-- the next item of a connection
 unfoldable pub next_item : State → List ℕ → Next
 unfolding next
 next_item s b = next_in s.core.phase s.core.own.frame b
@@ -51,6 +54,7 @@ abbrev pub event_on : State → Next → Front State Event
 event_on s NoItem = Stop
 event_on s (Got item used) = let st = step s item in One (record { item = item; state = st.state; sent = st.sent }) st.state used
 
+-- the next item of a connection, and what it comes to
 unfoldable pub next_event : State → List ℕ → Front State Event
 unfolding next_item step
 next_event s b = event_on s (next_item s b)

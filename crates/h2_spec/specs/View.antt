@@ -25,9 +25,11 @@ pub record View : Type 0 where
   pub table_max : ℕ
   pub streams : List StreamView
 
+-- what is shown of a stream
 abbrev pub shown_stream : Stream → StreamView
 shown_stream st = record { id = st.id; kind = st.kind; numbers = st.numbers }
 
+-- what is shown of an open block
 abbrev pub shown_block : Option OpenBlock → Option BlockView
 shown_block None = None
 shown_block (Some b) = Some b.shown

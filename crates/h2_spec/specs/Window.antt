@@ -5,6 +5,7 @@ use Rattle.std.specs.Prelude.{ℕ, Bool, nat_le, if◌then◌else◌, Option, So
 abbrev pub max_window : ℕ
 max_window = 2147483647
 
+-- whether a window would be above the largest one (6.9.1)
 abbrev pub is_above_max : ℤ → Bool
 is_above_max w = int_lt (pos max_window) w
 

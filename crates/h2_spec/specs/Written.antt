@@ -61,6 +61,7 @@ payload_said kind flags p =
     else if is_fragment kind flags then block_said p
     else Octets p
 
+-- what is said of a frame
 abbrev pub frame_said : Head → List ℕ → Statement
 frame_said h p = AFrame h.kind h.flags h.stream h.reserved (payload_said h.kind h.flags p)
 
@@ -81,18 +82,22 @@ next_said first b =
 abbrev pub character_text : ℕ → List ℕ
 character_text c = if is_plain c then c ∷ [] else 92 ∷ encode_lower (c ∷ [])
 
+-- the text of a string, between its quotes
 abbrev pub string_text : TextStr → List ℕ
 string_text s = quote_of s.huffman ∷ (flat_map character_text s.text ++ quote_of s.huffman ∷ [])
 
+-- the text of a literal's name
 abbrev pub name_text : NameRef TextStr → List ℕ
 name_text (Ref i) = decimal i
 name_text (Named s) = string_text s
 
+-- the text of an instruction
 abbrev pub instruction_text : Instruction → List ℕ
 instruction_text (Indexed i) = 105 ∷ decimal i
 instruction_text (Update n) = 117 ∷ decimal n
 instruction_text (Literal mode name value) = mode_letter mode ∷ (name_text name ++ 61 ∷ string_text value)
 
+-- the text of a setting
 abbrev pub setting_text : ℕ × ℕ → List ℕ
 setting_text p = decimal p.0 ++ 61 ∷ decimal p.1
 
@@ -102,6 +107,7 @@ each_text text [] = []
 each_text text (x ∷ []) = text x
 each_text text (x ∷ y ∷ ys) = text x ++ 44 ∷ each_text text (y ∷ ys)
 
+-- the text of a payload
 abbrev pub payload_text : Payload → List ℕ
 payload_text Empty = codes "-"
 payload_text (Octets octets) = 120 ∷ encode_lower octets
@@ -114,9 +120,11 @@ payload_text (Instructions is) = 104 ∷ each_text instruction_text is
 abbrev pub type_text : ℕ → List ℕ
 type_text kind = unwrap_or (slice_get type_names kind) (84 ∷ encode_lower (kind ∷ []))
 
+-- the text of a stream's identifier and its reserved bit
 abbrev pub stream_text : ℕ → Bool → List ℕ
 stream_text stream reserved = if reserved then decimal stream ++ codes "R" else decimal stream
 
+-- the text of a statement
 abbrev pub statement_text : Statement → List ℕ
 statement_text Nothing = []
 statement_text Preface = codes "PREFACE"
@@ -124,6 +132,7 @@ statement_text (Raw octets) = codes "RAW " ++ encode_lower octets
 statement_text (AFrame kind flags stream reserved payload) =
     type_text kind ++ 32 ∷ (encode_lower (flags ∷ []) ++ 32 ∷ (stream_text stream reserved ++ 32 ∷ payload_text payload))
 
+-- the text of a line
 abbrev pub line_text : Statement → List ℕ
 line_text s = statement_text s ++ 10 ∷ []
 
