@@ -1,4 +1,7 @@
 pub mod Asked
+pub mod BlockLength
+pub mod Fault
+pub mod Lent
 pub mod ReasonNumber
 pub mod Seen
 pub mod Walk

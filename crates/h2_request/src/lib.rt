@@ -3,7 +3,10 @@
 //! AnswerWords.
 #![tactic(auto)]
 
-pub mod octets;
+mod block_length;
+pub mod book;
+pub mod fault;
+mod octets;
 pub mod reason;
 mod walk;
 pub mod well_formed;

@@ -1,0 +1,242 @@
+//! The book of answers: its entries in order, what it refuses, and the answer that a request picks.
+//! It rests on `h2_fields` and `octets`; the definitions are `entry_fault` of `h2_spec`, specs/Book.antt, and `pick_of` and
+//! `picked` of specs/Answer.antt.
+
+ghost use Rattle.std.specs.Prelude.{◌≡◌, ◌≢◌, ◌==◌, ◌&&◌, ◌||◌, [], ◌∷◌, ◌++◌, OnOk, OnErr, IfErr, MatchOption, codes, length, position, bytes_eq};
+ghost use Rattle.std.specs.List.{list_any};
+ghost use Rattle.h2_spec.specs.Answer.{bare as bare_answer, pick_of, picked};
+ghost use Rattle.h2_spec.specs.Book.{entry_fault};
+ghost use Rattle.h2_spec.specs.Book as spec;
+ghost use Rattle.h2_request.specs.Asked.{asked};
+ghost use Rattle.h2_request.specs.Fault.{IsRefusal};
+ghost use Rattle.h2_request.specs.Lent.{answered, IsPickOf};
+ghost use Rattle.h2_request.specs.declared.fault.BookFault.TheVariants.{NoMemory};
+
+use crate::block_length::is_block_too_long;
+use crate::fault::BookFault;
+use crate::octets;
+use crate::well_formed::Request;
+use h2_fields::field::Field;
+use h2_fields::octets::Octets;
+pub use h2_spec::streams::Pick;
+use std::alloc::Allocator;
+use std::marker::Model;
+
+/// The most entries of a book.
+pub const MAX_ENTRIES: usize = 1000;
+
+/// The most octets of an answer's body.
+pub const MAX_BODY: usize = 1_048_576;
+
+/// An entry of the book: the answer to requests with this method and this path.
+#[derive(Drop)]
+pub struct Entry<A: Allocator> {
+    /// The method that requests have to have, octet for octet.
+    pub method: Octets<A>,
+    /// The path that requests have to have, octet for octet.
+    pub path: Octets<A>,
+    /// The status of the answer, 200 to 599.
+    pub status: u16,
+    /// The fields of the answer besides its status, in their order.
+    pub fields: Vec<Field<A>, A>,
+    /// The body of the answer; may be empty.
+    pub body: Octets<A>,
+}
+
+impl<A: Allocator> Model for Entry<A> {
+    ghost use Rattle.h2_spec.specs.Answer as spec;
+
+    ghost Value = { spec.Entry };
+
+    ghost view = { λ e. record { method = e.method; path = e.path; answer = spec.answer e.status e.fields.items e.body } };
+}
+
+/// An answer, lent by its book.
+#[derive_where(Clone, Copy)]
+pub struct Answer<'a, A: Allocator> {
+    /// The status, 200 to 599.
+    pub status: u16,
+    /// The fields besides the status.
+    pub fields: &'a [Field<A>],
+    /// The body.
+    pub body: &'a [u8],
+}
+
+/// A list of entries, each of which may be answered with.
+#[derive(Drop)]
+pub struct Book<A: Allocator> {
+    entries: Vec<Entry<A>, A>,
+}
+
+impl<A: Allocator> Model for Book<A> {
+    ghost use Rattle.std.specs.Prelude.{List};
+    ghost use Rattle.h2_spec.specs.Answer as spec;
+
+    ghost Value = { List spec.Entry };
+
+    ghost view = { λ b. b.entries.items };
+}
+
+impl<A: Allocator> Book<A> {
+    /// A book without entries; no memory is taken.
+    pub fn new(alloc: A) -> Self
+        ensures { result ≡ [] }
+    {
+        Book {
+            entries: Vec::new(alloc),
+        }
+    }
+
+    /// How many entries there are, at most 1000.
+    pub fn len(&self) -> usize
+        ensures { result ≡ length self.now }
+    {
+        self.entries.len()
+    }
+
+    /// Puts an entry behind those of the book.
+    ///
+    /// # Errors
+    ///
+    /// The first of these that holds; the entry is dropped and the book stays as it was. `BadStatus`: the status is outside
+    /// 200 to 599. `BadField`: a name or value is ill-formed, or a field is one of a connection, a pseudo-field or
+    /// `content-length` (RFC 9113, 8.2 and 8.3). `BodyNotAllowed`: a body with status 204, 205 or 304, or for the method
+    /// HEAD. `TooLong`: the book has 1000 entries, the body is above 1,048,576 octets, or the response's field block is above
+    /// 16,383. `NoMemory`: the growth was refused.
+    pub fn add(&mut self, entry: Entry<A>) -> Result<(), BookFault>
+        ensures added { OnOk result (self.new ≡ self.old ++ entry ∷ []) }
+        ensures allowed { OnOk result (entry_fault self.old entry ≡ None) }
+        ensures kept { OnErr result (self.new ≡ self.old) }
+        ensures refused { IfErr result (λ fault. IsRefusal (entry_fault self.old entry) fault) }
+    {
+        match self.fault_of(&entry) {
+            Some(fault) => Err(fault),
+            None => {
+                self.entries.push(entry)?;
+                Ok(())
+            }
+        }
+    }
+
+    /// Why the entry is refused, if it is for another cause than memory.
+    #[tactic(auto, unfolding(h2_spec::specs::Book::entry_fault))]
+    fn fault_of(&self, entry: &Entry<A>) -> Option<BookFault>
+        ensures { MatchOption result (entry_fault self.now entry.now ≡ None) (λ fault. IsRefusal (entry_fault self.now entry.now) fault × (fault ≢ NoMemory)) }
+    {
+        if entry.status < 200 || entry.status > 599 {
+            Some(BookFault::BadStatus)
+        } else if has_bad_field(entry.fields.as_slice()) {
+            Some(BookFault::BadField)
+        } else if has_body_not_allowed(entry) {
+            Some(BookFault::BodyNotAllowed)
+        } else if self.is_too_long(entry) {
+            Some(BookFault::TooLong)
+        } else {
+            None
+        }
+    }
+
+    /// Whether the book is full, or the entry's body or field block is above its limit.
+    fn is_too_long(&self, entry: &Entry<A>) -> bool
+        ensures { result ≡ spec.is_too_long self.now entry.now }
+    {
+        self.entries.len() >= MAX_ENTRIES
+            || entry.body.as_slice().len() > MAX_BODY
+            || is_block_too_long(entry.status, entry.fields.as_slice())
+    }
+
+    /// What a request picks: the first entry whose method and path are its octets, or none; CONNECT picks no entry.
+    #[tactic(auto, unfolding(h2_spec::specs::Answer::pick_of))]
+    pub fn find(&self, request: &Request<'_>) -> Pick
+        ensures first { result ≡ pick_of self.now (asked request.now) }
+        ensures kept { IsPickOf self.now result }
+    {
+        if request.connect {
+            return Pick::Connect;
+        }
+        match self.place_of(request.method, request.path) {
+            Some(place) => Pick::Listed(place),
+            None => Pick::NotFound,
+        }
+    }
+
+    fn place_of(&self, method: &[u8], path: &[u8]) -> Option<usize>
+        ensures { result ≡ position (λ e. bytes_eq e.method method.now && bytes_eq e.path path.now) self.now }
+    {
+        self.entries
+            .iter()
+            .position(|entry| is_entry_for(entry, method, path))
+    }
+
+    /// The answer to a request that made this pick: that of the entry, or a bare 404 or 501.
+    pub fn answer(&self, pick: Pick) -> Answer<'_, A>
+        requires { IsPickOf self.now pick }
+        ensures { answered result ≡ picked self.now pick }
+    {
+        match pick {
+            Pick::Listed(place) => answer_of(&self.entries[place]),
+            Pick::NotFound => self.bare(404),
+            Pick::Connect => self.bare(501),
+        }
+    }
+
+    /// A status alone.
+    fn bare(&self, status: u16) -> Answer<'_, A>
+        ensures { answered result ≡ bare_answer status }
+    {
+        Answer {
+            status,
+            fields: &[],
+            body: b"".as_slice(),
+        }
+    }
+}
+
+fn is_entry_for<A: Allocator>(entry: &Entry<A>, method: &[u8], path: &[u8]) -> bool
+    ensures { result ≡ (bytes_eq entry.now.method method.now && bytes_eq entry.now.path path.now) }
+{
+    entry.method.as_slice() == method && entry.path.as_slice() == path
+}
+
+fn answer_of<A: Allocator>(entry: &Entry<A>) -> Answer<'_, A>
+    ensures { answered result ≡ entry.now.answer }
+{
+    Answer {
+        status: entry.status,
+        fields: entry.fields.as_slice(),
+        body: entry.body.as_slice(),
+    }
+}
+
+/// Whether a field may not stand in an answer.
+fn is_bad_field<A: Allocator>(field: &Field<A>) -> bool
+    ensures { result ≡ spec.is_bad_field field.now }
+{
+    let name = field.name.as_slice();
+    let value = field.value.as_slice();
+    octets::is_bad_name(name)
+        || octets::is_bad_value(value)
+        || octets::is_connection_name(name)
+        || octets::is_pseudo_name(name)
+        || name == b"content-length".as_slice()
+}
+
+fn has_bad_field<A: Allocator>(fields: &[Field<A>]) -> bool
+    ensures { result ≡ list_any spec.is_bad_field fields.now }
+{
+    fields.iter().any(|field| is_bad_field(field))
+}
+
+/// Whether there is a body where none may be.
+fn has_body_not_allowed<A: Allocator>(entry: &Entry<A>) -> bool
+    ensures { result ≡ spec.has_body_not_allowed entry.now }
+{
+    !entry.body.as_slice().is_empty() && is_without_content(entry.status, entry.method.as_slice())
+}
+
+/// Whether a response with this status, or to this method, has no content (RFC 9110, 6.4.1 and 15).
+fn is_without_content(status: u16, method: &[u8]) -> bool
+    ensures { result ≡ (status == 204 || status == 205 || status == 304 || bytes_eq method.now (codes "HEAD")) }
+{
+    status == 204 || status == 205 || status == 304 || method == b"HEAD".as_slice()
+}
