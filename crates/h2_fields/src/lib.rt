@@ -3,5 +3,14 @@
 //! Instruction and Block.
 #![tactic(auto)]
 
+mod apply;
+pub mod block;
+pub mod fault;
 pub mod field;
+mod gathered;
+pub mod instruction;
 pub mod octets;
+pub mod response;
+mod shape;
+#[cfg(test)]
+mod tests;

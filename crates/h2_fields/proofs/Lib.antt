@@ -1,0 +1,5 @@
+mod Applying
+mod Lengths
+mod Reading
+mod Responding
+mod Standing

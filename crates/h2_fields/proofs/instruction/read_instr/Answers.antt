@@ -1,0 +1,24 @@
+use Rattle.std.proofs.Common.{Some, None, Err, ap, sym, ◌∙◌}
+use Rattle.std.proofs.lemmas.Result.{err_from_is_err_and}
+use Rattle.h2_fields.specs.Instructions.{fault_at, instr_of}
+use Rattle.h2_fields.specs.Shapes.{shape_of, read_of}
+use Rattle.h2_fields.proofs.Reading.{texts-whole, texts-more, texts-too_long}
+use Rattle.h2_fields.proofs.instruction.read_instr.Goals as goal
+
+pub returns-in_err-with_texts-in-Ok-clause-fault : goal.returns-in_err-with_texts-in-Ok-clause-fault
+returns-in_err-with_texts-in-Ok-clause-fault g c =
+    let p = err_from_is_err_and c.from_residual.result c.from_residual.ensures.1 in
+    let b = c.args.octets.now in
+    rw (p.1, p.2) (λ h.
+    let f = c.in_err-with_texts-in-Ok.ensures.fault h in
+    ap fault_at (sym (texts-whole b (shape_of c.in-Ok.shape) c.in-Ok.used None c.in-Ok.ensures.read f.1)) ∙ ap Some (sym f.0))
+
+pub returns-in_ok-with_texts-in-Ok-clause-read : goal.returns-in_ok-with_texts-in-Ok-clause-read
+returns-in_ok-with_texts-in-Ok-clause-read g c =
+    texts-whole c.args.octets.now (shape_of c.in-Ok.shape) c.in-Ok.used (Some (instr_of c.in_ok-with_texts-in-Ok.field-0)) c.in-Ok.ensures.read c.in_ok-with_texts-in-Ok.ensures.texts
+
+pub returns-in-Err-More-clause-read : goal.returns-in-Err-More-clause-read
+returns-in-Err-More-clause-read g c = texts-more c.args.octets.now (ap (λ e. read_of shape_of (Err e)) (sym c.in-Err-More.field-0-is) ∙ c.in-Err-More.ensures.read)
+
+pub returns-in-Err-TooLong-clause-fault : goal.returns-in-Err-TooLong-clause-fault
+returns-in-Err-TooLong-clause-fault g c = λ h. ap fault_at (sym (texts-too_long c.args.octets.now (ap (λ e. read_of shape_of (Err e)) (sym c.in-Err-TooLong.field-0-is) ∙ c.in-Err-TooLong.ensures.read)))

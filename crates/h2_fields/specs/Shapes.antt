@@ -1,0 +1,39 @@
+-- What the code reads, as the definitions' shapes.
+use Rattle.std.specs.Prelude.{ℕ, Result, Ok, Err}
+use Rattle.h2_fields.specs.declared.instruction.Mode.{Mode}
+use Rattle.h2_fields.specs.declared.instruction.Mode.TheVariants as mode
+use Rattle.h2_fields.specs.declared.shape.Cut.{Cut}
+use Rattle.h2_fields.specs.declared.shape.Cut.TheVariants as cut
+use Rattle.h2_fields.specs.declared.shape.RawString.{RawString}
+use Rattle.h2_fields.specs.declared.shape.RawName.{RawName}
+use Rattle.h2_fields.specs.declared.shape.RawName.TheVariants as name
+use Rattle.h2_fields.specs.declared.shape.Shape.{Shape}
+use Rattle.h2_fields.specs.declared.shape.Shape.TheVariants as shape
+use Rattle.h2_spec.specs.Instruction as spec
+use Rattle.h2_spec.specs.Read.{Read, Whole, More, TooLong}
+
+abbrev pub mode_of : Mode → spec.Mode
+mode_of mode.Add = spec.Add
+mode_of mode.Without = spec.Without
+mode_of mode.Never = spec.Never
+
+abbrev pub string_of : RawString → spec.Str
+string_of s = record { huffman = s.huffman; octets = s.octets.now }
+
+abbrev pub name_of : RawName → spec.NameRef spec.Str
+name_of (name.Ref i) = spec.Ref i
+name_of (name.Named s) = spec.Named (string_of s)
+
+abbrev pub shape_of : Shape → spec.Shape
+shape_of (shape.Indexed i) = spec.Indexed i
+shape_of (shape.Update n) = spec.Update n
+shape_of (shape.Literal m n v) = spec.Literal (mode_of m) (name_of n) (string_of v)
+
+abbrev pub same_number : ℕ → ℕ
+same_number n = n
+
+-- a thing and how many octets it takes, or why there is none
+abbrev pub read_of : {X Y : Type 0} → (X → Y) → Result (X × ℕ) Cut → Read Y
+read_of view (Ok r) = Whole (view r.0) r.1
+read_of view (Err cut.More) = More
+read_of view (Err cut.TooLong) = TooLong

@@ -1,0 +1,84 @@
+//! Why a field block or an instruction is refused, numbered as the faults of all crates are.
+//! It rests on the faults of `h2_prim`; what each fault means is `Fault` of `h2_spec`, specs/Block.antt.
+
+ghost use Rattle.std.specs.Prelude.{◌≡◌};
+ghost use Rattle.h2_fields.specs.Faults.{number_of};
+
+use h2_prim::HuffFault;
+use std::alloc::{AllocError, AllocFailed};
+use thiserror::Error;
+
+/// Why a field block, or an instruction of it, is refused (RFC 7541; RFC 9113, 4.3).
+#[derive(Clone, Copy, Debug, PartialEq, Eq, Error)]
+pub enum BlockFault {
+    /// Memory was refused.
+    #[error("out of memory")]
+    NoMemory,
+    /// An index of neither table (RFC 7541, 2.3.3).
+    #[error("an index is of neither header table")]
+    Index,
+    /// An integer that goes on after its fifth octet behind the prefix (RFC 7541, 5.1).
+    #[error("an integer is too long")]
+    Integer,
+    /// A string that is no Huffman string (RFC 7541, 5.2).
+    #[error("a string is no Huffman string")]
+    Huffman,
+    /// A table size update behind a field, or above the limit, or none where one is due (RFC 7541, 4.2).
+    #[error("a table size update is out of place or above the limit")]
+    SizeUpdate,
+    /// The block ends inside an instruction.
+    #[error("the block ends inside an instruction")]
+    Truncated,
+}
+
+impl BlockFault {
+    /// The number of the fault, the same in all crates: 0, and 4 to 8.
+    pub fn number(self) -> u8
+        ensures { result ≡ number_of self }
+    {
+        match self {
+            BlockFault::NoMemory => 0,
+            BlockFault::Index => 4,
+            BlockFault::Integer => 5,
+            BlockFault::Huffman => 6,
+            BlockFault::SizeUpdate => 7,
+            BlockFault::Truncated => 8,
+        }
+    }
+}
+
+impl From<AllocError> for BlockFault {
+    ghost use Rattle.std.specs.Prelude.{◌≡◌};
+    ghost use Rattle.h2_fields.specs.declared.fault.BlockFault.TheVariants.{NoMemory};
+
+    ghost from_gives = { λ _ fault. fault ≡ NoMemory };
+
+    fn from(_error: AllocError) -> BlockFault {
+        BlockFault::NoMemory
+    }
+}
+
+impl<T: Drop> From<AllocFailed<T>> for BlockFault {
+    ghost use Rattle.std.specs.Prelude.{◌≡◌};
+    ghost use Rattle.h2_fields.specs.declared.fault.BlockFault.TheVariants.{NoMemory};
+
+    ghost from_gives = { λ _ fault. fault ≡ NoMemory };
+
+    fn from(_error: AllocFailed<T>) -> BlockFault {
+        BlockFault::NoMemory
+    }
+}
+
+impl From<HuffFault> for BlockFault {
+    ghost use Rattle.std.specs.Prelude.{◌≡◌};
+    ghost use Rattle.h2_fields.specs.Faults.{of_huffman};
+
+    ghost from_gives = { λ error fault. fault ≡ of_huffman error };
+
+    fn from(error: HuffFault) -> BlockFault {
+        match error {
+            HuffFault::NoMemory => BlockFault::NoMemory,
+            HuffFault::Eos | HuffFault::Padding => BlockFault::Huffman,
+        }
+    }
+}
