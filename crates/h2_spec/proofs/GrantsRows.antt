@@ -175,16 +175,16 @@ octet_by_octet = refl
 long : List Entry
 long = get (replicate 70000 120)
 
--- the initial window 100,000, GETs on two streams of 70,000 octets each: the connection's window holds them back
+-- the initial window 100,000, GETs on two streams of 70,000 octets each, which the connection's window holds back, and 5,000 more octets for both
 two_long : List Event
 unfolding events long
-two_long = events long "0000060400000000000004000186a0000003010500000001828684000003010500000003828684"
+two_long = events long "0000060400000000000004000186a000000301050000000182868400000301050000000382868400000408000000000000001388"
 
-first_of_two : tests long 1 two_long ≡ [] ∷ [] ∷ [] ∷ [] ∷ []
+first_of_two : tests long 1 two_long ≡ [] ∷ [] ∷ [] ∷ [] ∷ [] ∷ []
 unfolding tests long two_long
 first_of_two = refl
 
-second_of_two : tests long 3 two_long ≡ [] ∷ [] ∷ [] ∷ [] ∷ []
+second_of_two : tests long 3 two_long ≡ [] ∷ [] ∷ [] ∷ [] ∷ [] ∷ []
 unfolding tests long two_long
 second_of_two = refl
 
@@ -260,3 +260,8 @@ longer_than_the_frame_size = refl
 past_the_connection_window : refused_by long 1 (edited 2 (headers_on 1 ∷ data_frames 1 true 16384 (replicate 70000 120)) two_long) ≡ (2, WithinConnection) ∷ []
 unfolding refused_by long two_long data_frames
 past_the_connection_window = refl
+
+-- what is left of the first, and on the second as much as if it were alone
+connection_window_given_twice : refused_by long 1 (edited 4 (data_frames 1 true 16384 (replicate 4465 120) ++ data_frames 3 false 16384 (replicate 5000 120)) two_long) ≡ (4, WithinConnection) ∷ []
+unfolding refused_by long two_long data_frames
+connection_window_given_twice = refl

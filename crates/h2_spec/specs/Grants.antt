@@ -18,21 +18,29 @@ use Rattle.h2_spec.specs.Trace.{Event, trace}
 
 -- ---- the tally
 
--- of the stream: the octets granted on it; the body of the answer to its request, once that is whole; how many HEADERS were sent;
--- the content of its DATA, joined; whether END_STREAM was sent; whether RST_STREAM was sent or received
+-- what is counted of the stream that is followed
 pub record Mark : Type 0 where
+  -- the octets that WINDOW_UPDATE granted on it
   pub granted : ℕ
+  -- the body of the answer to its request, once that is whole
   pub promised : Option (List ℕ)
+  -- how many HEADERS were sent on it
   pub headers : ℕ
+  -- the payloads of the DATA sent on it, joined
   pub content : List ℕ
+  -- whether END_STREAM was sent on it
   pub ended : Bool
+  -- whether RST_STREAM was sent or received on it
   pub reset : Bool
 
--- of the connection: the initial window and the frame size that the peer's settings say now; the octets granted on it; the octets of DATA sent on all streams
+-- and of the connection
 pub record Tally : Type 0 where
+  -- the initial window and the frame size that the peer's SETTINGS say now
   pub window : ℕ
   pub frame : ℕ
+  -- the octets that WINDOW_UPDATE granted on it
   pub granted : ℕ
+  -- the octets of DATA sent on all streams
   pub sent : ℕ
   pub mark : Mark
 
@@ -40,7 +48,7 @@ pub record Tally : Type 0 where
 abbrev pub blank : Mark
 blank = record { granted = 0; promised = None; headers = 0; content = []; ended = false; reset = false }
 
--- before anything came: the settings are the initial ones (6.5.2)
+-- before anything came: the settings are those that a connection begins with (6.5.2)
 abbrev pub start : Tally
 start = record { window = 65535; frame = 16384; granted = 0; sent = 0; mark = blank }
 
@@ -168,7 +176,7 @@ abbrev pub sends_data : ℕ → List Frame → Bool
 sends_data id [] = false
 sends_data id (f ∷ fs) = is_data_on id f || sends_data id fs
 
--- DATA sent on all streams is within the first window of the connection and its increments
+-- DATA sent on all streams is within the window that the connection begins with (6.9.2) and its increments
 abbrev pub IsWithinConnection : Tally → Type 0
 IsWithinConnection t = t.sent ≤ 65535 + t.granted
 
