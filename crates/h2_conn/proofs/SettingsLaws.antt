@@ -1,5 +1,5 @@
 -- The settings of a frame, one after another.
-use Rattle.std.proofs.Common.{◌≡◌, ℕ, zero, suc, ◌+◌, Bool, true, false, cond, List, [], ◌∷◌, drop, refl, sym, ap, ◌∙◌, Option, Some, None, Result, Ok, Err}
+use Rattle.std.proofs.Common.{◌≡◌, ℕ, zero, suc, ◌+◌, Bool, true, false, cond, List, [], ◌∷◌, drop, refl, sym, ap, subst, ◌∙◌, Option, Some, None, Result, Ok, Err}
 use Rattle.std.specs.Prelude.{slice_get}
 use Rattle.std.proofs.lemmas.List.{drop_more}
 use Rattle.std.proofs.lemmas.Option.{get_or_from_slice_get, slice_get_within}
@@ -55,3 +55,24 @@ drop-at n ps p e = drop_more ps n (0, 0) (slice_get_within ps n p e) ∙ ap (λ 
 pub applied-none : (streams : List Stream) (from now : Settings) → settings_applied streams from now [] ≡ Ok now
 unfolding settings_applied
 applied-none streams from now = refl
+
+-- ---- what the settings keep
+
+-- the windows stay within their limits with the settings that are taken
+pub applied-fits : (streams : List Stream) (from now peer : Settings) (ps : List (ℕ × ℕ)) → overflows (moved_by from.window now.window) streams ≡ false →
+    settings_applied streams from now ps ≡ Ok peer → overflows (moved_by from.window peer.window) streams ≡ false
+unfolding settings_applied
+applied-fits streams from now peer [] fits e = let P : Settings → Type 0 = λ s. overflows (moved_by from.window s.window) streams ≡ false in subst P (ok_same now peer e) fits
+applied-fits streams from now peer (p ∷ ps) fits e = at (λ t g h. applied-fits streams from t peer ps g h) (with_setting now p.0 p.1) e
+  where
+    More : Type 0
+    More = (t : Settings) → overflows (moved_by from.window t.window) streams ≡ false → settings_applied streams from t ps ≡ Ok peer → overflows (moved_by from.window peer.window) streams ≡ false
+
+    moved : More → (t : Settings) (b : Bool) → overflows (moved_by from.window t.window) streams ≡ b → cond b (Err FlowControlError) (settings_applied streams from t ps) ≡ Ok peer →
+        overflows (moved_by from.window peer.window) streams ≡ false
+    moved more t true g h = absurd (ok_not_err peer FlowControlError (sym h))
+    moved more t false g h = more t g h
+
+    at : More → (r : Result Settings ErrorCode) → setting_next streams from r (λ x. settings_applied streams from x ps) ≡ Ok peer → overflows (moved_by from.window peer.window) streams ≡ false
+    at more (Err code) h = absurd (ok_not_err peer code (sym h))
+    at more (Ok t) h = moved more t (overflows (moved_by from.window t.window) streams) refl h
