@@ -28,6 +28,7 @@ mod Runs
 mod ScriptRows
 pub mod ScriptTexts
 pub mod SpellingLaws
+mod SplitLaws
 pub mod TableLaws
 mod TraceLaws
 mod WrittenLaws

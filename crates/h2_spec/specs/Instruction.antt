@@ -227,3 +227,14 @@ next_shape u xs = instr_only (instr_at xs)
 unfoldable pub split : List ℕ → Parsed (Unit {0}) Shape
 unfolding instr_at parse_all
 split b = parse_all next_shape tt b
+
+-- no whole instruction stands there
+abbrev pub IsNone : Read Shape → Type 0
+IsNone (Whole i used) = ⊥
+IsNone More = Unit {0}
+IsNone TooLong = Unit {0}
+
+-- octets are shapes in a row and a rest: each shape has its whole spelling there, and the rest begins with none
+abbrev pub Splits : List ℕ → List Shape → List ℕ → Type 0
+Splits b [] rest = (b ≡ rest) × IsNone (instr_at rest)
+Splits b (i ∷ is) rest = (front behind : List ℕ) × (b ≡ front ++ behind) × (instr_at front ≡ Whole i (length front)) × Splits behind is rest

@@ -5,7 +5,7 @@
 ghost use Rattle.std.specs.Prelude.{◌≡◌, ◌<◌, ◌≤◌, ℕ, List, ◌++◌, length};
 ghost use Rattle.std.specs.List.{concat};
 ghost use Rattle.h2_spec.specs.Read.{Whole, TooLong};
-ghost use Rattle.h2_spec.specs.Instruction.{Shape, instr_at};
+ghost use Rattle.h2_spec.specs.Instruction.{Shape, Splits, instr_at, split};
 ghost use Rattle.h2_spec.specs.Block.{Progress, decoded, carried_on, carried_through};
 
 /// An instruction at the front of octets takes some of them, and is there whatever follows: no spelling begins another.
@@ -14,6 +14,14 @@ pub fn no_spelling_begins_another()
     ensures takes { (octets : List ℕ) (shape : Shape) (used : ℕ) → instr_at octets ≡ Whole shape used → (0 < used) × (used ≤ length octets) }
     ensures stays { (octets more : List ℕ) (shape : Shape) (used : ℕ) → instr_at octets ≡ Whole shape used → instr_at (octets ++ more) ≡ Whole shape used }
     ensures stays_too_long { (octets more : List ℕ) → instr_at octets ≡ TooLong → instr_at (octets ++ more) ≡ TooLong }
+{}
+
+/// There is one way to write octets as instructions in a row and a rest that begins with none, and splitting finds it; octets
+/// in two pieces split as their sum does (RFC 7541, 6).
+pub fn octets_split_in_one_way()
+    ensures split { (octets : List ℕ) → Splits octets (split octets).elements (split octets).rest }
+    ensures one_way { (octets rest : List ℕ) (shapes : List Shape) → Splits octets shapes rest → (shapes ≡ (split octets).elements) × (rest ≡ (split octets).rest) }
+    ensures cut { (octets more : List ℕ) → let later = split ((split octets).rest ++ more) in ((split (octets ++ more)).elements ≡ (split octets).elements ++ later.elements) × ((split (octets ++ more)).rest ≡ later.rest) }
 {}
 
 /// However a field block is cut into fragments, it means the same: its fields, the table after it, and how it ends
