@@ -1,5 +1,5 @@
 -- The settings of a frame by their places.
-use Rattle.std.proofs.Common.{◌≡◌, ℕ, zero, suc, ◌+◌, ◌*◌, ◌/◌, ◌<◌, ◌≤◌, List, [], ◌∷◌, length, drop, Option, Some, refl, arith, length-drop}
+use Rattle.std.proofs.Common.{◌≡◌, ℕ, zero, suc, ◌+◌, ◌*◌, ◌/◌, ◌<◌, ◌≤◌, List, [], ◌∷◌, length, drop, Some, refl, arith, length-drop}
 use Rattle.std.specs.Prelude.{slice_get}
 use Rattle.h2_spec.specs.Octets.{two_octets, four_octets}
 use Rattle.h2_spec.specs.Payload.{setting_pairs}

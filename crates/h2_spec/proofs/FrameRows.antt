@@ -1,5 +1,5 @@
 -- Worked rows of items, payloads, settings and credit.
-use Rattle.std.specs.Prelude.{◌≡◌, ℕ, List, [], ◌∷◌, refl, codes, true, false, Option, Some, None, Result, Ok, Err, pos, negsuc}
+use Rattle.std.specs.Prelude.{◌≡◌, [], ◌∷◌, refl, codes, true, false, Some, None, Ok, Err, pos, negsuc}
 use Prim.Native.String.{String}
 use Rattle.h2_spec.specs.declared.errors.ErrorCode.TheVariants.{ProtocolError, FlowControlError}
 use Rattle.h2_spec.specs.declared.errors.FlowFault.TheVariants.{BadSetting}

@@ -18,6 +18,7 @@ pub mod grants
 mod LongBodies
 mod LongLists
 pub mod ParseLaws
+mod PayloadLaws
 pub mod RequestLaws
 mod RequestRows
 pub mod ReadingLines
