@@ -1,0 +1,145 @@
+//! The records on worked values, and windows at their limits (RFC 9113, 5.1 and 6.9.2).
+
+use crate::{FlowFault, Kind, Numbers, Pick, Stream, Streams, not_live, octets_waiting};
+use h2_spec::flow::{Credit, Window};
+use std::alloc::Global;
+use std::test::Fail;
+
+ghost use Rattle.std.specs.Prelude.{◌≡◌, ◌≤◌, pos};
+ghost use Rattle.std.specs.List.{AllByRecursion};
+ghost use Rattle.h2_streams.specs.Shift.{CanShift};
+
+fn numbers(send: u32, left: Option<u64>) -> Numbers
+    requires { send ≤ 2147483647 }
+    ensures { result.send ≡ pos send }
+{
+    Numbers {
+        recv: Window::start(65_535),
+        owed: Credit::none(),
+        send: Window::start(send),
+        got: 0,
+        declared: None,
+        left,
+    }
+}
+
+#[test]
+fn a_stream_opens_and_ends(rt: HostRuntime) -> Result<(), Fail> {
+    let mut streams = Streams::new(rt.alloc());
+    assert_eq!(rt; streams.kind(1), Kind::Idle);
+    streams.open_stream(5, numbers(65_535, None), Pick::NotFound, false)?;
+    for (id, kind) in [
+        (1, Kind::Skipped),
+        (2, Kind::Idle),
+        (3, Kind::Skipped),
+        (5, Kind::BothOpen),
+        (7, Kind::Idle),
+    ] {
+        assert_eq!(rt; streams.kind(id), kind, "stream {id}");
+    }
+    streams.open_reset(7)?;
+    assert_eq!(rt; streams.kind(7), Kind::WeReset);
+    assert_eq!(rt; (streams.last(), streams.live_count()), (7, 1));
+    assert!(rt; matches!(streams.kind(5), Kind::BothOpen));
+    streams.end_remote(5);
+    assert!(rt; matches!(streams.kind(5), Kind::HalfRemote));
+    streams.end_local(5);
+    assert_eq!(rt; streams.stream_at(5), not_live(5, Kind::Ended));
+    assert_eq!(rt; streams.live_count(), 0);
+    let first = streams.at(0).ok_or("the first record")?;
+    assert_eq!(rt; first.id, 5);
+    let second = streams.at(1).ok_or("the second record")?;
+    assert_eq!(rt; second.id, 7);
+    assert!(rt; streams.at(2).is_none() && streams.get(3).is_none());
+    Ok(())
+}
+
+/// The send window of the stream, and whether the shift was refused.
+fn shifted(
+    streams: &mut Streams<Global>,
+    id: u32,
+    delta: i64,
+) -> Result<(bool, i32), Fail>
+    requires { AllByRecursion (CanShift delta) streams.old.streams }
+{
+    let refused = streams.shift_send(delta).is_err();
+    let stream = streams.get(id).ok_or("the stream has a record")?;
+    Ok((refused, stream.numbers.send.value()))
+}
+
+#[test]
+fn settings_move_windows_to_their_limits(rt: HostRuntime) -> Result<(), Fail> {
+    for (start, delta, refused, window) in [
+        // 65,535 octets, of which 60 KB are sent, and then an initial window of 16 KB: -44 KB.
+        (4_095, -49_151, false, -45_056),
+        (0, -2_147_483_647, false, -2_147_483_647),
+        (0, 2_147_483_647, false, 2_147_483_647),
+        (2_147_483_646, 1, false, 2_147_483_647),
+        (2_147_483_647, 1, true, 2_147_483_647),
+        (1, 2_147_483_647, true, 1),
+    ] {
+        let mut streams = Streams::new(rt.alloc());
+        streams.open_stream(1, numbers(0, None), Pick::NotFound, false)?;
+        streams.open_stream(3, numbers(start, None), Pick::NotFound, true)?;
+        assert!(rt; delta >= -2_147_483_648 && start <= 2_147_483_647);
+        assert_eq!(rt; shifted(&mut streams, 3, delta)?, (refused, window), "at {start} by {delta}");
+    }
+    Ok(())
+}
+
+#[test]
+fn a_full_window_refuses_for_all_where_settings_move_it(
+    rt: HostRuntime,
+) -> Result<(), Fail> {
+    for (kind, refused, window) in [
+        (Kind::BothOpen, true, 10),
+        (Kind::HalfRemote, true, 10),
+        (Kind::HalfLocal, false, 11),
+    ] {
+        let mut streams = Streams::new(rt.alloc());
+        streams.open_stream(1, numbers(10, None), Pick::NotFound, false)?;
+        let full = Stream {
+            id: 3,
+            kind,
+            numbers: numbers(2_147_483_647, None),
+            pick: Pick::NotFound,
+        };
+        streams.put(full)?;
+        assert_eq!(rt; shifted(&mut streams, 1, 1)?, (refused, window), "{kind:?}");
+        assert_eq!(rt; streams.stream_at(3), full, "{kind:?}");
+    }
+    assert_eq!(rt; FlowFault::Overflow.number(), 10);
+    Ok(())
+}
+
+#[test]
+fn streams_wait_to_send_by_rising_identifier(rt: HostRuntime) -> Result<(), Fail> {
+    let mut streams = Streams::new(rt.alloc());
+    for (id, left) in [(1, Some(5)), (3, None), (5, Some(0)), (7, Some(1)), (11, Some(2))] {
+        assert!(rt; streams.last() < id && id % 2 == 1);
+        streams.open_stream(id, numbers(0, left), Pick::NotFound, true)?;
+    }
+    let copy = streams.try_clone()?;
+    assert_eq!(rt; octets_waiting(&streams.stream_at(11)), 2);
+    assert!(rt; matches!(streams.kind(7), Kind::HalfRemote));
+    streams.reset(7, true);
+    assert_eq!(rt; streams.stream_at(7), not_live(7, Kind::PeerReset));
+    assert!(rt; matches!(streams.kind(3), Kind::HalfRemote));
+    streams.set(3, numbers(0, Some(9)));
+    assert!(rt; matches!(streams.kind(1), Kind::HalfRemote));
+    streams.put(not_live(1, Kind::Ended))?;
+    assert!(rt; streams.last() < 13);
+    streams.put(not_live(13, Kind::WeReset))?;
+    assert_eq!(rt; (streams.last(), streams.live_count()), (13, 3));
+    for (after, next, before) in [
+        (0, Some(3), Some(1)),
+        (1, Some(3), Some(7)),
+        (3, Some(11), Some(7)),
+        (10, Some(11), Some(11)),
+        (11, None, None),
+    ] {
+        assert_eq!(rt; streams.next_waiting(after), next, "above {after}");
+        assert_eq!(rt; copy.next_waiting(after), before, "above {after} in the copy");
+    }
+    Ok(())
+}
