@@ -1,3 +1,4 @@
+mod HashLaws
 mod KeptLaws
 mod LiveLaws
 mod ShiftLaws

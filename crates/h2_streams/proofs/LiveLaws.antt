@@ -1,5 +1,5 @@
 -- What holds of the live streams alone, and what is found or changed by way of them.
-use Rattle.std.proofs.Common.{◌≡◌, ℕ, suc, ◌<◌, Bool, true, false, ◌&&◌, cond, eqb, nat_lt, List, [], ◌∷◌, find, Some, Option, refl, ap, ◌∙◌, arith}
+use Rattle.std.proofs.Common.{◌≡◌, ℕ, suc, ◌<◌, ◌≤◌, Bool, true, false, ◌&&◌, cond, eqb, nat_lt, List, [], ◌∷◌, find, Some, None, IfSome, Option, refl, ap, ◌∙◌, sym, arith, true≢false}
 use Rattle.std.proofs.lemmas.Bool.Decides.{nat_tests}
 use Rattle.std.specs.List.{AllByRecursion}
 use Rattle.std.specs.Option.{option_map, option_map_or}
@@ -55,3 +55,17 @@ waiting-live after low last rs (x ∷ xs) r f = by (is_live x.kind) refl (nat_lt
       rw (live, over, passes-found waits rs x f.0) (chosen (waits x) (find (passes_at waits (keyed rs)) (live_ids xs)) (find (waits_above after) xs) (rw all at rest))
   by true live false over rest = rw (live, over) rest
   by false live t over rest = rw (live, idle x live, and-false (nat_lt after x.id)) rest
+
+above-low : (test : Stream → Bool) (n low last : ℕ) (rs : List Stream) → n ≤ low → AreRising low last rs → AllByRecursion (λ st. test st ≡ true → n ≤ st.id) rs
+above-low test n low last [] le r = tt
+above-low test n low last (x ∷ xs) le r = let over = r.0 in ((λ _. omega arith), above-low test n x.id last xs (omega arith) r.3)
+
+-- the first that passes a test has the least identifier of those that do
+pub find-least : (test : Stream → Bool) (low last : ℕ) (rs : List Stream) → AreRising low last rs → IfSome (option_map id_of (find test rs)) (λ id. AllByRecursion (λ st. test st ≡ true → id ≤ st.id) rs)
+find-least test low last [] r = tt
+find-least test low last (x ∷ xs) r = by (test x) refl (find test xs) (find-least test x.id last xs r.3) where
+  by : (b : Bool) → test x ≡ b → (found : Option Stream) → IfSome (option_map id_of found) (λ id. AllByRecursion (λ st. test st ≡ true → id ≤ st.id) xs)
+      → IfSome (option_map id_of (cond b (Some x) found)) (λ id. AllByRecursion (λ st. test st ≡ true → id ≤ st.id) (x ∷ xs))
+  by true e found rest = ((λ _. omega arith), above-low test x.id x.id last xs (omega arith) r.3)
+  by false e None rest = tt
+  by false e (Some st) rest = ((λ passes. absurd (true≢false (sym passes ∙ e))), rest)

@@ -6,6 +6,7 @@
 mod greatest;
 mod hash;
 mod kinds;
+pub mod laws;
 mod live;
 mod records;
 mod shift;

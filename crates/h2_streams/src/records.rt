@@ -2,7 +2,7 @@
 //! Rests on `kinds`, `hash` and `indexmap`.
 //! Definitions: `h2_spec/specs/Stream.antt`; what the fields keep: `specs/Kept.antt`.
 
-ghost use Rattle.std.specs.Prelude.{◌≡◌, ◌<◌, ◌≤◌, ◌%◌, [], ◌∷◌, ◌++◌, nat_eq, IsOk, OnOk, OnErr, IfOk, IfErr, IsTrue, is_err, slice_get};
+ghost use Rattle.std.specs.Prelude.{◌≡◌, ◌<◌, ◌≤◌, ◌%◌, [], ◌∷◌, ◌++◌, nat_eq, IsOk, OnOk, OnErr, IfOk, IfErr, IfSome, IsTrue, is_err, slice_get};
 ghost use Rattle.std.specs.List.{AllByRecursion};
 ghost use Rattle.std.specs.Map.{set_value};
 ghost use Rattle.indexmap.specs.IndexMap.{insert_entry};
@@ -217,6 +217,7 @@ impl<A: Allocator> Streams<A> {
     /// The first live stream above this one that has octets to send, if there is one.
     pub fn next_waiting(&self, after: u32) -> Option<u32>
         ensures first { result ≡ spec.next_waiting after self.now.streams }
+        ensures least { IfSome result (λ id. AllByRecursion (λ st. IsTrue (spec.waits_above after st) → id ≤ st.id) self.now.streams) }
     {
         first_waiting(&self.records, ids_above(self.live.as_slice(), after))
     }

@@ -1,13 +1,13 @@
 //! The records on worked values, and windows at their limits (RFC 9113, 5.1 and 6.9.2).
 
+ghost use Rattle.std.specs.Prelude.{◌≡◌, ◌≤◌, pos};
+ghost use Rattle.std.specs.List.{AllByRecursion};
+ghost use Rattle.h2_streams.specs.Shift.{CanShift};
+
 use crate::{FlowFault, Kind, Numbers, Pick, Stream, Streams, not_live, octets_waiting};
 use h2_spec::flow::{Credit, Window};
 use std::alloc::Global;
 use std::test::Fail;
-
-ghost use Rattle.std.specs.Prelude.{◌≡◌, ◌≤◌, pos};
-ghost use Rattle.std.specs.List.{AllByRecursion};
-ghost use Rattle.h2_streams.specs.Shift.{CanShift};
 
 fn numbers(send: u32, left: Option<u64>) -> Numbers
     requires { send ≤ 2147483647 }
@@ -55,11 +55,7 @@ fn a_stream_opens_and_ends(rt: HostRuntime) -> Result<(), Fail> {
 }
 
 /// The send window of the stream, and whether the shift was refused.
-fn shifted(
-    streams: &mut Streams<Global>,
-    id: u32,
-    delta: i64,
-) -> Result<(bool, i32), Fail>
+fn shifted(streams: &mut Streams<Global>, id: u32, delta: i64) -> Result<(bool, i32), Fail>
     requires { AllByRecursion (CanShift delta) streams.old.streams }
 {
     let refused = streams.shift_send(delta).is_err();
@@ -82,15 +78,17 @@ fn settings_move_windows_to_their_limits(rt: HostRuntime) -> Result<(), Fail> {
         streams.open_stream(1, numbers(0, None), Pick::NotFound, false)?;
         streams.open_stream(3, numbers(start, None), Pick::NotFound, true)?;
         assert!(rt; delta >= -2_147_483_648 && start <= 2_147_483_647);
-        assert_eq!(rt; shifted(&mut streams, 3, delta)?, (refused, window), "at {start} by {delta}");
+        assert_eq!(rt;
+            shifted(&mut streams, 3, delta)?,
+            (refused, window),
+            "at {start} by {delta}"
+        );
     }
     Ok(())
 }
 
 #[test]
-fn a_full_window_refuses_for_all_where_settings_move_it(
-    rt: HostRuntime,
-) -> Result<(), Fail> {
+fn a_full_window_refuses_for_all_where_settings_move_it(rt: HostRuntime) -> Result<(), Fail> {
     for (kind, refused, window) in [
         (Kind::BothOpen, true, 10),
         (Kind::HalfRemote, true, 10),
@@ -115,7 +113,13 @@ fn a_full_window_refuses_for_all_where_settings_move_it(
 #[test]
 fn streams_wait_to_send_by_rising_identifier(rt: HostRuntime) -> Result<(), Fail> {
     let mut streams = Streams::new(rt.alloc());
-    for (id, left) in [(1, Some(5)), (3, None), (5, Some(0)), (7, Some(1)), (11, Some(2))] {
+    for (id, left) in [
+        (1, Some(5)),
+        (3, None),
+        (5, Some(0)),
+        (7, Some(1)),
+        (11, Some(2)),
+    ] {
         assert!(rt; streams.last() < id && id % 2 == 1);
         streams.open_stream(id, numbers(0, left), Pick::NotFound, true)?;
     }
@@ -139,7 +143,11 @@ fn streams_wait_to_send_by_rising_identifier(rt: HostRuntime) -> Result<(), Fail
         (11, None, None),
     ] {
         assert_eq!(rt; streams.next_waiting(after), next, "above {after}");
-        assert_eq!(rt; copy.next_waiting(after), before, "above {after} in the copy");
+        assert_eq!(rt;
+            copy.next_waiting(after),
+            before,
+            "above {after} in the copy"
+        );
     }
     Ok(())
 }

@@ -1,0 +1,12 @@
+-- A hash tells identifiers apart.
+use Rattle.std.proofs.Common.{arith, ◌≡◌, ℕ, ◌*◌, ◌%◌, ◌^◌, ◌<◌}
+use Rattle.h2_streams.specs.Hash.{halves_exchanged, spread}
+
+exchanged-same : (m n : ℕ) → m < 4294967296 → n < 4294967296 → halves_exchanged m ≡ halves_exchanged n → m ≡ n
+exchanged-same m n a b h = omega arith
+
+product-same : (m n : ℕ) → m < 4294967296 → n < 4294967296 → m * 2654435769 % 4294967296 ≡ n * 2654435769 % 4294967296 → m ≡ n
+product-same m n a b h = omega arith
+
+pub spread-same : (m n : ℕ) → m < 4294967296 → n < 4294967296 → spread m ≡ spread n → m ≡ n
+spread-same m n a b h = product-same m n a b (exchanged-same (m * 2654435769 % 4294967296) (n * 2654435769 % 4294967296) (omega arith) (omega arith) h)
