@@ -79,6 +79,7 @@ impl<A: Allocator> Streams<A> {
         ensures value { result ≡ self.now.last }
         ensures rising { spec.AreRising 0 self.now.last self.now.streams }
     {
+        // Client streams have odd identifiers: 0 stands for none.
         self.last
     }
 
