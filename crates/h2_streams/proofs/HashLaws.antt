@@ -1,6 +1,6 @@
 -- A hash tells identifiers apart.
 use Rattle.std.proofs.Common.{arith, ◌≡◌, ℕ, ◌*◌, ◌%◌, ◌^◌, ◌<◌}
-use Rattle.h2_streams.specs.Hash.{halves_exchanged, spread}
+use Rattle.h2_streams.specs.Hash.{halves_exchanged, bit_turned, spread}
 
 exchanged-same : (m n : ℕ) → m < 4294967296 → n < 4294967296 → halves_exchanged m ≡ halves_exchanged n → m ≡ n
 exchanged-same m n a b h = omega arith
@@ -8,5 +8,10 @@ exchanged-same m n a b h = omega arith
 product-same : (m n : ℕ) → m < 4294967296 → n < 4294967296 → m * 2654435769 % 4294967296 ≡ n * 2654435769 % 4294967296 → m ≡ n
 product-same m n a b h = omega arith
 
+turned-same : (m n : ℕ) → m < 4294967296 → n < 4294967296 → bit_turned m ≡ bit_turned n → m ≡ n
+turned-same m n a b h = omega arith
+
 pub spread-same : (m n : ℕ) → m < 4294967296 → n < 4294967296 → spread m ≡ spread n → m ≡ n
-spread-same m n a b h = product-same m n a b (exchanged-same (m * 2654435769 % 4294967296) (n * 2654435769 % 4294967296) (omega arith) (omega arith) h)
+spread-same m n a b h =
+    let products = exchanged-same (bit_turned m * 2654435769 % 4294967296) (bit_turned n * 2654435769 % 4294967296) (omega arith) (omega arith) h in
+    turned-same m n a b (product-same (bit_turned m) (bit_turned n) (omega arith) (omega arith) products)

@@ -9,6 +9,10 @@ shifted_in state octet = state / 256 + octet * 2 ^ 24
 abbrev pub halves_exchanged : ℕ → ℕ
 halves_exchanged n = n % 65536 * 65536 + n / 65536
 
--- 2^32 divided by the golden ratio, and odd: neighbours are spread over all groups of the map
+-- a number below 2^32 with its lowest bit made its highest: clients have odd identifiers, whose lowest bit tells nothing
+abbrev pub bit_turned : ℕ → ℕ
+bit_turned n = n / 2 + n % 2 * 2147483648
+
+-- a product by 2^32 divided by the golden ratio, an odd number, which spreads neighbours evenly over the groups of the map
 abbrev pub spread : ℕ → ℕ
-spread id = halves_exchanged (id * 2654435769 % 2 ^ 32)
+spread id = halves_exchanged (bit_turned id * 2654435769 % 2 ^ 32)

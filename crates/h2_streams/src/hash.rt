@@ -1,5 +1,6 @@
 //! The hash of a stream's identifier, for the map of the records.
-//! A product by an odd number and an exchange of halves: two identifiers have never the same hash, and neighbours lie far apart.
+//! A turn by one bit, a product by an odd number and an exchange of halves: two identifiers never have one hash, and the
+//! odd identifiers of clients are spread evenly over the groups of the map.
 //! Definition: `specs/Hash.antt`.
 
 use std::hash::{BuildHasher, Hasher};
@@ -19,7 +20,8 @@ impl Hasher for IdHasher {
     ghost finish = { λ h. spread h.id };
 
     fn finish(&self) -> u64 {
-        let product = self.id.wrapping_mul(0x9E37_79B9);
+        let turned = self.id / 2 + self.id % 2 * 2_147_483_648;
+        let product = turned.wrapping_mul(0x9E37_79B9);
         u64::from(product % 65_536 * 65_536 + product / 65_536)
     }
 

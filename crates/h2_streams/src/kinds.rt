@@ -58,7 +58,12 @@ pub(crate) fn peer_closed(stream: Stream) -> Stream
             ..stream
         },
         Kind::HalfLocal => not_live(stream.id, Kind::Ended),
-        _ => stream,
+        Kind::Idle
+        | Kind::Skipped
+        | Kind::HalfRemote
+        | Kind::Ended
+        | Kind::PeerReset
+        | Kind::WeReset => stream,
     }
 }
 
@@ -81,7 +86,12 @@ pub(crate) fn server_closed(stream: Stream) -> Stream
             }
         }
         Kind::HalfRemote => not_live(stream.id, Kind::Ended),
-        _ => stream,
+        Kind::Idle
+        | Kind::Skipped
+        | Kind::HalfLocal
+        | Kind::Ended
+        | Kind::PeerReset
+        | Kind::WeReset => stream,
     }
 }
 
