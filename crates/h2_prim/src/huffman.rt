@@ -83,18 +83,18 @@ fn most_symbols(octets: usize) -> usize
 }
 
 /// The state that four bits lead to from a state, and the octet whose code they make whole, 256 where they make none.
-fn move_at(state: u16, nibble: u8) -> (u16, u16)
+fn move_at(state: usize, nibble: u8) -> (usize, u16)
     requires state { state ≤ 256 }
     requires nibble { nibble < 16 }
     ensures leads { Leads state (bits_of 4 nibble) result.1 result.0 }
     ensures small { (result.0 ≤ 256) × (result.1 ≤ 256) }
 {
-    let place = usize::from(state) * 16 + usize::from(nibble);
-    (NEXT[place], SYMBOLS[place])
+    let place = state * 16 + usize::from(nibble);
+    (usize::from(NEXT[place]), SYMBOLS[place])
 }
 
 /// Takes four bits: writes the octet that they may make whole at `len`, and answers the text's length and the state behind them.
-fn step(text: &mut [u8], len: usize, state: u16, nibble: u8) -> (usize, u16)
+fn step(text: &mut [u8], len: usize, state: usize, nibble: u8) -> (usize, usize)
     requires room { len < length text.now }
     requires state { state ≤ 256 }
     requires nibble { nibble < 16 }
@@ -111,7 +111,7 @@ fn step(text: &mut [u8], len: usize, state: u16, nibble: u8) -> (usize, u16)
 }
 
 /// Decodes the octets to the front of `text`; answers how many octets that is, and the state behind them.
-fn decode(octets: &[u8], text: &mut [u8]) -> (usize, u16)
+fn decode(octets: &[u8], text: &mut [u8]) -> (usize, usize)
     requires { 8 * length octets.now ≤ 5 * length text.now }
     ensures read { Stands (bits octets.now) (take result.0 text.new) result.1 }
     ensures small { (result.0 ≤ length text.new) × (result.1 ≤ 256) }
@@ -119,8 +119,9 @@ fn decode(octets: &[u8], text: &mut [u8]) -> (usize, u16)
     let mut len = 0;
     let mut state = 0;
     for octet in octets {
-        let half = step(text, len, state, *octet / 16);
-        let whole = step(text, half.0, half.1, *octet % 16);
+        let octet = *octet;
+        let half = step(text, len, state, octet / 16);
+        let whole = step(text, half.0, half.1, octet % 16);
         len = whole.0;
         state = whole.1;
     }
@@ -128,7 +129,7 @@ fn decode(octets: &[u8], text: &mut [u8]) -> (usize, u16)
 }
 
 /// The state behind the octets, with no text written.
-fn state_after(octets: &[u8]) -> u16
+fn state_after(octets: &[u8]) -> usize
     ensures read { (text : List ℕ) × Stands (bits octets.now) text result }
     ensures small { result ≤ 256 }
 {
@@ -142,7 +143,7 @@ fn state_after(octets: &[u8]) -> u16
 
 /// What a string that ends in the state is refused for, if it is. States 0 to 7 are those of no ones to seven ones, and 256 is
 /// that of the whole end of a string.
-fn fault_at(state: u16) -> Option<HuffFault>
+fn fault_at(state: usize) -> Option<HuffFault>
     requires { state ≤ 256 }
     ensures { (octets text : List ℕ) → Stands (bits octets) text state → Tells (huffman_text octets) text result }
 {

@@ -65,10 +65,10 @@ fn writes_integers(rt: HostRuntime) -> Result<(), Fail> {
     Ok(())
 }
 
-/// Huffman strings and their texts (C.4 and C.6).
+/// Huffman strings and their texts: examples (C.4 and C.6), octets with long codes (Appendix B), and one of three bits of padding.
 #[test]
 fn codes_texts(rt: HostRuntime) -> Result<(), Fail> {
-    let cases: [(&[u8], &[u8]); 6] = [
+    let cases: [(&[u8], &[u8]); 11] = [
         (
             b"www.example.com",
             b"\xf1\xe3\xc2\xe5\xf2\x3a\x6b\xa0\xab\x90\xf4\xff",
@@ -80,6 +80,11 @@ fn codes_texts(rt: HostRuntime) -> Result<(), Fail> {
             b"Mon, 21 Oct 2013 20:13:21 GMT",
             b"\xd0\x7a\xbe\x94\x10\x54\xd4\x44\xa8\x20\x05\x95\x04\x0b\x81\x66\xe0\x82\xa6\x2d\x1b\xff",
         ),
+        (b"\x01", b"\xff\xff\xb1"),
+        (b"\xff", b"\xff\xff\xfb\xbf"),
+        (b"\xf9", b"\xff\xff\xff\xef"),
+        (b"\x0a", b"\xff\xff\xff\xf3"),
+        (b"0", b"\x07"),
         (b"", b""),
     ];
     for (text, octets) in cases {

@@ -5,4 +5,4 @@ use Rattle.h2_prim.proofs.huffman.move_at.Goals as goal
 pub returns : goal.returns
 returns c =
     let right = move_at c.args.state c.args.nibble c.requires.state c.requires.nibble in
-    rw (c.from.ensures, c.from-2.ensures) (record { leads = right.leads; small = (right.next_small, right.symbol_small) })
+    rw (c.from-2.ensures, c.from.ensures) (record { leads = right.leads; small = (right.next_small, right.symbol_small) })
