@@ -1,6 +1,5 @@
 #!/usr/bin/env bash
-# Builds the benchmark of h2_prim over the crates as they stand, in a folder of its own, and runs it; with the word
-# `callgrind`, counts its instructions by valgrind. It is no part of the gate.
+# Proves and runs the benchmark of h2_prim over the crates as they stand, in a folder of its own. It is no part of the gate.
 set -eu
 here=$(cd "$(dirname "$0")" && pwd)
 work=${WORK:-/tmp/h2_bench_prim}
