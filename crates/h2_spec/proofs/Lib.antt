@@ -31,5 +31,5 @@ pub mod ScriptTexts
 pub mod SpellingLaws
 mod SplitLaws
 pub mod TableLaws
-mod TraceLaws
 mod WrittenLaws
+pub mod TraceLaws

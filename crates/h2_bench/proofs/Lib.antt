@@ -1,0 +1,6 @@
+pub mod Digits
+pub mod Grammar
+pub mod Items
+pub mod Numbers
+pub mod Runs
+pub mod Tables

@@ -1,0 +1,94 @@
+-- The program `table`: line after line, and entry after entry.
+use Rattle.std.proofs.Common.{◌≡◌, ◌∙◌, ◌+◌, ◌<◌, ◌≤◌, ℕ, zero, suc, Bool, true, false, cond, List, [], ◌∷◌, ◌++◌, length, drop, Option, Some, None, refl, sym, ap, subst, arith, ltb, ltb-true, append_assoc, drop_of_length-le, nat_eq}
+use Rattle.std.specs.Prelude.{slice_get, nat_lt}
+use Rattle.std.specs.List.{position_or_len}
+use Rattle.std.proofs.lemmas.Bool.{cond_both}
+use Rattle.std.proofs.lemmas.List.{append-nil}
+use Rattle.h2_spec.specs.Field.{Field}
+use Rattle.h2_spec.specs.Parse.{Front, Stop, One, Parsed, after_one, parse_all, parse_first}
+use Rattle.h2_spec.specs.DynamicTable.{LimitedTable}
+use Rattle.h2_spec.specs.Show.{entry_line, entry_lines}
+use Rattle.h2_spec.proofs.ParseLaws.{Uses, parse_all-step}
+use Rattle.h2_bench.specs.TableProgram.{behind_line, command_of, first_line, line_at, line_end, lines_of, obeyed, place_line, told_lines, told_of, used_to}
+
+-- ---- lines
+
+-- a line takes at least one octet
+used-some : (text : List ℕ) (n : ℕ) (b : Bool) → ltb n (length text) ≡ b → 0 < length text
+    → (0 < used_to (cond b (Some n) None) text) × (used_to (cond b (Some n) None) text ≤ length text)
+used-some text n true e some = (omega arith, omega (arith, ltb-true n (length text) e))
+used-some text n false e some = (some, omega arith)
+
+line-uses : (u : Unit {0}) (text : List ℕ) → Uses text (line_at u text)
+unfolding line_at
+line-uses u [] = tt
+line-uses u (octet ∷ octets) =
+    let at = position_or_len (λ o. nat_eq o 10) (octet ∷ octets) in
+    used-some (octet ∷ octets) at (ltb at (length (octet ∷ octets))) refl (omega arith)
+
+first-front : (text : List ℕ) → 0 < length text → line_at tt text ≡ One (first_line text) tt (used_to (line_end text) text)
+unfolding line_at
+first-front [] some = absurd (omega arith)
+first-front (octet ∷ octets) some = refl
+
+lines-first : (text : List ℕ) → 0 < length text → lines_of text ≡ first_line text ∷ lines_of (behind_line text)
+unfolding lines_of
+lines-first text some =
+    ap (λ (p : Parsed (Unit {0}) (List ℕ)). p.elements)
+    (parse_all-step line_at line-uses tt text ∙ ap (λ (x : Front (Unit {0}) (List ℕ)). parse_first tt text x (λ t rest. parse_all line_at t rest)) (first-front text some))
+
+lines-none : (text : List ℕ) → length text ≤ 0 → lines_of text ≡ []
+unfolding lines_of parse_all
+lines-none [] none = refl
+lines-none (octet ∷ octets) none = absurd (omega arith)
+
+told-first : (t : LimitedTable) (line : List ℕ) (lines : List (List ℕ)) → told_lines t (line ∷ lines) ≡ told_of t (command_of line) ++ told_lines (obeyed t (command_of line)) lines
+unfolding told_lines
+told-first t line lines = refl
+
+told-none : (t : LimitedTable) → told_lines t [] ≡ entry_lines 62 t.table.entries
+unfolding told_lines
+told-none t = refl
+
+-- a text with what is told of one line more
+pub line-told : (t u : LimitedTable) (text line more a b all : List ℕ) → 0 < length text → line ≡ first_line text → more ≡ behind_line text
+    → u ≡ obeyed t (command_of line) → b ≡ a ++ told_of t (command_of line) → a ++ told_lines t (lines_of text) ≡ all → b ++ told_lines u (lines_of more) ≡ all
+line-told t u text line more a b all some l m o p q =
+    let next : told_lines t (lines_of text) ≡ told_of t (command_of line) ++ told_lines (obeyed t (command_of line)) (lines_of more)
+    = rw (lines-first text some, ← l, ← m) (told-first t line (lines_of more)) in
+    rw (p, o) (append_assoc a (told_of t (command_of line)) (told_lines (obeyed t (command_of line)) (lines_of more)) ∙ ap (λ (x : List ℕ). a ++ x) (sym next) ∙ q)
+
+pub lines-end : (t : LimitedTable) (text a all : List ℕ) → length text ≤ 0 → a ++ told_lines t (lines_of text) ≡ all → a ++ entry_lines 62 t.table.entries ≡ all
+lines-end t text a all none q = ap (λ (x : List ℕ). a ++ x) (sym (told-none t) ∙ ap (told_lines t) (sym (lines-none text none))) ∙ q
+
+-- ---- entries
+
+at-place : (k : ℕ) (es : List Field) → k < length es → (x : Field) × (slice_get es k ≡ Some x) × (drop k es ≡ x ∷ drop (suc k) es)
+at-place k [] inside = absurd (omega arith)
+at-place zero (e ∷ es) inside = (e, refl, refl)
+at-place (suc k) (e ∷ es) inside = at-place k es (omega arith)
+
+entries-first : (i : ℕ) (e : Field) (es : List Field) → entry_lines i (e ∷ es) ≡ entry_line i e ++ entry_lines (i + 1) es
+unfolding entry_lines
+entries-first i e es = refl
+
+entries-none : (i : ℕ) → entry_lines i [] ≡ []
+unfolding entry_lines
+entries-none i = refl
+
+entries-next : (k : ℕ) (es : List Field) → k < length es → entry_lines (62 + k) (drop k es) ≡ place_line k es ++ entry_lines (62 + (k + 1)) (drop (k + 1) es)
+entries-next k es inside =
+    let x = at-place k es inside in
+    let one : k + 1 ≡ suc k = omega arith in
+    let further : 62 + k + 1 ≡ 62 + suc k = omega arith in
+    rw (x.1, x.2, one) (entries-first (62 + k) x.0 (drop (suc k) es) ∙ rw further refl)
+
+pub entry-told : (k : ℕ) (es : List Field) (a b all : List ℕ) → k < length es → b ≡ a ++ place_line k es → a ++ entry_lines (62 + k) (drop k es) ≡ all
+    → b ++ entry_lines (62 + (k + 1)) (drop (k + 1) es) ≡ all
+entry-told k es a b all inside p q =
+    rw p (append_assoc a (place_line k es) (entry_lines (62 + (k + 1)) (drop (k + 1) es)) ∙ ap (λ (x : List ℕ). a ++ x) (sym (entries-next k es inside)) ∙ q)
+
+pub entries-end : (k : ℕ) (es : List Field) (a all : List ℕ) → length es ≤ k → a ++ entry_lines (62 + k) (drop k es) ≡ all → a ≡ all
+entries-end k es a all past q =
+    let none : entry_lines (62 + k) (drop k es) ≡ [] = ap (entry_lines (62 + k)) (drop_of_length-le es past) ∙ entries-none (62 + k) in
+    sym (append-nil a) ∙ ap (λ (x : List ℕ). a ++ x) (sym none) ∙ q

@@ -1,0 +1,24 @@
+use Rattle.std.proofs.Common.{refl}
+use Rattle.std.specs.Fmt.{digits}
+use Rattle.h2_bench.specs.Faults.{fault_line}
+use Rattle.h2_bench.proofs.fault.BenchFault.line.Goals as goal
+
+pub returns-in-NoMemory : goal.returns-in-NoMemory
+unfolding fault_line digits
+returns-in-NoMemory c = rw c.in-NoMemory.is refl
+
+pub returns-in-Read : goal.returns-in-Read
+unfolding fault_line digits
+returns-in-Read c = rw c.in-Read.is refl
+
+pub returns-in-BadHex : goal.returns-in-BadHex
+unfolding fault_line digits
+returns-in-BadHex c = rw c.in-BadHex.is refl
+
+pub returns-in-BadCommand : goal.returns-in-BadCommand
+unfolding fault_line digits
+returns-in-BadCommand c = rw c.in-BadCommand.is refl
+
+pub returns-in-NotYet : goal.returns-in-NotYet
+unfolding fault_line digits
+returns-in-NotYet c = rw c.in-NotYet.is refl

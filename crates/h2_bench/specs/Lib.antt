@@ -1,0 +1,11 @@
+pub mod Answers
+pub mod Commands
+pub mod Ends
+pub mod Faults
+pub mod First
+pub mod Grammar
+pub mod Input
+pub mod Plans
+pub mod Run
+pub mod TableProgram
+pub mod Told

@@ -1,0 +1,16 @@
+-- What a plan stands for, and what a refusal says of words.
+use Rattle.std.specs.Prelude.{◌≡◌, Option, None}
+use Rattle.h2_bench.specs.Grammar.{Asked, play, table}
+use Rattle.h2_bench.specs.declared.command.Plan.{Plan}
+use Rattle.h2_bench.specs.declared.command.Plan.TheVariants.{Play, Table}
+use Rattle.h2_bench.specs.declared.command.Refusal.{Refusal}
+use Rattle.h2_bench.specs.declared.command.Refusal.TheVariants.{Words, NoMemory}
+
+abbrev pub planned : Plan → Asked
+planned Play = play
+planned (Table limit) = table limit
+
+-- words that are refused, but for want of memory, ask for nothing
+abbrev pub Refuses : Option Asked → Refusal → Type 0
+Refuses asked (Words text) = asked ≡ None
+Refuses asked NoMemory = Unit {0}

@@ -1,0 +1,115 @@
+-- The program `table`: what the lines of its input do to a dynamic table, and what is printed (RFC 7541, 2.3.2 and 4).
+use Rattle.std.specs.Prelude.{ℕ, ◌+◌, ◌*◌, ◌-◌, ◌^◌, ◌==◌, ◌&&◌, List, [], ◌∷◌, ◌++◌, length, take, drop, position, nat_lt, nat_le, if◌then◌else◌, codes, decimal, Option, Some, None, option_map, option_and_then, slice_get}
+use Rattle.std.specs.Str.{bytes_eq}
+use Rattle.h2_spec.specs.Parse.{Front, Stop, One, parse_all}
+use Rattle.h2_spec.specs.Field.{Field, field}
+use Rattle.h2_spec.specs.DynamicTable.{Table, LimitedTable, insert, resize, total_size}
+use Rattle.h2_spec.specs.Show.{entry_line, entry_lines, joined}
+use Rattle.h2_bench.specs.Faults.{fault_line}
+
+-- ---- the words of a line
+
+-- what a line asks for
+pub data Command : Type 0 where
+  Add : List ℕ → List ℕ → Command
+  Max : ℕ → Command
+
+-- what follows a word at the front of a text
+abbrev pub behind : List ℕ → List ℕ → Option (List ℕ)
+behind word text = if bytes_eq (take (length word) text) word then Some (drop (length word) text) else None
+
+-- what stands before the first space, and what behind it
+abbrev pub cut_at : Option ℕ → List ℕ → Option Command
+cut_at None text = None
+cut_at (Some at) text = Some (Add (take at text) (drop (at + 1) text))
+
+-- the number that decimal digits write behind those of n
+unfoldable pub digits_behind : ℕ → List ℕ → Option ℕ
+digits_behind n [] = Some n
+digits_behind n (d ∷ ds) = if nat_le 48 d && nat_le d 57 then digits_behind (n * 10 + (d - 48)) ds else None
+
+abbrev pub below_word : ℕ → Option ℕ
+below_word n = if nat_lt n (2 ^ 32) then Some n else None
+
+-- 1 to 10 decimal digits of a number below 2 ^ 32
+abbrev pub number_written : List ℕ → Option ℕ
+number_written text = if nat_lt 0 (length text) && nat_le (length text) 10 then option_and_then below_word (digits_behind 0 text) else None
+
+-- `add NAME VALUE`, or `max N`
+abbrev pub added : Option (List ℕ) → Option Command
+added None = None
+added (Some rest) = cut_at (position (λ octet. octet == 32) rest) rest
+
+abbrev pub maximal : Option (List ℕ) → Option Command
+maximal None = None
+maximal (Some rest) = option_map Max (number_written rest)
+
+abbrev pub or_else : Option Command → Option Command → Option Command
+or_else (Some command) other = Some command
+or_else None other = other
+
+abbrev pub command_of : List ℕ → Option Command
+command_of line = or_else (added (behind (codes "add ") line)) (maximal (behind (codes "max ") line))
+
+-- ---- what a line does
+
+-- the number of entries, what they count, and the maximum
+unfoldable pub counts_line : Table → List ℕ
+counts_line t = joined (decimal (length t.entries) ∷ codes " " ∷ decimal (total_size t.entries) ∷ codes " " ∷ decimal t.max ∷ codes "\n" ∷ [])
+
+-- the table after a command, if it is one that the table takes
+abbrev pub obeyed : LimitedTable → Option Command → LimitedTable
+obeyed t None = t
+obeyed t (Some (Add name value)) = record t { table = insert t.table (field name value) }
+obeyed t (Some (Max n)) = if nat_lt t.limit n then t else record t { table = resize t.table n }
+
+-- what is printed for it
+abbrev pub told_of : LimitedTable → Option Command → List ℕ
+told_of t None = fault_line 27
+told_of t (Some (Add name value)) = counts_line (insert t.table (field name value))
+told_of t (Some (Max n)) = if nat_lt t.limit n then fault_line 3 else counts_line (resize t.table n)
+
+-- the line of the entry at a place, 0 for the newest, if there is one
+abbrev pub line_of : ℕ → Option Field → List ℕ
+line_of place None = []
+line_of place (Some f) = entry_line (62 + place) f
+
+abbrev pub place_line : ℕ → List Field → List ℕ
+place_line place entries = line_of place (slice_get entries place)
+
+-- ---- the whole input
+
+-- a line: up to a line feed, which the last may lack
+abbrev pub line_to : Option ℕ → List ℕ → List ℕ
+line_to None text = text
+line_to (Some at) text = take at text
+
+abbrev pub used_to : Option ℕ → List ℕ → ℕ
+used_to None text = length text
+used_to (Some at) text = at + 1
+
+abbrev pub line_end : List ℕ → Option ℕ
+line_end text = position (λ octet. octet == 10) text
+
+abbrev pub first_line : List ℕ → List ℕ
+first_line text = line_to (line_end text) text
+
+abbrev pub behind_line : List ℕ → List ℕ
+behind_line text = drop (used_to (line_end text) text) text
+
+unfoldable pub line_at : Unit {0} → List ℕ → Front (Unit {0}) (List ℕ)
+line_at u [] = Stop
+line_at u (octet ∷ octets) = One (first_line (octet ∷ octets)) tt (used_to (line_end (octet ∷ octets)) (octet ∷ octets))
+
+unfoldable pub lines_of : List ℕ → List (List ℕ)
+unfolding line_at parse_all
+lines_of text = (parse_all line_at tt text).elements
+
+-- what is printed for the lines, and then the entries
+unfoldable pub told_lines : LimitedTable → List (List ℕ) → List ℕ
+told_lines t [] = entry_lines 62 t.table.entries
+told_lines t (line ∷ lines) = told_of t (command_of line) ++ told_lines (obeyed t (command_of line)) lines
+
+unfoldable pub table_text : ℕ → List ℕ → List ℕ
+unfolding lines_of told_lines
+table_text limit input = told_lines (record { table = record { entries = []; max = limit }; limit = limit }) (lines_of input)

@@ -1,0 +1,124 @@
+//! A command, from its words and its input to its output and the exit status.
+//! Rests on `command`, `input`, `play`, `table` and `device`; definitions: `specs/Told.antt`, `specs/Ends.antt`.
+
+ghost use Rattle.std.specs.Prelude.{◌≡◌, ◌⊎◌, ℕ, List, Some, true, false};
+ghost use Rattle.h2_bench.specs.Answers.{Meets, seen};
+ghost use Rattle.h2_bench.specs.Ends.{Answers, Ends, EndsSomehow, Tells};
+ghost use Rattle.h2_bench.specs.Grammar.{Asked, asked_of};
+ghost use Rattle.h2_bench.specs.Plans.{planned};
+ghost use Rattle.h2_bench.specs.Told.{told};
+
+use crate::command::{Plan, Refusal, parse};
+use crate::device::write_all;
+use crate::fault::BenchFault;
+use crate::input::read_all;
+use crate::play::play_text;
+use crate::table::table_text;
+use crate::words::Words;
+use std::alloc::Global;
+use std::io::{Read, Write};
+
+/// What a command answers to a whole input.
+fn answer_to(alloc: Global, plan: Plan, input: &[u8]) -> Result<String, BenchFault>
+    ensures { Meets result (told (planned plan) input.now) }
+{
+    match plan {
+        Plan::Play => play_text(alloc, input),
+        Plan::Table(limit) => match table_text(alloc, limit, input) {
+            Ok(text) => Ok(text),
+            Err(_) => Err(BenchFault::NoMemory),
+        },
+    }
+}
+
+/// Reads the input of a command, and answers it.
+fn respond<R: Read>(
+    alloc: Global,
+    plan: Plan,
+    input: &mut R,
+    input_failed: &mut bool,
+) -> Result<String, BenchFault>
+    requires { input_failed.old ≡ false }
+    ensures { Answers (planned plan) (R.remaining input.old) input_failed.new (seen result) }
+{
+    match read_all(alloc, input, input_failed) {
+        Ok(octets) => answer_to(alloc, plan, octets.as_slice()),
+        Err(fault) => Err(fault),
+    }
+}
+
+/// Writes a text, and gives its status, or 3 where that failed.
+fn tell<W: Write>(output: &mut W, output_failed: &mut bool, text: &str, status: u8) -> u8
+    requires { output_failed.old ≡ false }
+    ensures told { output_failed.new ≡ false → (held : List ℕ) → W.contents output.old ≡ Some held
+        → Tells (record { text = text.now; status = status }) held (W.contents output.new) result }
+    ensures failed { (output_failed.new ≡ false) ⊎ ((output_failed.new ≡ true) × (result ≡ 3)) }
+{
+    match write_all(output, output_failed, text.as_bytes()) {
+        Ok(()) => status,
+        Err(_) => 3,
+    }
+}
+
+/// Writes an answer: a text with status 0, or the line of a fault with status 1.
+fn tell_answer<W: Write>(
+    output: &mut W,
+    output_failed: &mut bool,
+    answer: &Result<String, BenchFault>,
+) -> u8
+    requires { output_failed.old ≡ false }
+    ensures told { output_failed.new ≡ false → (held : List ℕ) → W.contents output.old ≡ Some held
+        → Tells (seen answer.now) held (W.contents output.new) result }
+    ensures failed { (output_failed.new ≡ false) ⊎ ((output_failed.new ≡ true) × (result ≡ 3)) }
+{
+    match answer {
+        Ok(text) => tell(output, output_failed, text.as_str(), 0),
+        Err(fault) => tell(output, output_failed, fault.line(), 1),
+    }
+}
+
+/// Does what the words ask for. A flag is set where a read of the input failed, another where a write of the output failed: no
+/// contract of a device says that its calls don't fail, and so these stand in for it.
+pub fn run_watched<R: Read, W: Write>(
+    alloc: Global,
+    words: &Words,
+    input: &mut R,
+    input_failed: &mut bool,
+    output: &mut W,
+    output_failed: &mut bool,
+) -> u8
+    requires reader { input_failed.old ≡ false }
+    requires writer { output_failed.old ≡ false }
+    ensures told { (asked : Asked) → asked_of words.now ≡ Some asked → output_failed.new ≡ false
+        → Ends asked (R.remaining input.old) input_failed.new (W.contents output.old) (W.contents output.new) result }
+    ensures failed { (output_failed.new ≡ false) ⊎ ((output_failed.new ≡ true) × (result ≡ 3)) }
+{
+    match parse(alloc, words) {
+        Ok(plan) => {
+            let answer = respond(alloc, plan, input, input_failed);
+            tell_answer(output, output_failed, &answer)
+        }
+        Err(Refusal::Words(text)) => tell(output, output_failed, text.as_str(), 2),
+        Err(Refusal::NoMemory) => tell(output, output_failed, BenchFault::NoMemory.line(), 1),
+    }
+}
+
+/// Does what the words ask for, and gives the exit status.
+///
+/// 0: done. 1: a fault ended it, and its line was written. 2: the words were refused, or ask for help, and what there is to say of them was written.
+/// 3: the output could not be written.
+pub fn run<R: Read, W: Write>(alloc: Global, words: &Words, input: &mut R, output: &mut W) -> u8
+    ensures { (asked : Asked) → asked_of words.now ≡ Some asked → EndsSomehow asked
+        (R.remaining input.old) (W.contents output.old) (W.contents output.new) result }
+{
+    let mut input_failed = false;
+    let mut output_failed = false;
+    run_watched(
+        alloc,
+        words,
+        input,
+        &mut input_failed,
+        output,
+        &mut output_failed,
+    )
+}

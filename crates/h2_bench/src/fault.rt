@@ -1,0 +1,73 @@
+//! Why a program is refused, each cause with its number, and the line that tells it.
+//! Rests on nothing; definitions: `specs/Faults.antt`.
+
+ghost use Rattle.std.specs.Prelude.{◌≡◌};
+ghost use Rattle.h2_bench.specs.Faults.{fault_line, fault_number};
+ghost use Rattle.h2_bench.specs.declared.fault.BenchFault.TheVariants.{NoMemory};
+
+use std::alloc::{AllocError, AllocFailed};
+use thiserror::Error;
+
+/// Why a program is refused.
+#[derive(Clone, Copy, Debug, PartialEq, Eq, Error)]
+pub enum BenchFault {
+    /// A growth was refused.
+    #[error("out of memory")]
+    NoMemory,
+    /// A read of the input failed, an interruption too, or the input has more than 16,777,216 octets.
+    #[error("the input can't be read")]
+    Read,
+    /// The input is no hex text.
+    #[error("the input is no hex text")]
+    BadHex,
+    /// A line of the input is no command.
+    #[error("the line is no command")]
+    BadCommand,
+    /// A frame came that the first path doesn't play yet.
+    #[error("a frame comes that is not played yet")]
+    NotYet,
+}
+
+impl BenchFault {
+    /// The fault's number, one numbering over all crates.
+    pub fn number(self) -> u8
+        ensures { result ≡ fault_number self }
+    {
+        match self {
+            BenchFault::NoMemory => 0,
+            BenchFault::Read => 22,
+            BenchFault::BadHex => 25,
+            BenchFault::BadCommand => 27,
+            BenchFault::NotYet => 29,
+        }
+    }
+
+    /// The line `fault N`, which takes no memory.
+    pub fn line(self) -> &'static str
+        ensures { result.now ≡ fault_line (fault_number self) }
+    {
+        match self {
+            BenchFault::NoMemory => "fault 0\n",
+            BenchFault::Read => "fault 22\n",
+            BenchFault::BadHex => "fault 25\n",
+            BenchFault::BadCommand => "fault 27\n",
+            BenchFault::NotYet => "fault 29\n",
+        }
+    }
+}
+
+impl From<AllocError> for BenchFault {
+    ghost from_gives = { λ _ fault. fault ≡ NoMemory };
+
+    fn from(_error: AllocError) -> BenchFault {
+        BenchFault::NoMemory
+    }
+}
+
+impl<T: Drop> From<AllocFailed<T>> for BenchFault {
+    ghost from_gives = { λ _ fault. fault ≡ NoMemory };
+
+    fn from(_error: AllocFailed<T>) -> BenchFault {
+        BenchFault::NoMemory
+    }
+}

@@ -1,0 +1,20 @@
+//! The programs: what the words ask for, from the octets of an input to those of an output.
+#![tactic(auto)]
+
+mod command;
+mod connection;
+mod device;
+mod execute;
+mod fault;
+mod input;
+mod play;
+mod show;
+mod table;
+#[cfg(test)]
+mod tests;
+mod words;
+
+pub use connection::{First, play_first};
+pub use execute::{run, run_watched};
+pub use fault::BenchFault;
+pub use words::Words;
