@@ -211,7 +211,8 @@ fn unknown_type_of_the_greatest_length_is_ignored(rt: HostRuntime) -> Result<(),
         input.extend_from_slice(b"ff")?;
     }
     let (status, text) = ran(rt.alloc(), &["play"], input.as_slice())?;
-    let first = b"sent 00000c040000000000000300000064000600010000000000040100000000\nphase running last 0\n";
+    let first =
+        b"sent 00000c040000000000000300000064000600010000000000040100000000\nphase running last 0\n";
     assert!(rt; text.starts_with(first.as_slice()));
     assert_eq!(rt; status, 0);
     Ok(())
