@@ -10,3 +10,6 @@ mod octets;
 pub mod reason;
 mod walk;
 pub mod well_formed;
+
+#[cfg(test)]
+mod tests;
