@@ -49,9 +49,20 @@ impl SettingsPart<'_> {
         self.octets.len() / 6
     }
 
+    /// The identifier and the value of the setting at a place, from 0; none from `count` on.
+    pub fn pair(self, place: usize) -> Option<(u16, u32)>
+        ensures { result ≡ slice_get (settings_in self.entry) place }
+    {
+        if place < self.count() {
+            Some(self.pair_at(place))
+        } else {
+            None
+        }
+    }
+
     /// The identifier and the value of the setting at a place below `count`, from 0.
     #[tactic(auto, using(crate::proofs::Pairs::found))]
-    pub fn pair(self, place: usize) -> (u16, u32)
+    pub fn pair_at(self, place: usize) -> (u16, u32)
         requires { place < length (settings_in self) }
         ensures { slice_get (settings_in self.entry) place ≡ Some result }
     {

@@ -156,12 +156,9 @@ fn settings_in_their_order(rt: HostRuntime) {
     match settings_of(frame(4, 0, b"\x00\x03\x00\x00\x00\x64\x00\x06\x00\x01\x00\x00")) {
         Ok(part) => {
             assert_eq!(rt; part.count(), 2);
-            let pairs: [(usize, (u16, u32)); 2] = [(0, (3, 100)), (1, (6, 65_536))];
-            for (place, pair) in pairs {
-                if place < part.count() {
-                    assert_eq!(rt; part.pair(place), pair, "at {place}");
-                }
-            }
+            assert_eq!(rt; part.pair(0), Some((3, 100)));
+            assert_eq!(rt; part.pair(1), Some((6, 65_536)));
+            assert_eq!(rt; part.pair(2), None);
         }
         Err(fault) => panic!(rt; "{fault}"),
     }

@@ -10,18 +10,18 @@ returns-in-Err c = λ streams is.
     let a = c.args in
     let l = c.loop-place in
     let ps = settings_in a.part in
-    let pair = c.pair-id.result in
+    let pair = c.pair_at-id.result in
     let now = sym (c.one_setting.ensures streams is) ∙ c.in-Err.is in
-    sym (sym (l.invariant streams is) ∙ ap (λ qs. settings_applied streams a.from l.now qs) (drop-at l.place ps pair c.pair-id.ensures) ∙ applied-err streams a.from l.now c.in-Err.code pair.0 pair.1 (drop (l.place + 1) ps) now)
+    sym (sym (l.invariant streams is) ∙ ap (λ qs. settings_applied streams a.from l.now qs) (drop-at l.place ps pair c.pair_at-id.ensures) ∙ applied-err streams a.from l.now c.in-Err.code pair.0 pair.1 (drop (l.place + 1) ps) now)
 
 pub loop-place-preserved : goal.loop-place-preserved
 loop-place-preserved c = λ streams is.
     let a = c.args in
     let l = c.loop-place in
     let ps = settings_in a.part in
-    let pair = c.pair-id.result in
+    let pair = c.pair_at-id.result in
     let now = sym (c.one_setting.ensures streams is) ∙ c.in-Ok.is in
-    sym (ap (λ qs. settings_applied streams a.from l.now qs) (drop-at l.place ps pair c.pair-id.ensures) ∙ applied-ok streams a.from l.now c.in-Ok.next pair.0 pair.1 (drop (l.place + 1) ps) now) ∙ l.invariant streams is
+    sym (ap (λ qs. settings_applied streams a.from l.now qs) (drop-at l.place ps pair c.pair_at-id.ensures) ∙ applied-ok streams a.from l.now c.in-Ok.next pair.0 pair.1 (drop (l.place + 1) ps) now) ∙ l.invariant streams is
 
 pub returns : goal.returns
 returns c = λ streams is.
