@@ -8,7 +8,8 @@ mkdir -p "$work/crates"
 rm -rf "$work"/crates/{h2_spec,h2_streams,bench_streams}/{src,specs,proofs}
 cp -r "$here/../../crates/h2_spec" "$here/../../crates/h2_streams" "$work/crates"
 mkdir -p "$work/crates/bench_streams"
-cp -r "$here/src" "$work/crates/bench_streams"
-printf 'h2_spec: hex thiserror\nh2_streams: h2_spec indexmap\nbench_streams: h2_streams h2_spec anyhow\n' > "$work/crates.txt"
+mkdir -p "$work/crates/bench_streams/src"
+cp "$here/main.rattle" "$work/crates/bench_streams/src/main.rt"
+printf 'h2_spec: hex thiserror\nh2_streams: h2_spec indexmap thiserror\nbench_streams: h2_streams h2_spec anyhow\n' > "$work/crates.txt"
 cd "$work/crates/bench_streams"
 rt run
