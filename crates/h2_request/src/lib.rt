@@ -8,8 +8,7 @@ pub mod book;
 pub mod fault;
 mod octets;
 pub mod reason;
-mod walk;
-pub mod well_formed;
-
 #[cfg(test)]
 mod tests;
+mod walk;
+pub mod well_formed;

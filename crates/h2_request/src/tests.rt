@@ -12,7 +12,11 @@ fn octets(alloc: Global, text: &str) -> Result<Octets<Global>, AllocError> {
     Ok(Octets::new(text.as_bytes().to_vec(alloc)?))
 }
 
-fn push_fields(alloc: Global, fields: &mut Vec<Field<Global>>, pairs: &[(&str, &str)]) -> Result<(), AllocError> {
+fn push_fields(
+    alloc: Global,
+    fields: &mut Vec<Field<Global>>,
+    pairs: &[(&str, &str)],
+) -> Result<(), AllocError> {
     for (name, value) in pairs {
         let name = name.as_bytes().to_vec(alloc)?;
         let value = value.as_bytes().to_vec(alloc)?;
@@ -33,7 +37,15 @@ fn request(alloc: Global, pairs: &[(&str, &str)]) -> Result<u8, AllocError> {
 
 /// The same of a GET of the root with one field more.
 fn get(alloc: Global, name: &str, value: &str) -> Result<u8, AllocError> {
-    request(alloc, &[(":method", "GET"), (":scheme", "http"), (":path", "/"), (name, value)])
+    request(
+        alloc,
+        &[
+            (":method", "GET"),
+            (":scheme", "http"),
+            (":path", "/"),
+            (name, value),
+        ],
+    )
 }
 
 fn trailers(alloc: Global, name: &str, value: &str) -> Result<u8, AllocError> {
@@ -64,7 +76,12 @@ fn fields_alone(rt: HostRuntime) -> Result<(), Fail> {
         ("connection", "close", 7, "8.2.2: connection"),
         ("proxy-connection", "close", 7, "8.2.2: proxy-connection"),
         ("keep-alive", "5", 7, "8.2.2: keep-alive"),
-        ("transfer-encoding", "chunked", 7, "8.2.2: transfer-encoding"),
+        (
+            "transfer-encoding",
+            "chunked",
+            7,
+            "8.2.2: transfer-encoding",
+        ),
         ("upgrade", "h2c", 7, "8.2.2: upgrade"),
         ("te", "trailers", 0, "8.2.2: te"),
         ("te", "gzip", 8, "8.2.2: te that is not trailers"),
@@ -81,19 +98,72 @@ fn fields_alone(rt: HostRuntime) -> Result<(), Fail> {
 #[test]
 fn pseudo_fields_and_lengths(rt: HostRuntime) -> Result<(), Fail> {
     let alloc = rt.alloc();
-    let late = request(alloc, &[(":method", "GET"), ("a", "b"), (":scheme", "http"), (":path", "/")])?;
+    let late = request(
+        alloc,
+        &[
+            (":method", "GET"),
+            ("a", "b"),
+            (":scheme", "http"),
+            (":path", "/"),
+        ],
+    )?;
     assert_eq!(rt; late, 3, "8.3: a pseudo-field after a regular field");
-    assert_eq!(rt; request(alloc, &[(":scheme", "http"), (":path", "/")])?, 6, "8.3.1: no method");
-    assert_eq!(rt; request(alloc, &[(":method", "GET"), (":path", "/")])?, 6, "8.3.1: no scheme");
-    assert_eq!(rt; request(alloc, &[(":method", "GET"), (":scheme", "http")])?, 6, "8.3.1: no path");
-    assert_eq!(rt; request(alloc, &[(":method", "CONNECT"), (":authority", "a:1")])?, 0, "8.5: CONNECT");
-    assert_eq!(rt; request(alloc, &[(":method", "CONNECT")])?, 6, "8.5: CONNECT without an authority");
-    let path = request(alloc, &[(":method", "CONNECT"), (":authority", "a:1"), (":path", "/")])?;
+    assert_eq!(rt;
+        request(alloc, &[(":scheme", "http"), (":path", "/")])?,
+        6,
+        "8.3.1: no method"
+    );
+    assert_eq!(rt;
+        request(alloc, &[(":method", "GET"), (":path", "/")])?,
+        6,
+        "8.3.1: no scheme"
+    );
+    assert_eq!(rt;
+        request(alloc, &[(":method", "GET"), (":scheme", "http")])?,
+        6,
+        "8.3.1: no path"
+    );
+    assert_eq!(rt;
+        request(alloc, &[(":method", "CONNECT"), (":authority", "a:1")])?,
+        0,
+        "8.5: CONNECT"
+    );
+    assert_eq!(rt;
+        request(alloc, &[(":method", "CONNECT")])?,
+        6,
+        "8.5: CONNECT without an authority"
+    );
+    let path = request(
+        alloc,
+        &[
+            (":method", "CONNECT"),
+            (":authority", "a:1"),
+            (":path", "/"),
+        ],
+    )?;
     assert_eq!(rt; path, 6, "8.5: CONNECT with a path");
     let base = [(":method", "GET"), (":scheme", "http"), (":path", "/")];
-    let equal = request(alloc, &[base[0], base[1], base[2], ("content-length", "5"), ("content-length", "05")])?;
+    let equal = request(
+        alloc,
+        &[
+            base[0],
+            base[1],
+            base[2],
+            ("content-length", "5"),
+            ("content-length", "05"),
+        ],
+    )?;
     assert_eq!(rt; equal, 0, "8.1.1: one number twice");
-    let other = request(alloc, &[base[0], base[1], base[2], ("content-length", "5"), ("content-length", "6")])?;
+    let other = request(
+        alloc,
+        &[
+            base[0],
+            base[1],
+            base[2],
+            ("content-length", "5"),
+            ("content-length", "6"),
+        ],
+    )?;
     assert_eq!(rt; other, 9, "8.1.1: two numbers");
     Ok(())
 }
@@ -107,7 +177,12 @@ fn fields_of_trailers(rt: HostRuntime) -> Result<(), Fail> {
         (":path", "/", 4, "8.1: a pseudo-field"),
         ("upgrade", "h2c", 7, "8.2.2: a field of a connection"),
         ("te", "gzip", 8, "8.2.2: te that is not trailers"),
-        ("content-length", "1x", 0, "8.1.1 speaks of the request's fields"),
+        (
+            "content-length",
+            "1x",
+            0,
+            "8.1.1 speaks of the request's fields",
+        ),
     ];
     for (name, value, reason, message) in rows {
         assert_eq!(rt; trailers(rt.alloc(), name, value)?, reason, "{message}");
@@ -115,7 +190,13 @@ fn fields_of_trailers(rt: HostRuntime) -> Result<(), Fail> {
     Ok(())
 }
 
-fn entry(alloc: Global, method: &str, status: u16, field: &str, body: &str) -> Result<Entry<Global>, AllocError> {
+fn entry(
+    alloc: Global,
+    method: &str,
+    status: u16,
+    field: &str,
+    body: &str,
+) -> Result<Entry<Global>, AllocError> {
     let mut fields = Vec::new(alloc);
     push_fields(alloc, &mut fields, &[(field, "b")])?;
     Ok(Entry {
@@ -161,7 +242,11 @@ fn long_bodies(rt: HostRuntime) -> Result<(), Fail> {
         fields: Vec::new(alloc),
         body: Octets::new(vec![in alloc; 0u8; 1_048_577]?),
     };
-    assert_eq!(rt; book.add(long).err(), Some(BookFault::TooLong), "one octet above the limit");
+    assert_eq!(rt;
+        book.add(long).err(),
+        Some(BookFault::TooLong),
+        "one octet above the limit"
+    );
     Ok(())
 }
 
@@ -171,7 +256,16 @@ fn requests_pick_answers(rt: HostRuntime) -> Result<(), Fail> {
     let mut book = Book::new(alloc);
     assert!(rt; book.add(entry(alloc, "GET", 200, "a", "hi")?).is_ok());
     let mut fields = Vec::new(alloc);
-    push_fields(alloc, &mut fields, &[(":method", "GET"), (":scheme", "http"), (":path", "/"), ("content-length", "12")])?;
+    push_fields(
+        alloc,
+        &mut fields,
+        &[
+            (":method", "GET"),
+            (":scheme", "http"),
+            (":path", "/"),
+            ("content-length", "12"),
+        ],
+    )?;
     let asked = check(fields.as_slice()).ok().ok_or("a request")?;
     assert_eq!(rt; asked.declared, Some(12));
     let pick = book.find(&asked);
