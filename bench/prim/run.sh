@@ -2,7 +2,7 @@
 # Proves and runs the benchmark of h2_prim over the crates as they stand, in a folder of its own. It is no part of the gate.
 set -eu
 here=$(cd "$(dirname "$0")" && pwd)
-work=${WORK:-/tmp/h2_bench_prim}
+work=${WORK:-$(mktemp -d)}
 mkdir -p "$work/crates"
 rm -rf "$work"/crates/{h2_spec,h2_prim,bench_prim}/{src,specs,proofs}
 cp -r "$here/../../crates/h2_spec" "$here/../../crates/h2_prim" "$work/crates"

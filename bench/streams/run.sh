@@ -1,9 +1,9 @@
 #!/usr/bin/env bash
-# Builds the benchmark of h2_streams over the crates as they stand, in a folder of its own, and runs it; with the word
+# Builds the benchmark of h2_streams over the crates as they stand, in a folder of its own (WORK, or a new one), and runs it; with the word
 # `callgrind`, counts its instructions by valgrind. It is no part of the gate.
 set -eu
 here=$(cd "$(dirname "$0")" && pwd)
-work=${WORK:-/tmp/h2_bench_streams}
+work=${WORK:-$(mktemp -d)}
 mkdir -p "$work/crates"
 rm -rf "$work"/crates/{h2_spec,h2_streams,bench_streams}/{src,specs,proofs}
 cp -r "$here/../../crates/h2_spec" "$here/../../crates/h2_streams" "$work/crates"
