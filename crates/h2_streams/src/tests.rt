@@ -89,10 +89,10 @@ fn settings_move_windows_to_their_limits(rt: HostRuntime) -> Result<(), Fail> {
 
 #[test]
 fn a_full_window_refuses_for_all_where_settings_move_it(rt: HostRuntime) -> Result<(), Fail> {
-    for (kind, refused, window) in [
-        (Kind::BothOpen, true, 10),
-        (Kind::HalfRemote, true, 10),
-        (Kind::HalfLocal, false, 11),
+    for (kind, greatest, refused, window) in [
+        (Kind::BothOpen, 2_147_483_647, true, 10),
+        (Kind::HalfRemote, 2_147_483_647, true, 10),
+        (Kind::HalfLocal, 10, false, 11),
     ] {
         let mut streams = Streams::new(rt.alloc());
         streams.open_stream(1, numbers(10, None), Pick::NotFound, false)?;
@@ -103,6 +103,8 @@ fn a_full_window_refuses_for_all_where_settings_move_it(rt: HostRuntime) -> Resu
             pick: Pick::NotFound,
         };
         streams.put(full)?;
+        let found = streams.greatest_send().ok_or("a window that settings move")?;
+        assert_eq!(rt; found.value(), greatest, "{kind:?}");
         assert_eq!(rt; shifted(&mut streams, 1, 1)?, (refused, window), "{kind:?}");
         assert_eq!(rt; streams.stream_at(3), full, "{kind:?}");
     }
