@@ -103,7 +103,9 @@ fn a_full_window_refuses_for_all_where_settings_move_it(rt: HostRuntime) -> Resu
             pick: Pick::NotFound,
         };
         streams.put(full)?;
-        let found = streams.greatest_send().ok_or("a window that settings move")?;
+        let found = streams
+            .greatest_send()
+            .ok_or("a window that settings move")?;
         assert_eq!(rt; found.value(), greatest, "{kind:?}");
         assert_eq!(rt; shifted(&mut streams, 1, 1)?, (refused, window), "{kind:?}");
         assert_eq!(rt; streams.stream_at(3), full, "{kind:?}");
