@@ -1,0 +1,6 @@
+pub mod Eachs
+pub mod Instructions
+pub mod Lines
+pub mod Long
+pub mod Scans
+pub mod Strings

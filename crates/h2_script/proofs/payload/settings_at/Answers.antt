@@ -1,0 +1,37 @@
+use Rattle.std.proofs.Common.{◌≡◌, ◌∙◌, ◌+◌, ◌-◌, ◌<◌, List, ℕ, suc, ap, sym, arith, length, Some}
+use Rattle.h2_spec.specs.Assemble.{setting_at}
+use Rattle.h2_spec.specs.Script.{setting_octets}
+use Rattle.h2_script.specs.Each.{behind_each}
+use Rattle.h2_script.proofs.Eachs.{each_last, each_more, each_other}
+use Rattle.h2_script.proofs.payload.settings_at.Goals as goal
+
+pub returns-then-is_empty : goal.returns-then-is_empty
+returns-then-is_empty g c =
+    let rest = c.loop-turn.rest.now in
+    let items = c.loop-turn.octets.items in
+    let n = length c.args.text.now + 1 - (c.loop-turn._turn + 1) in
+    let fuel : length c.args.text.now + 1 - c.loop-turn._turn ≡ suc n = omega (arith, c.loop-turn-test.true) in
+    let none : length c.in-Some.behind.now ≡ 0 = grind (arith, c.is_empty.ensures, c.if-is_empty.true) in
+    let last = each_last setting_at setting_octets items n rest c.in-Some.setting c.in-Some.behind.now c.in-Some.ensures none in
+    ap (λ (o : List ℕ). Some o) c.in_ok-push_setting.ensures ∙ sym last ∙ ap (λ (k : ℕ). behind_each setting_at setting_octets items k rest) (sym fuel) ∙ c.loop-turn.invariant
+
+pub returns-in_default-after : goal.returns-in_default-after
+returns-in_default-after g c =
+    let rest = c.loop-turn.rest.now in
+    let items = c.loop-turn.octets.items in
+    let n = length c.args.text.now + 1 - (c.loop-turn._turn + 1) in
+    let fuel : length c.args.text.now + 1 - c.loop-turn._turn ≡ suc n = omega (arith, c.loop-turn-test.true) in
+    let some : 0 < length c.in-Some.behind.now = grind (arith, c.is_empty.ensures, c.if-is_empty.false) in
+    let other = each_other setting_at setting_octets items n rest c.in-Some.setting c.in-Some.behind.now c.in-Some.ensures some c.in_default-after.ensures in
+    sym other ∙ ap (λ (k : ℕ). behind_each setting_at setting_octets items k rest) (sym fuel) ∙ c.loop-turn.invariant
+
+pub loop-turn-preserved : goal.loop-turn-preserved
+loop-turn-preserved g c =
+    let rest = c.loop-turn.rest.now in
+    let items = c.loop-turn.octets.items in
+    let n = length c.args.text.now + 1 - (c.loop-turn._turn + 1) in
+    let fuel : length c.args.text.now + 1 - c.loop-turn._turn ≡ suc n = omega (arith, c.loop-turn-test.true) in
+    let some : 0 < length c.in-Some.behind.now = grind (arith, c.is_empty.ensures, c.if-is_empty.false) in
+    let more = each_more setting_at setting_octets items n rest c.in-Some.setting c.in-Some.behind.now c.in-Some-after.more.now c.in-Some.ensures some c.in-Some-after.ensures in
+    ap (λ (w : List ℕ). behind_each setting_at setting_octets w n c.in-Some-after.more.now) c.in_ok-push_setting.ensures
+    ∙ sym more ∙ ap (λ (k : ℕ). behind_each setting_at setting_octets items k rest) (sym fuel) ∙ c.loop-turn.invariant

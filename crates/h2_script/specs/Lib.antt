@@ -1,0 +1,5 @@
+pub mod Characters
+pub mod Each
+pub mod Faults
+pub mod Readings
+pub mod Writable

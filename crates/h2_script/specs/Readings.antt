@@ -1,0 +1,47 @@
+-- What the code read, beside what reading gives.
+use Rattle.std.specs.Prelude.{◌≡◌, ◌≤◌, ◌^◌, ◌++◌, ℕ, Bool, true, false, List, length, Option, Some, None, Result, Ok, Err}
+use Rattle.h2_spec.specs.Script.{Payload, Statement, octets_of, payload_octets}
+use Rattle.h2_spec.specs.declared.scripts.SyntaxKind.{SyntaxKind}
+use Rattle.h2_script.specs.declared.built.Built.{Built}
+use Rattle.h2_script.specs.declared.built.Built.TheVariants as built
+use Rattle.h2_script.specs.declared.fault.LineFault.{LineFault}
+use Rattle.h2_script.specs.declared.fault.LineFault.TheVariants as line
+use Rattle.h2_script.specs.declared.fault.ScriptFault.{ScriptFault}
+use Rattle.h2_script.specs.declared.fault.ScriptFault.TheVariants as script
+
+-- the octets of a payload, or the fact that they are too many
+abbrev pub IsBuilt : {A : Type 0} → Option (Built A) → Option Payload → Type 0
+IsBuilt None read = read ≡ None
+IsBuilt (Some (built.Whole v)) read = (p : Payload) × (read ≡ Some p) × (v.items ≡ payload_octets p)
+IsBuilt (Some built.Long) read = (p : Payload) × (read ≡ Some p) × (2 ^ 24 ≤ length (payload_octets p))
+
+-- the octets were written out, or they are more than a frame holds
+abbrev pub Stands : Bool → List ℕ → List ℕ → Type 0
+Stands long items octets = (long ≡ false → items ≡ octets) × (long ≡ true → 2 ^ 24 ≤ length octets)
+
+-- the octets of a statement behind others
+abbrev pub with_octets : List ℕ → Result Statement SyntaxKind → Result (List ℕ) SyntaxKind
+with_octets old (Ok s) = Ok (old ++ octets_of s)
+with_octets old (Err kind) = Err kind
+
+-- a line's octets were added, or it is bad so
+abbrev pub Adds : List ℕ → List ℕ → Result Unit LineFault → Result Statement SyntaxKind → Type 0
+Adds old new (Ok u) read = with_octets old read ≡ Ok new
+Adds old new (Err line.NoMemory) read = Unit {0}
+Adds old new (Err (line.Bad kind)) read = read ≡ Err kind
+
+-- the same of the line of this number
+abbrev pub AddsAt : ℕ → List ℕ → List ℕ → Result Unit ScriptFault → Result Statement SyntaxKind → Type 0
+AddsAt n old new (Ok u) read = with_octets old read ≡ Ok new
+AddsAt n old new (Err script.NoMemory) read = Unit {0}
+AddsAt n old new (Err (script.Syntax at kind)) read = (at ≡ n) × (read ≡ Err kind)
+
+-- the first bad line is told, unless memory was refused
+abbrev pub Refuses : ScriptFault → Result (List ℕ) (ℕ × SyntaxKind) → Type 0
+Refuses script.NoMemory read = Unit {0}
+Refuses (script.Syntax at kind) read = read ≡ Err (at, kind)
+
+-- a script was assembled, or its first bad line was told
+abbrev pub Assembles : {X : Type 0} → (X → List ℕ) → Result X ScriptFault → Result (List ℕ) (ℕ × SyntaxKind) → Type 0
+Assembles view (Ok x) read = read ≡ Ok (view x)
+Assembles view (Err fault) read = Refuses fault read

@@ -1,0 +1,190 @@
+//! One line of a script: what it says, as octets.
+//! It rests on `words` and `payload`; the definition is `statement_at` of `h2_spec`, specs/Assemble.antt.
+
+ghost use Rattle.std.specs.Prelude.{◌≡◌, ◌⊎◌, ◌^◌, ◌<◌, ◌≤◌, ◌++◌, ◌∷◌, ℕ, List, Some, None, length, OnOk, IfErr, IfSome};
+ghost use Rattle.h2_spec.specs.Assemble.{frame_at, raw_at, statement_at, stream_at, type_at, words_at};
+ghost use Rattle.h2_spec.specs.Octets.{big_endian};
+ghost use Rattle.h2_spec.specs.Script.{stream_octets};
+ghost use Rattle.h2_script.specs.Readings.{Adds};
+ghost use Rattle.h2_spec.specs.declared.scripts.SyntaxKind.TheVariants.{Size};
+ghost use Rattle.h2_script.specs.declared.fault.LineFault.TheVariants.{Bad, NoMemory};
+
+use crate::built::Built;
+use crate::fault::LineFault;
+use crate::payload::payload_at;
+use crate::words::{after, cut, number_at, octet_at, octets_at};
+use h2_spec::scripts::SyntaxKind;
+use std::alloc::Allocator;
+
+/// The octets of the client's preface (RFC 9113, 3.4).
+pub(crate) const PREFACE: &[u8; 24] = b"PRI * HTTP/2.0\r\n\r\nSM\r\n\r\n";
+
+/// Appends the octets that a line stands for.
+#[tactic(auto, unfolding(h2_spec::specs::Assemble::statement_at))]
+pub(crate) fn add_line<A: Allocator + Copy>(
+    alloc: A,
+    line: &[u8],
+    out: &mut Vec<u8, A>,
+) -> Result<(), LineFault>
+    ensures { Adds out.old.items out.new.items result (statement_at line.now) }
+{
+    if line.is_empty() {
+        return Ok(());
+    }
+    if line[0] == b';' {
+        return Ok(());
+    }
+    match cut(line, b' ') {
+        None => add_word(line, out),
+        Some((word, rest)) => add_words(alloc, word, rest, out),
+    }
+}
+
+/// Appends the octets of a line that is one word.
+#[tactic(auto, unfolding(h2_spec::specs::Frame::preface))]
+fn add_word<A: Allocator>(line: &[u8], out: &mut Vec<u8, A>) -> Result<(), LineFault>
+    ensures { Adds out.old.items out.new.items result (words_at line.now None) }
+{
+    if line != b"PREFACE".as_slice() {
+        return Err(LineFault::Bad(SyntaxKind::Parts));
+    }
+    out.extend_from_slice(PREFACE.as_slice())?;
+    Ok(())
+}
+
+/// Appends the octets of a line's first word and what stands behind it.
+fn add_words<A: Allocator + Copy>(
+    alloc: A,
+    word: &[u8],
+    rest: &[u8],
+    out: &mut Vec<u8, A>,
+) -> Result<(), LineFault>
+    ensures { (line : List ℕ) → Adds out.old.items out.new.items result (words_at line (Some (word.now, rest.now))) }
+{
+    if word == b"PREFACE".as_slice() {
+        return Err(LineFault::Bad(SyntaxKind::Parts));
+    }
+    if word == b"RAW".as_slice() {
+        return add_raw(alloc, rest, out);
+    }
+    add_frame(alloc, word, rest, out)
+}
+
+/// Appends octets in hex as they are.
+fn add_raw<A: Allocator>(alloc: A, digits: &[u8], out: &mut Vec<u8, A>) -> Result<(), LineFault>
+    ensures { Adds out.old.items out.new.items result (raw_at digits.now) }
+{
+    if digits.is_empty() {
+        return Err(LineFault::Bad(SyntaxKind::Parts));
+    }
+    let octets = octets_at(alloc, digits)?.ok_or(LineFault::Bad(SyntaxKind::Payload))?;
+    out.extend_from_slice(octets.as_slice())?;
+    Ok(())
+}
+
+/// Appends the frame of a name and the parts behind it; the faults of the parts are found in the order of their kinds.
+fn add_frame<A: Allocator + Copy>(
+    alloc: A,
+    name: &[u8],
+    rest: &[u8],
+    out: &mut Vec<u8, A>,
+) -> Result<(), LineFault>
+    ensures { Adds out.old.items out.new.items result (frame_at name.now rest.now) }
+{
+    let (flags, rest) = cut(rest, b' ').ok_or(LineFault::Bad(SyntaxKind::Parts))?;
+    let (stream, text) = cut(rest, b' ').ok_or(LineFault::Bad(SyntaxKind::Parts))?;
+    let kind = type_at(name).ok_or(LineFault::Bad(SyntaxKind::Name))?;
+    let flags = octet_at(flags).ok_or(LineFault::Bad(SyntaxKind::Flags))?;
+    let (stream, reserved) = stream_at(stream).ok_or(LineFault::Bad(SyntaxKind::Stream))?;
+    let built = payload_at(alloc, text)?.ok_or(LineFault::Bad(SyntaxKind::Payload))?;
+    match built {
+        Built::Whole(octets) => push_frame(kind, flags, stream, reserved, octets.as_slice(), out),
+        Built::Long => Err(LineFault::Bad(SyntaxKind::Size)),
+    }
+}
+
+/// Appends a frame with this reserved bit, unless its payload is longer than a frame's can be (RFC 9113, 4.1).
+fn push_frame<A: Allocator>(
+    kind: u8,
+    flags: u8,
+    stream: u32,
+    reserved: bool,
+    payload: &[u8],
+    out: &mut Vec<u8, A>,
+) -> Result<(), LineFault>
+    requires { stream < 2 ^ 31 }
+    ensures ok { OnOk result ((length payload.now < 2 ^ 24) × (out.new.items ≡ out.old.items ++ (big_endian 3 (length payload.now) ++ kind ∷ flags ∷ (stream_octets stream reserved ++ payload.now)))) }
+    ensures err { IfErr result (λ fault. (fault ≡ NoMemory) ⊎ ((fault ≡ Bad Size) × (2 ^ 24 ≤ length payload.now))) }
+{
+    if payload.len() >= 16_777_216 {
+        return Err(LineFault::Bad(SyntaxKind::Size));
+    }
+    let length = (payload.len() as u32).to_be_bytes();
+    let stream = if reserved {
+        stream + 2_147_483_648
+    } else {
+        stream
+    };
+    out.extend_from_slice(&[length[1], length[2], length[3], kind, flags])?;
+    out.extend_from_slice(&stream.to_be_bytes())?;
+    out.extend_from_slice(payload)?;
+    Ok(())
+}
+
+/// The number of a frame type: of its name, or of `T` and two hex digits.
+fn type_at(text: &[u8]) -> Option<u8>
+    ensures { result ≡ type_at text.now }
+{
+    if text == b"DATA".as_slice() {
+        return Some(0);
+    }
+    if text == b"HEADERS".as_slice() {
+        return Some(1);
+    }
+    if text == b"PRIORITY".as_slice() {
+        return Some(2);
+    }
+    if text == b"RST_STREAM".as_slice() {
+        return Some(3);
+    }
+    if text == b"SETTINGS".as_slice() {
+        return Some(4);
+    }
+    if text == b"PUSH_PROMISE".as_slice() {
+        return Some(5);
+    }
+    if text == b"PING".as_slice() {
+        return Some(6);
+    }
+    if text == b"GOAWAY".as_slice() {
+        return Some(7);
+    }
+    if text == b"WINDOW_UPDATE".as_slice() {
+        return Some(8);
+    }
+    if text == b"CONTINUATION".as_slice() {
+        return Some(9);
+    }
+    match after(text, b'T') {
+        Some(digits) => octet_at(digits),
+        None => None,
+    }
+}
+
+/// A stream's identifier, and whether the reserved bit is set.
+fn stream_at(text: &[u8]) -> Option<(u32, bool)>
+    ensures value { result ≡ stream_at text.now }
+    ensures small { IfSome result (λ s. s.0 < 2147483648) }
+{
+    if !text.is_empty() && text[text.len() - 1] == b'R' {
+        match number_at(2_147_483_647, &text[..text.len() - 1]) {
+            Some(number) => Some((number, true)),
+            None => None,
+        }
+    } else {
+        match number_at(2_147_483_647, text) {
+            Some(number) => Some((number, false)),
+            None => None,
+        }
+    }
+}

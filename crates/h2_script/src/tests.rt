@@ -1,0 +1,79 @@
+//! Scripts and the octets that they stand for, line by line; the expected octets are written out from RFC 9113 and RFC 7541.
+
+use super::*;
+use std::test::Fail;
+
+/// Lines of each form, and their octets in hex.
+#[test]
+fn assembles_each_form(rt: HostRuntime) -> Result<(), Fail> {
+    let cases: [(&str, &str, &str); 11] = [
+        ("", "", "no lines"),
+        ("; a comment\n\n", "", "comments and empty lines"),
+        (
+            "PREFACE",
+            "505249202a20485454502f322e300d0a0d0a534d0d0a0d0a",
+            "the preface",
+        ),
+        ("RAW 0000000001", "0000000001", "octets as they are"),
+        ("Tff 00 0 x01", "000001ff000000000001", "an unknown type"),
+        (
+            "SETTINGS 00 0 s3=100,6=65536\n",
+            "00000c040000000000000300000064000600010000",
+            "settings",
+        ),
+        (
+            "WINDOW_UPDATE 00 1R w5",
+            "00000408008000000100000005",
+            "the reserved bit",
+        ),
+        (
+            "RST_STREAM 00 1 c8",
+            "00000403000000000100000008",
+            "an error code",
+        ),
+        (
+            "HEADERS 04 1 hu4096,v\"a\"=\"b\",n1='302'",
+            "00000c0104000000013fe11f100161016201826402",
+            "instructions",
+        ),
+        ("DATA 00 1 -", "000000000000000001", "an empty payload"),
+        (
+            "DATA 0F 01 xAB",
+            "000001000f00000001ab",
+            "capital digits and a leading zero",
+        ),
+    ];
+    for (text, wanted, name) in cases {
+        let octets = assemble(rt.alloc(), text)
+            .ok()
+            .ok_or("a script was refused")?;
+        let digits = hex::encode(rt.alloc(), octets.as_slice())?;
+        assert_eq!(rt; digits.as_str(), wanted, "{name}");
+    }
+    Ok(())
+}
+
+/// The first bad line, and the least kind of fault in it.
+#[test]
+fn tells_the_first_bad_line(rt: HostRuntime) -> Result<(), Fail> {
+    let cases: [(&str, usize, SyntaxKind); 10] = [
+        ("SETTINGS 00 0", 1, SyntaxKind::Parts),
+        ("PREFACE ", 1, SyntaxKind::Parts),
+        ("RAW ", 1, SyntaxKind::Parts),
+        ("; a comment\nFOO 00 0 -", 2, SyntaxKind::Name),
+        ("PING 0g 0 -", 1, SyntaxKind::Flags),
+        ("DATA 0g x x0", 1, SyntaxKind::Flags),
+        ("PING 00 2147483648 -", 1, SyntaxKind::Stream),
+        ("PING 00 0 q", 1, SyntaxKind::Payload),
+        ("RAW 0", 1, SyntaxKind::Payload),
+        ("HEADERS 00 1 hi1,", 1, SyntaxKind::Payload),
+    ];
+    for (text, line, kind) in cases {
+        assert_eq!(rt;
+            assemble(rt.alloc(), text).err(),
+            Some(ScriptFault::Syntax(line, kind)),
+            "{text}"
+        );
+    }
+    Ok(())
+}

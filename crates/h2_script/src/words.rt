@@ -1,0 +1,176 @@
+//! The words of a line: parts between octets, numbers, octets in hex, the text of a string.
+//! It rests on `hex`; the definitions are in `h2_spec`, specs/Assemble.antt, under the same names.
+
+ghost use Rattle.std.specs.Prelude.{◌≡◌, ◌≤◌, ◌==◌, ◌<◌, ◌^◌, ◌+◌, length, drop, take, option_map, position, IfOk, IfSome};
+ghost use Rattle.std.specs.List.{position_or_len};
+ghost use Rattle.h2_spec.specs.Assemble.{before, behind, number_at, octet_at, octets_at, onwards, scanned, unescaped};
+ghost use Rattle.h2_spec.specs.Script.{cut_at, is_plain};
+ghost use Rattle.h2_script.specs.Characters.{character_at};
+
+use hex::{FromHex, FromHexError};
+use std::alloc::{AllocError, Allocator};
+
+/// The octets from a place on.
+pub(crate) fn octets_from(text: &[u8], start: usize) -> &[u8]
+    requires { start ≤ length text.now }
+    ensures { result.now ≡ drop start text.now }
+{
+    text.split_at(start).1
+}
+
+/// The octets up to a place.
+pub(crate) fn octets_up_to(text: &[u8], end: usize) -> &[u8]
+    requires { end ≤ length text.now }
+    ensures { result.now ≡ take end text.now }
+{
+    text.split_at(end).0
+}
+
+/// Where an octet first stands.
+fn place_of(text: &[u8], octet: u8) -> Option<usize>
+    ensures { result ≡ position (λ b. b == octet) text.now }
+{
+    text.iter().position(|b| *b == octet)
+}
+
+/// What stands before an octet's first place, and behind it.
+pub(crate) fn cut(text: &[u8], octet: u8) -> Option<(&[u8], &[u8])>
+    ensures { option_map (λ p. (p.0.now, p.1.now)) result ≡ cut_at octet text.now }
+{
+    match place_of(text, octet) {
+        Some(at) => Some((&text[..at], &text[at + 1..])),
+        None => None,
+    }
+}
+
+/// Where an octet first stands, or the end of the text.
+fn place_or_end(text: &[u8], octet: u8) -> usize
+    ensures place { result ≡ position_or_len (λ b. b == octet) text.now }
+    ensures within { result ≤ length text.now }
+{
+    place_of(text, octet).unwrap_or(text.len())
+}
+
+/// The text before an octet's first place, or all of it, and what begins there.
+pub(crate) fn split_before(text: &[u8], octet: u8) -> (&[u8], &[u8])
+    ensures before { result.0.now ≡ before octet text.now }
+    ensures onwards { result.1.now ≡ onwards octet text.now }
+{
+    text.split_at(place_or_end(text, octet))
+}
+
+/// What follows an octet, where the text begins with it.
+pub(crate) fn after(text: &[u8], octet: u8) -> Option<&[u8]>
+    ensures { option_map (λ t. t.now) result ≡ behind octet text.now }
+{
+    if text.is_empty() || text[0] != octet {
+        return None;
+    }
+    Some(&text[1..])
+}
+
+/// The octet that two hex digits write.
+pub(crate) fn octet_at(text: &[u8]) -> Option<u8>
+    ensures { result ≡ octet_at text.now }
+{
+    match <[u8; 1] as FromHex>::from_hex(text) {
+        Ok(octets) => Some(octets[0]),
+        Err(_) => None,
+    }
+}
+
+/// The octets that hex digits write, at least one octet.
+pub(crate) fn octets_at<A: Allocator>(
+    alloc: A,
+    text: &[u8],
+) -> Result<Option<Vec<u8, A>>, AllocError>
+    ensures { IfOk result (λ o. option_map (λ v. v.items) o ≡ octets_at text.now) }
+{
+    if text.is_empty() {
+        return Ok(None);
+    }
+    match hex::decode(alloc, text) {
+        Ok(octets) => Ok(Some(octets)),
+        Err(FromHexError::OutOfMemory) => Err(AllocError),
+        Err(_) => Ok(None),
+    }
+}
+
+/// The number that at most ten decimal digits write.
+fn digits_at(text: &[u8]) -> Option<u64>
+    requires { length text.now ≤ 10 }
+    ensures { result ≡ scanned 0 text.now }
+{
+    let mut number = 0;
+    for digit in text {
+        if *digit < b'0' {
+            return None;
+        }
+        if *digit > b'9' {
+            return None;
+        }
+        number = number * 10 + u64::from(*digit - b'0');
+    }
+    Some(number)
+}
+
+/// The number of 1 to 10 decimal digits, if it is at most `most`.
+pub(crate) fn number_at(most: u32, text: &[u8]) -> Option<u32>
+    ensures value { result ≡ number_at most text.now }
+    ensures small { IfSome result (λ n. n ≤ most) }
+{
+    if text.is_empty() || text.len() > 10 {
+        return None;
+    }
+    let number = digits_at(text)?;
+    if number <= u64::from(most) {
+        Some(number as u32)
+    } else {
+        None
+    }
+}
+
+/// The octets of a text between quotes: each is itself, or a backslash and two hex digits.
+pub(crate) fn unescaped<A: Allocator>(
+    alloc: A,
+    text: &[u8],
+) -> Result<Option<Vec<u8, A>>, AllocError>
+    ensures { IfOk result (λ o. option_map (λ v. v.items) o ≡ unescaped text.now) }
+{
+    let mut octets = Vec::with_capacity(alloc, text.len())?;
+    let mut at = 0;
+    while at < text.len() {
+        let Some((octet, used)) = character_at(octets_from(text, at)) else {
+            return Ok(None);
+        };
+        octets.push(octet)?;
+        at += used;
+    }
+    Ok(Some(octets))
+}
+
+/// The octet at the front of a text between quotes, and how many octets of the text it takes, 1 or 3.
+fn character_at(text: &[u8]) -> Option<(u8, usize)>
+    requires { 0 < length text.now }
+    ensures octet { result ≡ character_at text.now }
+    ensures within { IfSome result (λ c. (0 < c.1) × (c.1 ≤ length text.now)) }
+{
+    let first = text[0];
+    if is_plain(first) {
+        return Some((first, 1));
+    }
+    if first != b'\\' || text.len() < 3 {
+        return None;
+    }
+    match octet_at(&text[1..3]) {
+        Some(octet) => Some((octet, 3)),
+        None => None,
+    }
+}
+
+/// A printable ASCII octet other than a quote of either kind and the backslash.
+pub(crate) fn is_plain(octet: u8) -> bool
+    ensures { result ≡ is_plain octet }
+{
+    (0x20..=0x7e).contains(&octet) && octet != b'"' && octet != b'\'' && octet != b'\\'
+}
