@@ -12,5 +12,3 @@ pub mod instruction;
 pub mod octets;
 pub mod response;
 mod shape;
-#[cfg(test)]
-mod tests;
