@@ -11,6 +11,7 @@ mod Hex
 pub mod HuffmanLaws
 mod HuffmanRows
 pub mod InstructionLaws
+mod InstructionTexts
 pub mod IntegerLaws
 mod IntegerRows
 mod GrantsRows

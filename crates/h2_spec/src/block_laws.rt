@@ -2,10 +2,10 @@
 //! They speak of `specs/Instruction.antt` and `specs/Block.antt`; their lemmas stand in `proofs/InstructionLaws.antt` and
 //! `proofs/BlockLaws.antt`.
 
-ghost use Rattle.std.specs.Prelude.{◌≡◌, ◌<◌, ◌≤◌, ℕ, List, ◌++◌, length};
+ghost use Rattle.std.specs.Prelude.{◌≡◌, ◌<◌, ◌≤◌, ℕ, List, ◌++◌, length, take, Some};
 ghost use Rattle.std.specs.List.{concat};
 ghost use Rattle.h2_spec.specs.Read.{Whole, TooLong};
-ghost use Rattle.h2_spec.specs.Instruction.{Shape, Splits, instr_at, split};
+ghost use Rattle.h2_spec.specs.Instruction.{Instruction, IsSpelling, Shape, Splits, instr_at, instruction_at, split};
 ghost use Rattle.h2_spec.specs.Block.{Progress, decoded, carried_on, carried_through};
 
 /// An instruction at the front of octets takes some of them, and is there whatever follows: no spelling begins another.
@@ -22,6 +22,13 @@ pub fn octets_split_in_one_way()
     ensures split { (octets : List ℕ) → Splits octets (split octets).elements (split octets).rest }
     ensures one_way { (octets rest : List ℕ) (shapes : List Shape) → Splits octets shapes rest → (shapes ≡ (split octets).elements) × (rest ≡ (split octets).rest) }
     ensures cut { (octets more : List ℕ) → let later = split ((split octets).rest ++ more) in ((split (octets ++ more)).elements ≡ (split octets).elements ++ later.elements) × ((split (octets ++ more)).rest ≡ later.rest) }
+{}
+
+/// Each spelling of an instruction is read as that instruction, whatever follows, however its integers and strings are
+/// spelled; and what is read of an instruction is spelled there (RFC 7541, 6).
+pub fn instructions_are_read()
+    ensures read { (instruction : Instruction) (octets more : List ℕ) → IsSpelling instruction octets → instruction_at (octets ++ more) ≡ Whole (Some instruction) (length octets) }
+    ensures spelled { (octets : List ℕ) (instruction : Instruction) (used : ℕ) → instruction_at octets ≡ Whole (Some instruction) used → IsSpelling instruction (take used octets) }
 {}
 
 /// However a field block is cut into fragments, it means the same: its fields, the table after it, and how it ends
