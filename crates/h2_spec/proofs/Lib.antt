@@ -12,6 +12,7 @@ pub mod HuffmanLaws
 mod HuffmanRows
 pub mod InstructionLaws
 mod InstructionTexts
+mod InstructionWriting
 pub mod IntegerLaws
 mod IntegerRows
 mod GrantsRows

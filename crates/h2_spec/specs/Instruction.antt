@@ -1,5 +1,5 @@
 -- Instructions of a field block and their spellings (RFC 7541, 5.2 and 6).
-use Rattle.std.specs.Prelude.{◌≡◌, ℕ, zero, suc, ◌+◌, Bool, true, false, List, [], ◌∷◌, ◌++◌, length, take, drop, nat_le, if◌then◌else◌, Option, Some, None}
+use Rattle.std.specs.Prelude.{◌≡◌, ℕ, zero, suc, ◌+◌, ◌^◌, ◌<◌, Bool, true, false, List, [], ◌∷◌, ◌++◌, length, take, drop, nat_le, if◌then◌else◌, Option, Some, None}
 use Rattle.h2_spec.specs.Parse.{Front, Stop, One, Parsed, parse_all}
 use Rattle.h2_spec.specs.Huffman.{HuffRead, Text, Eos, Padding, IsHuffman, huffman_text, spell_huffman}
 use Rattle.h2_spec.specs.Integer.{int_at, spell_int}
@@ -210,6 +210,16 @@ unfolding spell_int
 spell (Indexed i) = spell_int 7 128 i
 spell (Update n) = spell_int 5 32 n
 spell (Literal mode name value) = spell_name mode name ++ spell_string value.huffman value.octets
+
+-- an index above 0, and numbers and lengths that five octets behind a prefix can spell
+abbrev pub IsSpellableName : NameRef Str → Type 0
+IsSpellableName (Ref i) = (0 < i) × (i < 2 ^ 35)
+IsSpellableName (Named s) = length s.octets < 2 ^ 35
+
+abbrev pub IsSpellable : Shape → Type 0
+IsSpellable (Indexed i) = i < 2 ^ 35
+IsSpellable (Update n) = n < 2 ^ 35
+IsSpellable (Literal mode name value) = IsSpellableName name × (length value.octets < 2 ^ 35)
 
 -- ---- one after another
 

@@ -5,7 +5,7 @@
 ghost use Rattle.std.specs.Prelude.{◌≡◌, ◌<◌, ◌≤◌, ℕ, List, ◌++◌, length, take, Some};
 ghost use Rattle.std.specs.List.{concat};
 ghost use Rattle.h2_spec.specs.Read.{Whole, TooLong};
-ghost use Rattle.h2_spec.specs.Instruction.{Instruction, IsSpelling, Shape, Splits, instr_at, instruction_at, split};
+ghost use Rattle.h2_spec.specs.Instruction.{Instruction, IsSpellable, IsSpelling, Shape, Splits, instr_at, instruction_at, spell, split};
 ghost use Rattle.h2_spec.specs.Block.{Progress, decoded, carried_on, carried_through};
 
 /// An instruction at the front of octets takes some of them, and is there whatever follows: no spelling begins another.
@@ -29,6 +29,12 @@ pub fn octets_split_in_one_way()
 pub fn instructions_are_read()
     ensures read { (instruction : Instruction) (octets more : List ℕ) → IsSpelling instruction octets → instruction_at (octets ++ more) ≡ Whole (Some instruction) (length octets) }
     ensures spelled { (octets : List ℕ) (instruction : Instruction) (used : ℕ) → instruction_at octets ≡ Whole (Some instruction) used → IsSpelling instruction (take used octets) }
+{}
+
+/// The octets that are written for an instruction as it stands are one whole spelling of it (RFC 7541, 6). Its integers are
+/// the shortest, and a Huffman string that is written for a text stands for that text: `integer_laws` and `huffman_laws`.
+pub fn instructions_are_written()
+    ensures { (shape : Shape) → IsSpellable shape → instr_at (spell shape) ≡ Whole shape (length (spell shape)) }
 {}
 
 /// However a field block is cut into fragments, it means the same: its fields, the table after it, and how it ends
