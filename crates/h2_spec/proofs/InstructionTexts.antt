@@ -1,15 +1,11 @@
 -- Instructions by their texts: each spelling is read, and what is written is a spelling.
-use Rattle.std.proofs.Common.{◌≡◌, ℕ, zero, suc, ◌+◌, ◌-◌, ◌*◌, ◌%◌, ◌^◌, ◌<◌, ◌≤◌, Bool, true, false, cond, List, [], ◌∷◌, ◌++◌, length, take, drop, Option, Some, None, if◌then◌else◌, refl, sym, ap, ◌∙◌, subst, arith, leb, le-leb, ltb, ltb-true, ltb-false, lt-ltb, length-append, append_assoc}
-use Rattle.std.proofs.lemmas.Bool.{lt-leb}
-use Rattle.std.proofs.lemmas.List.{append-nil, drop_at, take_at, length-take-le}
-use Rattle.h2_spec.specs.Huffman.{HuffRead, Text, Eos, Padding, IsHuffman, IsText, IsDecodingOf, huffman_text, spell_huffman}
-use Rattle.h2_spec.specs.Integer.{int_at, spell_int}
-use Rattle.h2_spec.specs.Instruction.{Mode, Add, Without, Never, NameRef, Ref, Named, Instr, Indexed, Update, Literal, Str, TextStr, Shape, Instruction, read_past, read_then, octets_at, string_at, mode_prefix, mode_high, name_by, value_at, literal_at, instr_by, instr_at, text_of, with_text, text_str, named_text, name_text, literal_text, instruction_of, instruction_at, StandsFor, IsStringOf, IsNameOf, IsShapeOf, IsSpelling, coded, coded_str, coded_name, shape_of, spell_string, spell_name, spell}
+use Rattle.std.proofs.Common.{◌≡◌, ℕ, Bool, true, false, List, ◌++◌, length, take, Option, Some, None, if◌then◌else◌, refl, sym, ap, ◌∙◌, subst}
+use Rattle.std.proofs.lemmas.List.{length-take-le}
+use Rattle.h2_spec.specs.Huffman.{HuffRead, Text, Eos, Padding, IsHuffman, IsDecodingOf, huffman_text}
+use Rattle.h2_spec.specs.Instruction.{Mode, NameRef, Ref, Named, Indexed, Update, Literal, Str, TextStr, Shape, Instruction, instr_at, text_of, with_text, text_str, named_text, name_text, literal_text, instruction_of, instruction_at, StandsFor, IsStringOf, IsNameOf, IsShapeOf, IsSpelling}
 use Rattle.h2_spec.specs.Read.{Read, Whole, More, TooLong, read_map}
 use Rattle.h2_spec.proofs.HuffmanLaws.{text_read, one_answer}
 use Rattle.h2_spec.proofs.InstructionLaws.{whole-stays, whole-exact, whole-takes}
-use Rattle.h2_spec.proofs.IntegerLaws.{spelled_read}
-use Rattle.h2_spec.proofs.SpellingLaws as spelling
 
 -- ---- each spelling is read
 

@@ -1,12 +1,12 @@
 -- What is written for an instruction is a spelling of it.
-use Rattle.std.proofs.Common.{◌≡◌, ℕ, zero, suc, ◌+◌, ◌-◌, ◌*◌, ◌%◌, ◌^◌, ◌<◌, ◌≤◌, Bool, true, false, cond, List, [], ◌∷◌, ◌++◌, length, take, drop, if◌then◌else◌, refl, sym, ap, ◌∙◌, arith, leb, le-leb, ltb, ltb-true, ltb-false, length-append, append_assoc}
+use Rattle.std.proofs.Common.{◌≡◌, ℕ, zero, suc, ◌+◌, ◌-◌, ◌%◌, ◌^◌, ◌<◌, ◌≤◌, Bool, true, false, cond, List, [], ◌∷◌, ◌++◌, length, drop, if◌then◌else◌, refl, sym, ap, ◌∙◌, arith, leb, le-leb, ltb, ltb-true, length-append, append_assoc}
 use Rattle.std.proofs.lemmas.Bool.{lt-leb}
 use Rattle.std.proofs.lemmas.List.{append-nil, drop_at, take_at}
 use Rattle.std.proofs.lemmas.Nat.{pow_pos}
 use Rattle.h2_spec.specs.Huffman.{IsText}
 use Rattle.h2_spec.specs.Integer.{int_at, groups_of, spell_int}
-use Rattle.h2_spec.specs.Instruction.{Mode, Add, Without, Never, NameRef, Ref, Named, Indexed, Update, Literal, Str, TextStr, Shape, Instruction, read_past, read_then, octets_at, string_at, mode_prefix, mode_high, name_by, value_at, literal_at, instr_by, instr_at, StandsFor, IsStringOf, IsNameOf, IsShapeOf, IsSpelling, coded, coded_str, coded_name, shape_of, spell_string, spell_name, spell, IsSpellable, IsSpellableName}
-use Rattle.h2_spec.specs.Read.{Read, Whole, More, TooLong, read_map}
+use Rattle.h2_spec.specs.Instruction.{Mode, Add, Without, Never, NameRef, Ref, Named, Indexed, Update, Literal, Str, TextStr, Shape, Instruction, read_past, read_then, octets_at, string_at, mode_prefix, mode_high, name_by, value_at, literal_at, instr_by, instr_at, StandsFor, IsStringOf, IsNameOf, IsShapeOf, IsSpelling, coded, coded_str, coded_name, shape_of, spell_string, spell_name, spell, IsSpellable, IsSpellableName, IsNameText, HasTexts}
+use Rattle.h2_spec.specs.Read.{Whole, read_map}
 use Rattle.h2_spec.proofs.IntegerLaws.{spelled_read}
 use Rattle.h2_spec.proofs.SpellingLaws as spelling
 
@@ -147,3 +147,25 @@ unfolding spell
 shape-written (Indexed i) h = indexed-written i h
 shape-written (Update n) h = update-written n h
 shape-written (Literal mode name value) h = literal-written mode name value h.0 h.1
+
+-- ---- an instruction by its texts
+
+coded-stands : (huffman : Bool) (t : List ℕ) → IsText t → StandsFor huffman (coded huffman t) t
+coded-stands true t h = spelling.spelled t h
+coded-stands false t h = refl
+
+string-coded : (t : TextStr) → IsText t.text → IsStringOf (coded_str t) t
+string-coded t h = (refl, coded-stands t.huffman t.text h)
+
+name-coded : (name : NameRef TextStr) → IsNameText name → IsNameOf (coded_name name) name
+name-coded (Ref i) h = refl
+name-coded (Named t) h = (coded_str t, refl, string-coded t h)
+
+shape-coded : (i : Instruction) → HasTexts i → IsShapeOf (shape_of i) i
+shape-coded (Indexed i) h = refl
+shape-coded (Update n) h = refl
+shape-coded (Literal mode name value) h = (coded_name name, coded_str value, refl, name-coded name h.0, string-coded value h.1)
+
+-- what is spelled for an instruction is one whole spelling of it
+pub instruction-written : (i : Instruction) → IsSpellable (shape_of i) → HasTexts i → IsSpelling i (spell (shape_of i))
+instruction-written i h t = (shape_of i, shape-written (shape_of i) h, shape-coded i t)

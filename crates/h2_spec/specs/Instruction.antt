@@ -1,7 +1,7 @@
 -- Instructions of a field block and their spellings (RFC 7541, 5.2 and 6).
 use Rattle.std.specs.Prelude.{◌≡◌, ℕ, zero, suc, ◌+◌, ◌^◌, ◌<◌, Bool, true, false, List, [], ◌∷◌, ◌++◌, length, take, drop, nat_le, if◌then◌else◌, Option, Some, None}
 use Rattle.h2_spec.specs.Parse.{Front, Stop, One, Parsed, parse_all}
-use Rattle.h2_spec.specs.Huffman.{HuffRead, Text, Eos, Padding, IsHuffman, huffman_text, spell_huffman}
+use Rattle.h2_spec.specs.Huffman.{HuffRead, Text, Eos, Padding, IsHuffman, IsText, huffman_text, spell_huffman}
 use Rattle.h2_spec.specs.Integer.{int_at, spell_int}
 use Rattle.h2_spec.specs.Read.{Read, Whole, More, TooLong, read_map}
 
@@ -220,6 +220,16 @@ abbrev pub IsSpellable : Shape → Type 0
 IsSpellable (Indexed i) = i < 2 ^ 35
 IsSpellable (Update n) = n < 2 ^ 35
 IsSpellable (Literal mode name value) = IsSpellableName name × (length value.octets < 2 ^ 35)
+
+-- the texts of an instruction are octets
+abbrev pub IsNameText : NameRef TextStr → Type 0
+IsNameText (Ref i) = Unit {0}
+IsNameText (Named t) = IsText t.text
+
+abbrev pub HasTexts : Instruction → Type 0
+HasTexts (Indexed i) = Unit {0}
+HasTexts (Update n) = Unit {0}
+HasTexts (Literal mode name value) = IsNameText name × IsText value.text
 
 -- ---- one after another
 

@@ -5,7 +5,7 @@
 ghost use Rattle.std.specs.Prelude.{◌≡◌, ◌<◌, ◌≤◌, ℕ, List, ◌++◌, length, take, Some};
 ghost use Rattle.std.specs.List.{concat};
 ghost use Rattle.h2_spec.specs.Read.{Whole, TooLong};
-ghost use Rattle.h2_spec.specs.Instruction.{Instruction, IsSpellable, IsSpelling, Shape, Splits, instr_at, instruction_at, spell, split};
+ghost use Rattle.h2_spec.specs.Instruction.{Instruction, HasTexts, IsSpellable, IsSpelling, Shape, Splits, instr_at, instruction_at, shape_of, spell, split};
 ghost use Rattle.h2_spec.specs.Block.{Progress, decoded, carried_on, carried_through};
 
 /// An instruction at the front of octets takes some of them, and is there whatever follows: no spelling begins another.
@@ -31,10 +31,11 @@ pub fn instructions_are_read()
     ensures spelled { (octets : List ℕ) (instruction : Instruction) (used : ℕ) → instruction_at octets ≡ Whole (Some instruction) used → IsSpelling instruction (take used octets) }
 {}
 
-/// The octets that are written for an instruction as it stands are one whole spelling of it (RFC 7541, 6). Its integers are
-/// the shortest, and a Huffman string that is written for a text stands for that text: `integer_laws` and `huffman_laws`.
+/// The octets that are written for an instruction are one whole spelling of it, by its shape and by its texts (RFC 7541, 6).
+/// That its integers are the shortest is a law of `integer_laws`.
 pub fn instructions_are_written()
-    ensures { (shape : Shape) → IsSpellable shape → instr_at (spell shape) ≡ Whole shape (length (spell shape)) }
+    ensures whole { (shape : Shape) → IsSpellable shape → instr_at (spell shape) ≡ Whole shape (length (spell shape)) }
+    ensures spelling { (instruction : Instruction) → IsSpellable (shape_of instruction) → HasTexts instruction → IsSpelling instruction (spell (shape_of instruction)) }
 {}
 
 /// However a field block is cut into fragments, it means the same: its fields, the table after it, and how it ends
