@@ -1,5 +1,5 @@
 -- How long a response's field block is, by its parts.
-use Rattle.std.proofs.Common.{◌≡◌, ◌∙◌, ℕ, suc, ◌+◌, ◌-◌, ◌/◌, ◌<◌, ◌≤◌, Bool, true, false, cond, List, [], ◌∷◌, ◌++◌, Option, Some, None, length, take, get_or, length-append, lt-ltb, le-ltb, refl, sym, ap, arith}
+use Rattle.std.proofs.Common.{◌≡◌, ◌∙◌, ℕ, suc, ◌+◌, ◌-◌, ◌/◌, ◌<◌, ◌≤◌, Bool, true, false, cond, List, [], ◌∷◌, ◌++◌, Option, Some, None, length, take, get_or, length-append, lt-ltb, le-ltb, ltb-false, refl, sym, ap, arith}
 use Rattle.std.specs.Prelude.{◌==◌, is_some, nat_lt, position, flat_map}
 use Rattle.std.proofs.lemmas.Bool.Decides.{nat_tests}
 use Rattle.std.proofs.lemmas.List.{take_more, take_all}
@@ -10,6 +10,8 @@ use Rattle.h2_spec.specs.Integer.{spell_int}
 use Rattle.h2_spec.specs.Instruction.{Indexed, Literal, Without, Ref, spell}
 use Rattle.h2_spec.specs.Answer.{indexed_statuses, status_at, status_digits, plain_string, plain_literal, status_instruction, response_block}
 use Rattle.h2_spec.specs.Book.{max_response_block}
+use Rattle.std.specs.List.{AllByRecursion}
+use Rattle.h2_fields.specs.Instructions.{IsWritableField}
 use Rattle.h2_request.specs.BlockLength.{string_len, status_len, field_len, field_octets, fields_len}
 
 -- ---- a string's length
@@ -89,3 +91,16 @@ pub short-enough : (status left i : ℕ) (fields : List Field) → length fields
 short-enough status left i fields all so_far =
     let whole : fields_len (take i fields) ≡ fields_len fields = ap fields_len (take_all i fields all) in
     sym (le-ltb max_response_block (length (response_block false status fields)) (omega (arith, response-len status fields, whole)))
+
+-- ---- what a block within its limit says of its strings
+
+strings-within : (n : ℕ) (fs : List Field) → fields_len fs ≤ n → n ≤ 33554432 → AllByRecursion IsWritableField fs
+strings-within n [] h k = tt
+strings-within n (f ∷ fs) h k =
+    let parts : fields_len (f ∷ fs) ≡ field_len f + fields_len fs = length-append (field_octets f) (flat_map field_octets fs) ∙ ap (λ m. m + fields_len fs) (field_len-is f) in
+    ((omega (arith, parts), omega (arith, parts)), strings-within n fs (omega (arith, parts)) k)
+
+pub writable-fields : (status : ℕ) (fields : List Field) → nat_lt max_response_block (length (response_block false status fields)) ≡ false → AllByRecursion IsWritableField fields
+writable-fields status fields e =
+    let most : length (response_block false status fields) ≤ 16383 = ltb-false max_response_block (length (response_block false status fields)) e in
+    strings-within 16383 fields (omega (arith, most, response-len status fields)) (omega arith)

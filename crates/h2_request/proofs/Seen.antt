@@ -270,7 +270,7 @@ nat-eq-sym a b = alike (a == b) (b == a) (λ e. grind (arith, nat_tests)) (λ e.
 nat-eq-is : (a b : ℕ) → (a == b) ≡ true → a ≡ b
 nat-eq-is a b e = grind (arith, nat_tests)
 
-neither : (a b : Bool) → (a || b) ≡ false → (a ≡ false) × (b ≡ false)
+pub neither : (a b : Bool) → (a || b) ≡ false → (a ≡ false) × (b ≡ false)
 neither true b e = absurd (true_is e)
   where
     true_is : true ≡ false → ⊥
@@ -416,7 +416,7 @@ seen-trailers-reason fields m marks = rw (marks.bad_name, marks.bad_value, marks
 -- ---- what is asked for
 
 -- where no row holds, the first doesn't, and none of the others
-past : (t : Bool) (n : ℕ) (o : Option ℕ) → cond t (Some n) o ≡ None → (t ≡ false) × (o ≡ None)
+pub past : (t : Bool) (n : ℕ) (o : Option ℕ) → cond t (Some n) o ≡ None → (t ≡ false) × (o ≡ None)
 past true n o e = absurd (some_is e)
   where
     some_is : Some n ≡ None → ⊥

@@ -1,6 +1,6 @@
 -- What a book lends, as contracts see it.
-use Rattle.std.specs.Prelude.{ℕ, ◌<◌, List, length}
-use Rattle.h2_spec.specs.Answer.{Answer, Entry, answer}
+use Rattle.std.specs.Prelude.{ℕ, ◌<◌, false, List, length}
+use Rattle.h2_spec.specs.Answer.{Answer, Entry, answer, response_block}
 use Rattle.h2_spec.specs.declared.streams.Pick.{Pick}
 use Rattle.h2_spec.specs.declared.streams.Pick.TheVariants.{Listed, NotFound, Connect}
 use Rattle.h2_request.specs.declared.book.Answer as declared
@@ -14,3 +14,7 @@ abbrev pub IsPickOf : List Entry → Pick → Type 0
 IsPickOf book (Listed i) = i < length book
 IsPickOf book NotFound = Unit {0}
 IsPickOf book Connect = Unit {0}
+
+-- the field block of an answer, without a table size update
+abbrev pub block_of_answer : Answer → List ℕ
+block_of_answer a = response_block false a.status a.fields

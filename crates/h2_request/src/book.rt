@@ -9,7 +9,7 @@ ghost use Rattle.h2_spec.specs.Book.{entry_fault};
 ghost use Rattle.h2_spec.specs.Book as spec;
 ghost use Rattle.h2_request.specs.Asked.{asked};
 ghost use Rattle.h2_request.specs.Fault.{IsRefusal};
-ghost use Rattle.h2_request.specs.Lent.{answered, IsPickOf};
+ghost use Rattle.h2_request.specs.Lent.{answered, block_of_answer, IsPickOf};
 ghost use Rattle.h2_request.specs.declared.fault.BookFault.TheVariants.{NoMemory};
 
 use crate::block_length::is_block_too_long;
@@ -18,6 +18,7 @@ use crate::octets;
 use crate::well_formed::Request;
 use h2_fields::field::Field;
 use h2_fields::octets::Octets;
+use h2_fields::response::response_block;
 pub use h2_spec::streams::Pick;
 use std::alloc::Allocator;
 use std::marker::Model;
@@ -62,10 +63,28 @@ pub struct Answer<'a, A: Allocator> {
     pub body: &'a [u8],
 }
 
+/// An entry, and the field block of its answer, without a table size update.
+#[derive(Drop)]
+struct Stored<A: Allocator> {
+    entry: Entry<A>,
+    block: Vec<u8, A>,
+}
+
+impl<A: Allocator> Model for Stored<A> {
+    ghost use Rattle.std.specs.Prelude.{◌≡◌, false};
+    ghost use Rattle.h2_spec.specs.Answer as spec;
+
+    ghost Value = { spec.Entry };
+
+    ghost view = { λ s. s.entry };
+
+    ghost invariant = { λ s. s.block.items ≡ spec.response_block false s.entry.answer.status s.entry.answer.fields };
+}
+
 /// A list of entries, each of which may be answered with.
 #[derive(Drop)]
 pub struct Book<A: Allocator> {
-    entries: Vec<Entry<A>, A>,
+    entries: Vec<Stored<A>, A>,
 }
 
 impl<A: Allocator> Model for Book<A> {
@@ -77,23 +96,7 @@ impl<A: Allocator> Model for Book<A> {
     ghost view = { λ b. b.entries.items };
 }
 
-impl<A: Allocator> Book<A> {
-    /// A book without entries; no memory is taken.
-    pub fn new(alloc: A) -> Self
-        ensures { result ≡ [] }
-    {
-        Book {
-            entries: Vec::new(alloc),
-        }
-    }
-
-    /// How many entries there are, at most 1000.
-    pub fn len(&self) -> usize
-        ensures { result ≡ length self.now }
-    {
-        self.entries.len()
-    }
-
+impl<A: Allocator + Copy> Book<A> {
     /// Puts an entry behind those of the book.
     ///
     /// # Errors
@@ -112,10 +115,30 @@ impl<A: Allocator> Book<A> {
         match self.fault_of(&entry) {
             Some(fault) => Err(fault),
             None => {
-                self.entries.push(entry)?;
+                let alloc = *self.entries.allocator();
+                let block = response_block(alloc, false, entry.status, entry.fields.as_slice())?;
+                self.entries.push(Stored { entry, block })?;
                 Ok(())
             }
         }
+    }
+}
+
+impl<A: Allocator> Book<A> {
+    /// A book without entries; no memory is taken.
+    pub fn new(alloc: A) -> Self
+        ensures { result ≡ [] }
+    {
+        Book {
+            entries: Vec::new(alloc),
+        }
+    }
+
+    /// How many entries there are, at most 1000.
+    pub fn len(&self) -> usize
+        ensures { result ≡ length self.now }
+    {
+        self.entries.len()
     }
 
     /// Why the entry is refused, if it is for another cause than memory.
@@ -180,6 +203,19 @@ impl<A: Allocator> Book<A> {
         }
     }
 
+    /// The field block of that answer's HEADERS, without a table size update; it was made when the entry was added.
+    #[tactic(auto, unfolding(h2_spec::specs::Answer::response_block))]
+    pub fn block(&self, pick: Pick) -> &[u8]
+        requires { IsPickOf self.now pick }
+        ensures { result.now ≡ block_of_answer (picked self.now pick) }
+    {
+        match pick {
+            Pick::Listed(place) => block_of(&self.entries[place]),
+            Pick::NotFound => b"\x8d".as_slice(),
+            Pick::Connect => b"\x08\x03501".as_slice(),
+        }
+    }
+
     /// A status alone.
     fn bare(&self, status: u16) -> Answer<'_, A>
         ensures { answered result ≡ bare_answer status }
@@ -192,20 +228,28 @@ impl<A: Allocator> Book<A> {
     }
 }
 
-fn is_entry_for<A: Allocator>(entry: &Entry<A>, method: &[u8], path: &[u8]) -> bool
-    ensures { result ≡ (bytes_eq entry.now.method method.now && bytes_eq entry.now.path path.now) }
+fn is_entry_for<A: Allocator>(stored: &Stored<A>, method: &[u8], path: &[u8]) -> bool
+    ensures { result ≡ (bytes_eq stored.now.method method.now && bytes_eq stored.now.path path.now) }
 {
+    let entry = &stored.entry;
     entry.method.as_slice() == method && entry.path.as_slice() == path
 }
 
-fn answer_of<A: Allocator>(entry: &Entry<A>) -> Answer<'_, A>
-    ensures { answered result ≡ entry.now.answer }
+fn answer_of<A: Allocator>(stored: &Stored<A>) -> Answer<'_, A>
+    ensures { answered result ≡ stored.now.answer }
 {
+    let entry = &stored.entry;
     Answer {
         status: entry.status,
         fields: entry.fields.as_slice(),
         body: entry.body.as_slice(),
     }
+}
+
+fn block_of<A: Allocator>(stored: &Stored<A>) -> &[u8]
+    ensures { result.now ≡ block_of_answer stored.now.answer }
+{
+    stored.block.as_slice()
 }
 
 /// Whether a field may not stand in an answer.

@@ -1,0 +1,26 @@
+-- What an entry that a book takes is like.
+use Rattle.std.proofs.Common.{◌≡◌, ◌≤◌, Bool, true, false, not, ◌&&◌, ◌||◌, List, None, length, arith}
+use Rattle.std.specs.Prelude.{nat_le, nat_lt}
+use Rattle.std.specs.List.{list_any, AllByRecursion}
+use Rattle.std.proofs.lemmas.Bool.Decides.{nat_tests}
+use Rattle.h2_fields.specs.Instructions.{IsWritableField}
+use Rattle.h2_spec.specs.Answer.{Entry, response_block}
+use Rattle.h2_spec.specs.Book.{max_entries, max_body, max_response_block, is_bad_status, is_bad_field, has_body_not_allowed, is_too_long, entry_fault}
+use Rattle.h2_request.proofs.BlockLaws.{writable-fields}
+use Rattle.h2_request.proofs.Seen.{past, neither}
+
+pub allowed-status : (book : List Entry) (e : Entry) → entry_fault book e ≡ None → (200 ≤ e.answer.status) × (e.answer.status ≤ 599)
+unfolding entry_fault
+allowed-status book e none =
+    let good : not (nat_le 200 e.answer.status && nat_le e.answer.status 599) ≡ false = (past (is_bad_status e.answer.status) 12 _ none).0 in
+    (grind (arith, nat_tests), grind (arith, nat_tests))
+
+allowed-length : (book : List Entry) (e : Entry) → entry_fault book e ≡ None → is_too_long book e ≡ false
+unfolding entry_fault
+allowed-length book e none =
+    (past (is_too_long book e) 15 _ (past (has_body_not_allowed e) 14 _ (past (list_any is_bad_field e.answer.fields) 13 _ (past (is_bad_status e.answer.status) 12 _ none).1).1).1).0
+
+pub allowed-fields : (book : List Entry) (e : Entry) → entry_fault book e ≡ None → AllByRecursion IsWritableField e.answer.fields
+allowed-fields book e none =
+    let within = neither (nat_le max_entries (length book) || nat_lt max_body (length e.answer.body)) (nat_lt max_response_block (length (response_block false e.answer.status e.answer.fields))) (allowed-length book e none) in
+    writable-fields e.answer.status e.answer.fields within.1

@@ -1,0 +1,16 @@
+use Rattle.std.proofs.Common.{◌≤◌, List, sym, subst}
+use Rattle.std.specs.List.{AllByRecursion}
+use Rattle.h2_fields.specs.Instructions.{IsWritableField}
+use Rattle.h2_spec.specs.Answer.{Entry}
+use Rattle.h2_spec.specs.Field.{Field}
+use Rattle.h2_request.proofs.BookLaws.{allowed-status, allowed-fields}
+use Rattle.h2_request.proofs.book.Book.add.Goals as goal
+
+pub response_block-requires-clause-status : goal.response_block-requires-clause-status
+response_block-requires-clause-status g c =
+    subst (λ (e : Entry). (200 ≤ e.answer.status) × (e.answer.status ≤ 599)) (sym c.entry.view_is) (allowed-status c.args.self.now c.args.entry c.in-None.ensures)
+
+pub response_block-requires-clause-fields : goal.response_block-requires-clause-fields
+response_block-requires-clause-fields g c =
+    subst (λ (fields : List Field). AllByRecursion IsWritableField fields) (sym c.as_slice.ensures.value)
+    (subst (λ (e : Entry). AllByRecursion IsWritableField e.answer.fields) (sym c.entry.view_is) (allowed-fields c.args.self.now c.args.entry c.in-None.ensures))
