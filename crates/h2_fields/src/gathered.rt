@@ -93,7 +93,7 @@ impl<A: Allocator> Gathered<A> {
 
 impl<A: Allocator + Copy> Gathered<A> {
     /// The allocator of the fields.
-    pub fn alloc(&self) -> A {
+    pub(crate) fn alloc(&self) -> A {
         *self.fields.allocator()
     }
 

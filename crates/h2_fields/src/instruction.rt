@@ -166,7 +166,7 @@ fn with_text<A: Allocator + Copy>(alloc: A, string: RawString<'_>) -> Result<Tex
 }
 
 /// The octets that a string means.
-pub fn text_of<A: Allocator + Copy>(
+pub(crate) fn text_of<A: Allocator + Copy>(
     alloc: A,
     string: RawString<'_>,
 ) -> Result<Vec<u8, A>, BlockFault>
@@ -274,7 +274,10 @@ fn write_huffman<A: Allocator>(text: &[u8], out: &mut Vec<u8, A>) -> Result<(), 
 }
 
 /// Appends a string as it is.
-pub fn write_plain<A: Allocator>(octets: &[u8], out: &mut Vec<u8, A>) -> Result<(), AllocError>
+pub(crate) fn write_plain<A: Allocator>(
+    octets: &[u8],
+    out: &mut Vec<u8, A>,
+) -> Result<(), AllocError>
     requires { length octets.now ≤ 33554432 }
     ensures ok { OnOk result (out.new.items ≡ out.old.items ++ spec.spell_string false octets.now) }
     ensures kept { take (vec_len out.old) out.new.items ≡ out.old.items }
