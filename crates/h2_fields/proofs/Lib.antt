@@ -3,3 +3,4 @@ mod Lengths
 mod Reading
 mod Responding
 mod Standing
+mod Writing

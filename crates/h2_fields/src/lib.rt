@@ -9,6 +9,7 @@ pub mod fault;
 pub mod field;
 mod gathered;
 pub mod instruction;
+pub mod laws;
 pub mod octets;
 pub mod response;
 mod shape;

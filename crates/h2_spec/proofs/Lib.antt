@@ -11,8 +11,8 @@ mod Hex
 pub mod HuffmanLaws
 mod HuffmanRows
 pub mod InstructionLaws
-mod InstructionTexts
-mod InstructionWriting
+pub mod InstructionTexts
+pub mod InstructionWriting
 pub mod IntegerLaws
 mod IntegerRows
 mod GrantsRows
