@@ -13,3 +13,5 @@ pub mod laws;
 pub mod octets;
 pub mod response;
 mod shape;
+#[cfg(test)]
+mod tests;
