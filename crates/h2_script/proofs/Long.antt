@@ -37,7 +37,7 @@ code_long s h =
     let here : get_or (range_with_len 0 256) s 0 ≡ s = omega (arith, get_or-range_with_len 0 256 s 0 h) in
     leb-true 5 (length (code s)) (ap (λ (x : ℕ). nat_le 5 (length (code x))) (sym here) ∙ all s 0 inside)
 
-codes_long : (t : List ℕ) → IsBytes t → 5 * length t ≤ length (codes t)
+pub codes_long : (t : List ℕ) → IsBytes t → 5 * length t ≤ length (codes t)
 unfolding codes
 codes_long [] h = omega arith
 codes_long (s ∷ t) h = let one = code_long s (h 0) in let more = codes_long t (λ i. h (suc i)) in omega (arith, length-append (code s) (codes t))

@@ -1,6 +1,7 @@
 -- The octets of a string, one after another.
-use Rattle.std.proofs.Common.{◌≡◌, ◌∙◌, ◌+◌, ◌++◌, ◌==◌, ◌<◌, ◌≤◌, ℕ, Bool, true, false, List, [], ◌∷◌, Option, Some, None, length, drop, refl, sym, ap, arith, cond, option_map, append_assoc, append-nil, eqb-true, drop_of_length-le}
+use Rattle.std.proofs.Common.{◌≡◌, ◌∙◌, ◌+◌, ◌/◌, ◌%◌, ◌++◌, ◌==◌, ◌<◌, ◌≤◌, ℕ, Bool, true, false, List, [], ◌∷◌, Option, Some, None, length, drop, refl, sym, ap, arith, cond, option_map, append_assoc, append-nil, eqb-true, drop_of_length-le, slice_index}
 use Rattle.std.proofs.lemmas.List.{drop-drop}
+use Rattle.hex.specs.Hex.{encode_lower, encode_with, lower_digits}
 use Rattle.h2_spec.specs.Assemble.{octet_at, unescaped, with_octet}
 use Rattle.h2_spec.specs.Script.{is_plain}
 use Rattle.h2_script.specs.Characters.{character_at, escaped_at}
@@ -87,3 +88,10 @@ follows_end written text i all past h =
 
 pub drop-twice : (i n : ℕ) (text : List ℕ) → drop (i + n) text ≡ drop n (drop i text)
 drop-twice i n text = sym (drop-drop n i text)
+
+-- two digits behind a text
+pub two_digits : (old mid new : List ℕ) (high low octet : ℕ) → mid ≡ old ++ high ∷ [] → new ≡ mid ++ low ∷ [] → high ≡ slice_index lower_digits (octet / 16) → low ≡ slice_index lower_digits (octet % 16)
+    → new ≡ old ++ encode_lower (octet ∷ [])
+unfolding encode_with
+two_digits old mid new high low octet a b c d =
+    b ∙ ap (λ (x : List ℕ). x ++ low ∷ []) a ∙ append_assoc old (high ∷ []) (low ∷ []) ∙ ap (λ (x : ℕ). old ++ high ∷ x ∷ []) d ∙ ap (λ (x : ℕ). old ++ x ∷ slice_index lower_digits (octet % 16) ∷ []) c

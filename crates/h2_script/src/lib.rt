@@ -1,18 +1,23 @@
-//! Scripts of frames: the octets that a text stands for.
-//! It rests on `h2_fields` for instructions, and on `hex`.
-//! The definitions are Script and Assemble of `h2_spec`; their laws stand in `h2_spec::script_laws`.
+//! Scripts of frames: the octets that a text stands for, and the text that is written for octets.
+//! It rests on `h2_fields` for instructions, on `h2_frame` for heads, and on `hex`.
+//! The definitions are Script, Assemble and Written of `h2_spec`; their laws stand in `h2_spec::script_laws`.
 #![tactic(auto)]
 
 mod assembler;
 mod built;
+mod disassembler;
 pub mod fault;
+mod fragment;
 mod instruction;
 mod line;
 mod payload;
+mod said;
 #[cfg(test)]
 mod tests;
+mod text;
 mod words;
 
 pub use assembler::assemble;
+pub use disassembler::disassemble;
 pub use fault::{ScriptFault, kind_number};
 pub use h2_spec::scripts::SyntaxKind;

@@ -77,3 +77,86 @@ fn tells_the_first_bad_line(rt: HostRuntime) -> Result<(), Fail> {
     }
     Ok(())
 }
+
+/// Octets and the one script that is written for them, which assembles to them again.
+#[test]
+fn writes_the_one_script(rt: HostRuntime) -> Result<(), Fail> {
+    let cases: [(&str, &str, &str); 16] = [
+        ("", "", "no octets"),
+        (
+            "00000400080000000102610000000003010500000001ff80000000000001",
+            "DATA 08 1 x02610000\nHEADERS 05 1 xff8000\nRAW 0000000001\n",
+            "an integer spelled long, and the beginning of a head",
+        ),
+        (
+            "505249202a20485454502f322e300d0a0d0a534d0d0a0d0a000000040000000000000014010500000001828684410f7777772e6578616d706c652e636f6d",
+            "PREFACE\nSETTINGS 00 0 -\nHEADERS 05 1 hi2,i6,i4,a1=\"www.example.com\"\n",
+            "the request of RFC 7541, C.3.1",
+        ),
+        ("000001ff000000000001", "Tff 00 0 x01\n", "an unknown type"),
+        (
+            "00000c040000000000000300000064000600010000",
+            "SETTINGS 00 0 s3=100,6=65536\n",
+            "settings",
+        ),
+        (
+            "00000408008000000100000005",
+            "WINDOW_UPDATE 00 1R w5\n",
+            "the reserved bit",
+        ),
+        (
+            "00000408000000000180000005",
+            "WINDOW_UPDATE 00 1 x80000005\n",
+            "an increment of 32 bits",
+        ),
+        (
+            "00000403000000000100000008",
+            "RST_STREAM 00 1 c8\n",
+            "an error code",
+        ),
+        (
+            "00000c0104000000013fe11f100161016201826402",
+            "HEADERS 04 1 hu4096,v\"a\"=\"b\",n1='302'\n",
+            "instructions",
+        ),
+        ("000000000000000001", "DATA 00 1 -\n", "an empty payload"),
+        (
+            "000001000f00000001ab",
+            "DATA 0f 1 xab\n",
+            "digits in lower case",
+        ),
+        (
+            "00000b0904000000010007782d71756f74650122",
+            "CONTINUATION 04 1 hn\"x-quote\"=\"\\22\"\n",
+            "an octet that is escaped",
+        ),
+        (
+            "00000301040000000101ff81",
+            "HEADERS 04 1 x01ff81\n",
+            "the beginning of an instruction",
+        ),
+        ("000002010c000000010082", "HEADERS 0c 1 x0082\n", "padding"),
+        (
+            "0000030104000000010181ff",
+            "HEADERS 04 1 x0181ff\n",
+            "a string that is no Huffman string",
+        ),
+        (
+            "0000050400000000000003000000",
+            "SETTINGS 00 0 x0003000000\n",
+            "a setting cut short",
+        ),
+    ];
+    for (digits, wanted, name) in cases {
+        let octets = hex::decode(rt.alloc(), digits.as_bytes())
+            .ok()
+            .ok_or("digits were refused")?;
+        let text = disassemble(rt.alloc(), octets.as_slice())?;
+        assert_eq!(rt; text.as_str(), wanted, "{name}");
+        let again = assemble(rt.alloc(), text.as_str())
+            .ok()
+            .ok_or("a script was refused")?;
+        assert_eq!(rt; again.as_slice(), octets.as_slice(), "{name}");
+    }
+    Ok(())
+}

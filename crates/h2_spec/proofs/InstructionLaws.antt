@@ -47,7 +47,7 @@ map-takes f (Whole a used) h = h
 map-takes f More h = tt
 map-takes f TooLong h = tt
 
-mapped : {A B : Type 0} (f : A → B) (r : Read A) (x : B) (used : ℕ) → read_map f r ≡ Whole x used → (a : A) × (r ≡ Whole a used) × (f a ≡ x)
+pub mapped : {A B : Type 0} (f : A → B) (r : Read A) (x : B) (used : ℕ) → read_map f r ≡ Whole x used → (a : A) × (r ≡ Whole a used) × (f a ≡ x)
 mapped f (Whole a n) x used e =
     let same : f a ≡ x = cc in
     let count : n ≡ used = cc in

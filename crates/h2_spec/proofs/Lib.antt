@@ -23,6 +23,7 @@ pub mod ParseLaws
 mod PayloadLaws
 pub mod RequestLaws
 mod RequestRows
+pub mod ReadShapes
 pub mod ReadingLines
 pub mod ReadingParts
 pub mod ReadingWords
@@ -33,5 +34,5 @@ pub mod ScriptTexts
 pub mod SpellingLaws
 mod SplitLaws
 pub mod TableLaws
-mod WrittenLaws
+pub mod WrittenLaws
 pub mod TraceLaws

@@ -12,8 +12,7 @@ use Rattle.hex.proofs.HexLemmas.{decode_of-encode_lower}
 use Rattle.h2_spec.specs.Frame.{head_of, preface}
 use Rattle.h2_spec.specs.FrameType.{RST_STREAM, SETTINGS, WINDOW_UPDATE}
 use Rattle.h2_spec.specs.Huffman.{HuffRead, Text, Eos, Padding, IsDecodingOf, IsText, huffman_text}
-use Rattle.h2_spec.specs.Instruction.{Shape, Instruction, Indexed, Update, Literal, Mode, NameRef, Ref, Named, Str, TextStr, instruction_at, instruction_of, literal_text, name_text as name_by_text, text_str, text_of, with_text, split, instr_at, instr_by, instr_only, next_shape, string_at, octets_at, read_then, read_past, name_by, literal_at, value_at, mode_prefix}
-use Rattle.h2_spec.specs.Integer.{int_at}
+use Rattle.h2_spec.specs.Instruction.{Shape, Instruction, Indexed, Update, Literal, Mode, NameRef, Ref, Named, Str, TextStr, instruction_at, instruction_of, literal_text, name_text as name_by_text, text_str, text_of, with_text, instr_at}
 use Rattle.h2_spec.specs.Octets.{big_endian, four_octets}
 use Rattle.h2_spec.specs.Parse.{Front, Stop, One, parse_first, parse_upto, parse_all}
 use Rattle.h2_spec.specs.Payload.{setting_pairs}
@@ -21,6 +20,7 @@ use Rattle.h2_spec.specs.Read.{Read, Whole, More, TooLong, read_map}
 use Rattle.h2_spec.specs.Script.{Payload, Empty, Octets, Pairs, Increment, Code, Instructions, Statement, Nothing, Preface, Raw, Says, SaysCharacter, SaysEach, SaysInstruction, SaysName, SaysNumber, SaysOctet, SaysPayload, SaysSetting, SaysStream, SaysString, SaysText, SaysType, Script, instruction_octets, is_plain, max_u32, octets_of, payload_octets, setting_octets, stream_octets, type_names}
 use Rattle.h2_spec.specs.Written.{block_said, character_text, each_text, first_said, frame_front, frame_said, instruction_text, instructions_in, is_fragment, is_writable, line_text, name_text, next_said, or_octets, payload_said, payload_text, rest_text, setting_text, statement_text, stream_text, string_text, type_text, written}
 use Rattle.h2_spec.proofs.HuffmanLaws.{text_read}
+use Rattle.h2_spec.proofs.ReadShapes.{IsWholeName, IsWholeShape, OnRead, first_whole}
 use Rattle.h2_spec.proofs.ScriptTexts.{Lacks, append_lacks, bytes_after, bytes_below, frame_lacks, literal_lacks, octets_lack}
 
 -- ---- words
@@ -96,7 +96,7 @@ IsByteText (Text t) = IsBytes t
 IsByteText Eos = Unit {0}
 IsByteText Padding = Unit {0}
 
-bytes_of : (t : List ℕ) → IsText t → IsBytes t
+pub bytes_of : (t : List ℕ) → IsText t → IsBytes t
 bytes_of [] h i = lit< tt
 bytes_of (c ∷ cs) h zero = h.0
 bytes_of (c ∷ cs) h (suc i) = bytes_of cs h.1 i
@@ -109,90 +109,9 @@ huffman_bytes o = go (huffman_text o) (text_read o)
     go Eos h = tt
     go Padding h = tt
 
--- ---- the instructions that stand in octets
-
-abbrev OnRead : {A : Type 0} → (A → Type 0) → Read A → Type 0
-OnRead P (Whole a used) = P a
-OnRead P More = Unit {0}
-OnRead P TooLong = Unit {0}
-
-read_map-on : {A B : Type 0} (P : A → Type 0) (Q : B → Type 0) (f : A → B) → ((a : A) → P a → Q (f a)) → (r : Read A) → OnRead P r → OnRead Q (read_map f r)
-read_map-on P Q f h (Whole a used) p = h a p
-read_map-on P Q f h More p = tt
-read_map-on P Q f h TooLong p = tt
-
-read_past-on : {A : Type 0} (P : A → Type 0) (used : ℕ) (r : Read A) → OnRead P r → OnRead P (read_past used r)
-read_past-on P used (Whole a more) h = h
-read_past-on P used More h = tt
-read_past-on P used TooLong h = tt
-
-read_then-on : {A B : Type 0} (P : A → Type 0) (Q : B → Type 0) (xs : List ℕ) (r : Read A) (behind : A → List ℕ → Read B) → IsBytes xs → OnRead P r
-    → ((a : A) (ys : List ℕ) → P a → IsBytes ys → OnRead Q (behind a ys)) → OnRead Q (read_then xs r behind)
-read_then-on P Q xs (Whole a used) behind h p k = read_past-on Q used (behind a (drop used xs)) (k a (drop used xs) p (bytes_after used xs h))
-read_then-on P Q xs More behind h p k = tt
-read_then-on P Q xs TooLong behind h p k = tt
-
-abbrev IsAny : {A : Type 0} → A → Type 0
-IsAny a = Unit {0}
-
-any : {A : Type 0} (r : Read A) → OnRead IsAny r
-any (Whole a used) = tt
-any More = tt
-any TooLong = tt
-
-abbrev HasBytes : Str → Type 0
-HasBytes s = IsBytes s.octets
-
-abbrev IsWholeName : NameRef Str → Type 0
-IsWholeName (Ref i) = 0 < i
-IsWholeName (Named s) = HasBytes s
-
-abbrev IsWholeShape : Shape → Type 0
-IsWholeShape (Indexed i) = Unit {0}
-IsWholeShape (Update n) = Unit {0}
-IsWholeShape (Literal mode name value) = IsWholeName name × HasBytes value
-
-string_octets : (huffman : Bool) (n : ℕ) (xs : List ℕ) → IsBytes xs → OnRead HasBytes (octets_at huffman n xs)
-string_octets huffman n xs h = go (nat_le n (length xs))
-  where
-    go : (b : Bool) → OnRead HasBytes (cond b (Whole (record { huffman = huffman; octets = take n xs }) n) More)
-    go true = bytes_below n xs h
-    go false = tt
-
-string_bytes_at : (xs : List ℕ) → IsBytes xs → OnRead HasBytes (string_at xs)
-unfolding string_at
-string_bytes_at [] h = tt
-string_bytes_at (o ∷ xs) h = read_then-on IsAny HasBytes (o ∷ xs) (int_at 7 (o ∷ xs)) (octets_at (nat_le 128 o)) h (any (int_at 7 (o ∷ xs))) (λ n ys u k. string_octets (nat_le 128 o) n ys k)
-
-name_whole : (i : ℕ) (xs : List ℕ) → IsBytes xs → OnRead IsWholeName (name_by i xs)
-name_whole zero xs h = read_map-on HasBytes IsWholeName Named (λ s k. k) (string_at xs) (string_bytes_at xs h)
-name_whole (suc i) xs h = omega arith
-
-literal_whole : (mode : Mode) (xs : List ℕ) → IsBytes xs → OnRead IsWholeShape (literal_at mode xs)
-literal_whole mode xs h =
-    let index = int_at (mode_prefix mode) xs in
-    read_then-on IsWholeName IsWholeShape xs (read_then xs index name_by) (value_at mode) h
-    (read_then-on IsAny IsWholeName xs index name_by h (any index) (λ i ys u k. name_whole i ys k))
-    (λ name ys k bytes. read_map-on HasBytes IsWholeShape (Literal mode name) (λ s e. (k, e)) (string_at ys) (string_bytes_at ys bytes))
-
-shape_whole : (o : ℕ) (xs : List ℕ) → IsBytes xs → OnRead IsWholeShape (instr_by o xs)
-shape_whole o xs h = go (nat_le 128 o) (nat_le 64 o) (nat_le 32 o) (nat_le 16 o)
-  where
-    go : (a b c d : Bool) → OnRead IsWholeShape (cond a (read_map Indexed (int_at 7 xs)) (cond b (literal_at Mode.Add xs) (cond c (read_map Update (int_at 5 xs)) (cond d (literal_at Mode.Never xs) (literal_at Mode.Without xs)))))
-    go true b c d = read_map-on IsAny IsWholeShape Indexed (λ i u. tt) (int_at 7 xs) (any (int_at 7 xs))
-    go false true c d = literal_whole Mode.Add xs h
-    go false false true d = read_map-on IsAny IsWholeShape Update (λ i u. tt) (int_at 5 xs) (any (int_at 5 xs))
-    go false false false true = literal_whole Mode.Never xs h
-    go false false false false = literal_whole Mode.Without xs h
-
-first_whole : (xs : List ℕ) → IsBytes xs → OnRead IsWholeShape (instr_at xs)
-unfolding instr_at
-first_whole [] h = tt
-first_whole (o ∷ xs) h = shape_whole o (o ∷ xs) h
-
 -- ---- what is said of whole instructions can be said
 
-string_sayable : (s : Str) (t : TextStr) → HasBytes s → text_str s ≡ Some t → IsBytes t.text
+string_sayable : (s : Str) (t : TextStr) → IsBytes s.octets → text_str s ≡ Some t → IsBytes t.text
 string_sayable s t h e = go s.huffman (text_of s) (text_bytes s.huffman) e
   where
     text_bytes : (huffman : Bool) → IsByteText (cond huffman (huffman_text s.octets) (Text s.octets))
@@ -204,7 +123,7 @@ string_sayable s t h e = go s.huffman (text_of s) (text_bytes s.huffman) e
     go huffman Eos k is = absurd (cc)
     go huffman Padding k is = absurd (cc)
 
-name_sayable : (s : NameRef Str) (t : NameRef TextStr) (v : TextStr) (mode : Mode) → IsWholeName s → name_by_text s ≡ Some t → is_writable (Literal mode t v) ≡ true → IsNameSayable t
+name_sayable : (s : NameRef Str) (t : NameRef TextStr) (v : TextStr) (mode : Mode) → IsWholeName IsBytes s → name_by_text s ≡ Some t → is_writable (Literal mode t v) ≡ true → IsNameSayable t
 name_sayable (Ref i) t v mode h e w =
     let same : Ref i ≡ t = cc in
     let small : is_writable (Literal mode (Ref i) v) ≡ true = subst (λ (x : NameRef TextStr). is_writable (Literal mode x v) ≡ true) (sym same) w in
@@ -215,7 +134,7 @@ name_sayable (Named s) t v mode h e w = go (text_str s) refl e
     go (Some x) is k = let same : Named x ≡ t = cc in subst IsNameSayable same (string_sayable s x h is)
     go None is k = absurd (cc)
 
-sayable : (s : Shape) (i : Instruction) → IsWholeShape s → instruction_of s ≡ Some i → is_writable i ≡ true → IsSayable i
+sayable : (s : Shape) (i : Instruction) → IsWholeShape IsBytes s → instruction_of s ≡ Some i → is_writable i ≡ true → IsSayable i
 sayable (Indexed n) i h e w =
     let same : Indexed n ≡ i = cc in
     let small : is_writable (Indexed n) ≡ true = subst (λ (x : Instruction). is_writable x ≡ true) (sym same) w in
@@ -240,7 +159,7 @@ all_sayable zero [] is h e = let same : [] ≡ is = cc in subst (AllByRecursion 
 all_sayable (suc fewer) [] is h e = let same : [] ≡ is = cc in subst (AllByRecursion IsSayable) same tt
 all_sayable zero (o ∷ xs) is h e = absurd (cc)
 all_sayable (suc fewer) (o ∷ xs) is h e =
-    first (instr_at (o ∷ xs)) (first_whole (o ∷ xs) h) e (λ used js k. all_sayable fewer (drop used (o ∷ xs)) js (bytes_after used (o ∷ xs) h) k)
+    first (instr_at (o ∷ xs)) (first_whole IsBytes bytes_below bytes_after (o ∷ xs) h) e (λ used js k. all_sayable fewer (drop used (o ∷ xs)) js (bytes_after used (o ∷ xs) h) k)
   where
     Below : Type 0
     Below = (used : ℕ) (js : List Instruction) → instructions_in fewer (drop used (o ∷ xs)) ≡ Some js → AllByRecursion IsSayable js
@@ -249,15 +168,15 @@ all_sayable (suc fewer) (o ∷ xs) is h e =
     rest i k more used None a e = absurd (cc)
     rest i k more used (Some js) a e = let same : i ∷ js ≡ is = cc in subst (AllByRecursion IsSayable) same (k, more used js a)
 
-    small : (s : Shape) → IsWholeShape s → (i : Instruction) → instruction_of s ≡ Some i → Below → (used : ℕ) → (b : Bool) → is_writable i ≡ b → cond b (option_map (λ js. i ∷ js) (instructions_in fewer (drop used (o ∷ xs)))) None ≡ Some is → AllByRecursion IsSayable is
+    small : (s : Shape) → IsWholeShape IsBytes s → (i : Instruction) → instruction_of s ≡ Some i → Below → (used : ℕ) → (b : Bool) → is_writable i ≡ b → cond b (option_map (λ js. i ∷ js) (instructions_in fewer (drop used (o ∷ xs)))) None ≡ Some is → AllByRecursion IsSayable is
     small s k i a more used true w e = rest i (sayable s i k a w) more used (instructions_in fewer (drop used (o ∷ xs))) refl e
     small s k i a more used false w e = absurd (cc)
 
-    known : (s : Shape) → IsWholeShape s → Below → (used : ℕ) → (r : Option Instruction) → instruction_of s ≡ r → first_said (Whole r used) (λ used. instructions_in fewer (drop used (o ∷ xs))) ≡ Some is → AllByRecursion IsSayable is
+    known : (s : Shape) → IsWholeShape IsBytes s → Below → (used : ℕ) → (r : Option Instruction) → instruction_of s ≡ r → first_said (Whole r used) (λ used. instructions_in fewer (drop used (o ∷ xs))) ≡ Some is → AllByRecursion IsSayable is
     known s k more used None a e = absurd (cc)
     known s k more used (Some i) a e = small s k i a more used (is_writable i) refl e
 
-    first : (r : Read Shape) → OnRead IsWholeShape r → first_said (read_map instruction_of r) (λ used. instructions_in fewer (drop used (o ∷ xs))) ≡ Some is → Below → AllByRecursion IsSayable is
+    first : (r : Read Shape) → OnRead (IsWholeShape IsBytes) r → first_said (read_map instruction_of r) (λ used. instructions_in fewer (drop used (o ∷ xs))) ≡ Some is → Below → AllByRecursion IsSayable is
     first (Whole s used) k e more = known s k more used (instruction_of s) refl e
     first More k e more = absurd (cc)
     first TooLong k e more = absurd (cc)

@@ -1,0 +1,73 @@
+-- What is written, one after another.
+use Rattle.std.proofs.Common.{◌≡◌, ◌∙◌, ◌+◌, ◌-◌, ◌%◌, ◌<◌, ◌≤◌, ◌++◌, ◌&&◌, ℕ, Bool, true, false, suc, List, [], ◌∷◌, Option, Some, None, length, drop, take, refl, sym, ap, arith, cond, nat_lt, nat_eq, ltb-true, ltb-false, flat_map, append_assoc, slice_index, le-ltb, subst}
+use Rattle.std.specs.List.{starts_with}
+use Rattle.std.proofs.lemmas.List.{length-drop}
+use Rattle.h2_spec.specs.Frame.{head_at, head_of, preface}
+use Rattle.h2_spec.specs.Octets.{four_octets, two_octets}
+use Rattle.h2_spec.specs.Parse.{Front, Stop, One, parse_first, parse_upto}
+use Rattle.h2_spec.specs.Payload.{setting_pairs}
+use Rattle.h2_spec.specs.Script.{Statement}
+use Rattle.h2_spec.specs.Written.{each_text, frame_front, frame_said, line_text, next_said, rest_text, setting_text}
+use Rattle.h2_spec.specs.declared.frames.Head.{Head}
+use Rattle.h2_script.specs.Texts.{said_text}
+
+-- ---- settings
+
+pub pairs_more : (rest : List ℕ) → 6 < length rest → length rest % 6 ≡ 0
+    → each_text setting_text (setting_pairs rest) ≡ setting_text (two_octets rest 0, four_octets rest 2) ++ 44 ∷ each_text setting_text (setting_pairs (drop 6 rest))
+pairs_more (a ∷ b ∷ c ∷ d ∷ e ∷ f ∷ g ∷ h ∷ i ∷ j ∷ k ∷ l ∷ more) some six = refl
+pairs_more [] some six = absurd (omega arith)
+pairs_more (a ∷ []) some six = absurd (omega arith)
+pairs_more (a ∷ b ∷ []) some six = absurd (omega arith)
+pairs_more (a ∷ b ∷ c ∷ []) some six = absurd (omega arith)
+pairs_more (a ∷ b ∷ c ∷ d ∷ []) some six = absurd (omega arith)
+pairs_more (a ∷ b ∷ c ∷ d ∷ e ∷ []) some six = absurd (omega arith)
+pairs_more (a ∷ b ∷ c ∷ d ∷ e ∷ f ∷ []) some six = absurd (omega arith)
+pairs_more (a ∷ b ∷ c ∷ d ∷ e ∷ f ∷ g ∷ []) some six = absurd (omega arith)
+pairs_more (a ∷ b ∷ c ∷ d ∷ e ∷ f ∷ g ∷ h ∷ []) some six = absurd (omega arith)
+pairs_more (a ∷ b ∷ c ∷ d ∷ e ∷ f ∷ g ∷ h ∷ i ∷ []) some six = absurd (omega arith)
+pairs_more (a ∷ b ∷ c ∷ d ∷ e ∷ f ∷ g ∷ h ∷ i ∷ j ∷ []) some six = absurd (omega arith)
+pairs_more (a ∷ b ∷ c ∷ d ∷ e ∷ f ∷ g ∷ h ∷ i ∷ j ∷ k ∷ []) some six = absurd (omega arith)
+
+pub pairs_last : (rest : List ℕ) → length rest ≡ 6 → each_text setting_text (setting_pairs rest) ≡ setting_text (two_octets rest 0, four_octets rest 2)
+pairs_last (a ∷ b ∷ c ∷ d ∷ e ∷ f ∷ []) six = refl
+pairs_last [] six = absurd (omega arith)
+pairs_last (a ∷ []) six = absurd (omega arith)
+pairs_last (a ∷ b ∷ []) six = absurd (omega arith)
+pairs_last (a ∷ b ∷ c ∷ []) six = absurd (omega arith)
+pairs_last (a ∷ b ∷ c ∷ d ∷ []) six = absurd (omega arith)
+pairs_last (a ∷ b ∷ c ∷ d ∷ e ∷ []) six = absurd (omega arith)
+pairs_last (a ∷ b ∷ c ∷ d ∷ e ∷ f ∷ g ∷ more) six = absurd (omega arith)
+
+-- a text and a comma behind it
+pub comma : (old mid new more text : List ℕ) → mid ≡ old ++ text → new ≡ mid ++ 44 ∷ [] → new ++ more ≡ old ++ (text ++ 44 ∷ more)
+comma old mid new more text a b =
+    ap (λ (x : List ℕ). x ++ more) (b ∙ ap (λ (x : List ℕ). x ++ 44 ∷ []) a ∙ append_assoc old text (44 ∷ [])) ∙ append_assoc old (text ++ 44 ∷ []) more ∙ ap (λ (x : List ℕ). old ++ x) (append_assoc text (44 ∷ []) more)
+
+-- ---- statements
+
+pub said_none : (n : ℕ) (first : Bool) (b : List ℕ) → next_said first b ≡ Stop → said_text (suc n) first b ≡ rest_text b
+said_none n first b e = rw e refl
+
+pub said_one : (n : ℕ) (first : Bool) (b : List ℕ) (s : Statement) (used : ℕ) → next_said first b ≡ One s false used → said_text (suc n) first b ≡ line_text s ++ said_text n false (drop used b)
+said_one n first b s used e =
+    let after = parse_upto next_said n false (drop used b) in
+    rw e (append_assoc (line_text s) (flat_map line_text after.elements) (rest_text after.rest))
+
+-- the frame of a head, where its payload is there
+pub next_frame : (first : Bool) (b : List ℕ) (h : Head) → (first && starts_with nat_eq b preface) ≡ false → Some h ≡ head_at b → h.length ≤ length (drop 9 b)
+    → next_said first b ≡ One (frame_said h (take h.length (drop 9 b))) false (9 + h.length)
+unfolding next_said head_at
+next_frame first b h no_preface head fits = go (nat_lt (length b) 9) refl head
+  where
+    go : (t : Bool) → nat_lt (length b) 9 ≡ t → Some h ≡ cond t None (Some (head_of b)) → next_said first b ≡ One (frame_said h (take h.length (drop 9 b))) false (9 + h.length)
+    go true e k = absurd (cc)
+    go false e k =
+        let same : h ≡ head_of b = cc in
+        let nine : 9 ≤ length b = ltb-false _ _ e in
+        let size = length-drop 9 b in
+        let len : (head_of b).length ≡ h.length = ap (λ (x : Head). x.length) (sym same) in
+        let room : 9 + (head_of b).length ≤ length b = omega (arith, fits, size, len) in
+        let main : next_said first b ≡ One (frame_said (head_of b) (take (head_of b).length (drop 9 b))) false (9 + (head_of b).length) =
+        rw (no_preface, e, le-ltb (length b) (9 + (head_of b).length) room) refl in
+        subst (λ (x : Head). next_said first b ≡ One (frame_said x (take x.length (drop 9 b))) false (9 + x.length)) (sym same) main

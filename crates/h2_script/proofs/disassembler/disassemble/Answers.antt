@@ -1,0 +1,14 @@
+use Rattle.std.proofs.Common.{◌≡◌, ◌∙◌, ◌++◌, List, ℕ, ap, arith, sym, subst, true, length, string_bytes}
+use Rattle.h2_spec.specs.Parse.{parse_all}
+use Rattle.h2_spec.specs.Script.{Script}
+use Rattle.h2_spec.specs.Written.{written}
+use Rattle.h2_spec.proofs.WrittenLaws.{written_again}
+use Rattle.h2_script.specs.Texts.{said_text}
+use Rattle.h2_script.proofs.disassembler.disassemble.Goals as goal
+
+pub returns-clause-stands : goal.returns-clause-stands
+unfolding written parse_all
+returns-clause-stands g c =
+    let octets = c.args.octets.now in
+    let text : string_bytes c.push_all.new.out ≡ written octets = c.in_ok-push_all.ensures ∙ ap (λ (x : List ℕ). x ++ said_text (length octets) true octets) c.new-out.ensures.bytes in
+    subst (λ (t : List ℕ). Script t octets) (sym text) (written_again octets (λ i. let fits = c.type_inv.octets i in omega arith))

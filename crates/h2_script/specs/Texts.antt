@@ -1,0 +1,41 @@
+-- Lines and instructions that are written one after another.
+use Rattle.std.specs.Prelude.{◌≡◌, ◌<◌, ◌^◌, ◌++◌, ◌∷◌, [], ◌&&◌, ℕ, Bool, true, false, List, nat_lt, flat_map, Option, Some, None}
+use Rattle.std.specs.declared.string.String.{String}
+use Rattle.std.specs.String.{string_bytes}
+use Rattle.h2_fields.specs.Instructions.{instr_of}
+use Rattle.h2_fields.specs.declared.instruction.Instr.{Instr}
+use Rattle.h2_spec.specs.Instruction.{Instruction, NameRef, Ref, Named, TextStr}
+use Rattle.h2_spec.specs.Parse.{Front, Stop, One, parse_upto}
+use Rattle.h2_spec.specs.Read.{Read, Whole}
+use Rattle.h2_spec.specs.Script.{Payload, Octets, Instructions, Statement}
+use Rattle.h2_spec.specs.Written.{each_text, first_said, instruction_text, is_writable, line_text, next_said, rest_text}
+
+-- the lines of at most this many statements, and of what is left
+abbrev pub said_text : ℕ → Bool → List ℕ → List ℕ
+said_text most first b = let t = parse_upto next_said most first b in flat_map line_text t.elements ++ rest_text t.rest
+
+-- the line of the front was written, or there is none
+abbrev pub IsNext : List ℕ → List ℕ → Option ℕ → Front Bool Statement → Type 0
+IsNext old new None front = (front ≡ Stop) × (new ≡ old)
+IsNext old new (Some used) front = (s : Statement) × (front ≡ One s false used) × (new ≡ old ++ line_text s)
+
+-- ---- field blocks
+
+-- a script can write the index of a name
+abbrev pub is_writable_name : NameRef TextStr → Bool
+is_writable_name (Ref i) = nat_lt 0 i && nat_lt i (2 ^ 32)
+is_writable_name (Named s) = true
+
+-- the instruction at the front, which a script can say, or there is none
+abbrev pub IsFirstSaid : {A : Type 0} → Option (Instr A × ℕ) → Read (Option Instruction) → Type 0
+IsFirstSaid None read = (more : ℕ → Option (List Instruction)) → first_said read more ≡ None
+IsFirstSaid (Some r) read = (read ≡ Whole (Some (instr_of r.0)) r.1) × (is_writable (instr_of r.0) ≡ true)
+
+-- an instruction was written behind others
+abbrev pub AddsText : List ℕ → List ℕ → Instruction → Type 0
+AddsText old new i = (is : List Instruction) → old ≡ each_text instruction_text is → new ≡ each_text instruction_text (is ++ i ∷ [])
+
+-- the text of the instructions that a field block is, or it is said as octets
+abbrev pub IsBlockText : {Z : Type 0} → Option (String Z) → Payload → List ℕ → Type 0
+IsBlockText None payload p = payload ≡ Octets p
+IsBlockText (Some text) payload p = (is : List Instruction) × (payload ≡ Instructions is) × (string_bytes text ≡ each_text instruction_text is)

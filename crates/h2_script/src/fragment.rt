@@ -1,0 +1,180 @@
+//! A fragment of a field block as text: its instructions, or hex where a script would spell them in other octets.
+//! It rests on `h2_fields` for reading and writing instructions, and on `text`; the definitions are `block_said` and
+//! `instruction_text` of `h2_spec`, specs/Written.antt.
+
+ghost use Rattle.std.specs.Prelude.{◌≡◌, ◌<◌, ◌^◌, ◌++◌, ◌∷◌, [], length, IfOk, OnOk, true};
+ghost use Rattle.std.specs.String.{string_bytes};
+ghost use Rattle.h2_fields.specs.Instructions.{instr_of, name_text_of};
+ghost use Rattle.h2_fields.specs.Shapes.{mode_of};
+ghost use Rattle.h2_spec.specs.Instruction as spec;
+ghost use Rattle.h2_spec.specs.Script.{mode_letter};
+ghost use Rattle.h2_spec.specs.Written.{block_said, instruction_text, is_writable, name_text, payload_text, string_text};
+ghost use Rattle.h2_script.specs.Texts.{AddsText, IsBlockText, IsFirstSaid, is_writable_name};
+
+use crate::said::push_hex;
+use crate::text::{push_number, push_string};
+use crate::words::octets_from;
+use h2_fields::fault::BlockFault;
+use h2_fields::instruction::{Instr, InstrRead, Mode, Name, Text, read_instr, write_instr};
+use std::alloc::{AllocError, Allocator};
+
+/// Appends the text of a fragment of a field block.
+pub(crate) fn push_fragment<A: Allocator + Copy>(
+    alloc: A,
+    payload: &[u8],
+    out: &mut String<A>,
+) -> Result<(), AllocError>
+    requires { length payload.now < 2 ^ 24 }
+    ensures { OnOk result (string_bytes out.new ≡ string_bytes out.old ++ payload_text (block_said payload.now)) }
+{
+    match instructions_text(alloc, payload)? {
+        Some(text) => {
+            out.push_str("h")?;
+            out.push_str(text.as_str())
+        }
+        None => push_hex(alloc, payload, out),
+    }
+}
+
+/// The text of whole instructions, where a script would spell them in just these octets.
+fn instructions_text<A: Allocator + Copy>(
+    alloc: A,
+    payload: &[u8],
+) -> Result<Option<String<A>>, AllocError>
+    requires { length payload.now < 2 ^ 24 }
+    ensures { IfOk result (λ text. IsBlockText text (block_said payload.now) payload.now) }
+{
+    let mut text = String::new(alloc);
+    let mut octets = Vec::new(alloc);
+    let mut rest = payload;
+    while !rest.is_empty() {
+        let Some((instr, used)) = first_said(alloc, rest)? else {
+            return Ok(None);
+        };
+        push_behind(&instr, &mut text)?;
+        write_instr(&instr, &mut octets)?;
+        rest = octets_from(rest, used);
+    }
+    if octets.as_slice() == payload {
+        Ok(Some(text))
+    } else {
+        Ok(None)
+    }
+}
+
+/// The instruction at the front of octets, if it is whole and a script can say it, and how many octets it takes.
+fn first_said<A: Allocator + Copy>(
+    alloc: A,
+    octets: &[u8],
+) -> Result<Option<(Instr<A>, usize)>, AllocError>
+    ensures { IfOk result (λ o. IsFirstSaid o (spec.instruction_at octets.now)) }
+{
+    match read_instr(alloc, octets) {
+        Ok(InstrRead::Whole(instr, used)) => {
+            if is_writable(&instr) {
+                Ok(Some((instr, used)))
+            } else {
+                Ok(None)
+            }
+        }
+        Ok(InstrRead::More) => Ok(None),
+        Err(BlockFault::NoMemory) => Err(AllocError),
+        Err(_) => Ok(None),
+    }
+}
+
+/// Whether a script can write an instruction's numbers.
+fn is_writable<A: Allocator>(instr: &Instr<A>) -> bool
+    ensures { result ≡ is_writable (instr_of instr.now) }
+{
+    match instr {
+        Instr::Indexed(index) => *index < 4_294_967_296,
+        Instr::Update(max) => *max < 4_294_967_296,
+        Instr::Literal { name, .. } => is_writable_name(name),
+    }
+}
+
+/// The same of the name of a literal.
+fn is_writable_name<A: Allocator>(name: &Name<A>) -> bool
+    ensures { result ≡ is_writable_name (name_text_of name.now) }
+{
+    match name {
+        Name::Ref(index) => *index > 0 && *index < 4_294_967_296,
+        Name::Text(_) => true,
+    }
+}
+
+/// Appends an instruction, and a comma before it where others stand there.
+fn push_behind<A: Allocator, B: Allocator>(
+    instr: &Instr<B>,
+    out: &mut String<A>,
+) -> Result<(), AllocError>
+    ensures { OnOk result (AddsText (string_bytes out.old) (string_bytes out.new) (instr_of instr.now)) }
+{
+    if out.is_empty() {
+        push_instruction(instr, out)?;
+        return Ok(());
+    }
+    out.push_str(",")?;
+    push_instruction(instr, out)?;
+    Ok(())
+}
+
+/// Appends an instruction: `i` and an index, `u` and a size, or a literal.
+fn push_instruction<A: Allocator, B: Allocator>(
+    instr: &Instr<B>,
+    out: &mut String<A>,
+) -> Result<(), AllocError>
+    ensures { OnOk result (string_bytes out.new ≡ string_bytes out.old ++ instruction_text (instr_of instr.now)) }
+{
+    match instr {
+        Instr::Indexed(index) => {
+            out.push_str("i")?;
+            push_number(*index, out)
+        }
+        Instr::Update(max) => {
+            out.push_str("u")?;
+            push_number(*max, out)
+        }
+        Instr::Literal { mode, name, value } => {
+            out.push_str(letter_of(*mode))?;
+            push_name(name, out)?;
+            out.push_str("=")?;
+            push_text(value, out)
+        }
+    }
+}
+
+/// The letter of a literal, by what becomes of it.
+fn letter_of(mode: Mode) -> &'static str
+    ensures { result.now ≡ mode_letter (mode_of mode) ∷ [] }
+{
+    match mode {
+        Mode::Add => "a",
+        Mode::Without => "n",
+        Mode::Never => "v",
+    }
+}
+
+/// Appends the name of a literal: its index, or a string.
+fn push_name<A: Allocator, B: Allocator>(
+    name: &Name<B>,
+    out: &mut String<A>,
+) -> Result<(), AllocError>
+    ensures { OnOk result (string_bytes out.new ≡ string_bytes out.old ++ name_text (name_text_of name.now)) }
+{
+    match name {
+        Name::Ref(index) => push_number(*index, out),
+        Name::Text(text) => push_text(text, out),
+    }
+}
+
+/// Appends a string between its quotes.
+fn push_text<A: Allocator, B: Allocator>(
+    text: &Text<B>,
+    out: &mut String<A>,
+) -> Result<(), AllocError>
+    ensures { OnOk result (string_bytes out.new ≡ string_bytes out.old ++ string_text text.now) }
+{
+    push_string(text.huffman, text.octets.as_slice(), out)
+}

@@ -1,0 +1,128 @@
+//! The payload of a frame as text, in the form that its type and flags ask for.
+//! It rests on `text`, and on `fragment` for field blocks; the definitions are `payload_said` and `payload_text` of `h2_spec`,
+//! specs/Written.antt.
+
+ghost use Rattle.std.specs.Prelude.{◌≡◌, ◌<◌, ◌≤◌, ◌^◌, ◌++◌, ◌%◌, length, OnOk};
+ghost use Rattle.std.specs.Fmt.{decimal};
+ghost use Rattle.std.specs.String.{string_bytes};
+ghost use Rattle.h2_spec.specs.Octets.{four_octets, two_octets};
+ghost use Rattle.h2_spec.specs.Payload.{setting_pairs};
+ghost use Rattle.h2_spec.specs.Script.{Octets};
+ghost use Rattle.h2_spec.specs.Written.{each_text, is_fragment, payload_said, payload_text, setting_text};
+
+use crate::fragment::push_fragment;
+use crate::text::{push_number, push_octets};
+use crate::words::octets_from;
+use std::alloc::{AllocError, Allocator};
+
+/// Appends the text of a frame's payload.
+#[tactic(auto, unfolding(h2_spec::specs::Written::payload_said))]
+pub(crate) fn push_payload<A: Allocator + Copy>(
+    alloc: A,
+    kind: u8,
+    flags: u8,
+    payload: &[u8],
+    out: &mut String<A>,
+) -> Result<(), AllocError>
+    requires { length payload.now < 2 ^ 24 }
+    ensures { OnOk result (string_bytes out.new ≡ string_bytes out.old ++ payload_text (payload_said kind flags payload.now)) }
+{
+    if payload.is_empty() {
+        return out.push_str("-");
+    }
+    if kind == 4 && payload.len() % 6 == 0 {
+        out.push_str("s")?;
+        return push_settings(payload, out);
+    }
+    if kind == 8 && payload.len() == 4 && payload[0] < 128 {
+        return push_lettered("w", payload, out);
+    }
+    if kind == 3 && payload.len() == 4 {
+        return push_lettered("c", payload, out);
+    }
+    if is_fragment(kind, flags) {
+        return push_fragment(alloc, payload, out);
+    }
+    push_hex(alloc, payload, out)
+}
+
+/// Whether the payload is a fragment of a field block alone (RFC 9113, 6.2 and 6.10).
+fn is_fragment(kind: u8, flags: u8) -> bool
+    ensures { result ≡ is_fragment kind flags }
+{
+    kind == 9 || (kind == 1 && flags / 8 % 2 != 1 && flags / 32 % 2 != 1)
+}
+
+/// Appends octets in hex.
+pub(crate) fn push_hex<A: Allocator + Copy>(
+    alloc: A,
+    octets: &[u8],
+    out: &mut String<A>,
+) -> Result<(), AllocError>
+    ensures { OnOk result (string_bytes out.new ≡ string_bytes out.old ++ payload_text (Octets octets.now)) }
+{
+    out.push_str("x")?;
+    push_octets(alloc, octets, out)
+}
+
+/// Appends a letter and the number of four octets.
+fn push_lettered<A: Allocator>(
+    letter: &str,
+    octets: &[u8],
+    out: &mut String<A>,
+) -> Result<(), AllocError>
+    requires { length octets.now ≡ 4 }
+    ensures { OnOk result (string_bytes out.new ≡ string_bytes out.old ++ (letter.now ++ decimal (four_octets octets.now 0))) }
+{
+    out.push_str(letter)?;
+    push_number(number_of(octets), out)
+}
+
+/// The number that the first four octets write.
+fn number_of(octets: &[u8]) -> u64
+    requires { 4 ≤ length octets.now }
+    ensures { result ≡ four_octets octets.now 0 }
+{
+    u64::from(octets[0]) * 16_777_216
+        + u64::from(octets[1]) * 65_536
+        + u64::from(octets[2]) * 256
+        + u64::from(octets[3])
+}
+
+/// Appends settings, six octets each, with commas between.
+fn push_settings<A: Allocator>(payload: &[u8], out: &mut String<A>) -> Result<(), AllocError>
+    requires some { 0 < length payload.now }
+    requires whole { length payload.now % 6 ≡ 0 }
+    ensures { OnOk result (string_bytes out.new ≡ string_bytes out.old ++ each_text setting_text (setting_pairs payload.now)) }
+{
+    let mut rest = payload;
+    while rest.len() > 6 {
+        push_setting(pair_of(rest), out)?;
+        out.push_str(",")?;
+        rest = octets_from(rest, 6);
+    }
+    push_setting(pair_of(rest), out)?;
+    Ok(())
+}
+
+/// The setting at the front of octets (RFC 9113, 6.5.1).
+fn pair_of(octets: &[u8]) -> (u64, u64)
+    requires { 6 ≤ length octets.now }
+    ensures { result ≡ (two_octets octets.now 0, four_octets octets.now 2) }
+{
+    let id = u64::from(octets[0]) * 256 + u64::from(octets[1]);
+    let value = u64::from(octets[2]) * 16_777_216
+        + u64::from(octets[3]) * 65_536
+        + u64::from(octets[4]) * 256
+        + u64::from(octets[5]);
+    (id, value)
+}
+
+/// Appends a setting: its identifier, an equals sign, its value.
+fn push_setting<A: Allocator>(setting: (u64, u64), out: &mut String<A>) -> Result<(), AllocError>
+    ensures { OnOk result (string_bytes out.new ≡ string_bytes out.old ++ setting_text setting) }
+{
+    push_number(setting.0, out)?;
+    out.push_str("=")?;
+    push_number(setting.1, out)
+}

@@ -1,0 +1,146 @@
+//! The words of a script as text: octets in hex, numbers, strings, types, streams.
+//! It rests on `hex`; the definitions are in `h2_spec`, specs/Written.antt, as `.._text`.
+
+ghost use Rattle.std.specs.Prelude.{◌≡◌, ◌++◌, ◌∷◌, ◌<◌, [], OnOk, flat_map, option_map, slice_get, slice_index};
+ghost use Rattle.std.specs.Fmt.{decimal};
+ghost use Rattle.std.specs.String.{string_bytes};
+ghost use Rattle.hex.specs.Hex.{encode_lower, lower_digits};
+ghost use Rattle.h2_spec.specs.Script.{quote_of, type_names};
+ghost use Rattle.h2_spec.specs.Written.{character_text, stream_text, type_text};
+
+use crate::words::is_plain;
+use std::alloc::{AllocError, Allocator};
+use std::fmt::Write;
+
+/// Appends octets in hex, two lower-case digits each.
+pub(crate) fn push_octets<A: Allocator + Copy>(
+    alloc: A,
+    octets: &[u8],
+    out: &mut String<A>,
+) -> Result<(), AllocError>
+    ensures { OnOk result (string_bytes out.new ≡ string_bytes out.old ++ encode_lower octets.now) }
+{
+    let digits = hex::encode(alloc, octets)?;
+    out.push_str(digits.as_str())
+}
+
+/// A hex digit.
+fn digit(value: u8) -> char
+    requires { value < 16 }
+    ensures digit { result ≡ slice_index lower_digits value }
+    ensures ascii { result < 128 }
+{
+    if value < 10 {
+        char::from(b'0' + value)
+    } else {
+        char::from(b'a' + (value - 10))
+    }
+}
+
+/// Appends an octet in hex.
+pub(crate) fn push_octet<A: Allocator>(octet: u8, out: &mut String<A>) -> Result<(), AllocError>
+    ensures { OnOk result (string_bytes out.new ≡ string_bytes out.old ++ encode_lower (octet ∷ [])) }
+{
+    out.push(digit(octet / 16))?;
+    out.push(digit(octet % 16))?;
+    Ok(())
+}
+
+/// Appends a number in decimal.
+pub(crate) fn push_number<A: Allocator>(number: u64, out: &mut String<A>) -> Result<(), AllocError>
+    ensures { OnOk result (string_bytes out.new ≡ string_bytes out.old ++ decimal number) }
+{
+    write!(out, "{number}")
+}
+
+/// Appends an octet of a string: itself, or a backslash and two hex digits.
+fn push_character<A: Allocator>(octet: u8, out: &mut String<A>) -> Result<(), AllocError>
+    ensures { OnOk result (string_bytes out.new ≡ string_bytes out.old ++ character_text octet) }
+{
+    if is_plain(octet) {
+        return out.push(char::from(octet));
+    }
+    out.push('\\')?;
+    push_octet(octet, out)
+}
+
+/// Appends the octets of a string.
+pub(crate) fn push_characters<A: Allocator>(
+    text: &[u8],
+    out: &mut String<A>,
+) -> Result<(), AllocError>
+    ensures { OnOk result (string_bytes out.new ≡ string_bytes out.old ++ flat_map character_text text.now) }
+{
+    for octet in text {
+        push_character(*octet, out)?;
+    }
+    Ok(())
+}
+
+/// The quote of a string.
+fn quote(huffman: bool) -> char
+    ensures quote { result ≡ quote_of huffman }
+    ensures ascii { result < 128 }
+{
+    if huffman { '\'' } else { '"' }
+}
+
+/// Appends a string between its quotes.
+pub(crate) fn push_string<A: Allocator>(
+    huffman: bool,
+    text: &[u8],
+    out: &mut String<A>,
+) -> Result<(), AllocError>
+    ensures { OnOk result (string_bytes out.new ≡ string_bytes out.old ++ (quote_of huffman ∷ (flat_map character_text text.now ++ quote_of huffman ∷ []))) }
+{
+    out.push(quote(huffman))?;
+    push_characters(text, out)?;
+    out.push(quote(huffman))
+}
+
+/// The name of a frame type, 0 to 9 (RFC 9113, 6).
+fn type_name(kind: u8) -> Option<&'static str>
+    ensures { option_map (λ t. t.now) result ≡ slice_get type_names kind }
+{
+    match kind {
+        0 => Some("DATA"),
+        1 => Some("HEADERS"),
+        2 => Some("PRIORITY"),
+        3 => Some("RST_STREAM"),
+        4 => Some("SETTINGS"),
+        5 => Some("PUSH_PROMISE"),
+        6 => Some("PING"),
+        7 => Some("GOAWAY"),
+        8 => Some("WINDOW_UPDATE"),
+        9 => Some("CONTINUATION"),
+        _ => None,
+    }
+}
+
+/// Appends the name of a frame type, or `T` and two hex digits.
+pub(crate) fn push_type<A: Allocator>(kind: u8, out: &mut String<A>) -> Result<(), AllocError>
+    ensures { OnOk result (string_bytes out.new ≡ string_bytes out.old ++ type_text kind) }
+{
+    match type_name(kind) {
+        Some(name) => out.push_str(name),
+        None => {
+            out.push_str("T")?;
+            push_octet(kind, out)
+        }
+    }
+}
+
+/// Appends a stream's identifier, and an `R` behind it where the reserved bit is set.
+pub(crate) fn push_stream<A: Allocator>(
+    stream: u32,
+    reserved: bool,
+    out: &mut String<A>,
+) -> Result<(), AllocError>
+    ensures { OnOk result (string_bytes out.new ≡ string_bytes out.old ++ stream_text stream reserved) }
+{
+    push_number(u64::from(stream), out)?;
+    if reserved {
+        out.push_str("R")?;
+    }
+    Ok(())
+}
