@@ -2,7 +2,7 @@
 use Rattle.std.proofs.Common.{◌≡◌, ℕ, zero, suc, ◌+◌, ◌-◌, ◌*◌, ◌%◌, ◌<◌, ◌≤◌, Bool, true, false, cond, List, [], ◌∷◌, ◌++◌, length, take, drop, refl, sym, ap, subst, ◌∙◌, arith, ltb, ltb-true, ltb-false, le-ltb, lt-ltb, eqb, eqb-true, Option, Some, None, min, max}
 use Rattle.std.proofs.lemmas.Bool.{false≢true}
 use Rattle.std.proofs.lemmas.Bool.Decides.{nat_tests}
-use Rattle.std.specs.Prelude.{Result, Ok, Err, IsOk, OnOk, find, nat_lt, ◌&&◌, ◌==◌}
+use Rattle.std.specs.Prelude.{Result, Ok, Err, IsOk, OnOk, find, nat_lt, ◌&&◌, ◌||◌, not, ◌==◌}
 use Rattle.h2_spec.specs.declared.streams.Stream.{Stream}
 use Rattle.h2_spec.specs.declared.streams.Kind.{Kind}
 use Rattle.h2_spec.specs.declared.streams.Kind.TheVariants.{Idle, Skipped, BothOpen, HalfRemote, HalfLocal, Ended, PeerReset, WeReset}
@@ -10,7 +10,8 @@ use Rattle.h2_spec.specs.Ends.{server_ended_as, with_left}
 use Rattle.h2_spec.specs.Answer.{Entry, picked}
 use Rattle.h2_spec.specs.Frame.{Frame}
 use Rattle.h2_spec.specs.Window.{sendable}
-use Rattle.h2_spec.specs.Stream.{AreRising, CanPut, Records, put, record_of, stream_at, recorded, is_id, waits_above, octets_waiting, octets_left, next_waiting, id_of, is_live}
+use Rattle.h2_streams.specs.Put.{CanPut, is_closed}
+use Rattle.h2_spec.specs.Stream.{AreRising, Records, put, record_of, stream_at, recorded, is_id, waits_above, octets_waiting, octets_left, next_waiting, id_of, is_live}
 use Rattle.h2_spec.specs.Pump.{share, share_frames, after_sending, sent_frames, all_after_sending, window_left, with_paid}
 use Rattle.std.specs.Option.{option_map}
 use Rattle.h2_conn.specs.Above.{IsWaiting, share_above, frames_above, streams_above, left_above}
@@ -329,7 +330,8 @@ can_put n last ss st x known e =
     let same : x.id ≡ st.id = ap (λ (y : Stream). y.id) e ∙ id-after_sending n st in
     let odd : x.id % 2 ≡ 1 = ap (λ i. i % 2) same ∙ known.odd in
     let live : is_live (stream_at last ss x.id).kind ≡ true = ap (λ i. is_live (stream_at last ss i).kind) same ∙ ap (λ (y : Stream). is_live y.kind) known.found ∙ known.live in
-    (λ above. odd, λ within. live)
+    let k = (stream_at last ss x.id).kind in
+    (λ above. odd, λ within. ap (λ t. t || (is_closed k && not (is_live x.kind))) live)
 
 -- the last stream stays the last
 pub last_stays : (n last : ℕ) (ss : List Stream) (st x : Stream) → IsWaiting last ss st → x ≡ after_sending n st → max last x.id ≡ last

@@ -1,5 +1,5 @@
 -- A hash tells identifiers apart.
-use Rattle.std.proofs.Common.{arith, ◌≡◌, ℕ, ◌*◌, ◌%◌, ◌^◌, ◌<◌}
+use Rattle.std.proofs.Common.{arith, ◌≡◌, ℕ, ◌*◌, ◌%◌, ◌<◌}
 use Rattle.h2_streams.specs.Hash.{halves_exchanged, bit_turned, spread}
 
 exchanged-same : (m n : ℕ) → m < 4294967296 → n < 4294967296 → halves_exchanged m ≡ halves_exchanged n → m ≡ n

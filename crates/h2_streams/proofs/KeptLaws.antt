@@ -1,5 +1,5 @@
 -- Laws of the records and of the live identifiers.
-use Rattle.std.proofs.Common.{◌≡◌, ℕ, zero, suc, ◌+◌, ◌%◌, ◌<◌, ◌≤◌, Bool, true, false, cond, eqb, nat_eq, nat_lt, leb, List, [], ◌∷◌, ◌++◌, length, drop, get_or, remove, max, Some, None, Option, Err, nat_cmp, refl, ap, ◌∙◌, sym, arith, subst, true≢false}
+use Rattle.std.proofs.Common.{◌≡◌, ℕ, zero, suc, ◌+◌, ◌%◌, ◌<◌, ◌≤◌, Bool, true, false, ◌&&◌, ◌||◌, not, cond, eqb, nat_eq, nat_lt, leb, List, [], ◌∷◌, ◌++◌, length, drop, get_or, remove, max, Some, None, Option, Err, nat_cmp, refl, ap, ◌∙◌, sym, arith, subst, true≢false}
 use Rattle.std.proofs.lemmas.Bool.Decides.{nat_tests}
 use Rattle.std.proofs.lemmas.List.Recursion.{is_count_by}
 use Rattle.std.proofs.lemmas.List.Sorted.{searched}
@@ -10,6 +10,8 @@ use Rattle.indexmap.specs.IndexMap.{insert_entry}
 use Rattle.h2_spec.specs.declared.streams.Stream.{Stream}
 use Rattle.h2_spec.specs.Stream.{is_live, record_of, put, live_count, Records, added, with_record, AreRising, stream_at, kind_of, recorded, not_live}
 use Rattle.h2_spec.specs.declared.streams.Kind.TheVariants.{Idle}
+use Rattle.h2_spec.specs.declared.streams.Kind.{Kind}
+use Rattle.h2_streams.specs.Put.{is_closed, can_become}
 use Rattle.h2_streams.specs.Kept.{records_of, keyed, live_ids, IdsRise, without, still_live, above, IsKept}
 
 eqb_comm : (a b : ℕ) → eqb a b ≡ eqb b a
@@ -144,22 +146,60 @@ rise-ordered low (x ∷ xs) h zero (suc j) le l = let b = rise-above x xs h.1 j 
 rise-ordered low (x ∷ xs) h (suc i) zero le l = absurd (omega arith)
 rise-ordered low (x ∷ xs) h (suc i) (suc j) le l = rise-ordered x xs h.1 i j (omega arith) (omega arith)
 
--- a live stream has this record now
-pub live_ids-put : (rs : List Stream) (st old : Stream) → record_of rs st.id ≡ Some old → is_live old.kind ≡ true → live_ids (put st rs) ≡ still_live st (live_ids rs)
-live_ids-put rs st old f a = by (is_live st.kind) refl where
-  by : (b : Bool) → is_live st.kind ≡ b → live_ids (put st rs) ≡ cond (is_live st.kind) (live_ids rs) (without st.id (live_ids rs))
-  by true e = rw e (live_ids-put_live rs st old f a e)
-  by false e = rw e (live_ids-put_ended rs st old f a e)
+-- what lies below all identifiers is none of them
+without-below : (id low : ℕ) (ids : List ℕ) → id ≤ low → IdsRise low ids → without id ids ≡ ids
+without-below id low [] le h = refl
+without-below id low (x ∷ xs) le h =
+    let apart : eqb x id ≡ false = let l = h.0 in grind (arith, nat_tests, l, le) in
+    rw apart (ap (λ ys. x ∷ ys) (without-below id x xs (let l = h.0 in omega arith) h.1))
 
--- a live stream has a record
-pub live-found : (last : ℕ) (rs : List Stream) (id : ℕ) → is_live (kind_of last rs id) ≡ true → (old : Stream) × (record_of rs id ≡ Some old) × (is_live old.kind ≡ true)
+-- a closed stream stays closed
+pub live_ids-put_closed : (low last : ℕ) (rs : List Stream) (st old : Stream) → AreRising low last rs → record_of rs st.id ≡ Some old → is_live old.kind ≡ false → is_live st.kind ≡ false
+    → live_ids (put st rs) ≡ without st.id (live_ids rs)
+live_ids-put_closed low last [] st old h f a b = cc
+live_ids-put_closed low last (x ∷ xs) st old h f a b = by (eqb x.id st.id) refl (live_ids-put_closed x.id last xs st old h.3) where
+  kept : (t : Bool) (ys : List ℕ) → eqb x.id st.id ≡ false → ys ≡ without st.id (live_ids xs) → cond t (x.id ∷ ys) ys ≡ without st.id (cond t (x.id ∷ live_ids xs) (live_ids xs))
+  kept true ys e h = rw e (ap (λ zs. x.id ∷ zs) h)
+  kept false ys e h = h
+
+  by : (t : Bool) → eqb x.id st.id ≡ t → (record_of xs st.id ≡ Some old → is_live old.kind ≡ false → is_live st.kind ≡ false → live_ids (put st xs) ≡ without st.id (live_ids xs))
+      → live_ids (cond (eqb x.id st.id) (st ∷ xs) (x ∷ put st xs)) ≡ without st.id (live_ids (x ∷ xs))
+  by true e rest =
+      let g : Some x ≡ Some old = rw e at f in
+      let same : x ≡ old = cc in
+      let closed : is_live x.kind ≡ false = ap (λ (y : Stream). is_live y.kind) same ∙ a in
+      let le : st.id ≤ x.id = let i = eqb-same x.id st.id e in omega (arith, i) in
+      rw (e, b, closed) (sym (without-below st.id x.id (live_ids xs) le (rise-live_ids x.id last xs h.3)))
+  by false e rest = let g : record_of xs st.id ≡ Some old = rw e at f in rw e (kept (is_live x.kind) (live_ids (put st xs)) e (rest g a b))
+
+stays-closed : (a b t : Bool) → a ≡ false → (a || (b && not t)) ≡ true → t ≡ false
+stays-closed a b false e h = refl
+stays-closed a true true e h = absurd (true≢false (sym h ∙ ap (λ x. x || false) e))
+stays-closed a false true e h = absurd (true≢false (sym h ∙ ap (λ x. x || false) e))
+
+-- a stream, live or closed, has this record now
+pub live_ids-put : (low last : ℕ) (rs : List Stream) (st old : Stream) → AreRising low last rs → record_of rs st.id ≡ Some old → can_become old.kind st.kind ≡ true → live_ids (put st rs) ≡ still_live st (live_ids rs)
+live_ids-put low last rs st old h f a = of_live (is_live old.kind) refl where
+  by : is_live old.kind ≡ true → (b : Bool) → is_live st.kind ≡ b → live_ids (put st rs) ≡ cond (is_live st.kind) (live_ids rs) (without st.id (live_ids rs))
+  by live true e = rw e (live_ids-put_live rs st old f live e)
+  by live false e = rw e (live_ids-put_ended rs st old f live e)
+
+  of_live : (b : Bool) → is_live old.kind ≡ b → live_ids (put st rs) ≡ cond (is_live st.kind) (live_ids rs) (without st.id (live_ids rs))
+  of_live true e = by e (is_live st.kind) refl
+  of_live false e =
+      let closed = stays-closed (is_live old.kind) (is_closed old.kind) (is_live st.kind) e a in
+      rw closed (live_ids-put_closed low last rs st old h f e closed)
+
+-- a live or closed stream has a record
+pub recorded-found : (last : ℕ) (rs : List Stream) (id : ℕ) (now : Kind) → can_become (kind_of last rs id) now ≡ true → (old : Stream) × (record_of rs id ≡ Some old) × (can_become old.kind now ≡ true)
 unfolding stream_at
-live-found last rs id h = by_test (eqb (id % 2) 0) (nat_lt last id) (record_of rs id) refl h where
-  by_record : (o : Option Stream) → record_of rs id ≡ o → is_live (recorded id o).kind ≡ true → (old : Stream) × (record_of rs id ≡ Some old) × (is_live old.kind ≡ true)
+recorded-found last rs id now h = by_test (eqb (id % 2) 0) (nat_lt last id) (record_of rs id) refl h where
+  by_record : (o : Option Stream) → record_of rs id ≡ o → can_become (recorded id o).kind now ≡ true → (old : Stream) × (record_of rs id ≡ Some old) × (can_become old.kind now ≡ true)
   by_record None e k = absurd (true≢false (sym k))
   by_record (Some st) e k = (st, e, k)
 
-  by_test : (a b : Bool) (o : Option Stream) → record_of rs id ≡ o → is_live (cond a (not_live id Idle) (cond b (not_live id Idle) (recorded id o))).kind ≡ true → (old : Stream) × (record_of rs id ≡ Some old) × (is_live old.kind ≡ true)
+  by_test : (a b : Bool) (o : Option Stream) → record_of rs id ≡ o → can_become (cond a (not_live id Idle) (cond b (not_live id Idle) (recorded id o))).kind now ≡ true
+      → (old : Stream) × (record_of rs id ≡ Some old) × (can_become old.kind now ≡ true)
   by_test true b o e k = absurd (true≢false (sym k))
   by_test false true o e k = absurd (true≢false (sym k))
   by_test false false o e k = by_record o e k
@@ -218,13 +258,13 @@ kept-added es live last st kept odd above =
     kept-keyed _ _ st.id (rs ++ st ∷ []) (inserted-new es live last st kept above) (rising-push 0 last rs st kept.rising (omega arith) above odd)
     (ap (λ ids. ids ++ live_ids (st ∷ [])) kept.live_listed ∙ sym (live_ids-append rs (st ∷ [])))
 
--- a live stream has another record
-pub kept-put : (es : List (ℕ × Stream)) (live : List ℕ) (last : ℕ) (st old : Stream) → IsKept es live last → record_of (records_of es) st.id ≡ Some old → is_live old.kind ≡ true
+-- a stream has another record
+pub kept-put : (es : List (ℕ × Stream)) (live : List ℕ) (last : ℕ) (st old : Stream) → IsKept es live last → record_of (records_of es) st.id ≡ Some old → can_become old.kind st.kind ≡ true
     → IsKept (set_value (nat_eq st.id) es st) (still_live st live) last
-kept-put es live last st old kept found alive =
+kept-put es live last st old kept found can =
     let rs = records_of es in
     kept-keyed _ _ last (put st rs) (written es live last st old kept found) (rising-put 0 last rs st old kept.rising found)
-    (ap (still_live st) kept.live_listed ∙ sym (live_ids-put rs st old found alive))
+    (ap (still_live st) kept.live_listed ∙ sym (live_ids-put 0 last rs st old kept.rising found can))
 
 -- a record of a stream above the others goes last, and is then the last that was opened
 pub added-is-put : (st : Stream) (r : Records) → AreRising 0 r.last r.streams → r.last < st.id → added st r ≡ with_record st r

@@ -26,7 +26,7 @@ abbrev pub without : ℕ → List ℕ → List ℕ
 without id [] = []
 without id (x ∷ xs) = if x == id then xs else x ∷ without id xs
 
--- the live identifiers after a live stream has this record
+-- the live identifiers after a stream, live or closed, has this record
 abbrev pub still_live : Stream → List ℕ → List ℕ
 still_live st ids = if is_live st.kind then ids else without st.id ids
 

@@ -12,6 +12,7 @@ ghost use Rattle.h2_spec.specs.Ends as ends;
 ghost use Rattle.h2_spec.specs.Change as changes;
 ghost use Rattle.h2_streams.specs.Greatest.{IsGreatest};
 ghost use Rattle.h2_streams.specs.Kept as kept;
+ghost use Rattle.h2_streams.specs.Put.{CanPut, can_become};
 ghost use Rattle.h2_streams.specs.Shift as shift;
 
 use crate::greatest::greatest_of;
@@ -200,10 +201,11 @@ impl<A: Allocator> Streams<A> {
         self.replace(not_live(id, reset_kind(by_peer)));
     }
 
-    /// Puts a record: in the place of the one of the same live stream, or behind all, of a stream above them.
+    /// Puts a record: in the place of the one of the same stream, or behind all, of a stream above them.
+    /// A live stream comes to any state, one that is closed stays closed (RFC 9113, 5.1).
     /// Only a new record takes memory; `Err` leaves the records as they were.
     pub fn put(&mut self, stream: Stream) -> Result<(), AllocError>
-        requires { spec.CanPut stream self.old }
+        requires { CanPut stream self.old }
         ensures ok { OnOk result (self.new ≡ spec.with_record stream self.old) }
         ensures err { OnErr result (self.new ≡ self.old) }
         ensures known { stream.id ≤ self.old.last → IsOk result }
@@ -259,9 +261,9 @@ impl<A: Allocator> Streams<A> {
         Ok(())
     }
 
-    /// Puts the record of a live stream in the place of its old one.
+    /// Puts a record in the place of the one of the same stream.
     fn replace(&mut self, stream: Stream)
-        requires { IsTrue (spec.is_live (spec.kind_of self.old.last self.old.streams stream.id)) }
+        requires { IsTrue (can_become (spec.kind_of self.old.last self.old.streams stream.id) stream.kind) }
         ensures { self.new ≡ record self.old { streams = spec.put stream self.old.streams } }
     {
         drop_ended(&mut self.live, &stream);

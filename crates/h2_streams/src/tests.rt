@@ -136,6 +136,9 @@ fn streams_wait_to_send_by_rising_identifier(rt: HostRuntime) -> Result<(), Fail
     streams.set(3, numbers(0, Some(9)));
     assert!(rt; matches!(streams.kind(1), Kind::HalfRemote));
     streams.put(not_live(1, Kind::Ended))?;
+    assert!(rt; matches!(streams.kind(1), Kind::Ended));
+    streams.put(not_live(1, Kind::WeReset))?;
+    assert_eq!(rt; streams.stream_at(1), not_live(1, Kind::WeReset));
     assert!(rt; streams.last() < 13);
     streams.put(not_live(13, Kind::WeReset))?;
     assert_eq!(rt; (streams.last(), streams.live_count()), (13, 3));
