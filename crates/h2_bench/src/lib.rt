@@ -8,7 +8,6 @@ mod execute;
 mod fault;
 mod input;
 mod play;
-mod show;
 mod table;
 #[cfg(test)]
 mod tests;

@@ -1,5 +1,5 @@
 //! The program `play`: a connection over the octets that hex text spells.
-//! Rests on `connection`, `show` and the crate `hex`; definitions: `specs/Told.antt`.
+//! Rests on `connection`, h2_conn and the crate `hex`; definitions: `specs/Told.antt`.
 
 ghost use Rattle.std.specs.Prelude.{◌≡◌, IfOk};
 ghost use Rattle.std.specs.String.{string_bytes};
@@ -12,7 +12,8 @@ ghost use Rattle.h2_bench.specs.Answers.{Meets};
 use crate::connection::{First, play_first};
 use crate::fault::BenchFault;
 use crate::input::read_hex;
-use crate::show::{View, write_view};
+use h2_conn::show::write_view;
+use h2_conn::view::View;
 use h2_spec::flow::{Credit, Settings, Window};
 use std::alloc::{AllocError, Global};
 use std::fmt::Write;

@@ -1,5 +1,5 @@
 //! The program `table`: changes a dynamic table by the lines of its input (RFC 7541, 2.3.2 and 4).
-//! Rests on h2_table and `show`; definitions: `specs/TableProgram.antt`.
+//! Rests on h2_table and h2_conn's `show`; definitions: `specs/TableProgram.antt`.
 
 ghost use Rattle.std.specs.Prelude.{◌≡◌, ◌==◌, ◌+◌, ◌<◌, ◌≤◌, ◌^◌, ◌++◌, length, take, drop, position, option_map, IfOk, IfSome, OnOk};
 ghost use Rattle.std.specs.String.{string_bytes};
@@ -11,7 +11,7 @@ ghost use Rattle.h2_bench.specs.Faults.{fault_line};
 ghost use Rattle.h2_bench.specs.TableProgram.{place_line, behind_line, command_of, counts_line, first_line, number_written, obeyed, table_text, told_of};
 
 use crate::fault::BenchFault;
-use crate::show::write_entry;
+use h2_conn::show::write_entry;
 use h2_table::DynTable;
 use std::alloc::{AllocError, Allocator, Global};
 use std::fmt::Write;

@@ -9,5 +9,7 @@ mod headers;
 mod pump;
 mod reset;
 mod settings;
+pub mod show;
+pub mod view;
 mod window_update;
 mod write;

@@ -1,5 +1,5 @@
 //! The text of a connection's state, line by line.
-//! Rests on the words of `h2_spec` and on the crate `hex`; definitions: `h2_spec/specs/View.antt`, `h2_spec/specs/Show.antt`.
+//! Rests on `view` and on the crate `hex`; definition: h2_spec's `specs/Show.antt`.
 
 ghost use Rattle.std.specs.Prelude.{◌≡◌, ◌+◌, ◌<◌, ◌^◌, ◌++◌, ◌∷◌, [], codes, decimal, length, true, false, IfOk, OnOk, Some};
 ghost use Rattle.std.specs.String.{string_bytes};
@@ -7,6 +7,7 @@ ghost use Rattle.std.specs.Fmt.{signed_decimal};
 ghost use Rattle.h2_spec.specs.Stream.{is_live};
 ghost use Rattle.h2_spec.specs.Show.{joined, show, phase_line, phase_text, peer_line, acked_line, goaway_text, block_line, table_line, entry_line, entry_lines, stream_line, stream_lines, stream_line_as, kind_text, option_text, flag_text, octets_text};
 
+use crate::view::View;
 use h2_fields::field::Field;
 use h2_spec::connection::{BlockView, Phase};
 use h2_spec::flow::{Credit, Settings, Window};
@@ -14,59 +15,6 @@ use h2_spec::streams::{Kind, StreamView};
 use std::alloc::{AllocError, Allocator};
 use std::fmt;
 use std::fmt::Write;
-use std::marker::Model;
-
-/// What is shown of a connection's state.
-#[derive(Drop)]
-pub struct View<A: Allocator> {
-    pub phase: Phase,
-    /// The highest client stream whose request block has ended, 0 at first.
-    pub last: u32,
-    /// The receive window of the connection (RFC 9113, 6.9).
-    pub recv: Window,
-    /// Octets received that the server has not yet given back by WINDOW_UPDATE.
-    pub owed: Credit,
-    /// The send window of the connection (RFC 9113, 6.9).
-    pub send: Window,
-    /// The peer's settings.
-    pub peer: Settings,
-    /// Whether the peer has acknowledged the server's settings.
-    pub acked: bool,
-    /// The last stream and the code of the latest GOAWAY received.
-    pub goaway: Option<(u32, u32)>,
-    /// The open field block.
-    pub block: Option<BlockView>,
-    /// The dynamic table, the newest entry first (RFC 7541, 2.3.2).
-    pub table: Vec<Field<A>, A>,
-    /// What the entries count (RFC 7541, 4.1).
-    pub table_size: usize,
-    /// The table's maximum (RFC 7541, 4.2).
-    pub table_max: u32,
-    /// The streams in the order of their opening.
-    pub streams: Vec<StreamView, A>,
-}
-
-impl<A: Allocator> Model for View<A> {
-    ghost use Rattle.h2_spec.specs.View as spec;
-
-    ghost Value = { spec.View };
-
-    ghost view = { λ v. record {
-      phase = v.phase;
-      last = v.last;
-      recv = v.recv;
-      owed = v.owed;
-      send = v.send;
-      peer = v.peer;
-      acked = v.acked;
-      goaway = v.goaway;
-      block = v.block;
-      table = v.table.items;
-      table_size = v.table_size;
-      table_max = v.table_max;
-      streams = v.streams.items;
-    } };
-}
 
 /// A number, and a dash where there is none.
 #[derive(Drop)]

@@ -4,7 +4,7 @@ use Rattle.std.specs.Fmt.{signed_decimal}
 use Rattle.std.specs.String.{string_bytes}
 use Rattle.h2_spec.specs.Show.{show, joined, phase_line, window_line, peer_line, acked_line, block_line, table_line, entry_lines, stream_lines}
 use Rattle.h2_spec.specs.View.{View}
-use Rattle.h2_bench.proofs.show.write_view.Goals as goal
+use Rattle.h2_conn.proofs.show.write_view.Goals as goal
 
 one_by_one : (t a b c d e f g h : List ℕ) → (((((((t ++ a) ++ b) ++ c) ++ d) ++ e) ++ f) ++ g) ++ h ≡ t ++ (a ++ b ++ c ++ d ++ e ++ f ++ g ++ h)
 one_by_one t a b c d e f g h = simp append_assoc
