@@ -1,3 +1,4 @@
+pub mod BadLines
 pub mod BitLaws
 pub mod BlockLaws
 mod BlockRows
