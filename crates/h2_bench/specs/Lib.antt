@@ -1,3 +1,4 @@
+pub mod AnswerParts
 pub mod Answers
 pub mod Commands
 pub mod Ends

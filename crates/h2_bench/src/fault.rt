@@ -20,6 +20,9 @@ pub enum BenchFault {
     /// The input is no hex text.
     #[error("the input is no hex text")]
     BadHex,
+    /// A word of the command line says no answer.
+    #[error("the word says no answer")]
+    BadAnswer,
     /// A line of the input is no command.
     #[error("the line is no command")]
     BadCommand,
@@ -37,6 +40,7 @@ impl BenchFault {
             BenchFault::NoMemory => 0,
             BenchFault::Read => 22,
             BenchFault::BadHex => 25,
+            BenchFault::BadAnswer => 26,
             BenchFault::BadCommand => 27,
             BenchFault::NotYet => 29,
         }
@@ -50,6 +54,7 @@ impl BenchFault {
             BenchFault::NoMemory => "fault 0\n",
             BenchFault::Read => "fault 22\n",
             BenchFault::BadHex => "fault 25\n",
+            BenchFault::BadAnswer => "fault 26\n",
             BenchFault::BadCommand => "fault 27\n",
             BenchFault::NotYet => "fault 29\n",
         }

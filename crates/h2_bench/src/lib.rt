@@ -1,6 +1,7 @@
 //! The programs: what the words ask for, from the octets of an input to those of an output.
 #![tactic(auto)]
 
+mod answer;
 mod command;
 mod connection;
 mod device;
@@ -13,6 +14,7 @@ mod table;
 mod tests;
 mod words;
 
+pub use answer::parse_answer;
 pub use connection::{First, play_first};
 pub use execute::{run, run_watched};
 pub use fault::BenchFault;

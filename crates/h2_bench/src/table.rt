@@ -26,21 +26,21 @@ pub enum TableCommand<'a> {
 }
 
 /// The place of an octet in a text.
-fn place_of(text: &[u8], octet: u8) -> Option<usize>
+pub(crate) fn place_of(text: &[u8], octet: u8) -> Option<usize>
     ensures place { result ≡ position (λ o. o == octet) text.now }
     ensures within { IfSome result (λ at. at < length text.now) }
 {
     text.iter().position(|o| *o == octet)
 }
 
-fn text_before(text: &[u8], at: usize) -> &[u8]
+pub(crate) fn text_before(text: &[u8], at: usize) -> &[u8]
     requires { at ≤ length text.now }
     ensures { result.now ≡ take at text.now }
 {
     &text[..at]
 }
 
-fn text_from(text: &[u8], at: usize) -> &[u8]
+pub(crate) fn text_from(text: &[u8], at: usize) -> &[u8]
     requires { at ≤ length text.now }
     ensures { result.now ≡ drop at text.now }
 {

@@ -274,3 +274,39 @@ fn devices_fail(rt: HostRuntime) -> Result<(), Fail> {
     assert_eq!(rt; run(rt.alloc(), &nothing, &mut input, &mut Broken), 3);
     Ok(())
 }
+
+#[test]
+fn words_say_answers(rt: HostRuntime) -> Result<(), Fail> {
+    let alloc = rt.alloc();
+    for (text, message) in [
+        ("", "no part"),
+        ("GET|/|200", "three parts"),
+        ("GET|/|20|", "a status of two digits"),
+        ("GET|/|2000|", "a status of four digits"),
+        ("GET|/|2 0|", "a space in the status"),
+        ("GET|/|200|6", "an odd number of hex digits"),
+        ("GET|/|200|6g", "an octet that is no hex digit"),
+        ("GET|/|200| 68", "a space before the body"),
+        ("GET|/|200|68|", "an empty further part"),
+        ("GET|/|200|68|a=b|c", "a further part without a sign"),
+        ("|||", "no status"),
+    ] {
+        let refused = parse_answer(alloc, text).err().map(|fault| fault.number());
+        assert_eq!(rt; refused, Some(26), "{message}");
+    }
+    let entry = parse_answer(alloc, "GET|/|999|6aF0|a=b=c|=|x=").ok();
+    let entry = entry.ok_or("an entry")?;
+    assert_eq!(rt; entry.method.as_slice(), b"GET".as_slice());
+    assert_eq!(rt; entry.path.as_slice(), b"/".as_slice());
+    assert_eq!(rt; entry.status, 999);
+    assert_eq!(rt; entry.body.as_slice(), b"\x6a\xf0".as_slice());
+    let mut fields = Vec::new(alloc);
+    for field in &entry.fields {
+        fields.push((field.name.as_slice(), field.value.as_slice()))?;
+    }
+    let wanted: [(&[u8], &[u8]); 3] = [(b"a", b"b=c"), (b"", b""), (b"x", b"")];
+    assert_eq!(rt; fields.as_slice(), wanted.as_slice());
+    let bare = parse_answer(alloc, "||000|").ok().ok_or("an entry")?;
+    assert!(rt; bare.method.as_slice().is_empty() && bare.body.as_slice().is_empty());
+    Ok(())
+}

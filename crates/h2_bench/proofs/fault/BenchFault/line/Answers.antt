@@ -15,6 +15,10 @@ pub returns-in-BadHex : goal.returns-in-BadHex
 unfolding fault_line digits
 returns-in-BadHex c = rw c.in-BadHex.is refl
 
+pub returns-in-BadAnswer : goal.returns-in-BadAnswer
+unfolding fault_line digits
+returns-in-BadAnswer c = rw c.in-BadAnswer.is refl
+
 pub returns-in-BadCommand : goal.returns-in-BadCommand
 unfolding fault_line digits
 returns-in-BadCommand c = rw c.in-BadCommand.is refl

@@ -1,0 +1,16 @@
+-- The words of an answer as they are read: part after part, and why they are refused.
+use Rattle.std.specs.Prelude.{ℕ, List, [], ◌∷◌, Option, Some, None}
+use Rattle.h2_spec.specs.Answer.{Entry}
+use Rattle.h2_spec.specs.AnswerWords.{parts_of}
+use Rattle.h2_bench.specs.declared.fault.BenchFault.{BenchFault}
+use Rattle.h2_bench.specs.declared.fault.BenchFault.TheVariants.{NoMemory, BadAnswer}
+
+-- the parts that follow one, each behind its bar
+abbrev pub parts_behind : List ℕ → List (List ℕ)
+parts_behind [] = []
+parts_behind (bar ∷ text) = parts_of text
+
+-- the one refusal: words that say no entry are refused before memory is wanted
+abbrev pub refusal_of : Option Entry → BenchFault
+refusal_of None = BadAnswer
+refusal_of (Some entry) = NoMemory
