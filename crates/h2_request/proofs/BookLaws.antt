@@ -1,5 +1,5 @@
 -- What an entry that a book takes is like.
-use Rattle.std.proofs.Common.{◌≡◌, ◌≤◌, Bool, true, false, not, ◌&&◌, ◌||◌, List, None, length, arith}
+use Rattle.std.proofs.Common.{◌≡◌, ◌≤◌, Bool, true, false, not, ◌&&◌, ◌||◌, List, None, length, ltb-false, arith}
 use Rattle.std.specs.Prelude.{nat_le, nat_lt}
 use Rattle.std.specs.List.{list_any, AllByRecursion}
 use Rattle.std.proofs.lemmas.Bool.Decides.{nat_tests}
@@ -24,3 +24,8 @@ pub allowed-fields : (book : List Entry) (e : Entry) → entry_fault book e ≡ 
 allowed-fields book e none =
     let within = neither (nat_le max_entries (length book) || nat_lt max_body (length e.answer.body)) (nat_lt max_response_block (length (response_block false e.answer.status e.answer.fields))) (allowed-length book e none) in
     writable-fields e.answer.status e.answer.fields within.1
+
+pub allowed-block : (book : List Entry) (e : Entry) → entry_fault book e ≡ None → length (response_block false e.answer.status e.answer.fields) ≤ 16383
+allowed-block book e none =
+    let within = neither (nat_le max_entries (length book) || nat_lt max_body (length e.answer.body)) (nat_lt max_response_block (length (response_block false e.answer.status e.answer.fields))) (allowed-length book e none) in
+    ltb-false max_response_block (length (response_block false e.answer.status e.answer.fields)) within.1

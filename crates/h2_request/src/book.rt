@@ -2,7 +2,7 @@
 //! It rests on `h2_fields` and `octets`; the definitions are `entry_fault` of `h2_spec`, specs/Book.antt, and `pick_of` and
 //! `picked` of specs/Answer.antt.
 
-ghost use Rattle.std.specs.Prelude.{◌≡◌, ◌≢◌, ◌==◌, ◌&&◌, ◌||◌, [], ◌∷◌, ◌++◌, OnOk, OnErr, IfErr, MatchOption, codes, length, position, bytes_eq};
+ghost use Rattle.std.specs.Prelude.{◌≡◌, ◌≢◌, ◌≤◌, ◌==◌, ◌&&◌, ◌||◌, [], ◌∷◌, ◌++◌, OnOk, OnErr, IfErr, MatchOption, codes, length, position, bytes_eq};
 ghost use Rattle.std.specs.List.{list_any};
 ghost use Rattle.h2_spec.specs.Answer.{bare as bare_answer, pick_of, picked};
 ghost use Rattle.h2_spec.specs.Book.{entry_fault};
@@ -71,14 +71,14 @@ struct Stored<A: Allocator> {
 }
 
 impl<A: Allocator> Model for Stored<A> {
-    ghost use Rattle.std.specs.Prelude.{◌≡◌, false};
+    ghost use Rattle.std.specs.Prelude.{◌≡◌, ◌≤◌, false, length};
     ghost use Rattle.h2_spec.specs.Answer as spec;
 
     ghost Value = { spec.Entry };
 
     ghost view = { λ s. s.entry };
 
-    ghost invariant = { λ s. s.block.items ≡ spec.response_block false s.entry.answer.status s.entry.answer.fields };
+    ghost invariant = { λ s. (s.block.items ≡ spec.response_block false s.entry.answer.status s.entry.answer.fields) × (length s.block.items ≤ 16383) };
 }
 
 /// A list of entries, each of which may be answered with.
@@ -203,11 +203,13 @@ impl<A: Allocator> Book<A> {
         }
     }
 
-    /// The field block of that answer's HEADERS, without a table size update; it was made when the entry was added.
+    /// The field block of that answer's HEADERS, at most 16,383 octets, without a table size update; it was made when the
+    /// entry was added.
     #[tactic(auto, unfolding(h2_spec::specs::Answer::response_block))]
     pub fn block(&self, pick: Pick) -> &[u8]
         requires { IsPickOf self.now pick }
-        ensures { result.now ≡ block_of_answer (picked self.now pick) }
+        ensures block { result.now ≡ block_of_answer (picked self.now pick) }
+        ensures within { length result.now ≤ 16383 }
     {
         match pick {
             Pick::Listed(place) => block_of(&self.entries[place]),
@@ -247,7 +249,8 @@ fn answer_of<A: Allocator>(stored: &Stored<A>) -> Answer<'_, A>
 }
 
 fn block_of<A: Allocator>(stored: &Stored<A>) -> &[u8]
-    ensures { result.now ≡ block_of_answer stored.now.answer }
+    ensures block { result.now ≡ block_of_answer stored.now.answer }
+    ensures within { length result.now ≤ 16383 }
 {
     stored.block.as_slice()
 }

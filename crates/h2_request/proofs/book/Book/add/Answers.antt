@@ -1,9 +1,9 @@
-use Rattle.std.proofs.Common.{◌≤◌, List, sym, subst}
+use Rattle.std.proofs.Common.{rules, ◌≡◌, ◌≤◌, false, length, List, ℕ, sym, subst}
 use Rattle.std.specs.List.{AllByRecursion}
 use Rattle.h2_fields.specs.Instructions.{IsWritableField}
-use Rattle.h2_spec.specs.Answer.{Entry}
+use Rattle.h2_spec.specs.Answer.{Entry, response_block}
 use Rattle.h2_spec.specs.Field.{Field}
-use Rattle.h2_request.proofs.BookLaws.{allowed-status, allowed-fields}
+use Rattle.h2_request.proofs.BookLaws.{allowed-status, allowed-fields, allowed-block}
 use Rattle.h2_request.proofs.book.Book.add.Goals as goal
 
 pub response_block-requires-clause-status : goal.response_block-requires-clause-status
@@ -14,3 +14,8 @@ pub response_block-requires-clause-fields : goal.response_block-requires-clause-
 response_block-requires-clause-fields g c =
     subst (λ (fields : List Field). AllByRecursion IsWritableField fields) (sym c.as_slice.ensures.value)
     (subst (λ (e : Entry). AllByRecursion IsWritableField e.answer.fields) (sym c.entry.view_is) (allowed-fields c.args.self.now c.args.entry c.in-None.ensures))
+
+pub invariant_of-push : goal.invariant_of-push
+invariant_of-push g c =
+    let same : c.in_ok-block-in-None.block.items ≡ response_block false c.args.entry.answer.status c.args.entry.answer.fields = search rules in
+    (same, subst (λ (b : List ℕ). length b ≤ 16383) (sym same) (allowed-block c.args.self.now c.args.entry c.in-None.ensures))
