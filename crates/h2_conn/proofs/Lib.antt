@@ -1,3 +1,4 @@
 mod AboveLaws
 mod Pieces
 mod SettingsLaws
+mod SoundLaws

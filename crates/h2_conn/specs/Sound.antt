@@ -1,5 +1,5 @@
 -- What is true of the counts of every connection: windows stay within their limits, whatever is given back or moved.
-use Rattle.std.specs.Prelude.{◌≡◌, ℕ, ◌<◌, ◌≤◌, ◌^◌, length, true, false, List, ℤ, pos, ◌+ℤ◌, ◌-ℤ◌, ◌≤ℤ◌}
+use Rattle.std.specs.Prelude.{◌≡◌, ℕ, ◌<◌, ◌≤◌, ◌^◌, length, true, false, List, ℤ, pos, ◌+ℤ◌, ◌≤ℤ◌, max}
 use Rattle.std.specs.List.{AllByRecursion}
 use Rattle.h2_spec.specs.declared.connection.Core.{Core}
 use Rattle.h2_spec.specs.declared.reactions.Change.{Change}
@@ -9,7 +9,8 @@ use Rattle.h2_spec.specs.declared.reactions.Touch.{Touch}
 use Rattle.h2_spec.specs.declared.reactions.Touch.TheVariants.{Same, Put, Shift}
 use Rattle.h2_spec.specs.declared.streams.Stream.{Stream}
 use Rattle.h2_spec.specs.Answer.{Entry, picked}
-use Rattle.h2_spec.specs.Stream.{octets_waiting}
+use Rattle.h2_spec.specs.Stream.{CanPut, Records, octets_waiting}
+use Rattle.h2_request.specs.Lent.{IsPickOf}
 use Rattle.h2_spec.specs.Change.{follows_initial_window, overflows, moved_by}
 
 -- octets that may be given back: the window does not pass its greatest value with them
@@ -17,31 +18,41 @@ abbrev pub IsCredit : ℤ → ℕ → Type 0
 IsCredit recv owed = (recv +ℤ pos owed) ≤ℤ pos 2147483647
 
 abbrev pub IsSoundCore : Core → Type 0
-IsSoundCore core = IsCredit core.recv core.owed × (core.peer.window ≤ 2147483647) × (core.own.window ≤ 2147483647) × (0 < core.peer.frame) × (core.peer.frame < 2 ^ 24)
+IsSoundCore core = IsCredit core.recv core.owed × (core.peer.window ≤ 2147483647) × (core.own.window ≤ 2147483647) × (0 < core.peer.frame) × (core.peer.frame < 2 ^ 24) × (core.own.frame < 2 ^ 24)
 
 -- with the peer's initial window: what is owed may be given back, and the send window may be moved
 abbrev pub IsSoundStream : ℕ → Stream → Type 0
 IsSoundStream window st =
     IsCredit st.numbers.recv st.numbers.owed × (st.numbers.send ≤ℤ pos 2147483647) × (follows_initial_window st.kind ≡ true → pos window ≤ℤ (st.numbers.send +ℤ pos 2147483647))
 
--- what waits is part of the body of the stream's answer
+-- the pick is one of the book, and what waits is part of the body of the stream's answer
 abbrev pub HasBody : List Entry → Stream → Type 0
-HasBody book st = octets_waiting st ≤ length (picked book st.pick).body
+HasBody book st = IsPickOf book st.pick × (octets_waiting st ≤ length (picked book st.pick).body)
 
--- what becomes of the streams: with the book, the streams before, and the initial window before and after
-abbrev pub IsSoundTouch : List Entry → List Stream → ℕ → ℕ → Touch → Type 0
-IsSoundTouch book streams before now Same = before ≡ now
-IsSoundTouch book streams before now (Put st) = IsSoundStream now st × HasBody book st × (before ≡ now)
-IsSoundTouch book streams before now (Shift from to) = (overflows (moved_by from to) streams ≡ false) × (from ≡ before) × (to ≡ now)
+-- what becomes of the streams: with the book, the records before, the initial window before, and the counts after
+abbrev pub IsSoundTouch : List Entry → Records → ℕ → Core → Touch → Type 0
+IsSoundTouch book r before now Same = (before ≡ now.peer.window) × (now.last ≡ r.last)
+IsSoundTouch book r before now (Put st) = IsSoundStream now.peer.window st × HasBody book st × (before ≡ now.peer.window) × CanPut st r × (now.last ≡ max r.last st.id)
+IsSoundTouch book r before now (Shift from to) = (overflows (moved_by from to) r.streams ≡ false) × (from ≡ before) × (to ≡ now.peer.window) × (now.last ≡ r.last)
 
--- with the initial window before it
-abbrev pub IsSoundChange : List Entry → List Stream → ℕ → Change → Type 0
-IsSoundChange book streams window c = IsSoundCore c.core × IsSoundTouch book streams window c.core.peer.window c.touch
+-- with the records and the initial window before it
+abbrev pub IsSoundChange : List Entry → Records → ℕ → Change → Type 0
+IsSoundChange book r window c = IsSoundCore c.core × IsSoundTouch book r window c.core c.touch
 
-abbrev pub IsSound : List Entry → List Stream → ℕ → Reaction → Type 0
-IsSound book streams window (ConnectionError code) = Unit {0}
-IsSound book streams window (Continues c) = IsSoundChange book streams window c
+abbrev pub IsSound : List Entry → Records → ℕ → Reaction → Type 0
+IsSound book r window (ConnectionError code) = Unit {0}
+IsSound book r window (Continues c) = IsSoundChange book r window c
 
--- a change that leaves the streams alone
+-- a change of the counts alone
 abbrev pub IsCalm : Core → Change → Type 0
-IsCalm core c = IsSoundCore c.core × (c.core.peer.window ≡ core.peer.window)
+IsCalm core c = IsSoundCore c.core × (c.core.peer.window ≡ core.peer.window) × (c.core.last ≡ core.last)
+
+-- all records are sound, with the book and the initial window
+abbrev pub AreSound : List Entry → ℕ → List Stream → Type 0
+AreSound book window streams = AllByRecursion (λ st. IsSoundStream window st × HasBody book st) streams
+
+-- what is true of the counts and the records of every connection
+pub record IsSoundState (book : List Entry) (core : Core) (r : Records) : Type 0 where
+  pub counts : IsSoundCore core
+  pub records : AreSound book core.peer.window r.streams
+  pub last : r.last ≡ core.last

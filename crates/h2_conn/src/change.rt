@@ -1,10 +1,10 @@
 //! Changes, and what a rule of one stream adds to them (RFC 9113, 5.4).
 //! Rests on h2_spec's types; definition: `specs/Change.antt` there.
 
-ghost use Rattle.std.specs.Prelude.{◌≡◌, ℕ, List};
+ghost use Rattle.std.specs.Prelude.{◌≡◌, ℕ, List, max};
 ghost use Rattle.h2_spec.specs.Change as changes;
 ghost use Rattle.h2_spec.specs.Stream as stream;
-ghost use Rattle.h2_spec.specs.declared.streams.Stream.{Stream};
+ghost use Rattle.h2_spec.specs.Stream.{CanPut, Records};
 ghost use Rattle.h2_spec.specs.declared.connection.Core.{Core};
 ghost use Rattle.h2_spec.specs.Answer.{Entry};
 ghost use Rattle.h2_conn.specs.Sound.{HasBody, IsCalm, IsSoundChange, IsSoundStream};
@@ -36,7 +36,8 @@ pub fn not_live(id: u32, kind: Kind) -> Stream
 
 /// The stream's record, with nothing sent.
 pub fn quiet_turn(signal: bool, stream: Stream) -> Turn
-    ensures { result ≡ changes.quiet_turn signal stream }
+    ensures rule { result ≡ changes.quiet_turn signal stream }
+    ensures id { result.stream.id ≡ stream.id }
 {
     Turn {
         stream,
@@ -50,6 +51,8 @@ pub fn quiet_turn(signal: bool, stream: Stream) -> Turn
 #[tactic(auto, unfolding(h2_spec::specs::Stream::octets_waiting))]
 pub fn stream_error(signal: bool, id: u32, code: ErrorCode) -> Turn
     ensures rule { result ≡ changes.stream_error signal id code }
+    ensures id { result.stream.id ≡ id }
+    ensures sound { (window : ℕ) → IsSoundStream window result.stream }
     ensures waits { (book : List Entry) → HasBody book result.stream }
 {
     Turn {
@@ -77,7 +80,7 @@ pub fn stay(core: Core) -> Change
 #[tactic(auto, unfolding(h2_spec::specs::Change::turned))]
 pub fn turned(change: Change, turn: Turn) -> Change
     ensures rule { result ≡ changes.turned change turn }
-    ensures sound { (book : List Entry) (streams : List Stream) (core : Core) → IsCalm core change → IsSoundStream core.peer.window turn.stream → HasBody book turn.stream → IsSoundChange book streams core.peer.window result }
+    ensures sound { (book : List Entry) (r : Records) (core : Core) → IsCalm core change → core.last ≡ max r.last turn.stream.id → IsSoundStream core.peer.window turn.stream → HasBody book turn.stream → CanPut turn.stream r → IsSoundChange book r core.peer.window result }
 {
     let core = change.core;
     let peer = Settings {

@@ -1,11 +1,11 @@
 //! The rule for DATA (RFC 9113, 6.1 and 6.9).
 //! Rests on `change` and `ends`; definitions: h2_spec's `specs/Data.antt`, and `on_data` of `specs/Effect.antt`.
 
-ghost use Rattle.std.specs.Prelude.{◌≡◌, ℕ, ◌+◌, ◌<◌, ◌≤◌, ◌^◌, List, length, pos, ◌≤ℤ◌};
+ghost use Rattle.std.specs.Prelude.{◌≡◌, ℕ, ◌+◌, ◌<◌, ◌≤◌, ◌^◌, true, List, length, pos, ◌≤ℤ◌};
 ghost use Rattle.h2_spec.specs.Answer.{Entry, picked};
 ghost use Rattle.h2_spec.specs.Data as rule;
 ghost use Rattle.h2_spec.specs.Effect as effect;
-ghost use Rattle.h2_spec.specs.declared.streams.Stream.{Stream};
+ghost use Rattle.h2_spec.specs.Stream.{Records, is_live, stream_at};
 ghost use Rattle.h2_conn.specs.Sound.{HasBody, IsCalm, IsCredit, IsSound, IsSoundCore, IsSoundStream};
 
 use crate::change::{quiet_turn, stay, stream_error, turned};
@@ -45,6 +45,7 @@ fn counted(threshold: u32, core: Core, count: u32) -> Change
 fn returned(threshold: u32, signal: bool, stream: Stream) -> Turn
     requires credit { IsCredit stream.numbers.recv stream.numbers.owed }
     ensures rule { result ≡ rule.returned threshold signal stream }
+    ensures id { result.stream.id ≡ stream.id }
     ensures sound { (window : ℕ) → window ≤ 2147483647 → IsSoundStream window stream → IsSoundStream window result.stream }
     ensures waits { (book : List Entry) → HasBody book stream → HasBody book result.stream }
 {
@@ -70,6 +71,7 @@ fn taken(stream: Stream, came: Came) -> Stream
     requires recv { pos came.octets ≤ℤ stream.numbers.recv }
     requires credit { IsCredit stream.numbers.recv stream.numbers.owed }
     ensures rule { result ≡ rule.taken stream came }
+    ensures id { result.id ≡ stream.id }
     ensures sound { (window : ℕ) → IsSoundStream window stream → IsSoundStream window result }
     ensures waits { (book : List Entry) → HasBody book stream → HasBody book result }
 {
@@ -88,6 +90,7 @@ fn taken(stream: Stream, came: Came) -> Stream
 fn data_turn(threshold: u32, signal: bool, body: u64, came: Came, stream: Stream) -> Turn
     requires credit { IsCredit stream.numbers.recv stream.numbers.owed }
     ensures rule { result ≡ rule.data_turn threshold signal body came stream }
+    ensures id { result.stream.id ≡ stream.id }
     ensures sound { (window : ℕ) → window ≤ 2147483647 → IsSoundStream window stream → IsSoundStream window result.stream }
     ensures waits { (book : List Entry) → body ≡ length (picked book stream.pick).body → HasBody book stream → HasBody book result.stream }
 {
@@ -113,7 +116,7 @@ pub fn on_data(config: Config, core: Core, body: u64, came: Came, stream: Stream
     requires core { IsSoundCore core }
     requires stream { IsSoundStream core.peer.window stream }
     ensures rule { result ≡ effect.on_data config core body came stream }
-    ensures sound { (book : List Entry) (streams : List Stream) → body ≡ length (picked book stream.pick).body → HasBody book stream → IsSound book streams core.peer.window result }
+    ensures sound { (book : List Entry) (r : Records) → body ≡ length (picked book stream.pick).body → HasBody book stream → stream ≡ stream_at r.last r.streams stream.id → r.last ≡ core.last → IsSound book r core.peer.window result }
 {
     match stream.kind {
         Kind::Idle => Reaction::ConnectionError(ErrorCode::ProtocolError),
@@ -132,7 +135,7 @@ fn data_taken(config: Config, core: Core, body: u64, came: Came, stream: Stream)
     requires core { IsSoundCore core }
     requires stream { IsSoundStream core.peer.window stream }
     ensures rule { result ≡ rule.data_taken config core body came stream }
-    ensures sound { (book : List Entry) (streams : List Stream) → body ≡ length (picked book stream.pick).body → HasBody book stream → IsSound book streams core.peer.window result }
+    ensures sound { (book : List Entry) (r : Records) → body ≡ length (picked book stream.pick).body → HasBody book stream → stream ≡ stream_at r.last r.streams stream.id → is_live stream.kind ≡ true → r.last ≡ core.last → IsSound book r core.peer.window result }
 {
     if core.recv.is_below(came.octets) {
         return Reaction::ConnectionError(ErrorCode::FlowControlError);
@@ -149,7 +152,7 @@ fn data_taken(config: Config, core: Core, body: u64, came: Came, stream: Stream)
 fn data_refused(config: Config, core: Core, came: Came, stream: Stream, code: ErrorCode) -> Reaction
     requires core { IsSoundCore core }
     ensures rule { result ≡ rule.data_refused config core came stream code }
-    ensures sound { (book : List Entry) (streams : List Stream) → IsSound book streams core.peer.window result }
+    ensures sound { (book : List Entry) (r : Records) → stream ≡ stream_at r.last r.streams stream.id → is_live stream.kind ≡ true → r.last ≡ core.last → IsSound book r core.peer.window result }
 {
     if core.recv.is_below(came.octets) {
         return Reaction::ConnectionError(ErrorCode::FlowControlError);
@@ -165,7 +168,7 @@ fn data_refused(config: Config, core: Core, came: Came, stream: Stream, code: Er
 fn data_counted(config: Config, core: Core, came: Came) -> Reaction
     requires core { IsSoundCore core }
     ensures rule { result ≡ rule.data_counted config core came }
-    ensures sound { (book : List Entry) (streams : List Stream) → IsSound book streams core.peer.window result }
+    ensures sound { (book : List Entry) (r : Records) → r.last ≡ core.last → IsSound book r core.peer.window result }
 {
     if core.recv.is_below(came.octets) {
         return Reaction::ConnectionError(ErrorCode::FlowControlError);

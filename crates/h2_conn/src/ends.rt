@@ -15,6 +15,7 @@ use h2_spec::streams::{Kind, Numbers, Stream};
 #[tactic(auto, unfolding(h2_spec::specs::Ends::server_ended, h2_spec::specs::Stream::octets_waiting))]
 pub fn server_ended(stream: Stream) -> Stream
     ensures rule { result ≡ rule.server_ended stream }
+    ensures id { result.id ≡ stream.id }
     ensures sound { (window : ℕ) → window ≤ 2147483647 → IsSoundStream window stream → IsSoundStream window result }
     ensures waits { (book : List Entry) → HasBody book stream → HasBody book result }
 {
@@ -44,8 +45,9 @@ pub fn server_ended(stream: Stream) -> Stream
 #[tactic(auto, unfolding(h2_spec::specs::Stream::octets_waiting))]
 pub fn with_left(stream: Stream, left: u64) -> Stream
     ensures rule { result ≡ rule.with_left stream left }
+    ensures id { result.id ≡ stream.id }
     ensures sound { (window : ℕ) → IsSoundStream window stream → IsSoundStream window result }
-    ensures waits { (book : List Entry) → left ≤ length (picked book stream.pick).body → HasBody book result }
+    ensures waits { (book : List Entry) → HasBody book stream → left ≤ length (picked book stream.pick).body → HasBody book result }
 {
     let numbers = Numbers {
         left: Some(left),
@@ -58,6 +60,7 @@ pub fn with_left(stream: Stream, left: u64) -> Stream
 #[tactic(auto, unfolding(h2_spec::specs::Ends::begun))]
 fn begun(body: u64, stream: Stream) -> Stream
     ensures rule { result ≡ rule.begun body stream }
+    ensures id { result.id ≡ stream.id }
     ensures sound { (window : ℕ) → window ≤ 2147483647 → IsSoundStream window stream → IsSoundStream window result }
     ensures waits { (book : List Entry) → body ≡ length (picked book stream.pick).body → HasBody book stream → HasBody book result }
 {
@@ -72,6 +75,7 @@ fn begun(body: u64, stream: Stream) -> Stream
 #[tactic(auto, unfolding(h2_spec::specs::Ends::answered))]
 fn answered(signal: bool, body: u64, stream: Stream) -> Turn
     ensures rule { result ≡ rule.answered signal body stream }
+    ensures id { result.stream.id ≡ stream.id }
     ensures sound { (window : ℕ) → window ≤ 2147483647 → IsSoundStream window stream → IsSoundStream window result.stream }
     ensures waits { (book : List Entry) → body ≡ length (picked book stream.pick).body → HasBody book stream → HasBody book result.stream }
 {
@@ -92,6 +96,7 @@ fn answered(signal: bool, body: u64, stream: Stream) -> Turn
 #[tactic(auto, unfolding(h2_spec::specs::Ends::peer_ended, h2_spec::specs::Stream::octets_waiting))]
 pub fn peer_ended(signal: bool, body: u64, stream: Stream) -> Turn
     ensures rule { result ≡ rule.peer_ended signal body stream }
+    ensures id { result.stream.id ≡ stream.id }
     ensures sound { (window : ℕ) → window ≤ 2147483647 → IsSoundStream window stream → IsSoundStream window result.stream }
     ensures waits { (book : List Entry) → body ≡ length (picked book stream.pick).body → HasBody book stream → HasBody book result.stream }
 {

@@ -4,6 +4,7 @@
 ghost use Rattle.std.specs.Prelude.{◌≡◌, ℕ, ◌≤◌, List, length};
 ghost use Rattle.h2_spec.specs.Headers as rule;
 ghost use Rattle.h2_spec.specs.Answer.{Entry, picked};
+ghost use Rattle.h2_request.specs.Lent.{IsPickOf};
 ghost use Rattle.h2_conn.specs.Sound.{HasBody, IsSoundCore, IsSoundStream};
 
 use crate::change::{quiet_turn, stream_error};
@@ -22,8 +23,9 @@ const MAX_LIST: u64 = 65_536;
 fn new_stream(core: Core, id: u32, facts: Facts) -> Stream
     requires core { IsSoundCore core }
     ensures rule { result ≡ rule.new_stream core id facts }
+    ensures id { result.id ≡ id }
     ensures sound { IsSoundStream core.peer.window result }
-    ensures waits { (book : List Entry) → HasBody book result }
+    ensures waits { (book : List Entry) → IsPickOf book facts.pick → HasBody book result }
 {
     let numbers = Numbers {
         recv: Window::start(core.own.window),
@@ -64,8 +66,9 @@ pub fn request_turn(
 ) -> Turn
     requires core { IsSoundCore core }
     ensures rule { result ≡ rule.request_turn config live body core id ends facts }
+    ensures id { result.stream.id ≡ id }
     ensures sound { IsSoundStream core.peer.window result.stream }
-    ensures waits { (book : List Entry) → body ≡ length (picked book facts.pick).body → HasBody book result.stream }
+    ensures waits { (book : List Entry) → body ≡ length (picked book facts.pick).body → IsPickOf book facts.pick → HasBody book result.stream }
 {
     let signal = core.peer.signal;
     if config.streams as usize <= live {
@@ -96,6 +99,7 @@ pub fn trailers_turn(
     stream: Stream,
 ) -> Turn
     ensures rule { result ≡ rule.trailers_turn size malformed body signal ends stream }
+    ensures id { result.stream.id ≡ stream.id }
     ensures sound { (window : ℕ) → window ≤ 2147483647 → IsSoundStream window stream → IsSoundStream window result.stream }
     ensures waits { (book : List Entry) → body ≡ length (picked book stream.pick).body → HasBody book stream → HasBody book result.stream }
 {

@@ -10,6 +10,7 @@ mod pump;
 mod reset;
 mod settings;
 pub mod show;
+mod state;
 pub mod view;
 mod window_update;
 mod write;

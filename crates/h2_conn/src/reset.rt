@@ -3,7 +3,7 @@
 
 ghost use Rattle.std.specs.Prelude.{◌≡◌, List};
 ghost use Rattle.h2_spec.specs.Effect as rule;
-ghost use Rattle.h2_spec.specs.declared.streams.Stream.{Stream};
+ghost use Rattle.h2_spec.specs.Stream.{Records, stream_at};
 ghost use Rattle.h2_spec.specs.Answer.{Entry};
 ghost use Rattle.h2_conn.specs.Sound.{IsSound, IsSoundCore};
 
@@ -18,7 +18,7 @@ use h2_spec::streams::{Kind, Stream};
 pub fn on_reset(core: Core, stream: Stream) -> Reaction
     requires core { IsSoundCore core }
     ensures rule { result ≡ rule.on_reset core stream }
-    ensures sound { (book : List Entry) (streams : List Stream) → IsSound book streams core.peer.window result }
+    ensures sound { (book : List Entry) (r : Records) → stream ≡ stream_at r.last r.streams stream.id → r.last ≡ core.last → IsSound book r core.peer.window result }
 {
     match stream.kind {
         Kind::Idle => Reaction::ConnectionError(ErrorCode::ProtocolError),

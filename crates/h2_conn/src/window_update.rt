@@ -4,7 +4,7 @@
 ghost use Rattle.std.specs.Prelude.{◌≡◌, ℕ, List, ◌≤◌};
 ghost use Rattle.h2_spec.specs.WindowUpdate as rule;
 ghost use Rattle.h2_spec.specs.Effect as effect;
-ghost use Rattle.h2_spec.specs.declared.streams.Stream.{Stream};
+ghost use Rattle.h2_spec.specs.Stream.{Records, stream_at};
 ghost use Rattle.h2_spec.specs.Answer.{Entry};
 ghost use Rattle.h2_conn.specs.Sound.{HasBody, IsSound, IsSoundCore, IsSoundStream};
 
@@ -18,6 +18,7 @@ use h2_spec::streams::{Kind, Numbers, Stream};
 #[tactic(auto, unfolding(h2_spec::specs::WindowUpdate::window_turn, h2_spec::specs::Stream::octets_waiting))]
 fn window_turn(signal: bool, increment: u32, stream: Stream) -> Turn
     ensures rule { result ≡ rule.window_turn signal increment stream }
+    ensures id { result.stream.id ≡ stream.id }
     ensures sound { (window : ℕ) → window ≤ 2147483647 → IsSoundStream window stream → IsSoundStream window result.stream }
     ensures waits { (book : List Entry) → HasBody book stream → HasBody book result.stream }
 {
@@ -41,7 +42,7 @@ pub fn on_window(core: Core, increment: u32, stream: Stream) -> Reaction
     requires core { IsSoundCore core }
     requires stream { IsSoundStream core.peer.window stream }
     ensures rule { result ≡ effect.on_window core increment stream }
-    ensures sound { (book : List Entry) (streams : List Stream) → HasBody book stream → IsSound book streams core.peer.window result }
+    ensures sound { (book : List Entry) (r : Records) → HasBody book stream → stream ≡ stream_at r.last r.streams stream.id → r.last ≡ core.last → IsSound book r core.peer.window result }
 {
     match stream.kind {
         Kind::Idle => Reaction::ConnectionError(ErrorCode::ProtocolError),
@@ -60,7 +61,7 @@ pub fn on_window(core: Core, increment: u32, stream: Stream) -> Reaction
 pub fn connection_window(core: Core, increment: u32) -> Reaction
     requires core { IsSoundCore core }
     ensures rule { result ≡ rule.connection_window core increment }
-    ensures sound { (book : List Entry) (streams : List Stream) → IsSound book streams core.peer.window result }
+    ensures sound { (book : List Entry) (r : Records) → r.last ≡ core.last → IsSound book r core.peer.window result }
 {
     if increment == 0 {
         return Reaction::ConnectionError(ErrorCode::ProtocolError);
