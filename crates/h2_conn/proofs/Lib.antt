@@ -1,4 +1,5 @@
 mod AboveLaws
 mod Pieces
+mod RequestTurnLaws
 mod SettingsLaws
 mod SoundLaws

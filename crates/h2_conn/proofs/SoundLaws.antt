@@ -1,9 +1,10 @@
 -- The counts stay within their limits, and the records within what the book has.
-use Rattle.std.proofs.Common.{◌≡◌, ℕ, ◌%◌, ltb, eqb, ◌≤◌, List, Bool, true, false, cond, max, refl, sym, ap, subst, ◌⊎◌, inl, inr, ◌∙◌, arith}
+use Rattle.std.proofs.Common.{◌≡◌, ℕ, ◌%◌, ltb, eqb, ◌≤◌, List, Bool, true, false, cond, ◌||◌, ◌&&◌, not, max, refl, sym, ap, subst, ◌⊎◌, inl, inr, ◌∙◌, arith}
 use Rattle.h2_spec.specs.declared.streams.Stream.{Stream}
 use Rattle.h2_spec.specs.declared.streams.Kind.{Kind}
 use Rattle.h2_spec.specs.declared.streams.Kind.TheVariants.{Idle, BothOpen, HalfRemote, HalfLocal}
-use Rattle.h2_spec.specs.Stream.{CanPut, Records, is_live, kind_of, not_live, octets_waiting, record_of, recorded, stream_at}
+use Rattle.h2_streams.specs.Put.{CanPut, is_closed}
+use Rattle.h2_spec.specs.Stream.{Records, is_live, kind_of, not_live, octets_waiting, record_of, recorded, stream_at}
 use Rattle.h2_spec.specs.Answer.{Entry}
 use Rattle.h2_spec.specs.Change.{follows_initial_window}
 use Rattle.h2_conn.specs.Sound.{HasBody, IsSoundStream}
@@ -44,4 +45,5 @@ live-put r st now found live same =
     let live_there : is_live (kind_of r.last r.streams st.id) ≡ true = subst (λ (x : Stream). is_live x.kind ≡ true) found live in
     let within : st.id ≤ r.last = live-within r.last st.id r.streams live_there in
     let here : is_live (kind_of r.last r.streams now.id) ≡ true = rw same live_there in
-    ((λ above. absurd (omega (arith, above, within, same)), λ below. here), omega (arith, within, same))
+    let k = kind_of r.last r.streams now.id in
+    ((λ above. absurd (omega (arith, above, within, same)), λ below. ap (λ t. t || (is_closed k && not (is_live now.kind))) here), omega (arith, within, same))

@@ -9,7 +9,8 @@ use Rattle.h2_spec.specs.declared.reactions.Touch.{Touch}
 use Rattle.h2_spec.specs.declared.reactions.Touch.TheVariants.{Same, Put, Shift}
 use Rattle.h2_spec.specs.declared.streams.Stream.{Stream}
 use Rattle.h2_spec.specs.Answer.{Entry, picked}
-use Rattle.h2_spec.specs.Stream.{CanPut, Records, octets_waiting}
+use Rattle.h2_spec.specs.Stream.{Records, octets_waiting}
+use Rattle.h2_streams.specs.Put.{CanPut}
 use Rattle.h2_request.specs.Lent.{IsPickOf}
 use Rattle.h2_spec.specs.Change.{follows_initial_window, overflows, moved_by}
 

@@ -4,7 +4,8 @@
 ghost use Rattle.std.specs.Prelude.{◌≡◌, ℕ, List, max};
 ghost use Rattle.h2_spec.specs.Change as changes;
 ghost use Rattle.h2_spec.specs.Stream as stream;
-ghost use Rattle.h2_spec.specs.Stream.{CanPut, Records};
+ghost use Rattle.h2_spec.specs.Stream.{Records};
+ghost use Rattle.h2_streams.specs.Put.{CanPut};
 ghost use Rattle.h2_spec.specs.declared.connection.Core.{Core};
 ghost use Rattle.h2_spec.specs.Answer.{Entry};
 ghost use Rattle.h2_conn.specs.Sound.{HasBody, IsCalm, IsSoundChange, IsSoundStream};
