@@ -29,6 +29,9 @@ pub const MAX_ENTRIES: usize = 1000;
 /// The most octets of an answer's body.
 pub const MAX_BODY: usize = 1_048_576;
 
+/// The field block of a bare 404: the index of `:status: 404` (RFC 7541, Appendix A).
+static NOT_FOUND: [u8; 1] = [0x8d];
+
 /// An entry of the book: the answer to requests with this method and this path.
 #[derive(Drop)]
 pub struct Entry<A: Allocator> {
@@ -191,13 +194,16 @@ impl<A: Allocator> Book<A> {
             .position(|entry| is_entry_for(entry, method, path))
     }
 
-    /// The answer to a request that made this pick: that of the entry, or a bare 404 or 501.
+    /// The answer to a request that made this pick: that of the entry, or a bare 404 or 501; a bare 404 too where there is no
+    /// such entry, which `find` of this book never picks.
     pub fn answer(&self, pick: Pick) -> Answer<'_, A>
-        requires { IsPickOf self.now pick }
         ensures { answered result ≡ picked self.now pick }
     {
         match pick {
-            Pick::Listed(place) => answer_of(&self.entries[place]),
+            Pick::Listed(place) => match self.entries.get(place) {
+                Some(stored) => answer_of(stored),
+                None => self.bare(404),
+            },
             Pick::NotFound => self.bare(404),
             Pick::Connect => self.bare(501),
         }
@@ -207,13 +213,15 @@ impl<A: Allocator> Book<A> {
     /// entry was added.
     #[tactic(auto, unfolding(h2_spec::specs::Answer::response_block))]
     pub fn block(&self, pick: Pick) -> &[u8]
-        requires { IsPickOf self.now pick }
         ensures block { result.now ≡ block_of_answer (picked self.now pick) }
         ensures within { length result.now ≤ 16383 }
     {
         match pick {
-            Pick::Listed(place) => block_of(&self.entries[place]),
-            Pick::NotFound => b"\x8d".as_slice(),
+            Pick::Listed(place) => match self.entries.get(place) {
+                Some(stored) => block_of(stored),
+                None => NOT_FOUND.as_slice(),
+            },
+            Pick::NotFound => NOT_FOUND.as_slice(),
             Pick::Connect => b"\x08\x03501".as_slice(),
         }
     }
