@@ -66,6 +66,7 @@ fn fields_alone(rt: HostRuntime) -> Result<(), Fail> {
         ("a b", "c", 1, "8.2.1: a space in a name"),
         ("a:b", "c", 1, "8.2.1: a colon in a name"),
         ("a\x7f", "c", 1, "8.2.1: DEL in a name"),
+        ("a", "b\x00c", 2, "8.2.1: NUL in a value"),
         ("a", "b\nc", 2, "8.2.1: LF in a value"),
         ("a", "b\rc", 2, "8.2.1: CR in a value"),
         ("a", " b", 2, "8.2.1: a space before a value"),
@@ -84,10 +85,12 @@ fn fields_alone(rt: HostRuntime) -> Result<(), Fail> {
         ),
         ("upgrade", "h2c", 7, "8.2.2: upgrade"),
         ("te", "trailers", 0, "8.2.2: te"),
+        ("te", "Trailers", 0, "8.2.2: te in another case"),
         ("te", "gzip", 8, "8.2.2: te that is not trailers"),
         ("content-length", "12", 0, "8.1.1: a number"),
         ("content-length", "1x", 9, "8.1.1: no number"),
         ("content-length", "", 9, "8.1.1: no digit"),
+        ("A", " b", 1, "8.2.1: a name and a value, the name first"),
     ];
     for (name, value, reason, message) in rows {
         assert_eq!(rt; get(rt.alloc(), name, value)?, reason, "{message}");
@@ -123,6 +126,11 @@ fn pseudo_fields_and_lengths(rt: HostRuntime) -> Result<(), Fail> {
         6,
         "8.3.1: no path"
     );
+    let empty = request(
+        alloc,
+        &[(":method", "GET"), (":scheme", "http"), (":path", "")],
+    )?;
+    assert_eq!(rt; empty, 6, "8.3.1: an empty path");
     assert_eq!(rt;
         request(alloc, &[(":method", "CONNECT"), (":authority", "a:1")])?,
         0,
@@ -142,6 +150,15 @@ fn pseudo_fields_and_lengths(rt: HostRuntime) -> Result<(), Fail> {
         ],
     )?;
     assert_eq!(rt; path, 6, "8.5: CONNECT with a path");
+    let scheme = request(
+        alloc,
+        &[
+            (":method", "CONNECT"),
+            (":authority", "a:1"),
+            (":scheme", "http"),
+        ],
+    )?;
+    assert_eq!(rt; scheme, 6, "8.5: CONNECT with a scheme");
     let base = [(":method", "GET"), (":scheme", "http"), (":path", "/")];
     let equal = request(
         alloc,
@@ -274,7 +291,14 @@ fn requests_pick_answers(rt: HostRuntime) -> Result<(), Fail> {
     assert_eq!(rt; answer.status, 200);
     assert_eq!(rt; answer.body, b"hi".as_slice());
     assert_eq!(rt; answer.fields.len(), 1);
+    assert_eq!(rt;
+        book.block(pick),
+        b"\x88\x00\x01a\x01b".as_slice(),
+        "RFC 7541, 6.1 and 6.2.2"
+    );
     assert_eq!(rt; book.answer(Pick::NotFound).status, 404);
     assert_eq!(rt; book.answer(Pick::Connect).status, 501);
+    assert_eq!(rt; book.block(Pick::NotFound), b"\x8d".as_slice());
+    assert_eq!(rt; book.block(Pick::Connect), b"\x08\x03501".as_slice());
     Ok(())
 }
