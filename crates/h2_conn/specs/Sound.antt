@@ -9,10 +9,10 @@ use Rattle.h2_spec.specs.declared.reactions.Touch.{Touch}
 use Rattle.h2_spec.specs.declared.reactions.Touch.TheVariants.{Same, Put, Shift}
 use Rattle.h2_spec.specs.declared.streams.Stream.{Stream}
 use Rattle.h2_spec.specs.Answer.{Entry, picked}
-use Rattle.h2_spec.specs.Stream.{Records, octets_waiting}
+use Rattle.h2_spec.specs.Stream.{Records, octets_waiting, with_record}
 use Rattle.h2_streams.specs.Put.{CanPut}
 use Rattle.h2_request.specs.Lent.{IsPickOf}
-use Rattle.h2_spec.specs.Change.{follows_initial_window, overflows, moved_by}
+use Rattle.h2_spec.specs.Change.{follows_initial_window, overflows, moved_by, shifted}
 
 -- octets that may be given back: the window does not pass its greatest value with them
 abbrev pub IsCredit : ℤ → ℕ → Type 0
@@ -57,3 +57,9 @@ pub record IsSoundState (book : List Entry) (core : Core) (r : Records) : Type 0
   pub counts : IsSoundCore core
   pub records : AreSound book core.peer.window r.streams
   pub last : r.last ≡ core.last
+
+-- the records after a change
+abbrev pub touched_records : Touch → Records → Records
+touched_records Same r = r
+touched_records (Put st) r = with_record st r
+touched_records (Shift from to) r = record r { streams = shifted (moved_by from to) r.streams }

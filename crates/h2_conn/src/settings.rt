@@ -5,9 +5,12 @@ ghost use Rattle.std.specs.Prelude.{◌≡◌, List, Ok, Err};
 ghost use Rattle.h2_frame.specs.Parts.{settings_in};
 ghost use Rattle.h2_spec.specs.Change.{moved_by};
 ghost use Rattle.h2_spec.specs.SettingsFrame as rule;
+ghost use Rattle.h2_spec.specs.Answer.{Entry};
+ghost use Rattle.h2_spec.specs.Stream.{Records};
 ghost use Rattle.h2_spec.specs.declared.streams.Stream.{Stream};
 ghost use Rattle.h2_streams.specs.Greatest.{IsGreatest, overflows_with};
 ghost use Rattle.h2_conn.specs.OneSetting.{one_setting};
+ghost use Rattle.h2_conn.specs.Sound.{IsSound, IsSoundState};
 
 use crate::change::stay;
 use h2_frame::SettingsPart;
@@ -74,7 +77,8 @@ fn settings_applied(
 /// SETTINGS without ACK: all of the frame, or none of it; `greatest` is the greatest of the send windows that settings move.
 #[tactic(auto, unfolding(h2_spec::specs::SettingsFrame::settings_rule))]
 pub fn settings_rule(greatest: &Option<Window>, core: Core, part: SettingsPart<'_>) -> Reaction
-    ensures { (streams : List Stream) → IsGreatest greatest.now streams → result ≡ rule.settings_rule streams core (settings_in part.entry) }
+    ensures rule { (streams : List Stream) → IsGreatest greatest.now streams → result ≡ rule.settings_rule streams core (settings_in part.entry) }
+    ensures sound { (book : List Entry) (r : Records) → IsGreatest greatest.now r.streams → IsSoundState book core r → IsSound book r core.peer.window result }
 {
     let before = core.peer.window;
     match settings_applied(greatest, core.peer, part) {
@@ -96,7 +100,8 @@ pub fn settings_rule(greatest: &Option<Window>, core: Core, part: SettingsPart<'
 
 /// SETTINGS with ACK: the peer has acknowledged the server's settings.
 pub fn acknowledged(core: Core) -> Reaction
-    ensures { result ≡ rule.acknowledged core }
+    ensures rule { result ≡ rule.acknowledged core }
+    ensures sound { (book : List Entry) (r : Records) → IsSoundState book core r → IsSound book r core.peer.window result }
 {
     Reaction::Continues(stay(Core {
         acked: true,
