@@ -1,4 +1,6 @@
 mod AboveLaws
+mod BlockLaws
+mod FoundLaws
 mod Pieces
 mod RequestTurnLaws
 mod SettingsLaws

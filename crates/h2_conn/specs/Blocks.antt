@@ -1,8 +1,41 @@
 -- Field blocks that are not at their end.
-use Rattle.std.specs.Prelude.{◌≡◌, false, Some}
+use Rattle.std.specs.Prelude.{◌≡◌, ℕ, ◌<◌, ◌%◌, true, false, List, Option, Some, None}
+use Rattle.h2_spec.specs.declared.connection.Config.{Config}
+use Rattle.h2_spec.specs.declared.connection.Core.{Core}
+use Rattle.h2_spec.specs.declared.connection.Purpose.{Purpose}
+use Rattle.h2_spec.specs.declared.connection.Purpose.TheVariants.{Request, Trailers, Closed, TableOnly}
+use Rattle.h2_spec.specs.declared.streams.Kind.TheVariants.{WeReset}
+use Rattle.h2_spec.specs.declared.streams.Stream.{Stream}
+use Rattle.h2_spec.specs.Answer.{Entry}
 use Rattle.h2_spec.specs.Block.{BlockSoFar, Unfinished}
+use Rattle.h2_spec.specs.DynamicTable.{Table}
+use Rattle.h2_spec.specs.State.{Decoding, OpenBlock, State}
+use Rattle.h2_spec.specs.Stream.{Records, is_peer_open, kind_of}
 use Rattle.h2_fields.specs.Blocks.{unfinished}
+use Rattle.h2_streams.specs.Put.{can_become}
 
 -- a block whose decoder has met no fault and no want of memory, and need not begin with a size update
 abbrev pub IsGoing : BlockSoFar → Type 0
 IsGoing b = (b.due ≡ false) × (b.outcome ≡ Some (Unfinished (unfinished b.outcome)))
+
+-- a state of these parts
+abbrev pub state_of : List Entry → Config → Core → Option OpenBlock → Table → List Stream → State
+state_of book config core block table streams = record { book = book; config = config; core = core; block = block; table = table; streams = streams }
+
+-- ---- the stream of an open block
+
+-- by what the block is for: a client's stream above the others, one that the peer may still send on, or one that the server may reset
+abbrev pub IsOpenAt : Records → ℕ → Purpose → Type 0
+IsOpenAt r id Request = (r.last < id) × (id % 2 ≡ 1)
+IsOpenAt r id Trailers = is_peer_open (kind_of r.last r.streams id) ≡ true
+IsOpenAt r id Closed = can_become (kind_of r.last r.streams id) WeReset ≡ true
+IsOpenAt r id TableOnly = Unit {0}
+
+abbrev pub IsDecodedAt : Records → ℕ → Option Decoding → Type 0
+IsDecodedAt r id None = Unit {0}
+IsDecodedAt r id (Some d) = IsOpenAt r id d.purpose
+
+-- where no block is open, there is nothing to know
+abbrev pub IsOpenFor : Records → Option OpenBlock → Type 0
+IsOpenFor r None = Unit {0}
+IsOpenFor r (Some b) = IsDecodedAt r b.shown.stream b.decoding
