@@ -1,6 +1,7 @@
 mod AboveLaws
 mod BlockLaws
 mod FoundLaws
+mod KindLaws
 mod Pieces
 mod RequestTurnLaws
 mod SettingsLaws
