@@ -1,11 +1,16 @@
 -- What sending leaves as it is of the streams' states.
-use Rattle.std.proofs.Common.{◌≡◌, ℕ, ◌-◌, ◌%◌, ltb, eqb, List, [], ◌∷◌, Bool, true, false, cond, Some, refl, ap, ◌∙◌}
+use Rattle.std.proofs.Common.{◌≡◌, ℕ, ◌-◌, ◌%◌, ltb, eqb, List, [], ◌∷◌, Bool, true, false, cond, Option, Some, None, refl, ap, ◌∙◌}
 use Rattle.h2_spec.specs.declared.streams.Kind.{Kind}
 use Rattle.h2_spec.specs.declared.streams.Kind.TheVariants.{Idle, Skipped, BothOpen, HalfRemote, HalfLocal, Ended, PeerReset, WeReset}
 use Rattle.h2_spec.specs.declared.streams.Stream.{Stream}
+use Rattle.h2_spec.specs.declared.connection.Purpose.{Purpose}
+use Rattle.h2_spec.specs.declared.connection.Purpose.TheVariants.{Request, Trailers, Closed, TableOnly}
+use Rattle.h2_spec.specs.State.{Decoding, OpenBlock}
 use Rattle.h2_spec.specs.Ends.{server_ended, server_ended_as, with_left}
 use Rattle.h2_spec.specs.Pump.{after_sending, all_after_sending, share, with_paid}
-use Rattle.h2_spec.specs.Stream.{kind_of, not_live, octets_waiting, record_of, recorded, stream_at}
+use Rattle.h2_spec.specs.Stream.{Records, is_peer_open, kind_of, not_live, octets_waiting, record_of, recorded, stream_at}
+use Rattle.h2_streams.specs.Put.{can_become}
+use Rattle.h2_conn.specs.Blocks.{IsDecodedAt, IsOpenAt, IsOpenFor}
 use Rattle.h2_conn.proofs.AboveLaws.{id-after_sending}
 
 -- a test that says the same of a state and of that after the server's last frame
@@ -60,3 +65,21 @@ sent-kinds test both half last id window streams = by_tests (eqb (id % 2) 0) (lt
     by_tests true t = refl
     by_tests false true = refl
     by_tests false false = sent-record test both half id window streams
+
+-- the stream of an open block stays as the block's end needs it
+pub open-after-sending : (r : Records) (window : ℕ) (block : Option OpenBlock) → IsOpenFor r block → IsOpenFor (record r { streams = all_after_sending window r.streams }) block
+open-after-sending r window None h = tt
+open-after-sending r window (Some b) h = by_decoding b.decoding h
+  where
+    id : ℕ
+    id = b.shown.stream
+
+    by_purpose : (purpose : Purpose) → IsOpenAt r id purpose → IsOpenAt (record r { streams = all_after_sending window r.streams }) id purpose
+    by_purpose Request g = g
+    by_purpose Trailers g = sent-kinds is_peer_open refl refl r.last id window r.streams ∙ g
+    by_purpose Closed g = sent-kinds (λ k. can_become k WeReset) refl refl r.last id window r.streams ∙ g
+    by_purpose TableOnly g = tt
+
+    by_decoding : (d : Option Decoding) → IsDecodedAt r id d → IsDecodedAt (record r { streams = all_after_sending window r.streams }) id d
+    by_decoding None g = tt
+    by_decoding (Some d) g = by_purpose d.purpose g

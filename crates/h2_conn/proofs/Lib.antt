@@ -1,6 +1,5 @@
 mod AboveLaws
 mod BlockLaws
-mod FoundLaws
 mod KindLaws
 mod Pieces
 mod RequestTurnLaws

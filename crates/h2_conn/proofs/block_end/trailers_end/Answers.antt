@@ -3,8 +3,7 @@ use Rattle.h2_spec.specs.declared.streams.Stream.{Stream}
 use Rattle.h2_spec.specs.Stream.{is_live, kind_of, stream_at}
 use Rattle.h2_conn.specs.Sound.{HasBody, IsCalm, IsSoundStream}
 use Rattle.h2_conn.proofs.BlockLaws.{peer-open-live}
-use Rattle.h2_conn.proofs.FoundLaws.{found-sound}
-use Rattle.h2_conn.proofs.SoundLaws.{live-put}
+use Rattle.h2_conn.proofs.SoundLaws.{found-sound, live-put}
 use Rattle.h2_conn.proofs.block_end.trailers_end.Goals as goal
 
 pub returns-clause-sound : goal.returns-clause-sound
@@ -17,7 +16,7 @@ returns-clause-sound g c =
     let is = c.stream_at-stream.ensures.value in
     let id = c.stream_at-stream.ensures.id in
     let turn = c.trailers_turn-turn.ensures in
-    let found = found-sound a.book.now window r.last a.shown.now.stream r.streams within c.requires.sound.records in
+    let found = found-sound a.book.now window r.last a.shown.now.stream r.streams c.requires.sound.records in
     let sound = subst (IsSoundStream window) (sym is) found.0 in
     let has = subst (HasBody a.book.now) (sym is) found.1 in
     let itself : st ≡ stream_at r.last r.streams st.id = is ∙ ap (λ i. stream_at r.last r.streams i) (sym id) in
