@@ -1,6 +1,6 @@
 use Rattle.std.proofs.Common.{arith, ◌≡◌, ◌-◌, ◌<◌, ◌≤◌, ◌∷◌, length, ap, ◌∙◌, sym, List}
 use Rattle.h2_spec.specs.Field.{Field, size}
-use Rattle.h2_spec.specs.DynamicTable.{Table, LimitedTable, fit, insert}
+use Rattle.h2_spec.specs.DynamicTable.{LimitedTable, fit, insert}
 use Rattle.h2_spec.proofs.TableLaws.{fit-none, fit-zero, fit-cons}
 use Rattle.h2_table.specs.Held.{places_for}
 use Rattle.h2_table.proofs.Popped.{has_place}
