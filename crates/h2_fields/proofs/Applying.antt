@@ -1,9 +1,9 @@
 -- What the code does with an instruction is what the definitions say of it.
-use Rattle.std.proofs.Common.{◌≡◌, ℕ, suc, ◌+◌, ◌-◌, ◌≤◌, ◌<◌, ◌^◌, inl, inr, Bool, true, false, not, List, [], ◌∷◌, ◌++◌, min, Option, Some, None, Result, Ok, Err, refl, ap, ◌∙◌, sym, arith, le-leb}
+use Rattle.std.proofs.Common.{◌≡◌, ℕ, suc, ◌+◌, ◌-◌, ◌≤◌, ◌<◌, ◌^◌, inl, inr, Bool, true, false, not, List, [], ◌∷◌, ◌++◌, min, Some, Result, Ok, Err, refl, ap, ◌∙◌, arith, le-leb}
 use Rattle.std.proofs.lemmas.Bool.{lt-leb}
 use Rattle.std.proofs.lemmas.Bool.Decides.{leb_tells}
 use Rattle.h2_spec.specs.Block.{Fault, list_size}
-use Rattle.h2_spec.specs.DynamicTable.{total_size, entry_at, field_at}
+use Rattle.h2_spec.specs.DynamicTable.{entry_at, field_at}
 use Rattle.h2_spec.specs.Field.{Field, size}
 use Rattle.h2_spec.specs.StaticTable.{static_field}
 use Rattle.h2_spec.proofs.TableLaws.{total_size-append}

@@ -1,5 +1,5 @@
 -- How long a Huffman string can be: no code has more than 30 bits.
-use Rattle.std.proofs.Common.{◌≡◌, ℕ, ◌+◌, ◌*◌, ◌/◌, ◌≤◌, ◌<◌, ◌^◌, Bool, true, false, ◌&&◌, List, [], ◌∷◌, ◌++◌, length, nat_le, nat_eq, refl, arith, leb-true, length-append}
+use Rattle.std.proofs.Common.{◌≡◌, ℕ, ◌*◌, ◌≤◌, ◌<◌, ◌^◌, Bool, true, false, ◌&&◌, List, [], ◌∷◌, length, nat_le, nat_eq, refl, arith, leb-true, length-append}
 use Rattle.h2_spec.specs.Huffman.{codes, spell_huffman}
 use Rattle.h2_spec.specs.HuffmanCode.{code, code_table, code_among}
 use Rattle.h2_spec.proofs.Computed.{and-left, and-right}

@@ -1,10 +1,10 @@
 -- What the code reads at the front of octets is what the definitions have there.
-use Rattle.std.proofs.Common.{◌≡◌, ℕ, ◌+◌, ◌*◌, ◌≤◌, ◌<◌, ◌-◌, ◌^◌, Bool, List, [], ◌∷◌, length, drop, take, Option, Some, None, refl, ap, ◌∙◌, sym, subst, arith, leb}
-use Rattle.h2_spec.specs.Huffman.{octets_of_bits, spell_huffman}
+use Rattle.std.proofs.Common.{◌≡◌, ℕ, ◌≤◌, List, [], ◌∷◌, length, Option, Some, None, IsSome, refl, ap, ◌∙◌, sym, subst, arith}
 use Rattle.h2_spec.specs.Integer.{int_at}
-use Rattle.h2_spec.specs.Instruction.{Str, Shape, Instruction, read_then, octets_at, string_at, instr_by, instr_at, instruction_of, instruction_at}
-use Rattle.h2_spec.specs.Read.{Read, Whole, More, TooLong, read_map}
-use Rattle.h2_spec.proofs.InstructionLaws.{Within, IsReader, number-reader, string-reader}
+use Rattle.h2_spec.specs.Instruction.{Str, Shape, Instruction, string_at, instr_by, instr_at, instruction_of, instruction_at}
+use Rattle.h2_spec.specs.Read.{Whole, More, TooLong, read_map}
+use Rattle.h2_fields.specs.Instructions.{HasInstruction}
+use Rattle.h2_spec.proofs.InstructionLaws.{Within, number-reader, string-reader}
 
 pub instr-none : (b : List ℕ) → length b ≡ 0 → More ≡ instr_at b
 unfolding instr_at
@@ -36,3 +36,10 @@ texts-more b e = ap (read_map instruction_of) e
 pub texts-too_long : (b : List ℕ) → TooLong ≡ instr_at b → TooLong ≡ instruction_at b
 unfolding instruction_at
 texts-too_long b e = ap (read_map instruction_of) e
+
+has-whole : (i : Option Instruction) (used : ℕ) → IsSome i → HasInstruction (Whole i used)
+has-whole (Some i) used h = tt
+has-whole None used h = absurd cc
+
+pub has-texts : (b : List ℕ) (shape : Shape) (used : ℕ) → Whole shape used ≡ instr_at b → IsSome (instruction_of shape) → HasInstruction (instruction_at b)
+has-texts b shape used e h = subst HasInstruction (texts-whole b shape used (instruction_of shape) e refl) (has-whole (instruction_of shape) used h)

@@ -1,6 +1,6 @@
 -- Where a decoder stands after some of its octets, and what it stands for after a fragment.
-use Rattle.std.proofs.Common.{◌≡◌, ◌≢◌, ℕ, ◌+◌, ◌-◌, ◌<◌, ◌≤◌, List, [], ◌∷◌, ◌++◌, length, drop, take, Option, Some, None, option_map, Result, Ok, Err, refl, ap, ◌∙◌, sym, arith, length-drop}
-use Rattle.h2_spec.specs.Block.{Fault, Index, Integer, Huffman, SizeUpdate, Outcome, Unfinished, Faulty, Progress, Decoded, BlockSoFar, StandsWithin, applied, decoded, decoded_with, carried_on}
+use Rattle.std.proofs.Common.{◌≡◌, ◌≢◌, ℕ, ◌+◌, ◌-◌, ◌<◌, ◌≤◌, List, ◌++◌, length, drop, Some, None, option_map, Result, refl, ap, ◌∙◌, sym, arith, length-drop}
+use Rattle.h2_spec.specs.Block.{Fault, Index, Integer, Huffman, SizeUpdate, Outcome, Unfinished, Faulty, Progress, Decoded, BlockSoFar, applied, decoded, decoded_with, carried_on}
 use Rattle.h2_spec.specs.DynamicTable.{Table}
 use Rattle.h2_spec.specs.Instruction.{Shape, instr_at}
 use Rattle.h2_spec.specs.Read.{Whole, TooLong}

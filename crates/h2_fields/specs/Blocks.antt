@@ -3,7 +3,7 @@ use Rattle.std.specs.Prelude.{◌≡◌, ◌≢◌, ℕ, List, [], ◌∷◌, Op
 use Rattle.h2_fields.specs.Faults.{fault_of, refusal}
 use Rattle.h2_fields.specs.declared.fault.BlockFault.{BlockFault}
 use Rattle.h2_fields.specs.declared.fault.BlockFault.TheVariants as fault
-use Rattle.h2_spec.specs.Block.{Fault, Index, Integer, Huffman, SizeUpdate, Outcome, Unfinished, Faulty, Progress, Decoded, FieldsSoFar, BlockSoFar, StandsWithin, applied, decoded, progress_with}
+use Rattle.h2_spec.specs.Block.{Index, Integer, Huffman, SizeUpdate, Outcome, Unfinished, Faulty, Progress, FieldsSoFar, BlockSoFar, StandsWithin, applied, decoded, progress_with}
 use Rattle.h2_spec.specs.DynamicTable.{Table, LimitedTable}
 use Rattle.h2_spec.specs.Instruction.{Shape}
 

@@ -1,5 +1,5 @@
 -- The code's instructions as those of the definitions.
-use Rattle.std.specs.Prelude.{ℕ, ◌<◌, ◌≤◌, ◌^◌, length, Option, Some, None}
+use Rattle.std.specs.Prelude.{◌<◌, ◌≤◌, ◌^◌, length, Option, Some, None}
 use Rattle.h2_fields.specs.Shapes.{mode_of}
 use Rattle.h2_fields.specs.declared.fault.BlockFault.{BlockFault}
 use Rattle.h2_fields.specs.declared.fault.BlockFault.TheVariants as fault
@@ -10,6 +10,7 @@ use Rattle.h2_fields.specs.declared.instruction.InstrRead.TheVariants as read
 use Rattle.h2_fields.specs.declared.instruction.Name.{Name}
 use Rattle.h2_fields.specs.declared.instruction.Name.TheVariants as name
 use Rattle.h2_spec.specs.Field.{Field}
+use Rattle.h2_spec.specs.Huffman as huffman
 use Rattle.h2_spec.specs.Instruction as spec
 use Rattle.h2_spec.specs.Read.{Read, Whole, More, TooLong}
 
@@ -32,6 +33,19 @@ fault_at (Whole (Some i) used) = None
 fault_at (Whole None used) = Some fault.Huffman
 fault_at More = None
 fault_at TooLong = Some fault.Integer
+
+-- a whole instruction whose strings have texts
+abbrev pub HasInstruction : Read (Option spec.Instruction) → Type 0
+HasInstruction (Whole (Some i) used) = Unit {0}
+HasInstruction (Whole None used) = ⊥
+HasInstruction More = ⊥
+HasInstruction TooLong = ⊥
+
+-- the octets are a text
+abbrev pub HasText : huffman.HuffRead → Type 0
+HasText (huffman.Text t) = Unit {0}
+HasText huffman.Eos = ⊥
+HasText huffman.Padding = ⊥
 
 -- ---- what can be written: numbers of 32 bits, an index above 0, and texts of 33,554,432 octets
 

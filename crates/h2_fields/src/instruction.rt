@@ -2,14 +2,14 @@
 //! It rests on `shape` for what stands at the front of octets, and on the integers and Huffman strings of `h2_prim`.
 //! The definitions are `instruction_at`, `shape_of` and `spell` of `h2_spec`, specs/Instruction.antt.
 
-ghost use Rattle.std.specs.Prelude.{◌≡◌, ◌≢◌, ◌≤◌, ◌++◌, true, false, length, Some, None, IfOk, IfErr, OnOk, OnErr, take};
+ghost use Rattle.std.specs.Prelude.{◌≡◌, ◌≢◌, ◌≤◌, ◌++◌, true, false, length, Some, None, IfOk, IfErr, IsErrOf, IsSome, OnOk, OnErr, take};
 ghost use Rattle.std.specs.Vec.{vec_len};
 ghost use Rattle.h2_spec.specs.Block.{text_result};
 ghost use Rattle.h2_spec.specs.Huffman as huffman;
 ghost use Rattle.h2_spec.specs.Huffman.{spell_huffman};
 ghost use Rattle.h2_spec.specs.Instruction as spec;
 ghost use Rattle.h2_fields.specs.Faults.{refusal};
-ghost use Rattle.h2_fields.specs.Instructions.{instr_of, name_text_of, read_text, fault_at, IsWritable, IsWritableName, IsWritableText};
+ghost use Rattle.h2_fields.specs.Instructions.{instr_of, name_text_of, read_text, fault_at, HasInstruction, HasText, IsWritable, IsWritableName, IsWritableText};
 ghost use Rattle.h2_fields.specs.Shapes.{mode_of, string_of, name_of, shape_of};
 ghost use Rattle.h2_fields.specs.declared.fault.BlockFault.TheVariants as faults;
 
@@ -114,10 +114,12 @@ impl Mode {
 /// # Errors
 ///
 /// `Integer` where an integer of it is too long, as soon as its fifth octet behind the prefix is there; `Huffman` where it is
-/// whole and a string of it is no Huffman string; `NoMemory` where it is whole and memory was refused.
+/// whole and a string of it is no Huffman string; `NoMemory` where it is whole, each of its strings has a text, and memory was
+/// refused.
 pub fn read_instr<A: Allocator + Copy>(alloc: A, octets: &[u8]) -> Result<InstrRead<A>, BlockFault>
     ensures read { IfOk result (λ read. read_text read ≡ spec.instruction_at octets.now) }
     ensures fault { IfErr result (λ fault. fault ≢ faults.NoMemory → fault_at (spec.instruction_at octets.now) ≡ Some fault) }
+    ensures no_memory { IsErrOf result faults.NoMemory → HasInstruction (spec.instruction_at octets.now) }
 {
     match shape_at(octets) {
         Ok((shape, used)) => Ok(InstrRead::Whole(with_texts(alloc, shape)?, used)),
@@ -130,14 +132,26 @@ pub fn read_instr<A: Allocator + Copy>(alloc: A, octets: &[u8]) -> Result<InstrR
 fn with_texts<A: Allocator + Copy>(alloc: A, shape: Shape<'_>) -> Result<Instr<A>, BlockFault>
     ensures texts { IfOk result (λ instr. spec.instruction_of (shape_of shape.entry) ≡ Some (instr_of instr)) }
     ensures fault { IfErr result (λ fault. fault ≢ faults.NoMemory → (fault ≡ faults.Huffman) × (spec.instruction_of (shape_of shape.entry) ≡ None)) }
+    ensures no_memory { IsErrOf result faults.NoMemory → IsSome (spec.instruction_of (shape_of shape.entry)) }
 {
     match shape {
         Shape::Indexed(index) => Ok(Instr::Indexed(index)),
         Shape::Update(max) => Ok(Instr::Update(max)),
         Shape::Literal(mode, name, value) => {
-            let name = name_with_text(alloc, name)?;
-            let value = with_text(alloc, value)?;
-            Ok(Instr::Literal { mode, name, value })
+            // a bad value comes before want of memory for the name
+            let name = name_with_text(alloc, name);
+            match with_text(alloc, value) {
+                Ok(value) => Ok(Instr::Literal {
+                    mode,
+                    name: name?,
+                    value,
+                }),
+                Err(BlockFault::NoMemory) => {
+                    let _ = name?;
+                    Err(BlockFault::NoMemory)
+                }
+                Err(fault) => Err(fault),
+            }
         }
     }
 }
@@ -146,6 +160,7 @@ fn with_texts<A: Allocator + Copy>(alloc: A, shape: Shape<'_>) -> Result<Instr<A
 fn name_with_text<A: Allocator + Copy>(alloc: A, name: RawName<'_>) -> Result<Name<A>, BlockFault>
     ensures text { IfOk result (λ read. spec.name_text (name_of name.entry) ≡ Some (name_text_of read)) }
     ensures fault { IfErr result (λ fault. fault ≢ faults.NoMemory → (fault ≡ faults.Huffman) × (spec.name_text (name_of name.entry) ≡ None)) }
+    ensures no_memory { IsErrOf result faults.NoMemory → IsSome (spec.name_text (name_of name.entry)) }
 {
     match name {
         RawName::Ref(index) => Ok(Name::Ref(index)),
@@ -157,6 +172,7 @@ fn name_with_text<A: Allocator + Copy>(alloc: A, name: RawName<'_>) -> Result<Na
 fn with_text<A: Allocator + Copy>(alloc: A, string: RawString<'_>) -> Result<Text<A>, BlockFault>
     ensures text { IfOk result (λ text. spec.text_str (string_of string.entry) ≡ Some text) }
     ensures fault { IfErr result (λ fault. fault ≢ faults.NoMemory → (fault ≡ faults.Huffman) × (spec.text_str (string_of string.entry) ≡ None)) }
+    ensures no_memory { IsErrOf result faults.NoMemory → IsSome (spec.text_str (string_of string.entry)) }
 {
     let octets = text_of(alloc, string)?;
     Ok(Text {
@@ -172,6 +188,7 @@ pub(crate) fn text_of<A: Allocator + Copy>(
 ) -> Result<Vec<u8, A>, BlockFault>
     ensures text { IfOk result (λ text. spec.text_of (string_of string.entry) ≡ huffman.Text text.items) }
     ensures fault { IfErr result (λ fault. fault ≢ faults.NoMemory → (fault ≡ faults.Huffman) × (refusal (text_result (spec.text_of (string_of string.entry))) ≡ Some faults.Huffman)) }
+    ensures no_memory { IsErrOf result faults.NoMemory → HasText (spec.text_of (string_of string.entry)) }
 {
     if string.huffman {
         Ok(huff_read(alloc, string.octets)?)

@@ -1,4 +1,4 @@
-use Rattle.std.proofs.Common.{Some, Ok, refl, ap, sym, ◌∙◌}
+use Rattle.std.proofs.Common.{refl, ap, sym, ◌∙◌}
 use Rattle.std.proofs.lemmas.Result.{err_from_is_err_and}
 use Rattle.h2_spec.specs.Block as block
 use Rattle.h2_spec.specs.Instruction as spec

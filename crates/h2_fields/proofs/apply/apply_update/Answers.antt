@@ -1,4 +1,4 @@
-use Rattle.std.proofs.Common.{refl, ap, sym}
+use Rattle.std.proofs.Common.{refl, ap}
 use Rattle.h2_spec.specs.Block.{has_fields}
 use Rattle.h2_spec.proofs.BlockLaws.{applied-update, applied-update_late, applied-update_large}
 use Rattle.h2_fields.specs.Blocks.{progress_of}

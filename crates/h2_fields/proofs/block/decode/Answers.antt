@@ -1,4 +1,4 @@
-use Rattle.std.proofs.Common.{◌≡◌, ◌+◌, drop, Err, refl, ap, ◌∙◌, sym}
+use Rattle.std.proofs.Common.{Err, refl, ap, ◌∙◌, sym}
 use Rattle.std.proofs.lemmas.Result.{err_from_is_err_and}
 use Rattle.h2_spec.specs.Block.{applied}
 use Rattle.h2_spec.specs.Instruction.{instr_at}

@@ -1,8 +1,9 @@
-use Rattle.std.proofs.Common.{Some, None, Err, ap, sym, ◌∙◌}
+use Rattle.std.proofs.Common.{◌≡◌, Some, None, Err, ap, sym, ◌∙◌}
 use Rattle.std.proofs.lemmas.Result.{err_from_is_err_and}
 use Rattle.h2_fields.specs.Instructions.{fault_at, instr_of}
 use Rattle.h2_fields.specs.Shapes.{shape_of, read_of}
-use Rattle.h2_fields.proofs.Reading.{texts-whole, texts-more, texts-too_long}
+use Rattle.h2_fields.proofs.Reading.{texts-whole, texts-more, texts-too_long, has-texts}
+use Rattle.h2_fields.specs.declared.fault.BlockFault.TheVariants as faults
 use Rattle.h2_fields.proofs.instruction.read_instr.Goals as goal
 
 pub returns-in_err-with_texts-in-Ok-clause-fault : goal.returns-in_err-with_texts-in-Ok-clause-fault
@@ -12,6 +13,13 @@ returns-in_err-with_texts-in-Ok-clause-fault g c =
     rw (p.1, p.2) (λ h.
     let f = c.in_err-with_texts-in-Ok.ensures.fault h in
     ap fault_at (sym (texts-whole b (shape_of c.in-Ok.shape) c.in-Ok.used None c.in-Ok.ensures.read f.1)) ∙ ap Some (sym f.0))
+
+pub returns-in_err-with_texts-in-Ok-clause-no_memory : goal.returns-in_err-with_texts-in-Ok-clause-no_memory
+returns-in_err-with_texts-in-Ok-clause-no_memory g c =
+    let p = err_from_is_err_and c.from_residual.result c.from_residual.ensures.1 in
+    rw (p.1, p.2) (λ h.
+    let same : c.in_err-with_texts-in-Ok.field-0.0 ≡ faults.NoMemory = cc in
+    has-texts c.args.octets.now (shape_of c.in-Ok.shape) c.in-Ok.used c.in-Ok.ensures.read (c.in_err-with_texts-in-Ok.ensures.no_memory (ap Err same)))
 
 pub returns-in_ok-with_texts-in-Ok-clause-read : goal.returns-in_ok-with_texts-in-Ok-clause-read
 returns-in_ok-with_texts-in-Ok-clause-read g c =

@@ -1,5 +1,5 @@
-use Rattle.std.proofs.Common.{◌≡◌, ◌≢◌, ◌++◌, Some, None, option_map, refl, ap, ◌∙◌, sym}
-use Rattle.h2_spec.specs.Block.{BlockSoFar, Decoded, Unfinished, carried_on, decoded, decoded_with}
+use Rattle.std.proofs.Common.{◌≡◌, ◌≢◌, ◌++◌, Some, option_map, refl, ap, ◌∙◌, sym}
+use Rattle.h2_spec.specs.Block.{BlockSoFar, Decoded, carried_on, decoded, decoded_with}
 use Rattle.h2_fields.specs.Blocks.{outcome_of, progress_of}
 use Rattle.h2_fields.proofs.Standing.{faulty_outcome, carried-faulty, carried-open, shown-faulty}
 use Rattle.h2_fields.specs.declared.fault.BlockFault.TheVariants as faults
