@@ -88,19 +88,18 @@ not-under a b h = grind (arith, ints)
 
 -- a stream as it moves keeps its identifier and its state
 module _ (d : ℤ) (st : Stream) where
-  pub id-moved : (moved_or_same d st).id ≡ st.id
-  id-moved = by (follows_initial_window st.kind) (is_window (st.numbers.send +ℤ d)) where
-    by : (f w : Bool) → (unwrap_or (cond f (option_map (with_send st) (cond w (Some (st.numbers.send +ℤ d)) None)) (Some st)) st).id ≡ st.id
-    by true true = refl
+  part-moved : {B : Type 0} (part : Stream → B) → ((w : ℤ) → part (with_send st w) ≡ part st) → part (moved_or_same d st) ≡ part st
+  part-moved part kept = by (follows_initial_window st.kind) (is_window (st.numbers.send +ℤ d)) where
+    by : (f w : Bool) → part (unwrap_or (cond f (option_map (with_send st) (cond w (Some (st.numbers.send +ℤ d)) None)) (Some st)) st) ≡ part st
+    by true true = kept (st.numbers.send +ℤ d)
     by true false = refl
     by false w = refl
 
+  pub id-moved : (moved_or_same d st).id ≡ st.id
+  id-moved = part-moved (λ s. s.id) (λ w. refl)
+
   pub kind-moved : (moved_or_same d st).kind ≡ st.kind
-  kind-moved = by (follows_initial_window st.kind) (is_window (st.numbers.send +ℤ d)) where
-    by : (f w : Bool) → (unwrap_or (cond f (option_map (with_send st) (cond w (Some (st.numbers.send +ℤ d)) None)) (Some st)) st).kind ≡ st.kind
-    by true true = refl
-    by true false = refl
-    by false w = refl
+  kind-moved = part-moved (λ s. s.kind) (λ w. refl)
 
   -- one that is not stuck moves
   pub moved-free : is_stuck d st ≡ false → moved_or_same d st ≡ shifted_one d st
