@@ -251,6 +251,26 @@ next_streams after low last window (x ∷ xs) st r e = at (λ g. next_streams af
         let other : eqb x.id (after_sending (share window st) st).id ≡ false = let i = id-after_sending (share window st) st in grind (arith, nat_tests, behind, i) in
         rw (idle after window x w, other, under, same_stream x, less_nothing window, less_nothing (window - share window st)) (ap (λ sts. x ∷ sts) (more e))
 
+-- a record that is not above it does not matter for what is left
+put_left : (after window : ℕ) (ss : List Stream) (x : Stream) → nat_lt after x.id ≡ false → left_above after window (put x ss) ≡ left_above after window ss
+put_left after window [] x under = rw (under, less_nothing window) refl
+put_left after window (y ∷ ys) x under = at (put_left after (window - share_above after window y) ys x under) (eqb y.id x.id) (eqb-true y.id x.id)
+  where
+    behind : nat_lt after y.id ≡ false → left_above after window (x ∷ ys) ≡ left_above after window (y ∷ ys)
+    behind other = rw (under, other) refl
+
+    at : left_above after (window - share_above after window y) (put x ys) ≡ left_above after (window - share_above after window y) ys →
+        (t : Bool) → (t ≡ true → y.id ≡ x.id) → left_above after window (cond t (x ∷ ys) (y ∷ put x ys)) ≡ left_above after window (y ∷ ys)
+    at more true same = behind (ap (λ i. nat_lt after i) (same refl) ∙ under)
+    at more false same = more
+
+pub next_left_put : (after low last window : ℕ) (ss : List Stream) (st : Stream) → AreRising low last ss → find (waits_above after) ss ≡ Some st →
+    left_above after window ss ≡ left_above st.id (window - share window st) (put (after_sending (share window st) st) ss)
+next_left_put after low last window ss st r e =
+    let n = share window st in
+    let under : nat_lt st.id (after_sending n st).id ≡ false = let i = id-after_sending n st in grind (arith, nat_tests, i) in
+    next_left after low last window ss st r e ∙ sym (put_left st.id (window - n) ss (after_sending n st) under)
+
 -- ---- the record that is found
 
 pub found_record : (p : Stream → Bool) (low last : ℕ) (ss : List Stream) (st : Stream) → AreRising low last ss → find p ss ≡ Some st →

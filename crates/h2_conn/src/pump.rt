@@ -170,9 +170,10 @@ fn next_stream<A: Allocator>(streams: &Streams<A>, after: u32) -> Option<Stream>
     Some(streams.stream_at(id))
 }
 
-/// Each stream's share is taken from it, in the order of the identifiers.
-fn take_shares<A: Allocator>(window: u64, streams: &mut Streams<A>)
-    ensures { streams.new ≡ record streams.old { streams = rule.all_after_sending window streams.old.streams } }
+/// Each stream's share is taken from it, in the order of the identifiers; answers what is left of the window.
+fn take_shares<A: Allocator>(window: u64, streams: &mut Streams<A>) -> u64
+    ensures left { result ≡ rule.window_left window streams.old.streams }
+    ensures sent { streams.new ≡ record streams.old { streams = rule.all_after_sending window streams.old.streams } }
 {
     let _last = streams.last();
     let mut after = 0;
@@ -181,6 +182,7 @@ fn take_shares<A: Allocator>(window: u64, streams: &mut Streams<A>)
         after = stream.id;
         left -= take_share(left, &stream, streams);
     }
+    left
 }
 
 /// One stream's share is taken from it.
