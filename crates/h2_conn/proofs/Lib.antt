@@ -3,5 +3,6 @@ mod BlockLaws
 mod KindLaws
 mod Pieces
 mod RequestTurnLaws
+mod SendingLaws
 mod SettingsLaws
 mod SoundLaws

@@ -1,16 +1,19 @@
 //! Sending what waits, as far as the windows go (RFC 9113, 5.2 and 6.9).
 //! Rests on `ends` and on h2_streams; definition: h2_spec's `specs/Pump.antt`.
 
-ghost use Rattle.std.specs.Prelude.{◌≡◌, ℕ, ◌+◌, ◌-◌, ◌<◌, ◌≤◌, ◌++◌, ◌==◌, length, IfOk, IfSome, OnOk, OnErr, take, drop, find, vec_len, ◌^◌, pos, ◌-ℤ◌, ◌≤ℤ◌};
+ghost use Rattle.std.specs.Prelude.{◌≡◌, ℕ, List, ◌+◌, ◌-◌, ◌<◌, ◌≤◌, ◌++◌, ◌==◌, length, IfOk, IfSome, OnOk, OnErr, take, drop, find, vec_len, ◌^◌, pos, ◌-ℤ◌, ◌≤ℤ◌};
+ghost use Rattle.h2_spec.specs.Answer.{Entry};
 ghost use Rattle.h2_spec.specs.Change as changes;
 ghost use Rattle.h2_spec.specs.Frame.{frames_octets};
 ghost use Rattle.h2_spec.specs.Pump as rule;
 ghost use Rattle.h2_spec.specs.Stream.{AreRising, octets_waiting, put, waits_above};
 ghost use Rattle.h2_conn.specs.Above.{IsWaiting};
+ghost use Rattle.h2_conn.specs.Sound.{IsSoundState};
 ghost use Rattle.h2_spec.specs.Window.{sendable};
 
 use crate::ends::{server_ended, with_left};
 use h2_frame::append_frame;
+use h2_spec::connection::Core;
 use h2_spec::flow::Window;
 use h2_spec::streams::{Numbers, Stream};
 use h2_streams::{Streams, octets_waiting};
@@ -170,9 +173,35 @@ fn next_stream<A: Allocator>(streams: &Streams<A>, after: u32) -> Option<Stream>
     Some(streams.stream_at(id))
 }
 
+/// Each stream's share is taken from it, and all of them from the connection's send window: the counts after it.
+pub fn commit_shares<A: Allocator>(core: Core, streams: &mut Streams<A>) -> Core
+    ensures paid { result ≡ record core { send = core.send -ℤ pos (sendable core.send - rule.window_left (sendable core.send) streams.old.streams) } }
+    ensures sent { streams.new ≡ record streams.old { streams = rule.all_after_sending (sendable core.send) streams.old.streams } }
+    ensures sound { (book : List Entry) → IsSoundState book core streams.old → IsSoundState book result streams.new }
+{
+    let send = core.send;
+    let window = sendable(send);
+    let left = take_shares(window, streams);
+    Core {
+        send: without(send, window - left),
+        ..core
+    }
+}
+
+/// A send window without octets that it let pass.
+fn without(window: Window, count: u64) -> Window
+    requires { count ≤ sendable window }
+    ensures { result ≡ window -ℤ pos count }
+{
+    if count == 0 {
+        return window;
+    }
+    window.minus(count as u32)
+}
+
 /// Each stream's share is taken from it, in the order of the identifiers; answers what is left of the window.
 fn take_shares<A: Allocator>(window: u64, streams: &mut Streams<A>) -> u64
-    ensures left { result ≡ rule.window_left window streams.old.streams }
+    ensures left { (result ≡ rule.window_left window streams.old.streams) × (result ≤ window) }
     ensures sent { streams.new ≡ record streams.old { streams = rule.all_after_sending window streams.old.streams } }
 {
     let _last = streams.last();

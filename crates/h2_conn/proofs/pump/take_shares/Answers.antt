@@ -1,8 +1,9 @@
-use Rattle.std.proofs.Common.{◌≡◌, ap, sym, ◌∙◌, refl, ◌-◌}
+use Rattle.std.proofs.Common.{◌≡◌, ◌≤◌, ap, subst, sym, ◌∙◌, refl, ◌-◌}
 use Rattle.h2_spec.specs.Stream.{Records, put}
 use Rattle.h2_spec.specs.Pump.{after_sending, all_after_sending, share}
 use Rattle.h2_conn.specs.Above.{streams_above, left_above}
 use Rattle.h2_conn.proofs.AboveLaws.{all_streams, all_left, next_streams, next_left_put, none_streams, none_left, records_are}
+use Rattle.h2_conn.proofs.SendingLaws.{left_within}
 use Rattle.h2_conn.proofs.pump.take_shares.Goals as goal
 
 pub loop-stream-init : goal.loop-stream-init
@@ -35,7 +36,8 @@ loop-stream-preserved g c =
 pub returns-clause-left : goal.returns-clause-left
 returns-clause-left g c =
     let l = c.loop-stream in
-    sym (none_left l.after l.left l.streams.streams (sym c.next_stream.ensures.first ∙ c.in_default.is)) ∙ l.invariant.left
+    let left = sym (none_left l.after l.left l.streams.streams (sym c.next_stream.ensures.first ∙ c.in_default.is)) ∙ l.invariant.left in
+    (left, subst (λ n. n ≤ c.args.window) (sym left) (left_within c.args.window c.args.streams.now.streams))
 
 pub returns-clause-sent : goal.returns-clause-sent
 returns-clause-sent g c =
