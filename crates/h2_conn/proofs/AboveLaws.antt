@@ -46,13 +46,13 @@ idle after window st e = at (nat_lt after st.id) e
 
 -- ---- the order of the records
 
-some_same : {A : Type 0} (x y : A) → Some x ≡ Some y → x ≡ y
+pub some_same : {A : Type 0} (x y : A) → Some x ≡ Some y → x ≡ y
 some_same x y e = cc
 
-none_some : {A : Type 0} (x : A) → None ≡ Some x → ⊥
+pub none_some : {A : Type 0} (x : A) → None ≡ Some x → ⊥
 none_some x e = cc
 
-found_above : (p : Stream → Bool) (low last : ℕ) (ss : List Stream) (st : Stream) → AreRising low last ss → find p ss ≡ Some st → low < st.id
+pub found_above : (p : Stream → Bool) (low last : ℕ) (ss : List Stream) (st : Stream) → AreRising low last ss → find p ss ≡ Some st → low < st.id
 found_above p low last [] st r e = absurd (none_some st e)
 found_above p low last (x ∷ xs) st r e = at (λ g. found_above p x.id last xs st r.3 g) (p x) e
   where
@@ -144,7 +144,7 @@ none_left after window (x ∷ xs) e = at (λ g. none_left after window xs g) (wa
 not_above_itself : (n : ℕ) → nat_lt n n ≡ false
 not_above_itself n = grind (arith, nat_tests)
 
-waits_is_above : (after : ℕ) (st : Stream) → waits_above after st ≡ true → nat_lt after st.id ≡ true
+pub waits_is_above : (after : ℕ) (st : Stream) → waits_above after st ≡ true → nat_lt after st.id ≡ true
 waits_is_above after st e = at (nat_lt after st.id) e
   where
     at : (t : Bool) → (t && nat_lt 0 (octets_waiting st)) ≡ true → t ≡ true
@@ -326,7 +326,7 @@ waits_is_live after st e = at (nat_lt after st.id) (is_live st.kind) e
     at true false e = absurd (false≢true e)
     at false b e = absurd (false≢true e)
 
-found_passes : (p : Stream → Bool) (ss : List Stream) (st : Stream) → find p ss ≡ Some st → p st ≡ true
+pub found_passes : (p : Stream → Bool) (ss : List Stream) (st : Stream) → find p ss ≡ Some st → p st ≡ true
 found_passes p [] st e = absurd (none_some st e)
 found_passes p (x ∷ xs) st e = at (λ g. found_passes p xs st g) (p x) refl e
   where
