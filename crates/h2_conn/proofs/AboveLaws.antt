@@ -12,15 +12,21 @@ use Rattle.h2_spec.specs.Frame.{Frame}
 use Rattle.h2_spec.specs.Window.{sendable}
 use Rattle.h2_streams.specs.Put.{CanPut, is_closed}
 use Rattle.h2_spec.specs.Stream.{AreRising, Records, put, record_of, stream_at, recorded, is_id, waits_above, octets_waiting, octets_left, next_waiting, id_of, is_live}
-use Rattle.h2_spec.specs.Pump.{share, share_frames, after_sending, sent_frames, all_after_sending, window_left, with_paid}
+use Rattle.h2_spec.specs.Pump.{share, share_frames, data_frames, after_sending, sent_frames, all_after_sending, window_left, with_paid}
 use Rattle.std.specs.Option.{option_map}
 use Rattle.h2_conn.specs.Above.{IsWaiting, share_above, frames_above, streams_above, left_above}
 
 -- ---- a stream that sends nothing
 
-no_frames : (book : List Entry) (size : ℕ) (st : Stream) → share_frames book size 0 st ≡ []
+pub no_frames : (book : List Entry) (size : ℕ) (st : Stream) → share_frames book size 0 st ≡ []
 unfolding share_frames
 no_frames book size st = refl
+
+-- the frames of a share of its answer's body
+pub body_frames : (book : List Entry) (size n : ℕ) (st : Stream) (body : List ℕ) → body ≡ (picked book st.pick).body →
+    data_frames st.id (octets_waiting st == n) size (take n (drop (length body - octets_waiting st) body)) ≡ share_frames book size n st
+unfolding share_frames
+body_frames book size n st body e = ap (λ b. data_frames st.id (octets_waiting st == n) size (take n (drop (length b - octets_waiting st) b))) e
 
 same_stream : (st : Stream) → after_sending 0 st ≡ st
 unfolding after_sending
@@ -138,6 +144,28 @@ none_left after window (x ∷ xs) e = at (λ g. none_left after window xs g) (wa
     at : (find (waits_above after) xs ≡ None → left_above after window xs ≡ window) → (t : Bool) → waits_above after x ≡ t → cond t (Some x) (find (waits_above after) xs) ≡ None → left_above after window (x ∷ xs) ≡ window
     at more true w e = absurd (none_some x (sym e))
     at more false w e = rw (idle after window x w, less_nothing window) (more e)
+
+-- ---- where nothing is left of the window, nothing is sent
+
+no_window : (after : ℕ) (st : Stream) → share_above after 0 st ≡ 0
+unfolding share
+no_window after st = at (nat_lt after st.id)
+  where
+    at : (t : Bool) → cond t (min (min (octets_waiting st) (sendable st.numbers.send)) 0) 0 ≡ 0
+    at true = omega arith
+    at false = refl
+
+pub spent_frames : (book : List Entry) (size after : ℕ) (ss : List Stream) → frames_above book size after 0 ss ≡ []
+spent_frames book size after [] = refl
+spent_frames book size after (x ∷ xs) = rw (no_window after x, no_frames book size x) (spent_frames book size after xs)
+
+pub spent_streams : (after : ℕ) (ss : List Stream) → streams_above after 0 ss ≡ ss
+spent_streams after [] = refl
+spent_streams after (x ∷ xs) = rw (no_window after x, same_stream x) (ap (λ sts. x ∷ sts) (spent_streams after xs))
+
+pub spent_left : (after : ℕ) (ss : List Stream) → left_above after 0 ss ≡ 0
+spent_left after [] = refl
+spent_left after (x ∷ xs) = rw (no_window after x) (spent_left after xs)
 
 -- ---- the first that waits sends its share
 

@@ -14,7 +14,7 @@ use Rattle.h2_spec.specs.Answer.{Entry}
 use Rattle.h2_spec.specs.Change.{follows_initial_window, moved_by, overflows, overflows_one, shifted, shifted_one, touched, with_send}
 use Rattle.h2_spec.specs.Stream.{AreRising, Records, put, record_of, is_id, waits_above, octets_waiting}
 use Rattle.h2_conn.specs.Preview.{last_touched, is_other_waiting, lower_waiting, IsPlaced, CanMove, CanTouch, CanSend}
-use Rattle.h2_conn.proofs.AboveLaws.{some_same, none_some, found_above, found_passes, waits_is_above}
+use Rattle.h2_conn.proofs.AboveLaws.{some_same, none_some, found_above, found_passes, found_record, waits_is_above}
 
 -- ---- the others
 
@@ -203,3 +203,28 @@ found_all P p (x ∷ xs) st all e = at (λ g. found_all P p xs st all.1 g) (p x)
     at : (find p xs ≡ Some st → P st) → (t : Bool) → cond t (Some x) (find p xs) ≡ Some st → P st
     at more true e = subst P (some_same x st e) all.0
     at more false e = more e
+
+-- an odd identifier is not 0
+odd_above : (id : ℕ) → id % 2 ≡ 1 → 0 < id
+odd_above zero h = absurd (omega (arith, h))
+odd_above (suc id) h = omega arith
+
+placed_odd : (id last : ℕ) (ss : List Stream) → AreRising 0 last ss → (last < id → id % 2 ≡ 1) → (id ≤ last → is_some (record_of ss id) ≡ true) → id % 2 ≡ 1
+placed_odd id last ss r new known = at (ltb last id) refl
+  where
+    at : (t : Bool) → ltb last id ≡ t → id % 2 ≡ 1
+    at true e = new (ltb-true last id e)
+    at false e =
+        let found = there (is_id id) ss (known (ltb-false last id e)) in
+        let same : (found.0).id ≡ id = eqb-true (found.0).id id (found_passes (is_id id) ss found.0 found.1) in
+        ap (λ i. i % 2) (sym same) ∙ (found_record (is_id id) 0 last ss found.0 r found.1).1
+
+-- records stay in the order of their opening
+pub rising_touched : (t : Touch) (r : Records) → AreRising 0 r.last r.streams → CanTouch t r → AreRising 0 (last_touched t r) (touched t r.streams)
+rising_touched Same r rising h = rising
+rising_touched (Put st) r rising h = let odd = placed_odd st.id r.last r.streams rising h.0 h.1 in rising_put 0 r.last r.streams st rising (odd_above st.id odd) odd h.1
+rising_touched (Shift from to) r rising h = rising_shifted 0 r.last (moved_by from to) r.streams rising
+
+-- what is found is not above the last stream
+pub found_within : (p : Stream → Bool) (last : ℕ) (ss : List Stream) (st : Stream) → AreRising 0 last ss → find p ss ≡ Some st → st.id ≤ last
+found_within p last ss st r e = (found_record p 0 last ss st r e).2

@@ -3,23 +3,25 @@
 
 ghost use Rattle.std.specs.Prelude.{◌≡◌, ℕ, List, ◌+◌, ◌-◌, ◌<◌, ◌≤◌, ◌++◌, ◌==◌, length, IfOk, IfSome, OnOk, OnErr, take, drop, find, vec_len, ◌^◌, pos, ◌-ℤ◌, ◌≤ℤ◌};
 ghost use Rattle.std.specs.List.{AllByRecursion};
-ghost use Rattle.h2_spec.specs.Answer.{Entry};
+ghost use Rattle.h2_request.specs.Lent.{IsPickOf};
+ghost use Rattle.h2_spec.specs.Answer.{Entry, picked};
 ghost use Rattle.h2_spec.specs.Change as changes;
 ghost use Rattle.h2_spec.specs.Frame.{frames_octets};
 ghost use Rattle.h2_spec.specs.Pump as rule;
 ghost use Rattle.h2_spec.specs.Stream.{AreRising, octets_waiting, put, waits_above};
 ghost use Rattle.h2_conn.specs.Above.{IsWaiting};
 ghost use Rattle.h2_conn.specs.Preview as preview;
-ghost use Rattle.h2_conn.specs.Preview.{CanTouch, IsPlaced};
-ghost use Rattle.h2_conn.specs.Sound.{IsSoundState};
+ghost use Rattle.h2_conn.specs.Preview.{CanSend, CanTouch, IsPlaced};
+ghost use Rattle.h2_conn.specs.Sound.{HasBody, IsSoundState};
 ghost use Rattle.h2_spec.specs.Window.{sendable};
 
 use crate::ends::{server_ended, with_left};
 use h2_frame::append_frame;
+use h2_request::book::Book;
 use h2_spec::connection::Core;
 use h2_spec::flow::Window;
 use h2_spec::reactions::Touch;
-use h2_spec::streams::{Kind, Numbers, Stream};
+use h2_spec::streams::{Kind, Numbers, Pick, Stream};
 use h2_streams::{Streams, octets_waiting};
 use std::alloc::{AllocError, Allocator};
 
@@ -175,6 +177,62 @@ fn next_stream<A: Allocator>(streams: &Streams<A>, after: u32) -> Option<Stream>
     let _last = streams.last();
     let id = streams.next_waiting(after)?;
     Some(streams.stream_at(id))
+}
+
+/// Writes the frames of each stream's share, as the records will be after the touch, whole or in part.
+fn write_shares<A: Allocator>(
+    book: &Book<A>,
+    streams: &Streams<A>,
+    touch: Touch,
+    size: usize,
+    window: u64,
+    out: &mut Vec<u8, A>,
+) -> Result<(), AllocError>
+    requires size { (0 < size) × (size < 2 ^ 24) }
+    requires sends { CanSend book.now streams.now touch }
+    ensures ok { OnOk result (out.new.items ≡ out.old.items ++ frames_octets (rule.sent_frames book.now size window (changes.touched touch streams.now.streams))) }
+    ensures kept { take (vec_len out.old) out.new.items ≡ out.old.items }
+{
+    let _last = streams.last();
+    let mut after = 0;
+    let mut left = window;
+    while let Some(stream) = next_after(streams, touch, after) {
+        if left == 0 {
+            return Ok(());
+        }
+        after = stream.id;
+        left -= write_next(book, &stream, size, left, out)?;
+    }
+    Ok(())
+}
+
+/// Writes the frames of one stream's share of what is left of the connection's window, whole or in part; answers the share.
+fn write_next<A: Allocator>(
+    book: &Book<A>,
+    stream: &Stream,
+    size: usize,
+    window: u64,
+    out: &mut Vec<u8, A>,
+) -> Result<u64, AllocError>
+    requires size { (0 < size) × (size < 2 ^ 24) }
+    requires body { HasBody book.now stream.now }
+    ensures share { IfOk result (λ share. (share ≡ rule.share window stream.now) × (share ≤ window)) }
+    ensures ok { OnOk result (out.new.items ≡ out.old.items ++ frames_octets (rule.share_frames book.now size (rule.share window stream.now) stream.now)) }
+    ensures kept { take (vec_len out.old) out.new.items ≡ out.old.items }
+{
+    let share = share(window, stream);
+    if share > 0 {
+        write_share(size, share, stream, body_of(book, stream.pick), out)?;
+    }
+    Ok(share)
+}
+
+/// The body of the answer that is picked.
+fn body_of<A: Allocator>(book: &Book<A>, pick: Pick) -> &[u8]
+    requires { IsPickOf book.now pick }
+    ensures { result.now ≡ (picked book.now pick).body }
+{
+    book.answer(pick).body
 }
 
 /// The first stream above this one that will have octets to send, as it will be after the touch.
