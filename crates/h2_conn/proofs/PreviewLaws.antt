@@ -10,9 +10,12 @@ use Rattle.h2_spec.specs.declared.reactions.Touch.{Touch}
 use Rattle.h2_spec.specs.declared.reactions.Touch.TheVariants.{Same, Put, Shift}
 use Rattle.h2_spec.specs.declared.streams.Stream.{Stream}
 use Rattle.h2_spec.specs.declared.streams.Kind.{Kind}
+use Rattle.h2_spec.specs.declared.streams.Kind.TheVariants.{Idle}
 use Rattle.h2_spec.specs.Answer.{Entry}
 use Rattle.h2_spec.specs.Change.{follows_initial_window, moved_by, overflows, overflows_one, shifted, shifted_one, touched, with_send}
-use Rattle.h2_spec.specs.Stream.{AreRising, Records, put, record_of, is_id, waits_above, octets_waiting}
+use Rattle.h2_spec.specs.Stream.{AreRising, Records, put, record_of, recorded, not_live, stream_at, kind_of, is_id, waits_above, octets_waiting}
+use Rattle.h2_streams.specs.Put.{can_become}
+use Rattle.h2_conn.specs.Sound.{HasBody, IsSoundTouch, AreSound}
 use Rattle.h2_conn.specs.Preview.{last_touched, is_other_waiting, lower_waiting, IsPlaced, CanMove, CanTouch, CanSend}
 use Rattle.h2_conn.proofs.AboveLaws.{some_same, none_some, found_above, found_passes, found_record, waits_is_above}
 
@@ -228,3 +231,70 @@ rising_touched (Shift from to) r rising h = rising_shifted 0 r.last (moved_by fr
 -- what is found is not above the last stream
 pub found_within : (p : Stream → Bool) (last : ℕ) (ss : List Stream) (st : Stream) → AreRising 0 last ss → find p ss ≡ Some st → st.id ≤ last
 found_within p last ss st r e = (found_record p 0 last ss st r e).2
+
+-- ---- what a sound change of the records allows
+
+all_put : (P : Stream → Type 0) (ss : List Stream) (st : Stream) → P st → AllByRecursion P ss → AllByRecursion P (put st ss)
+all_put P [] st h all = (h, tt)
+all_put P (x ∷ xs) st h all = at (eqb x.id st.id) (all_put P xs st h all.1)
+  where
+    at : (t : Bool) → AllByRecursion P (put st xs) → AllByRecursion P (cond t (st ∷ xs) (x ∷ put st xs))
+    at true more = (h, all.1)
+    at false more = (all.0, more)
+
+-- a stream that is live or closed has its record
+becomes_known : (last id : ℕ) (ss : List Stream) (after : Kind) → can_become (kind_of last ss id) after ≡ true → is_some (record_of ss id) ≡ true
+unfolding stream_at
+becomes_known last id ss after h = at (eqb (id % 2) 0) (nat_lt last id) (record_of ss id) h
+  where
+    at : (s t : Bool) (o : Option Stream) → can_become (cond s (not_live id Idle) (cond t (not_live id Idle) (recorded id o))).kind after ≡ true → is_some o ≡ true
+    at s t (Some st) h = refl
+    at true t None h = absurd (false≢true h)
+    at false true None h = absurd (false≢true h)
+    at false false None h = absurd (false≢true h)
+
+one_body : (book : List Entry) (d : ℤ) (st : Stream) → HasBody book st → HasBody book (shifted_one d st)
+unfolding octets_waiting
+one_body book d st h = at (follows_initial_window st.kind)
+  where
+    at : (t : Bool) → HasBody book (cond t (with_send st (st.numbers.send +ℤ d)) st)
+    at true = h
+    at false = h
+
+shifted_bodies : (book : List Entry) (d : ℤ) (ss : List Stream) → AllByRecursion (HasBody book) ss → AllByRecursion (HasBody book) (shifted d ss)
+unfolding shifted
+shifted_bodies book d [] all = tt
+shifted_bodies book d (x ∷ xs) all = (one_body book d x all.0, shifted_bodies book d xs all.1)
+
+sound_bodies : (book : List Entry) (w : ℕ) (ss : List Stream) → AreSound book w ss → AllByRecursion (HasBody book) ss
+sound_bodies book w [] s = tt
+sound_bodies book w (x ∷ xs) s = (s.0.1, sound_bodies book w xs s.1)
+
+not_above : (w : ℤ) → int_lt (pos 2147483647) w ≡ false → w ≤ℤ pos 2147483647
+not_above w h = grind (arith, h)
+
+-- no window overflows, and none is so low that it would come below the least
+can_move : (book : List Entry) (from to : ℕ) (ss : List Stream) → overflows (moved_by from to) ss ≡ false → AreSound book from ss → AllByRecursion (CanMove from to) ss
+unfolding overflows
+can_move book from to [] fits s = tt
+can_move book from to (x ∷ xs) fits s = at (overflows_one (moved_by from to) x) refl fits (λ g. can_move book from to xs g s.1)
+  where
+    one : (t : Bool) → follows_initial_window x.kind ≡ t → (t && int_lt (pos 2147483647) (x.numbers.send +ℤ moved_by from to)) ≡ false → CanMove from to x
+    one true f h = λ follows. (not_above (x.numbers.send +ℤ moved_by from to) h, s.0.0.2 follows)
+    one false f h = λ follows. absurd (false≢true (sym f ∙ follows))
+
+    at : (t : Bool) → overflows_one (moved_by from to) x ≡ t → cond t true (overflows (moved_by from to) xs) ≡ false → (overflows (moved_by from to) xs ≡ false → AllByRecursion (CanMove from to) xs) →
+        AllByRecursion (CanMove from to) (x ∷ xs)
+    at true e h more = absurd (false≢true (sym h))
+    at false e h more = (one (follows_initial_window x.kind) refl e, more h)
+
+-- what waits after a sound change can be sent
+pub can_send : (book : List Entry) (r : Records) (before : ℕ) (now : Core) (t : Touch) → IsSoundTouch book r before now t → AreSound book before r.streams → CanSend book r t
+can_send book r before now Same h s = record { touches = tt; bodies = sound_bodies book before r.streams s }
+can_send book r before now (Put st) h s = record {
+  touches = (h.3.0, λ within. becomes_known r.last st.id r.streams st.kind (h.3.1 within));
+  bodies = all_put (HasBody book) r.streams st h.1 (sound_bodies book before r.streams s);
+}
+can_send book r before now (Shift from to) h s =
+    let sound : AreSound book from r.streams = subst (λ w. AreSound book w r.streams) (sym h.1) s in
+    record { touches = can_move book from to r.streams h.0 sound; bodies = shifted_bodies book (moved_by from to) r.streams (sound_bodies book before r.streams s) }
