@@ -2,6 +2,7 @@ mod AboveLaws
 mod BlockLaws
 mod KindLaws
 mod Pieces
+mod PiecesLaws
 mod PreviewLaws
 mod RequestTurnLaws
 mod SendingLaws

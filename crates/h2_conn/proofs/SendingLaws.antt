@@ -70,7 +70,7 @@ sent_sound n w book st h k s = at (eqb n 0) (eqb (octets_waiting st) n)
 
     at : (a b : Bool) →
         IsSoundStream w (cond a st (cond b (server_ended_as st.kind (with_paid st n)) (with_left (with_paid st n) (octets_waiting st - n)))) ×
-            HasBody book (cond a st (cond b (server_ended_as st.kind (with_paid st n)) (with_left (with_paid st n) (octets_waiting st - n))))
+        HasBody book (cond a st (cond b (server_ended_as st.kind (with_paid st n)) (with_left (with_paid st n) (octets_waiting st - n))))
     at true b = s
     at false true = (ended_sound st.kind w (with_paid st n) refl k paid, ended_body st.kind book (with_paid st n) waits)
     at false false = (paid, left_body (octets_waiting st - n) book (with_paid st n) less waits)

@@ -7,6 +7,8 @@ mod checks;
 mod data;
 mod ends;
 mod headers;
+mod pieces;
+mod preview;
 mod pump;
 mod reset;
 mod settings;

@@ -1,8 +1,8 @@
-use Rattle.std.proofs.Common.{◌≡◌, ◌≤◌, ap, subst, sym, ◌∙◌, refl, ◌-◌}
+use Rattle.std.proofs.Common.{◌≡◌, ◌≤◌, ap, arith, subst, sym, ◌∙◌, refl, ◌-◌}
 use Rattle.h2_spec.specs.Stream.{Records, put}
 use Rattle.h2_spec.specs.Pump.{after_sending, all_after_sending, share}
 use Rattle.h2_conn.specs.Above.{streams_above, left_above}
-use Rattle.h2_conn.proofs.AboveLaws.{all_streams, all_left, next_streams, next_left_put, none_streams, none_left, records_are}
+use Rattle.h2_conn.proofs.AboveLaws.{all_streams, all_left, next_streams, next_left_put, none_streams, none_left, spent_streams, spent_left, records_are}
 use Rattle.h2_conn.proofs.SendingLaws.{left_within}
 use Rattle.h2_conn.proofs.pump.take_shares.Goals as goal
 
@@ -32,6 +32,18 @@ loop-stream-preserved g c =
           ∙ ap (λ ss. left_above st.id (l.left - n) ss) streams ∙ sym (next_left_put l.after 0 l.streams.last l.left l.streams.streams st rising found) ∙ l.invariant.left;
       last = last ∙ l.invariant.last;
     }
+
+pub returns-then-left-eq0-clause-left : goal.returns-then-left-eq0-clause-left
+returns-then-left-eq0-clause-left g c =
+    let l = c.loop-stream in
+    let left = sym (ap (λ w. left_above l.after w l.streams.streams) c.if-left-eq0.true ∙ spent_left l.after l.streams.streams) ∙ l.invariant.left in
+    (left, omega arith)
+
+pub returns-then-left-eq0-clause-sent : goal.returns-then-left-eq0-clause-sent
+returns-then-left-eq0-clause-sent g c =
+    let l = c.loop-stream in
+    let none = ap (λ w. streams_above l.after w l.streams.streams) c.if-left-eq0.true ∙ spent_streams l.after l.streams.streams in
+    records_are l.streams (all_after_sending c.args.window c.args.streams.now.streams) c.args.streams.now.last (sym none ∙ l.invariant.sent) l.invariant.last
 
 pub returns-clause-left : goal.returns-clause-left
 returns-clause-left g c =

@@ -1,6 +1,6 @@
 use Rattle.std.proofs.Common.{◌∙◌, ap, sym, Some}
 use Rattle.h2_conn.proofs.AboveLaws.{next_is, next_known, next_above}
-use Rattle.h2_conn.proofs.pump.next_stream.Goals as goal
+use Rattle.h2_conn.proofs.preview.next_stream.Goals as goal
 
 pub returns-clause-first : goal.returns-clause-first
 returns-clause-first g c =

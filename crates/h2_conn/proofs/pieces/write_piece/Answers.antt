@@ -1,6 +1,6 @@
 use Rattle.std.proofs.Common.{append_assoc, refl}
-use Rattle.h2_conn.proofs.Pieces.{octets_more}
-use Rattle.h2_conn.proofs.pump.write_piece.Goals as goal
+use Rattle.h2_conn.proofs.PiecesLaws.{octets_more}
+use Rattle.h2_conn.proofs.pieces.write_piece.Goals as goal
 
 pub returns-clause-ok : goal.returns-clause-ok
 returns-clause-ok g c =

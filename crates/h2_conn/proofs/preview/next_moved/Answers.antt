@@ -4,7 +4,7 @@ use Rattle.h2_spec.specs.Change.{moved_by, shifted_one}
 use Rattle.h2_spec.specs.Stream.{waits_above}
 use Rattle.h2_conn.specs.Preview.{CanMove}
 use Rattle.h2_conn.proofs.PreviewLaws.{find_shifted, found_all}
-use Rattle.h2_conn.proofs.pump.next_moved.Goals as goal
+use Rattle.h2_conn.proofs.preview.next_moved.Goals as goal
 
 pub returns-in_err-stream : goal.returns-in_err-stream
 returns-in_err-stream g c =

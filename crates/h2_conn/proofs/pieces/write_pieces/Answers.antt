@@ -1,5 +1,5 @@
-use Rattle.h2_conn.proofs.Pieces.{octets_last}
-use Rattle.h2_conn.proofs.pump.write_pieces.Goals as goal
+use Rattle.h2_conn.proofs.PiecesLaws.{octets_last}
+use Rattle.h2_conn.proofs.pieces.write_pieces.Goals as goal
 
 pub returns-clause-ok : goal.returns-clause-ok
 returns-clause-ok g c =

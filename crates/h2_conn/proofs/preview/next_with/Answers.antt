@@ -1,7 +1,7 @@
 use Rattle.std.proofs.Common.{◌≡◌, ◌∙◌, ap, sym}
 use Rattle.h2_conn.specs.Preview.{lower_waiting}
 use Rattle.h2_conn.proofs.PreviewLaws.{find_put}
-use Rattle.h2_conn.proofs.pump.next_with.Goals as goal
+use Rattle.h2_conn.proofs.preview.next_with.Goals as goal
 
 pub returns : goal.returns
 returns g c =

@@ -3,7 +3,7 @@ use Rattle.std.specs.Prelude.{find}
 use Rattle.h2_spec.specs.Stream.{waits_above}
 use Rattle.h2_conn.specs.Preview.{is_other_waiting}
 use Rattle.h2_conn.proofs.PreviewLaws.{none_others, first_others, next_others, differ}
-use Rattle.h2_conn.proofs.pump.next_other.Goals as goal
+use Rattle.h2_conn.proofs.preview.next_other.Goals as goal
 
 pub returns-in_err-first : goal.returns-in_err-first
 returns-in_err-first g c =

@@ -1,0 +1,102 @@
+//! A share of an answer's body, as DATA (RFC 9113, 6.1).
+//! Rests on h2_frame; definition: h2_spec's `specs/Pump.antt`, `data_frames`.
+
+ghost use Rattle.std.specs.Prelude.{◌≡◌, ◌+◌, ◌-◌, ◌<◌, ◌≤◌, ◌++◌, ◌==◌, length, IfOk, OnOk, take, drop, vec_len, ◌^◌};
+ghost use Rattle.h2_spec.specs.Change as changes;
+ghost use Rattle.h2_spec.specs.Frame.{frames_octets};
+ghost use Rattle.h2_spec.specs.Pump as rule;
+ghost use Rattle.h2_spec.specs.Stream.{octets_waiting};
+
+use h2_frame::append_frame;
+use h2_spec::streams::Stream;
+use h2_streams::octets_waiting;
+use std::alloc::{AllocError, Allocator};
+
+/// Writes the frames of a stream's share of its answer's body, whole or in part.
+pub fn write_share<A: Allocator>(
+    size: usize,
+    share: u64,
+    stream: &Stream,
+    body: &[u8],
+    out: &mut Vec<u8, A>,
+) -> Result<(), AllocError>
+    requires size { (0 < size) × (size < 2 ^ 24) }
+    requires some { 0 < share }
+    requires waits { share ≤ octets_waiting stream.now }
+    requires left { octets_waiting stream.now ≤ length body.now }
+    ensures ok { OnOk result (out.new.items ≡ out.old.items ++ frames_octets (rule.data_frames stream.now.id (octets_waiting stream.now == share) size (take share (drop (length body.now - octets_waiting stream.now) body.now)))) }
+    ensures kept { take (vec_len out.old) out.new.items ≡ out.old.items }
+{
+    let left = octets_waiting(stream);
+    let octets = share_octets(body, left, share);
+    write_pieces(stream.id, left == share, size, octets, out)
+}
+
+/// The octets of a body that are sent, where this many are left of it.
+fn share_octets(body: &[u8], left: u64, share: u64) -> &[u8]
+    requires waits { share ≤ left }
+    requires left { left ≤ length body.now }
+    ensures { result.now ≡ take share (drop (length body.now - left) body.now) }
+{
+    octets_at(body, body.len() - left as usize, share as usize)
+}
+
+/// Writes octets as DATA of this size and a shorter or equal last one, whole or in part.
+fn write_pieces<A: Allocator>(
+    id: u32,
+    ends: bool,
+    size: usize,
+    octets: &[u8],
+    out: &mut Vec<u8, A>,
+) -> Result<(), AllocError>
+    requires size { (0 < size) × (size < 2 ^ 24) }
+    requires some { 0 < length octets.now }
+    ensures ok { OnOk result (out.new.items ≡ out.old.items ++ frames_octets (rule.data_frames id ends size octets.now)) }
+    ensures kept { take (vec_len out.old) out.new.items ≡ out.old.items }
+{
+    let mut at = 0;
+    while octets.len() - at > size {
+        at = write_piece(id, ends, size, octets, at, out)?;
+    }
+    append_frame(0, end_flag(ends), id, &[], octets_from(octets, at), out)
+}
+
+/// Writes one DATA that is not the last of them, or nothing; answers where the next begins.
+fn write_piece<A: Allocator>(
+    id: u32,
+    ends: bool,
+    size: usize,
+    octets: &[u8],
+    at: usize,
+    out: &mut Vec<u8, A>,
+) -> Result<usize, AllocError>
+    requires size { (0 < size) × (size < 2 ^ 24) }
+    requires more { size < length octets.now - at }
+    ensures at { IfOk result (λ next. (at < next) × (next < length octets.now)) }
+    ensures ok { IfOk result (λ next. out.new.items ++ frames_octets (rule.data_frames id ends size (drop next octets.now)) ≡ out.old.items ++ frames_octets (rule.data_frames id ends size (drop at octets.now))) }
+    ensures kept { take (vec_len out.old) out.new.items ≡ out.old.items }
+{
+    append_frame(0, 0, id, &[], octets_at(octets, at, size), out)?;
+    Ok(at + size)
+}
+
+/// END_STREAM, on the frame that ends a body.
+fn end_flag(ends: bool) -> u8
+    ensures { result ≡ changes.flag_if ends 1 }
+{
+    if ends { 1 } else { 0 }
+}
+
+fn octets_at(octets: &[u8], start: usize, count: usize) -> &[u8]
+    requires { start + count ≤ length octets.now }
+    ensures { result.now ≡ take count (drop start octets.now) }
+{
+    &octets[start..start + count]
+}
+
+fn octets_from(octets: &[u8], start: usize) -> &[u8]
+    requires { start ≤ length octets.now }
+    ensures { result.now ≡ drop start octets.now }
+{
+    &octets[start..]
+}
