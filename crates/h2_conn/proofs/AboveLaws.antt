@@ -1,5 +1,5 @@
 -- How sending in the order of the identifiers goes forward by one stream that waits.
-use Rattle.std.proofs.Common.{◌≡◌, ℕ, zero, suc, ◌+◌, ◌-◌, ◌*◌, ◌%◌, ◌<◌, ◌≤◌, Bool, true, false, cond, List, [], ◌∷◌, ◌++◌, length, take, drop, refl, sym, ap, subst, ◌∙◌, arith, ltb, ltb-true, ltb-false, le-ltb, lt-ltb, eqb, eqb-true, Option, Some, None, min, max}
+use Rattle.std.proofs.Common.{◌≡◌, ℕ, zero, suc, ◌-◌, ◌%◌, ◌<◌, ◌≤◌, Bool, true, false, cond, List, [], ◌∷◌, ◌++◌, length, take, drop, refl, sym, ap, subst, ◌∙◌, arith, ltb-false, eqb, eqb-true, Option, Some, None, min, max}
 use Rattle.std.proofs.lemmas.Bool.{false≢true}
 use Rattle.std.proofs.lemmas.Bool.Decides.{nat_tests}
 use Rattle.std.specs.Prelude.{Result, Ok, Err, IsOk, OnOk, find, nat_lt, ◌&&◌, ◌||◌, not, ◌==◌}
@@ -8,10 +8,9 @@ use Rattle.h2_spec.specs.declared.streams.Kind.{Kind}
 use Rattle.h2_spec.specs.declared.streams.Kind.TheVariants.{Idle, Skipped, BothOpen, HalfRemote, HalfLocal, Ended, PeerReset, WeReset}
 use Rattle.h2_spec.specs.Ends.{server_ended_as, with_left}
 use Rattle.h2_spec.specs.Answer.{Entry, picked}
-use Rattle.h2_spec.specs.Frame.{Frame}
 use Rattle.h2_spec.specs.Window.{sendable}
 use Rattle.h2_streams.specs.Put.{CanPut, is_closed}
-use Rattle.h2_spec.specs.Stream.{AreRising, Records, put, record_of, stream_at, recorded, is_id, waits_above, octets_waiting, octets_left, next_waiting, id_of, is_live}
+use Rattle.h2_spec.specs.Stream.{AreRising, Records, put, record_of, stream_at, waits_above, octets_waiting, octets_left, next_waiting, id_of, is_live}
 use Rattle.h2_spec.specs.Pump.{share, share_frames, data_frames, after_sending, sent_frames, all_after_sending, window_left, with_paid}
 use Rattle.std.specs.Option.{option_map}
 use Rattle.h2_conn.specs.Above.{IsWaiting, share_above, frames_above, streams_above, left_above}
@@ -399,3 +398,14 @@ records_are r ss last e f = ap (λ s. both s r.last) e ∙ ap (λ l. both ss l) 
 pub on_ok : {A E : Type 0} (r : Result A E) (P : Type 0) → IsOk r → OnOk r P → P
 on_ok (Ok x) P h o = o
 on_ok (Err e) P h o = absurd (false≢true h)
+
+-- ---- what is left of the window
+
+share_within : (window : ℕ) (st : Stream) → share window st ≤ window
+unfolding share
+share_within window st = omega arith
+
+pub left_within : (window : ℕ) (ss : List Stream) → window_left window ss ≤ window
+unfolding window_left
+left_within window [] = omega arith
+left_within window (st ∷ sts) = let m = left_within (window - share window st) sts in omega (arith, m, share_within window st)

@@ -2,9 +2,9 @@ mod AboveLaws
 mod BlockLaws
 mod KindLaws
 mod Pieces
+mod FoundLaws
 mod PiecesLaws
 mod PreviewLaws
 mod RequestTurnLaws
-mod SendingLaws
 mod SettingsLaws
 mod SoundLaws

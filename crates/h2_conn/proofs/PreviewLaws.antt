@@ -1,11 +1,12 @@
 -- What waits in records that are touched.
-use Rattle.std.proofs.Common.{◌≡◌, ◌≢◌, ℕ, zero, suc, ◌+◌, ◌-◌, ◌%◌, ◌<◌, ◌≤◌, Bool, true, false, cond, List, [], ◌∷◌, map, refl, sym, ap, subst, ◌∙◌, arith, ltb, ltb-true, ltb-false, eqb, eqb-true, Option, Some, None, max, ℤ, pos, negsuc, ◌+ℤ◌, ◌≤ℤ◌, int_lt}
+use Rattle.std.proofs.Common.{◌≡◌, ◌≢◌, ℕ, zero, suc, ◌%◌, ◌<◌, ◌≤◌, Bool, true, false, cond, List, [], ◌∷◌, map, refl, sym, ap, subst, ◌∙◌, arith, ltb, ltb-true, ltb-false, eqb, eqb-true, Option, Some, None, max, ℤ, pos, ◌+ℤ◌, ◌≤ℤ◌, int_lt}
 use Rattle.std.proofs.lemmas.Bool.{false≢true}
 use Rattle.std.proofs.lemmas.Bool.Decides.{nat_tests}
-use Rattle.std.specs.Prelude.{find, nat_lt, ◌&&◌, ◌||◌, not, ◌==◌, is_some}
+use Rattle.std.specs.Prelude.{find, nat_lt, ◌&&◌, not, ◌==◌, is_some}
 use Rattle.std.specs.List.{AllByRecursion}
 use Rattle.std.specs.Option.{option_map}
 use Rattle.h2_spec.specs.declared.connection.Core.{Core}
+use Rattle.h2_spec.specs.declared.reactions.Change.{Change}
 use Rattle.h2_spec.specs.declared.reactions.Touch.{Touch}
 use Rattle.h2_spec.specs.declared.reactions.Touch.TheVariants.{Same, Put, Shift}
 use Rattle.h2_spec.specs.declared.streams.Stream.{Stream}
@@ -15,8 +16,9 @@ use Rattle.h2_spec.specs.Answer.{Entry}
 use Rattle.h2_spec.specs.Change.{follows_initial_window, moved_by, overflows, overflows_one, shifted, shifted_one, touched, with_send}
 use Rattle.h2_spec.specs.Stream.{AreRising, Records, put, record_of, recorded, not_live, stream_at, kind_of, is_id, waits_above, octets_waiting}
 use Rattle.h2_streams.specs.Put.{can_become}
-use Rattle.h2_conn.specs.Sound.{HasBody, IsSoundTouch, AreSound}
-use Rattle.h2_conn.specs.Preview.{last_touched, is_other_waiting, lower_waiting, IsPlaced, CanMove, CanTouch, CanSend}
+use Rattle.h2_conn.specs.Sound.{HasBody, IsSoundTouch, IsSoundChange, IsSoundState, AreSound, touched_records}
+use Rattle.h2_conn.specs.Preview.{is_other_waiting, lower_waiting, CanMove, CanTouch, CanSend}
+use Rattle.h2_conn.proofs.SoundLaws.{changed-sound, touched-streams}
 use Rattle.h2_conn.proofs.AboveLaws.{some_same, none_some, found_above, found_passes, found_record, waits_is_above}
 
 -- ---- the others
@@ -223,7 +225,7 @@ placed_odd id last ss r new known = at (ltb last id) refl
         ap (λ i. i % 2) (sym same) ∙ (found_record (is_id id) 0 last ss found.0 r found.1).1
 
 -- records stay in the order of their opening
-pub rising_touched : (t : Touch) (r : Records) → AreRising 0 r.last r.streams → CanTouch t r → AreRising 0 (last_touched t r) (touched t r.streams)
+pub rising_touched : (t : Touch) (r : Records) → AreRising 0 r.last r.streams → CanTouch t r → AreRising 0 (touched_records t r).last (touched t r.streams)
 rising_touched Same r rising h = rising
 rising_touched (Put st) r rising h = let odd = placed_odd st.id r.last r.streams rising h.0 h.1 in rising_put 0 r.last r.streams st rising (odd_above st.id odd) odd h.1
 rising_touched (Shift from to) r rising h = rising_shifted 0 r.last (moved_by from to) r.streams rising
@@ -233,14 +235,6 @@ pub found_within : (p : Stream → Bool) (last : ℕ) (ss : List Stream) (st : S
 found_within p last ss st r e = (found_record p 0 last ss st r e).2
 
 -- ---- what a sound change of the records allows
-
-all_put : (P : Stream → Type 0) (ss : List Stream) (st : Stream) → P st → AllByRecursion P ss → AllByRecursion P (put st ss)
-all_put P [] st h all = (h, tt)
-all_put P (x ∷ xs) st h all = at (eqb x.id st.id) (all_put P xs st h all.1)
-  where
-    at : (t : Bool) → AllByRecursion P (put st xs) → AllByRecursion P (cond t (st ∷ xs) (x ∷ put st xs))
-    at true more = (h, all.1)
-    at false more = (all.0, more)
 
 -- a stream that is live or closed has its record
 becomes_known : (last id : ℕ) (ss : List Stream) (after : Kind) → can_become (kind_of last ss id) after ≡ true → is_some (record_of ss id) ≡ true
@@ -252,19 +246,6 @@ becomes_known last id ss after h = at (eqb (id % 2) 0) (nat_lt last id) (record_
     at true t None h = absurd (false≢true h)
     at false true None h = absurd (false≢true h)
     at false false None h = absurd (false≢true h)
-
-one_body : (book : List Entry) (d : ℤ) (st : Stream) → HasBody book st → HasBody book (shifted_one d st)
-unfolding octets_waiting
-one_body book d st h = at (follows_initial_window st.kind)
-  where
-    at : (t : Bool) → HasBody book (cond t (with_send st (st.numbers.send +ℤ d)) st)
-    at true = h
-    at false = h
-
-shifted_bodies : (book : List Entry) (d : ℤ) (ss : List Stream) → AllByRecursion (HasBody book) ss → AllByRecursion (HasBody book) (shifted d ss)
-unfolding shifted
-shifted_bodies book d [] all = tt
-shifted_bodies book d (x ∷ xs) all = (one_body book d x all.0, shifted_bodies book d xs all.1)
 
 sound_bodies : (book : List Entry) (w : ℕ) (ss : List Stream) → AreSound book w ss → AllByRecursion (HasBody book) ss
 sound_bodies book w [] s = tt
@@ -288,13 +269,17 @@ can_move book from to (x ∷ xs) fits s = at (overflows_one (moved_by from to) x
     at true e h more = absurd (false≢true (sym h))
     at false e h more = (one (follows_initial_window x.kind) refl e, more h)
 
+can_touch : (book : List Entry) (r : Records) (before : ℕ) (now : Core) (t : Touch) → IsSoundTouch book r before now t → AreSound book before r.streams → CanTouch t r
+can_touch book r before now Same h s = tt
+can_touch book r before now (Put st) h s = (h.3.0, λ within. becomes_known r.last st.id r.streams st.kind (h.3.1 within))
+can_touch book r before now (Shift from to) h s = can_move book from to r.streams h.0 (subst (λ w. AreSound book w r.streams) (sym h.1) s)
+
 -- what waits after a sound change can be sent
-pub can_send : (book : List Entry) (r : Records) (before : ℕ) (now : Core) (t : Touch) → IsSoundTouch book r before now t → AreSound book before r.streams → CanSend book r t
-can_send book r before now Same h s = record { touches = tt; bodies = sound_bodies book before r.streams s }
-can_send book r before now (Put st) h s = record {
-  touches = (h.3.0, λ within. becomes_known r.last st.id r.streams st.kind (h.3.1 within));
-  bodies = all_put (HasBody book) r.streams st h.1 (sound_bodies book before r.streams s);
-}
-can_send book r before now (Shift from to) h s =
-    let sound : AreSound book from r.streams = subst (λ w. AreSound book w r.streams) (sym h.1) s in
-    record { touches = can_move book from to r.streams h.0 sound; bodies = shifted_bodies book (moved_by from to) r.streams (sound_bodies book before r.streams s) }
+pub can_send : (book : List Entry) (core : Core) (r : Records) (c : Change) → IsSoundState book core r → IsSoundChange book r core.peer.window c → CanSend book r c.touch
+can_send book core r c state change =
+    let after = changed-sound book core r c state change in
+    let P : List Stream → Type 0 = λ ss. AllByRecursion (HasBody book) ss in
+    record {
+      touches = can_touch book r core.peer.window c.core c.touch change.1 state.records;
+      bodies = subst P (touched-streams c.touch r) (sound_bodies book c.core.peer.window (touched_records c.touch r).streams after.records);
+    }

@@ -1,5 +1,5 @@
 -- Records as they will be after a rule touches them, looked through before it does.
-use Rattle.std.specs.Prelude.{◌≡◌, ℕ, ◌<◌, ◌≤◌, ◌%◌, Bool, true, ◌&&◌, not, List, nat_lt, ◌==◌, if◌then◌else◌, Option, Some, None, is_some, max, pos, ◌+ℤ◌, ◌≤ℤ◌}
+use Rattle.std.specs.Prelude.{◌≡◌, ℕ, ◌<◌, ◌≤◌, ◌%◌, Bool, true, ◌&&◌, not, List, nat_lt, ◌==◌, if◌then◌else◌, Option, Some, None, is_some, pos, ◌+ℤ◌, ◌≤ℤ◌}
 use Rattle.std.specs.List.{AllByRecursion}
 use Rattle.h2_spec.specs.declared.reactions.Touch.{Touch}
 use Rattle.h2_spec.specs.declared.reactions.Touch.TheVariants.{Same, Put, Shift}
@@ -8,12 +8,6 @@ use Rattle.h2_spec.specs.Answer.{Entry}
 use Rattle.h2_spec.specs.Change.{follows_initial_window, moved_by, touched}
 use Rattle.h2_spec.specs.Stream.{Records, record_of, waits_above}
 use Rattle.h2_conn.specs.Sound.{HasBody}
-
--- the last stream that is opened, after it
-abbrev pub last_touched : Touch → Records → ℕ
-last_touched Same r = r.last
-last_touched (Put st) r = max r.last st.id
-last_touched (Shift from to) r = r.last
 
 -- a stream above this one that has octets to send, and is not the other one
 abbrev pub is_other_waiting : ℕ → ℕ → Stream → Bool

@@ -1,4 +1,4 @@
-use Rattle.std.proofs.Common.{◌≡◌, ◌∙◌, ap, sym, Some}
+use Rattle.std.proofs.Common.{◌∙◌, ap, sym, Some}
 use Rattle.std.specs.Option.{option_map}
 use Rattle.h2_spec.specs.Change.{moved_by, shifted_one}
 use Rattle.h2_spec.specs.Stream.{waits_above}

@@ -1,4 +1,4 @@
-use Rattle.std.proofs.Common.{◌≡◌, ◌∙◌, ap, sym, eqb}
+use Rattle.std.proofs.Common.{◌∙◌, ap, sym}
 use Rattle.std.specs.Prelude.{find}
 use Rattle.h2_spec.specs.Stream.{waits_above}
 use Rattle.h2_conn.specs.Preview.{is_other_waiting}

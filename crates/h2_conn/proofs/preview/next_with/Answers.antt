@@ -1,4 +1,4 @@
-use Rattle.std.proofs.Common.{◌≡◌, ◌∙◌, ap, sym}
+use Rattle.std.proofs.Common.{◌∙◌, ap, sym}
 use Rattle.h2_conn.specs.Preview.{lower_waiting}
 use Rattle.h2_conn.proofs.PreviewLaws.{find_put}
 use Rattle.h2_conn.proofs.preview.next_with.Goals as goal

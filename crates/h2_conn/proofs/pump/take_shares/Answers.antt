@@ -2,8 +2,7 @@ use Rattle.std.proofs.Common.{◌≡◌, ◌≤◌, ap, arith, subst, sym, ◌�
 use Rattle.h2_spec.specs.Stream.{Records, put}
 use Rattle.h2_spec.specs.Pump.{after_sending, all_after_sending, share}
 use Rattle.h2_conn.specs.Above.{streams_above, left_above}
-use Rattle.h2_conn.proofs.AboveLaws.{all_streams, all_left, next_streams, next_left_put, none_streams, none_left, spent_streams, spent_left, records_are}
-use Rattle.h2_conn.proofs.SendingLaws.{left_within}
+use Rattle.h2_conn.proofs.AboveLaws.{all_streams, all_left, next_streams, next_left_put, none_streams, none_left, spent_streams, spent_left, records_are, left_within}
 use Rattle.h2_conn.proofs.pump.take_shares.Goals as goal
 
 pub loop-stream-init : goal.loop-stream-init

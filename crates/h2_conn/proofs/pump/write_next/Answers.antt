@@ -1,7 +1,7 @@
 use Rattle.std.proofs.Common.{◌≡◌, ◌≤◌, ◌++◌, ◌∙◌, ap, sym, arith}
 use Rattle.std.proofs.lemmas.List.{append-nil}
 use Rattle.h2_spec.specs.Frame.{frames_octets}
-use Rattle.h2_spec.specs.Pump.{share, share_frames}
+use Rattle.h2_spec.specs.Pump.{share_frames}
 use Rattle.h2_conn.proofs.AboveLaws.{body_frames, no_frames}
 use Rattle.h2_conn.proofs.pump.write_next.Goals as goal
 

@@ -1,14 +1,12 @@
-use Rattle.std.proofs.Common.{◌≡◌, ◌<◌, ◌≤◌, ◌-◌, ◌++◌, ◌∙◌, ap, sym, subst, arith, append_assoc}
+use Rattle.std.proofs.Common.{◌-◌, ◌++◌, ◌∙◌, ap, sym, arith, append_assoc}
 use Rattle.std.proofs.lemmas.Grind.{common_steps, flat_map-append}
 use Rattle.std.proofs.lemmas.List.{append-nil}
-use Rattle.std.specs.Prelude.{find}
 use Rattle.h2_spec.specs.Change.{touched}
 use Rattle.h2_spec.specs.Frame.{frame_octets, frames_octets}
 use Rattle.h2_spec.specs.Pump.{share, share_frames}
-use Rattle.h2_spec.specs.Stream.{AreRising, waits_above}
+use Rattle.h2_spec.specs.Stream.{waits_above}
 use Rattle.h2_conn.specs.Above.{frames_above}
-use Rattle.h2_conn.specs.Preview.{last_touched}
-use Rattle.h2_conn.specs.Sound.{HasBody}
+use Rattle.h2_conn.specs.Sound.{HasBody, touched_records}
 use Rattle.h2_conn.proofs.AboveLaws.{all_frames, next_frames, none_frames, spent_frames, next_above}
 use Rattle.h2_conn.proofs.PreviewLaws.{rising_touched, found_all, found_within}
 use Rattle.h2_conn.proofs.pump.write_shares.Goals as goal
@@ -19,7 +17,7 @@ loop-stream-init g c =
     let s = a.streams.now in
     let rising = rising_touched a.touch s c.last-last.ensures.rising c.requires.sends.touches in
     record {
-      sent = ap (λ fs. a.out.now.items ++ frames_octets fs) (all_frames a.book.now a.size 0 (last_touched a.touch s) a.window (touched a.touch s.streams) rising);
+      sent = ap (λ fs. a.out.now.items ++ frames_octets fs) (all_frames a.book.now a.size 0 (touched_records a.touch s).last a.window (touched a.touch s.streams) rising);
       kept = grind (arith, common_steps);
     }
 
@@ -46,7 +44,7 @@ loop-stream-smaller g c =
     let found = sym c.next_after.ensures ∙ c.in-Some.is in
     let rising = rising_touched a.touch s c.last-last.ensures.rising c.requires.sends.touches in
     let above = next_above l.after ss c.in-Some.stream found in
-    let within = found_within (waits_above l.after) (last_touched a.touch s) ss c.in-Some.stream rising found in
+    let within = found_within (waits_above l.after) (touched_records a.touch s).last ss c.in-Some.stream rising found in
     omega (arith, above, within)
 
 pub loop-stream-preserved : goal.loop-stream-preserved
@@ -60,7 +58,7 @@ loop-stream-preserved g c =
     let rising = rising_touched a.touch s c.last-last.ensures.rising c.requires.sends.touches in
     let here = share_frames a.book.now a.size (share l.left st) st in
     let behind = frames_above a.book.now a.size st.id (l.left - share l.left st) ss in
-    let next = next_frames a.book.now a.size l.after 0 (last_touched a.touch s) l.left ss st rising found in
+    let next = next_frames a.book.now a.size l.after 0 (touched_records a.touch s).last l.left ss st rising found in
     record {
       sent =
           ap (λ n. c.write_next.new.out.items ++ frames_octets (frames_above a.book.now a.size st.id (l.left - n) ss)) c.in_ok-left.ensures.share.0

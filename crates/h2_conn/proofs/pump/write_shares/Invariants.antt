@@ -3,7 +3,7 @@ use Rattle.h2_spec.specs.Change.{touched}
 use Rattle.h2_spec.specs.Frame.{frames_octets}
 use Rattle.h2_spec.specs.Pump.{sent_frames}
 use Rattle.h2_conn.specs.Above.{frames_above}
-use Rattle.h2_conn.specs.Preview.{last_touched}
+use Rattle.h2_conn.specs.Sound.{touched_records}
 use Rattle.h2_conn.proofs.pump.write_shares.Given as goal
 
 abbrev pub invariant-loop-stream : goal.invariant-loop-stream
@@ -15,4 +15,4 @@ invariant-loop-stream g l =
     }
 
 abbrev pub decreases-loop-stream : goal.decreases-loop-stream
-decreases-loop-stream g l = last_touched l.touch l.streams - l.after
+decreases-loop-stream g l = (touched_records l.touch l.streams).last - l.after
