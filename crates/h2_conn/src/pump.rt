@@ -180,7 +180,7 @@ fn share(window: u64, stream: &Stream) -> u64
 }
 
 /// The octets that a window lets pass.
-fn sendable(window: Window) -> u64
+pub fn sendable(window: Window) -> u64
     ensures sendable { result ≡ sendable window }
     ensures few { result ≤ 2147483647 }
 {
