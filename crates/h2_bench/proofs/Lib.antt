@@ -1,4 +1,5 @@
 pub mod AnswerTexts
+pub mod Assembled
 pub mod Digits
 pub mod Grammar
 pub mod Items

@@ -13,6 +13,12 @@ use Rattle.clap.specs.declared.builder.ValueParser.TheVariants as parser
 abbrev pub play_app : App
 play_app = new_app (codes "play")
 
+abbrev pub asm_app : App
+asm_app = new_app (codes "asm")
+
+abbrev pub dis_app : App
+dis_app = new_app (codes "dis")
+
 -- LIMIT of `table`, 0 to 65536
 abbrev pub limit_rule : Rule
 limit_rule = record (new_rule (codes "LIMIT")) { required = true; action = Some Set; parser = Some (parser.Unsigned 0 65536) }
@@ -24,12 +30,14 @@ abbrev pub top_app : App
 top_app = record (new_app (codes "h2_bench")) { top = record (new_app (codes "h2_bench")).top { subcommand_required = true } }
 
 unfoldable pub bench_app : App
-bench_app = with_subcommand (with_subcommand top_app play_app.top) table_app.top
+bench_app = with_subcommand (with_subcommand (with_subcommand (with_subcommand top_app play_app.top) asm_app.top) dis_app.top) table_app.top
 
 -- ---- what words ask for
 
 pub data Asked : Type 0 where
   play : Asked
+  asm : Asked
+  dis : Asked
   table : (limit : ℕ) → Asked
 
 -- the number that a text spells in decimal digits, if it is below 2 ^ 32
@@ -45,6 +53,8 @@ number_at id default rows = unwrap_or (option_and_then number_of (one_of id rows
 abbrev pub asked_by : Text → List Row → Option Asked
 asked_by name rows =
     if bytes_eq name (codes "play") then Some play
+    else if bytes_eq name (codes "asm") then Some asm
+    else if bytes_eq name (codes "dis") then Some dis
     else (if bytes_eq name (codes "table") then Some (table (number_at (codes "LIMIT") 0 rows)) else None)
 
 -- what is asked, if no kind of error comes

@@ -8,5 +8,7 @@ pub mod Grammar
 pub mod Input
 pub mod Plans
 pub mod Run
+pub mod ScriptPrograms
 pub mod TableProgram
+pub mod Tell
 pub mod Told

@@ -1,13 +1,15 @@
 -- What a plan stands for, and what a refusal says of words.
 use Rattle.std.specs.Prelude.{◌≡◌, Option, None}
-use Rattle.h2_bench.specs.Grammar.{Asked, play, table}
+use Rattle.h2_bench.specs.Grammar.{Asked, play, asm, dis, table}
 use Rattle.h2_bench.specs.declared.command.Plan.{Plan}
-use Rattle.h2_bench.specs.declared.command.Plan.TheVariants.{Play, Table}
+use Rattle.h2_bench.specs.declared.command.Plan.TheVariants.{Play, Asm, Dis, Table}
 use Rattle.h2_bench.specs.declared.command.Refusal.{Refusal}
 use Rattle.h2_bench.specs.declared.command.Refusal.TheVariants.{Words, NoMemory}
 
 abbrev pub planned : Plan → Asked
 planned Play = play
+planned Asm = asm
+planned Dis = dis
 planned (Table limit) = table limit
 
 -- words that are refused, but for want of memory, ask for nothing

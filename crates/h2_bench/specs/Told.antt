@@ -6,25 +6,14 @@ use Rattle.h2_spec.specs.State.{State, opening}
 use Rattle.h2_spec.specs.Trace.{sent_octets, trace}
 use Rattle.h2_spec.specs.View.{view}
 use Rattle.h2_spec.specs.Show.{joined, show}
-use Rattle.h2_bench.specs.Faults.{fault_line, fault_number}
 use Rattle.h2_bench.specs.First.{default}
-use Rattle.h2_bench.specs.Grammar.{Asked, play, table}
+use Rattle.h2_bench.specs.Grammar.{Asked, play, asm, dis, table}
 use Rattle.h2_bench.specs.Input.{most, octets_spelled}
 use Rattle.h2_bench.specs.Run.{meets_not_yet}
+use Rattle.h2_bench.specs.ScriptPrograms.{told_asm, told_dis}
 use Rattle.h2_bench.specs.TableProgram.{table_text}
-use Rattle.h2_bench.specs.declared.fault.BenchFault.{BenchFault}
+pub use Rattle.h2_bench.specs.Tell.{Told, done, failed}
 use Rattle.h2_bench.specs.declared.fault.BenchFault.TheVariants.{Read, BadHex, NotYet}
-
--- a text that is written, and the exit status
-pub record Told : Type 0 where
-  pub text : List ℕ
-  pub status : ℕ
-
-abbrev pub done : List ℕ → Told
-done text = record { text = text; status = 0 }
-
-abbrev pub failed : BenchFault → Told
-failed fault = record { text = fault_line (fault_number fault); status = 1 }
 
 -- the line of the octets sent, and the text of the state
 unfoldable pub sent_and_state : List ℕ → State → List ℕ
@@ -42,6 +31,8 @@ told_play (Some octets) = told_played octets
 
 abbrev pub told : Asked → List ℕ → Told
 told play input = told_play (octets_spelled input)
+told asm input = told_asm input
+told dis input = told_dis (octets_spelled input)
 told (table limit) input = done (table_text limit input)
 
 -- an input that is too long is not read

@@ -5,7 +5,7 @@ ghost use Rattle.std.specs.Prelude.{◌≡◌, IfOk, IfErr, Some, None, false, o
 ghost use Rattle.clap.specs.Words.{app_of, found_of, kind_of, rows_of};
 ghost use Rattle.clap.specs.declared.error.ErrorKind.TheVariants.{OutOfMemory};
 ghost use Rattle.clap.specs.declared.builder.Command.TheViews.{out-Command};
-ghost use Rattle.h2_bench.specs.Grammar.{asked_by, asked_of, bench_app, number_at, play_app, table_app};
+ghost use Rattle.h2_bench.specs.Grammar.{asked_by, asked_of, asm_app, bench_app, dis_app, number_at, play_app, table_app};
 ghost use Rattle.h2_bench.specs.Plans.{planned, Refuses};
 
 use crate::words::Words;
@@ -19,6 +19,10 @@ use std::alloc::{AllocError, Global};
 pub enum Plan {
     /// Plays a connection over the octets of the input.
     Play,
+    /// Writes the octets of the script that the input is, as hex.
+    Asm,
+    /// Writes the script of the octets that the input has as hex.
+    Dis,
     /// Changes a dynamic table of this limit, 0 to 65536, by the lines of the input.
     Table(u32),
 }
@@ -37,6 +41,22 @@ fn play_command<'a>(alloc: Global) -> Command<'a>
 {
     Command::new(alloc, "play").about(
         "Plays one connection over the octets that standard input has as hex",
+    )
+}
+
+fn asm_command<'a>(alloc: Global) -> Command<'a>
+    ensures { (app_of result ≡ asm_app) × ((out-Command result).has_globals ≡ false) }
+{
+    Command::new(alloc, "asm").about(
+        "Writes the octets of the script that standard input is, as hex",
+    )
+}
+
+fn dis_command<'a>(alloc: Global) -> Command<'a>
+    ensures { (app_of result ≡ dis_app) × ((out-Command result).has_globals ≡ false) }
+{
+    Command::new(alloc, "dis").about(
+        "Writes the script of the octets that standard input has as hex",
     )
 }
 
@@ -59,11 +79,15 @@ fn bench_command<'a>(alloc: Global) -> Result<Command<'a>, AllocError>
     ensures { IfOk result (λ c. app_of c ≡ bench_app) }
 {
     let play = play_command(alloc);
+    let asm = asm_command(alloc);
+    let dis = dis_command(alloc);
     let table = table_command(alloc)?;
     Command::new(alloc, "h2_bench")
         .about("An HTTP/2 server emulator and frame debugger")
         .subcommand_required(true)
         .subcommand(play)?
+        .subcommand(asm)?
+        .subcommand(dis)?
         .subcommand(table)
 }
 
@@ -79,6 +103,12 @@ fn plan_from(name: &str, matches: &ArgMatches<'_>) -> Option<Plan>
 {
     if name == "play" {
         return Some(Plan::Play);
+    }
+    if name == "asm" {
+        return Some(Plan::Asm);
+    }
+    if name == "dis" {
+        return Some(Plan::Dis);
     }
     if name == "table" {
         return Some(Plan::Table(number_at(matches, "LIMIT", 0)));

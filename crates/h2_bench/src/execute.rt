@@ -1,31 +1,36 @@
 //! A command, from its words and its input to its output and the exit status.
-//! Rests on `command`, `input`, `play`, `table` and `device`; definitions: `specs/Told.antt`, `specs/Ends.antt`.
+//! Rests on `command`, `input`, `play`, `asm`, `dis`, `table` and `device`; definitions: `specs/Told.antt`, `specs/Ends.antt`.
 
 ghost use Rattle.std.specs.Prelude.{◌≡◌, ◌⊎◌, ℕ, List, Some, true, false};
-ghost use Rattle.h2_bench.specs.Answers.{Meets, seen};
+ghost use Rattle.h2_bench.specs.Answers.{Gives, Meets, seen};
 ghost use Rattle.h2_bench.specs.Ends.{Answers, Ends, EndsSomehow, Tells};
 ghost use Rattle.h2_bench.specs.Grammar.{Asked, asked_of};
 ghost use Rattle.h2_bench.specs.Plans.{planned};
 ghost use Rattle.h2_bench.specs.Told.{told};
 
+use crate::asm::asm_report;
 use crate::command::{Plan, Refusal, parse};
 use crate::device::write_all;
+use crate::dis::dis_text;
 use crate::fault::BenchFault;
 use crate::input::read_all;
 use crate::play::play_text;
+use crate::report::{Report, whole};
 use crate::table::table_text;
 use crate::words::Words;
 use std::alloc::Global;
 use std::io::{Read, Write};
 
 /// What a command answers to a whole input.
-fn answer_to(alloc: Global, plan: Plan, input: &[u8]) -> Result<String, BenchFault>
-    ensures { Meets result (told (planned plan) input.now) }
+fn answer_to(alloc: Global, plan: Plan, input: &[u8]) -> Result<Report, BenchFault>
+    ensures { Gives result (told (planned plan) input.now) }
 {
     match plan {
-        Plan::Play => play_text(alloc, input),
+        Plan::Play => whole(play_text(alloc, input)),
+        Plan::Asm => asm_report(alloc, input),
+        Plan::Dis => whole(dis_text(alloc, input)),
         Plan::Table(limit) => match table_text(alloc, limit, input) {
-            Ok(text) => Ok(text),
+            Ok(text) => Ok(Report { text, status: 0 }),
             Err(_) => Err(BenchFault::NoMemory),
         },
     }
@@ -37,7 +42,7 @@ fn respond<R: Read>(
     plan: Plan,
     input: &mut R,
     input_failed: &mut bool,
-) -> Result<String, BenchFault>
+) -> Result<Report, BenchFault>
     requires { input_failed.old ≡ false }
     ensures { Answers (planned plan) (R.remaining input.old) input_failed.new (seen result) }
 {
@@ -60,11 +65,11 @@ fn tell<W: Write>(output: &mut W, output_failed: &mut bool, text: &str, status: 
     }
 }
 
-/// Writes an answer: a text with status 0, or the line of a fault with status 1.
+/// Writes an answer: a text with its status, or the line of a fault with status 1.
 fn tell_answer<W: Write>(
     output: &mut W,
     output_failed: &mut bool,
-    answer: &Result<String, BenchFault>,
+    answer: &Result<Report, BenchFault>,
 ) -> u8
     requires { output_failed.old ≡ false }
     ensures told { output_failed.new ≡ false → (held : List ℕ) → W.contents output.old ≡ Some held
@@ -72,7 +77,7 @@ fn tell_answer<W: Write>(
     ensures failed { (output_failed.new ≡ false) ⊎ ((output_failed.new ≡ true) × (result ≡ 3)) }
 {
     match answer {
-        Ok(text) => tell(output, output_failed, text.as_str(), 0),
+        Ok(report) => tell(output, output_failed, report.text.as_str(), report.status),
         Err(fault) => tell(output, output_failed, fault.line(), 1),
     }
 }

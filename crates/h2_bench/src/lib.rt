@@ -2,13 +2,16 @@
 #![tactic(auto)]
 
 mod answer;
+mod asm;
 mod command;
 mod connection;
 mod device;
+mod dis;
 mod execute;
 mod fault;
 mod input;
 mod play;
+mod report;
 mod table;
 #[cfg(test)]
 mod tests;

@@ -1,0 +1,15 @@
+-- What a program tells: a text and an exit status.
+use Rattle.std.specs.Prelude.{ℕ, List}
+use Rattle.h2_bench.specs.Faults.{fault_line, fault_number}
+use Rattle.h2_bench.specs.declared.fault.BenchFault.{BenchFault}
+
+-- a text that is written, and the exit status
+pub record Told : Type 0 where
+  pub text : List ℕ
+  pub status : ℕ
+
+abbrev pub done : List ℕ → Told
+done text = record { text = text; status = 0 }
+
+abbrev pub failed : BenchFault → Told
+failed fault = record { text = fault_line (fault_number fault); status = 1 }

@@ -1,0 +1,25 @@
+//! What a program comes to: a text and an exit status.
+//! Rests on nothing; what is told by a report: `specs/Answers.antt`.
+
+ghost use Rattle.h2_bench.specs.Answers.{Gives, Meets};
+ghost use Rattle.h2_bench.specs.Tell.{Told};
+
+use crate::fault::BenchFault;
+
+/// A text that is written, and the exit status.
+#[derive(Drop)]
+pub struct Report {
+    pub text: String,
+    /// 0: done. 1: the text tells of a fault.
+    pub status: u8,
+}
+
+/// A text that is all that was asked for, with status 0.
+pub fn whole(text: Result<String, BenchFault>) -> Result<Report, BenchFault>
+    ensures { (t : Told) → Meets text t → Gives result t }
+{
+    match text {
+        Ok(text) => Ok(Report { text, status: 0 }),
+        Err(fault) => Err(fault),
+    }
+}
