@@ -1,8 +1,8 @@
 mod AboveLaws
 mod BlockLaws
 mod KindLaws
-mod Pieces
-mod FoundLaws
+mod MakeLaws
+mod PartLaws
 mod PiecesLaws
 mod PreviewLaws
 mod RequestTurnLaws

@@ -135,4 +135,4 @@ applied-sound book core now r peer ps state e is =
     let fit = applied-fit r.streams core.peer core.peer peer ps (before.1, before.3, before.4) e in
     let fits = applied-fits r.streams core.peer core.peer peer ps (still book core.peer.window r.streams state.records) e in
     let P : Core → Type 0 = λ x. IsSoundCore x × IsSoundTouch book r core.peer.window x (Shift core.peer.window peer.window) in
-    subst P (sym is) ((before.0, fit.0, before.2, fit.1, fit.2, before.5), (fits, refl, refl, sym state.last))
+    subst P (sym is) ((before.0, fit.0, before.2, fit.1, fit.2, before.5, before.6), (fits, refl, refl, sym state.last))

@@ -39,3 +39,8 @@ IsDecodedAt r id (Some d) = IsOpenAt r id d.purpose
 abbrev pub IsOpenFor : Records → Option OpenBlock → Type 0
 IsOpenFor r None = Unit {0}
 IsOpenFor r (Some b) = IsDecodedAt r b.shown.stream b.decoding
+
+-- no block is open, or one that is decoded no more
+abbrev pub IsStopped : Option OpenBlock → Type 0
+IsStopped None = Unit {0}
+IsStopped (Some b) = b.decoding ≡ None

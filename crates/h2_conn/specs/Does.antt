@@ -3,6 +3,7 @@ use Rattle.std.specs.Prelude.{◌≡◌, ℕ, ◌<◌, ◌^◌, ◌++◌, List, 
 use Rattle.h2_spec.specs.Change.{Step, only_shown}
 use Rattle.h2_spec.specs.Frame.{Item, Preface, BadPreface, WholeFrame, Oversize, frames_octets}
 use Rattle.h2_spec.specs.State.{State}
+use Rattle.h2_spec.specs.Trace.{then_sent}
 
 -- the state after a step, and its frames behind what was sent before
 pub record Does (step : Step) (out : List ℕ) (now : State) (out' : List ℕ) : Type 0 where
@@ -19,3 +20,7 @@ IsShort Preface = Unit {0}
 IsShort BadPreface = Unit {0}
 IsShort (WholeFrame h p) = length p < 2 ^ 24
 IsShort (Oversize h) = Unit {0}
+
+-- an effect, and then what waits is sent, unless it ended the connection
+abbrev pub stepped : Step → Step
+stepped e = then_sent e.state.core.phase e

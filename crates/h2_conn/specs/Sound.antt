@@ -19,7 +19,7 @@ abbrev pub IsCredit : ℤ → ℕ → Type 0
 IsCredit recv owed = (recv +ℤ pos owed) ≤ℤ pos 2147483647
 
 abbrev pub IsSoundCore : Core → Type 0
-IsSoundCore core = IsCredit core.recv core.owed × (core.peer.window ≤ 2147483647) × (core.own.window ≤ 2147483647) × (0 < core.peer.frame) × (core.peer.frame < 2 ^ 24) × (core.own.frame < 2 ^ 24)
+IsSoundCore core = IsCredit core.recv core.owed × (core.peer.window ≤ 2147483647) × (core.own.window ≤ 2147483647) × (0 < core.peer.frame) × (core.peer.frame < 2 ^ 24) × (core.own.frame < 2 ^ 24) × (core.own.table ≡ 4096)
 
 -- with the peer's initial window: what is owed may be given back, and the send window may be moved
 abbrev pub IsSoundStream : ℕ → Stream → Type 0

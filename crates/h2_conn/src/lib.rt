@@ -4,9 +4,12 @@
 mod block_end;
 mod change;
 mod checks;
+mod control;
 mod data;
 mod ends;
 mod headers;
+mod item;
+mod make;
 mod pieces;
 mod preview;
 mod pump;

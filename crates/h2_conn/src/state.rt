@@ -57,11 +57,12 @@ pub struct State<'b, A: Allocator> {
 impl<'b, A: Allocator> Model for State<'b, A> {
     ghost use Rattle.std.specs.Prelude.{◌≡◌};
     ghost use Rattle.h2_spec.specs.State as state;
+    ghost use Rattle.h2_conn.specs.Blocks.{IsOpenFor};
     ghost use Rattle.h2_conn.specs.Sound.{IsSoundState};
 
     ghost Value = { state.State };
 
     ghost view = { λ s. record { book = s.book.now; config = s.config; core = s.core; block = s.block; table = s.table.table; streams = s.streams.streams } };
 
-    ghost invariant = { λ s. IsSoundState s.book.now s.core s.streams × (s.table.limit ≡ s.core.own.table) };
+    ghost invariant = { λ s. IsSoundState s.book.now s.core s.streams × (s.table.limit ≡ s.core.own.table) × IsOpenFor s.streams s.block };
 }

@@ -1,0 +1,70 @@
+-- A change is made: what the records have to be for it, and what its two passes come to.
+use Rattle.std.proofs.Common.{◌≡◌, ℕ, ◌++◌, List, [], refl, sym, ap, subst, ◌∙◌, append-nil}
+use Rattle.std.specs.Prelude.{None, Some, Option}
+use Rattle.h2_spec.specs.declared.connection.Core.{Core}
+use Rattle.h2_spec.specs.declared.connection.Phase.{Phase}
+use Rattle.h2_spec.specs.declared.connection.Phase.TheVariants as phase
+use Rattle.h2_spec.specs.declared.reactions.Change.{Change}
+use Rattle.h2_spec.specs.declared.reactions.Touch.{Touch}
+use Rattle.h2_spec.specs.declared.reactions.Touch.TheVariants.{Same, Put, Shift}
+use Rattle.h2_spec.specs.declared.streams.Stream.{Stream}
+use Rattle.h2_spec.specs.Answer.{Entry}
+use Rattle.h2_spec.specs.Change.{Step, frames_of, made, touched}
+use Rattle.h2_spec.specs.Frame.{Frame, frames_octets}
+use Rattle.h2_spec.specs.Pump.{pump}
+use Rattle.h2_spec.specs.State.{Decoding, OpenBlock, State}
+use Rattle.h2_spec.specs.Stream.{Records}
+use Rattle.h2_spec.specs.Trace.{then_sent}
+use Rattle.h2_conn.specs.Blocks.{IsDecodedAt, IsOpenFor, IsStopped}
+use Rattle.h2_conn.specs.Does.{Does}
+use Rattle.h2_conn.specs.Sending.{all_frames, core_after, core_after_as, records_after, streams_after, streams_after_as, waiting_frames, waiting_frames_as, CanMake}
+use Rattle.h2_conn.specs.Sound.{IsSoundChange, IsSoundState, IsSoundTouch, touched_records}
+use Rattle.h2_conn.proofs.SoundLaws.{touch-can-shift, touched-streams}
+
+-- what is sound for the records of a state is sound for those that it holds
+pub inside-sound : (book : List Entry) (core : Core) (r : Records) (c : Change) → IsSoundState book core r →
+    IsSoundChange book (record { streams = r.streams; last = core.last }) core.peer.window c → IsSoundChange book r core.peer.window c
+inside-sound book core r c state sound = subst (λ (l : ℕ). IsSoundChange book (record { streams = r.streams; last = l }) core.peer.window c) (sym state.last) sound
+
+pub can-make : (book : List Entry) (core : Core) (r : Records) (c : Change) → IsSoundState book core r → IsSoundChange book r core.peer.window c → CanMake r c.touch
+can-make book core r c state sound = at c.touch sound.1
+  where
+    at : (t : Touch) → IsSoundTouch book r core.peer.window c.core t → CanMake r t
+    at Same h = tt
+    at (Put st) h = h.3
+    at (Shift from to) h = touch-can-shift book core c.core r from to state h
+
+-- of a block that is decoded no more there is nothing to know
+pub stopped-open : (r : Records) (b : Option OpenBlock) → IsStopped b → IsOpenFor r b
+stopped-open r None h = tt
+stopped-open r (Some b) h = subst (λ (d : Option Decoding). IsDecodedAt r b.shown.stream d) (sym h) tt
+
+-- a change, and then what waits is sent, by the parts of the state
+made-then : (s : State) (p : List ℕ) (c : Change) → then_sent c.core.phase (made s p c) ≡
+    record { state = record s { core = core_after c.core (touched c.touch s.streams); streams = streams_after c.core (touched c.touch s.streams) }; sent = all_frames s.book p c s.streams }
+unfolding pump
+made-then s p c = at c.core.phase
+  where
+    now : List Stream
+    now = touched c.touch s.streams
+
+    at : (ph : Phase) → then_sent ph (made s p c) ≡
+        record { state = record s { core = core_after_as ph c.core now; streams = streams_after_as ph c.core now }; sent = frames_of s.book p c ++ waiting_frames_as ph s.book c.core now }
+    at phase.Preface = refl
+    at phase.Settings = refl
+    at phase.Running = refl
+    at (phase.Ended code) = ap (λ (fs : List Frame). record { state = record s { core = c.core; streams = now }; sent = fs }) (sym (append-nil (frames_of s.book p c)))
+
+-- what the passes leave is what the definitions say
+pub did : (s : State) (p : List ℕ) (c : Change) (r mid now : Records) (core : Core) (out out' : List ℕ) → s.streams ≡ r.streams → mid ≡ touched_records c.touch r → core ≡ core_after c.core mid.streams →
+    now ≡ records_after c.core mid → out' ≡ out ++ frames_octets (all_frames s.book p c s.streams) →
+    Does (then_sent c.core.phase (made s p c)) out (record s { core = core; streams = now.streams }) out'
+did s p c r mid now core out out' held touching counts sending sent =
+    let streams : mid.streams ≡ touched c.touch s.streams = ap (λ (x : Records). x.streams) touching ∙ touched-streams c.touch r ∙ ap (touched c.touch) (sym held) in
+    let after = ap (λ (x : Records). x.streams) sending ∙ ap (streams_after c.core) streams in
+    let paid = counts ∙ ap (core_after c.core) streams in
+    subst (λ (step : Step). Does step out (record s { core = core; streams = now.streams }) out') (sym (made-then s p c))
+    (record {
+      state = ap (λ (k : Core). record s { core = k; streams = now.streams }) paid ∙ ap (λ (ss : List Stream). record s { core = core_after c.core (touched c.touch s.streams); streams = ss }) after;
+      sent = sent;
+    })

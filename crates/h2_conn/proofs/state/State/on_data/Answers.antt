@@ -1,0 +1,13 @@
+use Rattle.std.proofs.Common.{◌≡◌, ℕ, sym, subst, ap}
+use Rattle.h2_spec.specs.declared.connection.Core.{Core}
+use Rattle.h2_spec.specs.Stream.{stream_at}
+use Rattle.h2_conn.specs.Sending.{records}
+use Rattle.h2_conn.specs.Sound.{IsSound}
+use Rattle.h2_conn.proofs.state.State.on_data.Goals as goal
+
+pub returns-clause-sound : goal.returns-clause-sound
+returns-clause-sound g c =
+    let s = c.args.self.now in
+    let counts = c.core.ensures.counts in
+    let found = subst (λ (i : ℕ). c.stream_at-stream.result ≡ stream_at s.core.last s.streams i) (sym c.stream_at-stream.ensures.id) c.stream_at-stream.ensures.value in
+    subst (λ (k : Core). IsSound s.book (records s) k.peer.window c.on_data.result) counts (c.on_data.ensures.sound s.book (records s) c.body_length-body.ensures c.stream_at-stream.ensures.waits found (sym (ap (λ (k : Core). k.last) counts)))

@@ -1,0 +1,166 @@
+//! What one item does: the checks, the rule of its frame's type, and then what waits is sent (RFC 9113, 5 and 6).
+//! Rests on the rules and on `make`; definitions: `effect` of h2_spec's `specs/Effect.antt`, `step` of `specs/Trace.antt`.
+
+ghost use Rattle.std.specs.Prelude.{◌≡◌, ◌<◌, ◌^◌, ◌==◌, length, Ok, OnOk, OnErr, if◌then◌else◌};
+ghost use Rattle.h2_frame.specs.Parts.{data_seen, part_seen, settings_in};
+ghost use Rattle.h2_spec.specs.Answer.{picked};
+ghost use Rattle.h2_spec.specs.Effect as rule;
+ghost use Rattle.h2_spec.specs.Headers.{makes};
+ghost use Rattle.h2_spec.specs.Payload.{OfData, part_of};
+ghost use Rattle.h2_spec.specs.SettingsFrame as settings;
+ghost use Rattle.h2_spec.specs.Stream.{stream_at};
+ghost use Rattle.h2_spec.specs.WindowUpdate as window;
+ghost use Rattle.h2_conn.specs.Blocks.{IsStopped};
+ghost use Rattle.h2_conn.specs.Does.{Does, stepped};
+ghost use Rattle.h2_conn.specs.Parted.{IsPlain};
+ghost use Rattle.h2_conn.specs.Sending.{records};
+ghost use Rattle.h2_conn.specs.Sound.{HasBody, IsSound, IsSoundState, IsSoundStream};
+
+use crate::checks::has;
+use crate::control::{nothing, on_goaway, on_ping};
+use crate::data::on_data;
+use crate::reset::on_reset;
+use crate::settings::{acknowledged, settings_rule};
+use crate::state::State;
+use crate::window_update::{connection_window, on_window};
+use h2_frame::{DataPart, Part, SettingsPart};
+use h2_spec::connection::Core;
+use h2_spec::errors::ErrorCode;
+use h2_spec::frames::Head;
+use h2_spec::reactions::{Came, Reaction};
+use h2_spec::streams::Stream;
+use std::alloc::{AllocError, Allocator};
+
+/// END_STREAM (RFC 9113, 6.1 and 6.2), and ACK of SETTINGS and PING (6.5 and 6.7).
+const FLAG_1: u8 = 1;
+
+/// What a frame of DATA brings.
+fn came(head: &Head, payload: &[u8], part: DataPart<'_>) -> Came
+    requires fits { length payload.now < 2 ^ 24 }
+    requires part { part_of head.now payload.now ≡ Ok (OfData (data_seen part)) }
+    ensures { result ≡ rule.came head.now payload.now (data_seen part.entry) }
+{
+    Came {
+        octets: payload.len() as u32,
+        content: part.content.len() as u32,
+        ends: has(head.flags, FLAG_1),
+    }
+}
+
+impl<'b, A: Allocator> State<'b, A> {
+    /// The counts.
+    fn core(&self) -> Core
+        ensures counts { result ≡ self.now.core }
+        ensures sound { IsSoundState self.now.book result (records self.now) }
+    {
+        self.core
+    }
+
+    /// A stream's record, or what stands for it where it has none.
+    fn stream_at(&self, id: u32) -> Stream
+        ensures value { result ≡ stream_at self.now.core.last self.now.streams id }
+        ensures id { result.id ≡ id }
+        ensures sound { IsSoundStream self.now.core.peer.window result }
+        ensures waits { HasBody self.now.book result }
+    {
+        self.streams.stream_at(id)
+    }
+
+    /// The length of the body of a stream's answer.
+    fn body_length(&self, stream: &Stream) -> u64
+        requires { HasBody self.now.book stream.now }
+        ensures { result ≡ length (picked self.now.book stream.now.pick).body }
+    {
+        self.book.answer(stream.pick).body.len() as u64
+    }
+
+    /// DATA.
+    fn on_data(&self, head: &Head, payload: &[u8], part: DataPart<'_>) -> Reaction
+        requires fits { length payload.now < 2 ^ 24 }
+        requires part { part_of head.now payload.now ≡ Ok (OfData (data_seen part)) }
+        ensures rule { result ≡ rule.on_data self.now.config self.now.core (rule.body_length self.now.book (stream_at self.now.core.last self.now.streams head.now.stream)) (rule.came head.now payload.now (data_seen part.entry)) (stream_at self.now.core.last self.now.streams head.now.stream) }
+        ensures sound { IsSound self.now.book (records self.now) self.now.core.peer.window result }
+    {
+        let stream = self.stream_at(head.stream);
+        let body = self.body_length(&stream);
+        let came = came(head, payload, part);
+        on_data(self.config, self.core(), body, came, stream)
+    }
+
+    /// RST_STREAM.
+    fn on_reset(&self, id: u32) -> Reaction
+        ensures rule { result ≡ rule.on_reset self.now.core (stream_at self.now.core.last self.now.streams id) }
+        ensures sound { IsSound self.now.book (records self.now) self.now.core.peer.window result }
+    {
+        on_reset(self.core(), self.stream_at(id))
+    }
+
+    /// SETTINGS without ACK.
+    fn on_settings(&self, part: SettingsPart<'_>) -> Reaction
+        ensures rule { result ≡ settings.settings_rule self.now.streams self.now.core (settings_in part.entry) }
+        ensures sound { IsSound self.now.book (records self.now) self.now.core.peer.window result }
+    {
+        let greatest = self.streams.greatest_send();
+        settings_rule(&greatest, self.core(), part)
+    }
+
+    /// WINDOW_UPDATE on a stream.
+    fn on_stream_window(&self, id: u32, increment: u32) -> Reaction
+        ensures rule { result ≡ rule.on_window self.now.core increment (stream_at self.now.core.last self.now.streams id) }
+        ensures sound { IsSound self.now.book (records self.now) self.now.core.peer.window result }
+    {
+        on_window(self.core(), increment, self.stream_at(id))
+    }
+
+    /// WINDOW_UPDATE.
+    fn on_window_update(&self, id: u32, increment: u32) -> Reaction
+        ensures rule { result ≡ (if id == 0 then window.connection_window self.now.core increment else rule.on_window self.now.core increment (stream_at self.now.core.last self.now.streams id)) }
+        ensures sound { IsSound self.now.book (records self.now) self.now.core.peer.window result }
+    {
+        if id == 0 {
+            return connection_window(self.core(), increment);
+        }
+        self.on_stream_window(id, increment)
+    }
+
+    /// What a frame comes to that is no HEADERS and no CONTINUATION.
+    fn react(&self, head: &Head, payload: &[u8], part: Part<'_>) -> Reaction
+        requires fits { length payload.now < 2 ^ 24 }
+        requires part { part_of head.now payload.now ≡ Ok (part_seen part) }
+        requires plain { IsPlain part }
+        ensures rule { makes self.now result ≡ rule.frame_effect self.now head.now payload.now (part_seen part.entry) }
+        ensures sound { IsSound self.now.book (records self.now) self.now.core.peer.window result }
+    {
+        match part {
+            Part::Data(part) => self.on_data(head, payload, part),
+            Part::RstStream(_) => self.on_reset(head.stream),
+            Part::Settings(part) => self.on_settings(part),
+            Part::SettingsAck => acknowledged(self.core()),
+            Part::Ping(_) => on_ping(self.core(), has(head.flags, FLAG_1)),
+            Part::Goaway(last, code) => on_goaway(self.core(), last, code),
+            Part::WindowUpdate(increment) => self.on_window_update(head.stream, increment),
+            Part::Priority | Part::Unknown => nothing(self.core()),
+            Part::PushPromise => Reaction::ConnectionError(ErrorCode::ProtocolError),
+            Part::Headers(_) | Part::Continuation(_) => unreachable!(),
+        }
+    }
+
+    /// A connection error or a change, or nothing; no block is open that is still decoded.
+    fn conclude(
+        &mut self,
+        reaction: Reaction,
+        payload: &[u8],
+        out: &mut Vec<u8, A>,
+    ) -> Result<(), AllocError>
+        requires fits { length payload.now < 2 ^ 24 }
+        requires stopped { IsStopped self.old.block }
+        requires sound { IsSound self.old.book (records self.old) self.old.core.peer.window reaction }
+        ensures ok { OnOk result (Does (stepped (rule.concluded self.old payload.now (makes self.old reaction))) out.old.items self.new out.new.items) }
+        ensures err { OnErr result ((self.new ≡ self.old) × (out.new.items ≡ out.old.items)) }
+    {
+        match reaction {
+            Reaction::ConnectionError(code) => self.fail(code, out),
+            Reaction::Continues(change) => self.make(change, payload, out),
+        }
+    }
+}

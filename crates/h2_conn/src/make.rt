@@ -1,0 +1,190 @@
+//! A change is made: first all that may want memory, behind a mark in `out`, and then what changes the state (RFC 9113, 5.4).
+//! Rests on `write` and `pump`; definitions: h2_spec's `specs/Change.antt`, `specs/Pump.antt`, and `specs/Sending.antt` here.
+
+ghost use Rattle.std.specs.Prelude.{◌≡◌, ◌<◌, ◌^◌, ◌++◌, List, length, OnOk, OnErr, take, vec_len};
+ghost use Rattle.h2_spec.specs.Answer.{Entry};
+ghost use Rattle.h2_spec.specs.Change as changes;
+ghost use Rattle.h2_spec.specs.Frame.{frames_octets};
+ghost use Rattle.h2_spec.specs.Trace.{then_sent};
+ghost use Rattle.h2_conn.specs.Blocks.{IsStopped};
+ghost use Rattle.h2_conn.specs.Does.{Does};
+ghost use Rattle.h2_conn.specs.Preview.{CanSend};
+ghost use Rattle.h2_conn.specs.Sending.{all_frames, core_after, records, records_after, streams_after, waiting_frames, CanMake};
+ghost use Rattle.h2_conn.specs.Sound.{IsSoundChange, IsSoundState, touched_records};
+
+use crate::pump::{commit_shares, sendable, write_shares};
+use crate::state::{OpenBlock, State};
+use crate::write::{write_first, write_goaway, write_response, write_second};
+use h2_request::book::Book;
+use h2_spec::connection::{Core, Phase};
+use h2_spec::errors::ErrorCode;
+use h2_spec::reactions::{Answering, Change, Touch};
+use h2_streams::Streams;
+use std::alloc::{AllocError, Allocator};
+
+/// Writes the HEADERS of an answer that begins, or nothing.
+#[tactic(auto, unfolding(h2_spec::specs::Answer::response_block))]
+fn write_answer<A: Allocator>(
+    book: &Book<A>,
+    answer: Option<Answering>,
+    out: &mut Vec<u8, A>,
+) -> Result<(), AllocError>
+    ensures ok { OnOk result (out.new.items ≡ out.old.items ++ frames_octets (changes.answer_frames book.now answer)) }
+    ensures err { OnErr result (out.new.items ≡ out.old.items) }
+{
+    match answer {
+        None => Ok(()),
+        Some(answer) => {
+            let is_empty = book.answer(answer.pick).body.is_empty();
+            write_response(
+                answer.signal,
+                answer.id,
+                is_empty,
+                book.block(answer.pick),
+                out,
+            )
+        }
+    }
+}
+
+/// Writes the frames of a change, whole or in part.
+#[tactic(auto, unfolding(h2_spec::specs::Change::frames_of))]
+fn write_change<A: Allocator>(
+    book: &Book<A>,
+    change: &Change,
+    payload: &[u8],
+    out: &mut Vec<u8, A>,
+) -> Result<(), AllocError>
+    requires fits { length payload.now < 2 ^ 24 }
+    ensures ok { OnOk result (out.new.items ≡ out.old.items ++ frames_octets (changes.frames_of book.now payload.now change.now)) }
+    ensures kept { take (vec_len out.old) out.new.items ≡ out.old.items }
+{
+    write_first(change.first, payload, out)?;
+    write_second(change.second, out)?;
+    write_answer(book, change.answer, out)
+}
+
+/// Writes what waits after a change, unless it ends the connection; whole or in part.
+fn write_waiting<A: Allocator>(
+    book: &Book<A>,
+    streams: &Streams<A>,
+    core: Core,
+    touch: Touch,
+    out: &mut Vec<u8, A>,
+) -> Result<(), AllocError>
+    requires frame { (0 < core.peer.frame) × (core.peer.frame < 2 ^ 24) }
+    requires sends { CanSend book.now streams.now touch }
+    ensures ok { OnOk result (out.new.items ≡ out.old.items ++ frames_octets (waiting_frames book.now core (changes.touched touch streams.now.streams))) }
+    ensures kept { take (vec_len out.old) out.new.items ≡ out.old.items }
+{
+    match core.phase {
+        Phase::Ended(_) => Ok(()),
+        Phase::Preface | Phase::Settings | Phase::Running => {
+            let size = core.peer.frame as usize;
+            write_shares(book, streams, touch, size, sendable(core.send), out)
+        }
+    }
+}
+
+/// What was sent is taken from the streams and from the connection's window, unless the connection has ended.
+fn take_waiting<A: Allocator>(core: Core, streams: &mut Streams<A>) -> Core
+    ensures core { result ≡ core_after core streams.old.streams }
+    ensures streams { streams.new ≡ records_after core streams.old }
+    ensures sound { (book : List Entry) → IsSoundState book core streams.old → IsSoundState book result streams.new }
+{
+    match core.phase {
+        Phase::Ended(_) => core,
+        Phase::Preface | Phase::Settings | Phase::Running => commit_shares(core, streams),
+    }
+}
+
+/// What becomes of the records; only a new one takes memory.
+fn touch<A: Allocator>(streams: &mut Streams<A>, touch: Touch) -> Result<(), AllocError>
+    requires { CanMake streams.old touch }
+    ensures ok { OnOk result (streams.new ≡ touched_records touch streams.old) }
+    ensures err { OnErr result (streams.new ≡ streams.old) }
+{
+    match touch {
+        Touch::Same => Ok(()),
+        Touch::Put(stream) => streams.put(stream),
+        Touch::Shift(from, to) => match streams.shift_send(i64::from(to) - i64::from(from)) {
+            Ok(()) => Ok(()),
+            Err(_) => unreachable!(),
+        },
+    }
+}
+
+/// All that is sent for a change and behind it, and then what becomes of the records: whole, or in part and then they stay.
+fn send_and_touch<A: Allocator>(
+    book: &Book<A>,
+    streams: &mut Streams<A>,
+    change: &Change,
+    payload: &[u8],
+    out: &mut Vec<u8, A>,
+) -> Result<(), AllocError>
+    requires fits { length payload.now < 2 ^ 24 }
+    requires frame { (0 < change.now.core.peer.frame) × (change.now.core.peer.frame < 2 ^ 24) }
+    requires sends { CanSend book.now streams.old change.now.touch }
+    requires touches { CanMake streams.old change.now.touch }
+    ensures sent { OnOk result (out.new.items ≡ out.old.items ++ frames_octets (all_frames book.now payload.now change.now streams.old.streams)) }
+    ensures touched { OnOk result (streams.new ≡ touched_records change.now.touch streams.old) }
+    ensures err { OnErr result (streams.new ≡ streams.old) }
+    ensures kept { take (vec_len out.old) out.new.items ≡ out.old.items }
+{
+    write_change(book, change, payload, out)?;
+    write_waiting(book, streams, change.core, change.touch, out)?;
+    touch(streams, change.touch)
+}
+
+/// An open block that is decoded no more.
+fn stop<A: Allocator>(block: Option<OpenBlock<A>>) -> Option<OpenBlock<A>>
+    ensures { result ≡ changes.only_shown block }
+{
+    match block {
+        None => None,
+        Some(block) => Some(OpenBlock {
+            shown: block.shown,
+            decoding: None,
+        }),
+    }
+}
+
+impl<'b, A: Allocator> State<'b, A> {
+    /// Makes a change, and sends its frames and then what waits; or does nothing.
+    pub fn make(
+        &mut self,
+        change: Change,
+        payload: &[u8],
+        out: &mut Vec<u8, A>,
+    ) -> Result<(), AllocError>
+        requires fits { length payload.now < 2 ^ 24 }
+        requires stopped { IsStopped self.old.block }
+        requires sound { IsSoundChange self.old.book (records self.old) self.old.core.peer.window change }
+        ensures ok { OnOk result (Does (then_sent change.core.phase (changes.made self.old payload.now change)) out.old.items self.new out.new.items) }
+        ensures err { OnErr result ((self.new ≡ self.old) × (out.new.items ≡ out.old.items)) }
+    {
+        let mark = out.len();
+        match send_and_touch(self.book, &mut self.streams, &change, payload, out) {
+            Ok(()) => {
+                self.core = take_waiting(change.core, &mut self.streams);
+                Ok(())
+            }
+            Err(error) => {
+                out.truncate(mark);
+                Err(error)
+            }
+        }
+    }
+
+    /// Ends the connection with a GOAWAY, or does nothing; an open block is decoded no more.
+    pub fn fail(&mut self, code: ErrorCode, out: &mut Vec<u8, A>) -> Result<(), AllocError>
+        ensures ok { OnOk result (Does (changes.broken self.old code) out.old.items self.new out.new.items) }
+        ensures err { OnErr result ((self.new ≡ self.old) × (out.new.items ≡ out.old.items)) }
+    {
+        write_goaway(self.core.last, code, out)?;
+        self.core.phase = Phase::Ended(code);
+        let block = self.block.take();
+        self.block = stop(block);
+        Ok(())
+    }
+}
