@@ -1,6 +1,6 @@
 #!/usr/bin/env bash
 # run.sh NAME [WORD..]: proves the benchmark bench/NAME over the crates as they stand, in a folder of its own (WORK, or a new one), and runs
-# it with these words. It is no part of the gate. bench/NAME/needs lists what the benchmark stands on.
+# it with these words, or else once with each line of bench/NAME/words. It is no part of the gate. bench/NAME/needs lists what it stands on.
 set -eu
 here=$(cd "$(dirname "$0")" && pwd)
 name=$1
@@ -19,4 +19,11 @@ cp "$here/$name/main.rattle" "$work/crates/bench_$name/src/main.rt"
 cp "$here/../crates.txt" "$work/crates.txt"
 echo "bench_$name: $(cat "$here/$name/needs")" >> "$work/crates.txt"
 cd "$work/crates/bench_$name"
-rt run -- "$@"
+if [ $# = 0 ] && [ -f "$here/$name/words" ]; then
+  while read -r words <&3; do
+    echo "$words"
+    rt run -- $words
+  done 3< "$here/$name/words"
+else
+  rt run -- "$@"
+fi
