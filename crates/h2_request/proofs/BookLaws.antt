@@ -1,5 +1,5 @@
 -- What an entry that a book takes is like.
-use Rattle.std.proofs.Common.{◌≡◌, ◌≤◌, Bool, true, false, not, ◌&&◌, ◌||◌, List, None, length, ltb-false, arith}
+use Rattle.std.proofs.Common.{◌≡◌, ◌≤◌, false, not, ◌&&◌, ◌||◌, List, None, length, ltb-false, arith}
 use Rattle.std.specs.Prelude.{nat_le, nat_lt}
 use Rattle.std.specs.List.{list_any, AllByRecursion}
 use Rattle.std.proofs.lemmas.Bool.Decides.{nat_tests}

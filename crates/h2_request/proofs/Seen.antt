@@ -1,5 +1,5 @@
 -- What a walk has noted once it has seen a list of fields: the tests of the definitions, of the whole list.
-use Rattle.std.proofs.Common.{◌≡◌, ◌≢◌, ◌⊎◌, inl, inr, ℕ, ◌+◌, ◌<◌, Bool, true, false, not, ◌&&◌, ◌||◌, cond, List, [], ◌∷◌, ◌++◌, Option, Some, None, codes, length, take, get_or, refl, sym, ◌∙◌, ap, subst, arith}
+use Rattle.std.proofs.Common.{◌≡◌, ℕ, ◌+◌, ◌<◌, Bool, true, false, not, ◌&&◌, ◌||◌, cond, List, [], ◌∷◌, ◌++◌, Option, Some, None, codes, length, take, get_or, refl, sym, ◌∙◌, ap, subst, arith}
 use Rattle.std.specs.Prelude.{◌==◌, bytes_eq, is_some, unwrap_or}
 use Rattle.std.specs.Option.{option_map}
 use Rattle.std.specs.List.{list_any}
@@ -8,10 +8,10 @@ use Rattle.std.proofs.lemmas.List.{take_more}
 use Rattle.std.proofs.lemmas.List.Folds.{list_any-append}
 use Rattle.std.proofs.lemmas.Bool.Decides.{nat_tests}
 use Rattle.h2_spec.specs.Field.{Field, field}
-use Rattle.h2_spec.specs.Request.{is_pseudo, is_named, is_among, request_pseudo, has_bad_name, has_bad_value, is_unknown_pseudo, is_of_connection, has_bad_te, is_content_length, is_digits, decimal_value, has_bad_length, is_other_length, is_late_pseudo, is_double_pseudo, value_named, any_two, declared_length, malformed, malformed_trailers, is_value, request_of}
+use Rattle.h2_spec.specs.Request.{is_pseudo, is_named, has_bad_name, has_bad_value, is_unknown_pseudo, is_of_connection, has_bad_te, is_content_length, is_digits, decimal_value, has_bad_length, is_other_length, is_late_pseudo, is_double_pseudo, value_named, any_two, declared_length, malformed, malformed_trailers, is_value, request_of}
 use Rattle.h2_request.specs.Asked.{request_seen}
 use Rattle.h2_request.specs.Seen.{AreMarks, ArePseudo, IsLength, is_lacking, seen_reason, seen_trailers_reason}
-use Rattle.h2_request.specs.Walk.{Pseudo, marked, noted, with_pseudo, measured, with_number}
+use Rattle.h2_request.specs.Walk.{Pseudo, marked, noted, measured, with_number}
 use Rattle.h2_request.specs.declared.walk.Marks.{Marks}
 use Rattle.h2_request.specs.declared.walk.ContentLength.{ContentLength}
 

@@ -1,5 +1,5 @@
 -- What a request asks for, as contracts see it.
-use Rattle.std.specs.Prelude.{List, [], codes, bytes_eq, if◌then◌else◌, unwrap_or}
+use Rattle.std.specs.Prelude.{[], codes, bytes_eq, if◌then◌else◌, unwrap_or}
 use Rattle.h2_spec.specs.Request.{Request}
 use Rattle.h2_request.specs.Walk.{Pseudo}
 use Rattle.h2_request.specs.declared.walk.ContentLength.{ContentLength}

@@ -1,7 +1,7 @@
 -- What a walk over fields has seen so far, and how one field more changes it.
-use Rattle.std.specs.Prelude.{ℕ, Bool, true, ◌||◌, not, ◌==◌, List, [], length, codes, if◌then◌else◌, Option, Some, None, is_some, is_none, unwrap_or}
+use Rattle.std.specs.Prelude.{ℕ, Bool, true, ◌||◌, not, ◌==◌, List, codes, if◌then◌else◌, Option, Some, None, is_some, unwrap_or}
 use Rattle.h2_spec.specs.Field.{Field}
-use Rattle.h2_spec.specs.Request.{is_pseudo, is_named, has_bad_name, has_bad_value, is_of_connection, has_bad_te, is_content_length, is_digits, decimal_value, is_value}
+use Rattle.h2_spec.specs.Request.{is_pseudo, is_named, has_bad_name, has_bad_value, is_of_connection, has_bad_te, is_content_length, is_digits, decimal_value}
 use Rattle.h2_request.specs.declared.walk.Marks.{Marks}
 use Rattle.h2_request.specs.declared.walk.ContentLength.{ContentLength}
 use Rattle.h2_request.specs.declared.walk.PseudoFields.{PseudoFields}

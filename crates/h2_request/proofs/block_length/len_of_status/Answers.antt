@@ -1,4 +1,4 @@
-use Rattle.std.proofs.Common.{◌≡◌, ◌∙◌, sym, ap, cond}
+use Rattle.std.proofs.Common.{◌∙◌, sym, ap, cond}
 use Rattle.h2_request.proofs.BlockLaws.{status_len-is}
 use Rattle.h2_request.proofs.block_length.len_of_status.Goals as goal
 

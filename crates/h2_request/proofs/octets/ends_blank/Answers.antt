@@ -1,4 +1,4 @@
-use Rattle.std.proofs.Common.{◌≡◌, ◌∙◌, ℕ, suc, ◌-◌, Bool, List, [], ◌∷◌, Option, Some, length, ap, sym, subst, arith}
+use Rattle.std.proofs.Common.{◌≡◌, ◌∙◌, ℕ, suc, ◌-◌, Bool, List, [], ◌∷◌, Some, length, ap, sym, subst, arith}
 use Rattle.std.specs.Prelude.{slice_get}
 use Rattle.h2_spec.specs.Request.{last_is, is_blank}
 use Rattle.h2_request.proofs.octets.ends_blank.Goals as goal

@@ -1,4 +1,4 @@
-use Rattle.std.proofs.Common.{◌≡◌, ◌∙◌, sym}
+use Rattle.std.proofs.Common.{◌∙◌, sym}
 use Rattle.h2_request.specs.Walk.{pseudo_of}
 use Rattle.h2_request.proofs.Seen.{seen-reason, seen-request}
 use Rattle.h2_request.proofs.well_formed.check.Goals as goal

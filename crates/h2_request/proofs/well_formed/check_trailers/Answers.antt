@@ -1,4 +1,4 @@
-use Rattle.std.proofs.Common.{◌≡◌, ◌∙◌, sym}
+use Rattle.std.proofs.Common.{◌∙◌, sym}
 use Rattle.h2_request.proofs.Seen.{seen-trailers-reason}
 use Rattle.h2_request.proofs.well_formed.check_trailers.Goals as goal
 

@@ -1,6 +1,5 @@
 use Rattle.std.proofs.Common.{◌≡◌, ◌∙◌, ap}
-use Rattle.h2_spec.specs.Field.{Field, field}
-use Rattle.h2_request.specs.Walk.{pseudo_of}
+use Rattle.h2_spec.specs.Field.{field}
 use Rattle.h2_request.proofs.Seen.{marks-walked, pseudo-walked, length-walked}
 use Rattle.h2_request.proofs.walk.Seen.of.Goals as goal
 
