@@ -15,10 +15,12 @@ use Rattle.h2_spec.specs.Pump.{pump}
 use Rattle.h2_spec.specs.State.{Decoding, OpenBlock, State}
 use Rattle.h2_spec.specs.Stream.{Records}
 use Rattle.h2_spec.specs.Trace.{then_sent}
+use Rattle.h2_spec.specs.Window.{sendable}
 use Rattle.h2_conn.specs.Blocks.{IsDecodedAt, IsOpenFor, IsStopped}
 use Rattle.h2_conn.specs.Does.{Does}
 use Rattle.h2_conn.specs.Sending.{all_frames, core_after, core_after_as, records_after, streams_after, streams_after_as, waiting_frames, waiting_frames_as, CanMake}
 use Rattle.h2_conn.specs.Sound.{IsSoundChange, IsSoundState, IsSoundTouch, touched_records}
+use Rattle.h2_conn.proofs.KindLaws.{open-after-sending}
 use Rattle.h2_conn.proofs.SoundLaws.{touch-can-shift, touched-streams}
 
 -- what is sound for the records of a state is sound for those that it holds
@@ -38,6 +40,16 @@ can-make book core r c state sound = at c.touch sound.1
 pub stopped-open : (r : Records) (b : Option OpenBlock) → IsStopped b → IsOpenFor r b
 stopped-open r None h = tt
 stopped-open r (Some b) h = subst (λ (d : Option Decoding). IsDecodedAt r b.shown.stream d) (sym h) tt
+
+-- what is known of an open block is known of it after sending
+pub open-after : (core : Core) (r : Records) (b : Option OpenBlock) → IsOpenFor r b → IsOpenFor (records_after core r) b
+open-after core r b h = at core.phase
+  where
+    at : (ph : Phase) → IsOpenFor (record r { streams = streams_after_as ph core r.streams }) b
+    at phase.Preface = open-after-sending r (sendable core.send) b h
+    at phase.Settings = open-after-sending r (sendable core.send) b h
+    at phase.Running = open-after-sending r (sendable core.send) b h
+    at (phase.Ended code) = h
 
 -- a change, and then what waits is sent, by the parts of the state
 made-then : (s : State) (p : List ℕ) (c : Change) → then_sent c.core.phase (made s p c) ≡

@@ -6,7 +6,7 @@ ghost use Rattle.h2_spec.specs.Answer.{Entry};
 ghost use Rattle.h2_spec.specs.Change as changes;
 ghost use Rattle.h2_spec.specs.Frame.{frames_octets};
 ghost use Rattle.h2_spec.specs.Trace.{then_sent};
-ghost use Rattle.h2_conn.specs.Blocks.{IsStopped};
+ghost use Rattle.h2_conn.specs.Blocks.{IsOpenFor};
 ghost use Rattle.h2_conn.specs.Does.{Does};
 ghost use Rattle.h2_conn.specs.Preview.{CanSend};
 ghost use Rattle.h2_conn.specs.Sending.{all_frames, core_after, records, records_after, streams_after, waiting_frames, CanMake};
@@ -158,7 +158,7 @@ impl<'b, A: Allocator> State<'b, A> {
         out: &mut Vec<u8, A>,
     ) -> Result<(), AllocError>
         requires fits { length payload.now < 2 ^ 24 }
-        requires stopped { IsStopped self.old.block }
+        requires kept { IsOpenFor (touched_records change.touch (records self.old)) self.old.block }
         requires sound { IsSoundChange self.old.book (records self.old) self.old.core.peer.window change }
         ensures ok { OnOk result (Does (then_sent change.core.phase (changes.made self.old payload.now change)) out.old.items self.new out.new.items) }
         ensures err { OnErr result ((self.new ≡ self.old) × (out.new.items ≡ out.old.items)) }

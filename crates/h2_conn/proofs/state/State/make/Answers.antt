@@ -1,13 +1,13 @@
-use Rattle.std.proofs.Common.{◌≡◌, refl, sym, subst, ◌∙◌}
+use Rattle.std.proofs.Common.{◌≡◌, ℕ, refl, sym, subst, ◌∙◌}
 use Rattle.h2_spec.specs.State.{State}
 use Rattle.h2_spec.specs.Stream.{Records}
 use Rattle.h2_spec.specs.Change.{made}
 use Rattle.h2_spec.specs.Trace.{then_sent}
-use Rattle.h2_conn.specs.Blocks.{IsStopped}
+use Rattle.h2_conn.specs.Blocks.{IsOpenFor}
 use Rattle.h2_conn.specs.Does.{Does}
 use Rattle.h2_conn.specs.Sending.{records}
-use Rattle.h2_conn.specs.Sound.{IsSoundChange, IsSoundState}
-use Rattle.h2_conn.proofs.MakeLaws.{inside-sound, can-make, stopped-open, did}
+use Rattle.h2_conn.specs.Sound.{IsSoundChange, IsSoundState, touched_records}
+use Rattle.h2_conn.proofs.MakeLaws.{inside-sound, can-make, open-after, did}
 use Rattle.h2_conn.proofs.PreviewLaws.{can_send}
 use Rattle.h2_conn.proofs.SoundLaws.{changed-sound}
 use Rattle.h2_conn.proofs.state.State.make.Goals as goal
@@ -36,8 +36,11 @@ invariant_of-self g c =
     let sound = inside-sound inside.book.now inside.core inside.streams change state (subst (λ (s : State). IsSoundChange s.book (records s) s.core.peer.window change) (sym c.self.view_is) c.requires.sound) in
     let changed = subst (λ (r : Records). IsSoundState inside.book.now change.core r) (sym c.in-Ok.ensures.touched) (changed-sound inside.book.now inside.core inside.streams change state sound) in
     let after = c.take_waiting-self-inside.ensures.sound inside.book.now changed in
-    let stopped = subst (λ (s : State). IsStopped s.block) (sym c.self.view_is) c.requires.stopped in
-    (after, c.self.invariant.1 ∙ state.counts.6 ∙ sym after.counts.6, stopped-open c.take_waiting-self-inside.new.streams inside.block stopped)
+    let kept = subst (λ (s : State). IsOpenFor (touched_records change.touch (records s)) s.block) (sym c.self.view_is) c.requires.kept in
+    let held = subst (λ (l : ℕ). IsOpenFor (touched_records change.touch (record { streams = inside.streams.streams; last = l })) inside.block) (sym state.last) kept in
+    let touched = subst (λ (r : Records). IsOpenFor r inside.block) (sym c.in-Ok.ensures.touched) held in
+    let sent = subst (λ (r : Records). IsOpenFor r inside.block) (sym c.take_waiting-self-inside.ensures.streams) (open-after change.core c.send_and_touch.new.streams inside.block touched) in
+    (after, c.self.invariant.1 ∙ state.counts.6 ∙ sym after.counts.6, sent)
 
 pub returns-in-Ok-clause-ok : goal.returns-in-Ok-clause-ok
 returns-in-Ok-clause-ok g c =
