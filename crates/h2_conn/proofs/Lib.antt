@@ -1,5 +1,6 @@
 mod AboveLaws
 mod BlockLaws
+mod FragmentLaws
 mod KindLaws
 mod MakeLaws
 mod PartLaws

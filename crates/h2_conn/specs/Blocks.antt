@@ -1,18 +1,24 @@
 -- Field blocks that are not at their end.
-use Rattle.std.specs.Prelude.{◌≡◌, ℕ, ◌<◌, ◌%◌, true, false, List, Option, Some, None}
+use Rattle.std.specs.Prelude.{◌≡◌, ℕ, ◌<◌, ◌%◌, true, false, List, Option, Some, None, Result, Ok, Err}
 use Rattle.h2_spec.specs.declared.connection.Config.{Config}
 use Rattle.h2_spec.specs.declared.connection.Core.{Core}
 use Rattle.h2_spec.specs.declared.connection.Purpose.{Purpose}
 use Rattle.h2_spec.specs.declared.connection.Purpose.TheVariants.{Request, Trailers, Closed, TableOnly}
+use Rattle.h2_spec.specs.declared.errors.ErrorCode.{ErrorCode}
 use Rattle.h2_spec.specs.declared.streams.Kind.TheVariants.{WeReset}
 use Rattle.h2_spec.specs.declared.streams.Stream.{Stream}
 use Rattle.h2_spec.specs.Answer.{Entry}
-use Rattle.h2_spec.specs.Block.{BlockSoFar, Unfinished}
+use Rattle.h2_spec.specs.Block.{BlockSoFar, Decoded, Fault, Faulty, Progress, Unfinished}
 use Rattle.h2_spec.specs.DynamicTable.{Table}
+use Rattle.h2_spec.specs.Headers as headers
 use Rattle.h2_spec.specs.State.{Decoding, OpenBlock, State}
 use Rattle.h2_spec.specs.Stream.{Records, is_peer_open, kind_of}
+use Rattle.h2_spec.specs.Table.{Cell, Error, Rule}
 use Rattle.h2_fields.specs.Blocks.{unfinished}
 use Rattle.h2_streams.specs.Put.{can_become}
+use Rattle.h2_conn.specs.Sound.{IsSoundChange, touched_records}
+use Rattle.h2_conn.specs.declared.block.FragmentEffect.{FragmentEffect}
+use Rattle.h2_conn.specs.declared.block.FragmentEffect.TheVariants.{Breaks, Makes}
 
 -- a block whose decoder has met no fault and no want of memory, and need not begin with a size update
 abbrev pub IsGoing : BlockSoFar → Type 0
@@ -44,3 +50,35 @@ IsOpenFor r (Some b) = IsDecodedAt r b.shown.stream b.decoding
 abbrev pub IsStopped : Option OpenBlock → Type 0
 IsStopped None = Unit {0}
 IsStopped (Some b) = b.decoding ≡ None
+
+-- the cell of the table, by what HEADERS begins: the table has no cell in which HEADERS come to nothing
+abbrev pub cell_of : Result Purpose ErrorCode → Cell Purpose
+cell_of (Ok purpose) = Rule purpose
+cell_of (Err code) = Error code
+
+-- ---- a fragment that is decoded
+
+-- how far the block has come before it
+abbrev pub before_fragment : Table → BlockSoFar → Progress
+before_fragment table b = record { fields = b.fields; table = table; due = false }
+
+-- and after it, up to the beginning of an instruction
+abbrev pub after_fragment : Table → BlockSoFar → Decoded
+after_fragment table b = record { progress = record { fields = b.fields; table = table; due = false }; outcome = Unfinished (unfinished b.outcome) }
+
+-- it has a fault
+abbrev pub IsFaulty : Decoded → Type 0
+IsFaulty d = (f : Fault) × (d.outcome ≡ Faulty f)
+
+-- ---- what a fragment comes to
+
+-- in a state
+abbrev pub effect_seen : {A : Type 0} → State → FragmentEffect A → headers.FrameEffect
+effect_seen s (Breaks code) = headers.Breaks code
+effect_seen s (Makes block table change) = headers.Makes (record s { block = block; table = table.table }) change
+
+-- the change keeps what is true of every connection, the table its limit, and an open block is known by its stream, with the records after the change
+abbrev pub IsSoundEffect : {A : Type 0} → List Entry → Records → ℕ → ℕ → FragmentEffect A → Type 0
+IsSoundEffect book r window limit (Breaks code) = Unit {0}
+IsSoundEffect book r window limit (Makes block table change) =
+    IsSoundChange book r window change × (table.limit ≡ limit) × IsOpenFor (touched_records change.touch r) block

@@ -1,6 +1,7 @@
 //! One connection: what each item changes, and what is sent for it (RFC 9113, 3.4 to 6).
 #![tactic(auto)]
 
+mod block;
 mod block_end;
 mod change;
 mod checks;

@@ -1,0 +1,238 @@
+//! Fragments of field blocks, from HEADERS and CONTINUATION (RFC 9113, 4.3, 6.2 and 6.10).
+//! Rests on `block_end` and on h2_fields; definition: `fragment` of h2_spec's `specs/Headers.antt`.
+
+ghost use Rattle.std.specs.Prelude.{◌≡◌, ◌≢◌, ◌++◌, None, Option, IfOk, IfSome, OnOk};
+ghost use Rattle.h2_spec.specs.Block as block;
+ghost use Rattle.h2_spec.specs.FrameType as frames;
+ghost use Rattle.h2_spec.specs.Headers as rule;
+ghost use Rattle.h2_spec.specs.State as state;
+ghost use Rattle.h2_spec.specs.Table.{headers_cell};
+ghost use Rattle.h2_fields.specs.Blocks.{unfinished};
+ghost use Rattle.h2_fields.specs.declared.fault.BlockFault.TheVariants.{NoMemory};
+ghost use Rattle.h2_conn.specs.Blocks.{IsFaulty, IsGoing, IsOpenAt, IsSoundEffect, after_fragment, before_fragment, cell_of, effect_seen, state_of};
+ghost use Rattle.h2_conn.specs.Sound.{IsSoundState};
+
+use crate::block_end::block_ends;
+use crate::change::stay;
+use crate::checks::has;
+use crate::state::{Decoding, OpenBlock};
+use h2_fields::block::BlockDecoder;
+use h2_fields::fault::BlockFault;
+use h2_request::book::Book;
+use h2_spec::connection::{BlockView, Config, Core, Purpose};
+use h2_spec::errors::ErrorCode;
+use h2_spec::frames::Head;
+use h2_spec::reactions::Change;
+use h2_spec::streams::Kind;
+use h2_streams::Streams;
+use h2_table::DynTable;
+use std::alloc::{AllocError, Allocator};
+
+/// The flag END_STREAM of HEADERS (RFC 9113, 6.2).
+const END_STREAM: u8 = 1;
+
+/// The flag END_HEADERS of HEADERS and CONTINUATION (RFC 9113, 6.2 and 6.10).
+const END_HEADERS: u8 = 4;
+
+/// The most octets of a block's fragments.
+const MAX_BLOCK: usize = 65_536;
+
+/// What a fragment comes to: a connection error, or the open block and the header table after it, and a change.
+#[derive(Drop)]
+pub enum FragmentEffect<A: Allocator> {
+    Breaks(ErrorCode),
+    Makes(Option<OpenBlock<A>>, DynTable<A>, Change),
+}
+
+/// Decodes a fragment behind those before it, on a copy of the table. Answers the copy, or none where the block has a fault.
+fn decoded<A: Allocator + Copy>(
+    table: &DynTable<A>,
+    decoder: &mut BlockDecoder<A>,
+    octets: &[u8],
+) -> Result<Option<DynTable<A>>, AllocError>
+    requires { IsGoing decoder.old }
+    ensures faulty { IfOk result (λ copy. copy ≡ None → IsFaulty (block.decoded table.now.limit (before_fragment table.now.table decoder.old) (unfinished decoder.old.outcome ++ octets.now))) }
+    ensures decoded { IfOk result (λ copy. IfSome copy (λ t. block.decoded table.now.limit (before_fragment table.now.table decoder.old) (unfinished decoder.old.outcome ++ octets.now) ≡ after_fragment t.table decoder.new)) }
+    ensures going { IfOk result (λ copy. IfSome copy (λ t. IsGoing decoder.new × (t.limit ≡ table.now.limit))) }
+{
+    let mut copy = table.try_clone()?;
+    match decoder.push(&mut copy, octets) {
+        Ok(()) => Ok(Some(copy)),
+        Err(fault) => {
+            no_want(fault)?;
+            Ok(None)
+        }
+    }
+}
+
+/// Whether a fault is one of the octets: `AllocError` where it is a want of memory.
+fn no_want(fault: BlockFault) -> Result<(), AllocError>
+    ensures { OnOk result (fault ≢ NoMemory) }
+{
+    match fault {
+        BlockFault::NoMemory => Err(AllocError),
+        BlockFault::Index => Ok(()),
+        BlockFault::Integer => Ok(()),
+        BlockFault::Huffman => Ok(()),
+        BlockFault::SizeUpdate => Ok(()),
+        BlockFault::Truncated => Ok(()),
+    }
+}
+
+/// A fragment was decoded: the block goes on, or ends with HEADERS or CONTINUATION that have END_HEADERS.
+fn read<A: Allocator + Copy>(
+    book: &Book<A>,
+    config: Config,
+    core: Core,
+    streams: &Streams<A>,
+    table: DynTable<A>,
+    shown: BlockView,
+    decoding: Decoding<A>,
+    end_headers: bool,
+) -> FragmentEffect<A>
+    requires sound { IsSoundState book.now core streams.now }
+    requires open { IsOpenAt streams.now shown.stream decoding.purpose }
+    ensures effect { (b : Option state.OpenBlock) → effect_seen (state_of book.now config core b table.table streams.now.streams) result ≡ rule.fragment_read (state_of book.now config core b table.table streams.now.streams) shown decoding end_headers }
+    ensures sound { IsSoundEffect book.now streams.now core.peer.window table.limit result }
+{
+    if !end_headers {
+        let block = OpenBlock {
+            shown,
+            decoding: Some(decoding),
+        };
+        return FragmentEffect::Makes(Some(block), table, stay(core));
+    }
+    match decoding.decoder.finish() {
+        Ok(()) => {
+            let purpose = decoding.purpose;
+            let change = block_ends(
+                book,
+                config,
+                core,
+                streams,
+                &shown,
+                purpose,
+                &decoding.decoder,
+            );
+            FragmentEffect::Makes(None, table, change)
+        }
+        Err(_) => FragmentEffect::Breaks(ErrorCode::CompressionError),
+    }
+}
+
+/// A fragment of a block whose stream is known by the block's purpose. Nothing is changed: the table is copied, and what
+/// the block comes to is answered with the copy.
+///
+/// # Errors
+///
+/// `AllocError` where memory for the copy, the fields or the octets that are left was refused.
+pub fn fragment<A: Allocator + Copy>(
+    book: &Book<A>,
+    config: Config,
+    core: Core,
+    streams: &Streams<A>,
+    table: &DynTable<A>,
+    shown: BlockView,
+    decoding: Decoding<A>,
+    octets: &[u8],
+    end_headers: bool,
+) -> Result<FragmentEffect<A>, AllocError>
+    requires sound { IsSoundState book.now core streams.now }
+    requires limit { table.now.limit ≡ core.own.table }
+    requires open { IsOpenAt streams.now shown.stream decoding.purpose }
+    ensures effect { IfOk result (λ e. (b : Option state.OpenBlock) → effect_seen (state_of book.now config core b table.now.table streams.now.streams) e ≡ rule.fragment (state_of book.now config core b table.now.table streams.now.streams) shown decoding octets.now end_headers) }
+    ensures sound { IfOk result (λ e. IsSoundEffect book.now streams.now core.peer.window table.now.limit e) }
+{
+    let count = shown.octets as usize + octets.len();
+    if MAX_BLOCK < count {
+        return Ok(FragmentEffect::Breaks(ErrorCode::EnhanceYourCalm));
+    }
+    let Decoding {
+        purpose,
+        mut decoder,
+    } = decoding;
+    // The table's maximum is within its limit: no block has to begin with a size update.
+    let _max = table.max();
+    match decoded(table, &mut decoder, octets)? {
+        None => Ok(FragmentEffect::Breaks(ErrorCode::CompressionError)),
+        Some(table) => {
+            let shown = BlockView {
+                octets: count as u32,
+                list_size: decoder.list_size(),
+                ..shown
+            };
+            let decoding = Decoding { purpose, decoder };
+            Ok(read(
+                book,
+                config,
+                core,
+                streams,
+                table,
+                shown,
+                decoding,
+                end_headers,
+            ))
+        }
+    }
+}
+
+/// What HEADERS begins on a stream, by the stream's state: a block for this purpose, or a connection error (RFC 9113, 5.1 and 6.2).
+pub fn headers_purpose(id: u32, kind: Kind) -> Result<Purpose, ErrorCode>
+    ensures { cell_of result ≡ headers_cell id kind }
+{
+    match kind {
+        Kind::Idle if id % 2 == 1 => Ok(Purpose::Request),
+        Kind::Idle | Kind::Skipped => Err(ErrorCode::ProtocolError),
+        Kind::BothOpen | Kind::HalfLocal => Ok(Purpose::Trailers),
+        Kind::HalfRemote => Ok(Purpose::Closed),
+        Kind::Ended | Kind::PeerReset => Err(ErrorCode::StreamClosed),
+        Kind::WeReset => Ok(Purpose::TableOnly),
+    }
+}
+
+/// HEADERS opens a block on a stream that is known by the block's purpose; `octets` is the frame's fragment.
+/// The decoder takes its memory from `alloc`.
+///
+/// # Errors
+///
+/// `AllocError` as `fragment`.
+pub fn opens<A: Allocator + Copy>(
+    alloc: A,
+    book: &Book<A>,
+    config: Config,
+    core: Core,
+    streams: &Streams<A>,
+    table: &DynTable<A>,
+    purpose: Purpose,
+    head: &Head,
+    octets: &[u8],
+) -> Result<FragmentEffect<A>, AllocError>
+    requires sound { IsSoundState book.now core streams.now }
+    requires limit { table.now.limit ≡ core.own.table }
+    requires open { IsOpenAt streams.now head.now.stream purpose }
+    ensures effect { IfOk result (λ e. (b : Option state.OpenBlock) → effect_seen (state_of book.now config core b table.now.table streams.now.streams) e ≡ rule.fragment (state_of book.now config core b table.now.table streams.now.streams) (rule.fresh_block head.now) (rule.fresh_decoding purpose) octets.now (frames.has head.now.flags frames.END_HEADERS)) }
+    ensures sound { IfOk result (λ e. IsSoundEffect book.now streams.now core.peer.window table.now.limit e) }
+{
+    let shown = BlockView {
+        stream: head.stream,
+        octets: 0,
+        list_size: 0,
+        ends: has(head.flags, END_STREAM),
+    };
+    let decoding = Decoding {
+        purpose,
+        decoder: BlockDecoder::start(alloc),
+    };
+    let end_headers = has(head.flags, END_HEADERS);
+    fragment(
+        book,
+        config,
+        core,
+        streams,
+        table,
+        shown,
+        decoding,
+        octets,
+        end_headers,
+    )
+}
