@@ -5,7 +5,7 @@ use Rattle.std.proofs.Math.Nat.{mod-eq_of_lt}
 use Rattle.std.specs.Prelude.{IsErrOf}
 use Rattle.std.specs.Option.{unwrap_or}
 use Rattle.h2_spec.specs.HuffmanCode.{bits_of, code}
-use Rattle.h2_spec.specs.Huffman.{bits, codes, ones, IsText, HuffRead, huffman_text, Text, Eos, Padding}
+use Rattle.h2_spec.specs.Huffman.{bits, codes, IsText, HuffRead, huffman_text, Text, Eos, Padding}
 use Rattle.h2_spec.proofs.BitLaws.{length-bits_of, bits-more}
 use Rattle.h2_spec.proofs.HuffmanLaws.{codes-append, one_answer, is_padding}
 use Rattle.h2_spec.proofs.SpellingLaws.{length-bits}

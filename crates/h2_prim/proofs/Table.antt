@@ -7,7 +7,7 @@ use Rattle.h2_spec.specs.HuffmanCode.{bits_of, code}
 use Rattle.h2_spec.specs.Huffman.{codes, ones, are_few_ones, IsText}
 use Rattle.h2_spec.proofs.Computed.{and-left, and-right, same, same-is, begins, begins-is, all_below, below-at, both_from, both-at}
 use Rattle.h2_spec.proofs.HuffmanLaws.{NoneBegins, front_of_code, few-ones}
-use Rattle.h2_prim.specs.States.{places, path_of, emitted, Stands, Leads}
+use Rattle.h2_prim.specs.States.{places, path_of, emitted, Leads}
 use Rattle.h2_prim.specs.declared.tables.TheConstants.{LENGTHS, CODES, NEXT, SYMBOLS}
 
 -- ---- the arrays for writing

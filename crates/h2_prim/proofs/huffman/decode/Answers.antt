@@ -1,4 +1,4 @@
-use Rattle.std.proofs.Common.{arith, ◌≡◌, ◌<◌, ◌≤◌, ◌+◌, ◌*◌, ◌/◌, ◌%◌, ◌++◌, length, take, get_or, length-append}
+use Rattle.std.proofs.Common.{arith, ◌≡◌, ◌+◌, ◌*◌, ◌/◌, ◌++◌, length, take, get_or, length-append}
 use Rattle.h2_spec.specs.HuffmanCode.{bits_of}
 use Rattle.h2_spec.specs.Huffman.{bits}
 use Rattle.h2_spec.proofs.BitLaws.{length-bits_of}

@@ -1,4 +1,4 @@
-use Rattle.std.proofs.Common.{◌≡◌, ◌≤◌, take, length}
+use Rattle.std.proofs.Common.{◌≤◌, take, length}
 use Rattle.h2_spec.specs.Huffman.{bits}
 use Rattle.h2_prim.specs.States.{Stands}
 use Rattle.h2_prim.proofs.huffman.decode.Given as goal

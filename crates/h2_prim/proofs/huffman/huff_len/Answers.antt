@@ -1,4 +1,4 @@
-use Rattle.std.proofs.Common.{arith, ◌≡◌, ◌+◌, ◌≤◌, ◌*◌, ap, sym, ◌∙◌, refl, length, take}
+use Rattle.std.proofs.Common.{arith, ◌≡◌, ◌+◌, ap, sym, ◌∙◌, refl, length, take}
 use Rattle.std.proofs.lemmas.List.{take_all}
 use Rattle.h2_spec.specs.Huffman.{codes}
 use Rattle.h2_spec.proofs.SpellingLaws.{length-spell_huffman}

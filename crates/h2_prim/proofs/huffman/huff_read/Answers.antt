@@ -1,5 +1,5 @@
 use Rattle.h2_spec.specs.Huffman.{huffman_text, Text}
-use Rattle.std.proofs.Common.{arith, ◌≡◌, ◌≤◌, ◌∙◌, ap, sym, take, Some}
+use Rattle.std.proofs.Common.{arith, ◌≤◌, ◌∙◌, ap, sym, take, Some}
 use Rattle.h2_prim.proofs.Reading.{refused, accepted, kept_front}
 use Rattle.h2_prim.proofs.huffman.huff_read.Goals as goal
 

@@ -1,4 +1,3 @@
-use Rattle.std.proofs.Common.{arith}
 use Rattle.h2_prim.proofs.Table.{move_at}
 use Rattle.h2_prim.proofs.huffman.move_at.Goals as goal
 
