@@ -14,7 +14,7 @@ use Rattle.h2_conn.specs.Blocks.{IsDecodedAt, IsOpenAt, IsOpenFor}
 use Rattle.h2_conn.proofs.AboveLaws.{id-after_sending}
 
 -- a test that says the same of a state and of that after the server's last frame
-sent-kind : (test : Kind → Bool) → test HalfLocal ≡ test BothOpen → test Ended ≡ test HalfRemote → (n : ℕ) (st : Stream) → test (after_sending n st).kind ≡ test st.kind
+pub sent-kind : (test : Kind → Bool) → test HalfLocal ≡ test BothOpen → test Ended ≡ test HalfRemote → (n : ℕ) (st : Stream) → test (after_sending n st).kind ≡ test st.kind
 unfolding after_sending server_ended
 sent-kind test both half n st = by_tests (eqb n 0) (eqb (octets_waiting st) n)
   where

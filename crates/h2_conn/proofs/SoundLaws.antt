@@ -1,5 +1,5 @@
 -- The counts stay within their limits, and the records within what the book has.
-use Rattle.std.proofs.Common.{◌≡◌, ℕ, ◌%◌, ◌-◌, ltb, eqb, ◌≤◌, List, [], ◌∷◌, length, Bool, true, false, cond, ◌||◌, ◌&&◌, not, max, Some, refl, sym, ap, subst, ◌⊎◌, inl, inr, ◌∙◌, arith, ℤ, pos, negsuc, ◌+ℤ◌, ◌-ℤ◌, ◌≤ℤ◌, int_lt}
+use Rattle.std.proofs.Common.{◌≡◌, ℕ, ◌%◌, ◌-◌, ltb, eqb, ◌<◌, ◌≤◌, List, [], ◌∷◌, length, Bool, true, false, cond, ◌||◌, ◌&&◌, not, max, Some, refl, sym, ap, subst, ◌⊎◌, inl, inr, ◌∙◌, arith, ℤ, pos, negsuc, ◌+ℤ◌, ◌-ℤ◌, ◌≤ℤ◌, int_lt}
 use Rattle.std.proofs.lemmas.Bool.{false≢true}
 use Rattle.std.specs.List.{AllByRecursion}
 use Rattle.h2_spec.specs.declared.connection.Core.{Core}
@@ -17,7 +17,8 @@ use Rattle.h2_spec.specs.Stream.{Records, is_live, kind_of, not_live, octets_wai
 use Rattle.h2_spec.specs.Window.{is_above_max, sendable}
 use Rattle.h2_streams.specs.Put.{CanPut, is_closed}
 use Rattle.h2_streams.specs.Shift.{CanShift}
-use Rattle.h2_conn.specs.Sound.{AreSound, HasBody, IsSoundChange, IsSoundState, IsSoundStream, IsSoundTouch, touched_records}
+use Rattle.h2_conn.specs.Sound.{AreSound, HasBody, IsSoundChange, IsSoundState, IsSoundStream, IsSoundTouch, is_recorded, touched_records}
+use Rattle.h2_conn.proofs.KindLaws.{sent-kind}
 
 -- ---- a stream that is not live
 
@@ -58,6 +59,10 @@ live-put r st now found live same =
     let k = kind_of r.last r.streams now.id in
     ((λ above. absurd (omega (arith, above, within, same)), λ below. ap (λ t. t || (is_closed k && not (is_live now.kind))) here), omega (arith, within, same))
 
+-- a live stream has been opened
+pub live-recorded : (kind : Kind) → is_live kind ≡ true → is_recorded kind ≡ true
+live-recorded kind live = ap (λ t. t || is_closed kind) live
+
 -- ---- the records that are there
 
 found-sound-record : (book : List Entry) (window id : ℕ) (streams : List Stream) → AreSound book window streams →
@@ -67,7 +72,7 @@ found-sound-record book window id (st ∷ sts) all = by_test (eqb st.id id) (fou
   where
     by_test : (t : Bool) → IsSoundStream window (recorded id (record_of sts id)) × HasBody book (recorded id (record_of sts id)) →
         IsSoundStream window (recorded id (cond t (Some st) (record_of sts id))) × HasBody book (recorded id (cond t (Some st) (record_of sts id)))
-    by_test true rest = all.0
+    by_test true rest = (all.0.0, all.0.1)
     by_test false rest = rest
 
 -- the stream with an identifier is sound where all records are
@@ -84,9 +89,28 @@ found-sound book window last id streams all = by_tests (eqb (id % 2) 0) (ltb las
     by_tests false true = idle
     by_tests false false = found-sound-record book window id streams all
 
+-- no record is of an idle stream
+never-idle : (book : List Entry) (window id : ℕ) (streams : List Stream) → AreSound book window streams → (recorded id (record_of streams id)).kind ≡ Idle → ⊥
+never-idle book window id [] all idle = let e : Skipped ≡ Idle = idle in cc
+never-idle book window id (st ∷ sts) all idle = by_test (eqb st.id id) (never-idle book window id sts all.1) idle
+  where
+    by_test : (t : Bool) → ((recorded id (record_of sts id)).kind ≡ Idle → ⊥) → (recorded id (cond t (Some st) (record_of sts id))).kind ≡ Idle → ⊥
+    by_test true rest e = false≢true (sym (ap is_recorded e) ∙ all.0.2)
+    by_test false rest e = rest e
+
+-- so an idle stream that a client may open is above the last one that was opened
+pub idle-above : (book : List Entry) (window last id : ℕ) (streams : List Stream) → AreSound book window streams → (stream_at last streams id).kind ≡ Idle → id % 2 ≡ 1 → last < id
+unfolding stream_at
+idle-above book window last id streams all idle odd = by_tests (eqb (id % 2) 0) (ltb last id) refl refl idle
+  where
+    by_tests : (s t : Bool) → eqb (id % 2) 0 ≡ s → ltb last id ≡ t → (cond s (not_live id Idle) (cond t (not_live id Idle) (recorded id (record_of streams id)))).kind ≡ Idle → last < id
+    by_tests true t e f g = absurd (false≢true (sym (ap (λ n. eqb n 0) odd) ∙ e))
+    by_tests false true e f g = grind (arith, f)
+    by_tests false false e f g = absurd (never-idle book window id streams all g)
+
 -- ---- a record is put
 
-put-sound : (book : List Entry) (window : ℕ) (st : Stream) (streams : List Stream) → IsSoundStream window st × HasBody book st → AreSound book window streams → AreSound book window (put st streams)
+put-sound : (book : List Entry) (window : ℕ) (st : Stream) (streams : List Stream) → IsSoundStream window st × HasBody book st × (is_recorded st.kind ≡ true) → AreSound book window streams → AreSound book window (put st streams)
 put-sound book window st [] one all = (one, tt)
 put-sound book window st (x ∷ xs) one all = by_test (eqb x.id st.id) (put-sound book window st xs one all.1)
   where
@@ -152,13 +176,20 @@ shifted-body-one book d st h = by_test (follows_initial_window st.kind)
     by_test true = h
     by_test false = h
 
+shifted-recorded-one : (d : ℤ) (st : Stream) → is_recorded st.kind ≡ true → is_recorded (shifted_one d st).kind ≡ true
+shifted-recorded-one d st h = by_test (follows_initial_window st.kind)
+  where
+    by_test : (t : Bool) → is_recorded (cond t (with_send st (st.numbers.send +ℤ d)) st).kind ≡ true
+    by_test true = h
+    by_test false = h
+
 shifted-sound : (book : List Entry) (from to : ℕ) (streams : List Stream) → AreSound book from streams → overflows (moved_by from to) streams ≡ false → AreSound book to (shifted (moved_by from to) streams)
 unfolding shifted overflows
 shifted-sound book from to [] all fits = tt
 shifted-sound book from to (st ∷ sts) all fits =
     let d = moved_by from to in
     let both = neither (overflows_one d st) (overflows d sts) fits in
-    ((shifted-sound-one from to st all.0.0 both.0, shifted-body-one book d st all.0.1), shifted-sound book from to sts all.1 both.1)
+    ((shifted-sound-one from to st all.0.0 both.0, shifted-body-one book d st all.0.1, shifted-recorded-one d st all.0.2), shifted-sound book from to sts all.1 both.1)
 
 -- ---- a change
 
@@ -176,7 +207,7 @@ changed-sound book core r c state change = at c.touch change.1
     at Same t = record { counts = change.0; records = subst (λ w. AreSound book w r.streams) t.0 state.records; last = sym t.1 }
     at (Put st) t = record {
       counts = change.0;
-      records = put-sound book c.core.peer.window st r.streams (t.0, t.1) (subst (λ w. AreSound book w r.streams) t.2 state.records);
+      records = put-sound book c.core.peer.window st r.streams (t.0, t.1, t.5) (subst (λ w. AreSound book w r.streams) t.2 state.records);
       last = sym t.4;
     }
     at (Shift from to) t =
@@ -269,7 +300,8 @@ all-sent-sound book initial window [] least all = tt
 all-sent-sound book initial window (st ∷ sts) least all =
     let n = share window st in
     let within = share-within window st in
-    (sent-sound-one book initial n st least within.0 within.1 all.0, all-sent-sound book initial (window - n) sts least all.1)
+    let one = sent-sound-one book initial n st least within.0 within.1 (all.0.0, all.0.1) in
+    ((one.0, one.1, sent-kind is_recorded refl refl n st ∙ all.0.2), all-sent-sound book initial (window - n) sts least all.1)
 
 -- the state is sound after sending
 pub sent-sound : (book : List Entry) (core : Core) (r : Records) (window n : ℕ) → IsSoundState book core r →

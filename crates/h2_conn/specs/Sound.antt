@@ -1,5 +1,5 @@
 -- What is true of the counts of every connection: windows stay within their limits, whatever is given back or moved.
-use Rattle.std.specs.Prelude.{◌≡◌, ℕ, ◌<◌, ◌≤◌, ◌^◌, length, true, false, List, ℤ, pos, ◌+ℤ◌, ◌≤ℤ◌, max}
+use Rattle.std.specs.Prelude.{◌≡◌, ℕ, ◌<◌, ◌≤◌, ◌^◌, ◌||◌, length, Bool, true, false, List, ℤ, pos, ◌+ℤ◌, ◌≤ℤ◌, max}
 use Rattle.std.specs.List.{AllByRecursion}
 use Rattle.h2_spec.specs.declared.connection.Core.{Core}
 use Rattle.h2_spec.specs.declared.reactions.Change.{Change}
@@ -7,10 +7,11 @@ use Rattle.h2_spec.specs.declared.reactions.Reaction.{Reaction}
 use Rattle.h2_spec.specs.declared.reactions.Reaction.TheVariants.{ConnectionError, Continues}
 use Rattle.h2_spec.specs.declared.reactions.Touch.{Touch}
 use Rattle.h2_spec.specs.declared.reactions.Touch.TheVariants.{Same, Put, Shift}
+use Rattle.h2_spec.specs.declared.streams.Kind.{Kind}
 use Rattle.h2_spec.specs.declared.streams.Stream.{Stream}
 use Rattle.h2_spec.specs.Answer.{Entry, picked}
-use Rattle.h2_spec.specs.Stream.{Records, octets_waiting, with_record}
-use Rattle.h2_streams.specs.Put.{CanPut}
+use Rattle.h2_spec.specs.Stream.{Records, is_live, octets_waiting, with_record}
+use Rattle.h2_streams.specs.Put.{CanPut, is_closed}
 use Rattle.h2_request.specs.Lent.{IsPickOf}
 use Rattle.h2_spec.specs.Change.{follows_initial_window, overflows, moved_by, shifted}
 
@@ -30,10 +31,14 @@ IsSoundStream window st =
 abbrev pub HasBody : List Entry → Stream → Type 0
 HasBody book st = IsPickOf book st.pick × (octets_waiting st ≤ length (picked book st.pick).body)
 
+-- whether a stream has been opened, so that it has a record
+abbrev pub is_recorded : Kind → Bool
+is_recorded kind = is_live kind || is_closed kind
+
 -- what becomes of the streams: with the book, the records before, the initial window before, and the counts after
 abbrev pub IsSoundTouch : List Entry → Records → ℕ → Core → Touch → Type 0
 IsSoundTouch book r before now Same = (before ≡ now.peer.window) × (now.last ≡ r.last)
-IsSoundTouch book r before now (Put st) = IsSoundStream now.peer.window st × HasBody book st × (before ≡ now.peer.window) × CanPut st r × (now.last ≡ max r.last st.id)
+IsSoundTouch book r before now (Put st) = IsSoundStream now.peer.window st × HasBody book st × (before ≡ now.peer.window) × CanPut st r × (now.last ≡ max r.last st.id) × (is_recorded st.kind ≡ true)
 IsSoundTouch book r before now (Shift from to) = (overflows (moved_by from to) r.streams ≡ false) × (from ≡ before) × (to ≡ now.peer.window) × (now.last ≡ r.last)
 
 -- with the records and the initial window before it
@@ -48,9 +53,9 @@ IsSound book r window (Continues c) = IsSoundChange book r window c
 abbrev pub IsCalm : Core → Change → Type 0
 IsCalm core c = IsSoundCore c.core × (c.core.peer.window ≡ core.peer.window) × (c.core.last ≡ core.last)
 
--- all records are sound, with the book and the initial window
+-- all records are sound, with the book and the initial window, and are of streams that have been opened
 abbrev pub AreSound : List Entry → ℕ → List Stream → Type 0
-AreSound book window streams = AllByRecursion (λ st. IsSoundStream window st × HasBody book st) streams
+AreSound book window streams = AllByRecursion (λ st. IsSoundStream window st × HasBody book st × (is_recorded st.kind ≡ true)) streams
 
 -- what is true of the counts and the records of every connection
 pub record IsSoundState (book : List Entry) (core : Core) (r : Records) : Type 0 where

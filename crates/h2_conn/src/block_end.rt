@@ -1,7 +1,7 @@
 //! What a field block comes to at its end (RFC 9113, 4.3, 5.1 and 8.1).
 //! Rests on `headers` and on h2_request; definition: `block_ends` of h2_spec's `specs/Headers.antt`.
 
-ghost use Rattle.std.specs.Prelude.{◌≡◌, length, is_some, Option, None};
+ghost use Rattle.std.specs.Prelude.{◌≡◌, true, length, is_some, Option, None};
 ghost use Rattle.h2_spec.specs.declared.connection.Config.{Config};
 ghost use Rattle.h2_spec.specs.declared.connection.Purpose.TheVariants.{Closed, Request, Trailers};
 ghost use Rattle.h2_spec.specs.declared.errors.ErrorCode.TheVariants.{StreamClosed};
@@ -14,7 +14,7 @@ ghost use Rattle.h2_spec.specs.Request.{malformed, malformed_trailers};
 ghost use Rattle.h2_spec.specs.State.{OpenBlock};
 ghost use Rattle.h2_request.specs.Lent.{IsPickOf};
 ghost use Rattle.h2_conn.specs.Blocks.{IsOpenAt, state_of};
-ghost use Rattle.h2_conn.specs.Sound.{HasBody, IsSoundChange, IsSoundCore, IsSoundState, IsSoundStream};
+ghost use Rattle.h2_conn.specs.Sound.{HasBody, IsSoundChange, IsSoundCore, IsSoundState, IsSoundStream, is_recorded};
 
 use crate::change::{stay, stream_error, turned};
 use crate::headers::{request_turn, trailers_turn};
@@ -76,6 +76,7 @@ fn opening_turn<A: Allocator>(
     ensures id { result.stream.id ≡ id }
     ensures sound { IsSoundStream core.peer.window result.stream }
     ensures waits { HasBody book.now result.stream }
+    ensures recorded { is_recorded result.stream.kind ≡ true }
 {
     let body = body_length(book, facts.pick);
     request_turn(config, live, body, core, id, ends, facts)

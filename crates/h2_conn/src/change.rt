@@ -1,14 +1,14 @@
 //! Changes, and what a rule of one stream adds to them (RFC 9113, 5.4).
 //! Rests on h2_spec's types; definition: `specs/Change.antt` there.
 
-ghost use Rattle.std.specs.Prelude.{◌≡◌, ℕ, List, max};
+ghost use Rattle.std.specs.Prelude.{◌≡◌, ℕ, true, List, max};
 ghost use Rattle.h2_spec.specs.Change as changes;
 ghost use Rattle.h2_spec.specs.Stream as stream;
 ghost use Rattle.h2_spec.specs.Stream.{Records};
 ghost use Rattle.h2_streams.specs.Put.{CanPut};
 ghost use Rattle.h2_spec.specs.declared.connection.Core.{Core};
 ghost use Rattle.h2_spec.specs.Answer.{Entry};
-ghost use Rattle.h2_conn.specs.Sound.{HasBody, IsCalm, IsSoundChange, IsSoundStream};
+ghost use Rattle.h2_conn.specs.Sound.{HasBody, IsCalm, IsSoundChange, IsSoundStream, is_recorded};
 
 use h2_spec::connection::Core;
 use h2_spec::errors::ErrorCode;
@@ -39,6 +39,7 @@ pub fn not_live(id: u32, kind: Kind) -> Stream
 pub fn quiet_turn(signal: bool, stream: Stream) -> Turn
     ensures rule { result ≡ changes.quiet_turn signal stream }
     ensures id { result.stream.id ≡ stream.id }
+    ensures recorded { is_recorded stream.kind ≡ true → is_recorded result.stream.kind ≡ true }
 {
     Turn {
         stream,
@@ -55,6 +56,7 @@ pub fn stream_error(signal: bool, id: u32, code: ErrorCode) -> Turn
     ensures id { result.stream.id ≡ id }
     ensures sound { (window : ℕ) → IsSoundStream window result.stream }
     ensures waits { (book : List Entry) → HasBody book result.stream }
+    ensures recorded { is_recorded result.stream.kind ≡ true }
 {
     Turn {
         stream: not_live(id, Kind::WeReset),
@@ -81,7 +83,7 @@ pub fn stay(core: Core) -> Change
 #[tactic(auto, unfolding(h2_spec::specs::Change::turned))]
 pub fn turned(change: Change, turn: Turn) -> Change
     ensures rule { result ≡ changes.turned change turn }
-    ensures sound { (book : List Entry) (r : Records) (core : Core) → IsCalm core change → core.last ≡ max r.last turn.stream.id → IsSoundStream core.peer.window turn.stream → HasBody book turn.stream → CanPut turn.stream r → IsSoundChange book r core.peer.window result }
+    ensures sound { (book : List Entry) (r : Records) (core : Core) → IsCalm core change → core.last ≡ max r.last turn.stream.id → IsSoundStream core.peer.window turn.stream → HasBody book turn.stream → CanPut turn.stream r → is_recorded turn.stream.kind ≡ true → IsSoundChange book r core.peer.window result }
 {
     let core = change.core;
     let peer = Settings {

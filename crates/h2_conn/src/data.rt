@@ -6,7 +6,7 @@ ghost use Rattle.h2_spec.specs.Answer.{Entry, picked};
 ghost use Rattle.h2_spec.specs.Data as rule;
 ghost use Rattle.h2_spec.specs.Effect as effect;
 ghost use Rattle.h2_spec.specs.Stream.{Records, is_live, stream_at};
-ghost use Rattle.h2_conn.specs.Sound.{HasBody, IsCalm, IsCredit, IsSound, IsSoundCore, IsSoundStream};
+ghost use Rattle.h2_conn.specs.Sound.{HasBody, IsCalm, IsCredit, IsSound, IsSoundCore, IsSoundStream, is_recorded};
 
 use crate::change::{quiet_turn, stay, stream_error, turned};
 use crate::ends::{breaks_length, peer_ended};
@@ -48,6 +48,7 @@ fn returned(threshold: u32, signal: bool, stream: Stream) -> Turn
     ensures id { result.stream.id ≡ stream.id }
     ensures sound { (window : ℕ) → window ≤ 2147483647 → IsSoundStream window stream → IsSoundStream window result.stream }
     ensures waits { (book : List Entry) → HasBody book stream → HasBody book result.stream }
+    ensures recorded { is_recorded stream.kind ≡ true → is_recorded result.stream.kind ≡ true }
 {
     let numbers = stream.numbers;
     let owed = numbers.owed.owed();
@@ -74,6 +75,7 @@ fn taken(stream: Stream, came: Came) -> Stream
     ensures id { result.id ≡ stream.id }
     ensures sound { (window : ℕ) → IsSoundStream window stream → IsSoundStream window result }
     ensures waits { (book : List Entry) → HasBody book stream → HasBody book result }
+    ensures recorded { is_recorded stream.kind ≡ true → is_recorded result.kind ≡ true }
 {
     let numbers = stream.numbers;
     let numbers = Numbers {
@@ -93,6 +95,7 @@ fn data_turn(threshold: u32, signal: bool, body: u64, came: Came, stream: Stream
     ensures id { result.stream.id ≡ stream.id }
     ensures sound { (window : ℕ) → window ≤ 2147483647 → IsSoundStream window stream → IsSoundStream window result.stream }
     ensures waits { (book : List Entry) → body ≡ length (picked book stream.pick).body → HasBody book stream → HasBody book result.stream }
+    ensures recorded { is_recorded stream.kind ≡ true → is_recorded result.stream.kind ≡ true }
 {
     let numbers = stream.numbers;
     if numbers.recv.is_below(came.octets) {

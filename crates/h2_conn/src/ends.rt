@@ -1,11 +1,11 @@
 //! How the sides of a stream end, and how its answer begins (RFC 9113, 5.1 and 8.1).
 //! Rests on `change`; definition: h2_spec's `specs/Ends.antt`.
 
-ghost use Rattle.std.specs.Prelude.{◌≡◌, ℕ, ◌≤◌, List, length};
+ghost use Rattle.std.specs.Prelude.{◌≡◌, ℕ, ◌≤◌, true, List, length};
 ghost use Rattle.h2_spec.specs.Ends as rule;
 ghost use Rattle.h2_spec.specs.Data as data_rule;
 ghost use Rattle.h2_spec.specs.Answer.{Entry, picked};
-ghost use Rattle.h2_conn.specs.Sound.{HasBody, IsSoundStream};
+ghost use Rattle.h2_conn.specs.Sound.{HasBody, IsSoundStream, is_recorded};
 
 use crate::change::{not_live, quiet_turn};
 use h2_spec::reactions::{Answering, StreamFrame, Turn};
@@ -18,6 +18,7 @@ pub fn server_ended(stream: Stream) -> Stream
     ensures id { result.id ≡ stream.id }
     ensures sound { (window : ℕ) → window ≤ 2147483647 → IsSoundStream window stream → IsSoundStream window result }
     ensures waits { (book : List Entry) → HasBody book stream → HasBody book result }
+    ensures recorded { is_recorded stream.kind ≡ true → is_recorded result.kind ≡ true }
 {
     match stream.kind {
         Kind::BothOpen => {
@@ -48,6 +49,7 @@ pub fn with_left(stream: Stream, left: u64) -> Stream
     ensures id { result.id ≡ stream.id }
     ensures sound { (window : ℕ) → IsSoundStream window stream → IsSoundStream window result }
     ensures waits { (book : List Entry) → HasBody book stream → left ≤ length (picked book stream.pick).body → HasBody book result }
+    ensures recorded { is_recorded stream.kind ≡ true → is_recorded result.kind ≡ true }
 {
     let numbers = Numbers {
         left: Some(left),
@@ -63,6 +65,7 @@ fn begun(body: u64, stream: Stream) -> Stream
     ensures id { result.id ≡ stream.id }
     ensures sound { (window : ℕ) → window ≤ 2147483647 → IsSoundStream window stream → IsSoundStream window result }
     ensures waits { (book : List Entry) → body ≡ length (picked book stream.pick).body → HasBody book stream → HasBody book result }
+    ensures recorded { is_recorded stream.kind ≡ true → is_recorded result.kind ≡ true }
 {
     if body == 0 {
         server_ended(stream)
@@ -78,6 +81,7 @@ fn answered(signal: bool, body: u64, stream: Stream) -> Turn
     ensures id { result.stream.id ≡ stream.id }
     ensures sound { (window : ℕ) → window ≤ 2147483647 → IsSoundStream window stream → IsSoundStream window result.stream }
     ensures waits { (book : List Entry) → body ≡ length (picked book stream.pick).body → HasBody book stream → HasBody book result.stream }
+    ensures recorded { is_recorded stream.kind ≡ true → is_recorded result.stream.kind ≡ true }
 {
     let answer = Answering {
         id: stream.id,
@@ -99,6 +103,7 @@ pub fn peer_ended(signal: bool, body: u64, stream: Stream) -> Turn
     ensures id { result.stream.id ≡ stream.id }
     ensures sound { (window : ℕ) → window ≤ 2147483647 → IsSoundStream window stream → IsSoundStream window result.stream }
     ensures waits { (book : List Entry) → body ≡ length (picked book stream.pick).body → HasBody book stream → HasBody book result.stream }
+    ensures recorded { is_recorded stream.kind ≡ true → is_recorded result.stream.kind ≡ true }
 {
     match stream.kind {
         Kind::BothOpen => {

@@ -1,11 +1,11 @@
 //! Field blocks: HEADERS and CONTINUATION, and the end of a block (RFC 9113, 4.3, 6.2, 6.10 and 8.1).
 //! Rests on `change` and `ends`; definition: h2_spec's `specs/Headers.antt`.
 
-ghost use Rattle.std.specs.Prelude.{◌≡◌, ℕ, ◌≤◌, List, length};
+ghost use Rattle.std.specs.Prelude.{◌≡◌, ℕ, ◌≤◌, true, List, length};
 ghost use Rattle.h2_spec.specs.Headers as rule;
 ghost use Rattle.h2_spec.specs.Answer.{Entry, picked};
 ghost use Rattle.h2_request.specs.Lent.{IsPickOf};
-ghost use Rattle.h2_conn.specs.Sound.{HasBody, IsSoundCore, IsSoundStream};
+ghost use Rattle.h2_conn.specs.Sound.{HasBody, IsSoundCore, IsSoundStream, is_recorded};
 
 use crate::change::{quiet_turn, stream_error};
 use crate::ends::{breaks_length, peer_ended};
@@ -26,6 +26,7 @@ fn new_stream(core: Core, id: u32, facts: Facts) -> Stream
     ensures id { result.id ≡ id }
     ensures sound { IsSoundStream core.peer.window result }
     ensures waits { (book : List Entry) → IsPickOf book facts.pick → HasBody book result }
+    ensures recorded { is_recorded result.kind ≡ true }
 {
     let numbers = Numbers {
         recv: Window::start(core.own.window),
@@ -69,6 +70,7 @@ pub fn request_turn(
     ensures id { result.stream.id ≡ id }
     ensures sound { IsSoundStream core.peer.window result.stream }
     ensures waits { (book : List Entry) → body ≡ length (picked book facts.pick).body → IsPickOf book facts.pick → HasBody book result.stream }
+    ensures recorded { is_recorded result.stream.kind ≡ true }
 {
     let signal = core.peer.signal;
     if config.streams as usize <= live {
@@ -102,6 +104,7 @@ pub fn trailers_turn(
     ensures id { result.stream.id ≡ stream.id }
     ensures sound { (window : ℕ) → window ≤ 2147483647 → IsSoundStream window stream → IsSoundStream window result.stream }
     ensures waits { (book : List Entry) → body ≡ length (picked book stream.pick).body → HasBody book stream → HasBody book result.stream }
+    ensures recorded { is_recorded stream.kind ≡ true → is_recorded result.stream.kind ≡ true }
 {
     if MAX_LIST < size {
         return stream_error(signal, stream.id, ErrorCode::EnhanceYourCalm);

@@ -1,12 +1,12 @@
 //! The rule for WINDOW_UPDATE (RFC 9113, 6.9 and 6.9.1).
 //! Rests on `change`; definitions: h2_spec's `specs/WindowUpdate.antt`, and `on_window` of `specs/Effect.antt`.
 
-ghost use Rattle.std.specs.Prelude.{◌≡◌, ℕ, List, ◌≤◌};
+ghost use Rattle.std.specs.Prelude.{◌≡◌, ℕ, ◌≤◌, true, List};
 ghost use Rattle.h2_spec.specs.WindowUpdate as rule;
 ghost use Rattle.h2_spec.specs.Effect as effect;
 ghost use Rattle.h2_spec.specs.Stream.{Records, stream_at};
 ghost use Rattle.h2_spec.specs.Answer.{Entry};
-ghost use Rattle.h2_conn.specs.Sound.{HasBody, IsSound, IsSoundCore, IsSoundStream};
+ghost use Rattle.h2_conn.specs.Sound.{HasBody, IsSound, IsSoundCore, IsSoundStream, is_recorded};
 
 use crate::change::{quiet_turn, stay, stream_error, turned};
 use h2_spec::connection::Core;
@@ -21,6 +21,7 @@ fn window_turn(signal: bool, increment: u32, stream: Stream) -> Turn
     ensures id { result.stream.id ≡ stream.id }
     ensures sound { (window : ℕ) → window ≤ 2147483647 → IsSoundStream window stream → IsSoundStream window result.stream }
     ensures waits { (book : List Entry) → HasBody book stream → HasBody book result.stream }
+    ensures recorded { is_recorded stream.kind ≡ true → is_recorded result.stream.kind ≡ true }
 {
     if increment == 0 {
         return stream_error(signal, stream.id, ErrorCode::ProtocolError);

@@ -14,4 +14,4 @@ returns-clause-sound g c =
     let put = reset-put r a.id c.requires.open in
     let can = let P : Turn → Type 0 = λ t. CanPut t.stream r in subst P (sym turn.rule) put.0 in
     let last = sym c.requires.sound.last ∙ put.1 ∙ ap (λ i. max r.last i) (sym turn.id) in
-    c.turned.ensures.sound a.book.now r a.core calm last (turn.sound a.core.peer.window) (turn.waits a.book.now) can
+    c.turned.ensures.sound a.book.now r a.core calm last (turn.sound a.core.peer.window) (turn.waits a.book.now) can turn.recorded

@@ -40,4 +40,4 @@ returns-clause-sound g c =
     let turn = c.opening_turn-turn.ensures in
     let put = opening-put r id c.opening_turn-turn.result.stream c.requires.open.0 c.requires.open.1 turn.id in
     let calm = subst (IsCalm opened) (sym c.stay-opened.ensures) (c.requires.sound.counts, refl, refl) in
-    c.turned.ensures.sound a.book.now r opened calm put.1 turn.sound turn.waits put.0
+    c.turned.ensures.sound a.book.now r opened calm put.1 turn.sound turn.waits put.0 turn.recorded

@@ -3,7 +3,7 @@ use Rattle.h2_spec.specs.declared.streams.Stream.{Stream}
 use Rattle.h2_spec.specs.Stream.{is_live, kind_of, stream_at}
 use Rattle.h2_conn.specs.Sound.{HasBody, IsCalm, IsSoundStream}
 use Rattle.h2_conn.proofs.BlockLaws.{peer-open-live}
-use Rattle.h2_conn.proofs.SoundLaws.{found-sound, live-put}
+use Rattle.h2_conn.proofs.SoundLaws.{found-sound, live-put, live-recorded}
 use Rattle.h2_conn.proofs.block_end.trailers_end.Goals as goal
 
 pub returns-clause-sound : goal.returns-clause-sound
@@ -23,4 +23,4 @@ returns-clause-sound g c =
     let live : is_live st.kind ≡ true = ap (λ (x : Stream). is_live x.kind) is ∙ peer-open-live (kind_of r.last r.streams a.shown.now.stream) c.requires.open in
     let put = live-put r st c.trailers_turn-turn.result.stream itself live turn.id in
     let calm = subst (IsCalm a.core) (sym c.stay.ensures) (c.requires.sound.counts, refl, refl) in
-    c.turned.ensures.sound a.book.now r a.core calm (sym c.requires.sound.last ∙ put.1) (turn.sound window within sound) (turn.waits a.book.now c.body_length-body.ensures has) put.0
+    c.turned.ensures.sound a.book.now r a.core calm (sym c.requires.sound.last ∙ put.1) (turn.sound window within sound) (turn.waits a.book.now c.body_length-body.ensures has) put.0 (turn.recorded (live-recorded st.kind live))

@@ -3,7 +3,7 @@ use Rattle.h2_spec.specs.declared.reactions.Turn.{Turn}
 use Rattle.h2_spec.specs.declared.streams.Kind.TheVariants.{PeerReset}
 use Rattle.h2_spec.specs.declared.streams.Stream.{Stream}
 use Rattle.h2_spec.specs.Stream.{not_live}
-use Rattle.h2_conn.specs.Sound.{HasBody, IsCalm, IsSoundStream}
+use Rattle.h2_conn.specs.Sound.{HasBody, IsCalm, IsSoundStream, is_recorded}
 use Rattle.h2_conn.proofs.SoundLaws.{is-live, live-put, not-live-sound, not-live-body}
 use Rattle.h2_conn.proofs.reset.on_reset.Goals as goal
 
@@ -16,4 +16,4 @@ returns-in-BothOpen-clause-sound c = λ book r found last.
     let put = live-put r st turn.result.stream found (is-live st.kind c.in-BothOpen.is) (ap (λ (x : Stream). x.id) is) in
     let calm = subst (IsCalm c.args.core) (sym c.stay-in-BothOpen.ensures) (c.requires.core, refl, refl) in
     c.turned.ensures.sound book r c.args.core calm
-    (sym last ∙ put.1) (subst (IsSoundStream window) (sym is) (not-live-sound window st.id PeerReset refl)) (subst (HasBody book) (sym is) (not-live-body book st.id PeerReset)) put.0
+    (sym last ∙ put.1) (subst (IsSoundStream window) (sym is) (not-live-sound window st.id PeerReset refl)) (subst (HasBody book) (sym is) (not-live-body book st.id PeerReset)) put.0 (ap (λ (x : Stream). is_recorded x.kind) is)
