@@ -1,11 +1,16 @@
 mod AboveLaws
 mod BlockLaws
 mod FragmentLaws
+mod Items
 mod KindLaws
 mod MakeLaws
 mod PartLaws
+mod Phases
 mod PiecesLaws
+mod Plays
 mod PreviewLaws
 mod RequestTurnLaws
+mod Runs
 mod SettingsLaws
 mod SoundLaws
+mod Views

@@ -8,9 +8,11 @@ mod checks;
 mod control;
 mod data;
 mod ends;
+mod fault;
 mod headers;
 mod item;
 mod make;
+mod opening;
 mod pieces;
 mod preview;
 mod pump;
@@ -21,3 +23,5 @@ mod state;
 pub mod view;
 mod window_update;
 mod write;
+
+pub use fault::ConnFault;

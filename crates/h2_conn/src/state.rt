@@ -1,12 +1,16 @@
 //! The state of a connection: all that an item can change (RFC 9113, 5, 6.5 and 6.9).
 //! Rests on h2_request, h2_fields and h2_streams; definition: h2_spec's `specs/State.antt`.
 
+ghost use Rattle.std.specs.Prelude.{◌≡◌, IfOk};
+ghost use Rattle.h2_spec.specs.State.{opening, opening_core};
+
 use h2_fields::block::BlockDecoder;
 use h2_request::book::Book;
-use h2_spec::connection::{BlockView, Config, Core, Purpose};
+use h2_spec::connection::{BlockView, Config, Core, Phase, Purpose};
+use h2_spec::flow::{Credit, Own, Settings, Window};
 use h2_streams::Streams;
 use h2_table::DynTable;
-use std::alloc::Allocator;
+use std::alloc::{AllocError, Allocator};
 use std::marker::Model;
 
 /// How far a field block is decoded, and what it is for.
@@ -65,4 +69,40 @@ impl<'b, A: Allocator> Model for State<'b, A> {
     ghost view = { λ s. record { book = s.book.now; config = s.config; core = s.core; block = s.block; table = s.table.table; streams = s.streams.streams } };
 
     ghost invariant = { λ s. IsSoundState s.book.now s.core s.streams × (s.table.limit ≡ s.core.own.table) × IsOpenFor s.streams s.block };
+}
+
+/// The counts and settings before anything came.
+fn opening_core() -> Core
+    ensures { result ≡ opening_core }
+{
+    Core {
+        phase: Phase::Preface,
+        last: 0,
+        recv: Window::start(65535),
+        owed: Credit::none(),
+        send: Window::start(65535),
+        peer: Settings::initial(),
+        own: Own::initial(),
+        acked: false,
+        goaway: None,
+    }
+}
+
+impl<'b, A: Allocator + Copy> State<'b, A> {
+    /// The state before anything came, with this book and these limits.
+    ///
+    /// `AllocError` where memory for the header table is refused.
+    pub fn new(book: &'b Book<A>, config: Config, alloc: A) -> Result<Self, AllocError>
+        ensures { IfOk result (λ state. state ≡ opening book.now config) }
+    {
+        let table = DynTable::new(alloc, 4096)?;
+        Ok(State {
+            book,
+            config,
+            core: opening_core(),
+            block: None,
+            table,
+            streams: Streams::new(alloc),
+        })
+    }
 }

@@ -1,11 +1,19 @@
 //! What is shown of a connection's state.
-//! Rests on h2_fields for the fields of the header table; definition: h2_spec's `specs/View.antt`.
+//! Rests on `state` and, for the fields of the header table, on h2_fields; definition: h2_spec's `specs/View.antt`.
 
+ghost use Rattle.std.specs.Prelude.{◌≡◌, ◌<◌, ◌^◌, IfOk, map, option_map, slice_get};
+ghost use Rattle.h2_spec.specs.Field.{field};
+ghost use Rattle.h2_table.specs.Lent.{lent_field};
+ghost use Rattle.h2_spec.specs.View.{shown_block, shown_stream, view};
+
+use crate::state::{OpenBlock, State};
 use h2_fields::field::Field;
 use h2_spec::connection::{BlockView, Phase};
 use h2_spec::flow::{Credit, Settings, Window};
-use h2_spec::streams::StreamView;
-use std::alloc::Allocator;
+use h2_spec::streams::{Stream, StreamView};
+use h2_streams::Streams;
+use h2_table::DynTable;
+use std::alloc::{AllocError, Allocator};
 use std::marker::Model;
 
 /// What is shown of a connection's state.
@@ -58,4 +66,102 @@ impl<A: Allocator> Model for View<A> {
       table_max = v.table_max;
       streams = v.streams.items;
     } };
+}
+
+/// The field of this name and this value, in memory of its own.
+fn field_of<A: Allocator + Copy>(
+    alloc: A,
+    name: &[u8],
+    value: &[u8],
+) -> Result<Field<A>, AllocError>
+    ensures { IfOk result (λ copy. copy ≡ field name.now value.now) }
+{
+    let name = Vec::from_slice(alloc, name)?;
+    let value = Vec::from_slice(alloc, value)?;
+    Ok(Field::new(name, value))
+}
+
+/// The name and the value of the entry at a place, 0 for the newest.
+fn entry_at<A: Allocator>(table: &DynTable<A>, place: usize) -> Option<(&[u8], &[u8])>
+    requires few { place < 2 ^ 63 }
+    ensures { option_map lent_field result ≡ slice_get table.now.table.entries place }
+{
+    table.get(place + 1)
+}
+
+/// The entries of a header table, the newest first.
+fn entries_of<A: Allocator + Copy>(
+    alloc: A,
+    table: &DynTable<A>,
+) -> Result<Vec<Field<A>, A>, AllocError>
+    ensures { IfOk result (λ fields. fields.items ≡ table.now.table.entries) }
+{
+    let mut fields = Vec::new(alloc);
+    while let Some((name, value)) = entry_at(table, fields.len()) {
+        fields.push(field_of(alloc, name, value)?)?;
+    }
+    Ok(fields)
+}
+
+/// What is shown of a stream.
+fn shown_stream(stream: &Stream) -> StreamView
+    ensures { result ≡ shown_stream stream.now }
+{
+    StreamView {
+        id: stream.id,
+        kind: stream.kind,
+        numbers: stream.numbers,
+    }
+}
+
+/// What is shown of the streams, in the order of their opening.
+fn streams_of<A: Allocator + Copy>(
+    alloc: A,
+    streams: &Streams<A>,
+) -> Result<Vec<StreamView, A>, AllocError>
+    ensures { IfOk result (λ views. views.items ≡ map shown_stream streams.now.streams) }
+{
+    let mut views = Vec::new(alloc);
+    while let Some(stream) = streams.at(views.len()) {
+        views.push(shown_stream(stream))?;
+    }
+    Ok(views)
+}
+
+/// What is shown of an open block.
+fn shown_block<A: Allocator>(block: &Option<OpenBlock<A>>) -> Option<BlockView>
+    ensures { result ≡ shown_block block.now }
+{
+    match block {
+        Some(block) => Some(block.shown),
+        None => None,
+    }
+}
+
+impl<'b, A: Allocator + Copy> State<'b, A> {
+    /// What is shown of the state.
+    ///
+    /// `AllocError` where memory for the entries of the header table and for the streams is refused.
+    #[tactic(auto, unfolding(h2_spec::specs::View::view))]
+    pub fn view(&self, alloc: A) -> Result<View<A>, AllocError>
+        ensures { IfOk result (λ shown. shown ≡ view self.now) }
+    {
+        let table = entries_of(alloc, &self.table)?;
+        let streams = streams_of(alloc, &self.streams)?;
+        Ok(View {
+            phase: self.core.phase,
+            last: self.core.last,
+            recv: self.core.recv,
+            owed: self.core.owed,
+            send: self.core.send,
+            peer: self.core.peer,
+            acked: self.core.acked,
+            goaway: self.core.goaway,
+            block: shown_block(&self.block),
+            table,
+            table_size: self.table.size(),
+            table_max: self.table.max(),
+            streams,
+        })
+    }
 }

@@ -1,0 +1,44 @@
+//! Why a connection is refused, numbered as the faults of all crates are.
+//! Rests on nothing; definitions: `specs/Faults.antt`.
+
+ghost use Rattle.std.specs.Prelude.{◌≡◌};
+ghost use Rattle.h2_conn.specs.Faults.{fault_number};
+ghost use Rattle.h2_conn.specs.declared.fault.ConnFault.TheVariants.{NoMemory};
+
+use std::alloc::AllocError;
+use thiserror::Error;
+
+/// Why a call of a connection is refused.
+#[derive(Clone, Copy, Debug, PartialEq, Eq, Error)]
+pub enum ConnFault {
+    /// 0: a growth was refused.
+    #[error("out of memory")]
+    NoMemory,
+    /// 16: the limit of streams is outside 1 to 1000, or the credit outside 1 to 65535.
+    #[error("a limit is out of range")]
+    BadConfig,
+    /// 17: memory was refused to an earlier call, and the octets that came then were lost.
+    #[error("memory was refused earlier")]
+    Failed,
+}
+
+impl ConnFault {
+    /// The number of the fault, the same in all crates: 0, 16 or 17.
+    pub fn number(self) -> u8
+        ensures { result ≡ fault_number self }
+    {
+        match self {
+            ConnFault::NoMemory => 0,
+            ConnFault::BadConfig => 16,
+            ConnFault::Failed => 17,
+        }
+    }
+}
+
+impl From<AllocError> for ConnFault {
+    ghost from_gives = { λ _ fault. fault ≡ NoMemory };
+
+    fn from(_refused: AllocError) -> ConnFault {
+        ConnFault::NoMemory
+    }
+}
