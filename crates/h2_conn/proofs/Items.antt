@@ -75,7 +75,7 @@ within-frame : (limit : ℕ) (h : Head) (b : List ℕ) → Within limit (frame_i
 within-frame limit h b =
     cond_both (nat_lt limit h.length) (Got (Oversize h) 9) _ (Within limit) (λ e. tt)
     (λ e. cond_both (nat_lt (length b) (9 + h.length)) NoItem (Got (WholeFrame h (slice_range b 9 (9 + h.length))) (9 + h.length)) (Within limit) (λ f. tt)
-        (λ f. omega (arith, length-take (9 + h.length - 9) (drop 9 b), ltb-false limit h.length e)))
+    (λ f. omega (arith, length-take (9 + h.length - 9) (drop 9 b), ltb-false limit h.length e)))
 
 within-next : (p : Bool) (limit : ℕ) (b : List ℕ) → Within limit (next p limit b)
 unfolding next

@@ -34,12 +34,14 @@ left-none (phase.Ended code) = refl
 pub fed-none : (c : Connection) (out : List ℕ) → c ≡ going c.state [] → Fed c [] out c out
 fed-none c out h =
     let none : trace c.state (c.rest ++ []) ≡ record { events = []; state = c.state; rest = [] }
-    = ap (λ (d : Connection). trace c.state (d.rest ++ [])) h ∙ trace-stop c.state [] (empty-stop c.state) ∙ ap (λ (b : List ℕ). record { events = []; state = c.state; rest = b }) (left-none c.state.core.phase) in
-    (0, record {
+    = ap (λ (d : Connection). trace c.state (d.rest ++ [])) h ∙ trace-stop c.state [] (empty-stop c.state) ∙ ap (λ (b : List ℕ). record { events = []; state = c.state; rest = b }) (left-none c.state.core.phase) in (
+      0,
+      record {
         items = ap (λ (r : Run). length r.events) (sym none);
         after = h ∙ ap (λ (r : Run). going r.state r.rest) (sym none);
         sent = sym (ap (λ (r : Run). out ++ sent_octets r.events) none ∙ rw sent-none (append-nil out));
-      })
+      },
+    )
 
 both : (c c' : Connection) (q q' : List ℕ) → c' ≡ going (fed c q).state (fed c q).rest
     → fed c (q ++ q') ≡ record { events = (fed c q).events ++ (fed c' q').events; state = (fed c' q').state; rest = (fed c' q').rest }
@@ -48,12 +50,14 @@ both c c' q q' h = rw h (ap (trace c.state) (sym (append_assoc c.rest q q')) ∙
 
 pub fed-more : (c c' c'' : Connection) (q q' out out' out'' : List ℕ) → Fed c q out c' out' → Fed c' q' out' c'' out'' → Fed c (q ++ q') out c'' out''
 fed-more c c' c'' q q' out out' out'' x y =
-    let sum = both c c' q q' x.1.after in
-    (x.0 + y.0, record {
+    let sum = both c c' q q' x.1.after in (
+      x.0 + y.0,
+      record {
         items = rw sum (omega (arith, x.1.items, y.1.items, length-append (fed c q).events (fed c' q').events));
         after = y.1.after ∙ ap (λ (r : Run). going r.state r.rest) (sym sum);
         sent = y.1.sent ∙ rw (sum, sent-append (fed c q).events (fed c' q').events, x.1.sent) (append_assoc out (sent_octets (fed c q).events) (sent_octets (fed c' q').events));
-      })
+      },
+    )
 
 -- ---- what is kept at the front
 
