@@ -15,6 +15,8 @@ mod report;
 mod table;
 #[cfg(test)]
 mod tests;
+#[cfg(test)]
+mod tests_script;
 mod words;
 
 pub use answer::parse_answer;

@@ -8,7 +8,7 @@ use std::io::{ErrorKind, Read, Write};
 use std::test::Fail;
 
 /// What a run of the program printed, and its status.
-fn ran(alloc: Global, texts: &[&str], input: &[u8]) -> Result<(u8, Vec<u8>), Fail> {
+pub(crate) fn ran(alloc: Global, texts: &[&str], input: &[u8]) -> Result<(u8, Vec<u8>), Fail> {
     let mut words = Words::new(alloc);
     words.add("h2_bench")?;
     for text in texts {
