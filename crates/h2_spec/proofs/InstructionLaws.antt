@@ -2,7 +2,7 @@
 use Rattle.std.proofs.Common.{◌≡◌, ℕ, zero, suc, ◌+◌, ◌-◌, ◌<◌, ◌≤◌, Bool, true, false, cond, List, [], ◌∷◌, ◌++◌, length, take, drop, refl, ap, sym, ◌∙◌, subst, arith, leb, leb-true, le-leb, length-append, length-drop}
 use Rattle.std.proofs.lemmas.List.{append-nil, take-append-le, drop-append-le, drop-take, length-take-le, take_all}
 use Rattle.std.proofs.Math.Seq.{take-add}
-use Rattle.h2_spec.specs.Integer.{IsInt, IsReadOf, int_at}
+use Rattle.h2_spec.specs.Integer.{IsReadOf, int_at}
 use Rattle.h2_spec.specs.Read.{Read, Whole, More, TooLong, read_map}
 use Rattle.h2_spec.specs.Instruction.{Str, Shape, Mode, Add, Without, Never, NameRef, Ref, Literal, Indexed, Update, Named, mode_prefix, read_past, read_then, octets_at, string_at, name_by, value_at, literal_at, instr_by, instr_at}
 use Rattle.h2_spec.proofs.IntegerLaws as integers
@@ -128,7 +128,7 @@ module _ {A B : Type 0} (f : A → List ℕ → Read B) (readers : (a : A) → I
       let behind : f w.one (drop w.used (take n b)) ≡ Whole x w.more = ap (f w.one) rest ∙ (readers w.one).exact (drop w.used b) x w.more w.behind in
       ap (λ y. read_then (take n b) y f) first ∙ ap (read_past w.used) behind ∙ ap (Whole x) (sym w.count)
 
-  then-reader : (p : List ℕ → Read A) → IsReader p → IsReader (λ b. read_then b (p b) f)
+  pub then-reader : (p : List ℕ → Read A) → IsReader p → IsReader (λ b. read_then b (p b) f)
   then-reader p r = record {
     stays = λ b c. then-stays b c (p b) (p (b ++ c)) (r.within b) (r.stays b c);
     within = λ b. then-within b (p b) (r.within b);
@@ -167,7 +167,7 @@ number-reader n = record {
   exact = λ b v used e. number-exact n b v used (subst (IsReadOf n b) e (integers.int_read n b));
 }
 
-octets-reader : (huffman : Bool) (n : ℕ) → IsReader (octets_at huffman n)
+pub octets-reader : (huffman : Bool) (n : ℕ) → IsReader (octets_at huffman n)
 octets-reader huffman n = record {
   stays = λ b c. stays b c (leb n (length b)) refl;
   within = λ b. within b (leb n (length b)) refl;
@@ -227,11 +227,11 @@ string-exact (o ∷ b) s (suc used) e = (flagged-reader (leb 128 o)).exact (o �
 pub string-reader : IsReader string_at
 string-reader = record { stays = string-stays; within = string-within; exact = string-exact }
 
-name-reader : (i : ℕ) → IsReader (name_by i)
+pub name-reader : (i : ℕ) → IsReader (name_by i)
 name-reader zero = map-reader Named string_at string-reader
 name-reader (suc i) = whole-reader (Ref (suc i))
 
-value-reader : (mode : Mode) (name : NameRef Str) → IsReader (value_at mode name)
+pub value-reader : (mode : Mode) (name : NameRef Str) → IsReader (value_at mode name)
 value-reader mode name = map-reader (Literal mode name) string_at string-reader
 
 literal-reader : (mode : Mode) → IsReader (literal_at mode)

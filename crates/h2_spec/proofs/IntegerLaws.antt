@@ -13,7 +13,7 @@ GroupsRead room cs (Whole v used) = (used ≤ length cs) × (used ≤ room) × I
 GroupsRead room cs More = AllByRecursion (λ c. 128 ≤ c) cs × (length cs < room)
 GroupsRead room cs TooLong = (room ≤ length cs) × AllByRecursion (λ c. 128 ≤ c) (take room cs)
 
-continues : (c : ℕ) (cs : List ℕ) → 128 ≤ c → IsContinuation cs → IsContinuation (c ∷ cs)
+pub continues : (c : ℕ) (cs : List ℕ) → 128 ≤ c → IsContinuation cs → IsContinuation (c ∷ cs)
 continues c [] h k = absurd k
 continues c (d ∷ cs) h k = (h, k)
 

@@ -1,4 +1,5 @@
 pub mod BadLines
+mod BeginningLaws
 pub mod BitLaws
 pub mod BlockLaws
 mod BlockRows

@@ -106,6 +106,12 @@ unfolding int_at string_at
 instr_at [] = More
 instr_at (o ∷ xs) = instr_by o (o ∷ xs)
 
+-- with some octets more, these are one whole instruction
+pub record CanEnd (b : List ℕ) : Type 0 where
+  pub more : List ℕ
+  pub shape : Shape
+  pub whole : instr_at (b ++ more) ≡ Whole shape (length (b ++ more))
+
 -- ---- texts
 
 -- the octets that a string stands for

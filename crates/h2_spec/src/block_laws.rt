@@ -4,8 +4,8 @@
 
 ghost use Rattle.std.specs.Prelude.{◌≡◌, ◌<◌, ◌≤◌, ℕ, List, ◌++◌, length, take, Some};
 ghost use Rattle.std.specs.List.{concat};
-ghost use Rattle.h2_spec.specs.Read.{Whole, TooLong};
-ghost use Rattle.h2_spec.specs.Instruction.{Instruction, HasTexts, IsSpellable, IsSpelling, Shape, Splits, instr_at, instruction_at, shape_of, spell, split};
+ghost use Rattle.h2_spec.specs.Read.{Whole, More, TooLong};
+ghost use Rattle.h2_spec.specs.Instruction.{CanEnd, Instruction, HasTexts, IsSpellable, IsSpelling, Shape, Splits, instr_at, instruction_at, shape_of, spell, split};
 ghost use Rattle.h2_spec.specs.Block.{Progress, decoded, carried_on, carried_through};
 
 /// An instruction at the front of octets takes some of them, and is there whatever follows: no spelling begins another.
@@ -36,6 +36,14 @@ pub fn instructions_are_read()
 pub fn instructions_are_written()
     ensures whole { (shape : Shape) → IsSpellable shape → instr_at (spell shape) ≡ Whole shape (length (spell shape)) }
     ensures spelling { (instruction : Instruction) → IsSpellable (shape_of instruction) → HasTexts instruction → IsSpelling instruction (spell (shape_of instruction)) }
+{}
+
+/// Octets that are the beginning of an instruction become one with some octets more, and these alone do; one with an integer
+/// that is too long never does (RFC 7541, 5.1 and 6).
+pub fn beginnings_can_be_ended()
+    ensures ended { (octets : List ℕ) → instr_at octets ≡ More → CanEnd octets }
+    ensures begun { (octets more : List ℕ) (shape : Shape) → 0 < length more → instr_at (octets ++ more) ≡ Whole shape (length (octets ++ more)) → instr_at octets ≡ More }
+    ensures too_long { (octets more : List ℕ) → instr_at octets ≡ TooLong → instr_at (octets ++ more) ≡ TooLong }
 {}
 
 /// However a field block is cut into fragments, it means the same: its fields, the table after it, and how it ends
