@@ -1,16 +1,18 @@
 //! Fragments of field blocks, from HEADERS and CONTINUATION (RFC 9113, 4.3, 6.2 and 6.10).
 //! Rests on `block_end` and on h2_fields; definition: `fragment` of h2_spec's `specs/Headers.antt`.
 
-ghost use Rattle.std.specs.Prelude.{◌≡◌, ◌≢◌, ◌++◌, None, Option, IfOk, IfSome, OnOk};
+ghost use Rattle.std.specs.Prelude.{◌≡◌, ◌≢◌, ℕ, List, ◌++◌, None, Option, IfOk, IfSome, OnOk};
+ghost use Rattle.h2_spec.specs.Answer.{Entry};
 ghost use Rattle.h2_spec.specs.Block as block;
 ghost use Rattle.h2_spec.specs.FrameType as frames;
 ghost use Rattle.h2_spec.specs.Headers as rule;
 ghost use Rattle.h2_spec.specs.State as state;
+ghost use Rattle.h2_spec.specs.Stream.{Records, kind_of};
 ghost use Rattle.h2_spec.specs.Table.{headers_cell};
 ghost use Rattle.h2_fields.specs.Blocks.{unfinished};
 ghost use Rattle.h2_fields.specs.declared.fault.BlockFault.TheVariants.{NoMemory};
 ghost use Rattle.h2_conn.specs.Blocks.{IsFaulty, IsGoing, IsOpenAt, IsSoundEffect, after_fragment, before_fragment, cell_of, effect_seen, state_of};
-ghost use Rattle.h2_conn.specs.Sound.{IsSoundState};
+ghost use Rattle.h2_conn.specs.Sound.{AreSound, IsSoundState};
 
 use crate::block_end::block_ends;
 use crate::change::stay;
@@ -177,8 +179,10 @@ pub fn fragment<A: Allocator + Copy>(
 }
 
 /// What HEADERS begins on a stream, by the stream's state: a block for this purpose, or a connection error (RFC 9113, 5.1 and 6.2).
+/// An idle stream that a client may open is above the last one that was opened.
 pub fn headers_purpose(id: u32, kind: Kind) -> Result<Purpose, ErrorCode>
-    ensures { cell_of result ≡ headers_cell id kind }
+    ensures rule { cell_of result ≡ headers_cell id kind }
+    ensures known { (book : List Entry) (window : ℕ) (r : Records) → AreSound book window r.streams → kind ≡ kind_of r.last r.streams id → IfOk result (λ purpose. IsOpenAt r id purpose) }
 {
     match kind {
         Kind::Idle if id % 2 == 1 => Ok(Purpose::Request),

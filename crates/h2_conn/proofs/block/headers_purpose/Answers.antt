@@ -1,0 +1,8 @@
+use Rattle.std.proofs.Common.{sym, ◌∙◌}
+use Rattle.h2_conn.proofs.SoundLaws.{idle-above}
+use Rattle.h2_conn.proofs.block.headers_purpose.Goals as goal
+
+pub returns-in-Idle-clause-known : goal.returns-in-Idle-clause-known
+returns-in-Idle-clause-known c = λ book window r all is.
+    let odd = c.if-id-eq1.true in
+    (idle-above book window r.last c.args.id r.streams all (sym is ∙ c.in-Idle.is) odd, odd)
