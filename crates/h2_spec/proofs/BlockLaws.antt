@@ -1,5 +1,5 @@
 -- Blocks instruction by instruction, and blocks in pieces.
-use Rattle.std.proofs.Common.{◌≡◌, ℕ, zero, suc, ◌+◌, ◌<◌, ◌≤◌, Bool, true, false, ◌||◌, cond, List, [], ◌∷◌, ◌++◌, length, drop, Option, Some, None, Result, Ok, Err, refl, sym, ap, ◌∙◌, arith, append_assoc, length-drop, le-leb, take, subst}
+use Rattle.std.proofs.Common.{◌≡◌, ℕ, zero, suc, ◌+◌, ◌<◌, ◌≤◌, Bool, true, false, cond, List, [], ◌∷◌, ◌++◌, length, drop, Option, Some, None, Result, Ok, Err, refl, sym, ap, ◌∙◌, arith, append_assoc, length-drop, le-leb, take}
 use Rattle.std.proofs.lemmas.Bool.{lt-leb}
 use Rattle.std.proofs.lemmas.List.{append-nil, drop-append-le, drop-drop, drop_all, length-take-le}
 use Rattle.std.proofs.Math.Seq.{take-add}
@@ -8,9 +8,9 @@ use Rattle.std.specs.Prelude.{option_to_list, nat_le, not, ◌&&◌}
 use Rattle.h2_spec.specs.DynamicTable.{Table, field_at, resize}
 use Rattle.h2_spec.specs.Field.{Field, field}
 use Rattle.h2_spec.specs.Instruction.{Shape, Indexed, Update, Literal, Mode, NameRef, Str, instr_at, text_of}
-use Rattle.h2_spec.specs.Parse.{Front, Stop, One, Parsed, after_one, parse_first, parse_upto, parse_all}
+use Rattle.h2_spec.specs.Parse.{Front, Stop, One, Parsed, after_one, parse_first, parse_all}
 use Rattle.h2_spec.specs.Read.{Read, Whole, More, TooLong}
-use Rattle.h2_spec.specs.Block.{Fault, Index, Integer, Huffman, SizeUpdate, Decoding, Given, given, literal_result, indexed_result, where_not_due, table_after, name_of, text_result, apply, taken_unless, instr_taken, next_instr, Outcome, Unfinished, Faulty, refused_by, outcome_of, fields_given, Progress, Decoded, has_fields, decoding, decoded, carried_on, carried_through, progress_after, progress_by, applied, StandsWithin}
+use Rattle.h2_spec.specs.Block.{Fault, Index, Integer, SizeUpdate, Decoding, Given, literal_result, indexed_result, where_not_due, table_after, name_of, text_result, apply, taken_unless, instr_taken, next_instr, Outcome, Unfinished, Faulty, refused_by, outcome_of, fields_given, Progress, Decoded, has_fields, decoding, decoded, carried_on, carried_through, progress_after, progress_by, applied, StandsWithin}
 use Rattle.h2_spec.proofs.InstructionLaws.{Stays, Within, Takes, instr-stays, instr-within, instr-takes, whole-takes, whole-exact}
 use Rattle.h2_spec.proofs.ParseLaws as laws
 

@@ -1,5 +1,5 @@
 -- Payloads are made of their parts.
-use Rattle.std.proofs.Common.{◌≡◌, ℕ, ◌+◌, ◌-◌, ◌≤◌, Bool, List, ◌++◌, length, take, drop, Result, IfOk, sym, ap, ◌∙◌, arith, length-drop, ltb, ltb-false}
+use Rattle.std.proofs.Common.{◌≡◌, ℕ, ◌+◌, ◌-◌, ◌≤◌, List, ◌++◌, length, take, drop, Result, IfOk, sym, ap, ◌∙◌, arith, length-drop, ltb, ltb-false}
 use Rattle.std.proofs.lemmas.Bool.{cond_both}
 use Rattle.std.proofs.lemmas.List.{take-append-drop, drop-drop}
 use Rattle.h2_spec.specs.FrameType.{PADDED, has}

@@ -1,6 +1,5 @@
 -- Strings, instructions, settings, payloads, types and streams are read as what they say, and say what they are read as.
-use Rattle.std.proofs.Common.{◌≡◌, ◌∙◌, ◌⊎◌, ◌+◌, ◌-◌, ◌*◌, ◌<◌, ◌≤◌, ◌^◌, ◌++◌, ◌==◌, ◌&&◌, ◌||◌, not, ℕ, Bool, true, false, zero, suc, List, [], ◌∷◌, Option, Some, None, Ok, codes, drop, take, length, refl, sym, ap, arith, inl, inr, cond, nat_lt, nat_le, get_or, option_map, option_and_then, subst, eqb-true, leb-true, ltb-true, lt-ltb, slice_index, slice_get, true≢false, append_assoc, append-nil, bytes_eq, lit≤}
-use Rattle.std.specs.Char.{digit_value}
+use Rattle.std.proofs.Common.{◌≡◌, ◌∙◌, ◌+◌, ◌-◌, ◌*◌, ◌<◌, ◌≤◌, ◌++◌, ◌==◌, ◌&&◌, ℕ, Bool, true, false, zero, suc, List, [], ◌∷◌, Option, Some, None, codes, take, length, refl, sym, ap, arith, inl, inr, cond, nat_lt, option_map, option_and_then, subst, eqb-true, ltb-true, lt-ltb, slice_index, slice_get, true≢false, append_assoc, append-nil, bytes_eq, lit≤}
 use Rattle.std.proofs.Math.Seq.{take-append_seam}
 use Rattle.std.proofs.lemmas.List.{length-append}
 use Rattle.std.proofs.lemmas.Slice.Eq.{bytes_eq-Decides}

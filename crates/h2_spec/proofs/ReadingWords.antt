@@ -1,21 +1,19 @@
 -- The words of a script are read as what they say, and say what they are read as.
-use Rattle.std.proofs.Common.{◌≡◌, ◌∙◌, ◌⊎◌, ◌+◌, ◌-◌, ◌*◌, ◌<◌, ◌≤◌, ◌^◌, ◌++◌, ◌==◌, ◌&&◌, ◌||◌, not, ℕ, Bool, true, false, zero, suc, List, [], ◌∷◌, Option, Some, None, Result, Ok, Err, codes, drop, take, length, refl, sym, ap, arith, inl, inr, cond, nat_lt, nat_le, get_or, option_map, option_and_then, position, subst, eqb-true, leb-true, ltb-true, ltb-false, lt-ltb, le-leb, slice_index, true≢false, IsTrue}
-use Rattle.std.specs.List.{All, position_or_len}
+use Rattle.std.proofs.Common.{◌≡◌, ◌∙◌, ◌⊎◌, ◌+◌, ◌-◌, ◌*◌, ◌<◌, ◌≤◌, ◌++◌, ◌==◌, ◌&&◌, ℕ, Bool, true, false, zero, suc, List, [], ◌∷◌, Option, Some, None, Result, Ok, Err, drop, take, length, refl, sym, ap, arith, inl, inr, cond, nat_lt, nat_le, get_or, option_map, option_and_then, position, subst, eqb-true, leb-true, ltb-true, ltb-false, lt-ltb, le-leb, slice_index, true≢false}
+use Rattle.std.specs.List.{position_or_len}
 use Rattle.std.specs.Char.{digit_value}
-use Rattle.std.specs.Str.Parse.{AllDigits, digits_value, digits_value_after}
+use Rattle.std.specs.Str.Parse.{AllDigits, digits_value_after}
 use Rattle.std.proofs.Math.Seq.{drop-append_seam, take-append_seam}
 use Rattle.std.proofs.lemmas.List.{length-append, take-append-drop}
-use Rattle.std.proofs.lemmas.List.Elements.{All-append}
-use Rattle.std.proofs.lemmas.List.Sums.{position_or_len_is, passes_at_first, prefix_len-le-length}
+use Rattle.std.proofs.lemmas.List.Sums.{position_or_len_is, passes_at_first}
 use Rattle.std.proofs.lemmas.Str.{digit_value_digit}
 use Rattle.std.proofs.lemmas.Str.Parse.{digit_from_value}
-use Rattle.hex.specs.Hex.{decode_of, decode_sized, is_hex_digit}
+use Rattle.hex.specs.Hex.{decode_of, decode_sized}
 use Rattle.hex.specs.declared.FromHexError.{FromHexError}
 use Rattle.hex.proofs.HexLemmas.{decode_of-ok, decode_sized-ok, decode_sized-twice}
-use Rattle.h2_spec.specs.Assemble.{before, behind, decoded, number_at, octet_at, octets_at, onwards, scanned, string_at, string_of, unescaped, up_to, with_octet}
-use Rattle.h2_spec.specs.Instruction.{TextStr}
-use Rattle.h2_spec.specs.Script.{cut_at, is_plain, quote_of, SaysCharacter, SaysNumber, SaysOctet, SaysOctets, SaysSomeOctets, SaysString, SaysText}
-use Rattle.h2_spec.proofs.ScriptTexts.{IsOutside, Lacks, text_lacks}
+use Rattle.h2_spec.specs.Assemble.{before, decoded, number_at, octet_at, octets_at, onwards, scanned, up_to}
+use Rattle.h2_spec.specs.Script.{cut_at, SaysNumber, SaysOctet, SaysSomeOctets}
+use Rattle.h2_spec.proofs.ScriptTexts.{Lacks}
 
 -- ---- a value, or none
 

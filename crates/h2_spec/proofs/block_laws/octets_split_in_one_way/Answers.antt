@@ -1,4 +1,4 @@
-use Rattle.std.proofs.Common.{ap, List, ℕ}
+use Rattle.std.proofs.Common.{ap}
 use Rattle.h2_spec.specs.Parse.{Parsed}
 use Rattle.h2_spec.specs.Instruction.{Shape}
 use Rattle.h2_spec.proofs.SplitLaws.{split-splits, splits-one, split-append}

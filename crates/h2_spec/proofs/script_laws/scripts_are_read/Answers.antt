@@ -1,4 +1,4 @@
-use Rattle.std.proofs.Common.{◌≡◌, ◌∙◌, sym, Ok}
+use Rattle.std.proofs.Common.{◌∙◌, sym}
 use Rattle.h2_spec.proofs.script_laws.scripts_are_read.Goals as goal
 use Rattle.h2_spec.proofs.BadLines.{bad_read}
 use Rattle.h2_spec.proofs.ReadingLines.{one_answer, script_read}
