@@ -1,4 +1,4 @@
-use Rattle.std.proofs.Common.{◌≡◌, ◌∙◌, ◌∷◌, [], ◌++◌, List, ℕ, sym, ap}
+use Rattle.std.proofs.Common.{◌≡◌, ◌∙◌, ◌∷◌, [], ◌++◌, List, sym, ap}
 use Rattle.h2_spec.specs.Field.{Field, field}
 use Rattle.h2_bench.specs.AnswerParts.{parts_behind}
 use Rattle.h2_bench.proofs.AnswerTexts.{fields_after, fields-next}
