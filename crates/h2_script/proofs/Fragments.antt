@@ -1,11 +1,11 @@
 -- Field blocks as text: what is read of octets can be written, and one instruction after another makes the whole.
-use Rattle.std.proofs.Common.{◌≡◌, ◌∙◌, ◌+◌, ◌-◌, ◌*◌, ◌<◌, ◌≤◌, ◌^◌, ◌++◌, ◌&&◌, ℕ, Bool, true, false, cond, zero, suc, List, [], ◌∷◌, Option, Some, None, length, take, drop, refl, sym, ap, subst, arith, nat_lt, ltb-true, true≢false, bytes_eq, flat_map, option_map, append_assoc, append-nil, length-append}
+use Rattle.std.proofs.Common.{◌≡◌, ◌∙◌, ◌-◌, ◌<◌, ◌≤◌, ◌^◌, ◌++◌, ◌&&◌, ℕ, Bool, true, false, cond, zero, suc, List, [], ◌∷◌, Option, Some, None, length, take, drop, refl, sym, ap, subst, arith, nat_lt, ltb-true, true≢false, bytes_eq, flat_map, option_map, append_assoc, append-nil, length-append}
 use Rattle.std.proofs.lemmas.Grind.{flat_map-append}
 use Rattle.std.proofs.lemmas.List.{length-drop, length-take}
 use Rattle.h2_fields.specs.Instructions.{IsWritable, IsWritableName, IsWritableText}
 use Rattle.h2_spec.specs.Huffman.{HuffRead, Text, Eos, Padding, IsDecodingOf, codes, huffman_text, ones}
 use Rattle.h2_spec.specs.Instruction.{Shape, Instruction, Indexed, Update, Literal, Mode, NameRef, Ref, Named, Str, TextStr, instr_at, instruction_at, instruction_of, literal_text, name_text, named_text, text_of, text_str, with_text}
-use Rattle.h2_spec.specs.Read.{Read, Whole, More, TooLong}
+use Rattle.h2_spec.specs.Read.{Whole}
 use Rattle.h2_spec.specs.Script.{Instructions, Octets, instruction_octets}
 use Rattle.h2_spec.specs.Written.{block_said, each_text, first_said, instruction_text, instructions_in, is_writable, or_octets}
 use Rattle.h2_spec.proofs.HuffmanLaws.{text_read}

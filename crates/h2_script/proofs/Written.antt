@@ -1,13 +1,13 @@
 -- What is written, one after another.
-use Rattle.std.proofs.Common.{◌≡◌, ◌∙◌, ◌+◌, ◌-◌, ◌%◌, ◌<◌, ◌≤◌, ◌++◌, ◌&&◌, ℕ, Bool, true, false, suc, List, [], ◌∷◌, Option, Some, None, length, drop, take, refl, sym, ap, arith, cond, nat_lt, nat_eq, ltb-true, ltb-false, flat_map, append_assoc, slice_index, le-ltb, subst}
+use Rattle.std.proofs.Common.{◌≡◌, ◌∙◌, ◌+◌, ◌%◌, ◌<◌, ◌≤◌, ◌++◌, ◌&&◌, ℕ, Bool, true, false, suc, List, [], ◌∷◌, Some, None, length, drop, take, refl, sym, ap, arith, cond, nat_lt, nat_eq, ltb-false, flat_map, append_assoc, le-ltb, subst}
 use Rattle.std.specs.List.{starts_with}
 use Rattle.std.proofs.lemmas.List.{length-drop}
 use Rattle.h2_spec.specs.Frame.{head_at, head_of, preface}
 use Rattle.h2_spec.specs.Octets.{four_octets, two_octets}
-use Rattle.h2_spec.specs.Parse.{Front, Stop, One, parse_first, parse_upto}
+use Rattle.h2_spec.specs.Parse.{Stop, One, parse_upto}
 use Rattle.h2_spec.specs.Payload.{setting_pairs}
 use Rattle.h2_spec.specs.Script.{Statement}
-use Rattle.h2_spec.specs.Written.{each_text, frame_front, frame_said, line_text, next_said, rest_text, setting_text}
+use Rattle.h2_spec.specs.Written.{each_text, frame_said, line_text, next_said, rest_text, setting_text}
 use Rattle.h2_spec.specs.declared.frames.Head.{Head}
 use Rattle.h2_script.specs.Texts.{said_text}
 

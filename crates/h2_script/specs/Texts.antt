@@ -1,5 +1,5 @@
 -- Lines and instructions that are written one after another.
-use Rattle.std.specs.Prelude.{◌≡◌, ◌<◌, ◌^◌, ◌++◌, ◌∷◌, [], ◌&&◌, ℕ, Bool, true, false, List, nat_lt, flat_map, Option, Some, None}
+use Rattle.std.specs.Prelude.{◌≡◌, ◌^◌, ◌++◌, ◌∷◌, [], ◌&&◌, ℕ, Bool, true, false, List, nat_lt, flat_map, Option, Some, None}
 use Rattle.std.specs.declared.string.String.{String}
 use Rattle.std.specs.String.{string_bytes}
 use Rattle.h2_fields.specs.Instructions.{instr_of}

@@ -1,4 +1,4 @@
-use Rattle.std.proofs.Common.{◌≡◌, ◌∙◌, ◌+◌, ◌-◌, ◌++◌, List, ℕ, suc, ap, sym, arith, length, drop, string_bytes, append_assoc, true, false}
+use Rattle.std.proofs.Common.{◌≡◌, ◌∙◌, ◌+◌, ◌-◌, ◌++◌, List, ℕ, suc, ap, sym, arith, length, string_bytes, append_assoc, false}
 use Rattle.h2_spec.specs.Written.{line_text}
 use Rattle.h2_script.specs.Texts.{said_text}
 use Rattle.h2_script.proofs.Written.{said_one}

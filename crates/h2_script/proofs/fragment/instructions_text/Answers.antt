@@ -1,7 +1,5 @@
-use Rattle.std.proofs.Common.{◌≡◌, ◌∙◌, ◌<◌, ◌-◌, ◌^◌, List, ℕ, Some, arith, ap, sym, length, drop, subst, string_bytes}
+use Rattle.std.proofs.Common.{◌≡◌, ◌∙◌, ◌<◌, List, ℕ, arith, ap, sym, length, drop, string_bytes}
 use Rattle.h2_fields.specs.Instructions.{instr_of}
-use Rattle.h2_spec.specs.Instruction.{instruction_at}
-use Rattle.h2_spec.specs.Read.{Whole}
 use Rattle.std.proofs.lemmas.List.{length-drop}
 use Rattle.h2_script.proofs.Fragments.{reaches_first, reaches_next, reaches_none, reaches_other, reaches_same, read_takes, read_writable}
 use Rattle.h2_script.proofs.fragment.instructions_text.Goals as goal

@@ -1,4 +1,4 @@
-use Rattle.std.proofs.Common.{◌≡◌, ◌∙◌, ◌≤◌, ◌<◌, ◌-◌, ◌%◌, ◌++◌, ◌∷◌, [], List, ℕ, length, drop, ap, sym, arith, string_bytes, length-drop, subst}
+use Rattle.std.proofs.Common.{◌≡◌, ◌∙◌, ◌-◌, ◌++◌, ◌∷◌, List, ℕ, length, drop, ap, sym, arith, string_bytes, length-drop}
 use Rattle.h2_spec.specs.Octets.{four_octets, two_octets}
 use Rattle.h2_spec.specs.Payload.{setting_pairs}
 use Rattle.h2_spec.specs.Written.{each_text, setting_text}
