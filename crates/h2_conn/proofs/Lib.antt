@@ -1,7 +1,9 @@
 mod AboveLaws
 mod BlockLaws
+mod FinishLaws
 mod FragmentLaws
 mod Items
+mod InsideLaws
 mod KindLaws
 mod MakeLaws
 mod PartLaws

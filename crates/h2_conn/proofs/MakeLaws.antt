@@ -52,7 +52,7 @@ open-after core r b h = at core.phase
     at (phase.Ended code) = h
 
 -- a change, and then what waits is sent, by the parts of the state
-made-then : (s : State) (p : List ℕ) (c : Change) → then_sent c.core.phase (made s p c) ≡
+pub made-then : (s : State) (p : List ℕ) (c : Change) → then_sent c.core.phase (made s p c) ≡
     record { state = record s { core = core_after c.core (touched c.touch s.streams); streams = streams_after c.core (touched c.touch s.streams) }; sent = all_frames s.book p c s.streams }
 unfolding pump
 made-then s p c = at c.core.phase

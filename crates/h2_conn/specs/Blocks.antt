@@ -1,5 +1,6 @@
 -- Field blocks that are not at their end.
 use Rattle.std.specs.Prelude.{◌≡◌, ℕ, ◌<◌, ◌%◌, true, false, List, Option, Some, None, Result, Ok, Err}
+use Rattle.h2_spec.specs.declared.connection.BlockView.{BlockView}
 use Rattle.h2_spec.specs.declared.connection.Config.{Config}
 use Rattle.h2_spec.specs.declared.connection.Core.{Core}
 use Rattle.h2_spec.specs.declared.connection.Purpose.{Purpose}
@@ -82,3 +83,12 @@ abbrev pub IsSoundEffect : {A : Type 0} → List Entry → Records → ℕ → �
 IsSoundEffect book r window limit (Breaks code) = Unit {0}
 IsSoundEffect book r window limit (Makes block table change) =
     IsSoundChange book r window change × (table.limit ≡ limit) × IsOpenFor (touched_records change.touch r) block
+
+-- what is shown of the open block, and how far it is decoded, if it is decoded further
+abbrev pub decoding_in : BlockView → Option Decoding → Option (BlockView × Decoding)
+decoding_in shown None = None
+decoding_in shown (Some d) = Some (shown, d)
+
+abbrev pub decoding_of : Option OpenBlock → Option (BlockView × Decoding)
+decoding_of None = None
+decoding_of (Some b) = decoding_in b.shown b.decoding

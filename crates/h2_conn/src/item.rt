@@ -1,30 +1,37 @@
 //! What one item does: the checks, the rule of its frame's type, and then what waits is sent (RFC 9113, 5 and 6).
 //! Rests on the rules and on `make`; definitions: `effect` of h2_spec's `specs/Effect.antt`, `step` of `specs/Trace.antt`.
 
-ghost use Rattle.std.specs.Prelude.{◌≡◌, ◌<◌, ◌^◌, ◌==◌, length, Ok, OnOk, OnErr, if◌then◌else◌};
+ghost use Rattle.std.specs.Prelude.{◌≡◌, ◌<◌, ◌^◌, ◌==◌, [], length, None, Ok, OnOk, OnErr, if◌then◌else◌};
+ghost use Rattle.h2_frame.specs.Items.{item_of};
 ghost use Rattle.h2_frame.specs.Parts.{data_seen, part_seen, settings_in};
 ghost use Rattle.h2_spec.specs.Answer.{picked};
+ghost use Rattle.h2_spec.specs.Change as changes;
+ghost use Rattle.h2_spec.specs.Checks as checks;
 ghost use Rattle.h2_spec.specs.Effect as rule;
+ghost use Rattle.h2_spec.specs.Frame.{WholeFrame};
 ghost use Rattle.h2_spec.specs.Headers.{makes};
 ghost use Rattle.h2_spec.specs.Payload.{OfData, part_of};
 ghost use Rattle.h2_spec.specs.SettingsFrame as settings;
 ghost use Rattle.h2_spec.specs.Stream.{stream_at};
 ghost use Rattle.h2_spec.specs.WindowUpdate as window;
+ghost use Rattle.h2_spec.specs.Trace.{step};
+ghost use Rattle.h2_spec.specs.declared.connection.Phase.TheVariants as phase;
 ghost use Rattle.h2_conn.specs.Blocks.{IsStopped};
-ghost use Rattle.h2_conn.specs.Does.{Does, stepped};
+ghost use Rattle.h2_conn.specs.Does.{Does, IsShort, stepped, stopped};
 ghost use Rattle.h2_conn.specs.Parted.{IsPlain};
 ghost use Rattle.h2_conn.specs.Sending.{records};
 ghost use Rattle.h2_conn.specs.Sound.{HasBody, IsSound, IsSoundState, IsSoundStream};
 
-use crate::checks::has;
+use crate::change::stay;
+use crate::checks::{has, refusal};
 use crate::control::{nothing, on_goaway, on_ping};
 use crate::data::on_data;
 use crate::reset::on_reset;
 use crate::settings::{acknowledged, settings_rule};
 use crate::state::State;
 use crate::window_update::{connection_window, on_window};
-use h2_frame::{DataPart, Part, SettingsPart};
-use h2_spec::connection::Core;
+use h2_frame::{DataPart, FrameRef, Item, Part, PayloadFault, SettingsPart, part_of};
+use h2_spec::connection::{Core, Phase};
 use h2_spec::errors::ErrorCode;
 use h2_spec::frames::Head;
 use h2_spec::reactions::{Came, Reaction};
@@ -47,9 +54,9 @@ fn came(head: &Head, payload: &[u8], part: DataPart<'_>) -> Came
     }
 }
 
-impl<'b, A: Allocator> State<'b, A> {
+impl<'b, A: Allocator + Copy> State<'b, A> {
     /// The counts.
-    fn core(&self) -> Core
+    pub fn core(&self) -> Core
         ensures counts { result ≡ self.now.core }
         ensures sound { IsSoundState self.now.book result (records self.now) }
     {
@@ -57,7 +64,7 @@ impl<'b, A: Allocator> State<'b, A> {
     }
 
     /// A stream's record, or what stands for it where it has none.
-    fn stream_at(&self, id: u32) -> Stream
+    pub fn stream_at(&self, id: u32) -> Stream
         ensures value { result ≡ stream_at self.now.core.last self.now.streams id }
         ensures id { result.id ≡ id }
         ensures sound { IsSoundStream self.now.core.peer.window result }
@@ -161,6 +168,98 @@ impl<'b, A: Allocator> State<'b, A> {
         match reaction {
             Reaction::ConnectionError(code) => self.fail(code, out),
             Reaction::Continues(change) => self.make(change, payload, out),
+        }
+    }
+
+    /// The stream of the open block.
+    fn block_stream(&self) -> Option<u32>
+        ensures { result ≡ rule.block_stream self.now.block }
+    {
+        match &self.block {
+            None => None,
+            Some(block) => Some(block.stream()),
+        }
+    }
+
+    /// A frame that has passed the checks, by what it holds.
+    fn on_part(
+        &mut self,
+        head: &Head,
+        payload: &[u8],
+        part: Part<'_>,
+        out: &mut Vec<u8, A>,
+    ) -> Result<(), AllocError>
+        requires fits { length payload.now < 2 ^ 24 }
+        requires part { part_of head.now payload.now ≡ Ok (part_seen part) }
+        requires passed { checks.refusal (rule.block_stream self.old.block) self.old.core.phase head.now ≡ None }
+        ensures ok { OnOk result (Does (stepped (rule.concluded self.old payload.now (rule.frame_effect self.old head.now payload.now (part_seen part.entry)))) out.old.items self.new out.new.items) }
+        ensures err { OnErr result ((stopped self.new ≡ stopped self.old) × (out.new.items ≡ out.old.items)) }
+    {
+        match part {
+            Part::Headers(part) => self.on_headers(head, payload, part, out),
+            Part::Continuation(octets) => self.on_continuation(head, octets, payload, out),
+            Part::Data(_)
+            | Part::Priority
+            | Part::RstStream(_)
+            | Part::Settings(_)
+            | Part::SettingsAck
+            | Part::PushPromise
+            | Part::Ping(_)
+            | Part::Goaway(_, _)
+            | Part::WindowUpdate(_)
+            | Part::Unknown => {
+                let reaction = self.react(head, payload, part);
+                self.conclude(reaction, payload, out)
+            }
+        }
+    }
+
+    /// A frame: the checks of its head, the form of its payload, and then what it holds.
+    #[tactic(auto, unfolding(h2_spec::specs::Effect::effect))]
+    fn on_frame(&mut self, frame: FrameRef<'_>, out: &mut Vec<u8, A>) -> Result<(), AllocError>
+        requires fits { length frame.payload.now < 2 ^ 24 }
+        ensures ok { OnOk result (Does (stepped (rule.effect self.old (WholeFrame frame.entry.head frame.entry.payload.now))) out.old.items self.new out.new.items) }
+        ensures err { OnErr result ((stopped self.new ≡ stopped self.old) × (out.new.items ≡ out.old.items)) }
+    {
+        match refusal(self.block_stream(), self.core.phase, &frame.head) {
+            Some(code) => self.fail(code, out),
+            None => match part_of(frame) {
+                Err(PayloadFault::SizeFault) => self.fail(ErrorCode::FrameSizeError, out),
+                Err(PayloadFault::PadFault) => self.fail(ErrorCode::ProtocolError, out),
+                Ok(part) => self.on_part(&frame.head, frame.payload, part, out),
+            },
+        }
+    }
+
+    /// The client's preface has come: SETTINGS is awaited (RFC 9113, 3.4).
+    fn on_preface(&mut self, out: &mut Vec<u8, A>) -> Result<(), AllocError>
+        ensures ok { OnOk result (Does (stepped (changes.made self.old [] (changes.stay (record self.old.core { phase = phase.Settings })))) out.old.items self.new out.new.items) }
+        ensures err { OnErr result ((self.new ≡ self.old) × (out.new.items ≡ out.old.items)) }
+    {
+        let change = stay(Core {
+            phase: Phase::Settings,
+            ..self.core
+        });
+        self.make(change, &[], out)
+    }
+
+    /// One item: what it does, and then what waits is sent; whole, or not at all.
+    ///
+    /// # Errors
+    ///
+    /// `AllocError` where memory was refused: the state and `out` are as before the item, but for an open block, which can't
+    /// be decoded further.
+    #[tactic(auto, unfolding(h2_spec::specs::Effect::effect, h2_spec::specs::Trace::step))]
+    pub fn item(&mut self, item: &Item<'_>, out: &mut Vec<u8, A>) -> Result<(), AllocError>
+        requires short { IsShort (item_of item.now) }
+        ensures ok { OnOk result (Does (step self.old (item_of item.now)) out.old.items self.new out.new.items) }
+        ensures err { OnErr result ((stopped self.new ≡ stopped self.old) × (out.new.items ≡ out.old.items)) }
+    {
+        match item {
+            Item::Preface => self.on_preface(out),
+            Item::BadPreface => self.fail(ErrorCode::ProtocolError, out),
+            Item::Oversize(_) => self.fail(ErrorCode::FrameSizeError, out),
+            Item::Frame(frame) => self.on_frame(*frame, out),
         }
     }
 }

@@ -10,6 +10,7 @@ mod data;
 mod ends;
 mod fault;
 mod headers;
+mod headers_frame;
 mod item;
 mod make;
 mod opening;

@@ -47,6 +47,15 @@ impl<A: Allocator> Model for OpenBlock<A> {
     ghost view = { λ b. record { shown = b.shown; decoding = b.decoding } };
 }
 
+impl<A: Allocator> OpenBlock<A> {
+    /// The stream that the block is on.
+    pub fn stream(&self) -> u32
+        ensures { result ≡ self.now.shown.stream }
+    {
+        self.shown.stream
+    }
+}
+
 /// All that an item can change, and the book and the limits that it is changed by.
 #[derive(Drop)]
 pub struct State<'b, A: Allocator> {

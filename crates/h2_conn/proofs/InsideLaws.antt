@@ -1,0 +1,73 @@
+-- A frame that is no CONTINUATION passes the checks only where no block is open.
+use Rattle.std.proofs.Common.{◌≡◌, ℕ, Bool, true, false, not, ◌&&◌, List, refl, sym, subst, ◌∙◌, arith, Option, Some, None, Result, Ok, Err}
+use Rattle.std.specs.Prelude.{◌==◌, if◌then◌else◌}
+use Rattle.std.proofs.lemmas.Bool.Decides.{nat_tests}
+use Rattle.h2_spec.specs.declared.connection.Phase.{Phase}
+use Rattle.h2_spec.specs.declared.errors.ErrorCode.{ErrorCode}
+use Rattle.h2_spec.specs.declared.errors.ErrorCode.TheVariants.{ProtocolError}
+use Rattle.h2_spec.specs.declared.frames.Head.{Head}
+use Rattle.h2_spec.specs.declared.frames.PayloadFault.{PayloadFault}
+use Rattle.h2_spec.specs.Checks.{interrupts, is_early, is_misplaced, refusal}
+use Rattle.h2_spec.specs.Effect.{block_stream}
+use Rattle.h2_spec.specs.FrameType.{frame_type}
+use Rattle.h2_spec.specs.Payload.{Part, OfContinuation, part_as, part_of}
+use Rattle.h2_spec.specs.State.{OpenBlock}
+use Rattle.h2_frame.specs.Parts.{part_seen}
+use Rattle.h2_frame.specs.declared.payload.HeadersPart.{HeadersPart}
+use Rattle.h2_frame.specs.declared.payload.Part as code
+use Rattle.h2_frame.specs.declared.payload.Part.TheVariants as variants
+use Rattle.h2_conn.specs.Blocks.{IsStopped}
+use Rattle.h2_conn.specs.Parted.{IsPlain}
+
+-- what a payload holds is a fragment where the type is CONTINUATION
+pub no-continuation : (kind flags : ℕ) (p : List ℕ) (part : Part) → (let r : Result Part PayloadFault = Ok part in part_as (frame_type kind) flags p ≡ r) → (part ≡ OfContinuation p → ⊥) → (kind == 9) ≡ false
+unfolding part_as
+no-continuation kind flags p part e differs = at (kind == 9) refl
+  where
+    same : (x y : Part) → (let r : Result Part PayloadFault = Ok x in r ≡ Ok y) → x ≡ y
+    same x y h = cc
+
+    nine : kind ≡ 9 → ⊥
+    nine is = differs (sym (same (OfContinuation p) part (subst (λ (k : ℕ). (let r : Result Part PayloadFault = Ok part in part_as (frame_type k) flags p ≡ r)) is e)))
+
+    at : (t : Bool) → (kind == 9) ≡ t → (kind == 9) ≡ false
+    at true is = absurd (nine (grind (arith, nat_tests, is)))
+    at false is = is
+
+-- only CONTINUATION comes inside a block
+pub no-block : (b : Option OpenBlock) (phase : Phase) (h : Head) → refusal (block_stream b) phase h ≡ None → (h.kind == 9) ≡ false → IsStopped b
+unfolding refusal interrupts is_early is_misplaced
+no-block None phase h passed other = tt
+no-block (Some b) phase h passed other = absurd (none (subst (λ (t : Bool). (if not (t && h.stream == b.shown.stream) then Some ProtocolError else refused) ≡ None) other passed))
+  where
+    refused : Option ErrorCode
+    refused = if is_early phase h then Some ProtocolError else if is_misplaced h then Some ProtocolError else None
+
+    none : (let r : Option ErrorCode = Some ProtocolError in r ≡ None) → ⊥
+    none e = cc
+
+-- what is no HEADERS and no CONTINUATION is no CONTINUATION
+pub plain-other : (part : code.Part) (p : List ℕ) → IsPlain part → part_seen part ≡ OfContinuation p → ⊥
+plain-other (variants.Data d) p h e = cc
+plain-other (variants.Headers d) p h e = cc
+plain-other variants.Priority p h e = cc
+plain-other (variants.RstStream code) p h e = cc
+plain-other (variants.Settings s) p h e = cc
+plain-other variants.SettingsAck p h e = cc
+plain-other variants.PushPromise p h e = cc
+plain-other (variants.Ping octets) p h e = cc
+plain-other (variants.Goaway last code) p h e = cc
+plain-other (variants.WindowUpdate increment) p h e = cc
+plain-other (variants.Continuation fragment) p h e = h
+plain-other variants.Unknown p h e = cc
+
+-- so no block is open where such a frame passes the checks
+pub plain-outside : (b : Option OpenBlock) (phase : Phase) (h : Head) (p : List ℕ) (part : code.Part) → refusal (block_stream b) phase h ≡ None →
+    (let r : Result Part PayloadFault = Ok (part_seen part) in part_of h p ≡ r) → IsPlain part → IsStopped b
+plain-outside b phase h p part passed is plain = no-block b phase h passed (no-continuation h.kind h.flags p (part_seen part) is (plain-other part p plain))
+
+-- nor where HEADERS do
+pub headers-outside : (b : Option OpenBlock) (phase : Phase) (h : Head) (p : List ℕ) (part : code.Part) (d : HeadersPart) → refusal (block_stream b) phase h ≡ None →
+    (let r : Result Part PayloadFault = Ok (part_seen part) in part_of h p ≡ r) → part ≡ variants.Headers d → IsStopped b
+headers-outside b phase h p part d passed is headers =
+    no-block b phase h passed (no-continuation h.kind h.flags p (part_seen part) is (λ e. let f : part_seen (variants.Headers d) ≡ OfContinuation p = subst (λ x. part_seen x ≡ OfContinuation p) headers e in cc))
