@@ -443,6 +443,7 @@ static REFUSALS: [Refusal; 13] = [
 fn answer(answer: Result<(), BlockFault>) -> &'static str {
     match answer.map_err(BlockFault::number) {
         Ok(()) => "ok",
+        Err(0) => "0",
         Err(4) => "4",
         Err(5) => "5",
         Err(6) => "6",
