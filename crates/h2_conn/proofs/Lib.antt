@@ -14,5 +14,6 @@ mod PreviewLaws
 mod RequestTurnLaws
 mod Runs
 mod SettingsLaws
+mod Shortest
 mod SoundLaws
 mod Views

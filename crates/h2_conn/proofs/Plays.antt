@@ -22,10 +22,10 @@ none-uses : (x : Front State Event) → Uses [] x → x ≡ Stop
 none-uses Stop h = refl
 none-uses (One e t used) h = absurd (omega (arith, h.0, h.1))
 
-empty-stop : (s : State) → next_event s [] ≡ Stop
+pub empty-stop : (s : State) → next_event s [] ≡ Stop
 empty-stop s = none-uses (next_event s []) (event-uses s [])
 
-left-none : (p : Phase) → left_by p [] ≡ []
+pub left-none : (p : Phase) → left_by p [] ≡ []
 left-none phase.Preface = refl
 left-none phase.Settings = refl
 left-none phase.Running = refl

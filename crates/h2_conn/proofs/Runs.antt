@@ -125,13 +125,13 @@ takes-shorter s t b c out out' x =
 
 -- ---- between two calls
 
-left-going : (p : Phase) (b : List ℕ) → is_ended p ≡ false → left_by p b ≡ b
+pub left-going : (p : Phase) (b : List ℕ) → is_ended p ≡ false → left_by p b ≡ b
 left-going phase.Preface b h = refl
 left-going phase.Settings b h = refl
 left-going phase.Running b h = refl
 left-going (phase.Ended code) b h = absurd (true≢false h)
 
-left-ended : (p : Phase) (b : List ℕ) → is_ended p ≡ true → left_by p b ≡ []
+pub left-ended : (p : Phase) (b : List ℕ) → is_ended p ≡ true → left_by p b ≡ []
 left-ended phase.Preface b h = absurd (true≢false (sym h))
 left-ended phase.Settings b h = absurd (true≢false (sym h))
 left-ended phase.Running b h = absurd (true≢false (sym h))

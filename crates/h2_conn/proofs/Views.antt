@@ -5,7 +5,7 @@ use Rattle.h2_spec.specs.DynamicTable.{entry_at}
 use Rattle.h2_spec.specs.Field.{Field}
 use Rattle.std.proofs.lemmas.List.{map-append, length-append}
 
-take-next : {X : Type 0} → (k : ℕ) (xs : List X) (x : X) → slice_get xs k ≡ Some x → take (suc k) xs ≡ take k xs ++ x ∷ []
+pub take-next : {X : Type 0} → (k : ℕ) (xs : List X) (x : X) → slice_get xs k ≡ Some x → take (suc k) xs ≡ take k xs ++ x ∷ []
 take-next k [] x h = cc
 take-next zero (y ∷ ys) x h = let same : y ≡ x = cc in ap (λ z. z ∷ []) same
 take-next (suc k) (y ∷ ys) x h = ap (λ zs. y ∷ zs) (take-next k ys x h)

@@ -1,5 +1,5 @@
 -- What feeding octets to a connection comes to (RFC 9113, 3.4).
-use Rattle.std.specs.Prelude.{◌≡◌, ℕ, ◌≤◌, ◌<◌, ◌++◌, Bool, true, false, List, length, take, drop}
+use Rattle.std.specs.Prelude.{◌≡◌, ℕ, ◌≤◌, ◌<◌, ◌++◌, ◌-◌, Bool, true, false, List, [], length, take, drop}
 use Rattle.h2_spec.specs.declared.connection.Config.{Config}
 use Rattle.h2_spec.specs.Answer.{Entry}
 use Rattle.h2_spec.specs.Debug.{state_at}
@@ -7,8 +7,9 @@ use Rattle.h2_spec.specs.Frame.{frames_octets}
 use Rattle.h2_spec.specs.Parse.{Stop, One, parse_all}
 use Rattle.h2_spec.specs.Opening.{opening_octets}
 use Rattle.h2_spec.specs.State.{State, opening}
-use Rattle.h2_spec.specs.Trace.{Event, Run, next_event, sent_octets, trace}
+use Rattle.h2_spec.specs.Trace.{Event, Run, left_by, next_event, sent_octets, trace}
 use Rattle.h2_spec.specs.View.{View, view}
+use Rattle.h2_conn.specs.declared.one.One as code
 use Rattle.h2_conn.specs.Connection.{Connection, going, halted}
 use Rattle.h2_conn.specs.Does.{stopped}
 
@@ -28,6 +29,31 @@ pub record Halts (c : Connection) (more out : List ℕ) (c' : Connection) (out' 
   pub within : items ≤ length (fed c more).events
   pub after : c' ≡ halted (state_at c.state (fed c more).events items)
   pub sent : out' ≡ out ++ sent_octets (take items (fed c more).events)
+
+-- the next item was taken, and with it so many of the octets
+pub record TakesOne (c : Connection) (more out : List ℕ) (c' : Connection) (out' : List ℕ) (used : ℕ) : Type 0 where
+  pub event : Event
+  pub next : State
+  pub taken : ℕ
+  pub comes : next_event c.state (c.rest ++ more) ≡ One event next taken
+  pub used_is : used ≡ taken - length c.rest
+  pub after : c' ≡ going next []
+  pub sent : out' ≡ out ++ frames_octets event.sent
+
+-- all octets wait: there is no item
+pub record Waits (c : Connection) (more out : List ℕ) (c' : Connection) (out' : List ℕ) (used : ℕ) : Type 0 where
+  pub none : next_event c.state (c.rest ++ more) ≡ Stop
+  pub used_is : used ≡ length more
+  pub after : c' ≡ going c.state (left_by c.state.core.phase (c.rest ++ more))
+  pub sent : out' ≡ out
+
+abbrev pub FeedsAs : Bool → Connection → List ℕ → List ℕ → Connection → List ℕ → ℕ → Type 0
+FeedsAs true c more out c' out' used = TakesOne c more out c' out' used
+FeedsAs false c more out c' out' used = Waits c more out c' out' used
+
+-- at most one item was taken
+abbrev pub FeedsOne : Connection → List ℕ → List ℕ → Connection → List ℕ → code.One → Type 0
+FeedsOne c more out c' out' one = FeedsAs one.item c more out c' out' one.used
 
 -- ---- from a state and octets in hand
 

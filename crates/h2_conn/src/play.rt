@@ -1,0 +1,106 @@
+//! A whole run: a new connection, and octets in pieces of any lengths (RFC 9113, 3.4).
+//! Rests on `conn`; definitions: h2_spec's `specs/Trace.antt`, `specs/Runs.antt`.
+
+ghost use Rattle.std.specs.Prelude.{◌≡◌, true, ◌+◌, ◌≤◌, ◌++◌, [], drop, length, take, IfErr, IfOk, OnOk, OnErr};
+ghost use Rattle.h2_spec.specs.Opening.{opening_octets};
+ghost use Rattle.h2_spec.specs.State.{opening};
+ghost use Rattle.h2_conn.specs.Connection.{going, is_allowed};
+ghost use Rattle.h2_conn.specs.Faults.{refusal_for};
+ghost use Rattle.h2_conn.specs.Runs.{Fed, Plays};
+ghost use Rattle.h2_conn.specs.declared.fault.ConnFault.TheVariants.{NoMemory};
+
+use crate::conn::Conn;
+use crate::fault::ConnFault;
+use crate::view::View;
+use h2_request::book::Book;
+use h2_spec::connection::Config;
+use std::alloc::Allocator;
+
+fn octets_from(octets: &[u8], start: usize) -> &[u8]
+    requires { start ≤ length octets.now }
+    ensures { result.now ≡ drop start octets.now }
+{
+    &octets[start..]
+}
+
+fn octets_at(octets: &[u8], start: usize, count: usize) -> &[u8]
+    requires { start + count ≤ length octets.now }
+    ensures { result.now ≡ take count (drop start octets.now) }
+{
+    &octets[start..start + count]
+}
+
+/// Feeds a connection the octets in pieces of these lengths, then what remains.
+fn feed_pieces<'b, A: Allocator + Copy>(
+    conn: &mut Conn<'b, A>,
+    octets: &[u8],
+    lengths: &[usize],
+    out: &mut Vec<u8, A>,
+) -> Result<(), ConnFault>
+    requires { conn.old ≡ going conn.old.state [] }
+    ensures ok { OnOk result (Fed conn.old octets.now out.old.items conn.new out.new.items) }
+    ensures fault { IfErr result (λ fault. fault ≡ NoMemory) }
+    ensures kept { take (length out.old.items) out.new.items ≡ out.old.items }
+{
+    let mut at = 0usize;
+    for length in lengths {
+        let count = (octets.len() - at).min(*length);
+        match conn.feed(octets_at(octets, at, count), out) {
+            Ok(_) => {}
+            Err(fault) => return Err(fault),
+        }
+        at += count;
+    }
+    match conn.feed(octets_from(octets, at), out) {
+        Ok(_) => Ok(()),
+        Err(fault) => Err(fault),
+    }
+}
+
+/// Opens a connection, feeds it, and answers what is shown of its last state.
+fn open_and_feed<A: Allocator + Copy>(
+    book: &Book<A>,
+    config: Config,
+    octets: &[u8],
+    lengths: &[usize],
+    out: &mut Vec<u8, A>,
+) -> Result<View<A>, ConnFault>
+    ensures ok { IfOk result (λ shown. Plays book.now config octets.now out.old.items shown out.new.items) }
+    ensures allowed { OnOk result (is_allowed config ≡ true) }
+    ensures fault { IfErr result (λ fault. fault ≡ refusal_for (is_allowed config)) }
+    ensures kept { take (length out.old.items) out.new.items ≡ out.old.items }
+{
+    let mut conn = Conn::new(book, config, out)?;
+    feed_pieces(&mut conn, octets, lengths, out)?;
+    let view = conn.state(*out.allocator())?;
+    Ok(view)
+}
+
+/// Plays a connection over the octets, cut into pieces of these lengths and what remains; a length above what is left takes what is left.
+///
+/// `out` gains the opening SETTINGS and all frames sent, and the answer is what is shown of the last state, however the octets are cut.
+///
+/// # Errors
+///
+/// `BadConfig` where the most streams are not 1 to 1000, or the credit is not 1 to 65535; then `NoMemory`. Both leave `out` as it was.
+pub fn play<A: Allocator + Copy>(
+    book: &Book<A>,
+    config: Config,
+    octets: &[u8],
+    lengths: &[usize],
+    out: &mut Vec<u8, A>,
+) -> Result<View<A>, ConnFault>
+    ensures ok { IfOk result (λ shown. Plays book.now config octets.now out.old.items shown out.new.items) }
+    ensures allowed { OnOk result (is_allowed config ≡ true) }
+    ensures fault { IfErr result (λ fault. fault ≡ refusal_for (is_allowed config)) }
+    ensures unchanged { OnErr result (out.new.items ≡ out.old.items) }
+{
+    let mark = out.as_slice().len();
+    match open_and_feed(book, config, octets, lengths, out) {
+        Ok(view) => Ok(view),
+        Err(fault) => {
+            out.truncate(mark);
+            Err(fault)
+        }
+    }
+}
