@@ -2,5 +2,6 @@ mod Applying
 mod Lengths
 mod Reading
 mod Responding
+mod ResponseReading
 mod Standing
 mod Writing

@@ -1,8 +1,14 @@
-//! What `write_instr` appends is an instruction's spelling: a law on a function with an empty body.
-//! It rests on the laws of instructions of `h2_spec` (`block_laws`); the definitions stand in its specs/Instruction.antt.
+//! Laws of what is written here, each on a function with an empty body: it is read back as what it was written for.
+//! They rest on the laws of instructions and blocks of `h2_spec` (`block_laws`); the definitions stand in its specs/.
 
-ghost use Rattle.std.specs.Prelude.{◌≡◌, ℕ, List, ◌++◌, length, Some};
-ghost use Rattle.h2_fields.specs.Instructions.{IsWritable};
+ghost use Rattle.std.specs.Prelude.{◌≡◌, ℕ, Bool, false, if◌then◌else◌, List, ◌∷◌, ◌++◌, length, Some};
+ghost use Rattle.std.specs.List.{AllByRecursion};
+ghost use Rattle.h2_fields.specs.Answers.{read_whole, status_field};
+ghost use Rattle.h2_fields.specs.Instructions.{IsWritable, IsWritableField};
+ghost use Rattle.h2_spec.specs.Answer as answer;
+ghost use Rattle.h2_spec.specs.Block.{decoded, start};
+ghost use Rattle.h2_spec.specs.DynamicTable.{Table, resize};
+ghost use Rattle.h2_spec.specs.Field.{Field};
 ghost use Rattle.h2_spec.specs.Instruction.{Instruction, HasTexts, IsSpelling, instruction_at, shape_of, spell};
 ghost use Rattle.h2_spec.specs.Read.{Whole};
 
@@ -10,4 +16,10 @@ ghost use Rattle.h2_spec.specs.Read.{Whole};
 pub fn instructions_are_read_back()
     ensures spelling { (instruction : Instruction) → IsWritable instruction → HasTexts instruction → IsSpelling instruction (spell (shape_of instruction)) }
     ensures read { (instruction : Instruction) (more : List ℕ) → IsWritable instruction → HasTexts instruction → instruction_at (spell (shape_of instruction) ++ more) ≡ Whole (Some instruction) (length (spell (shape_of instruction))) }
+{}
+
+/// What `response_block` answers is read as its status and its fields, whatever the table holds; the table is emptied first
+/// where that is signalled, and else left as it is (RFC 9113, 8.3.2; RFC 7541, 4.2 and 6.2.2).
+pub fn responses_are_read()
+    ensures { (limit : ℕ) (table : Table) (signal : Bool) (status : ℕ) (fields : List Field) → AllByRecursion IsWritableField fields → decoded limit (start table false) (answer.response_block signal status fields) ≡ read_whole (status_field status ∷ fields) (if signal then resize table 0 else table) }
 {}
