@@ -1,8 +1,7 @@
 pub mod AnswerTexts
 pub mod Assembled
+pub mod Books
 pub mod Digits
 pub mod Grammar
-pub mod Items
 pub mod Numbers
-pub mod Runs
 pub mod Tables

@@ -1,13 +1,22 @@
 -- How a run of a program ends, where the devices tell their octets: what is told, by which of their calls failed.
-use Rattle.std.specs.Prelude.{◌≡◌, ◌⊎◌, ◌++◌, ℕ, Bool, true, false, List, Option, Some}
+use Rattle.std.specs.Prelude.{◌≡◌, ◌⊎◌, ◌++◌, ℕ, Bool, true, false, List, Option, Some, None}
 use Rattle.h2_bench.specs.Grammar.{Asked}
-use Rattle.h2_bench.specs.Told.{Told, failed, told_within}
+use Rattle.h2_bench.specs.Told.{Told, early_fault, failed, refused, told_read, told_within}
 use Rattle.h2_bench.specs.declared.fault.BenchFault.TheVariants.{NoMemory, Read}
 
--- memory was refused, or a read failed, or the input is known and this is what is told of it
+-- a read failed, or the input is known and this is what is told of it
+abbrev pub AnswersInput : Asked → Option (List ℕ) → Bool → Told → Type 0
+AnswersInput asked input input_failed t = ((input_failed ≡ true) × (t ≡ failed Read))
+    ⊎ ((input_failed ≡ false) × ((octets : List ℕ) → input ≡ Some octets → t ≡ told_read asked octets))
+
+-- a fault was found before anything was read, or not
+abbrev pub AnswersAs : Option ℕ → Asked → Option (List ℕ) → Bool → Told → Type 0
+AnswersAs (Some fault) asked input input_failed t = t ≡ refused fault
+AnswersAs None asked input input_failed t = AnswersInput asked input input_failed t
+
+-- memory was refused, or this is the answer
 abbrev pub Answers : Asked → Option (List ℕ) → Bool → Told → Type 0
-Answers asked input input_failed t = (t ≡ failed NoMemory) ⊎ (((input_failed ≡ true) × (t ≡ failed Read))
-    ⊎ ((input_failed ≡ false) × ((octets : List ℕ) → input ≡ Some octets → t ≡ told_within asked octets)))
+Answers asked input input_failed t = (t ≡ failed NoMemory) ⊎ AnswersAs (early_fault asked) asked input input_failed t
 
 -- the output gained the text, and the status is its
 abbrev pub Tells : Told → List ℕ → Option (List ℕ) → ℕ → Type 0

@@ -4,14 +4,31 @@ use Rattle.std.specs.List.{list_all}
 use Rattle.std.specs.Str.{bytes_eq}
 use Rattle.std.specs.Str.Parse.{digits_value, without_leading_plus}
 use Rattle.std.specs.Char.{digit_value}
-use Rattle.clap.specs.Words.{App, Kinds, Row, Rule, Text, fault_of, new_app, new_rule, one_of, subcommand_of, with_rule, with_subcommand}
-use Rattle.clap.specs.declared.builder.ArgAction.TheVariants.{Set}
+use Rattle.h2_spec.specs.declared.connection.Config.{Config}
+use Rattle.clap.specs.Words.{App, Kinds, Row, Rule, Text, all_of, fault_of, new_app, new_rule, one_of, subcommand_of, with_rule, with_subcommand}
+use Rattle.clap.specs.declared.builder.ArgAction.TheVariants.{Append, Set}
 use Rattle.clap.specs.declared.builder.ValueParser.TheVariants as parser
 
 -- ---- the commands
 
+-- the most streams of `play`, any number of 32 bits
+abbrev pub streams_rule : Rule
+streams_rule = record (new_rule (codes "streams")) { long = Some (codes "streams"); action = Some Set; parser = Some (parser.Unsigned 0 4294967295) }
+
+-- its credit, any number of 32 bits
+abbrev pub credit_rule : Rule
+credit_rule = record (new_rule (codes "credit")) { long = Some (codes "credit"); action = Some Set; parser = Some (parser.Unsigned 0 4294967295) }
+
+-- how many octets a piece has, 0 to 65536; 0 for one piece
+abbrev pub cut_rule : Rule
+cut_rule = record (new_rule (codes "cut")) { long = Some (codes "cut"); action = Some Set; parser = Some (parser.Unsigned 0 65536) }
+
+-- the answers, any number of them
+abbrev pub answer_rule : Rule
+answer_rule = record (new_rule (codes "ANSWER")) { action = Some Append }
+
 abbrev pub play_app : App
-play_app = new_app (codes "play")
+play_app = with_rule (with_rule (with_rule (with_rule (new_app (codes "play")) streams_rule) credit_rule) cut_rule) answer_rule
 
 abbrev pub asm_app : App
 asm_app = new_app (codes "asm")
@@ -35,7 +52,7 @@ bench_app = with_subcommand (with_subcommand (with_subcommand (with_subcommand t
 -- ---- what words ask for
 
 pub data Asked : Type 0 where
-  play : Asked
+  play : (config : Config) → (cut : ℕ) → (answers : List Text) → Asked
   asm : Asked
   dis : Asked
   table : (limit : ℕ) → Asked
@@ -50,9 +67,17 @@ number_of text =
 abbrev pub number_at : Text → ℕ → List Row → ℕ
 number_at id default rows = unwrap_or (option_and_then number_of (one_of id rows)) default
 
+-- the values of a positional that takes any number of them
+abbrev pub texts_at : Text → List Row → List Text
+texts_at id rows = unwrap_or (all_of id rows) []
+
+-- the limits, 100 streams and 32768 octets where none are given
+abbrev pub config_at : List Row → Config
+config_at rows = record { streams = number_at (codes "streams") 100 rows; credit = number_at (codes "credit") 32768 rows }
+
 abbrev pub asked_by : Text → List Row → Option Asked
 asked_by name rows =
-    if bytes_eq name (codes "play") then Some play
+    if bytes_eq name (codes "play") then Some (play (config_at rows) (number_at (codes "cut") 0 rows) (texts_at (codes "ANSWER") rows))
     else if bytes_eq name (codes "asm") then Some asm
     else if bytes_eq name (codes "dis") then Some dis
     else (if bytes_eq name (codes "table") then Some (table (number_at (codes "LIMIT") 0 rows)) else None)

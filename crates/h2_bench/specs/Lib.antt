@@ -1,13 +1,12 @@
 pub mod AnswerParts
 pub mod Answers
+pub mod Books
 pub mod Commands
 pub mod Ends
 pub mod Faults
-pub mod First
 pub mod Grammar
 pub mod Input
 pub mod Plans
-pub mod Run
 pub mod ScriptPrograms
 pub mod TableProgram
 pub mod Tell

@@ -1,5 +1,5 @@
 -- What a plan stands for, and what a refusal says of words.
-use Rattle.std.specs.Prelude.{◌≡◌, Option, None}
+use Rattle.std.specs.Prelude.{◌≡◌, Option, None, map}
 use Rattle.h2_bench.specs.Grammar.{Asked, play, asm, dis, table}
 use Rattle.h2_bench.specs.declared.command.Plan.{Plan}
 use Rattle.h2_bench.specs.declared.command.Plan.TheVariants.{Play, Asm, Dis, Table}
@@ -7,7 +7,7 @@ use Rattle.h2_bench.specs.declared.command.Refusal.{Refusal}
 use Rattle.h2_bench.specs.declared.command.Refusal.TheVariants.{Words, NoMemory}
 
 abbrev pub planned : Plan → Asked
-planned Play = play
+planned (Play p) = play p.config p.cut (map (λ s. s.now) p.answers.items)
 planned Asm = asm
 planned Dis = dis
 planned (Table limit) = table limit

@@ -11,5 +11,8 @@ pub record Told : Type 0 where
 abbrev pub done : List ℕ → Told
 done text = record { text = text; status = 0 }
 
+abbrev pub refused : ℕ → Told
+refused fault = record { text = fault_line fault; status = 1 }
+
 abbrev pub failed : BenchFault → Told
-failed fault = record { text = fault_line (fault_number fault); status = 1 }
+failed fault = refused (fault_number fault)

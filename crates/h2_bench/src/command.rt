@@ -1,24 +1,35 @@
 //! What the words of a command line ask for.
 //! Rests on `words` and on clap, whose definition of a command says which words are taken: `specs/Grammar.antt`.
 
-ghost use Rattle.std.specs.Prelude.{◌≡◌, IfOk, IfErr, Some, None, false, option_map};
-ghost use Rattle.clap.specs.Words.{app_of, found_of, kind_of, rows_of};
+ghost use Rattle.std.specs.Prelude.{◌≡◌, IfOk, IfErr, Some, None, false, map, option_map};
+ghost use Rattle.clap.specs.Words.{app_of, found_of, kind_of, rows_of, rule_of};
 ghost use Rattle.clap.specs.declared.error.ErrorKind.TheVariants.{OutOfMemory};
 ghost use Rattle.clap.specs.declared.builder.Command.TheViews.{out-Command};
-ghost use Rattle.h2_bench.specs.Grammar.{asked_by, asked_of, asm_app, bench_app, dis_app, number_at, play_app, table_app};
+ghost use Rattle.h2_bench.specs.Grammar.{answer_rule, asked_by, asked_of, asm_app, bench_app, config_at, credit_rule, cut_rule, dis_app, number_at, play_app, streams_rule, table_app, texts_at};
 ghost use Rattle.h2_bench.specs.Plans.{planned, Refuses};
 
 use crate::words::Words;
 use clap::builder::ValueParser;
 use clap::error::ErrorKind;
 use clap::{Arg, ArgAction, ArgMatches, Command};
+use h2_spec::connection::Config;
 use std::alloc::{AllocError, Global};
 
+/// How a connection is played.
+#[derive(Debug, Drop)]
+pub struct Play<'a> {
+    pub config: Config,
+    /// How many octets a piece has, 0 to 65536; 0 for one piece.
+    pub cut: u32,
+    /// The words of the answers.
+    pub answers: Vec<&'a str>,
+}
+
 /// What is to be done.
-#[derive(Clone, Copy, Debug, PartialEq, Eq)]
-pub enum Plan {
+#[derive(Debug, Drop)]
+pub enum Plan<'a> {
     /// Plays a connection over the octets of the input.
-    Play,
+    Play(Play<'a>),
     /// Writes the octets of the script that the input is, as hex.
     Asm,
     /// Writes the script of the octets that the input has as hex.
@@ -36,12 +47,55 @@ pub enum Refusal {
     NoMemory,
 }
 
-fn play_command<'a>(alloc: Global) -> Command<'a>
-    ensures { (app_of result ≡ play_app) × ((out-Command result).has_globals ≡ false) }
+fn streams_option<'a>(alloc: Global) -> Arg<'a>
+    ensures { (rule_of result ≡ streams_rule) × (result.global ≡ false) }
 {
-    Command::new(alloc, "play").about(
-        "Plays one connection over the octets that standard input has as hex",
-    )
+    Arg::new(alloc, "streams")
+        .help("The most streams at a time, 1 to 1000; 100 where none is given")
+        .long("streams")
+        .action(ArgAction::Set)
+        .value_parser(ValueParser::Unsigned(0, 4294967295))
+}
+
+fn credit_option<'a>(alloc: Global) -> Arg<'a>
+    ensures { (rule_of result ≡ credit_rule) × (result.global ≡ false) }
+{
+    Arg::new(alloc, "credit")
+        .help(
+            "The octets that are owed before they are given back, 1 to 65535; 32768 where none is given",
+        )
+        .long("credit")
+        .action(ArgAction::Set)
+        .value_parser(ValueParser::Unsigned(0, 4294967295))
+}
+
+fn cut_option<'a>(alloc: Global) -> Arg<'a>
+    ensures { (rule_of result ≡ cut_rule) × (result.global ≡ false) }
+{
+    Arg::new(alloc, "cut")
+        .help("The octets of a piece, 0 to 65536; all in one piece where it is 0 or not given")
+        .long("cut")
+        .action(ArgAction::Set)
+        .value_parser(ValueParser::Unsigned(0, 65536))
+}
+
+fn answer_words<'a>(alloc: Global) -> Arg<'a>
+    ensures { (rule_of result ≡ answer_rule) × (result.global ≡ false) }
+{
+    Arg::new(alloc, "ANSWER")
+        .help("METHOD|PATH|STATUS|BODYHEX, and any number of |NAME=VALUE")
+        .action(ArgAction::Append)
+}
+
+fn play_command<'a>(alloc: Global) -> Result<Command<'a>, AllocError>
+    ensures { IfOk result (λ c. (app_of c ≡ play_app) × ((out-Command c).has_globals ≡ false)) }
+{
+    Command::new(alloc, "play")
+        .about("Plays one connection over the octets that standard input has as hex")
+        .arg(streams_option(alloc))?
+        .arg(credit_option(alloc))?
+        .arg(cut_option(alloc))?
+        .arg(answer_words(alloc))
 }
 
 fn asm_command<'a>(alloc: Global) -> Command<'a>
@@ -78,7 +132,7 @@ fn table_command<'a>(alloc: Global) -> Result<Command<'a>, AllocError>
 fn bench_command<'a>(alloc: Global) -> Result<Command<'a>, AllocError>
     ensures { IfOk result (λ c. app_of c ≡ bench_app) }
 {
-    let play = play_command(alloc);
+    let play = play_command(alloc)?;
     let asm = asm_command(alloc);
     let dis = dis_command(alloc);
     let table = table_command(alloc)?;
@@ -98,22 +152,57 @@ fn number_at(matches: &ArgMatches<'_>, id: &str, default: u32) -> u32
     matches.get_one::<u32>(id).unwrap_or(default)
 }
 
-fn plan_from(name: &str, matches: &ArgMatches<'_>) -> Option<Plan>
-    ensures { option_map planned result ≡ asked_by name.now (rows_of (found_of matches.now)) }
+/// The values of a positional that takes any number of them.
+fn texts_at<'a>(
+    alloc: Global,
+    matches: &ArgMatches<'a>,
+    id: &str,
+) -> Result<Vec<&'a str>, AllocError>
+    ensures { IfOk result (λ texts. map (λ s. s.now) texts.items ≡ texts_at id.now (rows_of (found_of matches.now))) }
+{
+    match matches.get_raw(id) {
+        Some(texts) => Vec::from_slice(alloc, texts),
+        None => Ok(Vec::new(alloc)),
+    }
+}
+
+/// The limits of a connection.
+fn config_at(matches: &ArgMatches<'_>) -> Config
+    ensures { result ≡ config_at (rows_of (found_of matches.now)) }
+{
+    Config {
+        streams: number_at(matches, "streams", 100),
+        credit: number_at(matches, "credit", 32768),
+    }
+}
+
+fn plan_from<'a>(
+    alloc: Global,
+    name: &str,
+    matches: &ArgMatches<'a>,
+) -> Result<Option<Plan<'a>>, AllocError>
+    ensures { IfOk result (λ plan. option_map planned plan ≡ asked_by name.now (rows_of (found_of matches.now))) }
 {
     if name == "play" {
-        return Some(Plan::Play);
+        let config = config_at(matches);
+        let cut = number_at(matches, "cut", 0);
+        let answers = texts_at(alloc, matches, "ANSWER")?;
+        return Ok(Some(Plan::Play(Play {
+            config,
+            cut,
+            answers,
+        })));
     }
     if name == "asm" {
-        return Some(Plan::Asm);
+        return Ok(Some(Plan::Asm));
     }
     if name == "dis" {
-        return Some(Plan::Dis);
+        return Ok(Some(Plan::Dis));
     }
     if name == "table" {
-        return Some(Plan::Table(number_at(matches, "LIMIT", 0)));
+        return Ok(Some(Plan::Table(number_at(matches, "LIMIT", 0))));
     }
-    None
+    Ok(None)
 }
 
 /// What clap says of words that it refuses; want of memory where that is its reason.
@@ -130,9 +219,9 @@ fn told_of(alloc: Global, error: &clap::Error) -> Refusal
 }
 
 /// What the words ask for. They are refused where they are no command, or ask for help, and where memory is.
-pub fn parse(alloc: Global, words: &Words) -> Result<Plan, Refusal>
-    ensures ok { IfOk result (λ plan. asked_of words.now ≡ Some (planned plan)) }
-    ensures refused { IfErr result (Refuses (asked_of words.now)) }
+pub fn parse<'a>(alloc: Global, words: &'a Words) -> Result<Plan<'a>, Refusal>
+    ensures ok { IfOk result (λ plan. asked_of words.entry.now ≡ Some (planned plan)) }
+    ensures refused { IfErr result (Refuses (asked_of words.entry.now)) }
 {
     let Ok(command) = bench_command(alloc) else {
         return Err(Refusal::NoMemory);
@@ -144,8 +233,9 @@ pub fn parse(alloc: Global, words: &Words) -> Result<Plan, Refusal>
     let Some((name, inner)) = matches.subcommand() else {
         return Err(Refusal::Words(String::new(alloc)));
     };
-    match plan_from(name, inner) {
-        Some(plan) => Ok(plan),
-        None => Err(Refusal::Words(String::new(alloc))),
+    match plan_from(alloc, name, inner) {
+        Ok(Some(plan)) => Ok(plan),
+        Ok(None) => Err(Refusal::Words(String::new(alloc))),
+        Err(_) => Err(Refusal::NoMemory),
     }
 }

@@ -1,12 +1,14 @@
 //! A command, from its words and its input to its output and the exit status.
 //! Rests on `command`, `input`, `play`, `asm`, `dis`, `table` and `device`; definitions: `specs/Told.antt`, `specs/Ends.antt`.
 
-ghost use Rattle.std.specs.Prelude.{◌≡◌, ◌⊎◌, ℕ, List, Some, true, false};
+ghost use Rattle.std.specs.Prelude.{◌≡◌, ◌⊎◌, ℕ, List, Some, None, true, false, IfOk, IfErr};
 ghost use Rattle.h2_bench.specs.Answers.{Gives, Meets, seen};
 ghost use Rattle.h2_bench.specs.Ends.{Answers, Ends, EndsSomehow, Tells};
 ghost use Rattle.h2_bench.specs.Grammar.{Asked, asked_of};
 ghost use Rattle.h2_bench.specs.Plans.{planned};
-ghost use Rattle.h2_bench.specs.Told.{told};
+ghost use Rattle.h2_bench.specs.Faults.{fault_number};
+ghost use Rattle.h2_bench.specs.Told.{book_for, early_fault, told};
+ghost use Rattle.h2_bench.specs.declared.fault.BenchFault.TheVariants.{NoMemory};
 
 use crate::asm::asm_report;
 use crate::command::{Plan, Refusal, parse};
@@ -14,40 +16,62 @@ use crate::device::write_all;
 use crate::dis::dis_text;
 use crate::fault::BenchFault;
 use crate::input::read_all;
-use crate::play::play_text;
+use crate::play::{book_of, play_text};
 use crate::report::{Report, whole};
 use crate::table::table_text;
 use crate::words::Words;
+use h2_request::book::Book;
 use std::alloc::Global;
 use std::io::{Read, Write};
 
-/// What a command answers to a whole input.
-fn answer_to(alloc: Global, plan: Plan, input: &[u8]) -> Result<Report, BenchFault>
-    ensures { Gives result (told (planned plan) input.now) }
+/// What a command answers to a whole input, with the book of its answers.
+fn answer_to(
+    alloc: Global,
+    plan: &Plan<'_>,
+    book: &Book<Global>,
+    input: &[u8],
+) -> Result<Report, BenchFault>
+    requires { book.now ≡ book_for (planned plan.now) }
+    ensures { Gives result (told (planned plan.now) input.now) }
 {
     match plan {
-        Plan::Play => whole(play_text(alloc, input)),
+        Plan::Play(play) => whole(play_text(alloc, book, play.config, play.cut, input)),
         Plan::Asm => asm_report(alloc, input),
         Plan::Dis => whole(dis_text(alloc, input)),
-        Plan::Table(limit) => match table_text(alloc, limit, input) {
+        Plan::Table(limit) => match table_text(alloc, *limit, input) {
             Ok(text) => Ok(Report { text, status: 0 }),
             Err(_) => Err(BenchFault::NoMemory),
         },
     }
 }
 
+/// The book of a command's answers.
+fn book_for(alloc: Global, plan: &Plan<'_>) -> Result<Book<Global>, BenchFault>
+    ensures ok { IfOk result (λ book. (book ≡ book_for (planned plan.now)) × (early_fault (planned plan.now) ≡ None)) }
+    ensures err { IfErr result (λ fault. (fault ≡ NoMemory) ⊎ (early_fault (planned plan.now) ≡ Some (fault_number fault))) }
+{
+    match plan {
+        Plan::Play(play) => book_of(alloc, play.answers.as_slice()),
+        Plan::Asm | Plan::Dis | Plan::Table(_) => Ok(Book::new(alloc)),
+    }
+}
+
 /// Reads the input of a command, and answers it.
 fn respond<R: Read>(
     alloc: Global,
-    plan: Plan,
+    plan: &Plan<'_>,
     input: &mut R,
     input_failed: &mut bool,
 ) -> Result<Report, BenchFault>
     requires { input_failed.old ≡ false }
-    ensures { Answers (planned plan) (R.remaining input.old) input_failed.new (seen result) }
+    ensures { Answers (planned plan.now) (R.remaining input.old) input_failed.new (seen result) }
 {
+    let book = match book_for(alloc, plan) {
+        Ok(book) => book,
+        Err(fault) => return Err(fault),
+    };
     match read_all(alloc, input, input_failed) {
-        Ok(octets) => answer_to(alloc, plan, octets.as_slice()),
+        Ok(octets) => answer_to(alloc, plan, &book, octets.as_slice()),
         Err(fault) => Err(fault),
     }
 }
@@ -100,7 +124,7 @@ pub fn run_watched<R: Read, W: Write>(
 {
     match parse(alloc, words) {
         Ok(plan) => {
-            let answer = respond(alloc, plan, input, input_failed);
+            let answer = respond(alloc, &plan, input, input_failed);
             tell_answer(output, output_failed, &answer)
         }
         Err(Refusal::Words(text)) => tell(output, output_failed, text.as_str(), 2),

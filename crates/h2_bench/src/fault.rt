@@ -14,6 +14,21 @@ pub enum BenchFault {
     /// A growth was refused.
     #[error("out of memory")]
     NoMemory,
+    /// The status of an answer is outside 200 to 599.
+    #[error("the status is outside 200 to 599")]
+    BadStatus,
+    /// A field of an answer is ill-formed, of a connection, a pseudo-field, or `content-length` (RFC 9113, 8.2 and 8.3).
+    #[error("a field may not stand in an answer")]
+    BadField,
+    /// An answer has a body with status 204, 205 or 304, or for the method HEAD.
+    #[error("a body may not stand in this answer")]
+    BodyNotAllowed,
+    /// There are more than 1000 answers, or a body or a response's field block is too long.
+    #[error("the answers, a body or its fields would pass their limit")]
+    TooLong,
+    /// The limit of streams is outside 1 to 1000, or the credit outside 1 to 65535.
+    #[error("a limit is out of range")]
+    BadConfig,
     /// A read of the input failed, an interruption too, or the input has more than 16,777,216 octets.
     #[error("the input can't be read")]
     Read,
@@ -26,9 +41,6 @@ pub enum BenchFault {
     /// A line of the input is no command.
     #[error("the line is no command")]
     BadCommand,
-    /// A frame came that the first path doesn't play yet.
-    #[error("a frame comes that is not played yet")]
-    NotYet,
 }
 
 impl BenchFault {
@@ -38,11 +50,15 @@ impl BenchFault {
     {
         match self {
             BenchFault::NoMemory => 0,
+            BenchFault::BadStatus => 12,
+            BenchFault::BadField => 13,
+            BenchFault::BodyNotAllowed => 14,
+            BenchFault::TooLong => 15,
+            BenchFault::BadConfig => 16,
             BenchFault::Read => 22,
             BenchFault::BadHex => 25,
             BenchFault::BadAnswer => 26,
             BenchFault::BadCommand => 27,
-            BenchFault::NotYet => 29,
         }
     }
 
@@ -52,11 +68,15 @@ impl BenchFault {
     {
         match self {
             BenchFault::NoMemory => "fault 0\n",
+            BenchFault::BadStatus => "fault 12\n",
+            BenchFault::BadField => "fault 13\n",
+            BenchFault::BodyNotAllowed => "fault 14\n",
+            BenchFault::TooLong => "fault 15\n",
+            BenchFault::BadConfig => "fault 16\n",
             BenchFault::Read => "fault 22\n",
             BenchFault::BadHex => "fault 25\n",
             BenchFault::BadAnswer => "fault 26\n",
             BenchFault::BadCommand => "fault 27\n",
-            BenchFault::NotYet => "fault 29\n",
         }
     }
 }

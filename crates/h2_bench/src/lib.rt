@@ -4,13 +4,14 @@
 mod answer;
 mod asm;
 mod command;
-mod connection;
 mod device;
 mod dis;
 mod execute;
 mod fault;
 mod input;
 mod play;
+#[cfg(test)]
+mod play_tests;
 mod report;
 mod table;
 #[cfg(test)]
@@ -20,7 +21,6 @@ mod tests_script;
 mod words;
 
 pub use answer::parse_answer;
-pub use connection::{First, play_first};
 pub use execute::{run, run_watched};
 pub use fault::BenchFault;
 pub use words::Words;

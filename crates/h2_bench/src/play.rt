@@ -1,82 +1,139 @@
 //! The program `play`: a connection over the octets that hex text spells.
-//! Rests on `connection`, h2_conn and the crate `hex`; definitions: `specs/Told.antt`.
+//! Rests on `answer`, h2_conn and the crate `hex`; definitions: `specs/Books.antt`, `specs/Told.antt`.
 
-ghost use Rattle.std.specs.Prelude.{◌≡◌, IfOk};
+ghost use Rattle.std.specs.Prelude.{◌≡◌, ◌⊎◌, [], Ok, Err, map, IfErr, IfOk, OnOk};
 ghost use Rattle.std.specs.String.{string_bytes};
-ghost use Rattle.h2_spec.specs.View.{view};
-ghost use Rattle.h2_bench.specs.First.{standing};
-ghost use Rattle.h2_bench.specs.Told.{sent_and_state, told_play};
-ghost use Rattle.h2_bench.specs.Input.{octets_spelled};
+ghost use Rattle.h2_request.specs.Fault as book;
+ghost use Rattle.h2_request.specs.declared.fault.BookFault.TheVariants as books;
 ghost use Rattle.h2_bench.specs.Answers.{Meets};
+ghost use Rattle.h2_bench.specs.Books.{book_of, with_answer};
+ghost use Rattle.h2_bench.specs.Faults.{fault_number};
+ghost use Rattle.h2_bench.specs.Input.{octets_spelled};
+ghost use Rattle.h2_bench.specs.Told.{sent_and_state, told_play, told_played};
+ghost use Rattle.h2_bench.specs.declared.fault.BenchFault.TheVariants.{NoMemory};
 
-use crate::connection::{First, play_first};
+use crate::answer::parse_answer;
 use crate::fault::BenchFault;
 use crate::input::read_hex;
+use h2_conn::ConnFault;
+use h2_conn::play::play;
 use h2_conn::show::write_view;
 use h2_conn::view::View;
-use h2_spec::flow::{Credit, Settings, Window};
+use h2_request::book::Book;
+use h2_request::fault::BookFault;
+use h2_spec::connection::Config;
 use std::alloc::{AllocError, Global};
 use std::fmt::Write;
 
-/// What is shown of a connection of which no more has changed than this.
-#[tactic(auto, unfolding(h2_spec::specs::View::view))]
-fn view_of(alloc: Global, first: First) -> View<Global>
-    ensures { result ≡ view (standing first) }
+/// What a book refused, by the name that programs have for it.
+fn refused_by(fault: BookFault) -> BenchFault
+    ensures number { fault_number result ≡ book.fault_number fault }
+    ensures memory { fault ≡ books.NoMemory → result ≡ NoMemory }
 {
-    View {
-        phase: first.phase,
-        last: 0,
-        recv: Window::start(65535),
-        owed: Credit::none(),
-        send: Window::start(65535),
-        peer: Settings {
-            header_table: 4096,
-            push: 1,
-            streams: None,
-            window: 65535,
-            frame: 16384,
-            list: None,
-            signal: false,
-        },
-        acked: first.acked,
-        goaway: None,
-        block: None,
-        table: Vec::new(alloc),
-        table_size: 0,
-        table_max: 4096,
-        streams: Vec::new(alloc),
+    match fault {
+        BookFault::NoMemory => BenchFault::NoMemory,
+        BookFault::BadStatus => BenchFault::BadStatus,
+        BookFault::BadField => BenchFault::BadField,
+        BookFault::BodyNotAllowed => BenchFault::BodyNotAllowed,
+        BookFault::TooLong => BenchFault::TooLong,
     }
+}
+
+/// Puts the entry that a word says last in the book.
+#[tactic(auto, unfolding(crate::specs::Books::with_answer))]
+fn add_answer(alloc: Global, book: &mut Book<Global>, word: &str) -> Result<(), BenchFault>
+    ensures ok { OnOk result (with_answer book.old word.now ≡ Ok book.new) }
+    ensures err { IfErr result (λ fault. (fault ≡ NoMemory) ⊎ (with_answer book.old word.now ≡ Err (fault_number fault))) }
+{
+    let entry = match parse_answer(alloc, word) {
+        Ok(entry) => entry,
+        Err(fault) => return Err(fault),
+    };
+    match book.add(entry) {
+        Ok(()) => Ok(()),
+        Err(fault) => Err(refused_by(fault)),
+    }
+}
+
+/// The book of the answers that these words say, from the left.
+///
+/// The first word that is refused decides: `BadAnswer` where it says no answer, else what the book refuses it for; `NoMemory` may come before.
+#[tactic(auto, unfolding(crate::specs::Books::book_of))]
+pub fn book_of(alloc: Global, words: &[&str]) -> Result<Book<Global>, BenchFault>
+    ensures ok { IfOk result (λ book. book_of [] (map (λ s. s.now) words.now) ≡ Ok book) }
+    ensures err { IfErr result (λ fault. (fault ≡ NoMemory) ⊎ (book_of [] (map (λ s. s.now) words.now) ≡ Err (fault_number fault))) }
+{
+    let mut book = Book::new(alloc);
+    for word in words {
+        match add_answer(alloc, &mut book, word) {
+            Ok(()) => {}
+            Err(fault) => return Err(fault),
+        }
+    }
+    Ok(book)
 }
 
 /// The line of the octets sent, and the text of the state.
 #[tactic(auto, unfolding(crate::specs::Told::sent_and_state))]
-fn sent_and_state(alloc: Global, sent: &[u8], first: First) -> Result<String, AllocError>
-    ensures { IfOk result (λ text. string_bytes text ≡ sent_and_state sent.now (standing first)) }
+fn sent_and_state(alloc: Global, sent: &[u8], view: &View<Global>) -> Result<String, AllocError>
+    ensures { IfOk result (λ text. string_bytes text ≡ sent_and_state sent.now view.now) }
 {
     let sent = hex::encode(alloc, sent)?;
     let mut text = String::new(alloc);
     writeln!(text, "sent {sent}")?;
-    let view = view_of(alloc, first);
-    write_view(&mut text, &view)?;
+    write_view(&mut text, view)?;
     Ok(text)
 }
 
-/// What `play` prints of its input: the octets sent, and the state after all of them.
+/// The lengths of the pieces into which this many octets are cut: all of this length, or none where it is 0.
+fn piece_lengths(alloc: Global, cut: u32, total: usize) -> Result<Vec<usize>, AllocError> {
+    let mut lengths = Vec::new(alloc);
+    if cut == 0 {
+        return Ok(lengths);
+    }
+    for _ in 0..total / cut as usize {
+        lengths.push(cut as usize)?;
+    }
+    Ok(lengths)
+}
+
+/// What `play` prints of octets: those sent, and the state after all of them.
+fn played(
+    alloc: Global,
+    book: &Book<Global>,
+    config: Config,
+    cut: u32,
+    octets: &[u8],
+) -> Result<String, BenchFault>
+    ensures { Meets result (told_played book.now config octets.now) }
+{
+    let lengths = piece_lengths(alloc, cut, octets.len())?;
+    let mut sent = Vec::new(alloc);
+    match play(book, config, octets, lengths.as_slice(), &mut sent) {
+        Ok(view) => match sent_and_state(alloc, sent.as_slice(), &view) {
+            Ok(text) => Ok(text),
+            Err(_) => Err(BenchFault::NoMemory),
+        },
+        Err(ConnFault::BadConfig) => Err(BenchFault::BadConfig),
+        Err(_) => Err(BenchFault::NoMemory),
+    }
+}
+
+/// What `play` prints of its input: the octets sent, and the state after all of them, however the octets are cut.
 ///
-/// `BadHex` where the input is no hex text, `NotYet` as `play_first` says, `NoMemory` where memory is refused.
-pub fn play_text(alloc: Global, input: &[u8]) -> Result<String, BenchFault>
-    ensures { Meets result (told_play (octets_spelled input.now)) }
+/// `BadHex` where the input is no hex text, then `BadConfig` where a limit is out of range; `NoMemory` where memory is refused.
+pub fn play_text(
+    alloc: Global,
+    book: &Book<Global>,
+    config: Config,
+    cut: u32,
+    input: &[u8],
+) -> Result<String, BenchFault>
+    ensures { Meets result (told_play book.now config (octets_spelled input.now)) }
 {
     let octets = match read_hex(alloc, input) {
         Ok(octets) => octets,
         Err(fault) => return Err(fault),
     };
-    let mut sent = Vec::new(alloc);
-    match play_first(alloc, octets.as_slice(), &[], &mut sent) {
-        Ok(first) => match sent_and_state(alloc, sent.as_slice(), first) {
-            Ok(text) => Ok(text),
-            Err(_) => Err(BenchFault::NoMemory),
-        },
-        Err(fault) => Err(fault),
-    }
+    played(alloc, book, config, cut, octets.as_slice())
 }

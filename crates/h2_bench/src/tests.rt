@@ -1,7 +1,6 @@
 //! Whole runs over memory, with worked octets, and devices that fail.
 
 use super::*;
-use crate::input::read_hex;
 use std::alloc::Global;
 use std::io;
 use std::io::{ErrorKind, Read, Write};
@@ -101,7 +100,7 @@ fn play_sends_and_shows(rt: HostRuntime) -> Result<(), Fail> {
 fn programs_answer(rt: HostRuntime) -> Result<(), Fail> {
     let shown =
         "sent 00000c040000000000000300000064000600010000000000040100000000\nphase running last 0\nwindow recv 65535 owed 0 send 65535\npeer table 4096 push 1 streams - window 65535 frame 16384 list - signal 0\nacked 1 goaway -\nblock -\ntable 0 0 4096\n";
-    let cases: [(&str, &[&str], &str, &str, u8); 11] = [
+    let cases: [(&str, &[&str], &str, &str, u8); 19] = [
         (
             "acknowledgement of the settings",
             &["play"],
@@ -116,15 +115,65 @@ fn programs_answer(rt: HostRuntime) -> Result<(), Fail> {
             shown,
             0,
         ),
-        (
-            "HEADERS",
-            &["play"],
-            "505249202a20485454502f322e300d0a0d0a534d0d0a0d0a000000040000000000000003010400000001828684",
-            "fault 29\n",
-            1,
-        ),
         ("a digit alone", &["play"], "0", "fault 25\n", 1),
         ("no digit", &["play"], "0g", "fault 25\n", 1),
+        (
+            "no streams",
+            &["play", "--streams", "0"],
+            "",
+            "fault 16\n",
+            1,
+        ),
+        (
+            "1001 streams",
+            &["play", "--streams", "1001"],
+            "",
+            "fault 16\n",
+            1,
+        ),
+        ("no credit", &["play", "--credit", "0"], "", "fault 16\n", 1),
+        (
+            "bad hex and no credit",
+            &["play", "--credit", "0"],
+            "0",
+            "fault 25\n",
+            1,
+        ),
+        (
+            "an answer of three parts, and bad hex",
+            &["play", "GET|/|200"],
+            "0",
+            "fault 26\n",
+            1,
+        ),
+        (
+            "an answer with status 199",
+            &["play", "GET|/|199|"],
+            "",
+            "fault 12\n",
+            1,
+        ),
+        (
+            "an answer with a name in upper case",
+            &["play", "GET|/|200||A=b"],
+            "",
+            "fault 13\n",
+            1,
+        ),
+        (
+            "an answer without content, and one that says none",
+            &["play", "GET|/|204|6869", "x"],
+            "",
+            "fault 14\n",
+            1,
+        ),
+        (
+            "the second answer says none",
+            &["play", "GET|/|200|6869", "GET|/|200|686"],
+            "",
+            "fault 26\n",
+            1,
+        ),
         (
             "three entries and two maxima",
             &["table", "100"],
@@ -172,12 +221,15 @@ fn programs_answer(rt: HostRuntime) -> Result<(), Fail> {
 
 #[test]
 fn words_are_refused(rt: HostRuntime) -> Result<(), Fail> {
-    let cases: [&[&str]; 7] = [
+    let cases: [&[&str]; 10] = [
         &[],
         &["help"],
         &["--help"],
         &["frob"],
-        &["play", "x"],
+        &["play", "--frob"],
+        &["play", "--cut", "65537"],
+        &["play", "--streams", "4294967296"],
+        &["play", "--credit"],
         &["table"],
         &["table", "65537"],
     ];
@@ -215,27 +267,6 @@ fn unknown_type_of_the_greatest_length_is_ignored(rt: HostRuntime) -> Result<(),
         b"sent 00000c040000000000000300000064000600010000000000040100000000\nphase running last 0\n";
     assert!(rt; text.starts_with(first.as_slice()));
     assert_eq!(rt; status, 0);
-    Ok(())
-}
-
-#[test]
-fn cuts_change_nothing(rt: HostRuntime) -> Result<(), Fail> {
-    let hex =
-        b"505249202a20485454502f322e300d0a0d0a534d0d0a0d0a0000000400000000000000080600000000000102030405060708000000040100000000";
-    let octets = read_hex(rt.alloc(), hex)?;
-    let mut whole: Vec<u8> = Vec::new(rt.alloc());
-    let first = play_first(rt.alloc(), octets.as_slice(), &[], &mut whole)?;
-    assert_eq!(rt; whole.len(), 47);
-    assert!(rt; first.acked);
-    let ones = [1usize; 70];
-    let some = [0usize, 23, 2, 9, 1, 100];
-    let cuts: [&[usize]; 2] = [&ones, &some];
-    for lengths in cuts {
-        let mut sent: Vec<u8> = Vec::new(rt.alloc());
-        let same = play_first(rt.alloc(), octets.as_slice(), lengths, &mut sent)?;
-        assert_eq!(rt; sent.as_slice(), whole.as_slice(), "at {lengths:?}");
-        assert_eq!(rt; same, first, "at {lengths:?}");
-    }
     Ok(())
 }
 

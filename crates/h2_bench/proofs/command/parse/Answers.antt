@@ -15,18 +15,18 @@ returns-in_default-subcommand-clause-refused c =
     c.in-Ok.ensures c.as_slice.ensures c.in-Ok-try_get_matches_from.ensures.matches c.in-Ok-try_get_matches_from.ensures.kinds
     ∙ not_entered (subcommand_rows_of m) c.in_default-subcommand.ensures.rows
 
-pub returns-in-Some-plan_from-clause-ok : goal.returns-in-Some-plan_from-clause-ok
-returns-in-Some-plan_from-clause-ok c =
+pub returns-in-Ok-Some-clause-ok : goal.returns-in-Ok-Some-clause-ok
+returns-in-Ok-Some-clause-ok c =
     let m = c.in-Ok-try_get_matches_from.matches in
     clap_took (app_of c.in-Ok.command) (map string_bytes c.as_slice.result.now) c.args.words.now m
     c.in-Ok.ensures c.as_slice.ensures c.in-Ok-try_get_matches_from.ensures.matches c.in-Ok-try_get_matches_from.ensures.kinds
     ∙ entered m c.in-Some.name.now (rows_of (found_of c.in-Some.inner.now)) c.in-Some.ensures.name c.in-Some.ensures.rows
-    ∙ sym c.in-Some-plan_from.ensures
+    ∙ sym (rw c.in-Ok-Some.field-0-is at c.in-Ok-Some.ensures)
 
-pub returns-clause-refused : goal.returns-clause-refused
-returns-clause-refused c =
+pub returns-in-Ok-None-clause-refused : goal.returns-in-Ok-None-clause-refused
+returns-in-Ok-None-clause-refused c =
     let m = c.in-Ok-try_get_matches_from.matches in
     clap_took (app_of c.in-Ok.command) (map string_bytes c.as_slice.result.now) c.args.words.now m
     c.in-Ok.ensures c.as_slice.ensures c.in-Ok-try_get_matches_from.ensures.matches c.in-Ok-try_get_matches_from.ensures.kinds
     ∙ entered m c.in-Some.name.now (rows_of (found_of c.in-Some.inner.now)) c.in-Some.ensures.name c.in-Some.ensures.rows
-    ∙ sym c.in-None.ensures
+    ∙ sym (rw c.in-Ok-None.field-0-is at c.in-Ok-None.ensures)

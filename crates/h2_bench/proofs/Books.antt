@@ -1,0 +1,36 @@
+-- The book of answers: word after word, and what refuses one.
+use Rattle.std.proofs.Common.{◌≡◌, ◌∙◌, ℕ, ◌+◌, List, [], ◌∷◌, ◌++◌, Option, Some, None, Result, Ok, Err, drop, map, inl, inr, ◌⊎◌, refl, sym, ap}
+use Rattle.h2_spec.specs.Answer.{Entry}
+use Rattle.h2_spec.specs.AnswerWords.{entry_of}
+use Rattle.h2_spec.specs.Book.{entry_fault}
+use Rattle.h2_request.specs.Fault as book
+use Rattle.h2_request.specs.declared.fault.BookFault.{BookFault}
+use Rattle.h2_request.specs.declared.fault.BookFault.TheVariants as code
+use Rattle.h2_bench.specs.AnswerParts.{refusal_of}
+use Rattle.h2_bench.specs.Books.{added, added_by, with_answer}
+use Rattle.h2_bench.specs.Faults.{fault_number}
+use Rattle.h2_bench.specs.declared.fault.BenchFault.{BenchFault}
+use Rattle.h2_bench.specs.declared.fault.BenchFault.TheVariants.{NoMemory, BadAnswer}
+
+by_entry : (b : List Entry) (e : Option Entry) (fault : BenchFault) → fault ≡ refusal_of e → (fault ≡ NoMemory) ⊎ (added_by b e ≡ Err (fault_number fault))
+by_entry b None fault h = inr (rw h refl)
+by_entry b (Some e) fault h = inl h
+
+-- the word says no entry, or memory was refused
+pub word_refused : (b : List Entry) (word : List ℕ) (fault : BenchFault) → fault ≡ refusal_of (entry_of word) → (fault ≡ NoMemory) ⊎ (with_answer b word ≡ Err (fault_number fault))
+unfolding with_answer
+word_refused b word fault h = by_entry b (entry_of word) fault h
+
+by_number : (n : Option ℕ) (b : List Entry) (e : Entry) (refusal : BookFault) (fault : BenchFault) → book.IsRefusal n refusal → fault_number fault ≡ book.fault_number refusal
+    → (refusal ≡ code.NoMemory → fault ≡ NoMemory) → (fault ≡ NoMemory) ⊎ (added b e n ≡ Err (fault_number fault))
+by_number n b e code.NoMemory fault h same memory = inl (memory refl)
+by_number n b e code.BadStatus fault h same memory = inr (rw (h, same) refl)
+by_number n b e code.BadField fault h same memory = inr (rw (h, same) refl)
+by_number n b e code.BodyNotAllowed fault h same memory = inr (rw (h, same) refl)
+by_number n b e code.TooLong fault h same memory = inr (rw (h, same) refl)
+
+-- the book refuses the entry, or memory was refused
+pub entry_refused : (b : List Entry) (word : List ℕ) (e : Entry) (refusal : BookFault) (fault : BenchFault) → entry_of word ≡ Some e → book.IsRefusal (entry_fault b e) refusal
+    → fault_number fault ≡ book.fault_number refusal → (refusal ≡ code.NoMemory → fault ≡ NoMemory) → (fault ≡ NoMemory) ⊎ (with_answer b word ≡ Err (fault_number fault))
+unfolding with_answer
+entry_refused b word e refusal fault said h same memory = rw said (by_number (entry_fault b e) b e refusal fault h same memory)
