@@ -24,6 +24,8 @@ mod reset;
 mod settings;
 pub mod show;
 mod state;
+#[cfg(test)]
+mod tests;
 pub mod view;
 mod window_update;
 mod write;
