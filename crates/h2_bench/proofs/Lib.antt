@@ -4,4 +4,5 @@ pub mod Books
 pub mod Digits
 pub mod Grammar
 pub mod Numbers
+pub mod Places
 pub mod Tables

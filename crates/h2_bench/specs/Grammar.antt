@@ -1,12 +1,13 @@
 -- The words of a command line: the commands as clap reads them, and what words ask for.
-use Rattle.std.specs.Prelude.{◌==◌, ◌&&◌, ◌^◌, ℕ, true, List, [], ◌∷◌, Option, Some, None, codes, length, nat_lt, if◌then◌else◌, unwrap_or, option_and_then}
+use Rattle.std.specs.Prelude.{◌==◌, ◌&&◌, ◌^◌, ℕ, Bool, true, false, List, [], ◌∷◌, Option, Some, None, codes, length, nat_lt, if◌then◌else◌, unwrap_or, option_and_then}
 use Rattle.std.specs.List.{list_all}
+use Rattle.std.specs.Option.{option_map_or}
 use Rattle.std.specs.Str.{bytes_eq}
 use Rattle.std.specs.Str.Parse.{digits_value, without_leading_plus}
 use Rattle.std.specs.Char.{digit_value}
 use Rattle.h2_spec.specs.declared.connection.Config.{Config}
-use Rattle.clap.specs.Words.{App, Kinds, Row, Rule, Text, all_of, fault_of, new_app, new_rule, one_of, subcommand_of, with_rule, with_subcommand}
-use Rattle.clap.specs.declared.builder.ArgAction.TheVariants.{Append, Set}
+use Rattle.clap.specs.Words.{App, Kinds, Row, Rule, Text, all_of, fault_of, first_of, new_app, new_rule, one_of, subcommand_of, with_rule, with_subcommand}
+use Rattle.clap.specs.declared.builder.ArgAction.TheVariants.{Append, Set, SetTrue}
 use Rattle.clap.specs.declared.builder.ValueParser.TheVariants as parser
 
 -- ---- the commands
@@ -23,12 +24,16 @@ credit_rule = record (new_rule (codes "credit")) { long = Some (codes "credit");
 abbrev pub cut_rule : Rule
 cut_rule = record (new_rule (codes "cut")) { long = Some (codes "cut"); action = Some Set; parser = Some (parser.Unsigned 0 65536) }
 
+-- whether each item is told
+abbrev pub each_rule : Rule
+each_rule = record (new_rule (codes "each")) { long = Some (codes "each"); action = Some SetTrue }
+
 -- the answers, any number of them
 abbrev pub answer_rule : Rule
 answer_rule = record (new_rule (codes "ANSWER")) { action = Some Append }
 
 abbrev pub play_app : App
-play_app = with_rule (with_rule (with_rule (with_rule (new_app (codes "play")) streams_rule) credit_rule) cut_rule) answer_rule
+play_app = with_rule (with_rule (with_rule (with_rule (with_rule (new_app (codes "play")) streams_rule) credit_rule) cut_rule) each_rule) answer_rule
 
 abbrev pub asm_app : App
 asm_app = new_app (codes "asm")
@@ -52,7 +57,7 @@ bench_app = with_subcommand (with_subcommand (with_subcommand (with_subcommand t
 -- ---- what words ask for
 
 pub data Asked : Type 0 where
-  play : (config : Config) → (cut : ℕ) → (answers : List Text) → Asked
+  play : (config : Config) → (cut : ℕ) → (each : Bool) → (answers : List Text) → Asked
   asm : Asked
   dis : Asked
   table : (limit : ℕ) → Asked
@@ -67,6 +72,10 @@ number_of text =
 abbrev pub number_at : Text → ℕ → List Row → ℕ
 number_at id default rows = unwrap_or (option_and_then number_of (one_of id rows)) default
 
+-- whether a flag was given
+abbrev pub is_set : Text → List Row → Bool
+is_set id rows = option_map_or (λ t. bytes_eq t (codes "true")) (first_of id rows) false
+
 -- the values of a positional that takes any number of them
 abbrev pub texts_at : Text → List Row → List Text
 texts_at id rows = unwrap_or (all_of id rows) []
@@ -77,7 +86,7 @@ config_at rows = record { streams = number_at (codes "streams") 100 rows; credit
 
 abbrev pub asked_by : Text → List Row → Option Asked
 asked_by name rows =
-    if bytes_eq name (codes "play") then Some (play (config_at rows) (number_at (codes "cut") 0 rows) (texts_at (codes "ANSWER") rows))
+    if bytes_eq name (codes "play") then Some (play (config_at rows) (number_at (codes "cut") 0 rows) (is_set (codes "each") rows) (texts_at (codes "ANSWER") rows))
     else if bytes_eq name (codes "asm") then Some asm
     else if bytes_eq name (codes "dis") then Some dis
     else (if bytes_eq name (codes "table") then Some (table (number_at (codes "LIMIT") 0 rows)) else None)

@@ -2,6 +2,7 @@ pub mod AnswerParts
 pub mod Answers
 pub mod Books
 pub mod Commands
+pub mod Each
 pub mod Ends
 pub mod Faults
 pub mod Grammar

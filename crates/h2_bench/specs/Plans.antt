@@ -7,7 +7,7 @@ use Rattle.h2_bench.specs.declared.command.Refusal.{Refusal}
 use Rattle.h2_bench.specs.declared.command.Refusal.TheVariants.{Words, NoMemory}
 
 abbrev pub planned : Plan → Asked
-planned (Play p) = play p.config p.cut (map (λ s. s.now) p.answers.items)
+planned (Play p) = play p.config p.cut p.each (map (λ s. s.now) p.answers.items)
 planned Asm = asm
 planned Dis = dis
 planned (Table limit) = table limit

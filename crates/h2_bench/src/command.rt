@@ -5,7 +5,7 @@ ghost use Rattle.std.specs.Prelude.{◌≡◌, IfOk, IfErr, Some, None, false, m
 ghost use Rattle.clap.specs.Words.{app_of, found_of, kind_of, rows_of, rule_of};
 ghost use Rattle.clap.specs.declared.error.ErrorKind.TheVariants.{OutOfMemory};
 ghost use Rattle.clap.specs.declared.builder.Command.TheViews.{out-Command};
-ghost use Rattle.h2_bench.specs.Grammar.{answer_rule, asked_by, asked_of, asm_app, bench_app, config_at, credit_rule, cut_rule, dis_app, number_at, play_app, streams_rule, table_app, texts_at};
+ghost use Rattle.h2_bench.specs.Grammar.{answer_rule, asked_by, asked_of, asm_app, bench_app, config_at, credit_rule, cut_rule, dis_app, each_rule, is_set, number_at, play_app, streams_rule, table_app, texts_at};
 ghost use Rattle.h2_bench.specs.Plans.{planned, Refuses};
 
 use crate::words::Words;
@@ -21,6 +21,8 @@ pub struct Play<'a> {
     pub config: Config,
     /// How many octets a piece has, 0 to 65536; 0 for one piece.
     pub cut: u32,
+    /// Whether each item is told.
+    pub each: bool,
     /// The words of the answers.
     pub answers: Vec<&'a str>,
 }
@@ -79,6 +81,15 @@ fn cut_option<'a>(alloc: Global) -> Arg<'a>
         .value_parser(ValueParser::Unsigned(0, 65536))
 }
 
+fn each_option<'a>(alloc: Global) -> Arg<'a>
+    ensures { (rule_of result ≡ each_rule) × (result.global ≡ false) }
+{
+    Arg::new(alloc, "each")
+        .help("Tells the state at the start and after each item")
+        .long("each")
+        .action(ArgAction::SetTrue)
+}
+
 fn answer_words<'a>(alloc: Global) -> Arg<'a>
     ensures { (rule_of result ≡ answer_rule) × (result.global ≡ false) }
 {
@@ -95,6 +106,7 @@ fn play_command<'a>(alloc: Global) -> Result<Command<'a>, AllocError>
         .arg(streams_option(alloc))?
         .arg(credit_option(alloc))?
         .arg(cut_option(alloc))?
+        .arg(each_option(alloc))?
         .arg(answer_words(alloc))
 }
 
@@ -152,6 +164,16 @@ fn number_at(matches: &ArgMatches<'_>, id: &str, default: u32) -> u32
     matches.get_one::<u32>(id).unwrap_or(default)
 }
 
+/// Whether a flag was given.
+fn is_set(matches: &ArgMatches<'_>, id: &str) -> bool
+    ensures { result ≡ is_set id.now (rows_of (found_of matches.now)) }
+{
+    match matches.get_str(id) {
+        Some(text) => text == "true",
+        None => false,
+    }
+}
+
 /// The values of a positional that takes any number of them.
 fn texts_at<'a>(
     alloc: Global,
@@ -186,10 +208,12 @@ fn plan_from<'a>(
     if name == "play" {
         let config = config_at(matches);
         let cut = number_at(matches, "cut", 0);
+        let each = is_set(matches, "each");
         let answers = texts_at(alloc, matches, "ANSWER")?;
         return Ok(Some(Plan::Play(Play {
             config,
             cut,
+            each,
             answers,
         })));
     }

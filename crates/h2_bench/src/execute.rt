@@ -35,7 +35,7 @@ fn answer_to(
     ensures { Gives result (told (planned plan.now) input.now) }
 {
     match plan {
-        Plan::Play(play) => whole(play_text(alloc, book, play.config, play.cut, input)),
+        Plan::Play(play) => whole(play_text(alloc, play, book, input)),
         Plan::Asm => asm_report(alloc, input),
         Plan::Dis => whole(dis_text(alloc, input)),
         Plan::Table(limit) => match table_text(alloc, *limit, input) {

@@ -6,6 +6,7 @@ mod asm;
 mod command;
 mod device;
 mod dis;
+mod each;
 mod execute;
 mod fault;
 mod input;

@@ -1,24 +1,29 @@
 //! The program `play`: a connection over the octets that hex text spells.
 //! Rests on `answer`, h2_conn and the crate `hex`; definitions: `specs/Books.antt`, `specs/Told.antt`.
 
-ghost use Rattle.std.specs.Prelude.{◌≡◌, ◌⊎◌, [], Ok, Err, map, IfErr, IfOk, OnOk};
+ghost use Rattle.std.specs.Prelude.{◌≡◌, ◌⊎◌, ◌<◌, ◌^◌, ◌++◌, [], Ok, Err, true, false, length, map, IfErr, IfOk, OnOk};
 ghost use Rattle.std.specs.String.{string_bytes};
+ghost use Rattle.h2_spec.specs.Trace.{trace};
+ghost use Rattle.h2_spec.specs.View.{view};
+ghost use Rattle.h2_conn.specs.Connection.{going};
 ghost use Rattle.h2_request.specs.Fault as book;
 ghost use Rattle.h2_request.specs.declared.fault.BookFault.TheVariants as books;
 ghost use Rattle.h2_bench.specs.Answers.{Meets};
 ghost use Rattle.h2_bench.specs.Books.{book_of, with_answer};
 ghost use Rattle.h2_bench.specs.Faults.{fault_number};
 ghost use Rattle.h2_bench.specs.Input.{octets_spelled};
-ghost use Rattle.h2_bench.specs.Told.{sent_and_state, told_play, told_played};
+ghost use Rattle.h2_bench.specs.Told.{item_text, items_text, sent_and_state, told_play, told_played};
 ghost use Rattle.h2_bench.specs.declared.fault.BenchFault.TheVariants.{NoMemory};
 
 use crate::answer::parse_answer;
+use crate::command::Play;
+use crate::each::{write_items, write_place};
 use crate::fault::BenchFault;
 use crate::input::read_hex;
-use h2_conn::ConnFault;
 use h2_conn::play::play;
 use h2_conn::show::write_view;
 use h2_conn::view::View;
+use h2_conn::{Conn, ConnFault};
 use h2_request::book::Book;
 use h2_request::fault::BookFault;
 use h2_spec::connection::Config;
@@ -98,14 +103,14 @@ fn piece_lengths(alloc: Global, cut: u32, total: usize) -> Result<Vec<usize>, Al
 }
 
 /// What `play` prints of octets: those sent, and the state after all of them.
-fn played(
+fn played_whole(
     alloc: Global,
     book: &Book<Global>,
     config: Config,
     cut: u32,
     octets: &[u8],
 ) -> Result<String, BenchFault>
-    ensures { Meets result (told_played book.now config octets.now) }
+    ensures { Meets result (told_played false book.now config octets.now) }
 {
     let lengths = piece_lengths(alloc, cut, octets.len())?;
     let mut sent = Vec::new(alloc);
@@ -119,21 +124,62 @@ fn played(
     }
 }
 
-/// What `play` prints of its input: the octets sent, and the state after all of them, however the octets are cut.
+/// What is told of a new connection and its items.
+fn places_told(
+    alloc: Global,
+    conn: &mut Conn<'_, Global>,
+    sent: &[u8],
+    octets: &[u8],
+) -> Result<String, BenchFault>
+    requires new { conn.old ≡ going conn.old.state [] }
+    requires few { length octets.now < 2 ^ 63 }
+    ensures { IfOk result (λ text. string_bytes text ≡ item_text 0 sent.now (view conn.old.state) ++ items_text 1 (trace conn.old.state octets.now).events) }
+{
+    let mut text = String::new(alloc);
+    let view = conn.state(alloc)?;
+    write_place(alloc, &mut text, 0, sent, &view)?;
+    write_items(alloc, conn, octets, &mut text)?;
+    Ok(text)
+}
+
+/// What `play` prints of octets place by place. Items are taken one by one, so pieces don't matter.
+fn played_each(
+    alloc: Global,
+    book: &Book<Global>,
+    config: Config,
+    octets: &[u8],
+) -> Result<String, BenchFault>
+    requires { length octets.now < 2 ^ 63 }
+    ensures { Meets result (told_played true book.now config octets.now) }
+{
+    let mut sent = Vec::new(alloc);
+    match Conn::new(book, config, &mut sent) {
+        Ok(mut conn) => match places_told(alloc, &mut conn, sent.as_slice(), octets) {
+            Ok(text) => Ok(text),
+            Err(_) => Err(BenchFault::NoMemory),
+        },
+        Err(ConnFault::BadConfig) => Err(BenchFault::BadConfig),
+        Err(_) => Err(BenchFault::NoMemory),
+    }
+}
+
+/// What `play` prints of its input, however the octets are cut: the octets sent, and the state after all of them; or both at the start and after each item.
 ///
 /// `BadHex` where the input is no hex text, then `BadConfig` where a limit is out of range; `NoMemory` where memory is refused.
 pub fn play_text(
     alloc: Global,
+    play: &Play<'_>,
     book: &Book<Global>,
-    config: Config,
-    cut: u32,
     input: &[u8],
 ) -> Result<String, BenchFault>
-    ensures { Meets result (told_play book.now config (octets_spelled input.now)) }
+    ensures { Meets result (told_play play.now.each book.now play.now.config (octets_spelled input.now)) }
 {
     let octets = match read_hex(alloc, input) {
         Ok(octets) => octets,
         Err(fault) => return Err(fault),
     };
-    played(alloc, book, config, cut, octets.as_slice())
+    if play.each {
+        return played_each(alloc, book, play.config, octets.as_slice());
+    }
+    played_whole(alloc, book, play.config, play.cut, octets.as_slice())
 }

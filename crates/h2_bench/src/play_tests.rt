@@ -1,6 +1,12 @@
 //! Whole runs of `play` with worked octets: requests and answers, flow control, the order of streams, and errors.
 
 use super::*;
+use crate::input::read_hex;
+use crate::play::book_of;
+use h2_conn::play::play;
+use h2_conn::show::write_view;
+use h2_request::book::Book;
+use h2_spec::connection::Config;
 use std::alloc::Global;
 use std::test::Fail;
 
@@ -467,5 +473,101 @@ fn long_blocks_are_refused(rt: HostRuntime) -> Result<(), Fail> {
         "sent 00000c040000000000000300000064000600010000000000040100000000000008070000000000000000000000000b\nphase ended 11 last 0\nwindow recv 65535 owed 0 send 65535\npeer table 4096 push 1 streams - window 65535 frame 16384 list - signal 0\nacked 0 goaway -\nblock stream 1 octets 65536 list 2752512 ends 0\ntable 0 0 4096\n";
     assert_eq!(rt; text.as_slice(), ended.as_bytes());
     assert_eq!(rt; status, 0);
+    Ok(())
+}
+
+/// What is sent for octets in pieces of these lengths, and the text of the state, where one stream may be live.
+fn played(
+    alloc: Global,
+    book: &Book<Global>,
+    octets: &[u8],
+    lengths: &[usize],
+) -> Result<(Vec<u8>, String), Fail> {
+    let config = Config {
+        streams: 1,
+        credit: 32768,
+    };
+    let mut sent = Vec::new(alloc);
+    let view = play(book, config, octets, lengths, &mut sent)?;
+    let mut text = String::new(alloc);
+    write_view(&mut text, &view)?;
+    Ok((sent, text))
+}
+
+#[test]
+fn two_pieces_change_nothing(rt: HostRuntime) -> Result<(), Fail> {
+    let alloc = rt.alloc();
+    let book = book_of(alloc, &["GET|/|200|6869"])?;
+    let cases: [(&str, &str); 5] = [
+        (
+            "a request",
+            "505249202a20485454502f322e300d0a0d0a534d0d0a0d0a000000040000000000000014010500000001828684410f7777772e6578616d706c652e636f6d",
+        ),
+        (
+            "a request in two frames",
+            "505249202a20485454502f322e300d0a0d0a534d0d0a0d0a000000040000000000000007010100000001828684418cf1e300000a090400000001c2e5f23a6ba0ab90f4ff",
+        ),
+        (
+            "DATA for a stream that was reset",
+            "505249202a20485454502f322e300d0a0d0a534d0d0a0d0a000000040000000000000006040000000000000400000000000014010500000001828684410f7777772e6578616d706c652e636f6d000003000000000001616263000003000000000001616263",
+        ),
+        (
+            "one stream at a time",
+            "505249202a20485454502f322e300d0a0d0a534d0d0a0d0a0000000400000000000000030104000000018286840000080105000000038286844001610162000000000100000001000004010500000005828684be",
+        ),
+        (
+            "more content than declared",
+            "505249202a20485454502f322e300d0a0d0a534d0d0a0d0a0000000400000000000000070104000000018386840f0d013300000400010000000161626364",
+        ),
+    ];
+    for (name, hex) in cases {
+        let octets = read_hex(alloc, hex.as_bytes())?;
+        let (sent, text) = played(alloc, &book, octets.as_slice(), &[])?;
+        for at in 0..octets.len() {
+            let (same, shown) = played(alloc, &book, octets.as_slice(), &[at])?;
+            assert_eq!(rt; same.as_slice(), sent.as_slice(), "{name}, cut at {at}");
+            assert_eq!(rt; shown.as_str(), text.as_str(), "{name}, cut at {at}");
+        }
+    }
+    Ok(())
+}
+
+#[test]
+fn beginnings_send_beginnings(rt: HostRuntime) -> Result<(), Fail> {
+    let alloc = rt.alloc();
+    let book = Book::new(alloc);
+    let hex =
+        "505249202a20485454502f322e300d0a0d0a534d0d0a0d0a0000000400000000000000030104000000018286840000080105000000038286844001610162000000000100000001000004010500000005828684be";
+    let octets = read_hex(alloc, hex.as_bytes())?;
+    let (sent, _) = played(alloc, &book, octets.as_slice(), &[])?;
+    for end in 0..octets.len() {
+        let (first, _) = played(alloc, &book, &octets.as_slice()[..end], &[])?;
+        assert!(rt;
+            sent.as_slice().starts_with(first.as_slice()),
+            "up to {end}"
+        );
+    }
+    Ok(())
+}
+
+#[test]
+fn each_item_is_told(rt: HostRuntime) -> Result<(), Fail> {
+    let cases: [(&str, &str, &str); 2] = [
+        (
+            "one octet that is no preface",
+            "47",
+            "item 0\nsent 00000c040000000000000300000064000600010000\nphase preface last 0\nwindow recv 65535 owed 0 send 65535\npeer table 4096 push 1 streams - window 65535 frame 16384 list - signal 0\nacked 0 goaway -\nblock -\ntable 0 0 4096\nitem 1\nsent 0000080700000000000000000000000001\nphase ended 1 last 0\nwindow recv 65535 owed 0 send 65535\npeer table 4096 push 1 streams - window 65535 frame 16384 list - signal 0\nacked 0 goaway -\nblock -\ntable 0 0 4096\n",
+        ),
+        (
+            "preface, SETTINGS, an unknown type and a part of a head",
+            "505249202a20485454502f322e300d0a0d0a534d0d0a0d0a0000000400000000000000010a0000000000000000",
+            "item 0\nsent 00000c040000000000000300000064000600010000\nphase preface last 0\nwindow recv 65535 owed 0 send 65535\npeer table 4096 push 1 streams - window 65535 frame 16384 list - signal 0\nacked 0 goaway -\nblock -\ntable 0 0 4096\nitem 1\nsent -\nphase settings last 0\nwindow recv 65535 owed 0 send 65535\npeer table 4096 push 1 streams - window 65535 frame 16384 list - signal 0\nacked 0 goaway -\nblock -\ntable 0 0 4096\nitem 2\nsent 000000040100000000\nphase running last 0\nwindow recv 65535 owed 0 send 65535\npeer table 4096 push 1 streams - window 65535 frame 16384 list - signal 0\nacked 0 goaway -\nblock -\ntable 0 0 4096\nitem 3\nsent -\nphase running last 0\nwindow recv 65535 owed 0 send 65535\npeer table 4096 push 1 streams - window 65535 frame 16384 list - signal 0\nacked 0 goaway -\nblock -\ntable 0 0 4096\n",
+        ),
+    ];
+    for (name, input, text) in cases {
+        let (status, got) = ran(rt.alloc(), &["play", "--each"], input.as_bytes())?;
+        assert_eq!(rt; got.as_slice(), text.as_bytes(), "at {name}");
+        assert_eq!(rt; status, 0, "at {name}");
+    }
     Ok(())
 }

@@ -1,0 +1,87 @@
+-- A run that is told place by place.
+use Rattle.std.proofs.Common.{◌≡◌, ◌∙◌, ◌+◌, ◌-◌, ◌<◌, ◌≤◌, ℕ, List, [], ◌∷◌, ◌++◌, length, drop, refl, sym, ap, subst, arith, length-drop, append_assoc}
+use Rattle.std.proofs.lemmas.List.{append-nil, drop-drop}
+use Rattle.h2_spec.specs.Frame.{frames_octets}
+use Rattle.h2_spec.specs.Parse.{Front, Stop, One, Parsed, after_one, parse_all, parse_first}
+use Rattle.h2_spec.specs.State.{State}
+use Rattle.h2_spec.specs.Frame.{Next, NoItem, Got}
+use Rattle.h2_spec.specs.Trace.{Event, event_on, next_event, next_item, trace}
+use Rattle.h2_spec.specs.View.{View, view}
+use Rattle.h2_spec.proofs.ParseLaws.{Uses, parse_all-step}
+use Rattle.h2_spec.proofs.TraceLaws.{event-uses}
+use Rattle.h2_conn.specs.Connection.{Connection, going}
+use Rattle.h2_conn.specs.Runs.{TakesOne}
+use Rattle.h2_bench.specs.Each.{TellsItem}
+use Rattle.h2_bench.specs.Told.{item_text, items_text}
+
+-- the events of a run
+abbrev pub events : State → List ℕ → List Event
+events s b = (parse_all next_event s b).elements
+
+pub trace-events : (s : State) (b : List ℕ) → (trace s b).events ≡ events s b
+unfolding trace
+trace-events s b = refl
+
+events-stop : (s : State) (b : List ℕ) → next_event s b ≡ Stop → events s b ≡ []
+events-stop s b e =
+    ap (λ (r : Parsed State Event). r.elements) (parse_all-step next_event event-uses s b ∙ ap (λ (x : Front State Event). parse_first s b x (λ t rest. parse_all next_event t rest)) e)
+
+events-one : (s t : State) (b : List ℕ) (e : Event) (used : ℕ) → next_event s b ≡ One e t used → events s b ≡ e ∷ events t (drop used b)
+events-one s t b e used h =
+    ap (λ (r : Parsed State Event). r.elements) (parse_all-step next_event event-uses s b ∙ ap (λ (x : Front State Event). parse_first s b x (λ u rest. parse_all next_event u rest)) h)
+
+items-none : (place : ℕ) → items_text place [] ≡ []
+unfolding items_text
+items-none place = refl
+
+items-cons : (place : ℕ) (e : Event) (es : List Event) → items_text place (e ∷ es) ≡ item_text place (frames_octets e.sent) (view e.state) ++ items_text (place + 1) es
+unfolding items_text
+items-cons place e es = refl
+
+pub item-within : (s : State) (octets : List ℕ) (at place used : ℕ) (a b : List ℕ) (c : Connection) → at ≤ length octets → TellsItem s (drop at octets) place a c b used
+    → (0 < used) × (at + used ≤ length octets)
+item-within s octets at place used a b c h x =
+    let uses : Uses (drop at octets) (One x.event c.state used) = subst (λ (n : Front State Event). Uses (drop at octets) n) x.comes (event-uses s (drop at octets)) in
+    (uses.0, omega (arith, h, uses.1, length-drop at octets))
+
+pub item-told : (s : State) (octets : List ℕ) (at place used : ℕ) (a b all : List ℕ) (c : Connection) → TellsItem s (drop at octets) place a c b used
+    → a ++ items_text place (events s (drop at octets)) ≡ all → b ++ items_text (place + 1) (events c.state (drop (at + used) octets)) ≡ all
+item-told s octets at place used a b all c x h =
+    let later : List Event = events c.state (drop (at + used) octets) in
+    let one : events s (drop at octets) ≡ x.event ∷ later =
+    events-one s c.state (drop at octets) x.event used x.comes ∙ ap (λ (r : List ℕ). x.event ∷ events c.state r) (drop-drop used at octets) in
+    let text : items_text place (events s (drop at octets)) ≡ item_text place (frames_octets x.event.sent) (view c.state) ++ items_text (place + 1) later =
+    ap (items_text place) one ∙ items-cons place x.event later ∙ ap (λ (t : State). item_text place (frames_octets x.event.sent) (view t) ++ items_text (place + 1) later) x.state in
+    rw x.told (append_assoc a (item_text place (frames_octets x.event.sent) (view c.state)) (items_text (place + 1) later) ∙ ap (λ (t : List ℕ). a ++ t) (sym text) ∙ h)
+
+pub none-told : (s : State) (b a all : List ℕ) (place : ℕ) → next_event s b ≡ Stop → a ++ items_text place (events s b) ≡ all → a ≡ all
+none-told s b a all place e h = sym (append-nil a) ∙ ap (λ (t : List ℕ). a ++ t) (sym (ap (items_text place) (events-stop s b e) ∙ items-none place)) ∙ h
+
+same-state : State → Front State Event → Type 0
+same-state s Stop = Unit {0}
+same-state s (One e t used) = e.state ≡ t
+
+event-same : (s : State) (n : Next) → same-state s (event_on s n)
+unfolding same-state
+event-same s NoItem = tt
+event-same s (Got x used) = refl
+
+event-state : (s t : State) (b : List ℕ) (e : Event) (used : ℕ) → next_event s b ≡ One e t used → e.state ≡ t
+unfolding next_event same-state
+event-state s t b e used h = subst (same-state s) h (event-same s (next_item s b))
+
+-- one item that was taken from octets alone is told
+pub taken-told : (c c' : Connection) (octets out text text' : List ℕ) (used place : ℕ) (shown : View) → c ≡ going c.state [] → TakesOne c octets [] c' out used
+    → shown ≡ view c'.state → text' ≡ text ++ item_text place out shown → TellsItem c.state octets place text c' text' used
+taken-told c c' octets out text text' used place shown fresh x v told =
+    let empty : c.rest ≡ [] = ap (λ (d : Connection). d.rest) fresh in
+    let state : c'.state ≡ x.next = ap (λ (d : Connection). d.state) x.after in
+    let comes : next_event c.state octets ≡ One x.event x.next x.taken = ap (λ (r : List ℕ). next_event c.state (r ++ octets)) (sym empty) ∙ x.comes in
+    let count : used ≡ x.taken = omega (arith, x.used_is, ap length empty) in
+    record {
+      event = x.event;
+      comes = rw (state, count) comes;
+      state = event-state c.state x.next octets x.event x.taken comes ∙ sym state;
+      after = x.after ∙ ap (λ (t : State). going t []) (sym state);
+      told = rw (← v, ← x.sent) told;
+    }
