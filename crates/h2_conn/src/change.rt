@@ -3,7 +3,6 @@
 
 ghost use Rattle.std.specs.Prelude.{◌≡◌, ℕ, true, List, max};
 ghost use Rattle.h2_spec.specs.Change as changes;
-ghost use Rattle.h2_spec.specs.Stream as stream;
 ghost use Rattle.h2_spec.specs.Stream.{Records};
 ghost use Rattle.h2_streams.specs.Put.{CanPut};
 ghost use Rattle.h2_spec.specs.declared.connection.Core.{Core};
@@ -12,28 +11,10 @@ ghost use Rattle.h2_conn.specs.Sound.{HasBody, IsCalm, IsSoundChange, IsSoundStr
 
 use h2_spec::connection::Core;
 use h2_spec::errors::ErrorCode;
-use h2_spec::flow::{Credit, Settings, Window};
+use h2_spec::flow::Settings;
 use h2_spec::reactions::{Change, ConnectionFrame, StreamFrame, Touch, Turn};
-use h2_spec::streams::{Kind, Numbers, Pick, Stream};
-
-/// The record of a stream that is not live.
-pub fn not_live(id: u32, kind: Kind) -> Stream
-    ensures { result ≡ stream.not_live id kind }
-{
-    Stream {
-        id,
-        kind,
-        numbers: Numbers {
-            recv: Window::start(0),
-            owed: Credit::none(),
-            send: Window::start(0),
-            got: 0,
-            declared: None,
-            left: None,
-        },
-        pick: Pick::NotFound,
-    }
-}
+use h2_spec::streams::{Kind, Stream};
+use h2_streams::not_live;
 
 /// The stream's record, with nothing sent.
 pub fn quiet_turn(signal: bool, stream: Stream) -> Turn

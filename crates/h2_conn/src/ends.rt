@@ -7,9 +7,10 @@ ghost use Rattle.h2_spec.specs.Data as data_rule;
 ghost use Rattle.h2_spec.specs.Answer.{Entry, picked};
 ghost use Rattle.h2_conn.specs.Sound.{HasBody, IsSoundStream, is_recorded};
 
-use crate::change::{not_live, quiet_turn};
+use crate::change::quiet_turn;
 use h2_spec::reactions::{Answering, StreamFrame, Turn};
 use h2_spec::streams::{Kind, Numbers, Stream};
+use h2_streams::not_live;
 
 /// The stream after the server's last frame.
 #[tactic(auto, unfolding(h2_spec::specs::Ends::server_ended, h2_spec::specs::Stream::octets_waiting))]

@@ -87,14 +87,14 @@ fn end_flag(ends: bool) -> u8
     if ends { 1 } else { 0 }
 }
 
-fn octets_at(octets: &[u8], start: usize, count: usize) -> &[u8]
+pub fn octets_at(octets: &[u8], start: usize, count: usize) -> &[u8]
     requires { start + count ≤ length octets.now }
     ensures { result.now ≡ take count (drop start octets.now) }
 {
     &octets[start..start + count]
 }
 
-fn octets_from(octets: &[u8], start: usize) -> &[u8]
+pub fn octets_from(octets: &[u8], start: usize) -> &[u8]
     requires { start ≤ length octets.now }
     ensures { result.now ≡ drop start octets.now }
 {

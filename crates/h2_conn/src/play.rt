@@ -11,24 +11,11 @@ ghost use Rattle.h2_conn.specs.declared.fault.ConnFault.TheVariants.{NoMemory};
 
 use crate::conn::Conn;
 use crate::fault::ConnFault;
+use crate::pieces::{octets_at, octets_from};
 use crate::view::View;
 use h2_request::book::Book;
 use h2_spec::connection::Config;
 use std::alloc::Allocator;
-
-fn octets_from(octets: &[u8], start: usize) -> &[u8]
-    requires { start ≤ length octets.now }
-    ensures { result.now ≡ drop start octets.now }
-{
-    &octets[start..]
-}
-
-fn octets_at(octets: &[u8], start: usize, count: usize) -> &[u8]
-    requires { start + count ≤ length octets.now }
-    ensures { result.now ≡ take count (drop start octets.now) }
-{
-    &octets[start..start + count]
-}
 
 /// Feeds a connection the octets in pieces of these lengths, then what remains.
 fn feed_pieces<'b, A: Allocator + Copy>(

@@ -7,11 +7,12 @@ ghost use Rattle.h2_spec.specs.Stream.{Records, stream_at};
 ghost use Rattle.h2_spec.specs.Answer.{Entry};
 ghost use Rattle.h2_conn.specs.Sound.{IsSound, IsSoundCore};
 
-use crate::change::{not_live, quiet_turn, stay, turned};
+use crate::change::{quiet_turn, stay, turned};
 use h2_spec::connection::Core;
 use h2_spec::errors::ErrorCode;
 use h2_spec::reactions::Reaction;
 use h2_spec::streams::{Kind, Stream};
+use h2_streams::not_live;
 
 /// RST_STREAM on a stream.
 #[tactic(auto, unfolding(h2_spec::specs::Effect::on_reset, h2_spec::specs::Effect::reset_turn, h2_spec::specs::Stream::octets_waiting))]
