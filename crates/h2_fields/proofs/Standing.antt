@@ -1,10 +1,11 @@
 -- Where a decoder stands after some of its octets, and what it stands for after a fragment.
-use Rattle.std.proofs.Common.{◌≡◌, ◌≢◌, ℕ, ◌+◌, ◌-◌, ◌<◌, ◌≤◌, List, ◌++◌, length, drop, Some, None, option_map, Result, refl, ap, ◌∙◌, sym, arith, length-drop}
+use Rattle.std.proofs.Common.{◌≡◌, ◌≢◌, ℕ, ◌+◌, ◌-◌, ◌<◌, ◌≤◌, List, [], ◌++◌, length, drop, take, Some, None, option_map, Result, refl, ap, ◌∙◌, sym, arith, length-drop}
+use Rattle.std.proofs.lemmas.List.{append-nil, take_all}
 use Rattle.h2_spec.specs.Block.{Fault, Index, Integer, Huffman, SizeUpdate, Outcome, Unfinished, Faulty, Progress, Decoded, BlockSoFar, applied, decoded, decoded_with, carried_on}
 use Rattle.h2_spec.specs.DynamicTable.{Table}
 use Rattle.h2_spec.specs.Instruction.{Shape, instr_at}
-use Rattle.h2_spec.specs.Read.{Whole, TooLong}
-use Rattle.h2_spec.proofs.BlockLaws.{Stands, stands-start, stands-refused, stands-too_long, stands-within}
+use Rattle.h2_spec.specs.Read.{Whole, More, TooLong}
+use Rattle.h2_spec.proofs.BlockLaws.{Stands, stands-start, stands-refused, stands-too_long, stands-within, stands-more, decoded-more}
 use Rattle.h2_spec.proofs.InstructionLaws.{whole-takes}
 use Rattle.h2_fields.specs.Blocks.{IsFaulted, faulted, outcome_of, progress_so_far}
 use Rattle.h2_fields.specs.Faults.{refusal, fault_of}
@@ -46,13 +47,28 @@ too_long-faulted limit p q b at s e = record {
   within = λ _. stands-within limit p q b at s;
 }
 
--- memory is refused before anything was done
-pub refused-at_once : (limit : ℕ) (p : Progress) (b : List ℕ) (f : BlockFault) → f ≡ faults.NoMemory → IsFaulted limit p b p f
-refused-at_once limit p b f e = record {
+-- memory is refused behind whole instructions
+pub refused-memory : (limit : ℕ) (p q : Progress) (b : List ℕ) (at : ℕ) (f : BlockFault) → Stands limit p b at q → f ≡ faults.NoMemory → IsFaulted limit p b q f
+refused-memory limit p q b at f s e = record {
   named = λ k. let clash : faults.NoMemory ≡ faults.Truncated = sym e ∙ k in cc;
   exact = λ h. absurd (h e);
-  within = λ _. stands-within limit p p b 0 (stands-start limit p b);
+  within = λ _. stands-within limit p q b at s;
 }
+
+-- or before anything was done
+pub refused-at_once : (limit : ℕ) (p : Progress) (b : List ℕ) (f : BlockFault) → f ≡ faults.NoMemory → IsFaulted limit p b p f
+refused-at_once limit p b f e = refused-memory limit p p b 0 f (stands-start limit p b) e
+
+-- ---- the octets that leave the table as it is
+
+-- up to an instruction of which nothing was done
+pub still-front : (limit : ℕ) (p q now : Progress) (b : List ℕ) (at : ℕ) (rest : List ℕ) → Stands limit p b at q → now ≡ q → rest ≡ [] → (at ≤ length b) × (decoded limit p (take at b) ≡ record { progress = now; outcome = Unfinished rest })
+still-front limit p q now b at rest s n e = rw (n, e) (s.within, s.front)
+
+-- up to their end
+pub still-whole : (limit : ℕ) (p q : Progress) (b : List ℕ) (at : ℕ) (rest : List ℕ) → Stands limit p b at q → instr_at (drop at b) ≡ More → rest ≡ drop at b →
+    (length b ≤ length b) × (decoded limit p (take (length b) b) ≡ record { progress = q; outcome = Unfinished rest })
+still-whole limit p q b at rest s m e = rw (e, take_all (length b) b (omega arith)) (omega arith, stands-more limit p q b at s m)
 
 -- a whole instruction leaves fewer octets
 pub fewer : (b : List ℕ) (at used : ℕ) (i : Shape) → at ≤ length b → instr_at (drop at b) ≡ Whole i used → length b - (at + used) < length b - at
@@ -80,6 +96,13 @@ carried-faulty limit table s piece x e = rw e refl
 pub carried-open : (limit : ℕ) (table : Table) (s : BlockSoFar) (rest piece : List ℕ) → s.outcome ≡ Some (Unfinished rest) → Some (decoded limit (progress_so_far table s) (rest ++ piece)) ≡ option_map (λ d. carried_on limit d piece) (decoded_with table s)
 unfolding carried_on
 carried-open limit table s rest piece e = rw e refl
+
+-- one that takes nothing of a piece stays as it is
+pub carried-nothing : (limit : ℕ) (table : Table) (s : BlockSoFar) (rest : List ℕ) → s.outcome ≡ Some (Unfinished rest) → instr_at rest ≡ More → decoded_with table s ≡ option_map (λ d. carried_on limit d []) (decoded_with table s)
+carried-nothing limit table s rest e m =
+    ap (option_map (λ (o : Outcome). let d : Decoded = record { progress = progress_so_far table s; outcome = o } in d)) e
+    ∙ ap Some (sym (ap (decoded limit (progress_so_far table s)) (append-nil rest) ∙ decoded-more limit (progress_so_far table s) rest m))
+    ∙ carried-open limit table s rest [] e
 
 -- the outcome that a decoder shows for its fault
 pub faulted-outcome : (rest : List ℕ) (o : Outcome) (f : BlockFault) → faulted o ≡ Some f → outcome_of rest (Some f) ≡ Some o

@@ -10,7 +10,7 @@ ghost use Rattle.h2_spec.specs.DynamicTable.{field_at};
 ghost use Rattle.h2_spec.specs.Field.{field};
 ghost use Rattle.h2_spec.specs.Instruction as spec;
 ghost use Rattle.h2_table.specs.Lent.{lent_field};
-ghost use Rattle.h2_fields.specs.Blocks.{IsApplied, progress_of};
+ghost use Rattle.h2_fields.specs.Blocks.{IsApplied, IsAppliedStill, after_literal, progress_of};
 ghost use Rattle.h2_fields.specs.Faults.{refusal};
 ghost use Rattle.h2_fields.specs.Shapes.{mode_of, string_of, name_of, shape_of};
 ghost use Rattle.h2_fields.specs.declared.fault.BlockFault.TheVariants as faults;
@@ -36,6 +36,25 @@ pub fn apply<A: Allocator + Copy>(
         Shape::Indexed(index) => apply_indexed(gathered, table, index),
         Shape::Update(max) => apply_update(gathered, table, max),
         Shape::Literal(mode, name, value) => apply_literal(gathered, table, mode, name, value),
+    }
+}
+
+/// Does what an instruction says that leaves the table as it is, or refuses it; answers whether it is one. A refusal, and an
+/// instruction that alters the table, leave the fields as they were.
+pub fn apply_still<A: Allocator + Copy>(
+    gathered: &mut Gathered<A>,
+    table: &DynTable<A>,
+    shape: Shape<'_>,
+) -> Result<bool, BlockFault>
+    ensures applied { IsAppliedStill table.now.limit (progress_of gathered.old table.now) (shape_of shape.entry) (progress_of gathered.new table.now) result }
+{
+    match shape {
+        Shape::Indexed(index) => {
+            apply_indexed(gathered, table, index)?;
+            Ok(true)
+        }
+        Shape::Update(_) => Ok(false),
+        Shape::Literal(mode, name, value) => literal_still(gathered, table, mode, name, value),
     }
 }
 
@@ -87,14 +106,48 @@ fn apply_literal<A: Allocator + Copy>(
     ensures applied { IsApplied table.old.limit (progress_of gathered.old table.old) (spec.Literal (mode_of mode) (name_of name.entry) (string_of value.entry)) (progress_of gathered.new table.new) result }
     ensures limit { table.new.limit ≡ table.old.limit }
 {
+    let (name, value) = literal_texts(gathered, table, name, value)?;
+    add_literal(gathered, table, mode, name, value)?;
+    Ok(())
+}
+
+/// A field that is spelled and does not enter the table (RFC 7541, 6.2.2 and 6.2.3); false where it enters it.
+fn literal_still<A: Allocator + Copy>(
+    gathered: &mut Gathered<A>,
+    table: &DynTable<A>,
+    mode: Mode,
+    name: RawName<'_>,
+    value: RawString<'_>,
+) -> Result<bool, BlockFault>
+    ensures applied { IsAppliedStill table.now.limit (progress_of gathered.old table.now) (spec.Literal (mode_of mode) (name_of name.entry) (string_of value.entry)) (progress_of gathered.new table.now) result }
+{
+    match mode {
+        Mode::Add => Ok(false),
+        Mode::Without | Mode::Never => {
+            let texts = literal_texts(gathered, table, name, value)?;
+            gathered.add(Field::new(texts.0, texts.1))?;
+            Ok(true)
+        }
+    }
+}
+
+/// The name and the value of a literal, where no size update is due.
+fn literal_texts<A: Allocator + Copy>(
+    gathered: &Gathered<A>,
+    table: &DynTable<A>,
+    name: RawName<'_>,
+    value: RawString<'_>,
+) -> Result<(Vec<u8, A>, Vec<u8, A>), BlockFault>
+    ensures texts { IfOk result (λ texts. (mode : spec.Mode) → block.applied table.now.limit (progress_of gathered.now table.now) (spec.Literal mode (name_of name.entry) (string_of value.entry)) ≡ Ok (after_literal (progress_of gathered.now table.now) mode (field texts.0.items texts.1.items))) }
+    ensures fault { IfErr result (λ fault. fault ≢ faults.NoMemory → (mode : spec.Mode) → refusal (block.applied table.now.limit (progress_of gathered.now table.now) (spec.Literal mode (name_of name.entry) (string_of value.entry))) ≡ Some fault) }
+{
     if gathered.is_due() {
         return Err(BlockFault::SizeUpdate);
     }
     let alloc = gathered.alloc();
     let name = literal_name(alloc, table, name)?;
     let value = text_of(alloc, value)?;
-    add_literal(gathered, table, mode, name, value)?;
-    Ok(())
+    Ok((name, value))
 }
 
 /// Adds a literal field, to the table too where its mode says so: there a copy enters.

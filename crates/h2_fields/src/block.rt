@@ -2,13 +2,15 @@
 //! It rests on `shape` for what stands at the front of the octets, and on `apply` for what each instruction does.
 //! The definitions are `decoded` and `carried_on` of `h2_spec`, specs/Block.antt; contracts see a decoder as `BlockSoFar`.
 
-ghost use Rattle.std.specs.Prelude.{◌≡◌, ◌≢◌, ◌≤◌, [], ◌++◌, false, drop, vec_len, length, Some, None, Err, option_map, IfOk, IfErr, OnOk};
+ghost use Rattle.std.specs.Prelude.{◌≡◌, ◌≢◌, ◌≤◌, ◌<◌, [], ◌++◌, false, drop, take, vec_len, length, Some, None, Ok, Err, option_map, IfOk, IfErr, OnOk};
 ghost use Rattle.h2_spec.specs.Block as block;
 ghost use Rattle.h2_spec.specs.Block.{Unfinished, StandsWithin, carried_on, decoded_with};
-ghost use Rattle.h2_fields.specs.Blocks.{IsFaulted, answer_of, finish_of, progress_of, progress_so_far, unfinished};
+ghost use Rattle.h2_spec.specs.Instruction.{instr_at};
+ghost use Rattle.h2_spec.specs.Read.{More};
+ghost use Rattle.h2_fields.specs.Blocks.{IsAltering, IsFaulted, answer_of, finish_of, progress_of, progress_so_far, taken_by, told, unfinished};
 ghost use Rattle.h2_fields.specs.declared.fault.BlockFault.TheVariants as faults;
 
-use crate::apply::apply;
+use crate::apply::{apply, apply_still};
 use crate::fault::BlockFault;
 use crate::field::Field;
 use crate::gathered::Gathered;
@@ -34,7 +36,7 @@ impl<A: Allocator> Model for BlockDecoder<A> {
 
     ghost view = { λ d. record { fields = d.gathered.fields; due = d.gathered.due; outcome = outcome_of d.rest.items d.fault } };
 
-    ghost invariant = { λ d. CanStand d.fault };
+    ghost invariant = { λ d. CanStand d.rest.items d.fault };
 }
 
 impl<A: Allocator + Copy> BlockDecoder<A> {
@@ -72,6 +74,39 @@ impl<A: Allocator + Copy> BlockDecoder<A> {
             Err(fault) => {
                 self.fault = Some(fault);
                 Err(fault)
+            }
+        }
+    }
+
+    /// Decodes the front of a fragment as far as the table stays as it is, and answers how many octets that takes, up to the
+    /// length of the piece: all of them, an instruction that the piece begins and does not end included, or those before the
+    /// first whole instruction that alters the table, a literal with incremental indexing or a size update (RFC 7541, 6.2.1 and
+    /// 6.3). Where octets of the fragments before it are left it takes none and changes nothing. The rest is for `push`.
+    ///
+    /// # Errors
+    ///
+    /// As those of `push`, of the instructions up to there; `NoMemory` also where memory for the octets that are left was refused.
+    /// After an error each further call answers the same one and changes nothing.
+    pub fn push_still(&mut self, table: &DynTable<A>, piece: &[u8]) -> Result<usize, BlockFault>
+        ensures answer { told result ≡ answer_of self.new.outcome }
+        ensures within { IfOk result (λ used. used ≤ length piece.now) }
+        ensures carried { self.new.outcome ≢ None → decoded_with table.now.table self.new ≡ option_map (λ before. carried_on table.now.limit before (taken_by result piece.now)) (decoded_with table.now.table self.old) }
+        ensures stops { IfOk result (λ used. unfinished self.old.outcome ≡ [] → used < length piece.now → IsAltering (instr_at (drop used piece.now))) }
+        ensures left { unfinished self.old.outcome ≢ [] → (result ≡ Ok 0) × (self.new ≡ self.old) }
+        ensures refused { self.new.outcome ≡ None → self.old.outcome ≢ None → StandsWithin table.now.limit (progress_so_far table.now.table self.old) (unfinished self.old.outcome ++ piece.now) (progress_so_far table.now.table self.new) }
+        ensures spent { self.old.outcome ≡ None → self.new ≡ self.old }
+    {
+        if let Some(fault) = self.fault {
+            return Err(fault);
+        }
+        if !self.rest.is_empty() {
+            return Ok(0);
+        }
+        match decode_still(&mut self.gathered, table, &mut self.rest, piece) {
+            Ok(used) => Ok(used),
+            Err(error) => {
+                self.fault = Some(error);
+                Err(error)
             }
         }
     }
@@ -133,6 +168,7 @@ fn decode_piece<A: Allocator + Copy>(
     piece: &[u8],
 ) -> Result<(), BlockFault>
     ensures ok { OnOk result (block.decoded table.old.limit (progress_of gathered.old table.old) (rest.old.items ++ piece.now) ≡ record { progress = progress_of gathered.new table.new; outcome = Unfinished rest.new.items }) }
+    ensures cut { OnOk result (instr_at rest.new.items ≡ More) }
     ensures fault { IfErr result (λ fault. IsFaulted table.old.limit (progress_of gathered.old table.old) (rest.old.items ++ piece.now) (progress_of gathered.new table.new) fault) }
     ensures limit { table.new.limit ≡ table.old.limit }
 {
@@ -162,6 +198,7 @@ fn decode<A: Allocator + Copy>(
     octets: &[u8],
 ) -> Result<usize, BlockFault>
     ensures used { IfOk result (λ used. (used ≤ length octets.now) × (block.decoded table.old.limit (progress_of gathered.old table.old) octets.now ≡ record { progress = progress_of gathered.new table.new; outcome = Unfinished (drop used octets.now) })) }
+    ensures cut { IfOk result (λ used. instr_at (drop used octets.now) ≡ More) }
     ensures within { IfOk result (λ used. StandsWithin table.old.limit (progress_of gathered.old table.old) octets.now (progress_of gathered.new table.new)) }
     ensures fault { IfErr result (λ fault. IsFaulted table.old.limit (progress_of gathered.old table.old) octets.now (progress_of gathered.new table.new) fault) }
     ensures limit { table.new.limit ≡ table.old.limit }
@@ -174,6 +211,39 @@ fn decode<A: Allocator + Copy>(
                 at += used;
             }
             Err(Cut::More) => return Ok(at),
+            Err(Cut::TooLong) => return Err(BlockFault::Integer),
+        }
+    }
+}
+
+/// Does what the whole instructions at the front of the octets say, up to one that alters the table, and answers how many octets
+/// they take. Where none alters it, what does not end an instruction is left and counts too.
+fn decode_still<A: Allocator + Copy>(
+    gathered: &mut Gathered<A>,
+    table: &DynTable<A>,
+    rest: &mut Vec<u8, A>,
+    octets: &[u8],
+) -> Result<usize, BlockFault>
+    requires { rest.old.items ≡ [] }
+    ensures used { IfOk result (λ used. (used ≤ length octets.now) × (block.decoded table.now.limit (progress_of gathered.old table.now) (take used octets.now) ≡ record { progress = progress_of gathered.new table.now; outcome = Unfinished rest.new.items })) }
+    ensures cut { OnOk result (instr_at rest.new.items ≡ More) }
+    ensures stops { IfOk result (λ used. used < length octets.now → IsAltering (instr_at (drop used octets.now))) }
+    ensures fault { IfErr result (λ fault. IsFaulted table.now.limit (progress_of gathered.old table.now) octets.now (progress_of gathered.new table.now) fault) }
+{
+    let mut at = 0;
+    loop {
+        let left = octets_from(octets, at);
+        match shape_at(left) {
+            Ok((shape, used)) => {
+                if !apply_still(gathered, table, shape)? {
+                    return Ok(at);
+                }
+                at += used;
+            }
+            Err(Cut::More) => {
+                rest.extend_from_slice(left)?;
+                return Ok(octets.len());
+            }
             Err(Cut::TooLong) => return Err(BlockFault::Integer),
         }
     }

@@ -501,6 +501,65 @@ fn a_copy_goes_its_own_way(rt: HostRuntime) -> Result<(), Fail> {
     Ok(())
 }
 
+/// A block of Appendix C on an empty table: how many of its octets leave the table as it is, their fields, and all its fields.
+struct Still {
+    name: &'static str,
+    block: &'static str,
+    used: usize,
+    front: &'static str,
+    fields: &'static str,
+}
+
+static STILL: [Still; 4] = [
+    Still {
+        name: "C.2.1, a literal with indexing",
+        block: "400a637573746f6d2d6b65790d637573746f6d2d686561646572",
+        used: 0,
+        front: "",
+        fields: "custom-key: custom-header\n",
+    },
+    Still {
+        name: "C.2.2, a literal without indexing",
+        block: "040c2f73616d706c652f70617468",
+        used: 14,
+        front: ":path: /sample/path\n",
+        fields: ":path: /sample/path\n",
+    },
+    Still {
+        name: "C.2.3, a literal never indexed",
+        block: "100870617373776f726406736563726574",
+        used: 17,
+        front: "password: secret\n",
+        fields: "password: secret\n",
+    },
+    Still {
+        name: "C.3.1, three indexed fields and a literal with indexing",
+        block: "828684410f7777772e6578616d706c652e636f6d",
+        used: 3,
+        front: ":method: GET\n:scheme: http\n:path: /\n",
+        fields: ":method: GET\n:scheme: http\n:path: /\n:authority: www.example.com\n",
+    },
+];
+
+#[test]
+fn the_front_of_a_block_leaves_the_table(rt: HostRuntime) -> Result<(), Fail> {
+    let alloc = rt.alloc();
+    for case in &STILL {
+        let mut table = DynTable::new(alloc, 4096)?;
+        let mut decoder = BlockDecoder::start(alloc);
+        let block = hex::decode(alloc, case.block)?;
+        let used = decoder.push_still(&table, block.as_slice())?;
+        assert_eq!(rt; used, case.used, "{}", case.name);
+        let front = lines(alloc, decoder.fields())?;
+        assert_eq!(rt; front.as_slice(), case.front.as_bytes(), "{}", case.name);
+        decoder.push(&mut table, block.as_slice().split_at(used).1)?;
+        decoder.finish()?;
+        let fields = lines(alloc, decoder.fields())?;
+        assert_eq!(rt; fields.as_slice(), case.fields.as_bytes(), "{}", case.name);
+    }
+    Ok(())
+}
+
 // ---- instructions
 
 /// Whether `write_instr` takes the instruction.

@@ -1,6 +1,6 @@
-use Rattle.std.proofs.Common.{◌≡◌, ◌≢◌, ◌++◌, Some, option_map, refl, ap, ◌∙◌, sym}
+use Rattle.std.proofs.Common.{◌≡◌, ◌≢◌, ◌++◌, Some, option_map, refl, ap, ◌∙◌, subst, sym}
 use Rattle.h2_spec.specs.Block.{BlockSoFar, Decoded, carried_on, decoded, decoded_with}
-use Rattle.h2_fields.specs.Blocks.{outcome_of, progress_of}
+use Rattle.h2_fields.specs.Blocks.{CanStand, outcome_of, progress_of}
 use Rattle.h2_fields.proofs.Standing.{faulty_outcome, carried-faulty, carried-open, shown-faulty}
 use Rattle.h2_fields.specs.declared.fault.BlockFault.TheVariants as faults
 use Rattle.h2_fields.proofs.block.BlockDecoder.push.Goals as goal
@@ -9,7 +9,7 @@ pub returns-in-Some-clause-carried : goal.returns-in-Some-clause-carried
 returns-in-Some-clause-carried g c = λ h.
     let rest = c.self.inside.rest.items in
     let shown : outcome_of rest (Some c.in-Some.fault) ≡ c.args.self.now.outcome = ap (outcome_of rest) (sym c.in-Some.is) ∙ ap (λ (s : BlockSoFar). s.outcome) c.self.view_is in
-    let stands : c.in-Some.fault ≢ faults.Truncated = λ e. c.self.invariant (c.in-Some.is ∙ ap Some e) in
+    let stands = subst (CanStand rest) c.in-Some.is c.self.invariant in
     let faulty = faulty_outcome rest c.in-Some.fault stands (λ e. h (sym shown ∙ e)) in
     carried-faulty c.args.table.now.limit c.args.table.now.table c.args.self.now c.args.piece.now faulty.0 (sym shown ∙ faulty.1)
 
