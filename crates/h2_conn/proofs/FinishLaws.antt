@@ -17,7 +17,7 @@ use Rattle.h2_spec.specs.Stream.{Records}
 use Rattle.h2_spec.specs.Trace.{then_sent}
 use Rattle.h2_conn.specs.Blocks.{IsOpenFor}
 use Rattle.h2_conn.specs.Does.{Does}
-use Rattle.h2_conn.specs.Sending.{all_frames, core_after, core_after_as, records, records_after, streams_after}
+use Rattle.h2_conn.specs.Sending.{core_after, core_after_as, records, records_after, streams_after}
 use Rattle.h2_conn.specs.Sound.{IsSoundChange, IsSoundTouch, touched_records}
 use Rattle.h2_conn.proofs.MakeLaws.{made-then, open-after}
 use Rattle.h2_conn.proofs.SoundLaws.{touched-streams}
@@ -28,6 +28,10 @@ after-step s c = record s { core = core_after c.core (touched c.touch s.streams)
 
 stands : (s now : State) (p : List ℕ) (c : Change) (out out' : List ℕ) → Does (then_sent c.core.phase (made s p c)) out now out' → now ≡ after-step s c
 stands s now p c out out' d = d.state ∙ ap (λ (step : Step). step.state) (made-then s p c)
+
+-- the table stays as it was
+pub same-table : (s now : State) (p : List ℕ) (c : Change) (out out' : List ℕ) → Does (then_sent c.core.phase (made s p c)) out now out' → now.table ≡ s.table
+same-table s now p c out out' d = ap (λ (x : State). x.table) (stands s now p c out out' d)
 
 -- with another block and another table
 pub rebound : (s now : State) (p : List ℕ) (c : Change) (b : Option OpenBlock) (t : Table) (out out' : List ℕ) → Does (then_sent c.core.phase (made s p c)) out now out' →

@@ -1,5 +1,6 @@
 -- Fragments: what a decoder that goes on comes to, and how a block ends.
-use Rattle.std.proofs.Common.{◌≡◌, ◌≢◌, ℕ, zero, suc, Bool, true, false, ◌&&◌, not, cond, ◌+◌, nat_lt, List, [], ◌∷◌, ◌++◌, drop, length, nat_le, Option, Some, None, Result, Ok, Err, refl, sym, ap, subst, ◌∙◌}
+use Rattle.std.proofs.Common.{◌≡◌, ◌≢◌, ℕ, zero, suc, Bool, true, false, ◌&&◌, not, cond, ◌+◌, nat_lt, List, [], ◌∷◌, ◌++◌, append_assoc, drop, take, length, nat_le, Option, Some, None, Result, Ok, Err, refl, sym, ap, subst, ◌∙◌}
+use Rattle.std.proofs.lemmas.List.{take-append-drop}
 use Rattle.std.specs.Option.{option_map}
 use Rattle.h2_fields.specs.Blocks.{answer_of, finish_of, unfinished}
 use Rattle.h2_fields.specs.Faults.{fault_of}
@@ -16,6 +17,7 @@ use Rattle.h2_spec.specs.Instruction.{Shape, Indexed, Update, Literal, text_of, 
 use Rattle.h2_spec.specs.Parse.{Front, Stop, One, parse_all, parse_upto, parse_first}
 use Rattle.h2_spec.specs.Read.{Read, Whole, More, TooLong}
 use Rattle.h2_spec.specs.State as state
+use Rattle.h2_spec.proofs.BlockLaws.{decoded-append}
 use Rattle.h2_conn.specs.Blocks.{IsFaulty, IsGoing, after_fragment, before_fragment}
 
 -- ---- an update that is not due stays not due
@@ -146,6 +148,18 @@ faulted limit table table' before now piece f going answer other carried = at no
         some-same y d (sym (ap (λ o. option_map (λ (z : Outcome). let w : Decoded = record { progress = record { fields = now.fields; table = table'; due = now.due }; outcome = z } in w) o) e)
         ∙ carried-is limit table table' before now piece going (carried some)) in
         (x, sym (ap (λ (w : Decoded). w.outcome) is))
+
+-- a fragment in two parts
+pub joined : (limit : ℕ) (table : Table) (before now : BlockSoFar) (octets : List ℕ) (used : ℕ) →
+    decoded limit (before_fragment table before) (unfinished before.outcome ++ take used octets) ≡ after_fragment table now →
+    decoded limit (before_fragment table before) (unfinished before.outcome ++ octets) ≡ decoded limit (before_fragment table now) (unfinished now.outcome ++ drop used octets)
+unfolding carried_on
+joined limit table before now octets used e =
+    let rest = unfinished before.outcome in
+    let p = before_fragment table before in
+    ap (λ o. decoded limit p (rest ++ o)) (sym (take-append-drop used octets))
+    ∙ ap (decoded limit p) (sym (append_assoc rest (take used octets) (drop used octets)))
+    ∙ decoded-append limit p (rest ++ take used octets) (drop used octets) ∙ ap (λ d. carried_on limit d (drop used octets)) e
 
 -- ---- how a block ends
 

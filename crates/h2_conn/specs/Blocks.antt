@@ -20,6 +20,8 @@ use Rattle.h2_streams.specs.Put.{can_become}
 use Rattle.h2_conn.specs.Sound.{IsSoundChange, touched_records}
 use Rattle.h2_conn.specs.declared.block.FragmentEffect.{FragmentEffect}
 use Rattle.h2_conn.specs.declared.block.FragmentEffect.TheVariants.{Breaks, Makes}
+use Rattle.h2_conn.specs.declared.block.TableAfter.{TableAfter}
+use Rattle.h2_conn.specs.declared.block.TableAfter.TheVariants.{Same, Changed}
 
 -- a block whose decoder has met no fault and no want of memory, and need not begin with a size update
 abbrev pub IsGoing : BlockSoFar → Type 0
@@ -73,16 +75,26 @@ IsFaulty d = (f : Fault) × (d.outcome ≡ Faulty f)
 
 -- ---- what a fragment comes to
 
+-- the header table after a fragment, by the one before it
+abbrev pub table_by : {A : Type 0} → Table → TableAfter A → Table
+table_by before Same = before
+table_by before (Changed table) = table.table
+
+-- another table has this limit
+abbrev pub HasLimit : {A : Type 0} → ℕ → TableAfter A → Type 0
+HasLimit limit Same = Unit {0}
+HasLimit limit (Changed table) = table.limit ≡ limit
+
 -- in a state
 abbrev pub effect_seen : {A : Type 0} → State → FragmentEffect A → headers.FrameEffect
 effect_seen s (Breaks code) = headers.Breaks code
-effect_seen s (Makes block table change) = headers.Makes (record s { block = block; table = table.table }) change
+effect_seen s (Makes block table change) = headers.Makes (record s { block = block; table = table_by s.table table }) change
 
 -- the change keeps what is true of every connection, the table its limit, and an open block is known by its stream, with the records after the change
 abbrev pub IsSoundEffect : {A : Type 0} → List Entry → Records → ℕ → ℕ → FragmentEffect A → Type 0
 IsSoundEffect book r window limit (Breaks code) = Unit {0}
 IsSoundEffect book r window limit (Makes block table change) =
-    IsSoundChange book r window change × (table.limit ≡ limit) × IsOpenFor (touched_records change.touch r) block
+    IsSoundChange book r window change × HasLimit limit table × IsOpenFor (touched_records change.touch r) block
 
 -- what is shown of the open block, and how far it is decoded, if it is decoded further
 abbrev pub decoding_in : BlockView → Option Decoding → Option (BlockView × Decoding)

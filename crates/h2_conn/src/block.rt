@@ -1,9 +1,10 @@
 //! Fragments of field blocks, from HEADERS and CONTINUATION (RFC 9113, 4.3, 6.2 and 6.10).
 //! Rests on `block_end` and on h2_fields; definition: `fragment` of h2_spec's `specs/Headers.antt`.
 
-ghost use Rattle.std.specs.Prelude.{◌≡◌, ◌≢◌, ℕ, List, ◌++◌, None, Option, IfOk, IfSome, OnOk};
+ghost use Rattle.std.specs.Prelude.{◌≡◌, ◌≢◌, ℕ, List, ◌++◌, Option, IfOk, IfErr, OnOk};
 ghost use Rattle.h2_spec.specs.Answer.{Entry};
 ghost use Rattle.h2_spec.specs.Block as block;
+ghost use Rattle.h2_spec.specs.DynamicTable.{Table};
 ghost use Rattle.h2_spec.specs.FrameType as frames;
 ghost use Rattle.h2_spec.specs.Headers as rule;
 ghost use Rattle.h2_spec.specs.State as state;
@@ -11,12 +12,13 @@ ghost use Rattle.h2_spec.specs.Stream.{Records, kind_of};
 ghost use Rattle.h2_spec.specs.Table.{headers_cell};
 ghost use Rattle.h2_fields.specs.Blocks.{unfinished};
 ghost use Rattle.h2_fields.specs.declared.fault.BlockFault.TheVariants.{NoMemory};
-ghost use Rattle.h2_conn.specs.Blocks.{IsFaulty, IsGoing, IsOpenAt, IsSoundEffect, after_fragment, before_fragment, cell_of, effect_seen, state_of};
+ghost use Rattle.h2_conn.specs.Blocks.{HasLimit, IsFaulty, IsGoing, IsOpenAt, IsSoundEffect, after_fragment, before_fragment, cell_of, effect_seen, state_of, table_by};
 ghost use Rattle.h2_conn.specs.Sound.{AreSound, IsSoundState};
 
 use crate::block_end::block_ends;
 use crate::change::stay;
 use crate::checks::has;
+use crate::pieces::octets_from;
 use crate::state::{Decoding, OpenBlock};
 use h2_fields::block::BlockDecoder;
 use h2_fields::fault::BlockFault;
@@ -39,32 +41,56 @@ const END_HEADERS: u8 = 4;
 /// The most octets of a block's fragments.
 const MAX_BLOCK: usize = 65_536;
 
+/// The header table after a fragment: the one before it, or another.
+#[derive(Drop)]
+pub enum TableAfter<A: Allocator> {
+    Same,
+    Changed(DynTable<A>),
+}
+
+impl<A: Allocator> TableAfter<A> {
+    /// Puts the table after a fragment in the place of the one before it.
+    pub fn replace(self, table: &mut DynTable<A>)
+        ensures table { table.new.table ≡ table_by table.old.table self }
+        ensures limit { HasLimit table.old.limit self → table.new.limit ≡ table.old.limit }
+    {
+        match self {
+            TableAfter::Same => {}
+            TableAfter::Changed(changed) => *table = changed,
+        }
+    }
+}
+
 /// What a fragment comes to: a connection error, or the open block and the header table after it, and a change.
 #[derive(Drop)]
 pub enum FragmentEffect<A: Allocator> {
     Breaks(ErrorCode),
-    Makes(Option<OpenBlock<A>>, DynTable<A>, Change),
+    Makes(Option<OpenBlock<A>>, TableAfter<A>, Change),
 }
 
-/// Decodes a fragment behind those before it, on a copy of the table. Answers the copy, or none where the block has a fault.
+/// Decodes a fragment behind those before it. From the first instruction that alters the table it goes on with a copy of it,
+/// which is the table after the fragment.
+///
+/// # Errors
+///
+/// As those of `BlockDecoder::push`; `NoMemory` also where memory for the copy was refused.
 fn decoded<A: Allocator + Copy>(
     table: &DynTable<A>,
     decoder: &mut BlockDecoder<A>,
     octets: &[u8],
-) -> Result<Option<DynTable<A>>, AllocError>
+) -> Result<TableAfter<A>, BlockFault>
     requires { IsGoing decoder.old }
-    ensures faulty { IfOk result (λ copy. copy ≡ None → IsFaulty (block.decoded table.now.limit (before_fragment table.now.table decoder.old) (unfinished decoder.old.outcome ++ octets.now))) }
-    ensures decoded { IfOk result (λ copy. IfSome copy (λ t. block.decoded table.now.limit (before_fragment table.now.table decoder.old) (unfinished decoder.old.outcome ++ octets.now) ≡ after_fragment t.table decoder.new)) }
-    ensures going { IfOk result (λ copy. IfSome copy (λ t. IsGoing decoder.new × (t.limit ≡ table.now.limit))) }
+    ensures faulty { IfErr result (λ fault. fault ≢ NoMemory → IsFaulty (block.decoded table.now.limit (before_fragment table.now.table decoder.old) (unfinished decoder.old.outcome ++ octets.now))) }
+    ensures decoded { IfOk result (λ after. block.decoded table.now.limit (before_fragment table.now.table decoder.old) (unfinished decoder.old.outcome ++ octets.now) ≡ after_fragment (table_by table.now.table after) decoder.new) }
+    ensures going { IfOk result (λ after. IsGoing decoder.new × HasLimit table.now.limit after) }
 {
-    let mut copy = table.try_clone()?;
-    match decoder.push(&mut copy, octets) {
-        Ok(()) => Ok(Some(copy)),
-        Err(fault) => {
-            no_want(fault)?;
-            Ok(None)
-        }
+    let used = decoder.push_still(table, octets)?;
+    if used == octets.len() {
+        return Ok(TableAfter::Same);
     }
+    let mut copy = table.try_clone()?;
+    decoder.push(&mut copy, octets_from(octets, used))?;
+    Ok(TableAfter::Changed(copy))
 }
 
 /// Whether a fault is one of the octets: `AllocError` where it is a want of memory.
@@ -87,15 +113,15 @@ fn read<A: Allocator + Copy>(
     config: Config,
     core: Core,
     streams: &Streams<A>,
-    table: DynTable<A>,
+    table: TableAfter<A>,
     shown: BlockView,
     decoding: Decoding<A>,
     end_headers: bool,
 ) -> FragmentEffect<A>
     requires sound { IsSoundState book.now core streams.now }
     requires open { IsOpenAt streams.now shown.stream decoding.purpose }
-    ensures effect { (b : Option state.OpenBlock) → effect_seen (state_of book.now config core b table.table streams.now.streams) result ≡ rule.fragment_read (state_of book.now config core b table.table streams.now.streams) shown decoding end_headers }
-    ensures sound { IsSoundEffect book.now streams.now core.peer.window table.limit result }
+    ensures effect { (b : Option state.OpenBlock) (before : Table) → effect_seen (state_of book.now config core b before streams.now.streams) result ≡ rule.fragment_read (state_of book.now config core b (table_by before table) streams.now.streams) shown decoding end_headers }
+    ensures sound { (limit : ℕ) → HasLimit limit table → IsSoundEffect book.now streams.now core.peer.window limit result }
 {
     if !end_headers {
         let block = OpenBlock {
@@ -122,8 +148,8 @@ fn read<A: Allocator + Copy>(
     }
 }
 
-/// A fragment of a block whose stream is known by the block's purpose. Nothing is changed: the table is copied, and what
-/// the block comes to is answered with the copy.
+/// A fragment of a block whose stream is known by the block's purpose. Nothing is changed: what the block comes to is answered,
+/// with the table after it where that is another.
 ///
 /// # Errors
 ///
@@ -155,9 +181,12 @@ pub fn fragment<A: Allocator + Copy>(
     } = decoding;
     // The table's maximum is within its limit: no block has to begin with a size update.
     let _max = table.max();
-    match decoded(table, &mut decoder, octets)? {
-        None => Ok(FragmentEffect::Breaks(ErrorCode::CompressionError)),
-        Some(table) => {
+    match decoded(table, &mut decoder, octets) {
+        Err(fault) => {
+            no_want(fault)?;
+            Ok(FragmentEffect::Breaks(ErrorCode::CompressionError))
+        }
+        Ok(table) => {
             let shown = BlockView {
                 octets: count as u32,
                 list_size: decoder.list_size(),

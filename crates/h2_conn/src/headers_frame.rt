@@ -43,7 +43,7 @@ impl<'b, A: Allocator + Copy> State<'b, A> {
             FragmentEffect::Makes(block, table, change) => {
                 self.make(change, payload, out)?;
                 self.block = block;
-                self.table = table;
+                table.replace(&mut self.table);
                 Ok(())
             }
         }

@@ -1,37 +1,85 @@
-use Rattle.std.proofs.Common.{◌≡◌, ◌≢◌, None, ap, sym, subst, ◌∙◌}
+use Rattle.std.proofs.Common.{◌≡◌, ◌≢◌, ◌++◌, ℕ, List, None, take, ap, sym, subst, ◌∙◌, arith}
+use Rattle.std.proofs.lemmas.List.{take_all}
+use Rattle.std.proofs.lemmas.Result.{err_from_is_err_and}
 use Rattle.std.specs.Option.{option_map}
-use Rattle.h2_spec.specs.Block.{carried_on, decoded_with}
+use Rattle.h2_spec.specs.Block.{carried_on, decoded, decoded_with}
 use Rattle.h2_spec.specs.DynamicTable.{LimitedTable}
-use Rattle.h2_conn.proofs.FragmentLaws.{faulted, went-on}
+use Rattle.h2_fields.specs.Blocks.{unfinished}
+use Rattle.h2_conn.specs.Blocks.{IsFaulty, after_fragment, before_fragment}
+use Rattle.h2_conn.proofs.FragmentLaws.{faulted, joined, went-on}
 use Rattle.h2_conn.proofs.block.decoded.Goals as goal
 
-pub returns-in-Ok-clause-decoded : goal.returns-in-Ok-clause-decoded
-returns-in-Ok-clause-decoded g c =
+pub returns-in_err-used-clause-faulty : goal.returns-in_err-used-clause-faulty
+returns-in_err-used-clause-faulty g c =
     let a = c.args in
-    let now = c.push.new.self in
-    let after = c.push.new.table.table in
-    let before = a.decoder.now in
-    let P : LimitedTable → Type 0 = λ t. now.outcome ≢ None → decoded_with after now ≡ option_map (λ d. carried_on t.limit d a.octets.now) (decoded_with t.table before) in
-    let carried = subst P c.in_ok-copy.ensures.same c.push.ensures.carried in
-    (went-on a.table.now.limit a.table.now.table after before now a.octets.now c.requires (sym c.in-Ok.is ∙ c.push.ensures.answer) carried).0
+    let r = err_from_is_err_and c.from_residual.result c.from_residual.ensures.1 in
+    let table = a.table.now.table in
+    rw (r.1, r.2) (λ other. faulted a.table.now.limit table table a.decoder.now c.push_still.new.self a.octets.now c.in_err-used.field-0.0 c.requires c.in_err-used.ensures.answer other c.in_err-used.ensures.carried)
 
-pub returns-in-Ok-clause-going : goal.returns-in-Ok-clause-going
-returns-in-Ok-clause-going g c =
+pub returns-then-used-octets-clause-decoded : goal.returns-then-used-octets-clause-decoded
+returns-then-used-octets-clause-decoded g c =
     let a = c.args in
-    let now = c.push.new.self in
-    let after = c.push.new.table.table in
+    let used = c.in_ok-used.used in
+    let table = a.table.now.table in
     let before = a.decoder.now in
-    let P : LimitedTable → Type 0 = λ t. now.outcome ≢ None → decoded_with after now ≡ option_map (λ d. carried_on t.limit d a.octets.now) (decoded_with t.table before) in
-    let carried = subst P c.in_ok-copy.ensures.same c.push.ensures.carried in
-    let going = (went-on a.table.now.limit a.table.now.table after before now a.octets.now c.requires (sym c.in-Ok.is ∙ c.push.ensures.answer) carried).1 in
-    (going, c.push.ensures.limit ∙ ap (λ (t : LimitedTable). t.limit) c.in_ok-copy.ensures.same)
+    let now = c.push_still.new.self in
+    let went = went-on a.table.now.limit table table before now (take used a.octets.now) c.requires c.in_ok-used.ensures.answer c.in_ok-used.ensures.carried in
+    subst (λ o. decoded a.table.now.limit (before_fragment table before) (unfinished before.outcome ++ o) ≡ after_fragment table now) (take_all used a.octets.now (omega arith)) went.0
 
-pub returns-in_ok-no_want-in-Err-clause-faulty : goal.returns-in_ok-no_want-in-Err-clause-faulty
-returns-in_ok-no_want-in-Err-clause-faulty g c = λ none.
+pub returns-then-used-octets-clause-going : goal.returns-then-used-octets-clause-going
+returns-then-used-octets-clause-going g c =
     let a = c.args in
+    let table = a.table.now.table in
+    let went = went-on a.table.now.limit table table a.decoder.now c.push_still.new.self (take c.in_ok-used.used a.octets.now) c.requires c.in_ok-used.ensures.answer c.in_ok-used.ensures.carried in
+    (went.1, tt)
+
+pub returns-in_err-push-clause-faulty : goal.returns-in_err-push-clause-faulty
+returns-in_err-push-clause-faulty g c =
+    let a = c.args in
+    let limit = a.table.now.limit in
+    let table = a.table.now.table in
+    let used = c.in_ok-used.used in
+    let before = a.decoder.now in
+    let mid = c.push_still.new.self in
     let now = c.push.new.self in
     let after = c.push.new.table.table in
-    let before = a.decoder.now in
-    let P : LimitedTable → Type 0 = λ t. now.outcome ≢ None → decoded_with after now ≡ option_map (λ d. carried_on t.limit d a.octets.now) (decoded_with t.table before) in
+    let piece = c.octets_from.result.now in
+    let went = went-on limit table table before mid (take used a.octets.now) c.requires c.in_ok-used.ensures.answer c.in_ok-used.ensures.carried in
+    let P : LimitedTable → Type 0 = λ t. now.outcome ≢ None → decoded_with after now ≡ option_map (λ d. carried_on t.limit d piece) (decoded_with t.table mid) in
     let carried = subst P c.in_ok-copy.ensures.same c.push.ensures.carried in
-    faulted a.table.now.limit a.table.now.table after before now a.octets.now c.in-Err.fault c.requires (sym c.in-Err.is ∙ c.push.ensures.answer) c.in_ok-no_want-in-Err.ensures carried
+    let r = err_from_is_err_and c.from_residual-in_err-push.result c.from_residual-in_err-push.ensures.1 in
+    rw (r.1, r.2) (λ other.
+    let F : List ℕ → Type 0 = λ o. IsFaulty (decoded limit (before_fragment table mid) (unfinished mid.outcome ++ o)) in
+    let bad : F piece = faulted limit table after mid now piece c.in_err-push.field-0.0 went.1 c.in_err-push.ensures.answer other carried in
+    subst IsFaulty (sym (joined limit table before mid a.octets.now used went.0)) (subst F c.octets_from.ensures bad))
+
+pub returns-clause-decoded : goal.returns-clause-decoded
+returns-clause-decoded g c =
+    let a = c.args in
+    let limit = a.table.now.limit in
+    let table = a.table.now.table in
+    let used = c.in_ok-used.used in
+    let before = a.decoder.now in
+    let mid = c.push_still.new.self in
+    let now = c.push.new.self in
+    let after = c.push.new.table.table in
+    let piece = c.octets_from.result.now in
+    let went = went-on limit table table before mid (take used a.octets.now) c.requires c.in_ok-used.ensures.answer c.in_ok-used.ensures.carried in
+    let P : LimitedTable → Type 0 = λ t. now.outcome ≢ None → decoded_with after now ≡ option_map (λ d. carried_on t.limit d piece) (decoded_with t.table mid) in
+    let carried = subst P c.in_ok-copy.ensures.same c.push.ensures.carried in
+    joined limit table before mid a.octets.now used went.0
+    ∙ subst (λ o. decoded limit (before_fragment table mid) (unfinished mid.outcome ++ o) ≡ after_fragment after now) c.octets_from.ensures (went-on limit table after mid now piece went.1 c.in_ok-push.ensures.answer carried).0
+
+pub returns-clause-going : goal.returns-clause-going
+returns-clause-going g c =
+    let a = c.args in
+    let limit = a.table.now.limit in
+    let table = a.table.now.table in
+    let mid = c.push_still.new.self in
+    let now = c.push.new.self in
+    let after = c.push.new.table.table in
+    let piece = c.octets_from.result.now in
+    let went = went-on limit table table a.decoder.now mid (take c.in_ok-used.used a.octets.now) c.requires c.in_ok-used.ensures.answer c.in_ok-used.ensures.carried in
+    let P : LimitedTable → Type 0 = λ t. now.outcome ≢ None → decoded_with after now ≡ option_map (λ d. carried_on t.limit d piece) (decoded_with t.table mid) in
+    let carried = subst P c.in_ok-copy.ensures.same c.push.ensures.carried in
+    ((went-on limit table after mid now piece went.1 c.in_ok-push.ensures.answer carried).1, c.push.ensures.limit ∙ ap (λ (t : LimitedTable). t.limit) c.in_ok-copy.ensures.same)
