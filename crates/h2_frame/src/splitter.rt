@@ -114,9 +114,19 @@ impl<A: Allocator> Splitter<A> {
     fn give_back(&mut self)
         ensures { self.new ≡ self.old }
     {
-        self.buffer.drain(..self.offset);
+        drop_front(&mut self.buffer, self.offset);
         self.offset = 0;
     }
+}
+
+/// Takes out the first octets, this many; what follows them is moved once.
+fn drop_front<A: Allocator>(octets: &mut Vec<u8, A>, count: usize)
+    requires { count ≤ vec_len octets.old }
+    ensures { octets.new.items ≡ drop count octets.old.items }
+{
+    let left = octets.len() - count;
+    octets.copy_within(count.., 0);
+    octets.truncate(left);
 }
 
 impl Item<'_> {
