@@ -11,14 +11,10 @@ mod execute;
 mod fault;
 mod input;
 mod play;
-#[cfg(test)]
-mod play_tests;
 mod report;
 mod table;
 #[cfg(test)]
 mod tests;
-#[cfg(test)]
-mod tests_script;
 mod words;
 
 pub use answer::parse_answer;

@@ -1,6 +1,6 @@
 //! The programs `asm` and `dis` on scripts and octets, which are written out from RFC 9113 and RFC 7541.
 
-use crate::tests::ran;
+use crate::program::ran;
 use std::test::Fail;
 
 #[test]

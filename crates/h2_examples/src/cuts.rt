@@ -1,0 +1,155 @@
+//! The same octets in other pieces, and the beginnings of octets (RFC 9113, 4.1).
+
+use crate::program::ran;
+use h2_bench::parse_answer;
+use h2_conn::Conn;
+use h2_conn::play::play;
+use h2_conn::show::write_view;
+use h2_request::book::Book;
+use h2_spec::connection::Config;
+use std::alloc::{AllocError, Global};
+use std::process::Abort;
+use std::test::Fail;
+
+/// Three requests where one stream may be open, and DATA that ends the first, as hex.
+const ONE_AT_A_TIME: &str =
+    "505249202a20485454502f322e300d0a0d0a534d0d0a0d0a0000000400000000000000030104000000018286840000080105000000038286844001610162000000000100000001000004010500000005828684be";
+
+/// A request in two frames, as hex.
+const IN_TWO_FRAMES: &str =
+    "505249202a20485454502f322e300d0a0d0a534d0d0a0d0a000000040000000000000007010100000001828684418cf1e300000a090400000001c2e5f23a6ba0ab90f4ff";
+
+/// At most one stream open, and the usual credit.
+fn one_stream() -> Config {
+    Config {
+        streams: 1,
+        credit: 32768,
+    }
+}
+
+#[test]
+fn pieces_change_nothing(rt: HostRuntime) -> Result<(), Fail> {
+    let words = ["play", "GET|/|200|6869"];
+    let (_, whole) = ran(rt.alloc(), words.as_slice(), IN_TWO_FRAMES.as_bytes())?;
+    for cut in ["1", "2", "3", "7", "33", "65536"] {
+        let words = ["play", "--cut", cut, "GET|/|200|6869"];
+        let (status, text) = ran(rt.alloc(), words.as_slice(), IN_TWO_FRAMES.as_bytes())?;
+        assert_eq!(rt; text.as_slice(), whole.as_slice(), "at {cut}");
+        assert_eq!(rt; status, 0, "at {cut}");
+    }
+    Ok(())
+}
+
+/// What is sent for octets in pieces of these lengths, and the text of the state.
+fn played(
+    alloc: Global,
+    book: &Book<Global>,
+    octets: &[u8],
+    lengths: &[usize],
+) -> Result<(Vec<u8>, String), Fail> {
+    let mut sent = Vec::new(alloc);
+    let view = play(book, one_stream(), octets, lengths, &mut sent)?;
+    let mut text = String::new(alloc);
+    write_view(&mut text, &view)?;
+    Ok((sent, text))
+}
+
+/// So many lengths of 1.
+fn ones(alloc: Global, count: usize) -> Result<Vec<usize>, AllocError> {
+    let mut lengths = Vec::new(alloc);
+    for _ in 0..count {
+        lengths.push(1)?;
+    }
+    Ok(lengths)
+}
+
+/// Cuts octets in two in each place, and into single octets, and compares what is sent and shown with that of the octets whole.
+fn compare_cuts(rt: &impl Abort, alloc: Global, name: &str, hex: &str) -> Result<(), Fail> {
+    let mut book = Book::new(alloc);
+    book.add(parse_answer(alloc, "GET|/|200|6869")?)?;
+    let octets = hex::decode(alloc, hex)?;
+    let (sent, text) = played(alloc, &book, octets.as_slice(), &[])?;
+    for at in 0..octets.len() {
+        let (same, shown) = played(alloc, &book, octets.as_slice(), &[at])?;
+        assert_eq!(rt; same.as_slice(), sent.as_slice(), "{name}, cut at {at}");
+        assert_eq!(rt; shown.as_str(), text.as_str(), "{name}, cut at {at}");
+    }
+    let lengths = ones(alloc, octets.len())?;
+    let (same, shown) = played(alloc, &book, octets.as_slice(), lengths.as_slice())?;
+    assert_eq!(rt; same.as_slice(), sent.as_slice(), "{name}, octet by octet");
+    assert_eq!(rt; shown.as_str(), text.as_str(), "{name}, octet by octet");
+    Ok(())
+}
+
+#[test]
+fn cuts_change_nothing(rt: HostRuntime) -> Result<(), Fail> {
+    let cases: [(&str, &str); 5] = [
+        (
+            "a request",
+            "505249202a20485454502f322e300d0a0d0a534d0d0a0d0a000000040000000000000014010500000001828684410f7777772e6578616d706c652e636f6d",
+        ),
+        ("a request in two frames", IN_TWO_FRAMES),
+        (
+            "DATA for a stream that was reset",
+            "505249202a20485454502f322e300d0a0d0a534d0d0a0d0a000000040000000000000006040000000000000400000000000014010500000001828684410f7777772e6578616d706c652e636f6d000003000000000001616263000003000000000001616263",
+        ),
+        ("one stream at a time", ONE_AT_A_TIME),
+        (
+            "more content than declared",
+            "505249202a20485454502f322e300d0a0d0a534d0d0a0d0a0000000400000000000000070104000000018386840f0d013300000400010000000161626364",
+        ),
+    ];
+    for (name, hex) in cases {
+        compare_cuts(&rt, rt.alloc(), name, hex)?;
+    }
+    Ok(())
+}
+
+#[test]
+fn beginnings_send_beginnings(rt: HostRuntime) -> Result<(), Fail> {
+    let alloc = rt.alloc();
+    let book = Book::new(alloc);
+    let octets = hex::decode(alloc, ONE_AT_A_TIME)?;
+    let (sent, _) = played(alloc, &book, octets.as_slice(), &[])?;
+    for end in 0..octets.len() {
+        let (first, _) = played(alloc, &book, &octets.as_slice()[..end], &[])?;
+        assert!(rt;
+            sent.as_slice().starts_with(first.as_slice()),
+            "up to {end}"
+        );
+    }
+    Ok(())
+}
+
+/// Compares what the program prints of octets with what a connection has sent and shows.
+fn compare_place(
+    rt: &impl Abort,
+    alloc: Global,
+    conn: &Conn<'_, Global>,
+    sent: &[u8],
+    octets: &[u8],
+) -> Result<(), Fail> {
+    let input = hex::encode(alloc, octets)?;
+    let words = ["play", "--streams", "1"];
+    let (status, text) = ran(alloc, words.as_slice(), input.as_bytes())?;
+    let sent = hex::encode(alloc, sent)?;
+    let shown = conn.show(alloc)?;
+    let want = format!(in alloc; "sent {sent}\n{shown}")?;
+    assert_eq!(rt; text.as_slice(), want.as_bytes(), "at {input}");
+    assert_eq!(rt; status, 0, "at {input}");
+    Ok(())
+}
+
+#[test]
+fn beginnings_are_played_as_octets_come(rt: HostRuntime) -> Result<(), Fail> {
+    let book = Book::new(rt.alloc());
+    let octets = hex::decode(rt.alloc(), ONE_AT_A_TIME)?;
+    let mut sent = Vec::new(rt.alloc());
+    let mut conn = Conn::new(&book, one_stream(), &mut sent)?;
+    for end in 0..octets.len() {
+        let octets = octets.as_slice();
+        compare_place(&rt, rt.alloc(), &conn, sent.as_slice(), &octets[..end])?;
+        conn.feed(&octets[end..end + 1], &mut sent)?;
+    }
+    compare_place(&rt, rt.alloc(), &conn, sent.as_slice(), octets.as_slice())
+}

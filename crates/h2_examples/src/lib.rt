@@ -1,0 +1,28 @@
+//! Worked examples from end to end: octets in, octets out and texts, by the program's call `h2_bench::run` and by `h2_conn::Conn`.
+//! A crate of tests alone, on top of all others, since a crate is proved twice where it has tests. Expected values come from RFC 9113, RFC 7541 and computation by hand.
+#![tactic(auto)]
+
+#[cfg(test)]
+mod blocks;
+#[cfg(test)]
+mod bodies;
+#[cfg(test)]
+mod cuts;
+#[cfg(test)]
+mod faults;
+#[cfg(test)]
+mod flow;
+#[cfg(test)]
+mod items;
+#[cfg(test)]
+mod opening;
+#[cfg(test)]
+mod order;
+#[cfg(test)]
+mod program;
+#[cfg(test)]
+mod requests;
+#[cfg(test)]
+mod scripts;
+#[cfg(test)]
+mod tables;
