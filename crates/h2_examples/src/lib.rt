@@ -7,6 +7,8 @@ mod blocks;
 #[cfg(test)]
 mod bodies;
 #[cfg(test)]
+mod connection;
+#[cfg(test)]
 mod cuts;
 #[cfg(test)]
 mod faults;
