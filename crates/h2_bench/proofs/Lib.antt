@@ -1,7 +1,6 @@
 pub mod AnswerTexts
 pub mod Assembled
 pub mod Books
-pub mod Digits
 pub mod Grammar
 pub mod Numbers
 pub mod Places

@@ -1,6 +1,8 @@
 -- The program `table`: what the lines of its input do to a dynamic table, and what is printed (RFC 7541, 2.3.2 and 4).
-use Rattle.std.specs.Prelude.{ℕ, ◌+◌, ◌*◌, ◌-◌, ◌^◌, ◌==◌, ◌&&◌, List, [], ◌∷◌, ◌++◌, length, take, drop, position, nat_lt, nat_le, if◌then◌else◌, codes, decimal, Option, Some, None, option_map, option_and_then, slice_get}
+use Rattle.std.specs.Prelude.{ℕ, ◌+◌, ◌==◌, List, [], ◌∷◌, ◌++◌, length, take, drop, position, nat_lt, if◌then◌else◌, codes, decimal, Option, Some, None, option_map, slice_get}
 use Rattle.std.specs.Str.{bytes_eq}
+use Rattle.h2_spec.specs.Assemble.{number_at}
+use Rattle.h2_spec.specs.Script.{max_u32}
 use Rattle.h2_spec.specs.Parse.{Front, Stop, One, parse_all}
 use Rattle.h2_spec.specs.Field.{Field, field}
 use Rattle.h2_spec.specs.DynamicTable.{Table, LimitedTable, insert, resize, total_size}
@@ -23,18 +25,6 @@ abbrev pub cut_at : Option ℕ → List ℕ → Option Command
 cut_at None text = None
 cut_at (Some at) text = Some (Add (take at text) (drop (at + 1) text))
 
--- the number that decimal digits write behind those of n
-unfoldable pub digits_behind : ℕ → List ℕ → Option ℕ
-digits_behind n [] = Some n
-digits_behind n (d ∷ ds) = if nat_le 48 d && nat_le d 57 then digits_behind (n * 10 + (d - 48)) ds else None
-
-abbrev pub below_word : ℕ → Option ℕ
-below_word n = if nat_lt n (2 ^ 32) then Some n else None
-
--- 1 to 10 decimal digits of a number below 2 ^ 32
-abbrev pub number_written : List ℕ → Option ℕ
-number_written text = if nat_lt 0 (length text) && nat_le (length text) 10 then option_and_then below_word (digits_behind 0 text) else None
-
 -- `add NAME VALUE`, or `max N`
 abbrev pub added : Option (List ℕ) → Option Command
 added None = None
@@ -42,7 +32,7 @@ added (Some rest) = cut_at (position (λ octet. octet == 32) rest) rest
 
 abbrev pub maximal : Option (List ℕ) → Option Command
 maximal None = None
-maximal (Some rest) = option_map Max (number_written rest)
+maximal (Some rest) = option_map Max (number_at max_u32 rest)
 
 abbrev pub or_else : Option Command → Option Command → Option Command
 or_else (Some command) other = Some command

@@ -1,5 +1,5 @@
 //! The program `table`: changes a dynamic table by the lines of its input (RFC 7541, 2.3.2 and 4).
-//! Rests on h2_table and h2_conn's `show`; definitions: `specs/TableProgram.antt`.
+//! Rests on h2_table, h2_conn's `show` and h2_script's numbers; definitions: `specs/TableProgram.antt`.
 
 ghost use Rattle.std.specs.Prelude.{◌≡◌, ◌==◌, ◌+◌, ◌<◌, ◌≤◌, ◌^◌, ◌++◌, length, take, drop, position, option_map, IfOk, IfSome, OnOk};
 ghost use Rattle.std.specs.String.{string_bytes};
@@ -8,10 +8,11 @@ ghost use Rattle.h2_bench.specs.Commands.{asked_by};
 ghost use Rattle.h2_spec.specs.DynamicTable.{insert};
 ghost use Rattle.h2_spec.specs.Field.{field};
 ghost use Rattle.h2_bench.specs.Faults.{fault_line};
-ghost use Rattle.h2_bench.specs.TableProgram.{place_line, behind_line, command_of, counts_line, first_line, number_written, obeyed, table_text, told_of};
+ghost use Rattle.h2_bench.specs.TableProgram.{place_line, behind_line, command_of, counts_line, first_line, obeyed, table_text, told_of};
 
 use crate::fault::BenchFault;
 use h2_conn::show::write_entry;
+use h2_script::number_at;
 use h2_table::DynTable;
 use std::alloc::{AllocError, Allocator, Global};
 use std::fmt::Write;
@@ -47,29 +48,6 @@ pub(crate) fn text_from(text: &[u8], at: usize) -> &[u8]
     &text[at..]
 }
 
-/// The number that 1 to 10 decimal digits write, if it is below 2^32.
-fn number_of(text: &[u8]) -> Option<u32>
-    ensures { result ≡ number_written text.now }
-{
-    if text.is_empty() || text.len() > 10 {
-        return None;
-    }
-    let mut number = 0u64;
-    for digit in text {
-        if *digit < b'0' {
-            return None;
-        }
-        if *digit > b'9' {
-            return None;
-        }
-        number = number * 10 + u64::from(*digit - b'0');
-    }
-    if number > 4_294_967_295 {
-        return None;
-    }
-    Some(number as u32)
-}
-
 /// What a line asks for; `None` where it is no command.
 fn command_of(line: &[u8]) -> Option<TableCommand<'_>>
     ensures { option_map asked_by result ≡ command_of line.now }
@@ -79,7 +57,7 @@ fn command_of(line: &[u8]) -> Option<TableCommand<'_>>
         return Some(TableCommand::Add(text_before(rest, at), text_from(rest, at + 1)));
     }
     let rest = line.strip_prefix(b"max ".as_slice())?;
-    match number_of(rest) {
+    match number_at(u32::MAX, rest) {
         Some(number) => Some(TableCommand::Max(number)),
         None => None,
     }

@@ -21,26 +21,7 @@ pub fn server_ended(stream: Stream) -> Stream
     ensures waits { (book : List Entry) → HasBody book stream → HasBody book result }
     ensures recorded { is_recorded stream.kind ≡ true → is_recorded result.kind ≡ true }
 {
-    match stream.kind {
-        Kind::BothOpen => {
-            let numbers = Numbers {
-                left: None,
-                ..stream.numbers
-            };
-            Stream {
-                kind: Kind::HalfLocal,
-                numbers,
-                ..stream
-            }
-        }
-        Kind::HalfRemote => not_live(stream.id, Kind::Ended),
-        Kind::Idle
-        | Kind::Skipped
-        | Kind::HalfLocal
-        | Kind::Ended
-        | Kind::PeerReset
-        | Kind::WeReset => stream,
-    }
+    h2_streams::server_ended(stream)
 }
 
 /// With this many octets of the answer left.

@@ -11,7 +11,8 @@ ghost use Rattle.h2_script.specs.Readings.{IsBuilt, Stands};
 ghost use Rattle.h2_script.specs.Writable.{can_write, can_write_name, indexed_name};
 
 use crate::built::Built;
-use crate::words::{after, cut, number_at, split_before, unescaped};
+use crate::number::number_at;
+use crate::words::{after, cut, split_before, unescaped};
 use h2_fields::instruction::{Instr, Mode, Name, Text, write_instr};
 use h2_fields::octets::Octets;
 use std::alloc::{AllocError, Allocator};

@@ -10,6 +10,7 @@ pub mod fault;
 mod fragment;
 mod instruction;
 mod line;
+mod number;
 mod payload;
 mod said;
 #[cfg(test)]
@@ -21,3 +22,4 @@ pub use assembler::assemble;
 pub use disassembler::disassemble;
 pub use fault::{ScriptFault, kind_number};
 pub use h2_spec::scripts::SyntaxKind;
+pub use number::number_at;

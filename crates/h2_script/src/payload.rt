@@ -9,7 +9,8 @@ ghost use Rattle.h2_script.specs.Readings.{IsBuilt};
 
 use crate::built::Built;
 use crate::instruction::instructions_at;
-use crate::words::{after, cut, number_at, octets_at, split_before};
+use crate::number::number_at;
+use crate::words::{after, cut, octets_at, split_before};
 use std::alloc::{AllocError, Allocator};
 
 /// The payload that a text says; none where it is of no form.

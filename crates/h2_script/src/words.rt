@@ -1,9 +1,9 @@
-//! The words of a line: parts between octets, numbers, octets in hex, the text of a string.
+//! The words of a line: parts between octets, octets in hex, the text of a string.
 //! It rests on `hex`; the definitions are in `h2_spec`, specs/Assemble.antt, under the same names.
 
 ghost use Rattle.std.specs.Prelude.{◌≡◌, ◌≤◌, ◌==◌, ◌<◌, ◌^◌, ◌+◌, length, drop, take, option_map, position, IfOk, IfSome};
 ghost use Rattle.std.specs.List.{position_or_len};
-ghost use Rattle.h2_spec.specs.Assemble.{before, behind, number_at, octet_at, octets_at, onwards, scanned, unescaped};
+ghost use Rattle.h2_spec.specs.Assemble.{before, behind, octet_at, octets_at, onwards, unescaped};
 ghost use Rattle.h2_spec.specs.Script.{cut_at, is_plain};
 ghost use Rattle.h2_script.specs.Characters.{character_at};
 
@@ -93,40 +93,6 @@ pub(crate) fn octets_at<A: Allocator>(
         Ok(octets) => Ok(Some(octets)),
         Err(FromHexError::OutOfMemory) => Err(AllocError),
         Err(_) => Ok(None),
-    }
-}
-
-/// The number that at most ten decimal digits write.
-fn digits_at(text: &[u8]) -> Option<u64>
-    requires { length text.now ≤ 10 }
-    ensures { result ≡ scanned 0 text.now }
-{
-    let mut number = 0;
-    for digit in text {
-        if *digit < b'0' {
-            return None;
-        }
-        if *digit > b'9' {
-            return None;
-        }
-        number = number * 10 + u64::from(*digit - b'0');
-    }
-    Some(number)
-}
-
-/// The number of 1 to 10 decimal digits, if it is at most `most`.
-pub(crate) fn number_at(most: u32, text: &[u8]) -> Option<u32>
-    ensures value { result ≡ number_at most text.now }
-    ensures small { IfSome result (λ n. n ≤ most) }
-{
-    if text.is_empty() || text.len() > 10 {
-        return None;
-    }
-    let number = digits_at(text)?;
-    if number <= u64::from(most) {
-        Some(number as u32)
-    } else {
-        None
     }
 }
 

@@ -67,9 +67,9 @@ pub(crate) fn peer_closed(stream: Stream) -> Stream
     }
 }
 
-/// The stream after the server's last frame.
+/// The stream after the server's last frame: nothing waits any more, and it ends where the peer's side has ended (RFC 9113, 5.1).
 #[tactic(auto, unfolding(h2_spec::specs::Ends::server_ended))]
-pub(crate) fn server_closed(stream: Stream) -> Stream
+pub fn server_ended(stream: Stream) -> Stream
     ensures value { result ≡ ends.server_ended stream }
     ensures id { result.id ≡ stream.id }
 {

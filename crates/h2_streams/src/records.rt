@@ -17,7 +17,7 @@ ghost use Rattle.h2_streams.specs.Shift as shift;
 
 use crate::greatest::greatest_of;
 use crate::hash::IdHash;
-use crate::kinds::{is_live, not_live, peer_closed, reset_kind, server_closed};
+use crate::kinds::{is_live, not_live, peer_closed, reset_kind, server_ended};
 use crate::live::{drop_ended, first_waiting, ids_above};
 use crate::shift::{any_is_stuck, move_each};
 use h2_spec::errors::FlowFault;
@@ -190,7 +190,7 @@ impl<A: Allocator> Streams<A> {
         ensures { self.new ≡ spec.changed id ends.server_ended self.old }
     {
         let stream = self.stream_at(id);
-        self.replace(server_closed(stream));
+        self.replace(server_ended(stream));
     }
 
     /// RST_STREAM ends a live stream, from the peer or from the server (RFC 9113, 6.4).

@@ -1,7 +1,7 @@
 use Rattle.std.proofs.Common.{◌∙◌, ℕ, drop, ◌<◌, ◌+◌, ◌*◌, ap, sym, arith}
 use Rattle.h2_spec.specs.Assemble.{scanned}
 use Rattle.h2_script.proofs.Scans.{power_more, scan_digit, scan_end, scan_high, scan_low}
-use Rattle.h2_script.proofs.words.digits_at.Goals as goal
+use Rattle.h2_script.proofs.number.digits_at.Goals as goal
 
 pub returns-then-digit-lt48 : goal.returns-then-digit-lt48
 returns-then-digit-lt48 c =
