@@ -18,9 +18,9 @@ use Rattle.h2_spec.specs.Trace.{then_sent}
 use Rattle.h2_conn.specs.Blocks.{IsOpenFor}
 use Rattle.h2_conn.specs.Does.{Does}
 use Rattle.h2_conn.specs.Sending.{core_after, core_after_as, records, records_after, streams_after}
-use Rattle.h2_conn.specs.Sound.{IsSoundChange, IsSoundTouch, touched_records}
+use Rattle.h2_rules.specs.Sound.{IsSoundChange, IsSoundTouch, touched_records}
 use Rattle.h2_conn.proofs.MakeLaws.{made-then, open-after}
-use Rattle.h2_conn.proofs.SoundLaws.{touched-streams}
+use Rattle.h2_rules.proofs.SoundLaws.{touched-streams}
 
 -- the state after a change and sending, by its parts
 abbrev after-step : State → Change → State

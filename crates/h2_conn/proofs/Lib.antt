@@ -1,5 +1,4 @@
 mod AboveLaws
-mod BlockLaws
 mod FinishLaws
 mod FragmentLaws
 mod Items
@@ -11,9 +10,7 @@ mod Phases
 mod PiecesLaws
 mod Plays
 mod PreviewLaws
-mod RequestTurnLaws
 mod Runs
-mod SettingsLaws
 mod Shortest
-mod SoundLaws
 mod Views
+mod SentLaws

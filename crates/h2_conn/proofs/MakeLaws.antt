@@ -19,9 +19,9 @@ use Rattle.h2_spec.specs.Window.{sendable}
 use Rattle.h2_conn.specs.Blocks.{IsDecodedAt, IsOpenFor, IsStopped}
 use Rattle.h2_conn.specs.Does.{Does}
 use Rattle.h2_conn.specs.Sending.{all_frames, core_after, core_after_as, records_after, streams_after, streams_after_as, waiting_frames, waiting_frames_as, CanMake}
-use Rattle.h2_conn.specs.Sound.{IsSoundChange, IsSoundState, IsSoundTouch, touched_records}
+use Rattle.h2_rules.specs.Sound.{IsSoundChange, IsSoundState, IsSoundTouch, touched_records}
 use Rattle.h2_conn.proofs.KindLaws.{open-after-sending}
-use Rattle.h2_conn.proofs.SoundLaws.{touch-can-shift, touched-streams}
+use Rattle.h2_rules.proofs.SoundLaws.{touch-can-shift, touched-streams}
 
 -- what is sound for the records of a state is sound for those that it holds
 pub inside-sound : (book : List Entry) (core : Core) (r : Records) (c : Change) → IsSoundState book core r →

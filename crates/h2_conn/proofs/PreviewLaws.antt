@@ -16,9 +16,9 @@ use Rattle.h2_spec.specs.Answer.{Entry}
 use Rattle.h2_spec.specs.Change.{follows_initial_window, moved_by, overflows, overflows_one, shifted, shifted_one, touched, with_send}
 use Rattle.h2_spec.specs.Stream.{AreRising, Records, put, record_of, recorded, not_live, stream_at, kind_of, is_id, waits_above, octets_waiting}
 use Rattle.h2_streams.specs.Put.{can_become}
-use Rattle.h2_conn.specs.Sound.{HasBody, IsSoundTouch, IsSoundChange, IsSoundState, AreSound, touched_records}
+use Rattle.h2_rules.specs.Sound.{HasBody, IsSoundTouch, IsSoundChange, IsSoundState, AreSound, touched_records}
 use Rattle.h2_conn.specs.Preview.{is_other_waiting, lower_waiting, CanMove, CanTouch, CanSend}
-use Rattle.h2_conn.proofs.SoundLaws.{changed-sound, touched-streams}
+use Rattle.h2_rules.proofs.SoundLaws.{changed-sound, touched-streams}
 use Rattle.h2_conn.proofs.AboveLaws.{some_same, none_some, found_above, found_passes, found_record, waits_is_above}
 
 -- ---- the others

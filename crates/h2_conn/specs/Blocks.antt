@@ -15,9 +15,10 @@ use Rattle.h2_spec.specs.Headers as headers
 use Rattle.h2_spec.specs.State.{Decoding, OpenBlock, State}
 use Rattle.h2_spec.specs.Stream.{Records, is_peer_open, kind_of}
 use Rattle.h2_spec.specs.Table.{Cell, Error, Rule}
+pub use Rattle.h2_rules.specs.Open.{IsOpenAt, state_of}
 use Rattle.h2_fields.specs.Blocks.{unfinished}
 use Rattle.h2_streams.specs.Put.{can_become}
-use Rattle.h2_conn.specs.Sound.{IsSoundChange, touched_records}
+use Rattle.h2_rules.specs.Sound.{IsSoundChange, touched_records}
 use Rattle.h2_conn.specs.declared.block.FragmentEffect.{FragmentEffect}
 use Rattle.h2_conn.specs.declared.block.FragmentEffect.TheVariants.{Breaks, Makes}
 use Rattle.h2_conn.specs.declared.block.TableAfter.{TableAfter}
@@ -27,18 +28,7 @@ use Rattle.h2_conn.specs.declared.block.TableAfter.TheVariants.{Same, Changed}
 abbrev pub IsGoing : BlockSoFar → Type 0
 IsGoing b = (b.due ≡ false) × (b.outcome ≡ Some (Unfinished (unfinished b.outcome)))
 
--- a state of these parts
-abbrev pub state_of : List Entry → Config → Core → Option OpenBlock → Table → List Stream → State
-state_of book config core block table streams = record { book = book; config = config; core = core; block = block; table = table; streams = streams }
-
 -- ---- the stream of an open block
-
--- by what the block is for: a client's stream above the others, one that the peer may still send on, or one that the server may reset
-abbrev pub IsOpenAt : Records → ℕ → Purpose → Type 0
-IsOpenAt r id Request = (r.last < id) × (id % 2 ≡ 1)
-IsOpenAt r id Trailers = is_peer_open (kind_of r.last r.streams id) ≡ true
-IsOpenAt r id Closed = can_become (kind_of r.last r.streams id) WeReset ≡ true
-IsOpenAt r id TableOnly = Unit {0}
 
 abbrev pub IsDecodedAt : Records → ℕ → Option Decoding → Type 0
 IsDecodedAt r id None = Unit {0}

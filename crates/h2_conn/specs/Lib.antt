@@ -3,9 +3,7 @@ pub mod Blocks
 pub mod Connection
 pub mod Does
 pub mod Faults
-pub mod OneSetting
 pub mod Parted
 pub mod Preview
 pub mod Runs
 pub mod Sending
-pub mod Sound

@@ -7,7 +7,7 @@ use Rattle.h2_spec.specs.declared.streams.Stream.{Stream}
 use Rattle.h2_spec.specs.Answer.{Entry}
 use Rattle.h2_spec.specs.Change.{follows_initial_window, moved_by, touched}
 use Rattle.h2_spec.specs.Stream.{Records, record_of, waits_above}
-use Rattle.h2_conn.specs.Sound.{HasBody}
+use Rattle.h2_rules.specs.Sound.{HasBody}
 
 -- a stream above this one that has octets to send, and is not the other one
 abbrev pub is_other_waiting : ℕ → ℕ → Stream → Bool

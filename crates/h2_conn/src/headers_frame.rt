@@ -13,9 +13,9 @@ ghost use Rattle.h2_conn.specs.Does.{Does, stepped, stopped};
 ghost use Rattle.h2_conn.specs.Sending.{records};
 
 use crate::block::{FragmentEffect, fragment, headers_purpose, opens};
-use crate::checks::has;
 use crate::state::{Decoding, OpenBlock, State};
 use h2_frame::HeadersPart;
+use h2_rules::checks::has;
 use h2_spec::connection::{BlockView, Purpose};
 use h2_spec::errors::ErrorCode;
 use h2_spec::frames::Head;

@@ -2,15 +2,8 @@
 #![tactic(auto)]
 
 mod block;
-mod block_end;
-mod change;
-mod checks;
 mod conn;
-mod control;
-mod data;
-mod ends;
 mod fault;
-mod headers;
 mod headers_frame;
 mod item;
 mod make;
@@ -20,14 +13,9 @@ mod pieces;
 pub mod play;
 mod preview;
 mod pump;
-mod reset;
-mod settings;
 pub mod show;
 mod state;
-#[cfg(test)]
-mod tests;
 pub mod view;
-mod window_update;
 mod write;
 
 pub use conn::Conn;

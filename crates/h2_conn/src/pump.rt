@@ -11,13 +11,13 @@ ghost use Rattle.h2_spec.specs.Pump as rule;
 ghost use Rattle.h2_spec.specs.Stream.{octets_waiting, put};
 ghost use Rattle.h2_conn.specs.Above.{IsWaiting};
 ghost use Rattle.h2_conn.specs.Preview.{CanSend};
-ghost use Rattle.h2_conn.specs.Sound.{HasBody, IsSoundState};
+ghost use Rattle.h2_rules.specs.Sound.{HasBody, IsSoundState};
 ghost use Rattle.h2_spec.specs.Window.{sendable};
 
-use crate::ends::{server_ended, with_left};
 use crate::pieces::write_share;
 use crate::preview::{next_after, next_stream};
 use h2_request::book::Book;
+use h2_rules::ends::{server_ended, with_left};
 use h2_spec::connection::Core;
 use h2_spec::flow::Window;
 use h2_spec::reactions::Touch;

@@ -71,7 +71,7 @@ impl<'b, A: Allocator> Model for State<'b, A> {
     ghost use Rattle.std.specs.Prelude.{◌≡◌};
     ghost use Rattle.h2_spec.specs.State as state;
     ghost use Rattle.h2_conn.specs.Blocks.{IsOpenFor};
-    ghost use Rattle.h2_conn.specs.Sound.{IsSoundState};
+    ghost use Rattle.h2_rules.specs.Sound.{IsSoundState};
 
     ghost Value = { state.State };
 

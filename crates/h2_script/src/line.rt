@@ -11,8 +11,8 @@ ghost use Rattle.h2_script.specs.declared.fault.LineFault.TheVariants.{Bad, NoMe
 
 use crate::built::Built;
 use crate::fault::LineFault;
-use crate::payload::payload_at;
 use crate::number::number_at;
+use crate::payload::payload_at;
 use crate::words::{after, cut, octet_at, octets_at};
 use h2_spec::scripts::SyntaxKind;
 use std::alloc::Allocator;

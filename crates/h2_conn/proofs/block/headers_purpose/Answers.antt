@@ -1,5 +1,5 @@
 use Rattle.std.proofs.Common.{sym, ◌∙◌}
-use Rattle.h2_conn.proofs.SoundLaws.{idle-above}
+use Rattle.h2_rules.proofs.SoundLaws.{idle-above}
 use Rattle.h2_conn.proofs.block.headers_purpose.Goals as goal
 
 pub returns-in-Idle-clause-known : goal.returns-in-Idle-clause-known

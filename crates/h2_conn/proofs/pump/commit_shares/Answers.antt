@@ -1,7 +1,7 @@
 use Rattle.std.proofs.Common.{◌∙◌, ap, sym, subst}
 use Rattle.h2_spec.specs.Stream.{Records}
-use Rattle.h2_conn.specs.Sound.{AreSound}
-use Rattle.h2_conn.proofs.SoundLaws.{sent-sound}
+use Rattle.h2_rules.specs.Sound.{AreSound}
+use Rattle.h2_conn.proofs.SentLaws.{sent-sound}
 use Rattle.h2_conn.proofs.pump.commit_shares.Goals as goal
 
 pub returns-clause-sound : goal.returns-clause-sound

@@ -6,7 +6,7 @@ use Rattle.h2_spec.specs.Frame.{frame_octets, frames_octets}
 use Rattle.h2_spec.specs.Pump.{share, share_frames}
 use Rattle.h2_spec.specs.Stream.{waits_above}
 use Rattle.h2_conn.specs.Above.{frames_above}
-use Rattle.h2_conn.specs.Sound.{HasBody, touched_records}
+use Rattle.h2_rules.specs.Sound.{HasBody, touched_records}
 use Rattle.h2_conn.proofs.AboveLaws.{all_frames, next_frames, none_frames, spent_frames, next_above}
 use Rattle.h2_conn.proofs.PreviewLaws.{rising_touched, found_all, found_within}
 use Rattle.h2_conn.proofs.pump.write_shares.Goals as goal

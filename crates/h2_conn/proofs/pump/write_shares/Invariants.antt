@@ -3,7 +3,7 @@ use Rattle.h2_spec.specs.Change.{touched}
 use Rattle.h2_spec.specs.Frame.{frames_octets}
 use Rattle.h2_spec.specs.Pump.{sent_frames}
 use Rattle.h2_conn.specs.Above.{frames_above}
-use Rattle.h2_conn.specs.Sound.{touched_records}
+use Rattle.h2_rules.specs.Sound.{touched_records}
 use Rattle.h2_conn.proofs.pump.write_shares.Given as goal
 
 abbrev pub invariant-loop-stream : goal.invariant-loop-stream

@@ -6,10 +6,10 @@ use Rattle.h2_spec.specs.Trace.{then_sent}
 use Rattle.h2_conn.specs.Blocks.{IsOpenFor}
 use Rattle.h2_conn.specs.Does.{Does}
 use Rattle.h2_conn.specs.Sending.{records}
-use Rattle.h2_conn.specs.Sound.{IsSoundChange, IsSoundState, touched_records}
+use Rattle.h2_rules.specs.Sound.{IsSoundChange, IsSoundState, touched_records}
 use Rattle.h2_conn.proofs.MakeLaws.{inside-sound, can-make, open-after, did}
 use Rattle.h2_conn.proofs.PreviewLaws.{can_send}
-use Rattle.h2_conn.proofs.SoundLaws.{changed-sound}
+use Rattle.h2_rules.proofs.SoundLaws.{changed-sound}
 use Rattle.h2_conn.proofs.state.State.make.Goals as goal
 
 pub send_and_touch-requires-clause-sends : goal.send_and_touch-requires-clause-sends

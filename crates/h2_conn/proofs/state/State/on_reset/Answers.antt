@@ -2,7 +2,7 @@ use Rattle.std.proofs.Common.{◌≡◌, ℕ, sym, subst, ap}
 use Rattle.h2_spec.specs.declared.connection.Core.{Core}
 use Rattle.h2_spec.specs.Stream.{stream_at}
 use Rattle.h2_conn.specs.Sending.{records}
-use Rattle.h2_conn.specs.Sound.{IsSound}
+use Rattle.h2_rules.specs.Sound.{IsSound}
 use Rattle.h2_conn.proofs.state.State.on_reset.Goals as goal
 
 pub returns-clause-sound : goal.returns-clause-sound

@@ -3,7 +3,7 @@ use Rattle.h2_spec.specs.declared.connection.Core.{Core}
 use Rattle.h2_spec.specs.State.{State}
 use Rattle.h2_streams.specs.Greatest.{IsGreatest}
 use Rattle.h2_conn.specs.Sending.{records}
-use Rattle.h2_conn.specs.Sound.{IsSound}
+use Rattle.h2_rules.specs.Sound.{IsSound}
 use Rattle.h2_conn.proofs.state.State.on_settings.Goals as goal
 
 pub returns-clause-sound : goal.returns-clause-sound

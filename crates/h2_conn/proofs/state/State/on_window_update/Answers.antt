@@ -1,7 +1,7 @@
 use Rattle.std.proofs.Common.{sym, subst, ap}
 use Rattle.h2_spec.specs.declared.connection.Core.{Core}
 use Rattle.h2_conn.specs.Sending.{records}
-use Rattle.h2_conn.specs.Sound.{IsSound}
+use Rattle.h2_rules.specs.Sound.{IsSound}
 use Rattle.h2_conn.proofs.state.State.on_window_update.Goals as goal
 
 pub returns-then-id-eq0-clause-sound : goal.returns-then-id-eq0-clause-sound

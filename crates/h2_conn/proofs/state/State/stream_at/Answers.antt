@@ -1,8 +1,8 @@
 use Rattle.std.proofs.Common.{◌≡◌, sym, subst}
 use Rattle.h2_spec.specs.declared.streams.Stream.{Stream}
 use Rattle.h2_spec.specs.State.{State}
-use Rattle.h2_conn.specs.Sound.{HasBody, IsSoundStream}
-use Rattle.h2_conn.proofs.SoundLaws.{found-sound}
+use Rattle.h2_rules.specs.Sound.{HasBody, IsSoundStream}
+use Rattle.h2_rules.proofs.SoundLaws.{found-sound}
 use Rattle.h2_conn.proofs.state.State.stream_at.Goals as goal
 
 pub returns-clause-sound : goal.returns-clause-sound

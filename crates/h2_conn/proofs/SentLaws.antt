@@ -1,0 +1,82 @@
+-- The counts stay within their limits where what waits is sent.
+use Rattle.std.proofs.Common.{◌≡◌, ℕ, ◌%◌, ◌-◌, ltb, eqb, ◌<◌, ◌≤◌, List, [], ◌∷◌, length, Bool, true, false, cond, ◌||◌, ◌&&◌, not, max, Some, refl, sym, ap, subst, ◌⊎◌, inl, inr, ◌∙◌, arith, ℤ, pos, negsuc, ◌+ℤ◌, ◌-ℤ◌, ◌≤ℤ◌, int_lt}
+use Rattle.std.proofs.lemmas.Bool.{false≢true}
+use Rattle.std.specs.List.{AllByRecursion}
+use Rattle.h2_spec.specs.declared.connection.Core.{Core}
+use Rattle.h2_spec.specs.declared.reactions.Change.{Change}
+use Rattle.h2_spec.specs.declared.reactions.Touch.{Touch}
+use Rattle.h2_spec.specs.declared.reactions.Touch.TheVariants.{Same, Put, Shift}
+use Rattle.h2_spec.specs.declared.streams.Stream.{Stream}
+use Rattle.h2_spec.specs.declared.streams.Kind.{Kind}
+use Rattle.h2_spec.specs.declared.streams.Kind.TheVariants.{Idle, Skipped, BothOpen, HalfRemote, HalfLocal, Ended, PeerReset, WeReset}
+use Rattle.h2_spec.specs.Answer.{Entry, picked}
+use Rattle.h2_spec.specs.Change.{follows_initial_window, moved_by, overflows, overflows_one, shifted, shifted_one, touched, with_send}
+use Rattle.h2_spec.specs.Ends.{server_ended, server_ended_as, with_left}
+use Rattle.h2_spec.specs.Pump.{after_sending, all_after_sending, share, with_paid}
+use Rattle.h2_spec.specs.Stream.{Records, is_live, kind_of, not_live, octets_waiting, put, record_of, recorded, stream_at}
+use Rattle.h2_spec.specs.Window.{is_above_max, sendable}
+use Rattle.h2_streams.specs.Put.{CanPut, is_closed}
+use Rattle.h2_streams.specs.Shift.{CanShift}
+use Rattle.h2_rules.specs.Sound.{AreSound, HasBody, IsSoundChange, IsSoundState, IsSoundStream, IsSoundTouch, is_recorded, touched_records}
+use Rattle.h2_rules.proofs.SoundLaws.{ended-body, ended-sound}
+use Rattle.h2_conn.proofs.KindLaws.{sent-kind}
+
+paid-below : (z : ℤ) (n : ℕ) → z ≤ℤ pos 2147483647 → (z -ℤ pos n) ≤ℤ pos 2147483647
+paid-below z n h = grind (arith, h)
+
+paid-above : (window n : ℕ) (z : ℤ) → window ≤ 2147483647 → n ≤ sendable z → pos window ≤ℤ (z +ℤ pos 2147483647) → pos window ≤ℤ ((z -ℤ pos n) +ℤ pos 2147483647)
+paid-above window n (pos m) least within h = grind (arith, least, within)
+paid-above window n (negsuc m) least within h = grind (arith, within, h)
+
+paid-sound : (window n : ℕ) (st : Stream) → window ≤ 2147483647 → n ≤ sendable st.numbers.send → IsSoundStream window st → IsSoundStream window (with_paid st n)
+paid-sound window n st least within h = (h.0, paid-below st.numbers.send n h.1, λ follows. paid-above window n st.numbers.send least within (h.2 follows))
+
+paid-body : (book : List Entry) (n : ℕ) (st : Stream) → HasBody book st → HasBody book (with_paid st n)
+unfolding octets_waiting
+paid-body book n st h = h
+
+left-body : (book : List Entry) (n : ℕ) (st : Stream) → HasBody book st → n ≤ octets_waiting st → HasBody book (with_left st n)
+unfolding octets_waiting
+left-body book n st h within = (h.0, by_test (is_live st.kind) (let most = h.1 in omega (arith, within, most)))
+  where
+    by_test : (t : Bool) → n ≤ length (picked book st.pick).body → cond t n 0 ≤ length (picked book st.pick).body
+    by_test true e = e
+    by_test false e = omega arith
+
+-- a stream that sends no more than waits on it, and no more than its window lets pass
+sent-sound-one : (book : List Entry) (window n : ℕ) (st : Stream) → window ≤ 2147483647 → n ≤ octets_waiting st → n ≤ sendable st.numbers.send → IsSoundStream window st × HasBody book st →
+    IsSoundStream window (after_sending n st) × HasBody book (after_sending n st)
+unfolding after_sending
+sent-sound-one book window n st least waits within h = by_tests (eqb n 0) (eqb (octets_waiting st) n)
+  where
+    paid : Stream
+    paid = with_paid st n
+
+    sound : IsSoundStream window paid
+    sound = paid-sound window n st least within h.0
+
+    body : HasBody book paid
+    body = paid-body book n st h.1
+
+    by_tests : (s t : Bool) → (let now = cond s st (cond t (server_ended paid) (with_left paid (octets_waiting st - n))) in IsSoundStream window now × HasBody book now)
+    by_tests true t = h
+    by_tests false true = (ended-sound window paid sound, ended-body book paid body)
+    by_tests false false = (sound, left-body book (octets_waiting st - n) paid body (omega arith))
+
+share-within : (window : ℕ) (st : Stream) → (share window st ≤ octets_waiting st) × (share window st ≤ sendable st.numbers.send)
+unfolding share
+share-within window st = (omega arith, omega arith)
+
+all-sent-sound : (book : List Entry) (initial window : ℕ) (streams : List Stream) → initial ≤ 2147483647 → AreSound book initial streams → AreSound book initial (all_after_sending window streams)
+unfolding all_after_sending
+all-sent-sound book initial window [] least all = tt
+all-sent-sound book initial window (st ∷ sts) least all =
+    let n = share window st in
+    let within = share-within window st in
+    let one = sent-sound-one book initial n st least within.0 within.1 (all.0.0, all.0.1) in
+    ((one.0, one.1, sent-kind is_recorded refl refl n st ∙ all.0.2), all-sent-sound book initial (window - n) sts least all.1)
+
+-- the state is sound after sending
+pub sent-sound : (book : List Entry) (core : Core) (r : Records) (window n : ℕ) → IsSoundState book core r →
+    IsSoundState book (record core { send = core.send -ℤ pos n }) (record r { streams = all_after_sending window r.streams })
+sent-sound book core r window n state = record { counts = state.counts; records = all-sent-sound book core.peer.window window r.streams state.counts.1 state.records; last = state.last }

@@ -1,0 +1,59 @@
+-- The stream of an open block, and what becomes of it at the block's end.
+use Rattle.std.proofs.Common.{◌≡◌, ℕ, ◌%◌, ◌<◌, ◌≤◌, Bool, true, false, cond, eqb, ltb, length, List, Option, Some, None, is_some, max, refl, ap, ◌∙◌, arith}
+use Rattle.h2_spec.specs.declared.connection.Config.{Config}
+use Rattle.h2_spec.specs.declared.connection.Core.{Core}
+use Rattle.h2_spec.specs.declared.reactions.Facts.{Facts}
+use Rattle.h2_spec.specs.declared.streams.Kind.{Kind}
+use Rattle.h2_spec.specs.declared.streams.Kind.TheVariants.{Idle, Skipped, BothOpen, HalfRemote, HalfLocal, Ended, PeerReset, WeReset}
+use Rattle.h2_spec.specs.declared.streams.Stream.{Stream}
+use Rattle.h2_spec.specs.Answer.{Entry, picked}
+use Rattle.h2_spec.specs.Block.{list_size}
+use Rattle.h2_spec.specs.Field.{Field}
+use Rattle.h2_spec.specs.Headers.{request_facts, request_turn}
+use Rattle.h2_spec.specs.Request.{malformed}
+use Rattle.h2_spec.specs.Stream.{Records, is_live, is_peer_open, kind_of, not_live, record_of, recorded, stream_at}
+use Rattle.h2_streams.specs.Put.{CanPut, can_become}
+use Rattle.h2_rules.proofs.RequestTurnLaws.{malformed-turn}
+
+-- a stream that the peer may still send on is live
+pub peer-open-live : (kind : Kind) → is_peer_open kind ≡ true → is_live kind ≡ true
+peer-open-live Idle h = h
+peer-open-live Skipped h = h
+peer-open-live BothOpen h = refl
+peer-open-live HalfRemote h = refl
+peer-open-live HalfLocal h = refl
+peer-open-live Ended h = h
+peer-open-live PeerReset h = h
+peer-open-live WeReset h = h
+
+-- a live or closed stream is not above the last one that was opened
+recorded-within : (last id : ℕ) (streams : List Stream) (now : Kind) → can_become (kind_of last streams id) now ≡ true → id ≤ last
+unfolding stream_at
+recorded-within last id streams now h = by_tests (eqb (id % 2) 0) (ltb last id) refl h
+  where
+    by_tests : (s t : Bool) → ltb last id ≡ t → can_become (cond s (not_live id Idle) (cond t (not_live id Idle) (recorded id (record_of streams id)))).kind now ≡ true → id ≤ last
+    by_tests true t e g = absurd (let g : false ≡ true = g in cc)
+    by_tests false true e g = absurd (let g : false ≡ true = g in cc)
+    by_tests false false e g = grind (arith, e)
+
+-- so the server may reset it, and no stream is opened by that
+pub reset-put : (r : Records) (id : ℕ) → can_become (kind_of r.last r.streams id) WeReset ≡ true → CanPut (not_live id WeReset) r × (r.last ≡ max r.last id)
+reset-put r id h =
+    let within = recorded-within r.last id r.streams WeReset h in
+    ((λ above. absurd (omega (arith, above, within)), λ below. h), omega (arith, within))
+
+-- a client's stream above the others opens
+pub opening-put : (r : Records) (id : ℕ) (st : Stream) → r.last < id → id % 2 ≡ 1 → st.id ≡ id → CanPut st r × (id ≡ max r.last st.id)
+opening-put r id st above odd same = ((λ over. ap (λ n. n % 2) same ∙ odd, λ within. absurd (omega (arith, above, within, same))), omega (arith, above, same))
+
+-- facts that agree with those of the fields as far as these are looked at do the same
+pub same-opening : (book : List Entry) (config : Config) (live : ℕ) (core : Core) (id : ℕ) (ends : Bool) (fields : List Field) (f : Facts) →
+    f.size ≡ list_size fields → f.malformed ≡ is_some (malformed fields) → (malformed fields ≡ None → f ≡ request_facts book fields) →
+    request_turn config live (length (picked book f.pick).body) core id ends f ≡ (let g = request_facts book fields in request_turn config live (length (picked book g.pick).body) core id ends g)
+same-opening book config live core id ends fields f size bad well = at (malformed fields) refl
+  where
+    at : (o : Option ℕ) → malformed fields ≡ o → request_turn config live (length (picked book f.pick).body) core id ends f ≡ (let g = request_facts book fields in request_turn config live (length (picked book g.pick).body) core id ends g)
+    at None e = ap (λ (g : Facts). request_turn config live (length (picked book g.pick).body) core id ends g) (well e)
+    at (Some k) e =
+        let g = request_facts book fields in
+        malformed-turn config live (length (picked book f.pick).body) (length (picked book g.pick).body) core id ends f g size (bad ∙ ap is_some e) (ap is_some e)

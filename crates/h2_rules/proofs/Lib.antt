@@ -1,0 +1,4 @@
+pub mod BlockLaws
+mod RequestTurnLaws
+mod SettingsLaws
+pub mod SoundLaws

@@ -1,0 +1,17 @@
+use Rattle.std.proofs.Common.{ap, sym, ◌∙◌}
+use Rattle.h2_spec.specs.declared.connection.Purpose.{Purpose}
+use Rattle.h2_spec.specs.Headers as rule
+use Rattle.h2_rules.specs.Open.{state_of}
+use Rattle.h2_rules.proofs.block_end.block_ends.Goals as goal
+
+pub returns-in-Request-clause-rule : goal.returns-in-Request-clause-rule
+returns-in-Request-clause-rule g c = λ b table.
+    let a = c.args in
+    let s = state_of a.book.now a.config a.core b table a.streams.now.streams in
+    c.request_ends.ensures.rule b table ∙ ap (λ (p : Purpose). rule.block_ends s a.shown.now.stream a.shown.now.ends a.decoder.now.fields p) (sym c.in-Request.is)
+
+pub returns-in-Trailers-clause-rule : goal.returns-in-Trailers-clause-rule
+returns-in-Trailers-clause-rule g c = λ b table.
+    let a = c.args in
+    let s = state_of a.book.now a.config a.core b table a.streams.now.streams in
+    c.trailers_end.ensures.rule a.config b table ∙ ap (λ (p : Purpose). rule.block_ends s a.shown.now.stream a.shown.now.ends a.decoder.now.fields p) (sym c.in-Trailers.is)

@@ -1,0 +1,3 @@
+pub mod OneSetting
+pub mod Open
+pub mod Sound

@@ -1,0 +1,171 @@
+//! What a field block comes to at its end (RFC 9113, 4.3, 5.1 and 8.1).
+//! Rests on `headers` and on h2_request; definition: `block_ends` of h2_spec's `specs/Headers.antt`.
+
+ghost use Rattle.std.specs.Prelude.{◌≡◌, true, length, is_some, Option, None};
+ghost use Rattle.h2_spec.specs.declared.connection.Config.{Config};
+ghost use Rattle.h2_spec.specs.declared.connection.Purpose.TheVariants.{Closed, Request, Trailers};
+ghost use Rattle.h2_spec.specs.declared.errors.ErrorCode.TheVariants.{StreamClosed};
+ghost use Rattle.h2_spec.specs.Answer.{picked};
+ghost use Rattle.h2_spec.specs.Block.{list_size};
+ghost use Rattle.h2_spec.specs.Change as changes;
+ghost use Rattle.h2_spec.specs.DynamicTable.{Table};
+ghost use Rattle.h2_spec.specs.Headers as rule;
+ghost use Rattle.h2_spec.specs.Request.{malformed, malformed_trailers};
+ghost use Rattle.h2_spec.specs.State.{OpenBlock};
+ghost use Rattle.h2_request.specs.Lent.{IsPickOf};
+ghost use Rattle.h2_rules.specs.Open.{IsOpenAt, state_of};
+ghost use Rattle.h2_rules.specs.Sound.{HasBody, IsSoundChange, IsSoundCore, IsSoundState, IsSoundStream, is_recorded};
+
+use crate::change::{stay, stream_error, turned};
+use crate::headers::{request_turn, trailers_turn};
+use h2_fields::block::BlockDecoder;
+use h2_fields::field::Field;
+use h2_request::book::Book;
+use h2_request::well_formed::{check, check_trailers};
+use h2_spec::connection::{BlockView, Config, Core, Purpose};
+use h2_spec::errors::ErrorCode;
+use h2_spec::reactions::{Change, Facts, Turn};
+use h2_spec::streams::Pick;
+use h2_streams::Streams;
+use std::alloc::Allocator;
+
+/// What the fields of a request come to, with the size of their list.
+/// Of malformed fields nothing but the size is looked at, so they declare nothing and pick nothing here.
+fn request_facts<A: Allocator>(book: &Book<A>, fields: &[Field<A>], size: u64) -> Facts
+    ensures size { result.size ≡ size }
+    ensures malformed { result.malformed ≡ is_some (malformed fields.now) }
+    ensures well_formed { malformed fields.now ≡ None → size ≡ list_size fields.now → result ≡ rule.request_facts book.now fields.now }
+    ensures pick { IsPickOf book.now result.pick }
+{
+    match check(fields) {
+        Ok(request) => Facts {
+            size,
+            malformed: false,
+            declared: request.declared,
+            pick: book.find(&request),
+        },
+        Err(_) => Facts {
+            size,
+            malformed: true,
+            declared: None,
+            pick: Pick::NotFound,
+        },
+    }
+}
+
+/// The length of the body of the answer that is picked.
+fn body_length<A: Allocator>(book: &Book<A>, pick: Pick) -> u64
+    ensures { result ≡ length (picked book.now pick).body }
+{
+    book.answer(pick).body.len() as u64
+}
+
+/// What becomes of the stream that a request opens, by what its fields come to.
+fn opening_turn<A: Allocator>(
+    book: &Book<A>,
+    config: Config,
+    live: usize,
+    core: Core,
+    id: u32,
+    ends: bool,
+    facts: Facts,
+) -> Turn
+    requires core { IsSoundCore core }
+    requires pick { IsPickOf book.now facts.pick }
+    ensures rule { result ≡ rule.request_turn config live (length (picked book.now facts.pick).body) core id ends facts }
+    ensures id { result.stream.id ≡ id }
+    ensures sound { IsSoundStream core.peer.window result.stream }
+    ensures waits { HasBody book.now result.stream }
+    ensures recorded { is_recorded result.stream.kind ≡ true }
+{
+    let body = body_length(book, facts.pick);
+    request_turn(config, live, body, core, id, ends, facts)
+}
+
+/// The end of a request's block, on a client's stream above the others: it opens the stream, or refuses it.
+fn request_ends<A: Allocator + Copy>(
+    book: &Book<A>,
+    config: Config,
+    core: Core,
+    streams: &Streams<A>,
+    shown: &BlockView,
+    decoder: &BlockDecoder<A>,
+) -> Change
+    requires sound { IsSoundState book.now core streams.now }
+    requires open { IsOpenAt streams.now shown.now.stream Request }
+    ensures rule { (b : Option OpenBlock) (table : Table) → result ≡ rule.request_ends (state_of book.now config core b table streams.now.streams) shown.now.stream shown.now.ends decoder.now.fields }
+    ensures sound { IsSoundChange book.now streams.now core.peer.window result }
+{
+    let facts = request_facts(book, decoder.fields(), decoder.list_size());
+    let live = streams.live_count();
+    let id = shown.stream;
+    let opened = stay(Core { last: id, ..core });
+    let turn = opening_turn(book, config, live, core, id, shown.ends, facts);
+    turned(opened, turn)
+}
+
+/// The end of a block of trailers, on a stream that the peer may still send on: it ends the peer's side, or is a stream error.
+fn trailers_end<A: Allocator + Copy>(
+    book: &Book<A>,
+    core: Core,
+    streams: &Streams<A>,
+    shown: &BlockView,
+    decoder: &BlockDecoder<A>,
+) -> Change
+    requires sound { IsSoundState book.now core streams.now }
+    requires open { IsOpenAt streams.now shown.now.stream Trailers }
+    ensures rule { (config : Config) (b : Option OpenBlock) (table : Table) → result ≡ rule.trailers_end (state_of book.now config core b table streams.now.streams) shown.now.stream shown.now.ends decoder.now.fields }
+    ensures sound { IsSoundChange book.now streams.now core.peer.window result }
+{
+    let stream = streams.stream_at(shown.stream);
+    let malformed = are_no_trailers(decoder.fields());
+    let size = decoder.list_size();
+    let body = body_length(book, stream.pick);
+    let signal = core.peer.signal;
+    let turn = trailers_turn(size, malformed, body, signal, shown.ends, stream);
+    turned(stay(core), turn)
+}
+
+/// Whether a reason stands against fields as trailers (RFC 9113, 8.1).
+fn are_no_trailers<A: Allocator>(fields: &[Field<A>]) -> bool
+    ensures { result ≡ is_some (malformed_trailers fields.now) }
+{
+    match check_trailers(fields) {
+        Ok(()) => false,
+        Err(_) => true,
+    }
+}
+
+/// The end of a block on a stream that the peer had ended: a stream error (RFC 9113, 5.1).
+fn closed_end<A: Allocator>(book: &Book<A>, core: Core, streams: &Streams<A>, id: u32) -> Change
+    requires sound { IsSoundState book.now core streams.now }
+    requires open { IsOpenAt streams.now id Closed }
+    ensures rule { result ≡ changes.turned (changes.stay core) (changes.stream_error core.peer.signal id StreamClosed) }
+    ensures sound { IsSoundChange book.now streams.now core.peer.window result }
+{
+    let turn = stream_error(core.peer.signal, id, ErrorCode::StreamClosed);
+    turned(stay(core), turn)
+}
+
+/// What a block comes to at its end, by its purpose.
+pub fn block_ends<A: Allocator + Copy>(
+    book: &Book<A>,
+    config: Config,
+    core: Core,
+    streams: &Streams<A>,
+    shown: &BlockView,
+    purpose: Purpose,
+    decoder: &BlockDecoder<A>,
+) -> Change
+    requires sound { IsSoundState book.now core streams.now }
+    requires open { IsOpenAt streams.now shown.now.stream purpose }
+    ensures rule { (b : Option OpenBlock) (table : Table) → result ≡ rule.block_ends (state_of book.now config core b table streams.now.streams) shown.now.stream shown.now.ends decoder.now.fields purpose }
+    ensures sound { IsSoundChange book.now streams.now core.peer.window result }
+{
+    match purpose {
+        Purpose::Request => request_ends(book, config, core, streams, shown, decoder),
+        Purpose::Trailers => trailers_end(book, core, streams, shown, decoder),
+        Purpose::Closed => closed_end(book, core, streams, shown.stream),
+        Purpose::TableOnly => stay(core),
+    }
+}

@@ -1,0 +1,118 @@
+//! Field blocks: HEADERS and CONTINUATION, and the end of a block (RFC 9113, 4.3, 6.2, 6.10 and 8.1).
+//! Rests on `change` and `ends`; definition: h2_spec's `specs/Headers.antt`.
+
+ghost use Rattle.std.specs.Prelude.{◌≡◌, ℕ, ◌≤◌, true, List, length};
+ghost use Rattle.h2_spec.specs.Headers as rule;
+ghost use Rattle.h2_spec.specs.Answer.{Entry, picked};
+ghost use Rattle.h2_request.specs.Lent.{IsPickOf};
+ghost use Rattle.h2_rules.specs.Sound.{HasBody, IsSoundCore, IsSoundStream, is_recorded};
+
+use crate::change::{quiet_turn, stream_error};
+use crate::ends::{breaks_length, peer_ended};
+use h2_spec::connection::{Config, Core};
+use h2_spec::errors::ErrorCode;
+use h2_spec::flow::{Credit, Window};
+use h2_spec::reactions::{Facts, Turn};
+use h2_spec::streams::{Kind, Numbers, Stream};
+
+/// The largest list of fields, in octets (RFC 9113, 10.5.1).
+const MAX_LIST: u64 = 65_536;
+
+/// A stream that a request opens.
+#[tactic(auto, unfolding(h2_spec::specs::Stream::octets_waiting))]
+fn new_stream(core: Core, id: u32, facts: Facts) -> Stream
+    requires core { IsSoundCore core }
+    ensures rule { result ≡ rule.new_stream core id facts }
+    ensures id { result.id ≡ id }
+    ensures sound { IsSoundStream core.peer.window result }
+    ensures waits { (book : List Entry) → IsPickOf book facts.pick → HasBody book result }
+    ensures recorded { is_recorded result.kind ≡ true }
+{
+    let numbers = Numbers {
+        recv: Window::start(core.own.window),
+        owed: Credit::none(),
+        send: Window::start(core.peer.window),
+        got: 0,
+        declared: facts.declared,
+        left: None,
+    };
+    Stream {
+        id,
+        kind: Kind::BothOpen,
+        numbers,
+        pick: facts.pick,
+    }
+}
+
+/// Whether a content-length other than 0 is declared.
+fn declares_content(declared: Option<u64>) -> bool
+    ensures { result ≡ rule.declares_content declared }
+{
+    match declared {
+        None => false,
+        Some(count) => count != 0,
+    }
+}
+
+/// What becomes of the stream that a request opens, with the number of live streams and the length of its answer's body.
+#[tactic(auto, unfolding(h2_spec::specs::Headers::request_turn, h2_spec::specs::Stream::octets_waiting))]
+pub fn request_turn(
+    config: Config,
+    live: usize,
+    body: u64,
+    core: Core,
+    id: u32,
+    ends: bool,
+    facts: Facts,
+) -> Turn
+    requires core { IsSoundCore core }
+    ensures rule { result ≡ rule.request_turn config live body core id ends facts }
+    ensures id { result.stream.id ≡ id }
+    ensures sound { IsSoundStream core.peer.window result.stream }
+    ensures waits { (book : List Entry) → body ≡ length (picked book facts.pick).body → IsPickOf book facts.pick → HasBody book result.stream }
+    ensures recorded { is_recorded result.stream.kind ≡ true }
+{
+    let signal = core.peer.signal;
+    if config.streams as usize <= live {
+        return stream_error(signal, id, ErrorCode::RefusedStream);
+    }
+    if MAX_LIST < facts.size {
+        return stream_error(signal, id, ErrorCode::EnhanceYourCalm);
+    }
+    if facts.malformed || (ends && declares_content(facts.declared)) {
+        return stream_error(signal, id, ErrorCode::ProtocolError);
+    }
+    let stream = new_stream(core, id, facts);
+    if ends {
+        peer_ended(signal, body, stream)
+    } else {
+        quiet_turn(signal, stream)
+    }
+}
+
+/// What trailers do to their stream: the size of their list, whether a reason stands against them, and the length of the answer's body.
+#[tactic(auto, unfolding(h2_spec::specs::Headers::trailers_turn, h2_spec::specs::Stream::octets_waiting))]
+pub fn trailers_turn(
+    size: u64,
+    malformed: bool,
+    body: u64,
+    signal: bool,
+    ends: bool,
+    stream: Stream,
+) -> Turn
+    ensures rule { result ≡ rule.trailers_turn size malformed body signal ends stream }
+    ensures id { result.stream.id ≡ stream.id }
+    ensures sound { (window : ℕ) → window ≤ 2147483647 → IsSoundStream window stream → IsSoundStream window result.stream }
+    ensures waits { (book : List Entry) → body ≡ length (picked book stream.pick).body → HasBody book stream → HasBody book result.stream }
+    ensures recorded { is_recorded stream.kind ≡ true → is_recorded result.stream.kind ≡ true }
+{
+    if MAX_LIST < size {
+        return stream_error(signal, stream.id, ErrorCode::EnhanceYourCalm);
+    }
+    let numbers = stream.numbers;
+    let breaks = breaks_length(numbers.declared, numbers.got, true);
+    if malformed || !ends || breaks {
+        return stream_error(signal, stream.id, ErrorCode::ProtocolError);
+    }
+    peer_ended(signal, body, stream)
+}

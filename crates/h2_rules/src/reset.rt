@@ -1,0 +1,34 @@
+//! The rule for RST_STREAM (RFC 9113, 6.4).
+//! Rests on `change`; definition: `on_reset` of h2_spec's `specs/Effect.antt`.
+
+ghost use Rattle.std.specs.Prelude.{◌≡◌, List};
+ghost use Rattle.h2_spec.specs.Effect as rule;
+ghost use Rattle.h2_spec.specs.Stream.{Records, stream_at};
+ghost use Rattle.h2_spec.specs.Answer.{Entry};
+ghost use Rattle.h2_rules.specs.Sound.{IsSound, IsSoundCore};
+
+use crate::change::{quiet_turn, stay, turned};
+use h2_spec::connection::Core;
+use h2_spec::errors::ErrorCode;
+use h2_spec::reactions::Reaction;
+use h2_spec::streams::{Kind, Stream};
+use h2_streams::not_live;
+
+/// RST_STREAM on a stream.
+#[tactic(auto, unfolding(h2_spec::specs::Effect::on_reset, h2_spec::specs::Effect::reset_turn, h2_spec::specs::Stream::octets_waiting))]
+pub fn on_reset(core: Core, stream: Stream) -> Reaction
+    requires core { IsSoundCore core }
+    ensures rule { result ≡ rule.on_reset core stream }
+    ensures sound { (book : List Entry) (r : Records) → stream ≡ stream_at r.last r.streams stream.id → r.last ≡ core.last → IsSound book r core.peer.window result }
+{
+    match stream.kind {
+        Kind::Idle => Reaction::ConnectionError(ErrorCode::ProtocolError),
+        Kind::Skipped | Kind::Ended | Kind::PeerReset | Kind::WeReset => {
+            Reaction::Continues(stay(core))
+        }
+        Kind::BothOpen | Kind::HalfLocal | Kind::HalfRemote => {
+            let turn = quiet_turn(core.peer.signal, not_live(stream.id, Kind::PeerReset));
+            Reaction::Continues(turned(stay(core), turn))
+        }
+    }
+}

@@ -1,0 +1,110 @@
+//! The rule for SETTINGS (RFC 9113, 6.5 and 6.9.2).
+//! Rests on `change`; definitions: h2_spec's `specs/SettingsFrame.antt`, `specs/Settings.antt`.
+
+ghost use Rattle.std.specs.Prelude.{◌≡◌, List, Ok, Err};
+ghost use Rattle.h2_frame.specs.Parts.{settings_in};
+ghost use Rattle.h2_spec.specs.Change.{moved_by};
+ghost use Rattle.h2_spec.specs.SettingsFrame as rule;
+ghost use Rattle.h2_spec.specs.Answer.{Entry};
+ghost use Rattle.h2_spec.specs.Stream.{Records};
+ghost use Rattle.h2_spec.specs.declared.streams.Stream.{Stream};
+ghost use Rattle.h2_streams.specs.Greatest.{IsGreatest, overflows_with};
+ghost use Rattle.h2_rules.specs.OneSetting.{one_setting};
+ghost use Rattle.h2_rules.specs.Sound.{IsSound, IsSoundState};
+
+use crate::change::stay;
+use h2_frame::SettingsPart;
+use h2_spec::connection::{Core, Phase};
+use h2_spec::errors::{ErrorCode, FlowFault};
+use h2_spec::flow::{Settings, Window};
+use h2_spec::reactions::{Change, ConnectionFrame, Reaction, Touch};
+
+/// Whether the greatest window, if there is one, passes its limit where the initial window goes from one value to another.
+#[tactic(auto, unfolding(h2_streams::specs::Greatest::overflows_with))]
+fn overflows(greatest: Option<Window>, from: u32, to: u32) -> bool
+    ensures { result ≡ overflows_with greatest (moved_by from to) }
+{
+    match greatest {
+        None => false,
+        Some(window) => window.overflows_by(from, to),
+    }
+}
+
+/// The settings after one of them, where they were `from` before the frame.
+#[tactic(auto, unfolding(crate::specs::OneSetting::one_setting))]
+fn one_setting(
+    greatest: &Option<Window>,
+    from: Settings,
+    now: Settings,
+    id: u16,
+    value: u32,
+) -> Result<Settings, ErrorCode>
+    ensures { (streams : List Stream) → IsGreatest greatest.now streams → result ≡ one_setting streams from now id value }
+{
+    let mut next = now;
+    match next.apply(id, value) {
+        Ok(_) => {
+            if overflows(*greatest, from.window, next.window) {
+                Err(ErrorCode::FlowControlError)
+            } else {
+                Ok(next)
+            }
+        }
+        Err(FlowFault::BadSetting(code)) => Err(code),
+        Err(_) => unreachable!(),
+    }
+}
+
+/// The settings after those of a frame in their order; the first one that is refused decides.
+fn settings_applied(
+    greatest: &Option<Window>,
+    from: Settings,
+    part: SettingsPart<'_>,
+) -> Result<Settings, ErrorCode>
+    ensures { (streams : List Stream) → IsGreatest greatest.now streams → result ≡ rule.settings_applied streams from from (settings_in part.entry) }
+{
+    let mut now = from;
+    for place in 0..part.count() {
+        let (id, value) = part.pair_at(place);
+        match one_setting(greatest, from, now, id, value) {
+            Ok(next) => now = next,
+            Err(code) => return Err(code),
+        }
+    }
+    Ok(now)
+}
+
+/// SETTINGS without ACK: all of the frame, or none of it; `greatest` is the greatest of the send windows that settings move.
+#[tactic(auto, unfolding(h2_spec::specs::SettingsFrame::settings_rule))]
+pub fn settings_rule(greatest: &Option<Window>, core: Core, part: SettingsPart<'_>) -> Reaction
+    ensures rule { (streams : List Stream) → IsGreatest greatest.now streams → result ≡ rule.settings_rule streams core (settings_in part.entry) }
+    ensures sound { (book : List Entry) (r : Records) → IsGreatest greatest.now r.streams → IsSoundState book core r → IsSound book r core.peer.window result }
+{
+    let before = core.peer.window;
+    match settings_applied(greatest, core.peer, part) {
+        Err(code) => Reaction::ConnectionError(code),
+        Ok(peer) => {
+            let change = stay(Core {
+                peer,
+                phase: Phase::Running,
+                ..core
+            });
+            Reaction::Continues(Change {
+                touch: Touch::Shift(before, peer.window),
+                first: ConnectionFrame::SettingsAck,
+                ..change
+            })
+        }
+    }
+}
+
+/// SETTINGS with ACK: the peer has acknowledged the server's settings.
+pub fn acknowledged(core: Core) -> Reaction
+    ensures rule { result ≡ rule.acknowledged core }
+    ensures sound { (book : List Entry) (r : Records) → IsSoundState book core r → IsSound book r core.peer.window result }
+{
+    Reaction::Continues(stay(Core {
+        acked: true,
+        ..core
+    }))
+}

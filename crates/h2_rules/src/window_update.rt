@@ -1,0 +1,75 @@
+//! The rule for WINDOW_UPDATE (RFC 9113, 6.9 and 6.9.1).
+//! Rests on `change`; definitions: h2_spec's `specs/WindowUpdate.antt`, and `on_window` of `specs/Effect.antt`.
+
+ghost use Rattle.std.specs.Prelude.{◌≡◌, ℕ, ◌≤◌, true, List};
+ghost use Rattle.h2_spec.specs.WindowUpdate as rule;
+ghost use Rattle.h2_spec.specs.Effect as effect;
+ghost use Rattle.h2_spec.specs.Stream.{Records, stream_at};
+ghost use Rattle.h2_spec.specs.Answer.{Entry};
+ghost use Rattle.h2_rules.specs.Sound.{HasBody, IsSound, IsSoundCore, IsSoundStream, is_recorded};
+
+use crate::change::{quiet_turn, stay, stream_error, turned};
+use h2_spec::connection::Core;
+use h2_spec::errors::ErrorCode;
+use h2_spec::reactions::{Reaction, Turn};
+use h2_spec::streams::{Kind, Numbers, Stream};
+
+/// An increment of a live stream's send window.
+#[tactic(auto, unfolding(h2_spec::specs::WindowUpdate::window_turn, h2_spec::specs::Stream::octets_waiting))]
+fn window_turn(signal: bool, increment: u32, stream: Stream) -> Turn
+    ensures rule { result ≡ rule.window_turn signal increment stream }
+    ensures id { result.stream.id ≡ stream.id }
+    ensures sound { (window : ℕ) → window ≤ 2147483647 → IsSoundStream window stream → IsSoundStream window result.stream }
+    ensures waits { (book : List Entry) → HasBody book stream → HasBody book result.stream }
+    ensures recorded { is_recorded stream.kind ≡ true → is_recorded result.stream.kind ≡ true }
+{
+    if increment == 0 {
+        return stream_error(signal, stream.id, ErrorCode::ProtocolError);
+    }
+    let numbers = stream.numbers;
+    if numbers.send.overflows(increment) {
+        return stream_error(signal, stream.id, ErrorCode::FlowControlError);
+    }
+    let numbers = Numbers {
+        send: numbers.send.plus(increment),
+        ..numbers
+    };
+    quiet_turn(signal, Stream { numbers, ..stream })
+}
+
+/// WINDOW_UPDATE on a stream.
+#[tactic(auto, unfolding(h2_spec::specs::Effect::on_window))]
+pub fn on_window(core: Core, increment: u32, stream: Stream) -> Reaction
+    requires core { IsSoundCore core }
+    requires stream { IsSoundStream core.peer.window stream }
+    ensures rule { result ≡ effect.on_window core increment stream }
+    ensures sound { (book : List Entry) (r : Records) → HasBody book stream → stream ≡ stream_at r.last r.streams stream.id → r.last ≡ core.last → IsSound book r core.peer.window result }
+{
+    match stream.kind {
+        Kind::Idle => Reaction::ConnectionError(ErrorCode::ProtocolError),
+        Kind::Skipped | Kind::Ended | Kind::PeerReset | Kind::WeReset => {
+            Reaction::Continues(stay(core))
+        }
+        Kind::BothOpen | Kind::HalfLocal | Kind::HalfRemote => {
+            let turn = window_turn(core.peer.signal, increment, stream);
+            Reaction::Continues(turned(stay(core), turn))
+        }
+    }
+}
+
+/// WINDOW_UPDATE on the connection.
+#[tactic(auto, unfolding(h2_spec::specs::WindowUpdate::connection_window))]
+pub fn connection_window(core: Core, increment: u32) -> Reaction
+    requires core { IsSoundCore core }
+    ensures rule { result ≡ rule.connection_window core increment }
+    ensures sound { (book : List Entry) (r : Records) → r.last ≡ core.last → IsSound book r core.peer.window result }
+{
+    if increment == 0 {
+        return Reaction::ConnectionError(ErrorCode::ProtocolError);
+    }
+    if core.send.overflows(increment) {
+        return Reaction::ConnectionError(ErrorCode::FlowControlError);
+    }
+    let send = core.send.plus(increment);
+    Reaction::Continues(stay(Core { send, ..core }))
+}
