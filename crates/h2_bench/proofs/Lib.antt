@@ -2,6 +2,8 @@ pub mod AnswerTexts
 pub mod Assembled
 pub mod Books
 pub mod Grammar
+pub mod InHand
 pub mod Numbers
 pub mod Places
+pub mod Played
 pub mod Tables

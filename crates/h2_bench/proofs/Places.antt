@@ -1,6 +1,8 @@
 -- A run that is told place by place.
-use Rattle.std.proofs.Common.{◌≡◌, ◌∙◌, ◌+◌, ◌-◌, ◌<◌, ◌≤◌, ℕ, List, [], ◌∷◌, ◌++◌, length, drop, refl, sym, ap, subst, arith, length-drop, append_assoc}
-use Rattle.std.proofs.lemmas.List.{append-nil, drop-drop}
+use Rattle.std.proofs.Common.{◌≡◌, ◌∙◌, ◌+◌, ◌-◌, ◌<◌, ◌≤◌, ℕ, List, [], ◌∷◌, ◌++◌, length, take, drop, refl, sym, ap, ap₂, subst, arith, length-drop, append_assoc}
+use Rattle.std.specs.List.{concat}
+use Rattle.std.proofs.lemmas.List.{append-nil, drop-drop, drop-take, take-append-drop, take-take}
+use Rattle.std.proofs.lemmas.List.Folds.{concat-append}
 use Rattle.h2_spec.specs.Frame.{frames_octets}
 use Rattle.h2_spec.specs.Parse.{Front, Stop, One, Parsed, after_one, parse_all, parse_first}
 use Rattle.h2_spec.specs.State.{State}
@@ -12,7 +14,7 @@ use Rattle.h2_spec.proofs.TraceLaws.{event-uses}
 use Rattle.h2_conn.specs.Connection.{Connection, going}
 use Rattle.h2_conn.specs.Runs.{TakesOne}
 use Rattle.h2_bench.specs.Each.{TellsItem}
-use Rattle.h2_bench.specs.Told.{item_text, items_text}
+use Rattle.h2_bench.specs.Told.{item_text, item_texts}
 
 -- the events of a run
 abbrev pub events : State → List ℕ → List Event
@@ -30,12 +32,12 @@ events-one : (s t : State) (b : List ℕ) (e : Event) (used : ℕ) → next_even
 events-one s t b e used h =
     ap (λ (r : Parsed State Event). r.elements) (parse_all-step next_event event-uses s b ∙ ap (λ (x : Front State Event). parse_first s b x (λ u rest. parse_all next_event u rest)) h)
 
-items-none : (place : ℕ) → items_text place [] ≡ []
-unfolding items_text
+items-none : (place : ℕ) → item_texts place [] ≡ []
+unfolding item_texts
 items-none place = refl
 
-items-cons : (place : ℕ) (e : Event) (es : List Event) → items_text place (e ∷ es) ≡ item_text place (frames_octets e.sent) (view e.state) ++ items_text (place + 1) es
-unfolding items_text
+items-cons : (place : ℕ) (e : Event) (es : List Event) → item_texts place (e ∷ es) ≡ item_text place (frames_octets e.sent) (view e.state) ∷ item_texts (place + 1) es
+unfolding item_texts
 items-cons place e es = refl
 
 pub item-within : (s : State) (octets : List ℕ) (at place used : ℕ) (a b : List ℕ) (c : Connection) → at ≤ length octets → TellsItem s (drop at octets) place a c b used
@@ -44,18 +46,29 @@ item-within s octets at place used a b c h x =
     let uses : Uses (drop at octets) (One x.event c.state used) = subst (λ (n : Front State Event). Uses (drop at octets) n) x.comes (event-uses s (drop at octets)) in
     (uses.0, omega (arith, h, uses.1, length-drop at octets))
 
-pub item-told : (s : State) (octets : List ℕ) (at place used : ℕ) (a b all : List ℕ) (c : Connection) → TellsItem s (drop at octets) place a c b used
-    → a ++ items_text place (events s (drop at octets)) ≡ all → b ++ items_text (place + 1) (events c.state (drop (at + used) octets)) ≡ all
-item-told s octets at place used a b all c x h =
+-- the next place of a run is its next item
+pub item-next : (s : State) (octets : List ℕ) (at place used : ℕ) (a b : List ℕ) (c : Connection) (x : TellsItem s (drop at octets) place a c b used)
+    → item_texts place (events s (drop at octets)) ≡ item_text place (frames_octets x.event.sent) (view c.state) ∷ item_texts (place + 1) (events c.state (drop (at + used) octets))
+item-next s octets at place used a b c x =
     let later : List Event = events c.state (drop (at + used) octets) in
     let one : events s (drop at octets) ≡ x.event ∷ later =
     events-one s c.state (drop at octets) x.event used x.comes ∙ ap (λ (r : List ℕ). x.event ∷ events c.state r) (drop-drop used at octets) in
-    let text : items_text place (events s (drop at octets)) ≡ item_text place (frames_octets x.event.sent) (view c.state) ++ items_text (place + 1) later =
-    ap (items_text place) one ∙ items-cons place x.event later ∙ ap (λ (t : State). item_text place (frames_octets x.event.sent) (view t) ++ items_text (place + 1) later) x.state in
-    rw x.told (append_assoc a (item_text place (frames_octets x.event.sent) (view c.state)) (items_text (place + 1) later) ∙ ap (λ (t : List ℕ). a ++ t) (sym text) ∙ h)
+    ap (item_texts place) one ∙ items-cons place x.event later ∙ ap (λ (t : State). item_text place (frames_octets x.event.sent) (view t) ∷ item_texts (place + 1) later) x.state
 
-pub none-told : (s : State) (b a all : List ℕ) (place : ℕ) → next_event s b ≡ Stop → a ++ items_text place (events s b) ≡ all → a ≡ all
-none-told s b a all place e h = sym (append-nil a) ∙ ap (λ (t : List ℕ). a ++ t) (sym (ap (items_text place) (events-stop s b e) ∙ items-none place)) ∙ h
+pub none-next : (s : State) (b : List ℕ) (place : ℕ) → next_event s b ≡ Stop → item_texts place (events s b) ≡ []
+none-next s b place e = ap (item_texts place) (events-stop s b e) ∙ items-none place
+
+pub drop-next : (n : ℕ) (all : List (List ℕ)) (x : List ℕ) (xs : List (List ℕ)) → drop n all ≡ x ∷ xs → drop (n + 1) all ≡ xs
+drop-next n all x xs e = sym (drop-drop 1 n all) ∙ ap (drop 1) e
+
+pub concat-next : (n : ℕ) (all : List (List ℕ)) (x : List ℕ) (xs : List (List ℕ)) → drop n all ≡ x ∷ xs → concat (take (n + 1) all) ≡ concat (take n all) ++ x
+concat-next n all x xs e =
+    let more : take (n + 1) all ≡ take n all ++ x ∷ [] =
+    sym (take-append-drop n (take (n + 1) all)) ∙ ap₂ (λ (p q : List (List ℕ)). p ++ q) (take-take n (n + 1) all (omega arith)) (drop-take n 1 all ∙ ap (take 1) e) in
+    ap concat more ∙ concat-append (take n all) (x ∷ []) ∙ ap (λ (t : List ℕ). concat (take n all) ++ t) (append-nil x)
+
+pub concat-all : (n : ℕ) (all : List (List ℕ)) → drop n all ≡ [] → concat (take n all) ≡ concat all
+concat-all n all e = ap concat (sym (append-nil (take n all)) ∙ ap (λ (t : List (List ℕ)). take n all ++ t) (sym e) ∙ take-append-drop n all)
 
 same-state : State → Front State Event → Type 0
 same-state s Stop = Unit {0}

@@ -1,11 +1,12 @@
 -- What the programs tell of their input: a text and an exit status.
 use Rattle.std.specs.Prelude.{ℕ, ◌+◌, ◌++◌, Bool, true, false, List, [], ◌∷◌, length, codes, decimal, nat_lt, if◌then◌else◌, Option, Some, None}
+use Rattle.std.specs.List.{concat}
 use Rattle.hex.specs.Hex.{encode_lower}
 use Rattle.h2_conn.specs.Connection.{is_allowed}
 use Rattle.h2_spec.specs.declared.connection.Config.{Config}
 use Rattle.h2_spec.specs.Answer.{Entry}
 use Rattle.h2_spec.specs.Opening.{opening_octets}
-use Rattle.h2_spec.specs.State.{opening}
+use Rattle.h2_spec.specs.State.{State, opening}
 use Rattle.h2_spec.specs.Frame.{frames_octets, frame_octets}
 use Rattle.h2_spec.specs.Trace.{Event, sent_octets, trace}
 use Rattle.h2_spec.specs.View.{View, view}
@@ -15,7 +16,7 @@ use Rattle.h2_bench.specs.Grammar.{Asked, play, asm, dis, table}
 use Rattle.h2_bench.specs.Input.{most, octets_spelled}
 use Rattle.h2_bench.specs.ScriptPrograms.{told_asm, told_dis}
 use Rattle.h2_bench.specs.TableProgram.{table_text}
-pub use Rattle.h2_bench.specs.Tell.{Told, done, failed, refused}
+pub use Rattle.h2_bench.specs.Tell.{OrCutShort, Told, cut_short, done, failed, refused}
 use Rattle.h2_bench.specs.declared.fault.BenchFault.TheVariants.{BadConfig, Read, BadHex}
 
 -- the line of the octets sent, and the text of the state
@@ -26,20 +27,26 @@ sent_and_state sent shown = joined (codes "sent " ∷ encode_lower sent ∷ code
 unfoldable pub item_text : ℕ → List ℕ → View → List ℕ
 item_text place sent shown = joined (codes "item " ∷ decimal place ∷ codes "\nsent " ∷ octets_text sent ∷ codes "\n" ∷ []) ++ show shown
 
--- the items of a run, each behind the other
-unfoldable pub items_text : ℕ → List Event → List ℕ
+-- the items of a run, from this place on
+unfoldable pub item_texts : ℕ → List Event → List (List ℕ)
 unfolding item_text
-items_text place [] = []
-items_text place (e ∷ es) = item_text place (frames_octets e.sent) (view e.state) ++ items_text (place + 1) es
+item_texts place [] = []
+item_texts place (e ∷ es) = item_text place (frames_octets e.sent) (view e.state) ∷ item_texts (place + 1) es
+
+-- each place of a run over octets: its start, of which this is told, and then its items
+abbrev pub places_from : List ℕ → State → List ℕ → List (List ℕ)
+places_from start s octets = start ∷ item_texts 1 (trace s octets).events
+
+-- the same of a new connection
+abbrev pub places_run : List Entry → Config → List ℕ → List (List ℕ)
+places_run book config octets = places_from (item_text 0 (opening_octets config) (view (opening book config))) (opening book config) octets
 
 -- of the whole run of a connection over octets, or of each place in it
 abbrev pub told_run : Bool → List Entry → Config → List ℕ → Told
 told_run false book config octets =
     let run = trace (opening book config) octets in
     done (sent_and_state (opening_octets config ++ sent_octets run.events) (view run.state))
-told_run true book config octets =
-    let run = trace (opening book config) octets in
-    done (item_text 0 (opening_octets config) (view (opening book config)) ++ items_text 1 run.events)
+told_run true book config octets = done (concat (places_run book config octets))
 
 -- `play` of octets, where the limits are allowed
 abbrev pub told_played : Bool → List Entry → Config → List ℕ → Told
@@ -48,6 +55,15 @@ told_played each book config octets = if is_allowed config then told_run each bo
 abbrev pub told_play : Bool → List Entry → Config → Option (List ℕ) → Told
 told_play each book config None = failed BadHex
 told_play each book config (Some octets) = told_played each book config octets
+
+-- the places that are written one after another while they are made: those of a run of which each place is told
+abbrev pub places_played : Bool → List Entry → Config → List ℕ → List (List ℕ)
+places_played false book config octets = []
+places_played true book config octets = if is_allowed config then places_run book config octets else []
+
+abbrev pub places_play : Bool → List Entry → Config → Option (List ℕ) → List (List ℕ)
+places_play each book config None = []
+places_play each book config (Some octets) = places_played each book config octets
 
 -- the book of a command's answers
 abbrev pub book_for : Asked → List Entry
@@ -62,6 +78,13 @@ told asm input = told_asm input
 told dis input = told_dis (octets_spelled input)
 told (table limit) input = done (table_text limit input)
 
+-- the places of a command: those of `play` alone
+abbrev pub places : Asked → List ℕ → List (List ℕ)
+places (play config cut each answers) input = places_play each (book_for (play config cut each answers)) config (octets_spelled input)
+places asm input = []
+places dis input = []
+places (table limit) input = []
+
 -- the fault that is found before anything is read: that of the first bad answer
 abbrev pub early_fault : Asked → Option ℕ
 early_fault (play config cut each answers) = fault_of (book_of [] answers)
@@ -73,6 +96,9 @@ early_fault (table limit) = None
 abbrev pub told_read : Asked → List ℕ → Told
 told_read asked input = if nat_lt most (length input) then failed Read else told asked input
 
+abbrev pub places_read : Asked → List ℕ → List (List ℕ)
+places_read asked input = if nat_lt most (length input) then [] else places asked input
+
 -- unless a fault was found before
 abbrev pub unless_found : Option ℕ → Told → Told
 unless_found (Some fault) t = refused fault
@@ -80,3 +106,10 @@ unless_found None t = t
 
 abbrev pub told_within : Asked → List ℕ → Told
 told_within asked input = unless_found (early_fault asked) (told_read asked input)
+
+abbrev pub places_unless_found : Option ℕ → List (List ℕ) → List (List ℕ)
+places_unless_found (Some fault) ps = []
+places_unless_found None ps = ps
+
+abbrev pub places_within : Asked → List ℕ → List (List ℕ)
+places_within asked input = places_unless_found (early_fault asked) (places_read asked input)

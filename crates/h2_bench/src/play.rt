@@ -1,23 +1,21 @@
 //! The program `play`: a connection over the octets that hex text spells.
 //! Rests on `answer`, h2_conn and the crate `hex`; definitions: `specs/Books.antt`, `specs/Told.antt`.
 
-ghost use Rattle.std.specs.Prelude.{◌≡◌, ◌⊎◌, ◌<◌, ◌^◌, ◌++◌, [], Ok, Err, true, false, length, map, IfErr, IfOk, OnOk};
+ghost use Rattle.std.specs.Prelude.{◌≡◌, ◌⊎◌, ◌<◌, ◌^◌, [], Ok, Err, true, false, length, map, IfErr, IfOk, OnOk};
 ghost use Rattle.std.specs.String.{string_bytes};
-ghost use Rattle.h2_spec.specs.Trace.{trace};
-ghost use Rattle.h2_spec.specs.View.{view};
-ghost use Rattle.h2_conn.specs.Connection.{going};
 ghost use Rattle.h2_request.specs.Fault as book;
 ghost use Rattle.h2_request.specs.declared.fault.BookFault.TheVariants as books;
 ghost use Rattle.h2_bench.specs.Answers.{Meets};
 ghost use Rattle.h2_bench.specs.Books.{book_of, with_answer};
+ghost use Rattle.h2_bench.specs.Each.{WritesSome, not_written};
 ghost use Rattle.h2_bench.specs.Faults.{fault_number};
 ghost use Rattle.h2_bench.specs.Input.{octets_spelled};
-ghost use Rattle.h2_bench.specs.Told.{item_text, items_text, sent_and_state, told_play, told_played};
+ghost use Rattle.h2_bench.specs.Told.{OrCutShort, places_play, places_played, sent_and_state, told_play, told_played};
 ghost use Rattle.h2_bench.specs.declared.fault.BenchFault.TheVariants.{NoMemory};
 
 use crate::answer::parse_answer;
 use crate::command::Play;
-use crate::each::{write_items, write_place};
+use crate::each::{Untold, write_places};
 use crate::fault::BenchFault;
 use crate::input::read_hex;
 use h2_conn::play::play;
@@ -29,6 +27,7 @@ use h2_request::fault::BookFault;
 use h2_spec::connection::Config;
 use std::alloc::{AllocError, Global};
 use std::fmt::Write;
+use std::io;
 
 /// What a book refused, by the name that programs have for it.
 fn refused_by(fault: BookFault) -> BenchFault
@@ -124,46 +123,67 @@ fn played_whole(
     }
 }
 
-/// What is told of a new connection and its items.
-fn places_told(
-    alloc: Global,
-    conn: &mut Conn<'_, Global>,
-    sent: &[u8],
-    octets: &[u8],
-) -> Result<String, BenchFault>
-    requires new { conn.old ≡ going conn.old.state [] }
-    requires few { length octets.now < 2 ^ 63 }
-    ensures { IfOk result (λ text. string_bytes text ≡ item_text 0 sent.now (view conn.old.state) ++ items_text 1 (trace conn.old.state octets.now).events) }
-{
-    let mut text = String::new(alloc);
-    let view = conn.state(alloc)?;
-    write_place(alloc, &mut text, 0, sent, &view)?;
-    write_items(alloc, conn, octets, &mut text)?;
-    Ok(text)
-}
-
-/// What `play` prints of octets place by place. Items are taken one by one, so pieces don't matter.
-fn played_each(
+/// Writes what `play` prints of octets place by place. Items are taken one by one, so pieces don't matter.
+fn write_played<W: io::Write>(
     alloc: Global,
     book: &Book<Global>,
     config: Config,
     octets: &[u8],
-) -> Result<String, BenchFault>
-    requires { length octets.now < 2 ^ 63 }
-    ensures { Meets result (told_played true book.now config octets.now) }
+    output: &mut W,
+    output_failed: &mut bool,
+) -> Result<(), Untold>
+    requires few { length octets.now < 2 ^ 63 }
+    requires writer { output_failed.old ≡ false }
+    ensures told { output_failed.new ≡ false → WritesSome (OrCutShort (places_played true book.now config octets.now) (told_played true book.now config octets.now))
+        result (W.contents output.old) (W.contents output.new) }
+    ensures flag { output_failed.new ≡ not_written result }
 {
     let mut sent = Vec::new(alloc);
     match Conn::new(book, config, &mut sent) {
-        Ok(mut conn) => match places_told(alloc, &mut conn, sent.as_slice(), octets) {
-            Ok(text) => Ok(text),
-            Err(_) => Err(BenchFault::NoMemory),
-        },
-        Err(ConnFault::BadConfig) => Err(BenchFault::BadConfig),
-        Err(_) => Err(BenchFault::NoMemory),
+        Ok(mut conn) => write_places(
+            alloc,
+            &mut conn,
+            sent.as_slice(),
+            octets,
+            output,
+            output_failed,
+        ),
+        Err(ConnFault::BadConfig) => Err(Untold::Fault(BenchFault::BadConfig)),
+        Err(_) => Err(Untold::Fault(BenchFault::NoMemory)),
     }
 }
 
-/// What `play` prints of its input, however the octets are cut: the octets sent, and the state after all of them; or both at the start and after each item.
+/// Writes what `play` prints of its input place by place: the start, and each item.
+///
+/// `BadHex` where the input is no hex text, then `BadConfig` where a limit is out of range; nothing is written then. `NoMemory` where memory is refused:
+/// some first places were written. `NotWritten` where a write failed.
+pub fn write_each<W: io::Write>(
+    alloc: Global,
+    play: &Play<'_>,
+    book: &Book<Global>,
+    input: &[u8],
+    output: &mut W,
+    output_failed: &mut bool,
+) -> Result<(), Untold>
+    requires { output_failed.old ≡ false }
+    ensures told { output_failed.new ≡ false → WritesSome (OrCutShort (places_play true book.now play.now.config (octets_spelled input.now)) (told_play true book.now play.now.config (octets_spelled input.now)))
+        result (W.contents output.old) (W.contents output.new) }
+    ensures flag { output_failed.new ≡ not_written result }
+{
+    match read_hex(alloc, input) {
+        Ok(octets) => write_played(
+            alloc,
+            book,
+            play.config,
+            octets.as_slice(),
+            output,
+            output_failed,
+        ),
+        Err(fault) => Err(Untold::Fault(fault)),
+    }
+}
+
+/// What `play` prints of its input, however the octets are cut: the octets sent, and the state after all of them.
 ///
 /// `BadHex` where the input is no hex text, then `BadConfig` where a limit is out of range; `NoMemory` where memory is refused.
 pub fn play_text(
@@ -172,14 +192,11 @@ pub fn play_text(
     book: &Book<Global>,
     input: &[u8],
 ) -> Result<String, BenchFault>
-    ensures { Meets result (told_play play.now.each book.now play.now.config (octets_spelled input.now)) }
+    ensures { Meets result (told_play false book.now play.now.config (octets_spelled input.now)) }
 {
     let octets = match read_hex(alloc, input) {
         Ok(octets) => octets,
         Err(fault) => return Err(fault),
     };
-    if play.each {
-        return played_each(alloc, book, play.config, octets.as_slice());
-    }
     played_whole(alloc, book, play.config, play.cut, octets.as_slice())
 }
