@@ -77,6 +77,65 @@ fn devices_fail(rt: HostRuntime) -> Result<(), Fail> {
     Ok(())
 }
 
+/// A writer that takes so many octets, and of which each further call fails.
+#[derive(Drop)]
+struct Narrow {
+    taken: Vec<u8>,
+    room: usize,
+}
+
+impl Write for Narrow {
+    fn write(&mut self, text: &[u8]) -> io::Result<usize> {
+        let count = if text.len() < self.room {
+            text.len()
+        } else {
+            self.room
+        };
+        if count == 0 || self.taken.extend_from_slice(&text[..count]).is_err() {
+            return Err(io::Error::from(ErrorKind::BrokenPipe));
+        }
+        self.room -= count;
+        Ok(count)
+    }
+
+    fn flush(&mut self) -> io::Result<()> {
+        Ok(())
+    }
+}
+
+#[test]
+fn places_are_written_until_a_write_fails(rt: HostRuntime) -> Result<(), Fail> {
+    let alloc = rt.alloc();
+    let mut input: Vec<u8> = Vec::new(alloc);
+    input.extend_from_slice(b"505249202a20485454502f322e300d0a0d0a534d0d0a0d0a000000040000000000")?;
+    for _ in 0..400 {
+        input.extend_from_slice(b"0000080600000000000102030405060708")?;
+    }
+    let (_, whole) = ran(alloc, &["play", "--each"], input.as_slice())?;
+    assert!(rt; whole.len() > 65536, "it takes two writes at least");
+    let mut words = Words::new(alloc);
+    for word in ["h2_bench", "play", "--each"] {
+        words.add(word)?;
+    }
+    let rooms = [0, 1, 1000, 40000, 65536, whole.len() - 1, whole.len()];
+    for room in rooms {
+        let mut reader = input.as_slice();
+        let mut narrow = Narrow {
+            taken: Vec::new(alloc),
+            room,
+        };
+        let status = run(alloc, &words, &mut reader, &mut narrow);
+        assert_eq!(rt;
+            status,
+            if room == whole.len() { 0 } else { 3 },
+            "at {room}"
+        );
+        assert_eq!(rt; narrow.taken.len(), room, "at {room}");
+        assert!(rt; whole.starts_with(narrow.taken.as_slice()), "at {room}");
+    }
+    Ok(())
+}
+
 #[test]
 fn words_say_answers(rt: HostRuntime) -> Result<(), Fail> {
     let alloc = rt.alloc();
