@@ -16,14 +16,23 @@ fn words_of(rt: &HostRuntime) -> io::Result<Words> {
     Ok(words)
 }
 
+/// Says why the words could not be read: memory was refused, or one of them is not UTF-8.
+fn refuse<W: Write>(output: &mut W, error: &io::Error) -> ExitCode {
+    let (text, status) = match error.kind() {
+        io::ErrorKind::InvalidData => ("error: a word of the command line is not UTF-8\n", 2),
+        _ => ("fault 0\n", 1),
+    };
+    match output.write_all(text.as_bytes()) {
+        Ok(()) => ExitCode::from(status),
+        Err(_) => ExitCode::from(3),
+    }
+}
+
 fn main(rt: HostRuntime) -> ExitCode {
     let mut input = rt.stdin();
     let mut output = rt.stdout();
     match words_of(&rt) {
         Ok(words) => ExitCode::from(run(rt.alloc(), &words, &mut input, &mut output)),
-        Err(_) => match output.write_all(b"fault 0\n") {
-            Ok(()) => ExitCode::from(1),
-            Err(_) => ExitCode::from(3),
-        },
+        Err(error) => refuse(&mut output, &error),
     }
 }
