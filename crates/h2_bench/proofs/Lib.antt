@@ -2,6 +2,7 @@ pub mod AnswerTexts
 pub mod Assembled
 pub mod Books
 pub mod Grammar
+pub mod HexTexts
 pub mod InHand
 pub mod Numbers
 pub mod Places

@@ -35,3 +35,11 @@ abbrev pub EndsSomehow : Asked → Option (List ℕ) → Option (List ℕ) → O
 EndsSomehow asked input before after status =
     (octets held : List ℕ) → input ≡ Some octets → before ≡ Some held → (status ≡ 3)
     ⊎ (((count : ℕ) × Tells (cut_short count (places_within asked octets)) held after status) ⊎ (Tells (failed Read) held after status ⊎ Tells (told_within asked octets) held after status))
+
+-- words that ask for nothing: memory was refused, or what there is to say of them is said, with status 2
+abbrev pub IsRefusal : Told → Type 0
+IsRefusal t = (t ≡ failed NoMemory) ⊎ (t.status ≡ 2)
+
+-- the output gained such an answer
+abbrev pub TellsRefusal : Option (List ℕ) → Option (List ℕ) → ℕ → Type 0
+TellsRefusal before after status = TellsSome IsRefusal before after status

@@ -1,9 +1,9 @@
 -- The input of a program: when it isn't read, and the octets that hex text spells.
-use Rattle.std.specs.Prelude.{◌≡◌, ◌⊎◌, ◌<◌, ◌==◌, ◌||◌, ℕ, Bool, true, false, not, List, Option, Some, None, Result, Ok, Err, filter, length, nat_lt}
+use Rattle.std.specs.Prelude.{◌≡◌, ◌⊎◌, ◌<◌, ◌==◌, ◌||◌, ℕ, Bool, true, false, not, List, Option, Some, None, is_some, Result, Ok, Err, filter, length, nat_lt}
 use Rattle.hex.specs.Hex.{decode_of}
 use Rattle.hex.specs.declared.FromHexError.{FromHexError}
 use Rattle.h2_bench.specs.declared.fault.BenchFault.{BenchFault}
-use Rattle.h2_bench.specs.declared.fault.BenchFault.TheVariants.{NoMemory, Read}
+use Rattle.h2_bench.specs.declared.fault.BenchFault.TheVariants.{NoMemory, Read, BadHex}
 
 -- the most octets that an input may have
 abbrev pub most : ℕ
@@ -25,3 +25,7 @@ octets_in (Err fault) = None
 -- the octets that hex text spells, if it is one
 abbrev pub octets_spelled : List ℕ → Option (List ℕ)
 octets_spelled text = octets_in (decode_of (filter is_digit text))
+
+-- text that is no hex is refused for that, and other text for want of memory alone
+abbrev pub IsNoHex : Option (List ℕ) → BenchFault → Type 0
+IsNoHex spelled fault = ((fault ≡ NoMemory) × (is_some spelled ≡ true)) ⊎ ((fault ≡ BadHex) × (spelled ≡ None))

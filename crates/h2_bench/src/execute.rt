@@ -4,7 +4,7 @@
 ghost use Rattle.std.specs.Prelude.{◌≡◌, ◌⊎◌, ◌++◌, ℕ, List, Some, None, true, false, IfOk, IfErr};
 ghost use Rattle.h2_bench.specs.Answers.{Gives, seen};
 ghost use Rattle.h2_bench.specs.Each.{not_written, told_after};
-ghost use Rattle.h2_bench.specs.Ends.{Ends, EndsSomehow, Tells, TellsSome};
+ghost use Rattle.h2_bench.specs.Ends.{Ends, EndsSomehow, Tells, TellsRefusal, TellsSome};
 ghost use Rattle.h2_bench.specs.Grammar.{Asked, asked_of};
 ghost use Rattle.h2_bench.specs.Plans.{planned};
 ghost use Rattle.h2_bench.specs.Faults.{fault_number};
@@ -181,8 +181,8 @@ fn respond<R: Read, W: Write>(
     }
 }
 
-/// Does what the words ask for. A flag is set where a read of the input failed, another where a write of the output failed: no
-/// contract of a device says that its calls don't fail, and so these stand in for it.
+/// Does what the words ask for; where they ask for nothing, nothing is read. A flag is set where a read of the input failed, another
+/// where a write of the output failed: no contract of a device says that its calls don't fail, and so these stand in for it.
 pub fn run_watched<R: Read, W: Write>(
     alloc: Global,
     words: &Words,
@@ -195,6 +195,8 @@ pub fn run_watched<R: Read, W: Write>(
     requires writer { output_failed.old ≡ false }
     ensures told { (asked : Asked) → asked_of words.now ≡ Some asked → output_failed.new ≡ false
         → Ends asked (R.remaining input.old) input_failed.new (W.contents output.old) (W.contents output.new) result }
+    ensures refused { asked_of words.now ≡ None → output_failed.new ≡ false → TellsRefusal (W.contents output.old) (W.contents output.new) result }
+    ensures unread { asked_of words.now ≡ None → (R.remaining input.new ≡ R.remaining input.old) × (input_failed.new ≡ false) }
     ensures failed { (output_failed.new ≡ false) ⊎ ((output_failed.new ≡ true) × (result ≡ 3)) }
 {
     match parse(alloc, words) {
@@ -209,8 +211,10 @@ pub fn run_watched<R: Read, W: Write>(
 /// 0: done. 1: a fault ended it, and its line was written. 2: the words were refused, or ask for help, and what there is to say of them was written.
 /// 3: the output could not be written.
 pub fn run<R: Read, W: Write>(alloc: Global, words: &Words, input: &mut R, output: &mut W) -> u8
-    ensures { (asked : Asked) → asked_of words.now ≡ Some asked → EndsSomehow asked
+    ensures told { (asked : Asked) → asked_of words.now ≡ Some asked → EndsSomehow asked
         (R.remaining input.old) (W.contents output.old) (W.contents output.new) result }
+    ensures refused { asked_of words.now ≡ None → (result ≡ 3) ⊎ TellsRefusal (W.contents output.old) (W.contents output.new) result }
+    ensures unread { asked_of words.now ≡ None → R.remaining input.new ≡ R.remaining input.old }
 {
     let mut input_failed = false;
     let mut output_failed = false;

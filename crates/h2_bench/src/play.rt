@@ -10,6 +10,7 @@ ghost use Rattle.h2_bench.specs.Books.{book_of, with_answer};
 ghost use Rattle.h2_bench.specs.Each.{WritesSome, not_written};
 ghost use Rattle.h2_bench.specs.Faults.{fault_number};
 ghost use Rattle.h2_bench.specs.Input.{octets_spelled};
+ghost use Rattle.h2_bench.specs.Plans.{piece_lengths};
 ghost use Rattle.h2_bench.specs.Told.{OrCutShort, places_play, places_played, sent_and_state, told_play, told_played};
 ghost use Rattle.h2_bench.specs.declared.fault.BenchFault.TheVariants.{NoMemory};
 
@@ -89,16 +90,12 @@ fn sent_and_state(alloc: Global, sent: &[u8], view: &View<Global>) -> Result<Str
     Ok(text)
 }
 
-/// The lengths of the pieces into which this many octets are cut: all of this length, or none where it is 0.
-fn piece_lengths(alloc: Global, cut: u32, total: usize) -> Result<Vec<usize>, AllocError> {
-    let mut lengths = Vec::new(alloc);
-    if cut == 0 {
-        return Ok(lengths);
-    }
-    for _ in 0..total / cut as usize {
-        lengths.push(cut as usize)?;
-    }
-    Ok(lengths)
+/// The lengths of the pieces into which this many octets are cut: as many as there are whole ones of this length, or none where it is 0.
+fn piece_lengths(alloc: Global, cut: u32, total: usize) -> Result<Vec<usize>, AllocError>
+    ensures { IfOk result (λ lengths. lengths.items ≡ piece_lengths cut total) }
+{
+    let count = if cut == 0 { 0 } else { total / cut as usize };
+    vec![in alloc; cut as usize; count]
 }
 
 /// What `play` prints of octets: those sent, and the state after all of them.

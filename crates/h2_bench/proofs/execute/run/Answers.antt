@@ -21,9 +21,16 @@ somehow asked input input_failed before after status h octets held read had = le
       | inr cut ↦ inr (inl (cut.0, subst (λ (u : Told). Tells u held after status) (cut.1 ∙ rw e refl) tells))
     ]
 
-pub returns : goal.returns
-returns g c = λ asked planned.
+pub returns-clause-told : goal.returns-clause-told
+returns-clause-told g c = λ asked planned.
     elim c.run_watched.ensures.failed [
       | inl well ↦ somehow asked _ _ _ _ _ (c.run_watched.ensures.told asked planned well)
       | inr x ↦ λ octets held read had. inl x.1
+    ]
+
+pub returns-clause-refused : goal.returns-clause-refused
+returns-clause-refused g c = λ none.
+    elim c.run_watched.ensures.failed [
+      | inl well ↦ inr (c.run_watched.ensures.refused none well)
+      | inr x ↦ inl x.1
     ]

@@ -1,4 +1,4 @@
-use Rattle.std.proofs.Common.{◌≡◌, inl, refl, subst}
+use Rattle.std.proofs.Common.{◌≡◌, inl, inr, refl, subst}
 use Rattle.h2_bench.specs.Grammar.{Asked}
 use Rattle.h2_bench.specs.Plans.{planned}
 use Rattle.h2_bench.specs.Ends.{Ends}
@@ -14,4 +14,12 @@ returns-in-Ok-clause-told g c = λ asked is well.
 
 pub returns-in-Err-NoMemory-clause-told : goal.returns-in-Err-NoMemory-clause-told
 returns-in-Err-NoMemory-clause-told g c = λ asked is well held known.
+    (failed NoMemory, inl refl, c.tell_fault.ensures.told well held known)
+
+pub returns-in-Err-Words-clause-refused : goal.returns-in-Err-Words-clause-refused
+returns-in-Err-Words-clause-refused g c = λ none well held known.
+    (record { text = c.as_str.result.now; status = 2 }, inr refl, c.tell.ensures.told well held known)
+
+pub returns-in-Err-NoMemory-clause-refused : goal.returns-in-Err-NoMemory-clause-refused
+returns-in-Err-NoMemory-clause-refused g c = λ none well held known.
     (failed NoMemory, inl refl, c.tell_fault.ensures.told well held known)

@@ -9,7 +9,7 @@ returns-in-Err-clause-told g c = λ well held is. (
   [],
   unchanged held _ is,
   elim c.in-Err.ensures.err [
-    | inl memory ↦ inr (0, ap (failed_after []) memory)
+    | inl memory ↦ inr (0, ap (failed_after []) memory.0)
     | inr bad ↦ inl (ap (failed_after []) bad.0 ∙ ap (λ (o : Option (List ℕ)). told_play true c.args.book.now c.args.play.now.config o) (sym bad.1))
   ],
 )
