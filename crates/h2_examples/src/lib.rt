@@ -1,4 +1,4 @@
-//! Worked examples from end to end: octets in, octets out and texts, by the program's call `h2_bench::run` and by `h2_conn::Conn`.
+//! Worked examples: single calls of the libraries, and runs from end to end, octets in, octets out and texts, by the program's call `h2_bench::run`.
 //! A crate of tests alone, on top of all others, since a crate is proved twice where it has tests. Expected values come from RFC 9113, RFC 7541 and computation by hand.
 #![tactic(auto)]
 
@@ -11,9 +11,15 @@ mod connection;
 #[cfg(test)]
 mod cuts;
 #[cfg(test)]
+mod decoder;
+#[cfg(test)]
 mod faults;
 #[cfg(test)]
+mod fields;
+#[cfg(test)]
 mod flow;
+#[cfg(test)]
+mod instructions;
 #[cfg(test)]
 mod items;
 #[cfg(test)]
@@ -24,6 +30,8 @@ mod order;
 mod program;
 #[cfg(test)]
 mod requests;
+#[cfg(test)]
+mod script_calls;
 #[cfg(test)]
 mod scripts;
 #[cfg(test)]

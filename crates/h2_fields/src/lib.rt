@@ -13,5 +13,3 @@ pub mod laws;
 pub mod octets;
 pub mod response;
 mod shape;
-#[cfg(test)]
-mod tests;

@@ -13,8 +13,6 @@ mod line;
 mod number;
 mod payload;
 mod said;
-#[cfg(test)]
-mod tests;
 mod text;
 mod words;
 

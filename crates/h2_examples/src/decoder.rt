@@ -1,19 +1,110 @@
-//! Field blocks on worked values: RFC 7541, Appendix C.2 to C.6; blocks that are refused, cut, or at the edge of the table;
-//! instructions both ways; and the field blocks of responses (RFC 9113, 8.3.2).
+//! The decoder of field blocks on worked values: RFC 7541, Appendix C.2 to C.6; blocks that are refused, cut, or at the edge of the table.
 
-ghost use Rattle.std.specs.Prelude.{◌≡◌, true};
-ghost use Rattle.h2_fields.specs.Instructions.{IsWritable, IsWritableName, IsWritableText, instr_of, name_text_of};
-
-use crate::block::BlockDecoder;
-use crate::fault::BlockFault;
-use crate::field::Field;
-use crate::instruction::{Instr, InstrRead, Name, Text, read_instr, write_instr};
-use crate::octets::Octets;
-use crate::response::response_block;
+use h2_fields::block::BlockDecoder;
+use h2_fields::fault::BlockFault;
 use h2_table::DynTable;
 use std::alloc::{AllocError, Global};
 use std::process::Abort;
 use std::test::Fail;
+
+// These have no clause, so that the proof of a test does not carry the state of each call.
+
+/// An empty table.
+fn empty_table(alloc: Global, limit: u32) -> Result<DynTable<Global>, AllocError> {
+    DynTable::new(alloc, limit)
+}
+
+/// A decoder of which nothing has come.
+fn started(alloc: Global) -> BlockDecoder<Global> {
+    BlockDecoder::start(alloc)
+}
+
+fn pushed(
+    decoder: &mut BlockDecoder<Global>,
+    table: &mut DynTable<Global>,
+    piece: &[u8],
+) -> Result<(), BlockFault> {
+    decoder.push(table, piece)
+}
+
+fn pushed_still(
+    decoder: &mut BlockDecoder<Global>,
+    table: &DynTable<Global>,
+    piece: &[u8],
+) -> Result<usize, BlockFault> {
+    decoder.push_still(table, piece)
+}
+
+fn finished(decoder: &BlockDecoder<Global>) -> Result<(), BlockFault> {
+    decoder.finish()
+}
+
+fn copied(decoder: &BlockDecoder<Global>) -> Result<BlockDecoder<Global>, AllocError> {
+    decoder.try_clone()
+}
+
+fn list_size(decoder: &BlockDecoder<Global>) -> u64 {
+    decoder.list_size()
+}
+
+fn table_size(table: &DynTable<Global>) -> usize {
+    table.size()
+}
+
+/// The octets that digits spell.
+fn octets_of(alloc: Global, digits: &str) -> Result<Vec<u8>, Fail> {
+    Ok(hex::decode(alloc, digits)?)
+}
+
+/// A decoder's fields as the cases write them.
+fn fields(alloc: Global, decoder: &BlockDecoder<Global>) -> Result<Vec<u8>, AllocError> {
+    let mut lines = Vec::new(alloc);
+    for field in decoder.fields() {
+        write_line(&mut lines, field.name.as_slice(), field.value.as_slice())?;
+    }
+    Ok(lines)
+}
+
+/// The entries of a table as the cases write them.
+fn entries(alloc: Global, table: &DynTable<Global>) -> Result<Vec<u8>, AllocError> {
+    let mut lines = Vec::new(alloc);
+    for i in 0..table.len() {
+        if let Some((name, value)) = table.get(i + 1) {
+            write_line(&mut lines, name, value)?;
+        }
+    }
+    Ok(lines)
+}
+
+fn write_line(lines: &mut Vec<u8>, name: &[u8], value: &[u8]) -> Result<(), AllocError> {
+    lines.extend_from_slice(name)?;
+    lines.extend_from_slice(b": ")?;
+    lines.extend_from_slice(value)?;
+    lines.push(b'\n')?;
+    Ok(())
+}
+
+/// What a decoder and its table hold: the fields and what they count, the entries and what they count.
+#[derive(Drop)]
+struct Held {
+    fields: Vec<u8>,
+    list_size: u64,
+    entries: Vec<u8>,
+    table_size: usize,
+}
+
+fn held_by(
+    alloc: Global,
+    decoder: &BlockDecoder<Global>,
+    table: &DynTable<Global>,
+) -> Result<Held, AllocError> {
+    Ok(Held {
+        fields: fields(alloc, decoder)?,
+        list_size: list_size(decoder),
+        entries: entries(alloc, table)?,
+        table_size: table_size(table),
+    })
+}
 
 /// A field block: its fields and what they count, and the dynamic table after it: its entries, the newest first, and what
 /// they count.
@@ -247,90 +338,71 @@ static CASES: [Case; 24] = [
     },
 ];
 
-/// Fields as the cases write them.
-fn lines(alloc: Global, fields: &[Field<Global>]) -> Result<Vec<u8>, AllocError> {
-    let mut lines = Vec::new(alloc);
-    for field in fields {
-        write_line(&mut lines, field.name.as_slice(), field.value.as_slice())?;
-    }
-    Ok(lines)
+/// What a block leaves that comes whole.
+fn decoded_whole(alloc: Global, table: &mut DynTable<Global>, block: &str) -> Result<Held, Fail> {
+    let block = octets_of(alloc, block)?;
+    let mut decoder = started(alloc);
+    pushed(&mut decoder, table, block.as_slice())?;
+    finished(&decoder)?;
+    Ok(held_by(alloc, &decoder, table)?)
 }
 
-/// The entries of a table as the cases write them.
-fn entries(alloc: Global, table: &DynTable<Global>) -> Result<Vec<u8>, AllocError> {
-    let mut lines = Vec::new(alloc);
-    for i in 0..table.len() {
-        if let Some((name, value)) = table.get(i + 1) {
-            write_line(&mut lines, name, value)?;
-        }
-    }
-    Ok(lines)
-}
-
-fn write_line(lines: &mut Vec<u8>, name: &[u8], value: &[u8]) -> Result<(), AllocError> {
-    lines.extend_from_slice(name)?;
-    lines.extend_from_slice(b": ")?;
-    lines.extend_from_slice(value)?;
-    lines.push(b'\n')?;
-    Ok(())
-}
-
-/// What a decoder and its table hold after a case.
-fn compare(
-    rt: &impl Abort,
-    alloc: Global,
-    case: &Case,
-    decoder: &BlockDecoder<Global>,
-    table: &DynTable<Global>,
-) -> Result<(), Fail> {
-    let found = lines(alloc, decoder.fields())?;
-    assert_eq!(rt; found.as_slice(), case.fields.as_bytes(), "{}", case.name);
-    assert_eq!(rt; decoder.list_size(), case.list_size, "{}", case.name);
-    let found = entries(alloc, table)?;
-    assert_eq!(rt; found.as_slice(), case.entries.as_bytes(), "{}", case.name);
-    assert_eq!(rt; table.size(), case.table_size, "{}", case.name);
-    Ok(())
-}
-
-fn decode_whole(
+/// What a block leaves that comes octet by octet.
+fn decoded_by_octets(
     alloc: Global,
     table: &mut DynTable<Global>,
-    block: &[u8],
-) -> Result<BlockDecoder<Global>, Fail> {
-    let mut decoder = BlockDecoder::start(alloc);
-    decoder.push(table, block)?;
-    decoder.finish()?;
-    Ok(decoder)
+    block: &str,
+) -> Result<Held, Fail> {
+    let block = octets_of(alloc, block)?;
+    let mut decoder = started(alloc);
+    for octet in &block {
+        pushed(&mut decoder, table, &[*octet])?;
+    }
+    finished(&decoder)?;
+    Ok(held_by(alloc, &decoder, table)?)
 }
 
-fn decode_by_octets(
-    alloc: Global,
-    table: &mut DynTable<Global>,
-    block: &[u8],
-) -> Result<BlockDecoder<Global>, Fail> {
-    let mut decoder = BlockDecoder::start(alloc);
-    for octet in block {
-        decoder.push(table, &[*octet])?;
-    }
-    decoder.finish()?;
-    Ok(decoder)
+fn compare(rt: &impl Abort, case: &Case, held: &Held) {
+    assert_eq!(rt;
+        held.fields.as_slice(),
+        case.fields.as_bytes(),
+        "{}",
+        case.name
+    );
+    assert_eq!(rt; held.list_size, case.list_size, "{}", case.name);
+    assert_eq!(rt;
+        held.entries.as_slice(),
+        case.entries.as_bytes(),
+        "{}",
+        case.name
+    );
+    assert_eq!(rt; held.table_size, case.table_size, "{}", case.name);
 }
 
 #[test]
 fn blocks_give_their_fields_and_tables(rt: HostRuntime) -> Result<(), Fail> {
     let alloc = rt.alloc();
-    let mut table = DynTable::new(alloc, 0)?;
-    let mut other = DynTable::new(alloc, 0)?;
+    let mut table = empty_table(alloc, 0)?;
     for case in &CASES {
         if let Some(limit) = case.limit {
-            table = DynTable::new(alloc, limit)?;
-            other = DynTable::new(alloc, limit)?;
+            table = empty_table(alloc, limit)?;
         }
-        let block = hex::decode(alloc, case.block)?;
-        let decoder = decode_whole(alloc, &mut table, block.as_slice())?;
-        compare(&rt, alloc, case, &decoder, &table)?;
-        let decoder = decode_by_octets(alloc, &mut other, block.as_slice())?;
-        compare(&rt, alloc, case, &decoder, &other)?;
+        let held = decoded_whole(alloc, &mut table, case.block)?;
+        compare(&rt, case, &held);
+    }
+    Ok(())
+}
+
+#[test]
+fn blocks_may_come_octet_by_octet(rt: HostRuntime) -> Result<(), Fail> {
+    let alloc = rt.alloc();
+    let mut table = empty_table(alloc, 0)?;
+    for case in &CASES {
+        if let Some(limit) = case.limit {
+            table = empty_table(alloc, limit)?;
+        }
+        let held = decoded_by_octets(alloc, &mut table, case.block)?;
+        compare(&rt, case, &held);
     }
     Ok(())
 }
@@ -453,51 +525,101 @@ fn answer(answer: Result<(), BlockFault>) -> &'static str {
     }
 }
 
+/// The answers to fragments and to the end, with a space between them.
+fn answers(
+    alloc: Global,
+    decoder: &mut BlockDecoder<Global>,
+    table: &mut DynTable<Global>,
+    fragments: &[&str],
+) -> Result<String, Fail> {
+    let mut answers = String::new(alloc);
+    for fragment in fragments {
+        let octets = octets_of(alloc, fragment)?;
+        answers.push_str(answer(pushed(decoder, table, octets.as_slice())))?;
+        answers.push_str(" ")?;
+    }
+    answers.push_str(answer(finished(decoder)))?;
+    Ok(answers)
+}
+
+/// The answers to fragments on an empty table of limit 4096, and what is left.
+fn refused(alloc: Global, fragments: &[&str]) -> Result<(String, Held), Fail> {
+    let mut table = empty_table(alloc, 4096)?;
+    let mut decoder = started(alloc);
+    let answers = answers(alloc, &mut decoder, &mut table, fragments)?;
+    Ok((answers, held_by(alloc, &decoder, &table)?))
+}
+
 #[test]
 fn blocks_are_refused(rt: HostRuntime) -> Result<(), Fail> {
-    let alloc = rt.alloc();
     for case in &REFUSALS {
-        let mut table = DynTable::new(alloc, 4096)?;
-        let mut decoder = BlockDecoder::start(alloc);
-        let mut answers = String::new(alloc);
-        for fragment in case.fragments {
-            let octets = hex::decode(alloc, *fragment)?;
-            answers.push_str(answer(decoder.push(&mut table, octets.as_slice())))?;
-            answers.push_str(" ")?;
-        }
-        answers.push_str(answer(decoder.finish()))?;
+        let (answers, held) = refused(rt.alloc(), case.fragments)?;
         assert_eq!(rt; answers.as_str(), case.answers, "{}", case.name);
-        let found = lines(alloc, decoder.fields())?;
-        assert_eq!(rt; found.as_slice(), case.fields.as_bytes(), "{}", case.name);
-        let found = entries(alloc, &table)?;
-        assert_eq!(rt; found.as_slice(), case.entries.as_bytes(), "{}", case.name);
+        assert_eq!(rt;
+            held.fields.as_slice(),
+            case.fields.as_bytes(),
+            "{}",
+            case.name
+        );
+        assert_eq!(rt;
+            held.entries.as_slice(),
+            case.entries.as_bytes(),
+            "{}",
+            case.name
+        );
     }
     Ok(())
 }
 
+/// Appends a decoder's fields, and the answer to the end of its block.
+fn show(
+    alloc: Global,
+    decoder: &BlockDecoder<Global>,
+    text: &mut Vec<u8>,
+) -> Result<(), AllocError> {
+    let lines = fields(alloc, decoder)?;
+    text.extend_from_slice(lines.as_slice())?;
+    text.extend_from_slice(answer(finished(decoder)).as_bytes())?;
+    text.push(b'\n')?;
+    Ok(())
+}
+
+/// Pushes a piece, and shows the decoder after it.
+fn go_on(
+    alloc: Global,
+    decoder: &mut BlockDecoder<Global>,
+    table: &mut DynTable<Global>,
+    piece: &[u8],
+    text: &mut Vec<u8>,
+) -> Result<(), Fail> {
+    pushed(decoder, table, piece)?;
+    Ok(show(alloc, decoder, text)?)
+}
+
+/// A decoder after an indexed field and the front of a literal.
+fn begun(alloc: Global, table: &mut DynTable<Global>) -> Result<BlockDecoder<Global>, BlockFault> {
+    let mut decoder = started(alloc);
+    pushed(&mut decoder, table, b"\x82\x00\x01a\x02b")?;
+    Ok(decoder)
+}
+
+/// A decoder that goes on, its copy before that, and the copy that goes on in another way.
+fn show_a_copy(alloc: Global, text: &mut Vec<u8>) -> Result<(), Fail> {
+    let mut table = empty_table(alloc, 4096)?;
+    let mut decoder = begun(alloc, &mut table)?;
+    let mut copy = copied(&decoder)?;
+    go_on(alloc, &mut decoder, &mut table, b"c\x86", text)?;
+    show(alloc, &copy, text)?;
+    go_on(alloc, &mut copy, &mut table, b"d", text)
+}
+
 #[test]
 fn a_copy_goes_its_own_way(rt: HostRuntime) -> Result<(), Fail> {
-    let alloc = rt.alloc();
-    let mut table = DynTable::new(alloc, 4096)?;
-    let mut decoder = BlockDecoder::start(alloc);
-    decoder.push(&mut table, b"\x82\x00\x01a\x02b")?;
-    let mut copy = decoder.try_clone()?;
-    decoder.push(&mut table, b"c\x86")?;
-    assert_eq!(rt;
-        lines(alloc, decoder.fields())?.as_slice(),
-        b":method: GET\na: bc\n:scheme: http\n".as_slice()
-    );
-    assert_eq!(rt; decoder.finish(), Ok(()));
-    assert_eq!(rt;
-        lines(alloc, copy.fields())?.as_slice(),
-        b":method: GET\n".as_slice()
-    );
-    assert_eq!(rt; copy.finish(), Err(BlockFault::Truncated));
-    copy.push(&mut table, b"d")?;
-    assert_eq!(rt;
-        lines(alloc, copy.fields())?.as_slice(),
-        b":method: GET\na: bd\n".as_slice()
-    );
+    let mut text = Vec::new(rt.alloc());
+    show_a_copy(rt.alloc(), &mut text)?;
+    let want =
+        b":method: GET\na: bc\n:scheme: http\nok\n:method: GET\n8\n:method: GET\na: bd\nok\n";
+    assert_eq!(rt; text.as_slice(), want.as_slice());
     Ok(())
 }
 
@@ -541,222 +663,36 @@ static STILL: [Still; 4] = [
     },
 ];
 
+/// Pushes what stands behind so many octets of a block, and ends it.
+fn end_behind(
+    decoder: &mut BlockDecoder<Global>,
+    table: &mut DynTable<Global>,
+    block: &[u8],
+    used: usize,
+) -> Result<(), Fail> {
+    let (_, rest) = block.split_at_checked(used).ok_or("octets of the block")?;
+    pushed(decoder, table, rest)?;
+    Ok(finished(decoder)?)
+}
+
+/// How many octets leave the table as it is, their fields, and all fields.
+fn still_and_whole(alloc: Global, block: &str) -> Result<(usize, Vec<u8>, Vec<u8>), Fail> {
+    let block = octets_of(alloc, block)?;
+    let mut table = empty_table(alloc, 4096)?;
+    let mut decoder = started(alloc);
+    let used = pushed_still(&mut decoder, &table, block.as_slice())?;
+    let front = fields(alloc, &decoder)?;
+    end_behind(&mut decoder, &mut table, block.as_slice(), used)?;
+    Ok((used, front, fields(alloc, &decoder)?))
+}
+
 #[test]
 fn the_front_of_a_block_leaves_the_table(rt: HostRuntime) -> Result<(), Fail> {
-    let alloc = rt.alloc();
     for case in &STILL {
-        let mut table = DynTable::new(alloc, 4096)?;
-        let mut decoder = BlockDecoder::start(alloc);
-        let block = hex::decode(alloc, case.block)?;
-        let used = decoder.push_still(&table, block.as_slice())?;
+        let (used, front, fields) = still_and_whole(rt.alloc(), case.block)?;
         assert_eq!(rt; used, case.used, "{}", case.name);
-        let front = lines(alloc, decoder.fields())?;
         assert_eq!(rt; front.as_slice(), case.front.as_bytes(), "{}", case.name);
-        decoder.push(&mut table, block.as_slice().split_at(used).1)?;
-        decoder.finish()?;
-        let fields = lines(alloc, decoder.fields())?;
         assert_eq!(rt; fields.as_slice(), case.fields.as_bytes(), "{}", case.name);
     }
-    Ok(())
-}
-
-// ---- instructions
-
-/// Whether `write_instr` takes the instruction.
-fn is_writable(instr: &Instr<Global>) -> bool
-    ensures { result ≡ true → IsWritable (instr_of instr.now) }
-{
-    match instr {
-        Instr::Indexed(index) => *index < 4294967296,
-        Instr::Update(max) => *max < 4294967296,
-        Instr::Literal { name, value, .. } => is_writable_name(name) && is_writable_text(value),
-    }
-}
-
-fn is_writable_name(name: &Name<Global>) -> bool
-    ensures { result ≡ true → IsWritableName (name_text_of name.now) }
-{
-    match name {
-        Name::Ref(index) => *index > 0 && *index < 4294967296,
-        Name::Text(text) => is_writable_text(text),
-    }
-}
-
-fn is_writable_text(text: &Text<Global>) -> bool
-    ensures { result ≡ true → IsWritableText text.now }
-{
-    text.octets.as_slice().len() <= 33554432
-}
-
-/// An instruction as the cases write it: a Huffman string in single quotes, another in double ones.
-fn told(alloc: Global, instr: &Instr<Global>) -> Result<String, Fail> {
-    match instr {
-        Instr::Indexed(index) => Ok(format!(in alloc; "indexed {index}")?),
-        Instr::Update(max) => Ok(format!(in alloc; "update {max}")?),
-        Instr::Literal { mode, name, value } => {
-            let name = told_name(alloc, name)?;
-            let value = told_text(alloc, value)?;
-            Ok(format!(in alloc; "{mode:?} {name} {value}")?)
-        }
-    }
-}
-
-fn told_name(alloc: Global, name: &Name<Global>) -> Result<String, Fail> {
-    match name {
-        Name::Ref(index) => Ok(format!(in alloc; "{index}")?),
-        Name::Text(text) => told_text(alloc, text),
-    }
-}
-
-fn told_text(alloc: Global, text: &Text<Global>) -> Result<String, Fail> {
-    let octets = Vec::from_slice(alloc, text.octets.as_slice())?;
-    let octets = String::from_utf8(octets)?;
-    if text.huffman {
-        Ok(format!(in alloc; "'{octets}'")?)
-    } else {
-        Ok(format!(in alloc; "\"{octets}\"")?)
-    }
-}
-
-/// An instruction: octets that spell it, what it means, and its shortest spelling.
-struct Spelling {
-    octets: &'static str,
-    meaning: &'static str,
-    shortest: &'static str,
-}
-
-static SPELLINGS: [Spelling; 9] = [
-    Spelling {
-        octets: "82",
-        meaning: "indexed 2",
-        shortest: "82",
-    },
-    Spelling {
-        octets: "ff8000",
-        meaning: "indexed 127",
-        shortest: "ff00",
-    },
-    Spelling {
-        octets: "3fe11f",
-        meaning: "update 4096",
-        shortest: "3fe11f",
-    },
-    Spelling {
-        octets: "400a637573746f6d2d6b65790d637573746f6d2d686561646572",
-        meaning: "Add \"custom-key\" \"custom-header\"",
-        shortest: "400a637573746f6d2d6b65790d637573746f6d2d686561646572",
-    },
-    Spelling {
-        octets: "040c2f73616d706c652f70617468",
-        meaning: "Without 4 \"/sample/path\"",
-        shortest: "040c2f73616d706c652f70617468",
-    },
-    Spelling {
-        octets: "100870617373776f726406736563726574",
-        meaning: "Never \"password\" \"secret\"",
-        shortest: "100870617373776f726406736563726574",
-    },
-    Spelling {
-        octets: "410f7777772e6578616d706c652e636f6d",
-        meaning: "Add 1 \"www.example.com\"",
-        shortest: "410f7777772e6578616d706c652e636f6d",
-    },
-    Spelling {
-        octets: "418cf1e3c2e5f23a6ba0ab90f4ff",
-        meaning: "Add 1 'www.example.com'",
-        shortest: "418cf1e3c2e5f23a6ba0ab90f4ff",
-    },
-    Spelling {
-        octets: "408825a849e95ba97d7f8925a849e95bb8e8b4bf",
-        meaning: "Add 'custom-key' 'custom-value'",
-        shortest: "408825a849e95ba97d7f8925a849e95bb8e8b4bf",
-    },
-];
-
-#[test]
-fn instructions_are_read_and_written(rt: HostRuntime) -> Result<(), Fail> {
-    let alloc = rt.alloc();
-    for case in &SPELLINGS {
-        let mut octets = hex::decode(alloc, case.octets)?;
-        let length = octets.len();
-        octets.push(130)?;
-        let InstrRead::Whole(instr, used) = read_instr(alloc, octets.as_slice())? else {
-            return Err(Fail::from("the instruction is whole"));
-        };
-        let meaning = told(alloc, &instr)?;
-        assert_eq!(rt;
-            meaning.as_bytes(),
-            case.meaning.as_bytes(),
-            "{}",
-            case.meaning
-        );
-        assert_eq!(rt; used, length, "{}", case.meaning);
-        assert!(rt; is_writable(&instr), "{}", case.meaning);
-        let mut written = Vec::from_slice(alloc, b"?")?;
-        let mut wanted = Vec::from_slice(alloc, b"?")?;
-        write_instr(&instr, &mut written)?;
-        wanted.extend_from_slice(hex::decode(alloc, case.shortest)?.as_slice())?;
-        assert_eq!(rt; written.as_slice(), wanted.as_slice(), "{}", case.meaning);
-    }
-    Ok(())
-}
-
-#[test]
-fn instructions_are_refused(rt: HostRuntime) -> Result<(), Fail> {
-    let alloc = rt.alloc();
-    for octets in ["", "ff80808080", "41", "4182", "4182ff", "3fe1"] {
-        let octets = hex::decode(alloc, octets)?;
-        let read = read_instr(alloc, octets.as_slice())?;
-        assert!(rt; matches!(&read, InstrRead::More));
-    }
-    let cases = [
-        ("ff8080808080", 5),
-        ("417fff8080808080", 5),
-        ("4182ffff", 6),
-        ("4184ffffffff", 6),
-    ];
-    for (octets, fault) in cases {
-        let read = read_instr(alloc, hex::decode(alloc, octets)?.as_slice());
-        let error = read.err().ok_or("the instruction is refused")?;
-        assert_eq!(rt; error.number(), fault, "{octets}");
-    }
-    Ok(())
-}
-
-// ---- fields, and blocks of responses
-
-#[test]
-fn fields_are_copied(rt: HostRuntime) -> Result<(), Fail> {
-    let alloc = rt.alloc();
-    let field = Field::new(Vec::from_slice(alloc, b"a")?, Vec::from_slice(alloc, b"b")?);
-    let copy = field.try_clone()?;
-    assert_eq!(rt; copy.name.into_vec().as_slice(), b"a".as_slice());
-    assert_eq!(rt; copy.value.as_slice(), b"b".as_slice());
-    let octets = Octets::new(Vec::from_slice(alloc, b"abc")?);
-    assert_eq!(rt; octets.try_clone()?.as_slice(), octets.as_slice());
-    Ok(())
-}
-
-#[test]
-fn responses_stand_as_indexed_or_spelled(rt: HostRuntime) -> Result<(), Fail> {
-    let alloc = rt.alloc();
-    let none: [Field<Global>; 0] = [];
-    let block = response_block(alloc, false, 200, &none)?;
-    assert_eq!(rt; hex::encode(alloc, block.as_slice())?.as_str(), "88");
-    let block = response_block(alloc, true, 200, &none)?;
-    assert_eq!(rt; hex::encode(alloc, block.as_slice())?.as_str(), "2088");
-    let block = response_block(alloc, false, 501, &none)?;
-    assert_eq!(rt;
-        hex::encode(alloc, block.as_slice())?.as_str(),
-        "0803353031"
-    );
-    let name = Vec::from_slice(alloc, b"a")?;
-    let value = Vec::from_slice(alloc, b"b")?;
-    let one = [Field::new(name, value)];
-    let block = response_block(alloc, false, 302, &one)?;
-    assert_eq!(rt;
-        hex::encode(alloc, block.as_slice())?.as_str(),
-        "08033330320001610162"
-    );
     Ok(())
 }
