@@ -1,18 +1,17 @@
 -- One item: what the splitter gives is what the definitions take.
-use Rattle.std.proofs.Common.{◌≡◌, ◌∙◌, ◌+◌, ◌-◌, ◌<◌, ◌≤◌, ◌^◌, ℕ, Bool, true, false, List, [], ◌∷◌, ◌++◌, Option, Some, None, cond, eqb, ltb, length, drop, refl, sym, ap, subst, true≢false, nat_eq, arith, length-take}
+use Rattle.std.proofs.Common.{◌≡◌, ◌∙◌, ◌+◌, ◌-◌, ◌<◌, ◌≤◌, ◌^◌, ℕ, Bool, true, false, List, Some, None, cond, eqb, ltb, length, drop, refl, sym, ap, subst, true≢false, nat_eq, arith, length-take}
 use Rattle.std.proofs.lemmas.Bool.{cond_both, ltb-false}
 use Rattle.std.specs.List.{common_prefix_len}
 use Rattle.std.specs.Prelude.{slice_range, nat_lt}
 use Rattle.h2_spec.specs.declared.connection.Phase.{Phase}
 use Rattle.h2_spec.specs.declared.connection.Phase.TheVariants as phase
 use Rattle.h2_spec.specs.declared.frames.Head.{Head}
-use Rattle.h2_spec.specs.Frame.{Item, Preface, BadPreface, WholeFrame, Oversize, Next, NoItem, Got, next, preface_item, preface, frame_item, frames_octets, head_of}
+use Rattle.h2_spec.specs.Frame.{Item, Preface, BadPreface, WholeFrame, Oversize, Next, NoItem, Got, next, preface, frame_item, head_of}
 use Rattle.h2_spec.specs.State.{State}
-use Rattle.h2_spec.specs.Change.{Step}
-use Rattle.h2_spec.specs.Parse.{Front, Stop, One}
+use Rattle.h2_spec.specs.Parse.{Stop, One}
 use Rattle.h2_spec.specs.Trace.{Event, event_on, next_event, next_item, step}
 use Rattle.h2_spec.specs.Trace as trace
-use Rattle.h2_frame.specs.Items.{found, ends_items, item_in, rest_after, rest_behind}
+use Rattle.h2_frame.specs.Items.{found, item_in, rest_after, rest_behind}
 use Rattle.h2_frame.specs.Rest.{Rest}
 use Rattle.h2_conn.specs.Connection.{awaits_preface, Fits, is_ended}
 use Rattle.h2_conn.specs.Does.{Does, IsShort}

@@ -1,5 +1,5 @@
 -- A change is made: what the records have to be for it, and what its two passes come to.
-use Rattle.std.proofs.Common.{◌≡◌, ℕ, ◌++◌, List, [], refl, sym, ap, subst, ◌∙◌, append-nil}
+use Rattle.std.proofs.Common.{◌≡◌, ℕ, ◌++◌, List, refl, sym, ap, subst, ◌∙◌, append-nil}
 use Rattle.std.specs.Prelude.{None, Some, Option}
 use Rattle.h2_spec.specs.declared.connection.Core.{Core}
 use Rattle.h2_spec.specs.declared.connection.Phase.{Phase}
@@ -18,7 +18,7 @@ use Rattle.h2_spec.specs.Trace.{then_sent}
 use Rattle.h2_spec.specs.Window.{sendable}
 use Rattle.h2_conn.specs.Blocks.{IsDecodedAt, IsOpenFor, IsStopped}
 use Rattle.h2_conn.specs.Does.{Does}
-use Rattle.h2_conn.specs.Sending.{all_frames, core_after, core_after_as, records_after, streams_after, streams_after_as, waiting_frames, waiting_frames_as, CanMake}
+use Rattle.h2_conn.specs.Sending.{all_frames, core_after, core_after_as, records_after, streams_after, streams_after_as, waiting_frames_as, CanMake}
 use Rattle.h2_rules.specs.Sound.{IsSoundChange, IsSoundState, IsSoundTouch, touched_records}
 use Rattle.h2_conn.proofs.KindLaws.{open-after-sending}
 use Rattle.h2_rules.proofs.SoundLaws.{touch-can-shift, touched-streams}

@@ -1,5 +1,5 @@
 -- What is known of a payload by its parts.
-use Rattle.std.proofs.Common.{◌≡◌, ℕ, ◌-◌, ◌+◌, ◌≤◌, Bool, true, false, cond, List, length, take, drop, refl, sym, subst, arith, Result, Ok, Err}
+use Rattle.std.proofs.Common.{◌≡◌, ℕ, ◌-◌, ◌+◌, ◌≤◌, Bool, true, false, cond, List, length, take, drop, refl, subst, arith, Result, Ok, Err}
 use Rattle.std.specs.Prelude.{nat_lt, nat_eq}
 use Rattle.std.proofs.lemmas.List.{length-take, length-drop}
 use Rattle.h2_spec.specs.declared.frames.FrameType.{FrameType}
@@ -7,7 +7,7 @@ use Rattle.h2_spec.specs.declared.frames.FrameType.TheVariants.{Data, Headers, P
 use Rattle.h2_spec.specs.declared.frames.PayloadFault.{PayloadFault}
 use Rattle.h2_spec.specs.declared.frames.PayloadFault.TheVariants.{SizeFault, PadFault}
 use Rattle.h2_spec.specs.FrameType.{PADDED, ACK, has}
-use Rattle.h2_spec.specs.Payload.{Part, DataPart, OfData, OfHeaders, OfRstStream, OfSettings, OfSettingsAck, OfGoaway, OfWindowUpdate, OfPing, OfPriority, part_as, with_part, of_length, settings_or_ack, data_part, headers_part, settings_part, window_part, goaway_part, reset_part, octets_if, pad_or_0, pad_length}
+use Rattle.h2_spec.specs.Payload.{Part, DataPart, OfData, OfHeaders, OfRstStream, OfGoaway, OfWindowUpdate, OfPing, OfPriority, part_as, with_part, settings_or_ack, data_part, headers_part, settings_part, window_part, goaway_part, reset_part, octets_if, pad_or_0, pad_length}
 
 abbrev Holds : Result Part PayloadFault → DataPart → Type 0
 Holds r d = r ≡ Ok (OfData d)

@@ -1,7 +1,7 @@
 -- The phase after an item: the preface is awaited no more, and after what ends all items the connection has ended.
-use Rattle.std.proofs.Common.{◌≡◌, ◌∙◌, ℕ, Bool, true, false, List, Option, Some, None, Result, Ok, Err, refl, sym, ap, subst, ◌==◌}
+use Rattle.std.proofs.Common.{◌≡◌, ◌∙◌, ℕ, Bool, true, false, List, Option, Some, None, Result, Ok, Err, refl, ap, ◌==◌}
 use Rattle.std.proofs.lemmas.Bool.{cond_both}
-use Rattle.std.specs.Prelude.{if◌then◌else◌, length, nat_le, nat_lt, int_lt, pos, ◌-ℤ◌, ◌+ℤ◌, ◌+◌, ◌++◌}
+use Rattle.std.specs.Prelude.{if◌then◌else◌, length, nat_lt, int_lt, pos, ◌-ℤ◌, ◌+ℤ◌, ◌+◌}
 use Rattle.h2_spec.specs.declared.connection.BlockView.{BlockView}
 use Rattle.h2_spec.specs.declared.connection.Config.{Config}
 use Rattle.h2_spec.specs.declared.connection.Core.{Core}
@@ -20,11 +20,11 @@ use Rattle.h2_spec.specs.declared.reactions.Reaction.{Reaction}
 use Rattle.h2_spec.specs.declared.reactions.Reaction.TheVariants.{ConnectionError, Continues}
 use Rattle.h2_spec.specs.declared.reactions.Turn.{Turn}
 use Rattle.h2_spec.specs.declared.streams.Stream.{Stream}
-use Rattle.h2_spec.specs.Block.{Decoded, Outcome, Unfinished, Faulty, list_size}
-use Rattle.h2_spec.specs.Change.{Step, made, stay, stream_error, turned}
+use Rattle.h2_spec.specs.Block.{Decoded, Unfinished, Faulty, list_size}
+use Rattle.h2_spec.specs.Change.{Step, stay, stream_error, turned}
 use Rattle.h2_spec.specs.Checks.{refusal}
 use Rattle.h2_spec.specs.Data.{counted, data_counted, data_refused, data_taken, data_turn, if_within, owed_as, owed_on_connection}
-use Rattle.h2_spec.specs.Effect.{block_stream, body_length, came, checked_effect, concluded, data_rule, effect, frame_effect, item_effect, nothing, on_data, on_headers, on_reset, on_window, part_effect, payload_of, reset_rule, window_rule}
+use Rattle.h2_spec.specs.Effect.{block_stream, body_length, came, checked_effect, concluded, data_rule, effect, frame_effect, nothing, on_data, on_headers, on_reset, on_window, part_effect, reset_rule, window_rule}
 use Rattle.h2_spec.specs.Field.{Field}
 use Rattle.h2_spec.specs.Frame.{Item, Preface, BadPreface, WholeFrame, Oversize}
 use Rattle.h2_spec.specs.FrameType.{ACK, END_HEADERS, has}

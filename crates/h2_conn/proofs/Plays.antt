@@ -1,5 +1,5 @@
 -- Octets in pieces, one after another.
-use Rattle.std.proofs.Common.{◌≡◌, ◌∙◌, ℕ, ◌+◌, ◌<◌, ◌≤◌, List, [], ◌++◌, length, take, drop, arith, length-take, length-append, refl, sym, ap, subst, append_assoc, false}
+use Rattle.std.proofs.Common.{◌≡◌, ◌∙◌, ℕ, ◌+◌, ◌≤◌, List, [], ◌++◌, length, take, drop, arith, length-take, length-append, refl, sym, ap, subst, append_assoc, false}
 use Rattle.std.proofs.Math.Seq.{take-add, take-append_seam}
 use Rattle.std.proofs.lemmas.List.{append-nil, take-append-drop, take-append-le}
 use Rattle.h2_spec.specs.declared.connection.Config.{Config}
@@ -14,7 +14,7 @@ use Rattle.h2_spec.specs.View.{View, view}
 use Rattle.h2_spec.proofs.ParseLaws.{Uses}
 use Rattle.h2_spec.proofs.TraceLaws.{event-uses, trace-append}
 use Rattle.h2_conn.specs.Connection.{Connection, going}
-use Rattle.h2_conn.specs.Runs.{Fed, Feeds, Halts, Plays, fed}
+use Rattle.h2_conn.specs.Runs.{Fed, Halts, Plays, fed}
 use Rattle.h2_conn.proofs.Runs.{sent-append, sent-none, trace-stop}
 
 -- of no octets nothing is an item

@@ -1,10 +1,8 @@
 -- Runs of items, one item after another and one piece of octets after another.
-use Rattle.std.proofs.Common.{◌≡◌, ◌∙◌, ℕ, zero, suc, Bool, true, false, List, [], ◌∷◌, ◌++◌, length, drop, ◌<◌, ◌≤◌, ◌+◌, take, arith, length-drop, length-take, refl, sym, ap, subst, append_assoc, true≢false, Option, Some, None, Result, Ok, Err, IfOk, OnOk, OnErr}
-use Rattle.std.specs.Prelude.{flat_map}
-use Rattle.std.proofs.Math.Seq.{take-add}
-use Rattle.std.proofs.lemmas.List.{append-nil, take-append-drop, take-append-le}
+use Rattle.std.proofs.Common.{◌≡◌, ◌∙◌, ℕ, zero, suc, Bool, true, false, List, [], ◌∷◌, ◌++◌, length, drop, ◌<◌, ◌≤◌, ◌+◌, take, arith, length-drop, refl, sym, ap, subst, append_assoc, true≢false, Option, Some, None, Result, Ok, Err, IfOk, OnOk, OnErr}
+use Rattle.std.proofs.lemmas.List.{append-nil}
 use Rattle.h2_spec.specs.Debug.{state_at}
-use Rattle.h2_spec.specs.Frame.{frames_octets, frame_octets}
+use Rattle.h2_spec.specs.Frame.{frames_octets}
 use Rattle.h2_spec.specs.State.{State}
 use Rattle.h2_spec.specs.Parse.{Front, Stop, One, Parsed, parse_all, parse_first, after_one}
 use Rattle.h2_spec.specs.declared.connection.Config.{Config}

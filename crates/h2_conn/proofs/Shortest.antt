@@ -1,7 +1,6 @@
 -- An item exists as soon as its last octet is there, and no sooner.
-use Rattle.std.proofs.Common.{◌≡◌, ◌∙◌, ℕ, zero, suc, Option, Some, None, ◌+◌, ◌-◌, ◌<◌, ◌≤◌, Bool, true, false, cond, List, [], ◌∷◌, ◌++◌, length, take, drop, get_or, refl, sym, ap, subst, arith, length-append, length-take, ltb, ltb-true, ltb-false, lt-ltb, eqb, eqb-true, nat_eq, append_assoc, drop_of_length-le}
+use Rattle.std.proofs.Common.{◌≡◌, ◌∙◌, ℕ, zero, suc, Some, ◌+◌, ◌<◌, ◌≤◌, Bool, true, false, cond, List, [], ◌∷◌, ◌++◌, length, take, drop, get_or, refl, sym, ap, subst, arith, length-append, length-take, ltb, ltb-true, ltb-false, lt-ltb, eqb, eqb-true, nat_eq, append_assoc, drop_of_length-le}
 use Rattle.std.proofs.lemmas.Bool.{cond_both}
-use Rattle.std.proofs.lemmas.List.{append-nil, take-append-drop}
 use Rattle.std.proofs.Math.ListN.{get_or-append}
 use Rattle.std.specs.List.{common_prefix_len}
 use Rattle.std.specs.Prelude.{slice_range, slice_get}
@@ -9,12 +8,12 @@ use Rattle.std.proofs.lemmas.Option.{slice_get_within}
 use Rattle.h2_spec.specs.declared.connection.Phase.{Phase}
 use Rattle.h2_spec.specs.declared.connection.Phase.TheVariants as phase
 use Rattle.h2_spec.specs.declared.frames.Head.{Head}
-use Rattle.h2_spec.specs.Frame.{Item, Preface, BadPreface, WholeFrame, Oversize, Next, NoItem, Got, next, preface_item, preface, frame_item, head_of, frames_octets}
+use Rattle.h2_spec.specs.Frame.{Item, Preface, BadPreface, WholeFrame, Oversize, Next, NoItem, Got, next, preface_item, preface, frame_item, head_of}
 use Rattle.h2_spec.specs.Parse.{Front, Stop, One}
 use Rattle.h2_spec.specs.State.{State}
-use Rattle.h2_spec.specs.Trace.{Event, event_on, left_by, next_event, next_in, next_item, step}
+use Rattle.h2_spec.specs.Trace.{Event, event_on, left_by, next_event, next_in, next_item}
 use Rattle.h2_spec.proofs.ParseLaws as laws
-use Rattle.h2_spec.proofs.TraceLaws.{event-stays, event-uses, next-stays}
+use Rattle.h2_spec.proofs.TraceLaws.{event-stays, event-uses}
 use Rattle.h2_conn.specs.Connection.{going, is_ended}
 use Rattle.h2_conn.specs.Runs.{Takes, TakesOne, Waits}
 use Rattle.h2_conn.proofs.Items.{none-after}

@@ -1,23 +1,17 @@
 -- Field blocks that are not at their end.
-use Rattle.std.specs.Prelude.{◌≡◌, ℕ, ◌<◌, ◌%◌, true, false, List, Option, Some, None, Result, Ok, Err}
+use Rattle.std.specs.Prelude.{◌≡◌, ℕ, false, List, Option, Some, None, Result, Ok, Err}
 use Rattle.h2_spec.specs.declared.connection.BlockView.{BlockView}
-use Rattle.h2_spec.specs.declared.connection.Config.{Config}
-use Rattle.h2_spec.specs.declared.connection.Core.{Core}
 use Rattle.h2_spec.specs.declared.connection.Purpose.{Purpose}
-use Rattle.h2_spec.specs.declared.connection.Purpose.TheVariants.{Request, Trailers, Closed, TableOnly}
 use Rattle.h2_spec.specs.declared.errors.ErrorCode.{ErrorCode}
-use Rattle.h2_spec.specs.declared.streams.Kind.TheVariants.{WeReset}
-use Rattle.h2_spec.specs.declared.streams.Stream.{Stream}
 use Rattle.h2_spec.specs.Answer.{Entry}
 use Rattle.h2_spec.specs.Block.{BlockSoFar, Decoded, Fault, Faulty, Progress, Unfinished}
 use Rattle.h2_spec.specs.DynamicTable.{Table}
 use Rattle.h2_spec.specs.Headers as headers
 use Rattle.h2_spec.specs.State.{Decoding, OpenBlock, State}
-use Rattle.h2_spec.specs.Stream.{Records, is_peer_open, kind_of}
+use Rattle.h2_spec.specs.Stream.{Records}
 use Rattle.h2_spec.specs.Table.{Cell, Error, Rule}
 pub use Rattle.h2_rules.specs.Open.{IsOpenAt, state_of}
 use Rattle.h2_fields.specs.Blocks.{unfinished}
-use Rattle.h2_streams.specs.Put.{can_become}
 use Rattle.h2_rules.specs.Sound.{IsSoundChange, touched_records}
 use Rattle.h2_conn.specs.declared.block.FragmentEffect.{FragmentEffect}
 use Rattle.h2_conn.specs.declared.block.FragmentEffect.TheVariants.{Breaks, Makes}

@@ -1,5 +1,5 @@
 -- The counts stay within their limits, and the records within what the book has.
-use Rattle.std.proofs.Common.{◌≡◌, ℕ, ◌%◌, ◌-◌, ltb, eqb, ◌<◌, ◌≤◌, List, [], ◌∷◌, length, Bool, true, false, cond, ◌||◌, ◌&&◌, not, max, Some, refl, sym, ap, subst, ◌⊎◌, inl, inr, ◌∙◌, arith, ℤ, pos, negsuc, ◌+ℤ◌, ◌-ℤ◌, ◌≤ℤ◌, int_lt}
+use Rattle.std.proofs.Common.{◌≡◌, ℕ, ◌%◌, ltb, eqb, ◌<◌, ◌≤◌, List, [], ◌∷◌, Bool, true, false, cond, ◌||◌, ◌&&◌, not, max, Some, refl, sym, ap, subst, ◌⊎◌, inl, inr, ◌∙◌, arith, ℤ, pos, negsuc, ◌+ℤ◌, ◌-ℤ◌, ◌≤ℤ◌, int_lt}
 use Rattle.std.proofs.lemmas.Bool.{false≢true}
 use Rattle.std.specs.List.{AllByRecursion}
 use Rattle.h2_spec.specs.declared.connection.Core.{Core}
@@ -9,12 +9,11 @@ use Rattle.h2_spec.specs.declared.reactions.Touch.TheVariants.{Same, Put, Shift}
 use Rattle.h2_spec.specs.declared.streams.Stream.{Stream}
 use Rattle.h2_spec.specs.declared.streams.Kind.{Kind}
 use Rattle.h2_spec.specs.declared.streams.Kind.TheVariants.{Idle, Skipped, BothOpen, HalfRemote, HalfLocal, Ended, PeerReset, WeReset}
-use Rattle.h2_spec.specs.Answer.{Entry, picked}
+use Rattle.h2_spec.specs.Answer.{Entry}
 use Rattle.h2_spec.specs.Change.{follows_initial_window, moved_by, overflows, overflows_one, shifted, shifted_one, touched, with_send}
-use Rattle.h2_spec.specs.Ends.{server_ended, server_ended_as, with_left}
-use Rattle.h2_spec.specs.Pump.{after_sending, all_after_sending, share, with_paid}
+use Rattle.h2_spec.specs.Ends.{server_ended, server_ended_as}
 use Rattle.h2_spec.specs.Stream.{Records, is_live, kind_of, not_live, octets_waiting, put, record_of, recorded, stream_at}
-use Rattle.h2_spec.specs.Window.{is_above_max, sendable}
+use Rattle.h2_spec.specs.Window.{is_above_max}
 use Rattle.h2_streams.specs.Put.{CanPut, is_closed}
 use Rattle.h2_streams.specs.Shift.{CanShift}
 use Rattle.h2_rules.specs.Sound.{AreSound, HasBody, IsSoundChange, IsSoundState, IsSoundStream, IsSoundTouch, is_recorded, touched_records}

@@ -1,5 +1,5 @@
-use Rattle.std.proofs.Common.{rules, ◌≡◌, ◌∙◌, Bool, true, false, None, refl, sym, ap, subst}
-use Rattle.h2_frame.specs.Items.{item_in, item_of, found, rest_after}
+use Rattle.std.proofs.Common.{rules, ◌≡◌, ◌∙◌, true, false, refl, sym, ap}
+use Rattle.h2_frame.specs.Items.{item_of, rest_after}
 use Rattle.h2_frame.specs.Rest.{Rest}
 use Rattle.h2_conn.specs.Connection.{is_ended}
 use Rattle.h2_conn.proofs.Items.{item-fits, item-short, item-taken, none-after, none-comes, none-left}

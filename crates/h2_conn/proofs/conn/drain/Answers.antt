@@ -1,5 +1,5 @@
-use Rattle.std.proofs.Common.{◌≡◌, arith, refl}
-use Rattle.h2_conn.proofs.Runs.{leads-halts, leads-refl, leads-stop, leads-takes, takes-shorter}
+use Rattle.std.proofs.Common.{arith}
+use Rattle.h2_conn.proofs.Runs.{leads-refl, leads-stop, leads-takes, takes-shorter}
 use Rattle.h2_conn.proofs.conn.drain.Goals as goal
 
 pub loop-count-smaller : goal.loop-count-smaller

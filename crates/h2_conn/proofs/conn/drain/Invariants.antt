@@ -1,4 +1,4 @@
-use Rattle.std.proofs.Common.{◌≡◌, ◌≤◌, ◌+◌, length}
+use Rattle.std.proofs.Common.{◌≤◌, ◌+◌, length}
 use Rattle.h2_conn.specs.Connection.{Fits}
 use Rattle.h2_conn.specs.Runs.{Leads}
 use Rattle.h2_conn.proofs.conn.drain.Given as goal

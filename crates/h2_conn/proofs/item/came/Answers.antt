@@ -1,4 +1,4 @@
-use Rattle.std.proofs.Common.{◌≤◌, arith}
+use Rattle.std.proofs.Common.{arith}
 use Rattle.h2_spec.specs.FrameType.{frame_type}
 use Rattle.h2_frame.specs.Parts.{data_seen}
 use Rattle.h2_conn.proofs.PartLaws.{content-within}

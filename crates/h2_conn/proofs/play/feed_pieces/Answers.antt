@@ -1,4 +1,4 @@
-use Rattle.std.proofs.Common.{◌≡◌, ap, arith, length}
+use Rattle.std.proofs.Common.{ap, arith}
 use Rattle.std.proofs.Math.Seq.{take-length}
 use Rattle.h2_conn.specs.Connection.{Connection}
 use Rattle.h2_conn.proofs.Plays.{fed-going, fed-kept, fed-none, halts-kept, piece-fed, rest-fed}

@@ -1,4 +1,4 @@
-use Rattle.std.proofs.Common.{rules, ◌≡◌, ◌∙◌, ◌+◌, length, Option, Some, None, sym, ap, subst, refl}
+use Rattle.std.proofs.Common.{rules, ◌≡◌, length, Some, None}
 use Rattle.std.specs.Prelude.{slice_get}
 use Rattle.h2_spec.specs.View.{shown_stream}
 use Rattle.h2_conn.proofs.Views.{copied-next, copied-all}

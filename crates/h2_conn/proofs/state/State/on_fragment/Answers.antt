@@ -1,4 +1,4 @@
-use Rattle.std.proofs.Common.{◌≡◌, ℕ, sym, subst, ◌∙◌}
+use Rattle.std.proofs.Common.{◌≡◌, ℕ, subst, ◌∙◌}
 use Rattle.std.specs.Prelude.{OnOk}
 use Rattle.h2_spec.specs.Effect as rule
 use Rattle.h2_spec.specs.Headers as headers

@@ -1,11 +1,6 @@
-use Rattle.std.proofs.Common.{◌≡◌, ℕ, sym, subst, ◌∙◌}
-use Rattle.std.specs.Prelude.{OnOk}
-use Rattle.h2_spec.specs.Effect as rule
-use Rattle.h2_spec.specs.Headers as headers
-use Rattle.h2_spec.specs.Headers.{FrameEffect}
+use Rattle.std.proofs.Common.{ℕ, subst, ◌∙◌}
 use Rattle.h2_spec.specs.State.{State}
-use Rattle.h2_conn.specs.Blocks.{IsSoundEffect, effect_seen}
-use Rattle.h2_conn.specs.Does.{Does, stepped}
+use Rattle.h2_conn.specs.Blocks.{IsSoundEffect}
 use Rattle.h2_conn.specs.Sending.{records}
 use Rattle.h2_conn.proofs.state.State.on_headers.Goals as goal
 
