@@ -7,6 +7,8 @@ mod blocks;
 #[cfg(test)]
 mod bodies;
 #[cfg(test)]
+mod book;
+#[cfg(test)]
 mod connection;
 #[cfg(test)]
 mod cuts;
@@ -28,6 +30,8 @@ mod opening;
 mod order;
 #[cfg(test)]
 mod program;
+#[cfg(test)]
+mod request_checks;
 #[cfg(test)]
 mod requests;
 #[cfg(test)]

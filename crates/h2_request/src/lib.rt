@@ -8,7 +8,5 @@ pub mod book;
 pub mod fault;
 mod octets;
 pub mod reason;
-#[cfg(test)]
-mod tests;
 mod walk;
 pub mod well_formed;

@@ -1,0 +1,157 @@
+//! The book of answers: entries that are refused, and what requests pick (RFC 9113, 8.3.2).
+
+use h2_fields::field::Field;
+use h2_fields::octets::Octets;
+use h2_request::book::{Book, Entry, Pick};
+use h2_request::fault::BookFault;
+use h2_request::well_formed::check;
+use std::alloc::{AllocError, Global};
+use std::test::Fail;
+
+// These have no clause, so that the proof of a test does not carry the state of each call.
+
+fn octets(alloc: Global, text: &str) -> Result<Octets<Global>, AllocError> {
+    Ok(Octets::new(text.as_bytes().to_vec(alloc)?))
+}
+
+fn field(alloc: Global, name: &str, value: &str) -> Result<Field<Global>, AllocError> {
+    let name = name.as_bytes().to_vec(alloc)?;
+    let value = value.as_bytes().to_vec(alloc)?;
+    Ok(Field::new(name, value))
+}
+
+/// An entry for the root, with one field.
+fn entry(
+    alloc: Global,
+    method: &str,
+    status: u16,
+    name: &str,
+    body: &str,
+) -> Result<Entry<Global>, AllocError> {
+    let mut fields = Vec::new(alloc);
+    fields.push(field(alloc, name, "b")?)?;
+    Ok(Entry {
+        method: octets(alloc, method)?,
+        path: octets(alloc, "/")?,
+        status,
+        fields,
+        body: octets(alloc, body)?,
+    })
+}
+
+fn added(book: &mut Book<Global>, entry: Entry<Global>) -> Result<(), BookFault> {
+    book.add(entry)
+}
+
+/// The number of the fault that refuses an entry, or 0.
+fn fault_of(book: &mut Book<Global>, entry: Entry<Global>) -> u8 {
+    match added(book, entry) {
+        Ok(()) => 0,
+        Err(refused) => refused.number(),
+    }
+}
+
+/// Method, status, the name of a field, body, the number of the fault, and what the entry is.
+static ENTRIES: [(&str, u16, &str, &str, u8, &str); 6] = [
+    ("GET", 199, "a", "", 12, "an informational status"),
+    ("GET", 200, "A", "", 13, "a capital in a name"),
+    ("GET", 204, "a", "hi", 14, "a body with 204"),
+    ("HEAD", 200, "a", "hi", 14, "a body for HEAD"),
+    ("GET", 200, "a", "hi", 0, "an answer"),
+    ("GET", 201, "a", "ho", 0, "another for the same requests"),
+];
+
+#[test]
+fn entries_of_a_book(rt: HostRuntime) -> Result<(), Fail> {
+    let mut book = Book::new(rt.alloc());
+    for (method, status, name, body, fault, message) in &ENTRIES {
+        let entry = entry(rt.alloc(), method, *status, name, body)?;
+        assert_eq!(rt; fault_of(&mut book, entry), *fault, "{message}");
+    }
+    assert_eq!(rt; book.len(), 2);
+    Ok(())
+}
+
+/// An entry whose body is one octet above the limit.
+fn long_entry(alloc: Global) -> Result<Entry<Global>, AllocError> {
+    Ok(Entry {
+        method: octets(alloc, "GET")?,
+        path: octets(alloc, "/")?,
+        status: 200,
+        fields: Vec::new(alloc),
+        body: Octets::new(vec![in alloc; 0u8; 1_048_577]?),
+    })
+}
+
+#[test]
+fn long_bodies(rt: HostRuntime) -> Result<(), Fail> {
+    let mut book = Book::new(rt.alloc());
+    let refused = added(&mut book, long_entry(rt.alloc())?).err();
+    assert_eq!(rt;
+        refused,
+        Some(BookFault::TooLong),
+        "one octet above the limit"
+    );
+    Ok(())
+}
+
+/// The content that a request of these fields declares, and what it picks.
+fn picked(book: &Book<Global>, fields: &[Field<Global>]) -> Option<(Option<u64>, Pick)> {
+    let asked = check(fields).ok()?;
+    Some((asked.declared, book.find(&asked)))
+}
+
+/// The status of an answer, its body, and how many fields it has.
+fn answer_of(book: &Book<Global>, pick: Pick) -> (u16, &[u8], usize) {
+    let answer = book.answer(pick);
+    (answer.status, answer.body, answer.fields.len())
+}
+
+fn block_of(book: &Book<Global>, pick: Pick) -> &[u8] {
+    book.block(pick)
+}
+
+/// A book of one answer.
+fn book_of_one(alloc: Global) -> Result<Book<Global>, Fail> {
+    let mut book = Book::new(alloc);
+    let entry = entry(alloc, "GET", 200, "a", "hi")?;
+    added(&mut book, entry)?;
+    Ok(book)
+}
+
+/// The fields of a GET of the root that declares content.
+fn get(alloc: Global) -> Result<Vec<Field<Global>>, AllocError> {
+    let mut fields = Vec::new(alloc);
+    for (name, value) in [
+        (":method", "GET"),
+        (":scheme", "http"),
+        (":path", "/"),
+        ("content-length", "12"),
+    ] {
+        fields.push(field(alloc, name, value)?)?;
+    }
+    Ok(fields)
+}
+
+#[test]
+fn requests_pick_answers(rt: HostRuntime) -> Result<(), Fail> {
+    let book = book_of_one(rt.alloc())?;
+    let fields = get(rt.alloc())?;
+    let picked = picked(&book, fields.as_slice());
+    assert_eq!(rt; picked, Some((Some(12), Pick::Listed(0))));
+    Ok(())
+}
+
+#[test]
+fn picks_are_answered(rt: HostRuntime) -> Result<(), Fail> {
+    let book = book_of_one(rt.alloc())?;
+    let listed = Pick::Listed(0);
+    assert_eq!(rt; answer_of(&book, listed), (200, b"hi".as_slice(), 1));
+    // RFC 7541, 6.1 and 6.2.2.
+    assert_eq!(rt; block_of(&book, listed), b"\x88\x00\x01a\x01b".as_slice());
+    assert_eq!(rt; answer_of(&book, Pick::NotFound).0, 404);
+    assert_eq!(rt; answer_of(&book, Pick::Connect).0, 501);
+    assert_eq!(rt; block_of(&book, Pick::NotFound), b"\x8d".as_slice());
+    assert_eq!(rt; block_of(&book, Pick::Connect), b"\x08\x03501".as_slice());
+    Ok(())
+}
