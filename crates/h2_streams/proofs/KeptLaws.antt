@@ -1,18 +1,20 @@
--- Laws of the records and of the live identifiers.
-use Rattle.std.proofs.Common.{◌≡◌, ℕ, zero, suc, ◌+◌, ◌%◌, ◌<◌, ◌≤◌, Bool, true, false, ◌&&◌, ◌||◌, not, cond, eqb, nat_eq, nat_lt, leb, List, [], ◌∷◌, ◌++◌, length, drop, get_or, remove, max, Some, None, Option, Err, nat_cmp, refl, ap, ◌∙◌, sym, arith, subst, true≢false}
+-- Laws of the records, of the live identifiers and of the number of records that wait.
+use Rattle.std.proofs.Common.{◌≡◌, ℕ, zero, suc, ◌+◌, ◌-◌, ◌%◌, ◌<◌, ◌≤◌, Bool, true, false, ◌&&◌, ◌||◌, not, cond, eqb, nat_eq, nat_lt, leb, List, [], ◌∷◌, ◌++◌, length, drop, get_or, remove, max, Some, None, Option, Err, nat_cmp, refl, ap, ◌∙◌, sym, arith, subst, true≢false}
 use Rattle.std.proofs.lemmas.Bool.Decides.{nat_tests}
 use Rattle.std.proofs.lemmas.List.Recursion.{is_count_by}
 use Rattle.std.proofs.lemmas.List.Sorted.{searched}
-use Rattle.std.specs.List.{AllWithin}
+use Rattle.std.specs.List.{AllWithin, count_by}
 use Rattle.std.specs.List.Sorted.{IsBinarySearchResult}
 use Rattle.std.specs.Map.{lookup, set_value}
+use Rattle.std.specs.Option.{option_map_or}
 use Rattle.indexmap.specs.IndexMap.{insert_entry}
 use Rattle.h2_spec.specs.declared.streams.Stream.{Stream}
 use Rattle.h2_spec.specs.Stream.{is_live, record_of, put, live_count, Records, added, with_record, AreRising, stream_at, kind_of, recorded, not_live}
 use Rattle.h2_spec.specs.declared.streams.Kind.TheVariants.{Idle}
 use Rattle.h2_spec.specs.declared.streams.Kind.{Kind}
 use Rattle.h2_streams.specs.Put.{is_closed, can_become}
-use Rattle.h2_streams.specs.Kept.{records_of, keyed, live_ids, IdsRise, without, still_live, above, IsKept}
+use Rattle.h2_streams.specs.Kept.{records_of, keyed, live_ids, IdsRise, without, still_live, above, waits, counted, counted_at, IsKept}
+use Rattle.h2_streams.proofs.CountLaws.{count-push, count-put, found-counted, count-last}
 
 eqb_comm : (a b : ℕ) → eqb a b ≡ eqb b a
 eqb_comm a b = grind (arith, nat_tests)
@@ -231,40 +233,65 @@ set_value-absent test (e ∷ es) st h = by (test e.0) h (set_value-absent test e
   by true k rest = cc
   by false k rest = ap (λ ys. e ∷ ys) (rest k)
 
--- entries of these records, and their live identifiers
-pub kept-keyed : (es : List (ℕ × Stream)) (live : List ℕ) (last : ℕ) (rs : List Stream) → es ≡ keyed rs → AreRising 0 last rs → live ≡ live_ids rs → IsKept es live last
-kept-keyed es live last rs e r l =
+-- entries of these records, their live identifiers, and the number of those that wait
+pub kept-keyed : (es : List (ℕ × Stream)) (live : List ℕ) (last waiting : ℕ) (rs : List Stream) → es ≡ keyed rs → AreRising 0 last rs → live ≡ live_ids rs → waiting ≡ count_by waits rs
+    → IsKept es live last waiting
+kept-keyed es live last waiting rs e r l w =
     let same : records_of es ≡ rs = ap records_of e ∙ records_of-keyed rs in
-    record { under_ids = e ∙ ap keyed (sym same); rising = subst (AreRising 0 last) (sym same) r; live_listed = l ∙ ap live_ids (sym same) }
+    record {
+      under_ids = e ∙ ap keyed (sym same);
+      rising = subst (AreRising 0 last) (sym same) r;
+      live_listed = l ∙ ap live_ids (sym same);
+      waiting_counted = w ∙ ap (count_by waits) (sym same);
+    }
 
-inserted-new : (es : List (ℕ × Stream)) (live : List ℕ) (last : ℕ) (st : Stream) → IsKept es live last → last < st.id → insert_entry nat_eq es st.id st ≡ keyed (records_of es ++ st ∷ [])
-inserted-new es live last st kept above =
-    ap (λ xs. insert_entry nat_eq xs st.id st) kept.under_ids ∙ insert-keyed (records_of es) st ∙ ap keyed (put-new 0 last (records_of es) st kept.rising above)
+module _ (es : List (ℕ × Stream)) (live : List ℕ) (last waiting : ℕ) (kept : IsKept es live last waiting) where
+  -- the number is at most the last identifier
+  pub waiting-last : waiting ≤ last
+  waiting-last = let counted = count-last 0 last (records_of es) (omega arith) kept.rising in let number = kept.waiting_counted in omega (arith, counted, number)
 
-pub records_of-added : (es : List (ℕ × Stream)) (live : List ℕ) (last : ℕ) (st : Stream) → IsKept es live last → last < st.id → records_of (insert_entry nat_eq es st.id st) ≡ records_of es ++ st ∷ []
-records_of-added es live last st kept above = ap records_of (inserted-new es live last st kept above) ∙ records_of-keyed (records_of es ++ st ∷ [])
+  -- a stream opens above the others
+  module _ (st : Stream) (above : last < st.id) where
+    inserted-new : insert_entry nat_eq es st.id st ≡ keyed (records_of es ++ st ∷ [])
+    inserted-new =
+        ap (λ xs. insert_entry nat_eq xs st.id st) kept.under_ids ∙ insert-keyed (records_of es) st ∙ ap keyed (put-new 0 last (records_of es) st kept.rising above)
 
-written : (es : List (ℕ × Stream)) (live : List ℕ) (last : ℕ) (st old : Stream) → IsKept es live last → record_of (records_of es) st.id ≡ Some old → set_value (nat_eq st.id) es st ≡ keyed (put st (records_of es))
-written es live last st old kept found = ap (λ xs. set_value (nat_eq st.id) xs st) kept.under_ids ∙ set_value-keyed (records_of es) st old found
+    pub records_of-added : records_of (insert_entry nat_eq es st.id st) ≡ records_of es ++ st ∷ []
+    records_of-added = ap records_of inserted-new ∙ records_of-keyed (records_of es ++ st ∷ [])
 
-pub records_of-put : (es : List (ℕ × Stream)) (live : List ℕ) (last : ℕ) (st old : Stream) → IsKept es live last → record_of (records_of es) st.id ≡ Some old → records_of (set_value (nat_eq st.id) es st) ≡ put st (records_of es)
-records_of-put es live last st old kept found = ap records_of (written es live last st old kept found) ∙ records_of-keyed (put st (records_of es))
+    pub kept-added : st.id % 2 ≡ 1 → IsKept (insert_entry nat_eq es st.id st) (live ++ live_ids (st ∷ [])) st.id (waiting + counted st)
+    kept-added odd =
+        let rs = records_of es in
+        kept-keyed _ _ st.id _ (rs ++ st ∷ []) inserted-new (rising-push 0 last rs st kept.rising (omega arith) above odd)
+        (ap (λ ids. ids ++ live_ids (st ∷ [])) kept.live_listed ∙ sym (live_ids-append rs (st ∷ []))) (ap (λ n. n + counted st) kept.waiting_counted ∙ sym (count-push rs st))
 
--- a stream opens above the others
-pub kept-added : (es : List (ℕ × Stream)) (live : List ℕ) (last : ℕ) (st : Stream) → IsKept es live last → st.id % 2 ≡ 1 → last < st.id
-    → IsKept (insert_entry nat_eq es st.id st) (live ++ live_ids (st ∷ [])) st.id
-kept-added es live last st kept odd above =
-    let rs = records_of es in
-    kept-keyed _ _ st.id (rs ++ st ∷ []) (inserted-new es live last st kept above) (rising-push 0 last rs st kept.rising (omega arith) above odd)
-    (ap (λ ids. ids ++ live_ids (st ∷ [])) kept.live_listed ∙ sym (live_ids-append rs (st ∷ [])))
+  -- a stream has another record
+  module _ (st old : Stream) (found : record_of (records_of es) st.id ≡ Some old) where
+    written : set_value (nat_eq st.id) es st ≡ keyed (put st (records_of es))
+    written = ap (λ xs. set_value (nat_eq st.id) xs st) kept.under_ids ∙ set_value-keyed (records_of es) st old found
 
--- a stream has another record
-pub kept-put : (es : List (ℕ × Stream)) (live : List ℕ) (last : ℕ) (st old : Stream) → IsKept es live last → record_of (records_of es) st.id ≡ Some old → can_become old.kind st.kind ≡ true
-    → IsKept (set_value (nat_eq st.id) es st) (still_live st live) last
-kept-put es live last st old kept found can =
-    let rs = records_of es in
-    kept-keyed _ _ last (put st rs) (written es live last st old kept found) (rising-put 0 last rs st old kept.rising found)
-    (ap (still_live st) kept.live_listed ∙ sym (live_ids-put 0 last rs st old kept.rising found can))
+    pub records_of-put : records_of (set_value (nat_eq st.id) es st) ≡ put st (records_of es)
+    records_of-put = ap records_of written ∙ records_of-keyed (put st (records_of es))
+
+    old-counted : counted_at es st.id ≡ counted old
+    old-counted = ap (λ (xs : List (ℕ × Stream)). counted_at xs st.id) kept.under_ids ∙ ap (λ o. option_map_or counted o 0) (lookup-keyed (records_of es) st.id ∙ found)
+
+    -- the one that it had is in the number
+    pub old-within : counted_at es st.id ≤ waiting
+    old-within =
+        let least = found-counted (records_of es) st.id old found in
+        let number = kept.waiting_counted in
+        rw old-counted (omega (arith, least, number))
+
+    pub kept-put : can_become old.kind st.kind ≡ true → IsKept (set_value (nat_eq st.id) es st) (still_live st live) last (waiting - counted_at es st.id + counted st)
+    kept-put can =
+        let rs = records_of es in
+        let counts = count-put rs st old found in
+        let number = kept.waiting_counted in
+        let same = old-counted in
+        let least = old-within in
+        kept-keyed _ _ last _ (put st rs) written (rising-put 0 last rs st old kept.rising found) (ap (still_live st) kept.live_listed ∙ sym (live_ids-put 0 last rs st old kept.rising found can))
+        (omega (arith, counts, number, same, least))
 
 -- a record of a stream above the others goes last, and is then the last that was opened
 pub added-is-put : (st : Stream) (r : Records) → AreRising 0 r.last r.streams → r.last < st.id → added st r ≡ with_record st r

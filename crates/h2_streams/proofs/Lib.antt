@@ -1,3 +1,4 @@
+mod CountLaws
 mod HashLaws
 mod KeptLaws
 mod LiveLaws

@@ -10,9 +10,10 @@ use Rattle.h2_spec.specs.declared.streams.Kind.TheVariants.{Idle, Skipped, BothO
 use Rattle.h2_spec.specs.declared.streams.Stream.{Stream}
 use Rattle.h2_spec.specs.Change.{follows_initial_window, shifted, shifted_one, overflows, overflows_one, with_send}
 use Rattle.h2_spec.specs.Window.{max_window, is_above_max}
-use Rattle.h2_spec.specs.Stream.{is_live, AreRising}
-use Rattle.h2_streams.specs.Kept.{keyed, records_of, live_ids, passes_at, IdsRise, IsKept}
+use Rattle.h2_spec.specs.Stream.{is_live, octets_waiting, AreRising}
+use Rattle.h2_streams.specs.Kept.{keyed, records_of, live_ids, passes_at, waits, IdsRise, IsKept}
 use Rattle.h2_streams.specs.Shift.{CanShift, is_window, moved, moved_or_same, is_stuck, update, update_each}
+use Rattle.h2_streams.proofs.CountLaws.{count-map}
 use Rattle.h2_streams.proofs.KeptLaws.{rise-live_ids, rise-weaken, eqb-refl, kept-keyed, records_of-keyed}
 use Rattle.h2_streams.proofs.LiveLaws.{AllFound, all-found, passes-found}
 
@@ -101,6 +102,10 @@ module _ (d : ℤ) (st : Stream) where
   pub kind-moved : (moved_or_same d st).kind ≡ st.kind
   kind-moved = part-moved (λ s. s.kind) (λ w. refl)
 
+  pub waits-moved : waits (moved_or_same d st) ≡ waits st
+  unfolding octets_waiting
+  waits-moved = part-moved waits (λ w. refl)
+
   -- one that is not stuck moves
   pub moved-free : is_stuck d st ≡ false → moved_or_same d st ≡ shifted_one d st
   moved-free = by (follows_initial_window st.kind) (is_window (st.numbers.send +ℤ d)) where
@@ -154,16 +159,17 @@ live_ids-map f ids kinds (x ∷ xs) =
     ap (λ k. cond (is_live k) ((f x).id ∷ live_ids (map f xs)) (live_ids (map f xs))) (kinds x) ∙ ap (λ n. cond (is_live x.kind) (n ∷ live_ids (map f xs)) (live_ids (map f xs))) (ids x)
     ∙ ap (λ ys. cond (is_live x.kind) (x.id ∷ ys) ys) (live_ids-map f ids kinds xs)
 
-module _ (d : ℤ) (es : List (ℕ × Stream)) (live : List ℕ) (last : ℕ) (kept : IsKept es live last) where
+module _ (d : ℤ) (es : List (ℕ × Stream)) (live : List ℕ) (last waiting : ℕ) (kept : IsKept es live last waiting) where
   entries-moved : update_each (moved_or_same d) live es ≡ keyed (map (moved_or_same d) (records_of es))
   entries-moved =
       ap (λ ids. update_each (moved_or_same d) ids es) kept.live_listed ∙ ap (update_each (moved_or_same d) (live_ids (records_of es))) kept.under_ids
       ∙ update_each-live (moved_or_same d) (id-moved d) (same-ended d) 0 last (records_of es) kept.rising
 
-  pub kept-moved : IsKept (update_each (moved_or_same d) live es) live last
+  pub kept-moved : IsKept (update_each (moved_or_same d) live es) live last waiting
   kept-moved =
-      kept-keyed _ live last (map (moved_or_same d) (records_of es)) entries-moved (rising-map (moved_or_same d) (id-moved d) 0 last (records_of es) kept.rising)
+      kept-keyed _ live last waiting (map (moved_or_same d) (records_of es)) entries-moved (rising-map (moved_or_same d) (id-moved d) 0 last (records_of es) kept.rising)
       (kept.live_listed ∙ sym (live_ids-map (moved_or_same d) (id-moved d) (kind-moved d) (records_of es)))
+      (kept.waiting_counted ∙ sym (count-map (moved_or_same d) (waits-moved d) (records_of es)))
 
   pub stuck-listed : list_any (passes_at (is_stuck d) es) live ≡ list_any (is_stuck d) (records_of es)
   stuck-listed =
@@ -190,8 +196,8 @@ any-overflows d (x ∷ xs) = by (overflows_one d x) (any-overflows d xs) where
   by false rest = rest
 
 -- whether a window would pass its limit is asked of the live streams
-pub overflows-listed : (d : ℤ) (es : List (ℕ × Stream)) (live : List ℕ) (last : ℕ) → IsKept es live last → list_any (passes_at (overflows_one d) es) live ≡ overflows d (records_of es)
-overflows-listed d es live last kept =
+pub overflows-listed : (d : ℤ) (es : List (ℕ × Stream)) (live : List ℕ) (last waiting : ℕ) → IsKept es live last waiting → list_any (passes_at (overflows_one d) es) live ≡ overflows d (records_of es)
+overflows-listed d es live last waiting kept =
     ap (list_any (passes_at (overflows_one d) es)) kept.live_listed ∙ ap (λ (xs : List (ℕ × Stream)). list_any (passes_at (overflows_one d) xs) (live_ids (records_of es))) kept.under_ids
     ∙ any-live (overflows_one d) (overflows-ended d) (records_of es) (records_of es) (all-found 0 last (records_of es) kept.rising)
     ∙ any-overflows d (records_of es)

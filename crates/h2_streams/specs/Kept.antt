@@ -1,5 +1,6 @@
--- What the map and the list of live identifiers keep.
+-- What the map, the list of live identifiers and the number of records that wait keep.
 use Rattle.std.specs.Prelude.{◌≡◌, ℕ, ◌<◌, Bool, false, List, [], ◌∷◌, map, nat_eq, nat_lt, ◌==◌, if◌then◌else◌}
+use Rattle.std.specs.List.{count_by}
 use Rattle.std.specs.Map.{lookup}
 use Rattle.std.specs.Option.{option_map_or}
 use Rattle.h2_spec.specs.declared.streams.Stream.{Stream}
@@ -30,11 +31,20 @@ without id (x ∷ xs) = if x == id then xs else x ∷ without id xs
 abbrev pub still_live : Stream → List ℕ → List ℕ
 still_live st ids = if is_live st.kind then ids else without st.id ids
 
--- the entries of the map, the live identifiers and the last stream that was opened
-pub record IsKept (entries : List (ℕ × Stream)) (live : List ℕ) (last : ℕ) : Type 0 where
+-- whether the stream has octets to send
+abbrev pub waits : Stream → Bool
+waits st = nat_lt 0 (octets_waiting st)
+
+-- what a record adds to the number of those that wait
+abbrev pub counted : Stream → ℕ
+counted st = if waits st then 1 else 0
+
+-- the entries of the map, the live identifiers, the last stream that was opened and the number of records that wait
+pub record IsKept (entries : List (ℕ × Stream)) (live : List ℕ) (last waiting : ℕ) : Type 0 where
   pub under_ids : entries ≡ keyed (records_of entries)
   pub rising : AreRising 0 last (records_of entries)
   pub live_listed : live ≡ live_ids (records_of entries)
+  pub waiting_counted : waiting ≡ count_by waits (records_of entries)
 
 -- identifiers that rise, from the first above this number on
 abbrev pub above : ℕ → List ℕ → List ℕ
@@ -45,5 +55,6 @@ above after (x ∷ xs) = if nat_lt after x then x ∷ xs else above after xs
 abbrev pub passes_at : (Stream → Bool) → List (ℕ × Stream) → ℕ → Bool
 passes_at test entries id = option_map_or test (lookup (nat_eq id) entries) false
 
-abbrev pub waits : Stream → Bool
-waits st = nat_lt 0 (octets_waiting st)
+-- what the record with this identifier adds to the number of those that wait
+abbrev pub counted_at : List (ℕ × Stream) → ℕ → ℕ
+counted_at entries id = option_map_or counted (lookup (nat_eq id) entries) 0

@@ -1,9 +1,10 @@
 //! What the kind of a stream says (RFC 9113, 5.1).
-//! Rests on the types of `h2_spec`; definitions: its `specs/Stream.antt`.
+//! Rests on the types of `h2_spec`; definitions: its `specs/Stream.antt`, and `counted` of `specs/Kept.antt`.
 
 ghost use Rattle.std.specs.Prelude.{◌≡◌};
 ghost use Rattle.h2_spec.specs.Stream as spec;
 ghost use Rattle.h2_spec.specs.Ends as ends;
+ghost use Rattle.h2_streams.specs.Kept as kept;
 
 use h2_spec::flow::{Credit, Window};
 use h2_spec::streams::{Kind, Numbers, Pick, Stream};
@@ -27,6 +28,13 @@ pub fn octets_waiting(stream: &Stream) -> u64
         Some(octets) if is_live(stream.kind) => octets,
         _ => 0,
     }
+}
+
+/// What the stream adds to the number of those that have octets to send: 0 or 1.
+pub(crate) fn counted(stream: &Stream) -> usize
+    ensures { result ≡ kept.counted stream.now }
+{
+    if octets_waiting(stream) > 0 { 1 } else { 0 }
 }
 
 /// A stream that is not live: its identifier and its state alone.

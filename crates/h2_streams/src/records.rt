@@ -17,7 +17,7 @@ ghost use Rattle.h2_streams.specs.Shift as shift;
 
 use crate::greatest::greatest_of;
 use crate::hash::IdHash;
-use crate::kinds::{is_live, not_live, peer_closed, reset_kind, server_ended};
+use crate::kinds::{counted, is_live, not_live, peer_closed, reset_kind, server_ended};
 use crate::live::{drop_ended, first_waiting, ids_above};
 use crate::shift::{any_is_stuck, move_each};
 use h2_spec::errors::FlowFault;
@@ -34,6 +34,8 @@ pub struct Streams<A: Allocator> {
     /// The identifiers of the live streams, rising.
     live: Vec<u32, A>,
     last: u32,
+    /// The number of records that have octets to send, at most `last`.
+    waiting: usize,
 }
 
 impl<A: Allocator> Model for Streams<A> {
@@ -45,7 +47,7 @@ impl<A: Allocator> Model for Streams<A> {
 
     ghost view = { λ s. record { streams = records_of s.records.entries; last = s.last } };
 
-    ghost invariant = { λ s. IsKept s.records.entries s.live.items s.last };
+    ghost invariant = { λ s. IsKept s.records.entries s.live.items s.last s.waiting };
 }
 
 impl<A: Allocator + Copy> Streams<A> {
@@ -57,6 +59,7 @@ impl<A: Allocator + Copy> Streams<A> {
             records: IndexMap::with_hasher(alloc, IdHash),
             live: Vec::new(alloc),
             last: 0,
+            waiting: 0,
         }
     }
 
@@ -70,6 +73,7 @@ impl<A: Allocator + Copy> Streams<A> {
             records,
             live,
             last: self.last,
+            waiting: self.waiting,
         })
     }
 }
@@ -222,6 +226,9 @@ impl<A: Allocator> Streams<A> {
         ensures first { result ≡ spec.next_waiting after self.now.streams }
         ensures least { IfSome result (λ id. AllByRecursion (λ st. IsTrue (spec.waits_above after st) → id ≤ st.id) self.now.streams) }
     {
+        if self.waiting == 0 {
+            return None;
+        }
         first_waiting(&self.records, ids_above(self.live.as_slice(), after))
     }
 
@@ -256,8 +263,10 @@ impl<A: Allocator> Streams<A> {
         ensures err { OnErr result (self.new ≡ self.old) }
     {
         let id = stream.id;
+        let waiting = self.waiting + counted(&stream);
         append(&mut self.records, &mut self.live, stream)?;
         self.last = id;
+        self.waiting = waiting;
         Ok(())
     }
 
@@ -266,8 +275,10 @@ impl<A: Allocator> Streams<A> {
         requires { IsTrue (can_become (spec.kind_of self.old.last self.old.streams stream.id) stream.kind) }
         ensures { self.new ≡ record self.old { streams = spec.put stream self.old.streams } }
     {
+        let after = counted(&stream);
         drop_ended(&mut self.live, &stream);
-        write(&mut self.records, stream);
+        let before = write(&mut self.records, stream);
+        self.waiting = self.waiting - before + after;
     }
 }
 
@@ -292,11 +303,17 @@ fn append<A: Allocator>(
     Ok(())
 }
 
-/// Writes a record in the place of the one with its identifier, if there is one.
-fn write<A: Allocator>(records: &mut IndexMap<u32, Stream, IdHash, A>, stream: Stream)
-    ensures { records.new.entries ≡ set_value (nat_eq stream.id) records.old.entries stream }
+/// Writes a record in the place of the one with its identifier, if there is one, and answers what that one was counted as.
+fn write<A: Allocator>(records: &mut IndexMap<u32, Stream, IdHash, A>, stream: Stream) -> usize
+    ensures written { records.new.entries ≡ set_value (nat_eq stream.id) records.old.entries stream }
+    ensures before { result ≡ kept.counted_at records.old.entries stream.id }
 {
-    if let Some(record) = records.get_mut(&stream.id) {
-        *record = stream;
+    match records.get_mut(&stream.id) {
+        Some(record) => {
+            let before = counted(record);
+            *record = stream;
+            before
+        }
+        None => 0,
     }
 }

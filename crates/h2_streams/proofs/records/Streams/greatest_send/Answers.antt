@@ -8,4 +8,4 @@ pub returns : goal.returns
 returns g c = λ d.
     let s = c.self.inside in
     let asked = rw c.as_slice.ensures.value at c.greatest_of.ensures d in
-    sym (asked ∙ overflows-listed d s.records.entries s.live.items s.last c.self.invariant ∙ ap (λ (v : Records). overflows d v.streams) c.self.view_is)
+    sym (asked ∙ overflows-listed d s.records.entries s.live.items s.last s.waiting c.self.invariant ∙ ap (λ (v : Records). overflows d v.streams) c.self.view_is)
