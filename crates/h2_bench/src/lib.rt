@@ -13,8 +13,6 @@ mod input;
 mod play;
 mod report;
 mod table;
-#[cfg(test)]
-mod tests;
 mod words;
 
 pub use answer::parse_answer;

@@ -3,6 +3,8 @@
 #![tactic(auto)]
 
 #[cfg(test)]
+mod answer_words;
+#[cfg(test)]
 mod blocks;
 #[cfg(test)]
 mod bodies;
@@ -14,6 +16,8 @@ mod connection;
 mod cuts;
 #[cfg(test)]
 mod decoder;
+#[cfg(test)]
+mod devices;
 #[cfg(test)]
 mod faults;
 #[cfg(test)]
@@ -40,3 +44,5 @@ mod script_calls;
 mod scripts;
 #[cfg(test)]
 mod tables;
+#[cfg(test)]
+mod words;

@@ -1,0 +1,132 @@
+//! Runs whose reader or writer fails.
+
+use crate::program::{PREFACE, SETTINGS, joined, ran, repeat};
+use h2_bench::{Words, run};
+use std::alloc::{AllocError, Global};
+use std::io;
+use std::io::{ErrorKind, Read, Write};
+use std::test::Fail;
+
+/// A reader and a writer of which each call fails.
+#[derive(Drop)]
+struct Broken;
+
+impl Read for Broken {
+    fn read(&mut self, _room: &mut [u8]) -> io::Result<usize> {
+        Err(io::Error::from(ErrorKind::Interrupted))
+    }
+}
+
+impl Write for Broken {
+    fn write(&mut self, _text: &[u8]) -> io::Result<usize> {
+        Err(io::Error::from(ErrorKind::BrokenPipe))
+    }
+
+    fn flush(&mut self) -> io::Result<()> {
+        Ok(())
+    }
+}
+
+/// These words, the program's name first.
+fn words_of(alloc: Global, texts: &[&str]) -> Result<Words, AllocError> {
+    let mut words = Words::new(alloc);
+    for text in texts {
+        words.add(text)?;
+    }
+    Ok(words)
+}
+
+// These have no clause, so that the proof of a test does not carry what a run tells.
+
+/// The exit status of a run whose reader fails.
+fn run_unread(alloc: Global, words: &Words, text: &mut Vec<u8>) -> u8 {
+    run(alloc, words, &mut Broken, text)
+}
+
+/// The exit status of a run over no octets whose writer fails.
+fn run_unwritten(alloc: Global, words: &Words) -> u8 {
+    let mut nothing: &[u8] = b"";
+    run(alloc, words, &mut nothing, &mut Broken)
+}
+
+#[test]
+fn readers_fail(rt: HostRuntime) -> Result<(), Fail> {
+    let words = words_of(rt.alloc(), &["h2_bench", "play"])?;
+    let mut text = Vec::new(rt.alloc());
+    assert_eq!(rt; run_unread(rt.alloc(), &words, &mut text), 1);
+    assert_eq!(rt; text.as_slice(), b"fault 22\n".as_slice());
+    Ok(())
+}
+
+#[test]
+fn writers_fail(rt: HostRuntime) -> Result<(), Fail> {
+    let play = words_of(rt.alloc(), &["h2_bench", "play"])?;
+    assert_eq!(rt; run_unwritten(rt.alloc(), &play), 3);
+    let nothing = words_of(rt.alloc(), &[])?;
+    assert_eq!(rt; run_unwritten(rt.alloc(), &nothing), 3);
+    Ok(())
+}
+
+/// A writer that takes so many octets, and of which each further call fails.
+#[derive(Drop)]
+struct Narrow {
+    taken: Vec<u8>,
+    room: usize,
+}
+
+impl Write for Narrow {
+    fn write(&mut self, text: &[u8]) -> io::Result<usize> {
+        let count = if text.len() < self.room {
+            text.len()
+        } else {
+            self.room
+        };
+        if count == 0 || self.taken.extend_from_slice(&text[..count]).is_err() {
+            return Err(io::Error::from(ErrorKind::BrokenPipe));
+        }
+        self.room -= count;
+        Ok(count)
+    }
+
+    fn flush(&mut self) -> io::Result<()> {
+        Ok(())
+    }
+}
+
+fn run_narrow(alloc: Global, words: &Words, input: &[u8], narrow: &mut Narrow) -> u8 {
+    let mut reader = input;
+    run(alloc, words, &mut reader, narrow)
+}
+
+/// The exit status of `play --each` whose writer has this room, and what it took.
+fn narrowed(alloc: Global, input: &[u8], room: usize) -> Result<(u8, Vec<u8>), Fail> {
+    let words = words_of(alloc, &["h2_bench", "play", "--each"])?;
+    let mut narrow = Narrow {
+        taken: Vec::new(alloc),
+        room,
+    };
+    let status = run_narrow(alloc, &words, input, &mut narrow);
+    Ok((status, narrow.taken))
+}
+
+/// An opening and 400 PING, as hex.
+fn pings(alloc: Global) -> Result<Vec<u8>, AllocError> {
+    let mut input = joined(alloc, &[PREFACE, SETTINGS])?;
+    repeat(&mut input, "0000080600000000000102030405060708", 400)?;
+    Ok(input)
+}
+
+#[test]
+fn places_are_written_until_a_write_fails(rt: HostRuntime) -> Result<(), Fail> {
+    let input = pings(rt.alloc())?;
+    let (_, whole) = ran(rt.alloc(), &["play", "--each"], input.as_slice())?;
+    let length = whole.len();
+    assert!(rt; length > 65536, "it takes two writes at least");
+    for room in [0, 1, 1000, 40000, 65536, length - 1, length] {
+        let (status, taken) = narrowed(rt.alloc(), input.as_slice(), room)?;
+        assert_eq!(rt; status, if room == length { 0 } else { 3 }, "at {room}");
+        assert_eq!(rt; taken.len(), room, "at {room}");
+        assert!(rt; whole.starts_with(taken.as_slice()), "at {room}");
+    }
+    Ok(())
+}

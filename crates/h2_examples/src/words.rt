@@ -1,0 +1,27 @@
+//! Command words that are refused.
+
+use crate::program::ran;
+use std::test::Fail;
+
+static REFUSED: [&[&str]; 10] = [
+    &[],
+    &["help"],
+    &["--help"],
+    &["frob"],
+    &["play", "--frob"],
+    &["play", "--cut", "65537"],
+    &["play", "--streams", "4294967296"],
+    &["play", "--credit"],
+    &["table"],
+    &["table", "65537"],
+];
+
+#[test]
+fn words_are_refused(rt: HostRuntime) -> Result<(), Fail> {
+    for words in &REFUSED {
+        let (status, text) = ran(rt.alloc(), words, b"")?;
+        assert_eq!(rt; status, 2, "at {words:?}");
+        assert!(rt; !text.is_empty(), "at {words:?}");
+    }
+    Ok(())
+}
