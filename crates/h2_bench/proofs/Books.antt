@@ -1,5 +1,5 @@
 -- The book of answers: word after word, and what refuses one.
-use Rattle.std.proofs.Common.{◌≡◌, ◌∙◌, ℕ, ◌+◌, List, [], ◌∷◌, ◌++◌, Option, Some, None, Result, Ok, Err, drop, map, inl, inr, ◌⊎◌, refl, sym, ap}
+use Rattle.std.proofs.Common.{◌≡◌, ℕ, List, Option, Some, None, Err, inl, inr, ◌⊎◌, refl}
 use Rattle.h2_spec.specs.Answer.{Entry}
 use Rattle.h2_spec.specs.AnswerWords.{entry_of}
 use Rattle.h2_spec.specs.Book.{entry_fault}
@@ -10,7 +10,7 @@ use Rattle.h2_bench.specs.AnswerParts.{refusal_of}
 use Rattle.h2_bench.specs.Books.{added, added_by, with_answer}
 use Rattle.h2_bench.specs.Faults.{fault_number}
 use Rattle.h2_bench.specs.declared.fault.BenchFault.{BenchFault}
-use Rattle.h2_bench.specs.declared.fault.BenchFault.TheVariants.{NoMemory, BadAnswer}
+use Rattle.h2_bench.specs.declared.fault.BenchFault.TheVariants.{NoMemory}
 
 by_entry : (b : List Entry) (e : Option Entry) (fault : BenchFault) → fault ≡ refusal_of e → (fault ≡ NoMemory) ⊎ (added_by b e ≡ Err (fault_number fault))
 by_entry b None fault h = inr (rw h refl)

@@ -1,10 +1,10 @@
 -- A run that is told place by place.
-use Rattle.std.proofs.Common.{◌≡◌, ◌∙◌, ◌+◌, ◌-◌, ◌<◌, ◌≤◌, ℕ, List, [], ◌∷◌, ◌++◌, length, take, drop, refl, sym, ap, ap₂, subst, arith, length-drop, append_assoc}
+use Rattle.std.proofs.Common.{◌≡◌, ◌∙◌, ◌+◌, ◌<◌, ◌≤◌, ℕ, List, [], ◌∷◌, ◌++◌, length, take, drop, refl, sym, ap, ap₂, subst, arith, length-drop}
 use Rattle.std.specs.List.{concat}
 use Rattle.std.proofs.lemmas.List.{append-nil, drop-drop, drop-take, take-append-drop, take-take}
 use Rattle.std.proofs.lemmas.List.Folds.{concat-append}
 use Rattle.h2_spec.specs.Frame.{frames_octets}
-use Rattle.h2_spec.specs.Parse.{Front, Stop, One, Parsed, after_one, parse_all, parse_first}
+use Rattle.h2_spec.specs.Parse.{Front, Stop, One, Parsed, parse_all, parse_first}
 use Rattle.h2_spec.specs.State.{State}
 use Rattle.h2_spec.specs.Frame.{Next, NoItem, Got}
 use Rattle.h2_spec.specs.Trace.{Event, event_on, next_event, next_item, trace}

@@ -1,11 +1,10 @@
 -- The program `table`: line after line, and entry after entry.
-use Rattle.std.proofs.Common.{◌≡◌, ◌∙◌, ◌+◌, ◌<◌, ◌≤◌, ℕ, zero, suc, Bool, true, false, cond, List, [], ◌∷◌, ◌++◌, length, drop, Option, Some, None, refl, sym, ap, subst, arith, ltb, ltb-true, append_assoc, drop_of_length-le, nat_eq}
-use Rattle.std.specs.Prelude.{slice_get, nat_lt}
+use Rattle.std.proofs.Common.{◌≡◌, ◌∙◌, ◌+◌, ◌<◌, ◌≤◌, ℕ, zero, suc, Bool, true, false, cond, List, [], ◌∷◌, ◌++◌, length, drop, Some, None, refl, sym, ap, arith, ltb, ltb-true, append_assoc, drop_of_length-le, nat_eq}
+use Rattle.std.specs.Prelude.{slice_get}
 use Rattle.std.specs.List.{position_or_len}
-use Rattle.std.proofs.lemmas.Bool.{cond_both}
 use Rattle.std.proofs.lemmas.List.{append-nil}
 use Rattle.h2_spec.specs.Field.{Field}
-use Rattle.h2_spec.specs.Parse.{Front, Stop, One, Parsed, after_one, parse_all, parse_first}
+use Rattle.h2_spec.specs.Parse.{Front, One, Parsed, parse_all, parse_first}
 use Rattle.h2_spec.specs.DynamicTable.{LimitedTable}
 use Rattle.h2_spec.specs.Show.{entry_line, entry_lines}
 use Rattle.h2_spec.proofs.ParseLaws.{Uses, parse_all-step}

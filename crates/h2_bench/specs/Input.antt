@@ -1,5 +1,5 @@
 -- The input of a program: when it isn't read, and the octets that hex text spells.
-use Rattle.std.specs.Prelude.{◌≡◌, ◌⊎◌, ◌<◌, ◌==◌, ◌||◌, ℕ, Bool, true, false, not, List, Option, Some, None, is_some, Result, Ok, Err, filter, length, nat_lt}
+use Rattle.std.specs.Prelude.{◌≡◌, ◌⊎◌, ◌<◌, ◌==◌, ◌||◌, ℕ, Bool, true, false, not, List, Option, Some, None, is_some, Result, Ok, Err, filter, length}
 use Rattle.hex.specs.Hex.{decode_of}
 use Rattle.hex.specs.declared.FromHexError.{FromHexError}
 use Rattle.h2_bench.specs.declared.fault.BenchFault.{BenchFault}

@@ -7,7 +7,7 @@ use Rattle.h2_spec.specs.declared.connection.Config.{Config}
 use Rattle.h2_spec.specs.Answer.{Entry}
 use Rattle.h2_spec.specs.Opening.{opening_octets}
 use Rattle.h2_spec.specs.State.{State, opening}
-use Rattle.h2_spec.specs.Frame.{frames_octets, frame_octets}
+use Rattle.h2_spec.specs.Frame.{frames_octets}
 use Rattle.h2_spec.specs.Trace.{Event, sent_octets, trace}
 use Rattle.h2_spec.specs.View.{View, view}
 use Rattle.h2_spec.specs.Show.{joined, octets_text, show}

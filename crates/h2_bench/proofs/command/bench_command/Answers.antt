@@ -1,8 +1,7 @@
-use Rattle.std.proofs.Common.{rules, ap, ap₂, codes, false, ◌≡◌, ◌∙◌}
+use Rattle.std.proofs.Common.{rules, ap, ap₂, ◌≡◌, ◌∙◌}
 use Rattle.std.proofs.lemmas.Result.{IfOk-weaker}
-use Rattle.clap.specs.Words.{App, app_of, shape_of, with_subcommand}
-use Rattle.clap.specs.declared.builder.Command.TheViews.{out-Command}
-use Rattle.h2_bench.specs.Grammar.{asm_app, bench_app, dis_app, play_app, table_app, top_app}
+use Rattle.clap.specs.Words.{App, app_of, with_subcommand}
+use Rattle.h2_bench.specs.Grammar.{asm_app, bench_app, dis_app, play_app, top_app}
 use Rattle.h2_bench.proofs.command.bench_command.Goals as goal
 
 pub returns : goal.returns

@@ -1,4 +1,4 @@
-use Rattle.std.proofs.Common.{◌≡◌, ◌∙◌, ◌+◌, List, ℕ, Some, None, map, sym, string_bytes}
+use Rattle.std.proofs.Common.{◌∙◌, map, sym, string_bytes}
 use Rattle.clap.specs.Words.{app_of, found_of, rows_of, subcommand_rows_of}
 use Rattle.h2_bench.proofs.Grammar.{told_refuses, clap_took, entered, not_entered}
 use Rattle.h2_bench.proofs.command.parse.Goals as goal

@@ -1,6 +1,6 @@
 use Rattle.std.proofs.Common.{rules, ap₂, codes, false, ◌≡◌, ◌∙◌, ◌||◌}
 use Rattle.std.proofs.lemmas.Result.{IfOk-weaker}
-use Rattle.clap.specs.Words.{App, app_of, new_app, rule_of, with_rule}
+use Rattle.clap.specs.Words.{App, app_of, new_app, with_rule}
 use Rattle.clap.specs.declared.builder.Command.TheViews.{out-Command}
 use Rattle.h2_bench.specs.Grammar.{credit_rule, cut_rule, each_rule, streams_rule}
 use Rattle.h2_bench.proofs.command.play_command.Goals as goal

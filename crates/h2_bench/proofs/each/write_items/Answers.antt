@@ -1,4 +1,4 @@
-use Rattle.std.proofs.Common.{◌≡◌, ◌∙◌, ◌+◌, ◌++◌, List, ℕ, ap, arith, refl, sym, take}
+use Rattle.std.proofs.Common.{◌∙◌, ◌+◌, ◌++◌, List, ℕ, ap, arith, refl, sym, take}
 use Rattle.std.specs.List.{concat}
 use Rattle.std.specs.String.{string_bytes}
 use Rattle.h2_bench.specs.Told.{item_texts, places_from}

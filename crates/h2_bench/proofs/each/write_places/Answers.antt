@@ -1,4 +1,4 @@
-use Rattle.std.proofs.Common.{◌≡◌, List, ℕ, inl, refl, subst}
+use Rattle.std.proofs.Common.{List, ℕ, inl, refl, subst}
 use Rattle.std.specs.List.{concat}
 use Rattle.std.specs.String.{string_bytes}
 use Rattle.h2_spec.specs.View.{view}

@@ -1,4 +1,4 @@
-use Rattle.std.proofs.Common.{◌∙◌, inl, inr, refl, sym}
+use Rattle.std.proofs.Common.{◌∙◌, inr, refl, sym}
 use Rattle.h2_bench.proofs.HexTexts.{none-spelled}
 use Rattle.h2_bench.proofs.input.refusal_of.Goals as goal
 

@@ -1,4 +1,4 @@
-use Rattle.h2_bench.proofs.Books.{entry_refused, word_refused}
+use Rattle.h2_bench.proofs.Books.{word_refused}
 use Rattle.h2_bench.proofs.play.add_answer.Goals as goal
 
 pub returns-in-Err-clause-err : goal.returns-in-Err-clause-err

@@ -1,4 +1,4 @@
-use Rattle.std.proofs.Common.{◌≡◌, ◌∙◌, ℕ, List, [], Option, true, ap, inl, inr, sym}
+use Rattle.std.proofs.Common.{◌∙◌, ℕ, List, [], Option, true, ap, inl, inr, sym}
 use Rattle.h2_bench.specs.Tell.{failed_after}
 use Rattle.h2_bench.specs.Told.{told_play}
 use Rattle.h2_bench.proofs.InHand.{unchanged}

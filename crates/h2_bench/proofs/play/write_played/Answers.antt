@@ -1,4 +1,4 @@
-use Rattle.std.proofs.Common.{◌≡◌, ◌∙◌, List, ℕ, ap}
+use Rattle.std.proofs.Common.{◌∙◌}
 use Rattle.h2_bench.proofs.Played.{of-opened}
 use Rattle.h2_bench.proofs.play.write_played.Goals as goal
 

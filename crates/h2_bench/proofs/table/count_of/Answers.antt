@@ -1,4 +1,4 @@
-use Rattle.std.proofs.Common.{◌≡◌, ◌≤◌, ◌^◌, ℕ, List, [], ◌∷◌, length, arith}
+use Rattle.std.proofs.Common.{◌≤◌, List, [], ◌∷◌, length, arith}
 use Rattle.h2_spec.specs.DynamicTable.{total_size}
 use Rattle.h2_spec.specs.Field.{Field}
 use Rattle.h2_bench.proofs.table.count_of.Goals as goal

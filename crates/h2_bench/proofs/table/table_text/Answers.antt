@@ -1,4 +1,4 @@
-use Rattle.std.proofs.Common.{◌≡◌, ◌∙◌, ◌≤◌, ◌<◌, length, arith, ap}
+use Rattle.std.proofs.Common.{◌∙◌, ◌≤◌, ◌<◌, length, arith, ap}
 use Rattle.h2_bench.specs.TableProgram.{lines_of, table_text, told_lines}
 use Rattle.h2_spec.specs.DynamicTable.{LimitedTable}
 use Rattle.h2_bench.proofs.Tables.{line-told, lines-end}

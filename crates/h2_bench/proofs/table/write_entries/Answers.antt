@@ -1,4 +1,4 @@
-use Rattle.std.proofs.Common.{◌≡◌, ◌≤◌, ◌<◌, length, arith, sym}
+use Rattle.std.proofs.Common.{◌≤◌, ◌<◌, length, arith}
 use Rattle.h2_bench.proofs.Tables.{entries-end, entry-told}
 use Rattle.h2_bench.proofs.table.write_entries.Goals as goal
 
