@@ -8,7 +8,7 @@ use std::test::Fail;
 
 #[test]
 fn blocks_are_decoded(rt: HostRuntime) -> Result<(), Fail> {
-    let cases: [Exchange; 9] = [
+    let cases: [Exchange; 10] = [
         (
             "a size update opens the block",
             &["play"],
@@ -50,6 +50,18 @@ fn blocks_are_decoded(rt: HostRuntime) -> Result<(), Fail> {
             "index 0",
             &["play"],
             "00000101050000000180",
+            "0000080700000000000000000000000009",
+            "phase ended 9 last 0\n\
+             window recv 65535 owed 0 send 65535\n\
+             peer table 4096 push 1 streams - window 65535 frame 16384 list - signal 0\n\
+             acked 0 goaway -\n\
+             block -\n\
+             table 0 0 4096\n",
+        ),
+        (
+            "an index of 0 behind a field that enters the table, which stays as before the frame",
+            &["play"],
+            "000006010500000001400161016280",
             "0000080700000000000000000000000009",
             "phase ended 9 last 0\n\
              window recv 65535 owed 0 send 65535\n\

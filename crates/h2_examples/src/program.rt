@@ -7,19 +7,19 @@ use std::process::Abort;
 use std::test::Fail;
 
 /// The client preface (RFC 9113, 3.4), as hex.
-pub const PREFACE: &str = "505249202a20485454502f322e300d0a0d0a534d0d0a0d0a";
+pub(crate) const PREFACE: &str = "505249202a20485454502f322e300d0a0d0a534d0d0a0d0a";
 
 /// SETTINGS of no setting (RFC 9113, 6.5), as hex.
-pub const SETTINGS: &str = "000000040000000000";
+pub(crate) const SETTINGS: &str = "000000040000000000";
 
 /// The opening SETTINGS of a server of 100 streams, as hex.
-pub const OPENING: &str = "00000c040000000000000300000064000600010000";
+pub(crate) const OPENING: &str = "00000c040000000000000300000064000600010000";
 
 /// The acknowledgement of SETTINGS, as hex.
-pub const ACKNOWLEDGEMENT: &str = "000000040100000000";
+pub(crate) const ACKNOWLEDGEMENT: &str = "000000040100000000";
 
 /// A run: its name, the words behind the program's name, the input, what is printed, and the exit status.
-pub type Run = (
+pub(crate) type Run = (
     &'static str,
     &'static [&'static str],
     &'static str,
@@ -29,7 +29,7 @@ pub type Run = (
 
 /// An exchange of `play`: its name, the words behind the program's name, the frames that come behind the preface and SETTINGS of no setting, those that
 /// are sent behind the opening SETTINGS and the acknowledgement, and the text of the state. Frames are hex, with spaces between them.
-pub type Exchange = (
+pub(crate) type Exchange = (
     &'static str,
     &'static [&'static str],
     &'static str,
@@ -38,7 +38,7 @@ pub type Exchange = (
 );
 
 /// What a run of the program prints, and its exit status.
-pub fn ran(alloc: Global, texts: &[&str], input: &[u8]) -> Result<(u8, Vec<u8>), Fail> {
+pub(crate) fn ran(alloc: Global, texts: &[&str], input: &[u8]) -> Result<(u8, Vec<u8>), Fail> {
     let mut words = Words::new(alloc);
     words.add("h2_bench")?;
     for text in texts {
@@ -51,7 +51,7 @@ pub fn ran(alloc: Global, texts: &[&str], input: &[u8]) -> Result<(u8, Vec<u8>),
 }
 
 /// Texts one behind another.
-pub fn joined(alloc: Global, texts: &[&str]) -> Result<Vec<u8>, AllocError> {
+pub(crate) fn joined(alloc: Global, texts: &[&str]) -> Result<Vec<u8>, AllocError> {
     let mut all = Vec::new(alloc);
     for text in texts {
         all.extend_from_slice(text.as_bytes())?;
@@ -60,7 +60,7 @@ pub fn joined(alloc: Global, texts: &[&str]) -> Result<Vec<u8>, AllocError> {
 }
 
 /// Puts a text behind another, so many times.
-pub fn repeat(all: &mut Vec<u8>, text: &str, count: u32) -> Result<(), AllocError> {
+pub(crate) fn repeat(all: &mut Vec<u8>, text: &str, count: u32) -> Result<(), AllocError> {
     for _ in 0..count {
         all.extend_from_slice(text.as_bytes())?;
     }
@@ -77,7 +77,7 @@ fn closed_up(alloc: Global, text: &str) -> Result<Vec<u8>, AllocError> {
 }
 
 /// What `play` prints where these frames are sent behind the opening SETTINGS and the acknowledgement, and this state is shown.
-pub fn printed(alloc: Global, sent: &str, state: &str) -> Result<Vec<u8>, AllocError> {
+pub(crate) fn printed(alloc: Global, sent: &str, state: &str) -> Result<Vec<u8>, AllocError> {
     let mut text = joined(alloc, &["sent ", OPENING, ACKNOWLEDGEMENT])?;
     let sent = closed_up(alloc, sent)?;
     text.extend_from_slice(sent.as_slice())?;
@@ -87,7 +87,7 @@ pub fn printed(alloc: Global, sent: &str, state: &str) -> Result<Vec<u8>, AllocE
 }
 
 /// Runs the program for each case, and compares what is printed and the exit status.
-pub fn compare_runs(rt: &impl Abort, alloc: Global, cases: &[Run]) -> Result<(), Fail> {
+pub(crate) fn compare_runs(rt: &impl Abort, alloc: Global, cases: &[Run]) -> Result<(), Fail> {
     for (name, words, input, text, status) in cases {
         let (got_status, got) = ran(alloc, words, input.as_bytes())?;
         assert_eq!(rt; got.as_slice(), text.as_bytes(), "at {name}");
@@ -97,7 +97,11 @@ pub fn compare_runs(rt: &impl Abort, alloc: Global, cases: &[Run]) -> Result<(),
 }
 
 /// Runs the program for each exchange, and compares what is printed; the exit status is 0.
-pub fn compare_exchanges(rt: &impl Abort, alloc: Global, cases: &[Exchange]) -> Result<(), Fail> {
+pub(crate) fn compare_exchanges(
+    rt: &impl Abort,
+    alloc: Global,
+    cases: &[Exchange],
+) -> Result<(), Fail> {
     for (name, words, frames, sent, state) in cases {
         let input = joined(alloc, &[PREFACE, SETTINGS, frames])?;
         let text = printed(alloc, sent, state)?;
