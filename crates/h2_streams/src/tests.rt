@@ -7,6 +7,7 @@ ghost use Rattle.h2_streams.specs.Shift.{CanShift};
 use crate::{FlowFault, Kind, Numbers, Pick, Stream, Streams, not_live, octets_waiting};
 use h2_spec::flow::{Credit, Window};
 use std::alloc::Global;
+use std::process::Abort;
 use std::test::Fail;
 
 fn numbers(send: u32, left: Option<u64>) -> Numbers
@@ -23,6 +24,20 @@ fn numbers(send: u32, left: Option<u64>) -> Numbers
     }
 }
 
+/// The identifier of the record at a place, if there is one.
+fn id_at(streams: &Streams<Global>, place: usize) -> Option<u32> {
+    let stream = streams.at(place)?;
+    Some(stream.id)
+}
+
+/// Ends both sides of a stream that is open, the peer's first.
+fn end_both(rt: &impl Abort, streams: &mut Streams<Global>, id: u32) {
+    assert!(rt; matches!(streams.kind(id), Kind::BothOpen));
+    streams.end_remote(id);
+    assert!(rt; matches!(streams.kind(id), Kind::HalfRemote));
+    streams.end_local(id);
+}
+
 #[test]
 fn a_stream_opens_and_ends(rt: HostRuntime) -> Result<(), Fail> {
     let mut streams = Streams::new(rt.alloc());
@@ -37,20 +52,23 @@ fn a_stream_opens_and_ends(rt: HostRuntime) -> Result<(), Fail> {
     ] {
         assert_eq!(rt; streams.kind(id), kind, "stream {id}");
     }
-    streams.open_reset(7)?;
-    assert_eq!(rt; streams.kind(7), Kind::WeReset);
-    assert_eq!(rt; (streams.last(), streams.live_count()), (7, 1));
-    assert!(rt; matches!(streams.kind(5), Kind::BothOpen));
-    streams.end_remote(5);
-    assert!(rt; matches!(streams.kind(5), Kind::HalfRemote));
-    streams.end_local(5);
+    end_both(&rt, &mut streams, 5);
     assert_eq!(rt; streams.stream_at(5), not_live(5, Kind::Ended));
+    Ok(())
+}
+
+#[test]
+fn records_stand_in_the_order_of_opening(rt: HostRuntime) -> Result<(), Fail> {
+    let mut streams = Streams::new(rt.alloc());
+    streams.open_stream(5, numbers(65_535, None), Pick::NotFound, false)?;
+    streams.open_reset(7)?;
+    assert_eq!(rt; (streams.last(), streams.live_count()), (7, 1));
+    assert_eq!(rt; streams.kind(7), Kind::WeReset);
+    let ids = [id_at(&streams, 0), id_at(&streams, 1), id_at(&streams, 2)];
+    assert_eq!(rt; ids, [Some(5), Some(7), None]);
+    assert!(rt; streams.get(3).is_none());
+    end_both(&rt, &mut streams, 5);
     assert_eq!(rt; streams.live_count(), 0);
-    let first = streams.at(0).ok_or("the first record")?;
-    assert_eq!(rt; first.id, 5);
-    let second = streams.at(1).ok_or("the second record")?;
-    assert_eq!(rt; second.id, 7);
-    assert!(rt; streams.at(2).is_none() && streams.get(3).is_none());
     Ok(())
 }
 
@@ -114,9 +132,9 @@ fn a_full_window_refuses_for_all_where_settings_move_it(rt: HostRuntime) -> Resu
     Ok(())
 }
 
-#[test]
-fn streams_wait_to_send_by_rising_identifier(rt: HostRuntime) -> Result<(), Fail> {
-    let mut streams = Streams::new(rt.alloc());
+/// Five streams whose requests have ended; 1, 7 and 11 have octets left to send.
+fn five_streams(rt: &impl Abort, alloc: Global) -> Result<Streams<Global>, Fail> {
+    let mut streams = Streams::new(alloc);
     for (id, left) in [
         (1, Some(5)),
         (3, None),
@@ -127,21 +145,46 @@ fn streams_wait_to_send_by_rising_identifier(rt: HostRuntime) -> Result<(), Fail
         assert!(rt; streams.last() < id && id % 2 == 1);
         streams.open_stream(id, numbers(0, left), Pick::NotFound, true)?;
     }
-    let copy = streams.try_clone()?;
-    assert_eq!(rt; octets_waiting(&streams.stream_at(11)), 2);
+    Ok(streams)
+}
+
+/// The peer resets stream 7, and stream 3 gets 9 octets to send.
+fn reset_7_and_fill_3(rt: &impl Abort, streams: &mut Streams<Global>) {
     assert!(rt; matches!(streams.kind(7), Kind::HalfRemote));
     streams.reset(7, true);
-    assert_eq!(rt; streams.stream_at(7), not_live(7, Kind::PeerReset));
     assert!(rt; matches!(streams.kind(3), Kind::HalfRemote));
     streams.set(3, numbers(0, Some(9)));
+}
+
+/// Puts stream 1 as ended, then as reset, and a new stream 13.
+fn put_1_and_13(rt: &impl Abort, streams: &mut Streams<Global>) -> Result<(), Fail> {
     assert!(rt; matches!(streams.kind(1), Kind::HalfRemote));
     streams.put(not_live(1, Kind::Ended))?;
     assert!(rt; matches!(streams.kind(1), Kind::Ended));
     streams.put(not_live(1, Kind::WeReset))?;
-    assert_eq!(rt; streams.stream_at(1), not_live(1, Kind::WeReset));
     assert!(rt; streams.last() < 13);
     streams.put(not_live(13, Kind::WeReset))?;
+    Ok(())
+}
+
+#[test]
+fn streams_are_put_in_their_places(rt: HostRuntime) -> Result<(), Fail> {
+    let mut streams = five_streams(&rt, rt.alloc())?;
+    assert_eq!(rt; octets_waiting(&streams.stream_at(11)), 2);
+    reset_7_and_fill_3(&rt, &mut streams);
+    assert_eq!(rt; streams.stream_at(7), not_live(7, Kind::PeerReset));
+    put_1_and_13(&rt, &mut streams)?;
+    assert_eq!(rt; streams.stream_at(1), not_live(1, Kind::WeReset));
     assert_eq!(rt; (streams.last(), streams.live_count()), (13, 3));
+    Ok(())
+}
+
+#[test]
+fn streams_wait_to_send_by_rising_identifier(rt: HostRuntime) -> Result<(), Fail> {
+    let mut streams = five_streams(&rt, rt.alloc())?;
+    let copy = streams.try_clone()?;
+    reset_7_and_fill_3(&rt, &mut streams);
+    put_1_and_13(&rt, &mut streams)?;
     for (after, next, before) in [
         (0, Some(3), Some(1)),
         (1, Some(3), Some(7)),
@@ -149,12 +192,8 @@ fn streams_wait_to_send_by_rising_identifier(rt: HostRuntime) -> Result<(), Fail
         (10, Some(11), Some(11)),
         (11, None, None),
     ] {
-        assert_eq!(rt; streams.next_waiting(after), next, "above {after}");
-        assert_eq!(rt;
-            copy.next_waiting(after),
-            before,
-            "above {after} in the copy"
-        );
+        let found = (streams.next_waiting(after), copy.next_waiting(after));
+        assert_eq!(rt; found, (next, before), "above {after}, and in the copy");
     }
     Ok(())
 }
