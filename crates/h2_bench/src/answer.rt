@@ -48,6 +48,15 @@ pub fn parse_answer(alloc: Global, text: &str) -> Result<Entry<Global>, BenchFau
     if !is_hex(parts.body) || !are_fields(parts.fields) {
         return Err(BenchFault::BadAnswer);
     }
+    Ok(entry_from(alloc, parts, status)?)
+}
+
+/// The entry of these parts with this status.
+fn entry_from(alloc: Global, parts: Parts<'_>, status: u16) -> Result<Entry<Global>, AllocError>
+    requires body { IsTrue (is_some (words.body_of parts.body.now)) }
+    requires fields { IsTrue (is_some (words.fields_of (parts_behind parts.fields.now))) }
+    ensures { IfOk result (λ entry. words.entry_with parts.entry.method.now parts.entry.path.now (Some status) (words.body_of parts.entry.body.now) (words.fields_of (parts_behind parts.entry.fields.now)) ≡ Some entry) }
+{
     Ok(Entry {
         method: Octets::new(parts.method.to_vec(alloc)?),
         path: Octets::new(parts.path.to_vec(alloc)?),

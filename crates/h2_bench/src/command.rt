@@ -144,17 +144,13 @@ fn table_command<'a>(alloc: Global) -> Result<Command<'a>, AllocError>
 fn bench_command<'a>(alloc: Global) -> Result<Command<'a>, AllocError>
     ensures { IfOk result (λ c. app_of c ≡ bench_app) }
 {
-    let play = play_command(alloc)?;
-    let asm = asm_command(alloc);
-    let dis = dis_command(alloc);
-    let table = table_command(alloc)?;
     Command::new(alloc, "h2_bench")
         .about("An HTTP/2 server emulator and frame debugger")
         .subcommand_required(true)
-        .subcommand(play)?
-        .subcommand(asm)?
-        .subcommand(dis)?
-        .subcommand(table)
+        .subcommand(play_command(alloc)?)?
+        .subcommand(asm_command(alloc))?
+        .subcommand(dis_command(alloc))?
+        .subcommand(table_command(alloc)?)
 }
 
 /// The number that an option or a positional was given, or another.
