@@ -1,26 +1,13 @@
 //! Long bodies: DATA as far as the windows go, on one stream and on two (RFC 9113, 5.2 and 6.9).
 
-use crate::program::{PREFACE, SETTINGS, joined, printed, ran, repeat};
+use crate::program::{Piece, compare_exchange, filled, long_answer};
 use std::alloc::Global;
 use std::process::Abort;
 use std::test::Fail;
 
-/// A text, and behind it the digits of the octet 61 so many times.
-type Piece = (&'static str, u32);
-
 /// An exchange of a GET whose answer is long: its name, the frames that come behind the preface and SETTINGS of no setting, those that are sent behind the
-/// opening SETTINGS and the acknowledgement, and the text of the state.
+/// opening SETTINGS and the acknowledgement, with octets 61, and the text of the state.
 type LongExchange = (&'static str, &'static str, &'static [Piece], &'static str);
-
-/// The text of pieces.
-fn text_of(alloc: Global, pieces: &[Piece]) -> Result<String, Fail> {
-    let mut all = Vec::new(alloc);
-    for (text, count) in pieces {
-        all.extend_from_slice(text.as_bytes())?;
-        repeat(&mut all, "61", *count)?;
-    }
-    Ok(String::from_utf8(all).ok().ok_or("a text")?)
-}
 
 /// Plays each exchange with a GET whose answer has so many octets 61, and compares what is printed; the exit status is 0.
 fn compare_long_answers(
@@ -29,179 +16,181 @@ fn compare_long_answers(
     count: u32,
     cases: &[LongExchange],
 ) -> Result<(), Fail> {
-    let answer = text_of(alloc, &[("GET|/|200|", count)])?;
+    let answer = long_answer(alloc, count)?;
+    let words = ["play", answer.as_str()];
     for (name, frames, pieces, state) in cases {
-        let input = joined(alloc, &[PREFACE, SETTINGS, frames])?;
-        let sent = text_of(alloc, pieces)?;
-        let want = printed(alloc, sent.as_str(), state)?;
-        let (status, text) = ran(alloc, &["play", answer.as_str()], input.as_slice())?;
-        assert_eq!(rt; text.as_slice(), want.as_slice(), "at {name}");
-        assert_eq!(rt; status, 0, "at {name}");
+        let sent = filled(alloc, "61", pieces)?;
+        let (frames, sent) = (frames.as_bytes(), sent.as_slice());
+        compare_exchange(rt, alloc, name, &words, frames, sent, state)?;
     }
     Ok(())
 }
 
+/// A body of 70,000 octets.
+static ON_ONE_STREAM: [LongExchange; 6] = [
+    (
+        "the connection's window is used up",
+        "000014010500000001828684410f7777772e6578616d706c652e636f6d",
+        &[
+            ("00000101040000000188 004000000000000001", 16384),
+            ("004000000000000001", 16384),
+            ("004000000000000001", 16384),
+            ("003fff000000000001", 16383),
+        ],
+        "phase running last 1\n\
+         window recv 65535 owed 0 send 0\n\
+         peer table 4096 push 1 streams - window 65535 frame 16384 list - signal 0\n\
+         acked 0 goaway -\n\
+         block -\n\
+         table 1 57 4096\n\
+         entry 62 3a617574686f72697479 7777772e6578616d706c652e636f6d\n\
+         stream 1 half-remote recv 65535 owed 0 send 0 got 0 of - left 4465\n",
+    ),
+    (
+        "the connection's window alone is opened again",
+        "000014010500000001828684410f7777772e6578616d706c652e636f6d 000004080000000000000186a0",
+        &[
+            ("00000101040000000188 004000000000000001", 16384),
+            ("004000000000000001", 16384),
+            ("004000000000000001", 16384),
+            ("003fff000000000001", 16383),
+        ],
+        "phase running last 1\n\
+         window recv 65535 owed 0 send 100000\n\
+         peer table 4096 push 1 streams - window 65535 frame 16384 list - signal 0\n\
+         acked 0 goaway -\n\
+         block -\n\
+         table 1 57 4096\n\
+         entry 62 3a617574686f72697479 7777772e6578616d706c652e636f6d\n\
+         stream 1 half-remote recv 65535 owed 0 send 0 got 0 of - left 4465\n",
+    ),
+    (
+        "both windows are opened again",
+        "000014010500000001828684410f7777772e6578616d706c652e636f6d 000004080000000000000186a0 00000408000000000100001171",
+        &[
+            ("00000101040000000188 004000000000000001", 16384),
+            ("004000000000000001", 16384),
+            ("004000000000000001", 16384),
+            ("003fff000000000001", 16383),
+            ("001171000100000001", 4465),
+        ],
+        "phase running last 1\n\
+         window recv 65535 owed 0 send 95535\n\
+         peer table 4096 push 1 streams - window 65535 frame 16384 list - signal 0\n\
+         acked 0 goaway -\n\
+         block -\n\
+         table 1 57 4096\n\
+         entry 62 3a617574686f72697479 7777772e6578616d706c652e636f6d\n\
+         stream 1 ended\n",
+    ),
+    (
+        "the initial window becomes 0",
+        "000014010500000001828684410f7777772e6578616d706c652e636f6d 000006040000000000000400000000",
+        &[
+            ("00000101040000000188 004000000000000001", 16384),
+            ("004000000000000001", 16384),
+            ("004000000000000001", 16384),
+            ("003fff000000000001", 16383),
+            ("000000040100000000", 0),
+        ],
+        "phase running last 1\n\
+         window recv 65535 owed 0 send 0\n\
+         peer table 4096 push 1 streams - window 0 frame 16384 list - signal 0\n\
+         acked 0 goaway -\n\
+         block -\n\
+         table 1 57 4096\n\
+         entry 62 3a617574686f72697479 7777772e6578616d706c652e636f6d\n\
+         stream 1 half-remote recv 65535 owed 0 send -65535 got 0 of - left 4465\n",
+    ),
+    (
+        "the initial window becomes 0, and then 65535",
+        "000014010500000001828684410f7777772e6578616d706c652e636f6d 000006040000000000000400000000 00000604000000000000040000ffff",
+        &[
+            ("00000101040000000188 004000000000000001", 16384),
+            ("004000000000000001", 16384),
+            ("004000000000000001", 16384),
+            ("003fff000000000001", 16383),
+            ("000000040100000000 000000040100000000", 0),
+        ],
+        "phase running last 1\n\
+         window recv 65535 owed 0 send 0\n\
+         peer table 4096 push 1 streams - window 65535 frame 16384 list - signal 0\n\
+         acked 0 goaway -\n\
+         block -\n\
+         table 1 57 4096\n\
+         entry 62 3a617574686f72697479 7777772e6578616d706c652e636f6d\n\
+         stream 1 half-remote recv 65535 owed 0 send 0 got 0 of - left 4465\n",
+    ),
+    (
+        "two settings open the stream's window",
+        "000014010500000001828684410f7777772e6578616d706c652e636f6d 000004080000000000000186a0 00000c040000000000000400000000000400011170",
+        &[
+            ("00000101040000000188 004000000000000001", 16384),
+            ("004000000000000001", 16384),
+            ("004000000000000001", 16384),
+            ("003fff000000000001", 16383),
+            ("000000040100000000 001171000100000001", 4465),
+        ],
+        "phase running last 1\n\
+         window recv 65535 owed 0 send 95535\n\
+         peer table 4096 push 1 streams - window 70000 frame 16384 list - signal 0\n\
+         acked 0 goaway -\n\
+         block -\n\
+         table 1 57 4096\n\
+         entry 62 3a617574686f72697479 7777772e6578616d706c652e636f6d\n\
+         stream 1 ended\n",
+    ),
+];
+
 #[test]
 fn long_bodies_wait_for_windows(rt: HostRuntime) -> Result<(), Fail> {
-    let cases: [LongExchange; 6] = [
-        (
-            "the connection's window is used up",
-            "000014010500000001828684410f7777772e6578616d706c652e636f6d",
-            &[
-                ("00000101040000000188 004000000000000001", 16384),
-                ("004000000000000001", 16384),
-                ("004000000000000001", 16384),
-                ("003fff000000000001", 16383),
-            ],
-            "phase running last 1\n\
-             window recv 65535 owed 0 send 0\n\
-             peer table 4096 push 1 streams - window 65535 frame 16384 list - signal 0\n\
-             acked 0 goaway -\n\
-             block -\n\
-             table 1 57 4096\n\
-             entry 62 3a617574686f72697479 7777772e6578616d706c652e636f6d\n\
-             stream 1 half-remote recv 65535 owed 0 send 0 got 0 of - left 4465\n",
-        ),
-        (
-            "the connection's window alone is opened again",
-            "000014010500000001828684410f7777772e6578616d706c652e636f6d 000004080000000000000186a0",
-            &[
-                ("00000101040000000188 004000000000000001", 16384),
-                ("004000000000000001", 16384),
-                ("004000000000000001", 16384),
-                ("003fff000000000001", 16383),
-            ],
-            "phase running last 1\n\
-             window recv 65535 owed 0 send 100000\n\
-             peer table 4096 push 1 streams - window 65535 frame 16384 list - signal 0\n\
-             acked 0 goaway -\n\
-             block -\n\
-             table 1 57 4096\n\
-             entry 62 3a617574686f72697479 7777772e6578616d706c652e636f6d\n\
-             stream 1 half-remote recv 65535 owed 0 send 0 got 0 of - left 4465\n",
-        ),
-        (
-            "both windows are opened again",
-            "000014010500000001828684410f7777772e6578616d706c652e636f6d 000004080000000000000186a0 00000408000000000100001171",
-            &[
-                ("00000101040000000188 004000000000000001", 16384),
-                ("004000000000000001", 16384),
-                ("004000000000000001", 16384),
-                ("003fff000000000001", 16383),
-                ("001171000100000001", 4465),
-            ],
-            "phase running last 1\n\
-             window recv 65535 owed 0 send 95535\n\
-             peer table 4096 push 1 streams - window 65535 frame 16384 list - signal 0\n\
-             acked 0 goaway -\n\
-             block -\n\
-             table 1 57 4096\n\
-             entry 62 3a617574686f72697479 7777772e6578616d706c652e636f6d\n\
-             stream 1 ended\n",
-        ),
-        (
-            "the initial window becomes 0",
-            "000014010500000001828684410f7777772e6578616d706c652e636f6d 000006040000000000000400000000",
-            &[
-                ("00000101040000000188 004000000000000001", 16384),
-                ("004000000000000001", 16384),
-                ("004000000000000001", 16384),
-                ("003fff000000000001", 16383),
-                ("000000040100000000", 0),
-            ],
-            "phase running last 1\n\
-             window recv 65535 owed 0 send 0\n\
-             peer table 4096 push 1 streams - window 0 frame 16384 list - signal 0\n\
-             acked 0 goaway -\n\
-             block -\n\
-             table 1 57 4096\n\
-             entry 62 3a617574686f72697479 7777772e6578616d706c652e636f6d\n\
-             stream 1 half-remote recv 65535 owed 0 send -65535 got 0 of - left 4465\n",
-        ),
-        (
-            "the initial window becomes 0, and then 65535",
-            "000014010500000001828684410f7777772e6578616d706c652e636f6d 000006040000000000000400000000 00000604000000000000040000ffff",
-            &[
-                ("00000101040000000188 004000000000000001", 16384),
-                ("004000000000000001", 16384),
-                ("004000000000000001", 16384),
-                ("003fff000000000001", 16383),
-                ("000000040100000000 000000040100000000", 0),
-            ],
-            "phase running last 1\n\
-             window recv 65535 owed 0 send 0\n\
-             peer table 4096 push 1 streams - window 65535 frame 16384 list - signal 0\n\
-             acked 0 goaway -\n\
-             block -\n\
-             table 1 57 4096\n\
-             entry 62 3a617574686f72697479 7777772e6578616d706c652e636f6d\n\
-             stream 1 half-remote recv 65535 owed 0 send 0 got 0 of - left 4465\n",
-        ),
-        (
-            "two settings open the stream's window",
-            "000014010500000001828684410f7777772e6578616d706c652e636f6d 000004080000000000000186a0 00000c040000000000000400000000000400011170",
-            &[
-                ("00000101040000000188 004000000000000001", 16384),
-                ("004000000000000001", 16384),
-                ("004000000000000001", 16384),
-                ("003fff000000000001", 16383),
-                ("000000040100000000 001171000100000001", 4465),
-            ],
-            "phase running last 1\n\
-             window recv 65535 owed 0 send 95535\n\
-             peer table 4096 push 1 streams - window 70000 frame 16384 list - signal 0\n\
-             acked 0 goaway -\n\
-             block -\n\
-             table 1 57 4096\n\
-             entry 62 3a617574686f72697479 7777772e6578616d706c652e636f6d\n\
-             stream 1 ended\n",
-        ),
-    ];
-    compare_long_answers(&rt, rt.alloc(), 70000, cases.as_slice())
+    compare_long_answers(&rt, rt.alloc(), 70000, &ON_ONE_STREAM)
 }
+
+/// Bodies of 40,000 octets on two streams.
+static ON_TWO_STREAMS: [LongExchange; 2] = [
+    (
+        "the first stream is sent whole, and the second as far as the window goes",
+        "000003010500000001828684 000003010500000003828684",
+        &[
+            ("00000101040000000188 004000000000000001", 16384),
+            ("004000000000000001", 16384),
+            ("001c40000100000001", 7232),
+            ("00000101040000000388 004000000000000003", 16384),
+            ("0023bf000000000003", 9151),
+        ],
+        "phase running last 3\n\
+         window recv 65535 owed 0 send 0\n\
+         peer table 4096 push 1 streams - window 65535 frame 16384 list - signal 0\n\
+         acked 0 goaway -\n\
+         block -\n\
+         table 0 0 4096\n\
+         stream 1 ended\n\
+         stream 3 half-remote recv 65535 owed 0 send 40000 got 0 of - left 14465\n",
+    ),
+    (
+        "one octet more may be sent",
+        "000003010500000001828684 000003010500000003828684 00000408000000000000000001",
+        &[
+            ("00000101040000000188 004000000000000001", 16384),
+            ("004000000000000001", 16384),
+            ("001c40000100000001", 7232),
+            ("00000101040000000388 004000000000000003", 16384),
+            ("0023bf000000000003", 9151),
+            ("000001000000000003", 1),
+        ],
+        "phase running last 3\n\
+         window recv 65535 owed 0 send 0\n\
+         peer table 4096 push 1 streams - window 65535 frame 16384 list - signal 0\n\
+         acked 0 goaway -\n\
+         block -\n\
+         table 0 0 4096\n\
+         stream 1 ended\n\
+         stream 3 half-remote recv 65535 owed 0 send 39999 got 0 of - left 14464\n",
+    ),
+];
 
 #[test]
 fn streams_send_in_the_order_of_their_identifiers(rt: HostRuntime) -> Result<(), Fail> {
-    let cases: [LongExchange; 2] = [
-        (
-            "the first stream is sent whole, and the second as far as the window goes",
-            "000003010500000001828684 000003010500000003828684",
-            &[
-                ("00000101040000000188 004000000000000001", 16384),
-                ("004000000000000001", 16384),
-                ("001c40000100000001", 7232),
-                ("00000101040000000388 004000000000000003", 16384),
-                ("0023bf000000000003", 9151),
-            ],
-            "phase running last 3\n\
-             window recv 65535 owed 0 send 0\n\
-             peer table 4096 push 1 streams - window 65535 frame 16384 list - signal 0\n\
-             acked 0 goaway -\n\
-             block -\n\
-             table 0 0 4096\n\
-             stream 1 ended\n\
-             stream 3 half-remote recv 65535 owed 0 send 40000 got 0 of - left 14465\n",
-        ),
-        (
-            "one octet more may be sent",
-            "000003010500000001828684 000003010500000003828684 00000408000000000000000001",
-            &[
-                ("00000101040000000188 004000000000000001", 16384),
-                ("004000000000000001", 16384),
-                ("001c40000100000001", 7232),
-                ("00000101040000000388 004000000000000003", 16384),
-                ("0023bf000000000003", 9151),
-                ("000001000000000003", 1),
-            ],
-            "phase running last 3\n\
-             window recv 65535 owed 0 send 0\n\
-             peer table 4096 push 1 streams - window 65535 frame 16384 list - signal 0\n\
-             acked 0 goaway -\n\
-             block -\n\
-             table 0 0 4096\n\
-             stream 1 ended\n\
-             stream 3 half-remote recv 65535 owed 0 send 39999 got 0 of - left 14464\n",
-        ),
-    ];
-    compare_long_answers(&rt, rt.alloc(), 40000, cases.as_slice())
+    compare_long_answers(&rt, rt.alloc(), 40000, &ON_TWO_STREAMS)
 }

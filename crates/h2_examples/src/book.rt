@@ -1,5 +1,6 @@
 //! The book of answers: entries that are refused, and what requests pick (RFC 9113, 8.3.2).
 
+use crate::fields::fields_of;
 use h2_fields::field::Field;
 use h2_fields::octets::Octets;
 use h2_request::book::{Book, Entry, Pick};
@@ -14,12 +15,6 @@ fn octets(alloc: Global, text: &str) -> Result<Octets<Global>, AllocError> {
     Ok(Octets::new(text.as_bytes().to_vec(alloc)?))
 }
 
-fn field(alloc: Global, name: &str, value: &str) -> Result<Field<Global>, AllocError> {
-    let name = name.as_bytes().to_vec(alloc)?;
-    let value = value.as_bytes().to_vec(alloc)?;
-    Ok(Field::new(name, value))
-}
-
 /// An entry for the root, with one field.
 fn entry(
     alloc: Global,
@@ -28,13 +23,11 @@ fn entry(
     name: &str,
     body: &str,
 ) -> Result<Entry<Global>, AllocError> {
-    let mut fields = Vec::new(alloc);
-    fields.push(field(alloc, name, "b")?)?;
     Ok(Entry {
         method: octets(alloc, method)?,
         path: octets(alloc, "/")?,
         status,
-        fields,
+        fields: fields_of(alloc, &[(name, "b")])?,
         body: octets(alloc, body)?,
     })
 }
@@ -83,10 +76,14 @@ fn long_entry(alloc: Global) -> Result<Entry<Global>, AllocError> {
     })
 }
 
+fn long_body_refused(alloc: Global) -> Result<Option<BookFault>, AllocError> {
+    let mut book = Book::new(alloc);
+    Ok(added(&mut book, long_entry(alloc)?).err())
+}
+
 #[test]
 fn long_bodies(rt: HostRuntime) -> Result<(), Fail> {
-    let mut book = Book::new(rt.alloc());
-    let refused = added(&mut book, long_entry(rt.alloc())?).err();
+    let refused = long_body_refused(rt.alloc())?;
     assert_eq!(rt;
         refused,
         Some(BookFault::TooLong),
@@ -101,14 +98,11 @@ fn picked(book: &Book<Global>, fields: &[Field<Global>]) -> Option<(Option<u64>,
     Some((asked.declared, book.find(&asked)))
 }
 
-/// The status of an answer, its body, and how many fields it has.
-fn answer_of(book: &Book<Global>, pick: Pick) -> (u16, &[u8], usize) {
+/// The status of an answer, its body, how many fields it has, and its field block.
+fn answer_of(book: &Book<Global>, pick: Pick) -> (u16, &[u8], usize, &[u8]) {
     let answer = book.answer(pick);
-    (answer.status, answer.body, answer.fields.len())
-}
-
-fn block_of(book: &Book<Global>, pick: Pick) -> &[u8] {
-    book.block(pick)
+    let block = book.block(pick);
+    (answer.status, answer.body, answer.fields.len(), block)
 }
 
 /// A book of one answer.
@@ -119,24 +113,18 @@ fn book_of_one(alloc: Global) -> Result<Book<Global>, Fail> {
     Ok(book)
 }
 
-/// The fields of a GET of the root that declares content.
-fn get(alloc: Global) -> Result<Vec<Field<Global>>, AllocError> {
-    let mut fields = Vec::new(alloc);
-    for (name, value) in [
-        (":method", "GET"),
-        (":scheme", "http"),
-        (":path", "/"),
-        ("content-length", "12"),
-    ] {
-        fields.push(field(alloc, name, value)?)?;
-    }
-    Ok(fields)
-}
-
 #[test]
 fn requests_pick_answers(rt: HostRuntime) -> Result<(), Fail> {
     let book = book_of_one(rt.alloc())?;
-    let fields = get(rt.alloc())?;
+    let fields = fields_of(
+        rt.alloc(),
+        &[
+            (":method", "GET"),
+            (":scheme", "http"),
+            (":path", "/"),
+            ("content-length", "12"),
+        ],
+    )?;
     let picked = picked(&book, fields.as_slice());
     assert_eq!(rt; picked, Some((Some(12), Pick::Listed(0))));
     Ok(())
@@ -145,13 +133,15 @@ fn requests_pick_answers(rt: HostRuntime) -> Result<(), Fail> {
 #[test]
 fn picks_are_answered(rt: HostRuntime) -> Result<(), Fail> {
     let book = book_of_one(rt.alloc())?;
-    let listed = Pick::Listed(0);
-    assert_eq!(rt; answer_of(&book, listed), (200, b"hi".as_slice(), 1));
-    // RFC 7541, 6.1 and 6.2.2.
-    assert_eq!(rt; block_of(&book, listed), b"\x88\x00\x01a\x01b".as_slice());
-    assert_eq!(rt; answer_of(&book, Pick::NotFound).0, 404);
-    assert_eq!(rt; answer_of(&book, Pick::Connect).0, 501);
-    assert_eq!(rt; block_of(&book, Pick::NotFound), b"\x8d".as_slice());
-    assert_eq!(rt; block_of(&book, Pick::Connect), b"\x08\x03501".as_slice());
+    let cases: [(Pick, u16, &[u8], usize, &[u8]); 3] = [
+        // RFC 7541, 6.1 and 6.2.2.
+        (Pick::Listed(0), 200, b"hi", 1, b"\x88\x00\x01a\x01b"),
+        (Pick::NotFound, 404, b"", 0, b"\x8d"),
+        (Pick::Connect, 501, b"", 0, b"\x08\x03501"),
+    ];
+    for (pick, status, body, fields, block) in cases {
+        let answer = answer_of(&book, pick);
+        assert_eq!(rt; answer, (status, body, fields, block), "{pick:?}");
+    }
     Ok(())
 }

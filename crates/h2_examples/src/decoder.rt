@@ -338,73 +338,52 @@ static CASES: [Case; 24] = [
     },
 ];
 
-/// What a block leaves that comes whole.
-fn decoded_whole(alloc: Global, table: &mut DynTable<Global>, block: &str) -> Result<Held, Fail> {
-    let block = octets_of(alloc, block)?;
-    let mut decoder = started(alloc);
-    pushed(&mut decoder, table, block.as_slice())?;
-    finished(&decoder)?;
-    Ok(held_by(alloc, &decoder, table)?)
-}
-
-/// What a block leaves that comes octet by octet.
-fn decoded_by_octets(
+/// What a block leaves that comes in one piece, or octet by octet.
+fn decoded(
     alloc: Global,
     table: &mut DynTable<Global>,
     block: &str,
+    by_octets: bool,
 ) -> Result<Held, Fail> {
     let block = octets_of(alloc, block)?;
+    let length = if by_octets { 1 } else { 4096 };
     let mut decoder = started(alloc);
-    for octet in &block {
-        pushed(&mut decoder, table, &[*octet])?;
+    for piece in block.as_slice().chunks(length) {
+        pushed(&mut decoder, table, piece)?;
     }
     finished(&decoder)?;
     Ok(held_by(alloc, &decoder, table)?)
 }
 
-fn compare(rt: &impl Abort, case: &Case, held: &Held) {
-    assert_eq!(rt;
-        held.fields.as_slice(),
-        case.fields.as_bytes(),
-        "{}",
-        case.name
-    );
-    assert_eq!(rt; held.list_size, case.list_size, "{}", case.name);
-    assert_eq!(rt;
-        held.entries.as_slice(),
-        case.entries.as_bytes(),
-        "{}",
-        case.name
-    );
-    assert_eq!(rt; held.table_size, case.table_size, "{}", case.name);
+/// Decodes each block, and compares what it leaves.
+fn compare_blocks(rt: &impl Abort, alloc: Global, by_octets: bool) -> Result<(), Fail> {
+    let mut table = empty_table(alloc, 0)?;
+    for case in &CASES {
+        if let Some(limit) = case.limit {
+            table = empty_table(alloc, limit)?;
+        }
+        let held = decoded(alloc, &mut table, case.block, by_octets)?;
+        let lines = (held.fields.as_slice(), held.entries.as_slice());
+        assert_eq!(rt;
+            lines,
+            (case.fields.as_bytes(), case.entries.as_bytes()),
+            "{}",
+            case.name
+        );
+        let sizes = (held.list_size, held.table_size);
+        assert_eq!(rt; sizes, (case.list_size, case.table_size), "{}", case.name);
+    }
+    Ok(())
 }
 
 #[test]
 fn blocks_give_their_fields_and_tables(rt: HostRuntime) -> Result<(), Fail> {
-    let alloc = rt.alloc();
-    let mut table = empty_table(alloc, 0)?;
-    for case in &CASES {
-        if let Some(limit) = case.limit {
-            table = empty_table(alloc, limit)?;
-        }
-        let held = decoded_whole(alloc, &mut table, case.block)?;
-        compare(&rt, case, &held);
-    }
-    Ok(())
+    compare_blocks(&rt, rt.alloc(), false)
 }
 
 #[test]
 fn blocks_may_come_octet_by_octet(rt: HostRuntime) -> Result<(), Fail> {
-    let alloc = rt.alloc();
-    let mut table = empty_table(alloc, 0)?;
-    for case in &CASES {
-        if let Some(limit) = case.limit {
-            table = empty_table(alloc, limit)?;
-        }
-        let held = decoded_by_octets(alloc, &mut table, case.block)?;
-        compare(&rt, case, &held);
-    }
-    Ok(())
+    compare_blocks(&rt, rt.alloc(), true)
 }
 
 /// A block that is refused, on an empty table of limit 4096: its fragments; what each of them and then the end is answered,
@@ -554,19 +533,17 @@ fn refused(alloc: Global, fragments: &[&str]) -> Result<(String, Held), Fail> {
 fn blocks_are_refused(rt: HostRuntime) -> Result<(), Fail> {
     for case in &REFUSALS {
         let (answers, held) = refused(rt.alloc(), case.fragments)?;
-        assert_eq!(rt; answers.as_str(), case.answers, "{}", case.name);
-        assert_eq!(rt;
+        let left = (
+            answers.as_str(),
             held.fields.as_slice(),
-            case.fields.as_bytes(),
-            "{}",
-            case.name
-        );
-        assert_eq!(rt;
             held.entries.as_slice(),
-            case.entries.as_bytes(),
-            "{}",
-            case.name
         );
+        let wanted = (
+            case.answers,
+            case.fields.as_bytes(),
+            case.entries.as_bytes(),
+        );
+        assert_eq!(rt; left, wanted, "{}", case.name);
     }
     Ok(())
 }
@@ -690,9 +667,9 @@ fn still_and_whole(alloc: Global, block: &str) -> Result<(usize, Vec<u8>, Vec<u8
 fn the_front_of_a_block_leaves_the_table(rt: HostRuntime) -> Result<(), Fail> {
     for case in &STILL {
         let (used, front, fields) = still_and_whole(rt.alloc(), case.block)?;
-        assert_eq!(rt; used, case.used, "{}", case.name);
-        assert_eq!(rt; front.as_slice(), case.front.as_bytes(), "{}", case.name);
-        assert_eq!(rt; fields.as_slice(), case.fields.as_bytes(), "{}", case.name);
+        let found = (used, front.as_slice(), fields.as_slice());
+        let wanted = (case.used, case.front.as_bytes(), case.fields.as_bytes());
+        assert_eq!(rt; found, wanted, "{}", case.name);
     }
     Ok(())
 }

@@ -1,6 +1,6 @@
 //! Runs whose reader or writer fails.
 
-use crate::program::{PREFACE, SETTINGS, joined, ran, repeat};
+use crate::program::{PREFACE, SETTINGS, filled, ran, words_of};
 use h2_bench::{Words, run};
 use std::alloc::{AllocError, Global};
 use std::io;
@@ -27,15 +27,6 @@ impl Write for Broken {
     }
 }
 
-/// These words, the program's name first.
-fn words_of(alloc: Global, texts: &[&str]) -> Result<Words, AllocError> {
-    let mut words = Words::new(alloc);
-    for text in texts {
-        words.add(text)?;
-    }
-    Ok(words)
-}
-
 // These have no clause, so that the proof of a test does not carry what a run tells.
 
 /// The exit status of a run whose reader fails.
@@ -51,19 +42,19 @@ fn run_unwritten(alloc: Global, words: &Words) -> u8 {
 
 #[test]
 fn readers_fail(rt: HostRuntime) -> Result<(), Fail> {
-    let words = words_of(rt.alloc(), &["h2_bench", "play"])?;
+    let words = words_of(rt.alloc(), &["play"])?;
     let mut text = Vec::new(rt.alloc());
-    assert_eq!(rt; run_unread(rt.alloc(), &words, &mut text), 1);
-    assert_eq!(rt; text.as_slice(), b"fault 22\n".as_slice());
+    let status = run_unread(rt.alloc(), &words, &mut text);
+    assert_eq!(rt; (status, text.as_slice()), (1, b"fault 22\n".as_slice()));
     Ok(())
 }
 
 #[test]
 fn writers_fail(rt: HostRuntime) -> Result<(), Fail> {
-    let play = words_of(rt.alloc(), &["h2_bench", "play"])?;
-    assert_eq!(rt; run_unwritten(rt.alloc(), &play), 3);
-    let nothing = words_of(rt.alloc(), &[])?;
-    assert_eq!(rt; run_unwritten(rt.alloc(), &nothing), 3);
+    let play = words_of(rt.alloc(), &["play"])?;
+    for words in [&play, &Words::new(rt.alloc())] {
+        assert_eq!(rt; run_unwritten(rt.alloc(), words), 3);
+    }
     Ok(())
 }
 
@@ -100,7 +91,7 @@ fn run_narrow(alloc: Global, words: &Words, input: &[u8], narrow: &mut Narrow) -
 
 /// The exit status of `play --each` whose writer has this room, and what it took.
 fn narrowed(alloc: Global, input: &[u8], room: usize) -> Result<(u8, Vec<u8>), Fail> {
-    let words = words_of(alloc, &["h2_bench", "play", "--each"])?;
+    let words = words_of(alloc, &["play", "--each"])?;
     let mut narrow = Narrow {
         taken: Vec::new(alloc),
         room,
@@ -111,9 +102,8 @@ fn narrowed(alloc: Global, input: &[u8], room: usize) -> Result<(u8, Vec<u8>), F
 
 /// An opening and 400 PING, as hex.
 fn pings(alloc: Global) -> Result<Vec<u8>, AllocError> {
-    let mut input = joined(alloc, &[PREFACE, SETTINGS])?;
-    repeat(&mut input, "0000080600000000000102030405060708", 400)?;
-    Ok(input)
+    let ping = "0000080600000000000102030405060708";
+    filled(alloc, ping, &[(PREFACE, 0), (SETTINGS, 400)])
 }
 
 #[test]
@@ -124,8 +114,8 @@ fn places_are_written_until_a_write_fails(rt: HostRuntime) -> Result<(), Fail> {
     assert!(rt; length > 65536, "it takes two writes at least");
     for room in [0, 1, 1000, 40000, 65536, length - 1, length] {
         let (status, taken) = narrowed(rt.alloc(), input.as_slice(), room)?;
-        assert_eq!(rt; status, if room == length { 0 } else { 3 }, "at {room}");
-        assert_eq!(rt; taken.len(), room, "at {room}");
+        let wanted = if room == length { 0 } else { 3 };
+        assert_eq!(rt; (status, taken.len()), (wanted, room), "at {room}");
         assert!(rt; whole.starts_with(taken.as_slice()), "at {room}");
     }
     Ok(())

@@ -1,89 +1,89 @@
 //! Limits, answers and hex texts that `play` refuses.
 
-use crate::program::{Run, compare_runs, joined, ran, repeat};
+use crate::program::{Run, compare_runs, long_answer, ran};
 use std::alloc::Global;
 use std::test::Fail;
 
+/// What is refused.
+static REFUSED: [Run; 11] = [
+    ("a digit alone", &["play"], "0", "fault 25\n", 1),
+    ("no digit", &["play"], "0g", "fault 25\n", 1),
+    (
+        "no streams",
+        &["play", "--streams", "0"],
+        "",
+        "fault 16\n",
+        1,
+    ),
+    (
+        "1001 streams",
+        &["play", "--streams", "1001"],
+        "",
+        "fault 16\n",
+        1,
+    ),
+    ("no credit", &["play", "--credit", "0"], "", "fault 16\n", 1),
+    (
+        "bad hex and no credit",
+        &["play", "--credit", "0"],
+        "0",
+        "fault 25\n",
+        1,
+    ),
+    (
+        "an answer of three parts, and bad hex",
+        &["play", "GET|/|200"],
+        "0",
+        "fault 26\n",
+        1,
+    ),
+    (
+        "an answer with status 199",
+        &["play", "GET|/|199|"],
+        "",
+        "fault 12\n",
+        1,
+    ),
+    (
+        "an answer with a name in upper case",
+        &["play", "GET|/|200||A=b"],
+        "",
+        "fault 13\n",
+        1,
+    ),
+    (
+        "an answer without content, and one that says none",
+        &["play", "GET|/|204|6869", "x"],
+        "",
+        "fault 14\n",
+        1,
+    ),
+    (
+        "the second answer says none",
+        &["play", "GET|/|200|6869", "GET|/|200|686"],
+        "",
+        "fault 26\n",
+        1,
+    ),
+];
+
 #[test]
 fn refusals_are_told(rt: HostRuntime) -> Result<(), Fail> {
-    let cases: [Run; 11] = [
-        ("a digit alone", &["play"], "0", "fault 25\n", 1),
-        ("no digit", &["play"], "0g", "fault 25\n", 1),
-        (
-            "no streams",
-            &["play", "--streams", "0"],
-            "",
-            "fault 16\n",
-            1,
-        ),
-        (
-            "1001 streams",
-            &["play", "--streams", "1001"],
-            "",
-            "fault 16\n",
-            1,
-        ),
-        ("no credit", &["play", "--credit", "0"], "", "fault 16\n", 1),
-        (
-            "bad hex and no credit",
-            &["play", "--credit", "0"],
-            "0",
-            "fault 25\n",
-            1,
-        ),
-        (
-            "an answer of three parts, and bad hex",
-            &["play", "GET|/|200"],
-            "0",
-            "fault 26\n",
-            1,
-        ),
-        (
-            "an answer with status 199",
-            &["play", "GET|/|199|"],
-            "",
-            "fault 12\n",
-            1,
-        ),
-        (
-            "an answer with a name in upper case",
-            &["play", "GET|/|200||A=b"],
-            "",
-            "fault 13\n",
-            1,
-        ),
-        (
-            "an answer without content, and one that says none",
-            &["play", "GET|/|204|6869", "x"],
-            "",
-            "fault 14\n",
-            1,
-        ),
-        (
-            "the second answer says none",
-            &["play", "GET|/|200|6869", "GET|/|200|686"],
-            "",
-            "fault 26\n",
-            1,
-        ),
-    ];
-    compare_runs(&rt, rt.alloc(), cases.as_slice())
+    compare_runs(&rt, rt.alloc(), &REFUSED)
 }
 
 /// What `play` prints, and its exit status, with an answer of so many octets, and nothing that comes.
 fn ran_with_body(alloc: Global, count: u32) -> Result<(u8, Vec<u8>), Fail> {
-    let mut answer = joined(alloc, &["GET|/|200|"])?;
-    repeat(&mut answer, "61", count)?;
-    let answer = std::str::from_utf8(answer.as_slice()).ok().ok_or("a text")?;
-    ran(alloc, &["play", answer], b"")
+    let answer = long_answer(alloc, count)?;
+    ran(alloc, &["play", answer.as_str()], b"")
 }
 
 #[test]
 fn bodies_of_answers_have_a_greatest_length(rt: HostRuntime) -> Result<(), Fail> {
-    let (status, text) = ran_with_body(rt.alloc(), 1_048_577)?;
-    assert_eq!(rt; text.as_slice(), b"fault 15\n".as_slice());
-    assert_eq!(rt; status, 1);
-    let (status, _) = ran_with_body(rt.alloc(), 1_048_576)?;
-    assert_eq!(rt; status, 0);
+    for (count, status, is_fault) in [(1_048_577, 1, true), (1_048_576, 0, false)] {
+        let (got, text) = ran_with_body(rt.alloc(), count)?;
+        let is_told = text.as_slice() == b"fault 15\n".as_slice();
+        assert_eq!(rt; (got, is_told), (status, is_fault), "{count} octets");
+    }
     Ok(())
 }

@@ -12,24 +12,42 @@ use std::test::Fail;
 
 // These have no clause that says what they answer, so that the proof of a test does not carry it.
 
-fn field_of(alloc: Global, name: &[u8], value: &[u8]) -> Result<Field<Global>, AllocError> {
-    let name = Vec::from_slice(alloc, name)?;
-    let value = Vec::from_slice(alloc, value)?;
+/// A field of this name and value.
+pub(crate) fn field_of(
+    alloc: Global,
+    name: &str,
+    value: &str,
+) -> Result<Field<Global>, AllocError> {
+    let name = Vec::from_slice(alloc, name.as_bytes())?;
+    let value = Vec::from_slice(alloc, value.as_bytes())?;
     Ok(Field::new(name, value))
 }
 
-/// The octets of the name and of the value of a copy.
-fn copied(field: &Field<Global>) -> Result<(Vec<u8>, Vec<u8>), AllocError> {
-    let copy = field.try_clone()?;
+/// Fields of these names and values.
+pub(crate) fn fields_of(
+    alloc: Global,
+    pairs: &[(&str, &str)],
+) -> Result<Vec<Field<Global>>, AllocError> {
+    let mut fields = Vec::new(alloc);
+    for (name, value) in pairs {
+        fields.push(field_of(alloc, name, value)?)?;
+    }
+    Ok(fields)
+}
+
+/// The octets of the name and of the value of a copy of a field.
+fn copied(alloc: Global, name: &str, value: &str) -> Result<(Vec<u8>, Vec<u8>), AllocError> {
+    let copy = field_of(alloc, name, value)?.try_clone()?;
     Ok((copy.name.into_vec(), copy.value.into_vec()))
 }
 
 #[test]
 fn fields_are_copied(rt: HostRuntime) -> Result<(), Fail> {
-    let field = field_of(rt.alloc(), b"a", b"b")?;
-    let (name, value) = copied(&field)?;
-    assert_eq!(rt; name.as_slice(), b"a".as_slice());
-    assert_eq!(rt; value.as_slice(), b"b".as_slice());
+    let (name, value) = copied(rt.alloc(), "a", "b")?;
+    assert_eq!(rt;
+        (name.as_slice(), value.as_slice()),
+        (b"a".as_slice(), b"b".as_slice())
+    );
     Ok(())
 }
 
@@ -57,13 +75,16 @@ fn response(
 
 #[test]
 fn responses_stand_as_indexed_or_spelled(rt: HostRuntime) -> Result<(), Fail> {
-    let none: [Field<Global>; 0] = [];
-    assert_eq!(rt; response(rt.alloc(), false, 200, &none)?.as_str(), "88");
-    assert_eq!(rt; response(rt.alloc(), true, 200, &none)?.as_str(), "2088");
-    assert_eq!(rt;
-        response(rt.alloc(), false, 501, &none)?.as_str(),
-        "0803353031"
-    );
+    let none = Vec::new(rt.alloc());
+    for (signal, status, wanted) in [
+        (false, 200, "88"),
+        (true, 200, "2088"),
+        (false, 501, "0803353031"),
+    ] {
+        assert!(rt; status >= 200 && status <= 599);
+        let block = response(rt.alloc(), signal, status, none.as_slice())?;
+        assert_eq!(rt; block.as_str(), wanted);
+    }
     Ok(())
 }
 
@@ -71,8 +92,9 @@ fn responses_stand_as_indexed_or_spelled(rt: HostRuntime) -> Result<(), Fail> {
 fn fields_of_responses_are_spelled(rt: HostRuntime) -> Result<(), Fail> {
     let name = Vec::from_slice(rt.alloc(), b"a")?;
     let value = Vec::from_slice(rt.alloc(), b"b")?;
-    let one = [Field::new(name, value)];
-    let block = response(rt.alloc(), false, 302, &one)?;
+    let mut fields = Vec::new(rt.alloc());
+    fields.push(Field::new(name, value))?;
+    let block = response(rt.alloc(), false, 302, fields.as_slice())?;
     assert_eq!(rt; block.as_str(), "08033330320001610162");
     Ok(())
 }

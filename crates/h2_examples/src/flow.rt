@@ -3,183 +3,187 @@
 use crate::program::{Exchange, compare_exchanges};
 use std::test::Fail;
 
+/// WINDOW_UPDATE and SETTINGS that open windows.
+static OPENED: [Exchange; 5] = [
+    (
+        "the connection's window passes its limit",
+        &["play"],
+        "0000040800000000007fffffff",
+        "0000080700000000000000000000000003",
+        "phase ended 3 last 0\n\
+         window recv 65535 owed 0 send 65535\n\
+         peer table 4096 push 1 streams - window 65535 frame 16384 list - signal 0\n\
+         acked 0 goaway -\n\
+         block -\n\
+         table 0 0 4096\n",
+    ),
+    (
+        "a stream's window passes its limit",
+        &["play"],
+        "000003010400000001828684 0000040800000000017fffffff",
+        "00000403000000000100000003",
+        "phase running last 1\n\
+         window recv 65535 owed 0 send 65535\n\
+         peer table 4096 push 1 streams - window 65535 frame 16384 list - signal 0\n\
+         acked 0 goaway -\n\
+         block -\n\
+         table 0 0 4096\n\
+         stream 1 we-reset\n",
+    ),
+    (
+        "increment 0 on a stream",
+        &["play"],
+        "000003010400000001828684 00000408000000000100000000",
+        "00000403000000000100000001",
+        "phase running last 1\n\
+         window recv 65535 owed 0 send 65535\n\
+         peer table 4096 push 1 streams - window 65535 frame 16384 list - signal 0\n\
+         acked 0 goaway -\n\
+         block -\n\
+         table 0 0 4096\n\
+         stream 1 we-reset\n",
+    ),
+    (
+        "increment 0 on an ended stream",
+        &["play"],
+        "000003010500000001828684 00000408000000000100000000",
+        "0000010105000000018d",
+        "phase running last 1\n\
+         window recv 65535 owed 0 send 65535\n\
+         peer table 4096 push 1 streams - window 65535 frame 16384 list - signal 0\n\
+         acked 0 goaway -\n\
+         block -\n\
+         table 0 0 4096\n\
+         stream 1 ended\n",
+    ),
+    (
+        "increment 0 on the connection",
+        &["play"],
+        "00000408000000000000000000",
+        "0000080700000000000000000000000001",
+        "phase ended 1 last 0\n\
+         window recv 65535 owed 0 send 65535\n\
+         peer table 4096 push 1 streams - window 65535 frame 16384 list - signal 0\n\
+         acked 0 goaway -\n\
+         block -\n\
+         table 0 0 4096\n",
+    ),
+];
+
 #[test]
 fn windows_are_opened(rt: HostRuntime) -> Result<(), Fail> {
-    let cases: [Exchange; 5] = [
-        (
-            "the connection's window passes its limit",
-            &["play"],
-            "0000040800000000007fffffff",
-            "0000080700000000000000000000000003",
-            "phase ended 3 last 0\n\
-             window recv 65535 owed 0 send 65535\n\
-             peer table 4096 push 1 streams - window 65535 frame 16384 list - signal 0\n\
-             acked 0 goaway -\n\
-             block -\n\
-             table 0 0 4096\n",
-        ),
-        (
-            "a stream's window passes its limit",
-            &["play"],
-            "000003010400000001828684 0000040800000000017fffffff",
-            "00000403000000000100000003",
-            "phase running last 1\n\
-             window recv 65535 owed 0 send 65535\n\
-             peer table 4096 push 1 streams - window 65535 frame 16384 list - signal 0\n\
-             acked 0 goaway -\n\
-             block -\n\
-             table 0 0 4096\n\
-             stream 1 we-reset\n",
-        ),
-        (
-            "increment 0 on a stream",
-            &["play"],
-            "000003010400000001828684 00000408000000000100000000",
-            "00000403000000000100000001",
-            "phase running last 1\n\
-             window recv 65535 owed 0 send 65535\n\
-             peer table 4096 push 1 streams - window 65535 frame 16384 list - signal 0\n\
-             acked 0 goaway -\n\
-             block -\n\
-             table 0 0 4096\n\
-             stream 1 we-reset\n",
-        ),
-        (
-            "increment 0 on an ended stream",
-            &["play"],
-            "000003010500000001828684 00000408000000000100000000",
-            "0000010105000000018d",
-            "phase running last 1\n\
-             window recv 65535 owed 0 send 65535\n\
-             peer table 4096 push 1 streams - window 65535 frame 16384 list - signal 0\n\
-             acked 0 goaway -\n\
-             block -\n\
-             table 0 0 4096\n\
-             stream 1 ended\n",
-        ),
-        (
-            "increment 0 on the connection",
-            &["play"],
-            "00000408000000000000000000",
-            "0000080700000000000000000000000001",
-            "phase ended 1 last 0\n\
-             window recv 65535 owed 0 send 65535\n\
-             peer table 4096 push 1 streams - window 65535 frame 16384 list - signal 0\n\
-             acked 0 goaway -\n\
-             block -\n\
-             table 0 0 4096\n",
-        ),
-    ];
-    compare_exchanges(&rt, rt.alloc(), cases.as_slice())
+    compare_exchanges(&rt, rt.alloc(), &OPENED)
 }
+
+/// DATA.
+static COUNTED: [Exchange; 8] = [
+    (
+        "DATA for a stream that was reset is counted",
+        &["play", "GET|/|200|6869"],
+        "000006040000000000000400000000 000014010500000001828684410f7777772e6578616d706c652e636f6d 000003000000000001616263 000003000000000001616263",
+        "000000040100000000 00000101040000000188 00000403000000000100000005",
+        "phase running last 1\n\
+         window recv 65529 owed 6 send 65535\n\
+         peer table 4096 push 1 streams - window 0 frame 16384 list - signal 0\n\
+         acked 0 goaway -\n\
+         block -\n\
+         table 1 57 4096\n\
+         entry 62 3a617574686f72697479 7777772e6578616d706c652e636f6d\n\
+         stream 1 we-reset\n",
+    ),
+    (
+        "padding counts",
+        &["play"],
+        "000003010400000001828684 000003000800000001020000",
+        "",
+        "phase running last 1\n\
+         window recv 65532 owed 3 send 65535\n\
+         peer table 4096 push 1 streams - window 65535 frame 16384 list - signal 0\n\
+         acked 0 goaway -\n\
+         block -\n\
+         table 0 0 4096\n\
+         stream 1 open recv 65532 owed 3 send 65535 got 0 of - left -\n",
+    ),
+    (
+        "too much padding",
+        &["play"],
+        "000003010400000001828684 000003000800000001030000",
+        "0000080700000000000000000100000001",
+        "phase ended 1 last 1\n\
+         window recv 65535 owed 0 send 65535\n\
+         peer table 4096 push 1 streams - window 65535 frame 16384 list - signal 0\n\
+         acked 0 goaway -\n\
+         block -\n\
+         table 0 0 4096\n\
+         stream 1 open recv 65535 owed 0 send 65535 got 0 of - left -\n",
+    ),
+    (
+        "DATA without its Pad Length",
+        &["play"],
+        "000000000800000001",
+        "0000080700000000000000000000000006",
+        "phase ended 6 last 0\n\
+         window recv 65535 owed 0 send 65535\n\
+         peer table 4096 push 1 streams - window 65535 frame 16384 list - signal 0\n\
+         acked 0 goaway -\n\
+         block -\n\
+         table 0 0 4096\n",
+    ),
+    (
+        "more content than declared",
+        &["play"],
+        "0000070104000000018386840f0d0133 00000400010000000161626364",
+        "00000403000000000100000001",
+        "phase running last 1\n\
+         window recv 65531 owed 4 send 65535\n\
+         peer table 4096 push 1 streams - window 65535 frame 16384 list - signal 0\n\
+         acked 0 goaway -\n\
+         block -\n\
+         table 0 0 4096\n\
+         stream 1 we-reset\n",
+    ),
+    (
+        "credit of 4 octets",
+        &["play", "--credit", "4"],
+        "000003010400000001828684 00000400000000000161626364",
+        "00000408000000000000000004 00000408000000000100000004",
+        "phase running last 1\n\
+         window recv 65535 owed 0 send 65535\n\
+         peer table 4096 push 1 streams - window 65535 frame 16384 list - signal 0\n\
+         acked 0 goaway -\n\
+         block -\n\
+         table 0 0 4096\n\
+         stream 1 open recv 65535 owed 0 send 65535 got 4 of - left -\n",
+    ),
+    (
+        "credit of 4 octets at the end of a stream",
+        &["play", "--credit", "4"],
+        "000003010400000001828684 00000400010000000161626364",
+        "00000408000000000000000004 0000010105000000018d",
+        "phase running last 1\n\
+         window recv 65535 owed 0 send 65535\n\
+         peer table 4096 push 1 streams - window 65535 frame 16384 list - signal 0\n\
+         acked 0 goaway -\n\
+         block -\n\
+         table 0 0 4096\n\
+         stream 1 ended\n",
+    ),
+    (
+        "settings take a stream's window too far",
+        &["play"],
+        "000003010400000001828684 00000408000000000100000001 00000604000000000000047fffffff",
+        "0000080700000000000000000100000003",
+        "phase ended 3 last 1\n\
+         window recv 65535 owed 0 send 65535\n\
+         peer table 4096 push 1 streams - window 65535 frame 16384 list - signal 0\n\
+         acked 0 goaway -\n\
+         block -\n\
+         table 0 0 4096\n\
+         stream 1 open recv 65535 owed 0 send 65536 got 0 of - left -\n",
+    ),
+];
 
 #[test]
 fn data_is_counted(rt: HostRuntime) -> Result<(), Fail> {
-    let cases: [Exchange; 8] = [
-        (
-            "DATA for a stream that was reset is counted",
-            &["play", "GET|/|200|6869"],
-            "000006040000000000000400000000 000014010500000001828684410f7777772e6578616d706c652e636f6d 000003000000000001616263 000003000000000001616263",
-            "000000040100000000 00000101040000000188 00000403000000000100000005",
-            "phase running last 1\n\
-             window recv 65529 owed 6 send 65535\n\
-             peer table 4096 push 1 streams - window 0 frame 16384 list - signal 0\n\
-             acked 0 goaway -\n\
-             block -\n\
-             table 1 57 4096\n\
-             entry 62 3a617574686f72697479 7777772e6578616d706c652e636f6d\n\
-             stream 1 we-reset\n",
-        ),
-        (
-            "padding counts",
-            &["play"],
-            "000003010400000001828684 000003000800000001020000",
-            "",
-            "phase running last 1\n\
-             window recv 65532 owed 3 send 65535\n\
-             peer table 4096 push 1 streams - window 65535 frame 16384 list - signal 0\n\
-             acked 0 goaway -\n\
-             block -\n\
-             table 0 0 4096\n\
-             stream 1 open recv 65532 owed 3 send 65535 got 0 of - left -\n",
-        ),
-        (
-            "too much padding",
-            &["play"],
-            "000003010400000001828684 000003000800000001030000",
-            "0000080700000000000000000100000001",
-            "phase ended 1 last 1\n\
-             window recv 65535 owed 0 send 65535\n\
-             peer table 4096 push 1 streams - window 65535 frame 16384 list - signal 0\n\
-             acked 0 goaway -\n\
-             block -\n\
-             table 0 0 4096\n\
-             stream 1 open recv 65535 owed 0 send 65535 got 0 of - left -\n",
-        ),
-        (
-            "DATA without its Pad Length",
-            &["play"],
-            "000000000800000001",
-            "0000080700000000000000000000000006",
-            "phase ended 6 last 0\n\
-             window recv 65535 owed 0 send 65535\n\
-             peer table 4096 push 1 streams - window 65535 frame 16384 list - signal 0\n\
-             acked 0 goaway -\n\
-             block -\n\
-             table 0 0 4096\n",
-        ),
-        (
-            "more content than declared",
-            &["play"],
-            "0000070104000000018386840f0d0133 00000400010000000161626364",
-            "00000403000000000100000001",
-            "phase running last 1\n\
-             window recv 65531 owed 4 send 65535\n\
-             peer table 4096 push 1 streams - window 65535 frame 16384 list - signal 0\n\
-             acked 0 goaway -\n\
-             block -\n\
-             table 0 0 4096\n\
-             stream 1 we-reset\n",
-        ),
-        (
-            "credit of 4 octets",
-            &["play", "--credit", "4"],
-            "000003010400000001828684 00000400000000000161626364",
-            "00000408000000000000000004 00000408000000000100000004",
-            "phase running last 1\n\
-             window recv 65535 owed 0 send 65535\n\
-             peer table 4096 push 1 streams - window 65535 frame 16384 list - signal 0\n\
-             acked 0 goaway -\n\
-             block -\n\
-             table 0 0 4096\n\
-             stream 1 open recv 65535 owed 0 send 65535 got 4 of - left -\n",
-        ),
-        (
-            "credit of 4 octets at the end of a stream",
-            &["play", "--credit", "4"],
-            "000003010400000001828684 00000400010000000161626364",
-            "00000408000000000000000004 0000010105000000018d",
-            "phase running last 1\n\
-             window recv 65535 owed 0 send 65535\n\
-             peer table 4096 push 1 streams - window 65535 frame 16384 list - signal 0\n\
-             acked 0 goaway -\n\
-             block -\n\
-             table 0 0 4096\n\
-             stream 1 ended\n",
-        ),
-        (
-            "settings take a stream's window too far",
-            &["play"],
-            "000003010400000001828684 00000408000000000100000001 00000604000000000000047fffffff",
-            "0000080700000000000000000100000003",
-            "phase ended 3 last 1\n\
-             window recv 65535 owed 0 send 65535\n\
-             peer table 4096 push 1 streams - window 65535 frame 16384 list - signal 0\n\
-             acked 0 goaway -\n\
-             block -\n\
-             table 0 0 4096\n\
-             stream 1 open recv 65535 owed 0 send 65536 got 0 of - left -\n",
-        ),
-    ];
-    compare_exchanges(&rt, rt.alloc(), cases.as_slice())
+    compare_exchanges(&rt, rt.alloc(), &COUNTED)
 }

@@ -148,38 +148,38 @@ static SPELLINGS: [Spelling; 9] = [
     },
 ];
 
-/// What octets mean, with an octet behind them, and how many of them that takes.
-fn meaning(alloc: Global, digits: &str) -> Result<(String, usize), Fail> {
-    let mut octets = octets_of(alloc, digits)?;
-    octets.push(130)?;
-    let (instr, used) = read_whole(alloc, octets.as_slice())?;
-    Ok((told(alloc, &instr)?, used))
-}
-
-/// What the instruction that octets spell is written as, behind an octet 3f.
-fn written(alloc: Global, digits: &str) -> Result<String, Fail> {
-    let octets = octets_of(alloc, digits)?;
-    let (instr, _) = read_whole(alloc, octets.as_slice())?;
+/// What an instruction is written as, behind an octet 3f.
+fn written(alloc: Global, instr: &Instr<Global>) -> Result<String, Fail> {
     let mut out = Vec::from_slice(alloc, b"?")?;
-    if write(&instr, &mut out)? {
+    if write(instr, &mut out)? {
         Ok(hex::encode(alloc, out.as_slice())?)
     } else {
         Err(Fail::from("the instruction can be written"))
     }
 }
 
+/// What an instruction means, and what it is written as.
+fn told_and_written(alloc: Global, instr: &Instr<Global>) -> Result<(String, String), Fail> {
+    Ok((told(alloc, instr)?, written(alloc, instr)?))
+}
+
+/// What octets mean, with an octet behind them, how many of them that takes, and what the instruction is written as.
+fn meaning(alloc: Global, digits: &str) -> Result<(String, usize, String), Fail> {
+    let mut octets = octets_of(alloc, digits)?;
+    octets.push(130)?;
+    let (instr, used) = read_whole(alloc, octets.as_slice())?;
+    let (told, written) = told_and_written(alloc, &instr)?;
+    Ok((told, used, written))
+}
+
 #[test]
 fn instructions_are_read_and_written(rt: HostRuntime) -> Result<(), Fail> {
     for case in &SPELLINGS {
-        let (found, used) = meaning(rt.alloc(), case.octets)?;
-        assert_eq!(rt; found.as_str(), case.meaning);
-        assert_eq!(rt; used, case.octets.len() / 2, "{}", case.meaning);
-        let shortest = written(rt.alloc(), case.octets)?;
+        let (found, used, written) = meaning(rt.alloc(), case.octets)?;
+        let shortest = written.as_str().strip_prefix("3f");
         assert_eq!(rt;
-            shortest.as_str().strip_prefix("3f"),
-            Some(case.shortest),
-            "{}",
-            case.meaning
+            (found.as_str(), used, shortest),
+            (case.meaning, case.octets.len() / 2, Some(case.shortest))
         );
     }
     Ok(())

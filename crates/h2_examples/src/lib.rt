@@ -25,7 +25,13 @@ mod fields;
 #[cfg(test)]
 mod flow;
 #[cfg(test)]
+mod frames;
+#[cfg(test)]
+mod header_tables;
+#[cfg(test)]
 mod instructions;
+#[cfg(test)]
+mod integers;
 #[cfg(test)]
 mod items;
 #[cfg(test)]
@@ -33,16 +39,26 @@ mod opening;
 #[cfg(test)]
 mod order;
 #[cfg(test)]
+mod payloads;
+#[cfg(test)]
 mod program;
+#[cfg(test)]
+mod records;
 #[cfg(test)]
 mod request_checks;
 #[cfg(test)]
 mod requests;
 #[cfg(test)]
+mod rules;
+#[cfg(test)]
 mod script_calls;
 #[cfg(test)]
 mod scripts;
 #[cfg(test)]
+mod strings;
+#[cfg(test)]
 mod tables;
+#[cfg(test)]
+mod windows;
 #[cfg(test)]
 mod words;

@@ -1,8 +1,6 @@
 //! The preface, the first frames, and heads of frames (RFC 9113, 3.4 and 4).
 
-use crate::program::{
-    Exchange, PREFACE, Run, SETTINGS, compare_exchanges, compare_runs, joined, printed, ran, repeat,
-};
+use crate::program::{Exchange, Run, compare_exchange, compare_exchanges, compare_runs, filled};
 use std::test::Fail;
 
 /// The text of the state where settings were exchanged, and nothing else came.
@@ -13,263 +11,266 @@ const RUNNING: &str = "phase running last 0\n\
     block -\n\
     table 0 0 4096\n";
 
+/// Openings.
+static OPENED: [Run; 6] = [
+    (
+        "no octets",
+        &["play"],
+        "",
+        "sent 00000c040000000000000300000064000600010000\n\
+         phase preface last 0\n\
+         window recv 65535 owed 0 send 65535\n\
+         peer table 4096 push 1 streams - window 65535 frame 16384 list - signal 0\n\
+         acked 0 goaway -\n\
+         block -\n\
+         table 0 0 4096\n",
+        0,
+    ),
+    (
+        "preface and SETTINGS",
+        &["play"],
+        "505249202a20485454502f322e300d0a0d0a534d0d0a0d0a 000000040000000000",
+        "sent 00000c040000000000000300000064000600010000000000040100000000\n\
+         phase running last 0\n\
+         window recv 65535 owed 0 send 65535\n\
+         peer table 4096 push 1 streams - window 65535 frame 16384 list - signal 0\n\
+         acked 0 goaway -\n\
+         block -\n\
+         table 0 0 4096\n",
+        0,
+    ),
+    (
+        "preface and SETTINGS, octet by octet",
+        &["play", "--cut", "1"],
+        "505249202a20485454502f322e300d0a0d0a534d0d0a0d0a 000000040000000000",
+        "sent 00000c040000000000000300000064000600010000000000040100000000\n\
+         phase running last 0\n\
+         window recv 65535 owed 0 send 65535\n\
+         peer table 4096 push 1 streams - window 65535 frame 16384 list - signal 0\n\
+         acked 0 goaway -\n\
+         block -\n\
+         table 0 0 4096\n",
+        0,
+    ),
+    (
+        "acknowledgement of the settings",
+        &["play"],
+        "505249202a20485454502f322e300d0a0d0a534d0d0a0d0a 000000040000000000 000000040100000000",
+        "sent 00000c040000000000000300000064000600010000000000040100000000\n\
+         phase running last 0\n\
+         window recv 65535 owed 0 send 65535\n\
+         peer table 4096 push 1 streams - window 65535 frame 16384 list - signal 0\n\
+         acked 1 goaway -\n\
+         block -\n\
+         table 0 0 4096\n",
+        0,
+    ),
+    (
+        "the same over lines",
+        &["play"],
+        "50 5249202a20485454502f322e300d0a0d0a534d0d0a0d0a\r\n000000040000000000\n\t000000040100000000\n",
+        "sent 00000c040000000000000300000064000600010000000000040100000000\n\
+         phase running last 0\n\
+         window recv 65535 owed 0 send 65535\n\
+         peer table 4096 push 1 streams - window 65535 frame 16384 list - signal 0\n\
+         acked 1 goaway -\n\
+         block -\n\
+         table 0 0 4096\n",
+        0,
+    ),
+    (
+        "PING",
+        &["play"],
+        "505249202a20485454502f322e300d0a0d0a534d0d0a0d0a 000000040000000000 0000080600000000000102030405060708",
+        "sent 00000c0400000000000003000000640006000100000000000401000000000000080601000000000102030405060708\n\
+         phase running last 0\n\
+         window recv 65535 owed 0 send 65535\n\
+         peer table 4096 push 1 streams - window 65535 frame 16384 list - signal 0\n\
+         acked 0 goaway -\n\
+         block -\n\
+         table 0 0 4096\n",
+        0,
+    ),
+];
+
 #[test]
 fn connections_are_opened(rt: HostRuntime) -> Result<(), Fail> {
-    let cases: [Run; 6] = [
-        (
-            "no octets",
-            &["play"],
-            "",
-            "sent 00000c040000000000000300000064000600010000\n\
-             phase preface last 0\n\
-             window recv 65535 owed 0 send 65535\n\
-             peer table 4096 push 1 streams - window 65535 frame 16384 list - signal 0\n\
-             acked 0 goaway -\n\
-             block -\n\
-             table 0 0 4096\n",
-            0,
-        ),
-        (
-            "preface and SETTINGS",
-            &["play"],
-            "505249202a20485454502f322e300d0a0d0a534d0d0a0d0a 000000040000000000",
-            "sent 00000c040000000000000300000064000600010000000000040100000000\n\
-             phase running last 0\n\
-             window recv 65535 owed 0 send 65535\n\
-             peer table 4096 push 1 streams - window 65535 frame 16384 list - signal 0\n\
-             acked 0 goaway -\n\
-             block -\n\
-             table 0 0 4096\n",
-            0,
-        ),
-        (
-            "preface and SETTINGS, octet by octet",
-            &["play", "--cut", "1"],
-            "505249202a20485454502f322e300d0a0d0a534d0d0a0d0a 000000040000000000",
-            "sent 00000c040000000000000300000064000600010000000000040100000000\n\
-             phase running last 0\n\
-             window recv 65535 owed 0 send 65535\n\
-             peer table 4096 push 1 streams - window 65535 frame 16384 list - signal 0\n\
-             acked 0 goaway -\n\
-             block -\n\
-             table 0 0 4096\n",
-            0,
-        ),
-        (
-            "acknowledgement of the settings",
-            &["play"],
-            "505249202a20485454502f322e300d0a0d0a534d0d0a0d0a 000000040000000000 000000040100000000",
-            "sent 00000c040000000000000300000064000600010000000000040100000000\n\
-             phase running last 0\n\
-             window recv 65535 owed 0 send 65535\n\
-             peer table 4096 push 1 streams - window 65535 frame 16384 list - signal 0\n\
-             acked 1 goaway -\n\
-             block -\n\
-             table 0 0 4096\n",
-            0,
-        ),
-        (
-            "the same over lines",
-            &["play"],
-            "50 5249202a20485454502f322e300d0a0d0a534d0d0a0d0a\r\n000000040000000000\n\t000000040100000000\n",
-            "sent 00000c040000000000000300000064000600010000000000040100000000\n\
-             phase running last 0\n\
-             window recv 65535 owed 0 send 65535\n\
-             peer table 4096 push 1 streams - window 65535 frame 16384 list - signal 0\n\
-             acked 1 goaway -\n\
-             block -\n\
-             table 0 0 4096\n",
-            0,
-        ),
-        (
-            "PING",
-            &["play"],
-            "505249202a20485454502f322e300d0a0d0a534d0d0a0d0a 000000040000000000 0000080600000000000102030405060708",
-            "sent 00000c0400000000000003000000640006000100000000000401000000000000080601000000000102030405060708\n\
-             phase running last 0\n\
-             window recv 65535 owed 0 send 65535\n\
-             peer table 4096 push 1 streams - window 65535 frame 16384 list - signal 0\n\
-             acked 0 goaway -\n\
-             block -\n\
-             table 0 0 4096\n",
-            0,
-        ),
-    ];
-    compare_runs(&rt, rt.alloc(), cases.as_slice())
+    compare_runs(&rt, rt.alloc(), &OPENED)
 }
+
+/// Openings that end the connection, and one that is not whole.
+static BAD_OPENINGS: [Run; 7] = [
+    (
+        "preface without its last octet",
+        &["play"],
+        "505249202a20485454502f322e300d0a0d0a534d0d0a0d",
+        "sent 00000c040000000000000300000064000600010000\n\
+         phase preface last 0\n\
+         window recv 65535 owed 0 send 65535\n\
+         peer table 4096 push 1 streams - window 65535 frame 16384 list - signal 0\n\
+         acked 0 goaway -\n\
+         block -\n\
+         table 0 0 4096\n",
+        0,
+    ),
+    (
+        "preface whose last octet differs",
+        &["play"],
+        "505249202a20485454502f322e300d0a0d0a534d0d0a0d0b",
+        "sent 00000c0400000000000003000000640006000100000000080700000000000000000000000001\n\
+         phase ended 1 last 0\n\
+         window recv 65535 owed 0 send 65535\n\
+         peer table 4096 push 1 streams - window 65535 frame 16384 list - signal 0\n\
+         acked 0 goaway -\n\
+         block -\n\
+         table 0 0 4096\n",
+        0,
+    ),
+    (
+        "more octets behind it",
+        &["play"],
+        "505249202a20485454502f322e300d0a0d0a534d0d0a0d0b 000000040000000000 0000080600000000000102030405060708",
+        "sent 00000c0400000000000003000000640006000100000000080700000000000000000000000001\n\
+         phase ended 1 last 0\n\
+         window recv 65535 owed 0 send 65535\n\
+         peer table 4096 push 1 streams - window 65535 frame 16384 list - signal 0\n\
+         acked 0 goaway -\n\
+         block -\n\
+         table 0 0 4096\n",
+        0,
+    ),
+    (
+        "the same, octet by octet",
+        &["play", "--cut", "1"],
+        "505249202a20485454502f322e300d0a0d0a534d0d0a0d0b 000000040000000000 0000080600000000000102030405060708",
+        "sent 00000c0400000000000003000000640006000100000000080700000000000000000000000001\n\
+         phase ended 1 last 0\n\
+         window recv 65535 owed 0 send 65535\n\
+         peer table 4096 push 1 streams - window 65535 frame 16384 list - signal 0\n\
+         acked 0 goaway -\n\
+         block -\n\
+         table 0 0 4096\n",
+        0,
+    ),
+    (
+        "one octet that is no preface",
+        &["play"],
+        "47",
+        "sent 00000c0400000000000003000000640006000100000000080700000000000000000000000001\n\
+         phase ended 1 last 0\n\
+         window recv 65535 owed 0 send 65535\n\
+         peer table 4096 push 1 streams - window 65535 frame 16384 list - signal 0\n\
+         acked 0 goaway -\n\
+         block -\n\
+         table 0 0 4096\n",
+        0,
+    ),
+    (
+        "first frame SETTINGS on stream 1",
+        &["play"],
+        "505249202a20485454502f322e300d0a0d0a534d0d0a0d0a 000000040000000001",
+        "sent 00000c0400000000000003000000640006000100000000080700000000000000000000000001\n\
+         phase ended 1 last 0\n\
+         window recv 65535 owed 0 send 65535\n\
+         peer table 4096 push 1 streams - window 65535 frame 16384 list - signal 0\n\
+         acked 0 goaway -\n\
+         block -\n\
+         table 0 0 4096\n",
+        0,
+    ),
+    (
+        "first frame PING",
+        &["play"],
+        "505249202a20485454502f322e300d0a0d0a534d0d0a0d0a 0000080600000000000102030405060708",
+        "sent 00000c0400000000000003000000640006000100000000080700000000000000000000000001\n\
+         phase ended 1 last 0\n\
+         window recv 65535 owed 0 send 65535\n\
+         peer table 4096 push 1 streams - window 65535 frame 16384 list - signal 0\n\
+         acked 0 goaway -\n\
+         block -\n\
+         table 0 0 4096\n",
+        0,
+    ),
+];
 
 #[test]
 fn bad_openings_end_the_connection(rt: HostRuntime) -> Result<(), Fail> {
-    let cases: [Run; 7] = [
-        (
-            "preface without its last octet",
-            &["play"],
-            "505249202a20485454502f322e300d0a0d0a534d0d0a0d",
-            "sent 00000c040000000000000300000064000600010000\n\
-             phase preface last 0\n\
-             window recv 65535 owed 0 send 65535\n\
-             peer table 4096 push 1 streams - window 65535 frame 16384 list - signal 0\n\
-             acked 0 goaway -\n\
-             block -\n\
-             table 0 0 4096\n",
-            0,
-        ),
-        (
-            "preface whose last octet differs",
-            &["play"],
-            "505249202a20485454502f322e300d0a0d0a534d0d0a0d0b",
-            "sent 00000c0400000000000003000000640006000100000000080700000000000000000000000001\n\
-             phase ended 1 last 0\n\
-             window recv 65535 owed 0 send 65535\n\
-             peer table 4096 push 1 streams - window 65535 frame 16384 list - signal 0\n\
-             acked 0 goaway -\n\
-             block -\n\
-             table 0 0 4096\n",
-            0,
-        ),
-        (
-            "more octets behind it",
-            &["play"],
-            "505249202a20485454502f322e300d0a0d0a534d0d0a0d0b 000000040000000000 0000080600000000000102030405060708",
-            "sent 00000c0400000000000003000000640006000100000000080700000000000000000000000001\n\
-             phase ended 1 last 0\n\
-             window recv 65535 owed 0 send 65535\n\
-             peer table 4096 push 1 streams - window 65535 frame 16384 list - signal 0\n\
-             acked 0 goaway -\n\
-             block -\n\
-             table 0 0 4096\n",
-            0,
-        ),
-        (
-            "the same, octet by octet",
-            &["play", "--cut", "1"],
-            "505249202a20485454502f322e300d0a0d0a534d0d0a0d0b 000000040000000000 0000080600000000000102030405060708",
-            "sent 00000c0400000000000003000000640006000100000000080700000000000000000000000001\n\
-             phase ended 1 last 0\n\
-             window recv 65535 owed 0 send 65535\n\
-             peer table 4096 push 1 streams - window 65535 frame 16384 list - signal 0\n\
-             acked 0 goaway -\n\
-             block -\n\
-             table 0 0 4096\n",
-            0,
-        ),
-        (
-            "one octet that is no preface",
-            &["play"],
-            "47",
-            "sent 00000c0400000000000003000000640006000100000000080700000000000000000000000001\n\
-             phase ended 1 last 0\n\
-             window recv 65535 owed 0 send 65535\n\
-             peer table 4096 push 1 streams - window 65535 frame 16384 list - signal 0\n\
-             acked 0 goaway -\n\
-             block -\n\
-             table 0 0 4096\n",
-            0,
-        ),
-        (
-            "first frame SETTINGS on stream 1",
-            &["play"],
-            "505249202a20485454502f322e300d0a0d0a534d0d0a0d0a 000000040000000001",
-            "sent 00000c0400000000000003000000640006000100000000080700000000000000000000000001\n\
-             phase ended 1 last 0\n\
-             window recv 65535 owed 0 send 65535\n\
-             peer table 4096 push 1 streams - window 65535 frame 16384 list - signal 0\n\
-             acked 0 goaway -\n\
-             block -\n\
-             table 0 0 4096\n",
-            0,
-        ),
-        (
-            "first frame PING",
-            &["play"],
-            "505249202a20485454502f322e300d0a0d0a534d0d0a0d0a 0000080600000000000102030405060708",
-            "sent 00000c0400000000000003000000640006000100000000080700000000000000000000000001\n\
-             phase ended 1 last 0\n\
-             window recv 65535 owed 0 send 65535\n\
-             peer table 4096 push 1 streams - window 65535 frame 16384 list - signal 0\n\
-             acked 0 goaway -\n\
-             block -\n\
-             table 0 0 4096\n",
-            0,
-        ),
-    ];
-    compare_runs(&rt, rt.alloc(), cases.as_slice())
+    compare_runs(&rt, rt.alloc(), &BAD_OPENINGS)
 }
+
+/// Heads of frames.
+static HEADS: [Exchange; 5] = [
+    (
+        "head above the largest frame",
+        &["play"],
+        "004001000000000001",
+        "0000080700000000000000000000000006",
+        "phase ended 6 last 0\n\
+         window recv 65535 owed 0 send 65535\n\
+         peer table 4096 push 1 streams - window 65535 frame 16384 list - signal 0\n\
+         acked 0 goaway -\n\
+         block -\n\
+         table 0 0 4096\n",
+    ),
+    (
+        "PING of 7 octets",
+        &["play"],
+        "00000706000000000001020304050607",
+        "0000080700000000000000000000000006",
+        "phase ended 6 last 0\n\
+         window recv 65535 owed 0 send 65535\n\
+         peer table 4096 push 1 streams - window 65535 frame 16384 list - signal 0\n\
+         acked 0 goaway -\n\
+         block -\n\
+         table 0 0 4096\n",
+    ),
+    (
+        "PING on stream 1",
+        &["play"],
+        "0000080600000000010102030405060708",
+        "0000080700000000000000000000000001",
+        "phase ended 1 last 0\n\
+         window recv 65535 owed 0 send 65535\n\
+         peer table 4096 push 1 streams - window 65535 frame 16384 list - signal 0\n\
+         acked 0 goaway -\n\
+         block -\n\
+         table 0 0 4096\n",
+    ),
+    (
+        "unknown type",
+        &["play"],
+        "0000010a000000000000",
+        "",
+        "phase running last 0\n\
+         window recv 65535 owed 0 send 65535\n\
+         peer table 4096 push 1 streams - window 65535 frame 16384 list - signal 0\n\
+         acked 0 goaway -\n\
+         block -\n\
+         table 0 0 4096\n",
+    ),
+    (
+        "cut off in a frame",
+        &["play"],
+        "00000806000000",
+        "",
+        "phase running last 0\n\
+         window recv 65535 owed 0 send 65535\n\
+         peer table 4096 push 1 streams - window 65535 frame 16384 list - signal 0\n\
+         acked 0 goaway -\n\
+         block -\n\
+         table 0 0 4096\n",
+    ),
+];
 
 #[test]
 fn heads_are_checked(rt: HostRuntime) -> Result<(), Fail> {
-    let cases: [Exchange; 5] = [
-        (
-            "head above the largest frame",
-            &["play"],
-            "004001000000000001",
-            "0000080700000000000000000000000006",
-            "phase ended 6 last 0\n\
-             window recv 65535 owed 0 send 65535\n\
-             peer table 4096 push 1 streams - window 65535 frame 16384 list - signal 0\n\
-             acked 0 goaway -\n\
-             block -\n\
-             table 0 0 4096\n",
-        ),
-        (
-            "PING of 7 octets",
-            &["play"],
-            "00000706000000000001020304050607",
-            "0000080700000000000000000000000006",
-            "phase ended 6 last 0\n\
-             window recv 65535 owed 0 send 65535\n\
-             peer table 4096 push 1 streams - window 65535 frame 16384 list - signal 0\n\
-             acked 0 goaway -\n\
-             block -\n\
-             table 0 0 4096\n",
-        ),
-        (
-            "PING on stream 1",
-            &["play"],
-            "0000080600000000010102030405060708",
-            "0000080700000000000000000000000001",
-            "phase ended 1 last 0\n\
-             window recv 65535 owed 0 send 65535\n\
-             peer table 4096 push 1 streams - window 65535 frame 16384 list - signal 0\n\
-             acked 0 goaway -\n\
-             block -\n\
-             table 0 0 4096\n",
-        ),
-        (
-            "unknown type",
-            &["play"],
-            "0000010a000000000000",
-            "",
-            "phase running last 0\n\
-             window recv 65535 owed 0 send 65535\n\
-             peer table 4096 push 1 streams - window 65535 frame 16384 list - signal 0\n\
-             acked 0 goaway -\n\
-             block -\n\
-             table 0 0 4096\n",
-        ),
-        (
-            "cut off in a frame",
-            &["play"],
-            "00000806000000",
-            "",
-            "phase running last 0\n\
-             window recv 65535 owed 0 send 65535\n\
-             peer table 4096 push 1 streams - window 65535 frame 16384 list - signal 0\n\
-             acked 0 goaway -\n\
-             block -\n\
-             table 0 0 4096\n",
-        ),
-    ];
-    compare_exchanges(&rt, rt.alloc(), cases.as_slice())
+    compare_exchanges(&rt, rt.alloc(), &HEADS)
 }
 
 #[test]
 fn unknown_types_of_the_greatest_length_are_ignored(rt: HostRuntime) -> Result<(), Fail> {
-    let mut input = joined(rt.alloc(), &[PREFACE, SETTINGS, "0040000a0000000001"])?;
-    repeat(&mut input, "ff", 16384)?;
-    let (status, text) = ran(rt.alloc(), &["play"], input.as_slice())?;
-    let want = printed(rt.alloc(), "", RUNNING)?;
-    assert_eq!(rt; text.as_slice(), want.as_slice());
-    assert_eq!(rt; status, 0);
-    Ok(())
+    let frames = filled(rt.alloc(), "ff", &[("0040000a0000000001", 16384)])?;
+    let name = "the greatest length";
+    let frames = frames.as_slice();
+    compare_exchange(&rt, rt.alloc(), name, &["play"], frames, b"", RUNNING)
 }

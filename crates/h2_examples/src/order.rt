@@ -3,83 +3,87 @@
 use crate::program::{Exchange, Run, compare_exchanges, compare_runs};
 use std::test::Fail;
 
+/// Streams below, beside and above others.
+static IN_ORDER: [Exchange; 4] = [
+    (
+        "HEADERS below the last stream",
+        &["play"],
+        "000003010400000005828684 000003010400000003828684",
+        "0000080700000000000000000500000001",
+        "phase ended 1 last 5\n\
+         window recv 65535 owed 0 send 65535\n\
+         peer table 4096 push 1 streams - window 65535 frame 16384 list - signal 0\n\
+         acked 0 goaway -\n\
+         block -\n\
+         table 0 0 4096\n\
+         stream 5 open recv 65535 owed 0 send 65535 got 0 of - left -\n",
+    ),
+    (
+        "DATA on a skipped stream",
+        &["play"],
+        "000003010400000005828684 00000100000000000361",
+        "0000080700000000000000000500000005",
+        "phase ended 5 last 5\n\
+         window recv 65535 owed 0 send 65535\n\
+         peer table 4096 push 1 streams - window 65535 frame 16384 list - signal 0\n\
+         acked 0 goaway -\n\
+         block -\n\
+         table 0 0 4096\n\
+         stream 5 open recv 65535 owed 0 send 65535 got 0 of - left -\n",
+    ),
+    (
+        "PRIORITY on a skipped stream",
+        &["play"],
+        "000003010400000005828684 0000050200000000030000000000",
+        "",
+        "phase running last 5\n\
+         window recv 65535 owed 0 send 65535\n\
+         peer table 4096 push 1 streams - window 65535 frame 16384 list - signal 0\n\
+         acked 0 goaway -\n\
+         block -\n\
+         table 0 0 4096\n\
+         stream 5 open recv 65535 owed 0 send 65535 got 0 of - left -\n",
+    ),
+    (
+        "HEADERS on an even stream",
+        &["play"],
+        "000003010400000005828684 000003010400000002828684",
+        "0000080700000000000000000500000001",
+        "phase ended 1 last 5\n\
+         window recv 65535 owed 0 send 65535\n\
+         peer table 4096 push 1 streams - window 65535 frame 16384 list - signal 0\n\
+         acked 0 goaway -\n\
+         block -\n\
+         table 0 0 4096\n\
+         stream 5 open recv 65535 owed 0 send 65535 got 0 of - left -\n",
+    ),
+];
+
 #[test]
 fn streams_are_opened_in_order(rt: HostRuntime) -> Result<(), Fail> {
-    let cases: [Exchange; 4] = [
-        (
-            "HEADERS below the last stream",
-            &["play"],
-            "000003010400000005828684 000003010400000003828684",
-            "0000080700000000000000000500000001",
-            "phase ended 1 last 5\n\
-             window recv 65535 owed 0 send 65535\n\
-             peer table 4096 push 1 streams - window 65535 frame 16384 list - signal 0\n\
-             acked 0 goaway -\n\
-             block -\n\
-             table 0 0 4096\n\
-             stream 5 open recv 65535 owed 0 send 65535 got 0 of - left -\n",
-        ),
-        (
-            "DATA on a skipped stream",
-            &["play"],
-            "000003010400000005828684 00000100000000000361",
-            "0000080700000000000000000500000005",
-            "phase ended 5 last 5\n\
-             window recv 65535 owed 0 send 65535\n\
-             peer table 4096 push 1 streams - window 65535 frame 16384 list - signal 0\n\
-             acked 0 goaway -\n\
-             block -\n\
-             table 0 0 4096\n\
-             stream 5 open recv 65535 owed 0 send 65535 got 0 of - left -\n",
-        ),
-        (
-            "PRIORITY on a skipped stream",
-            &["play"],
-            "000003010400000005828684 0000050200000000030000000000",
-            "",
-            "phase running last 5\n\
-             window recv 65535 owed 0 send 65535\n\
-             peer table 4096 push 1 streams - window 65535 frame 16384 list - signal 0\n\
-             acked 0 goaway -\n\
-             block -\n\
-             table 0 0 4096\n\
-             stream 5 open recv 65535 owed 0 send 65535 got 0 of - left -\n",
-        ),
-        (
-            "HEADERS on an even stream",
-            &["play"],
-            "000003010400000005828684 000003010400000002828684",
-            "0000080700000000000000000500000001",
-            "phase ended 1 last 5\n\
-             window recv 65535 owed 0 send 65535\n\
-             peer table 4096 push 1 streams - window 65535 frame 16384 list - signal 0\n\
-             acked 0 goaway -\n\
-             block -\n\
-             table 0 0 4096\n\
-             stream 5 open recv 65535 owed 0 send 65535 got 0 of - left -\n",
-        ),
-    ];
-    compare_exchanges(&rt, rt.alloc(), cases.as_slice())
+    compare_exchanges(&rt, rt.alloc(), &IN_ORDER)
 }
+
+/// More streams than are allowed.
+static ABOVE_THE_LIMIT: [Run; 1] = [(
+    "one stream at a time",
+    &["play", "--streams", "1"],
+    "505249202a20485454502f322e300d0a0d0a534d0d0a0d0a 000000040000000000 000003010400000001828684 0000080105000000038286844001610162 000000000100000001 000004010500000005828684be",
+    "sent 00000c040000000000000300000001000600010000000000040100000000000004030000000003000000070000010105000000018d0000010105000000058d\n\
+         phase running last 5\n\
+         window recv 65535 owed 0 send 65535\n\
+         peer table 4096 push 1 streams - window 65535 frame 16384 list - signal 0\n\
+         acked 0 goaway -\n\
+         block -\n\
+         table 1 34 4096\n\
+         entry 62 61 62\n\
+         stream 1 ended\n\
+         stream 3 we-reset\n\
+         stream 5 ended\n",
+    0,
+)];
 
 #[test]
 fn streams_above_the_limit_are_refused(rt: HostRuntime) -> Result<(), Fail> {
-    let cases: [Run; 1] = [(
-        "one stream at a time",
-        &["play", "--streams", "1"],
-        "505249202a20485454502f322e300d0a0d0a534d0d0a0d0a 000000040000000000 000003010400000001828684 0000080105000000038286844001610162 000000000100000001 000004010500000005828684be",
-        "sent 00000c040000000000000300000001000600010000000000040100000000000004030000000003000000070000010105000000018d0000010105000000058d\n\
-             phase running last 5\n\
-             window recv 65535 owed 0 send 65535\n\
-             peer table 4096 push 1 streams - window 65535 frame 16384 list - signal 0\n\
-             acked 0 goaway -\n\
-             block -\n\
-             table 1 34 4096\n\
-             entry 62 61 62\n\
-             stream 1 ended\n\
-             stream 3 we-reset\n\
-             stream 5 ended\n",
-        0,
-    )];
-    compare_runs(&rt, rt.alloc(), cases.as_slice())
+    compare_runs(&rt, rt.alloc(), &ABOVE_THE_LIMIT)
 }

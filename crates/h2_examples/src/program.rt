@@ -37,77 +37,139 @@ pub(crate) type Exchange = (
     &'static str,
 );
 
-/// What a run of the program prints, and its exit status.
-pub(crate) fn ran(alloc: Global, texts: &[&str], input: &[u8]) -> Result<(u8, Vec<u8>), Fail> {
+/// A text, and behind it another one so many times.
+pub(crate) type Piece = (&'static str, u32);
+
+/// These words, the program's name first.
+pub(crate) fn words_of(alloc: Global, texts: &[&str]) -> Result<Words, AllocError> {
     let mut words = Words::new(alloc);
     words.add("h2_bench")?;
     for text in texts {
         words.add(text)?;
     }
+    Ok(words)
+}
+
+/// The exit status of a run of the program, and what it prints.
+pub(crate) fn ran(alloc: Global, texts: &[&str], input: &[u8]) -> Result<(u8, Vec<u8>), Fail> {
+    let words = words_of(alloc, texts)?;
     let mut reader = input;
     let mut text = Vec::new(alloc);
     let status = run(alloc, &words, &mut reader, &mut text);
     Ok((status, text))
 }
 
-/// Texts one behind another.
-pub(crate) fn joined(alloc: Global, texts: &[&str]) -> Result<Vec<u8>, AllocError> {
-    let mut all = Vec::new(alloc);
-    for text in texts {
-        all.extend_from_slice(text.as_bytes())?;
-    }
-    Ok(all)
-}
-
 /// Puts a text behind another, so many times.
-pub(crate) fn repeat(all: &mut Vec<u8>, text: &str, count: u32) -> Result<(), AllocError> {
+fn repeat(all: &mut Vec<u8>, text: &str, count: u32) -> Result<(), AllocError> {
     for _ in 0..count {
         all.extend_from_slice(text.as_bytes())?;
     }
     Ok(())
 }
 
+/// Pieces one behind another, with the text that they repeat.
+pub(crate) fn filled(alloc: Global, text: &str, pieces: &[Piece]) -> Result<Vec<u8>, AllocError> {
+    let mut all = Vec::new(alloc);
+    for (front, count) in pieces {
+        all.extend_from_slice(front.as_bytes())?;
+        repeat(&mut all, text, *count)?;
+    }
+    Ok(all)
+}
+
+/// The words of an answer to GET of the root, whose body has so many octets 61.
+pub(crate) fn long_answer(alloc: Global, count: u32) -> Result<String, Fail> {
+    let words = filled(alloc, "61", &[("GET|/|200|", count)])?;
+    Ok(String::from_utf8(words)?)
+}
+
+/// Texts one behind another.
+fn joined(alloc: Global, texts: &[&[u8]]) -> Result<Vec<u8>, AllocError> {
+    let mut all = Vec::new(alloc);
+    for text in texts {
+        all.extend_from_slice(text)?;
+    }
+    Ok(all)
+}
+
 /// A text without its spaces.
-fn closed_up(alloc: Global, text: &str) -> Result<Vec<u8>, AllocError> {
-    text.as_bytes()
-        .iter()
+fn closed_up(alloc: Global, text: &[u8]) -> Result<Vec<u8>, AllocError> {
+    text.iter()
         .copied()
         .filter(|octet| *octet != b' ')
         .collect(alloc)
 }
 
 /// What `play` prints where these frames are sent behind the opening SETTINGS and the acknowledgement, and this state is shown.
-pub(crate) fn printed(alloc: Global, sent: &str, state: &str) -> Result<Vec<u8>, AllocError> {
-    let mut text = joined(alloc, &["sent ", OPENING, ACKNOWLEDGEMENT])?;
+fn printed(alloc: Global, sent: &[u8], state: &str) -> Result<Vec<u8>, AllocError> {
     let sent = closed_up(alloc, sent)?;
-    text.extend_from_slice(sent.as_slice())?;
-    text.push(b'\n')?;
-    text.extend_from_slice(state.as_bytes())?;
-    Ok(text)
+    joined(
+        alloc,
+        &[
+            b"sent ",
+            OPENING.as_bytes(),
+            ACKNOWLEDGEMENT.as_bytes(),
+            sent.as_slice(),
+            b"\n",
+            state.as_bytes(),
+        ],
+    )
+}
+
+/// Runs the program, and compares the exit status and what is printed.
+pub(crate) fn compare(
+    rt: &impl Abort,
+    alloc: Global,
+    name: &str,
+    words: &[&str],
+    input: &[u8],
+    wanted: (u8, &[u8]),
+) -> Result<(), Fail> {
+    let (status, text) = ran(alloc, words, input)?;
+    assert_eq!(rt; (status, text.as_slice()), wanted, "at {name}");
+    Ok(())
 }
 
 /// Runs the program for each case, and compares what is printed and the exit status.
 pub(crate) fn compare_runs(rt: &impl Abort, alloc: Global, cases: &[Run]) -> Result<(), Fail> {
     for (name, words, input, text, status) in cases {
-        let (got_status, got) = ran(alloc, words, input.as_bytes())?;
-        assert_eq!(rt; got.as_slice(), text.as_bytes(), "at {name}");
-        assert_eq!(rt; got_status, *status, "at {name}");
+        let wanted = (*status, text.as_bytes());
+        compare(rt, alloc, name, words, input.as_bytes(), wanted)?;
     }
     Ok(())
 }
 
-/// Runs the program for each exchange, and compares what is printed; the exit status is 0.
+/// Runs the program for frames behind the preface and SETTINGS of no setting, and compares the frames that are sent and the state; the exit status is 0.
+pub(crate) fn compare_exchange(
+    rt: &impl Abort,
+    alloc: Global,
+    name: &str,
+    words: &[&str],
+    frames: &[u8],
+    sent: &[u8],
+    state: &str,
+) -> Result<(), Fail> {
+    let input = joined(alloc, &[PREFACE.as_bytes(), SETTINGS.as_bytes(), frames])?;
+    let text = printed(alloc, sent, state)?;
+    compare(
+        rt,
+        alloc,
+        name,
+        words,
+        input.as_slice(),
+        (0, text.as_slice()),
+    )
+}
+
+/// The same for each exchange.
 pub(crate) fn compare_exchanges(
     rt: &impl Abort,
     alloc: Global,
     cases: &[Exchange],
 ) -> Result<(), Fail> {
     for (name, words, frames, sent, state) in cases {
-        let input = joined(alloc, &[PREFACE, SETTINGS, frames])?;
-        let text = printed(alloc, sent, state)?;
-        let (status, got) = ran(alloc, words, input.as_slice())?;
-        assert_eq!(rt; got.as_slice(), text.as_slice(), "at {name}");
-        assert_eq!(rt; status, 0, "at {name}");
+        let (frames, sent) = (frames.as_bytes(), sent.as_bytes());
+        compare_exchange(rt, alloc, name, words, frames, sent, state)?;
     }
     Ok(())
 }

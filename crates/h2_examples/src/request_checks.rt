@@ -1,20 +1,9 @@
 //! The reasons against requests and trailers: each table is taken from the sections of RFC 9113 that it names.
 
-use h2_fields::field::Field;
+use crate::fields::fields_of;
 use h2_request::well_formed::{check, check_trailers};
 use std::alloc::{AllocError, Global};
 use std::test::Fail;
-
-/// Fields of these names and values.
-fn fields_of(alloc: Global, pairs: &[(&str, &str)]) -> Result<Vec<Field<Global>>, AllocError> {
-    let mut fields = Vec::new(alloc);
-    for (name, value) in pairs {
-        let name = name.as_bytes().to_vec(alloc)?;
-        let value = value.as_bytes().to_vec(alloc)?;
-        fields.push(Field::new(name, value))?;
-    }
-    Ok(fields)
-}
 
 /// The number of the reason against a request of these fields, or 0.
 fn request(alloc: Global, pairs: &[(&str, &str)]) -> Result<u8, AllocError> {

@@ -3,246 +3,252 @@
 use crate::program::{Exchange, compare_exchanges};
 use std::test::Fail;
 
+/// Requests and their answers.
+static ANSWERED: [Exchange; 6] = [
+    (
+        "a whole block",
+        &["play", "GET|/|200|6869"],
+        "000014010500000001828684410f7777772e6578616d706c652e636f6d",
+        "00000101040000000188 0000020001000000016869",
+        "phase running last 1\n\
+         window recv 65535 owed 0 send 65533\n\
+         peer table 4096 push 1 streams - window 65535 frame 16384 list - signal 0\n\
+         acked 0 goaway -\n\
+         block -\n\
+         table 1 57 4096\n\
+         entry 62 3a617574686f72697479 7777772e6578616d706c652e636f6d\n\
+         stream 1 ended\n",
+    ),
+    (
+        "a block in two frames, cut in an instruction, with Huffman",
+        &["play", "GET|/|200|6869"],
+        "000007010100000001828684418cf1e3 00000a090400000001c2e5f23a6ba0ab90f4ff",
+        "00000101040000000188 0000020001000000016869",
+        "phase running last 1\n\
+         window recv 65535 owed 0 send 65533\n\
+         peer table 4096 push 1 streams - window 65535 frame 16384 list - signal 0\n\
+         acked 0 goaway -\n\
+         block -\n\
+         table 1 57 4096\n\
+         entry 62 3a617574686f72697479 7777772e6578616d706c652e636f6d\n\
+         stream 1 ended\n",
+    ),
+    (
+        "PING in a block",
+        &["play", "GET|/|200|6869"],
+        "000007010100000001828684418cf1e3 0000080600000000000102030405060708",
+        "0000080700000000000000000000000001",
+        "phase ended 1 last 0\n\
+         window recv 65535 owed 0 send 65535\n\
+         peer table 4096 push 1 streams - window 65535 frame 16384 list - signal 0\n\
+         acked 0 goaway -\n\
+         block stream 1 octets 7 list 123 ends 1\n\
+         table 0 0 4096\n",
+    ),
+    (
+        "no answer for the path",
+        &["play"],
+        "000003010500000001828684",
+        "0000010105000000018d",
+        "phase running last 1\n\
+         window recv 65535 owed 0 send 65535\n\
+         peer table 4096 push 1 streams - window 65535 frame 16384 list - signal 0\n\
+         acked 0 goaway -\n\
+         block -\n\
+         table 0 0 4096\n\
+         stream 1 ended\n",
+    ),
+    (
+        "the peer's table of size 0",
+        &["play", "GET|/|200|6869"],
+        "000006040000000000000100000000 000014010500000001828684410f7777772e6578616d706c652e636f6d",
+        "000000040100000000 0000020104000000012088 0000020001000000016869",
+        "phase running last 1\n\
+         window recv 65535 owed 0 send 65533\n\
+         peer table 0 push 1 streams - window 65535 frame 16384 list - signal 0\n\
+         acked 0 goaway -\n\
+         block -\n\
+         table 1 57 4096\n\
+         entry 62 3a617574686f72697479 7777772e6578616d706c652e636f6d\n\
+         stream 1 ended\n",
+    ),
+    (
+        "CONNECT",
+        &["play"],
+        "00000c0105000000010207434f4e4e454354010161",
+        "0000050105000000010803353031",
+        "phase running last 1\n\
+         window recv 65535 owed 0 send 65535\n\
+         peer table 4096 push 1 streams - window 65535 frame 16384 list - signal 0\n\
+         acked 0 goaway -\n\
+         block -\n\
+         table 0 0 4096\n\
+         stream 1 ended\n",
+    ),
+];
+
 #[test]
 fn requests_are_answered(rt: HostRuntime) -> Result<(), Fail> {
-    let cases: [Exchange; 6] = [
-        (
-            "a whole block",
-            &["play", "GET|/|200|6869"],
-            "000014010500000001828684410f7777772e6578616d706c652e636f6d",
-            "00000101040000000188 0000020001000000016869",
-            "phase running last 1\n\
-             window recv 65535 owed 0 send 65533\n\
-             peer table 4096 push 1 streams - window 65535 frame 16384 list - signal 0\n\
-             acked 0 goaway -\n\
-             block -\n\
-             table 1 57 4096\n\
-             entry 62 3a617574686f72697479 7777772e6578616d706c652e636f6d\n\
-             stream 1 ended\n",
-        ),
-        (
-            "a block in two frames, cut in an instruction, with Huffman",
-            &["play", "GET|/|200|6869"],
-            "000007010100000001828684418cf1e3 00000a090400000001c2e5f23a6ba0ab90f4ff",
-            "00000101040000000188 0000020001000000016869",
-            "phase running last 1\n\
-             window recv 65535 owed 0 send 65533\n\
-             peer table 4096 push 1 streams - window 65535 frame 16384 list - signal 0\n\
-             acked 0 goaway -\n\
-             block -\n\
-             table 1 57 4096\n\
-             entry 62 3a617574686f72697479 7777772e6578616d706c652e636f6d\n\
-             stream 1 ended\n",
-        ),
-        (
-            "PING in a block",
-            &["play", "GET|/|200|6869"],
-            "000007010100000001828684418cf1e3 0000080600000000000102030405060708",
-            "0000080700000000000000000000000001",
-            "phase ended 1 last 0\n\
-             window recv 65535 owed 0 send 65535\n\
-             peer table 4096 push 1 streams - window 65535 frame 16384 list - signal 0\n\
-             acked 0 goaway -\n\
-             block stream 1 octets 7 list 123 ends 1\n\
-             table 0 0 4096\n",
-        ),
-        (
-            "no answer for the path",
-            &["play"],
-            "000003010500000001828684",
-            "0000010105000000018d",
-            "phase running last 1\n\
-             window recv 65535 owed 0 send 65535\n\
-             peer table 4096 push 1 streams - window 65535 frame 16384 list - signal 0\n\
-             acked 0 goaway -\n\
-             block -\n\
-             table 0 0 4096\n\
-             stream 1 ended\n",
-        ),
-        (
-            "the peer's table of size 0",
-            &["play", "GET|/|200|6869"],
-            "000006040000000000000100000000 000014010500000001828684410f7777772e6578616d706c652e636f6d",
-            "000000040100000000 0000020104000000012088 0000020001000000016869",
-            "phase running last 1\n\
-             window recv 65535 owed 0 send 65533\n\
-             peer table 0 push 1 streams - window 65535 frame 16384 list - signal 0\n\
-             acked 0 goaway -\n\
-             block -\n\
-             table 1 57 4096\n\
-             entry 62 3a617574686f72697479 7777772e6578616d706c652e636f6d\n\
-             stream 1 ended\n",
-        ),
-        (
-            "CONNECT",
-            &["play"],
-            "00000c0105000000010207434f4e4e454354010161",
-            "0000050105000000010803353031",
-            "phase running last 1\n\
-             window recv 65535 owed 0 send 65535\n\
-             peer table 4096 push 1 streams - window 65535 frame 16384 list - signal 0\n\
-             acked 0 goaway -\n\
-             block -\n\
-             table 0 0 4096\n\
-             stream 1 ended\n",
-        ),
-    ];
-    compare_exchanges(&rt, rt.alloc(), cases.as_slice())
+    compare_exchanges(&rt, rt.alloc(), &ANSWERED)
 }
+
+/// Malformed requests.
+static MALFORMED: [Exchange; 9] = [
+    (
+        "an upper-case letter in a name",
+        &["play"],
+        "0000080105000000018286840001410162",
+        "00000403000000000100000001",
+        "phase running last 1\n\
+         window recv 65535 owed 0 send 65535\n\
+         peer table 4096 push 1 streams - window 65535 frame 16384 list - signal 0\n\
+         acked 0 goaway -\n\
+         block -\n\
+         table 0 0 4096\n\
+         stream 1 we-reset\n",
+    ),
+    (
+        "a value with a carriage return",
+        &["play"],
+        "000008010500000001828684000161010d",
+        "00000403000000000100000001",
+        "phase running last 1\n\
+         window recv 65535 owed 0 send 65535\n\
+         peer table 4096 push 1 streams - window 65535 frame 16384 list - signal 0\n\
+         acked 0 goaway -\n\
+         block -\n\
+         table 0 0 4096\n\
+         stream 1 we-reset\n",
+    ),
+    (
+        "a pseudo-field behind a field",
+        &["play"],
+        "0000080105000000018286000161016284",
+        "00000403000000000100000001",
+        "phase running last 1\n\
+         window recv 65535 owed 0 send 65535\n\
+         peer table 4096 push 1 streams - window 65535 frame 16384 list - signal 0\n\
+         acked 0 goaway -\n\
+         block -\n\
+         table 0 0 4096\n\
+         stream 1 we-reset\n",
+    ),
+    (
+        "a pseudo-field of another name",
+        &["play"],
+        "00000901050000000182868400023a780162",
+        "00000403000000000100000001",
+        "phase running last 1\n\
+         window recv 65535 owed 0 send 65535\n\
+         peer table 4096 push 1 streams - window 65535 frame 16384 list - signal 0\n\
+         acked 0 goaway -\n\
+         block -\n\
+         table 0 0 4096\n\
+         stream 1 we-reset\n",
+    ),
+    (
+        ":path twice",
+        &["play"],
+        "00000401050000000182868484",
+        "00000403000000000100000001",
+        "phase running last 1\n\
+         window recv 65535 owed 0 send 65535\n\
+         peer table 4096 push 1 streams - window 65535 frame 16384 list - signal 0\n\
+         acked 0 goaway -\n\
+         block -\n\
+         table 0 0 4096\n\
+         stream 1 we-reset\n",
+    ),
+    (
+        "no :scheme",
+        &["play"],
+        "0000020105000000018284",
+        "00000403000000000100000001",
+        "phase running last 1\n\
+         window recv 65535 owed 0 send 65535\n\
+         peer table 4096 push 1 streams - window 65535 frame 16384 list - signal 0\n\
+         acked 0 goaway -\n\
+         block -\n\
+         table 0 0 4096\n\
+         stream 1 we-reset\n",
+    ),
+    (
+        "a field of one connection",
+        &["play"],
+        "000011010500000001828684000a636f6e6e656374696f6e0161",
+        "00000403000000000100000001",
+        "phase running last 1\n\
+         window recv 65535 owed 0 send 65535\n\
+         peer table 4096 push 1 streams - window 65535 frame 16384 list - signal 0\n\
+         acked 0 goaway -\n\
+         block -\n\
+         table 0 0 4096\n\
+         stream 1 we-reset\n",
+    ),
+    (
+        "te: gzip",
+        &["play"],
+        "00000c0105000000018286840002746504677a6970",
+        "00000403000000000100000001",
+        "phase running last 1\n\
+         window recv 65535 owed 0 send 65535\n\
+         peer table 4096 push 1 streams - window 65535 frame 16384 list - signal 0\n\
+         acked 0 goaway -\n\
+         block -\n\
+         table 0 0 4096\n\
+         stream 1 we-reset\n",
+    ),
+    (
+        "content-length: 1x",
+        &["play"],
+        "0000080105000000018286840f0d023178",
+        "00000403000000000100000001",
+        "phase running last 1\n\
+         window recv 65535 owed 0 send 65535\n\
+         peer table 4096 push 1 streams - window 65535 frame 16384 list - signal 0\n\
+         acked 0 goaway -\n\
+         block -\n\
+         table 0 0 4096\n\
+         stream 1 we-reset\n",
+    ),
+];
 
 #[test]
 fn malformed_requests_are_reset(rt: HostRuntime) -> Result<(), Fail> {
-    let cases: [Exchange; 9] = [
-        (
-            "an upper-case letter in a name",
-            &["play"],
-            "0000080105000000018286840001410162",
-            "00000403000000000100000001",
-            "phase running last 1\n\
-             window recv 65535 owed 0 send 65535\n\
-             peer table 4096 push 1 streams - window 65535 frame 16384 list - signal 0\n\
-             acked 0 goaway -\n\
-             block -\n\
-             table 0 0 4096\n\
-             stream 1 we-reset\n",
-        ),
-        (
-            "a value with a carriage return",
-            &["play"],
-            "000008010500000001828684000161010d",
-            "00000403000000000100000001",
-            "phase running last 1\n\
-             window recv 65535 owed 0 send 65535\n\
-             peer table 4096 push 1 streams - window 65535 frame 16384 list - signal 0\n\
-             acked 0 goaway -\n\
-             block -\n\
-             table 0 0 4096\n\
-             stream 1 we-reset\n",
-        ),
-        (
-            "a pseudo-field behind a field",
-            &["play"],
-            "0000080105000000018286000161016284",
-            "00000403000000000100000001",
-            "phase running last 1\n\
-             window recv 65535 owed 0 send 65535\n\
-             peer table 4096 push 1 streams - window 65535 frame 16384 list - signal 0\n\
-             acked 0 goaway -\n\
-             block -\n\
-             table 0 0 4096\n\
-             stream 1 we-reset\n",
-        ),
-        (
-            "a pseudo-field of another name",
-            &["play"],
-            "00000901050000000182868400023a780162",
-            "00000403000000000100000001",
-            "phase running last 1\n\
-             window recv 65535 owed 0 send 65535\n\
-             peer table 4096 push 1 streams - window 65535 frame 16384 list - signal 0\n\
-             acked 0 goaway -\n\
-             block -\n\
-             table 0 0 4096\n\
-             stream 1 we-reset\n",
-        ),
-        (
-            ":path twice",
-            &["play"],
-            "00000401050000000182868484",
-            "00000403000000000100000001",
-            "phase running last 1\n\
-             window recv 65535 owed 0 send 65535\n\
-             peer table 4096 push 1 streams - window 65535 frame 16384 list - signal 0\n\
-             acked 0 goaway -\n\
-             block -\n\
-             table 0 0 4096\n\
-             stream 1 we-reset\n",
-        ),
-        (
-            "no :scheme",
-            &["play"],
-            "0000020105000000018284",
-            "00000403000000000100000001",
-            "phase running last 1\n\
-             window recv 65535 owed 0 send 65535\n\
-             peer table 4096 push 1 streams - window 65535 frame 16384 list - signal 0\n\
-             acked 0 goaway -\n\
-             block -\n\
-             table 0 0 4096\n\
-             stream 1 we-reset\n",
-        ),
-        (
-            "a field of one connection",
-            &["play"],
-            "000011010500000001828684000a636f6e6e656374696f6e0161",
-            "00000403000000000100000001",
-            "phase running last 1\n\
-             window recv 65535 owed 0 send 65535\n\
-             peer table 4096 push 1 streams - window 65535 frame 16384 list - signal 0\n\
-             acked 0 goaway -\n\
-             block -\n\
-             table 0 0 4096\n\
-             stream 1 we-reset\n",
-        ),
-        (
-            "te: gzip",
-            &["play"],
-            "00000c0105000000018286840002746504677a6970",
-            "00000403000000000100000001",
-            "phase running last 1\n\
-             window recv 65535 owed 0 send 65535\n\
-             peer table 4096 push 1 streams - window 65535 frame 16384 list - signal 0\n\
-             acked 0 goaway -\n\
-             block -\n\
-             table 0 0 4096\n\
-             stream 1 we-reset\n",
-        ),
-        (
-            "content-length: 1x",
-            &["play"],
-            "0000080105000000018286840f0d023178",
-            "00000403000000000100000001",
-            "phase running last 1\n\
-             window recv 65535 owed 0 send 65535\n\
-             peer table 4096 push 1 streams - window 65535 frame 16384 list - signal 0\n\
-             acked 0 goaway -\n\
-             block -\n\
-             table 0 0 4096\n\
-             stream 1 we-reset\n",
-        ),
-    ];
-    compare_exchanges(&rt, rt.alloc(), cases.as_slice())
+    compare_exchanges(&rt, rt.alloc(), &MALFORMED)
 }
+
+/// Trailers.
+static TRAILERS: [Exchange; 2] = [
+    (
+        "trailers that don't end the stream",
+        &["play"],
+        "000003010400000001828684 0000050104000000010001610162",
+        "00000403000000000100000001",
+        "phase running last 1\n\
+         window recv 65535 owed 0 send 65535\n\
+         peer table 4096 push 1 streams - window 65535 frame 16384 list - signal 0\n\
+         acked 0 goaway -\n\
+         block -\n\
+         table 0 0 4096\n\
+         stream 1 we-reset\n",
+    ),
+    (
+        "trailers",
+        &["play"],
+        "000003010400000001828684 0000050105000000010001610162",
+        "0000010105000000018d",
+        "phase running last 1\n\
+         window recv 65535 owed 0 send 65535\n\
+         peer table 4096 push 1 streams - window 65535 frame 16384 list - signal 0\n\
+         acked 0 goaway -\n\
+         block -\n\
+         table 0 0 4096\n\
+         stream 1 ended\n",
+    ),
+];
 
 #[test]
 fn trailers_end_a_request(rt: HostRuntime) -> Result<(), Fail> {
-    let cases: [Exchange; 2] = [
-        (
-            "trailers that don't end the stream",
-            &["play"],
-            "000003010400000001828684 0000050104000000010001610162",
-            "00000403000000000100000001",
-            "phase running last 1\n\
-             window recv 65535 owed 0 send 65535\n\
-             peer table 4096 push 1 streams - window 65535 frame 16384 list - signal 0\n\
-             acked 0 goaway -\n\
-             block -\n\
-             table 0 0 4096\n\
-             stream 1 we-reset\n",
-        ),
-        (
-            "trailers",
-            &["play"],
-            "000003010400000001828684 0000050105000000010001610162",
-            "0000010105000000018d",
-            "phase running last 1\n\
-             window recv 65535 owed 0 send 65535\n\
-             peer table 4096 push 1 streams - window 65535 frame 16384 list - signal 0\n\
-             acked 0 goaway -\n\
-             block -\n\
-             table 0 0 4096\n\
-             stream 1 ended\n",
-        ),
-    ];
-    compare_exchanges(&rt, rt.alloc(), cases.as_slice())
+    compare_exchanges(&rt, rt.alloc(), &TRAILERS)
 }

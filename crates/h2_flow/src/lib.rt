@@ -11,6 +11,3 @@ pub use h2_spec::flow::{
     SETTINGS_INITIAL_WINDOW_SIZE, SETTINGS_MAX_CONCURRENT_STREAMS, SETTINGS_MAX_FRAME_SIZE,
     SETTINGS_MAX_HEADER_LIST_SIZE, Settings, Window,
 };
-
-#[cfg(test)]
-mod tests;

@@ -15,6 +15,3 @@ pub use payload::{
     settings_of, window_of,
 };
 pub use splitter::{Item, Splitter};
-
-#[cfg(test)]
-mod tests;

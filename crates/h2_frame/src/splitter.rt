@@ -204,23 +204,3 @@ fn frame_item(octets: &[u8], limit: u32) -> Option<(Item<'_>, usize)>
     let payload = octets_up_to(rest, size);
     Some((Item::Frame(FrameRef { head, payload }), 9 + size))
 }
-
-#[cfg(test)]
-mod tests {
-    use super::*;
-    use std::test::Fail;
-
-    #[test]
-    fn room_follows_what_is_held(rt: HostRuntime) -> Result<(), Fail> {
-        let mut splitter = Splitter::new(rt.alloc());
-        splitter.push(&PREFACE)?;
-        assert_eq!(rt; splitter.next(16_384), Some(Item::Preface));
-        for _ in 0..1000 {
-            splitter.push(b"\x00\x00\x00\x0a\x00\x00\x00\x00\x00")?;
-            assert!(rt; splitter.next(16_384).is_some());
-        }
-        assert_eq!(rt; splitter.rest_len(), 0);
-        assert!(rt; splitter.buffer.capacity() <= 64, "9000 octets have passed");
-        Ok(())
-    }
-}

@@ -12,6 +12,4 @@ pub mod ends;
 pub mod headers;
 pub mod reset;
 pub mod settings;
-#[cfg(test)]
-mod tests;
 pub mod window_update;

@@ -15,6 +15,3 @@ pub use h2_spec::errors::FlowFault;
 pub use h2_spec::streams::{Kind, Numbers, Pick, Stream};
 pub use kinds::{is_live, not_live, octets_waiting, server_ended};
 pub use records::Streams;
-
-#[cfg(test)]
-mod tests;

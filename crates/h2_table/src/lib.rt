@@ -7,8 +7,6 @@ pub mod dynamic_table;
 pub mod entry;
 pub mod fault;
 pub mod static_table;
-#[cfg(test)]
-mod tests;
 
 pub use dynamic_table::DynTable;
 pub use fault::TableFault;

@@ -1,12 +1,10 @@
-//! The records on worked values, and windows at their limits (RFC 9113, 5.1 and 6.9.2).
+//! The records of streams on worked values, and windows at their limits (RFC 9113, 5.1 and 6.9.2).
 
 ghost use Rattle.std.specs.Prelude.{◌≡◌, ◌≤◌, pos};
-ghost use Rattle.std.specs.List.{AllByRecursion};
-ghost use Rattle.h2_streams.specs.Shift.{CanShift};
 
-use crate::{FlowFault, Kind, Numbers, Pick, Stream, Streams, not_live, octets_waiting};
 use h2_spec::flow::{Credit, Window};
-use std::alloc::Global;
+use h2_streams::{FlowFault, Kind, Numbers, Pick, Stream, Streams, not_live, octets_waiting};
+use std::alloc::{AllocError, Global};
 use std::process::Abort;
 use std::test::Fail;
 
@@ -22,6 +20,24 @@ fn numbers(send: u32, left: Option<u64>) -> Numbers
         declared: None,
         left,
     }
+}
+
+// These have no clause, so that the proof of a test does not carry the records.
+
+/// Opens a stream above the others, that has so many octets to send and no window; its peer may have ended it.
+fn open(
+    rt: &impl Abort,
+    streams: &mut Streams<Global>,
+    id: u32,
+    left: Option<u64>,
+    ended: bool,
+) -> Result<(), AllocError> {
+    assert!(rt; streams.last() < id && id % 2 == 1);
+    streams.open_stream(id, numbers(0, left), Pick::NotFound, ended)
+}
+
+fn kind_of(streams: &Streams<Global>, id: u32) -> Kind {
+    streams.kind(id)
 }
 
 /// The identifier of the record at a place, if there is one.
@@ -41,8 +57,8 @@ fn end_both(rt: &impl Abort, streams: &mut Streams<Global>, id: u32) {
 #[test]
 fn a_stream_opens_and_ends(rt: HostRuntime) -> Result<(), Fail> {
     let mut streams = Streams::new(rt.alloc());
-    assert_eq!(rt; streams.kind(1), Kind::Idle);
-    streams.open_stream(5, numbers(65_535, None), Pick::NotFound, false)?;
+    assert_eq!(rt; kind_of(&streams, 1), Kind::Idle);
+    open(&rt, &mut streams, 5, None, false)?;
     for (id, kind) in [
         (1, Kind::Skipped),
         (2, Kind::Idle),
@@ -50,20 +66,27 @@ fn a_stream_opens_and_ends(rt: HostRuntime) -> Result<(), Fail> {
         (5, Kind::BothOpen),
         (7, Kind::Idle),
     ] {
-        assert_eq!(rt; streams.kind(id), kind, "stream {id}");
+        assert_eq!(rt; kind_of(&streams, id), kind, "stream {id}");
     }
     end_both(&rt, &mut streams, 5);
     assert_eq!(rt; streams.stream_at(5), not_live(5, Kind::Ended));
     Ok(())
 }
 
+/// A stream 5 that is open, and a stream 7 that the server has reset.
+fn open_and_reset(rt: &impl Abort, alloc: Global) -> Result<Streams<Global>, AllocError> {
+    let mut streams = Streams::new(alloc);
+    open(rt, &mut streams, 5, None, false)?;
+    assert!(rt; streams.last() < 7);
+    streams.open_reset(7)?;
+    Ok(streams)
+}
+
 #[test]
 fn records_stand_in_the_order_of_opening(rt: HostRuntime) -> Result<(), Fail> {
-    let mut streams = Streams::new(rt.alloc());
-    streams.open_stream(5, numbers(65_535, None), Pick::NotFound, false)?;
-    streams.open_reset(7)?;
+    let mut streams = open_and_reset(&rt, rt.alloc())?;
     assert_eq!(rt; (streams.last(), streams.live_count()), (7, 1));
-    assert_eq!(rt; streams.kind(7), Kind::WeReset);
+    assert_eq!(rt; kind_of(&streams, 7), Kind::WeReset);
     let ids = [id_at(&streams, 0), id_at(&streams, 1), id_at(&streams, 2)];
     assert_eq!(rt; ids, [Some(5), Some(7), None]);
     assert!(rt; streams.get(3).is_none());
@@ -72,12 +95,16 @@ fn records_stand_in_the_order_of_opening(rt: HostRuntime) -> Result<(), Fail> {
     Ok(())
 }
 
-/// The send window of the stream, and whether the shift was refused.
-fn shifted(streams: &mut Streams<Global>, id: u32, delta: i64) -> Result<(bool, i32), Fail>
-    requires { AllByRecursion (CanShift delta) streams.old.streams }
-{
+/// A stream 1 with a window of 0 and a stream 3 with another are moved: whether that is refused, and the window of stream 3.
+fn shifted(alloc: Global, start: u32, delta: i64) -> Result<(bool, i32), Fail> {
+    if delta < -2_147_483_648 || start > 2_147_483_647 {
+        return Err(Fail::from("windows that can be moved"));
+    }
+    let mut streams = Streams::new(alloc);
+    streams.open_stream(1, numbers(0, None), Pick::NotFound, false)?;
+    streams.open_stream(3, numbers(start, None), Pick::NotFound, true)?;
     let refused = streams.shift_send(delta).is_err();
-    let stream = streams.get(id).ok_or("the stream has a record")?;
+    let stream = streams.get(3).ok_or("the stream has a record")?;
     Ok((refused, stream.numbers.send.value()))
 }
 
@@ -92,17 +119,28 @@ fn settings_move_windows_to_their_limits(rt: HostRuntime) -> Result<(), Fail> {
         (2_147_483_647, 1, true, 2_147_483_647),
         (1, 2_147_483_647, true, 1),
     ] {
-        let mut streams = Streams::new(rt.alloc());
-        streams.open_stream(1, numbers(0, None), Pick::NotFound, false)?;
-        streams.open_stream(3, numbers(start, None), Pick::NotFound, true)?;
-        assert!(rt; delta >= -2_147_483_648 && start <= 2_147_483_647);
-        assert_eq!(rt;
-            shifted(&mut streams, 3, delta)?,
-            (refused, window),
-            "at {start} by {delta}"
-        );
+        let moved = shifted(rt.alloc(), start, delta)?;
+        assert_eq!(rt; moved, (refused, window), "at {start} by {delta}");
     }
     Ok(())
+}
+
+/// Beside a stream 1 with a window of 10, a stream 3 has a full one, in a state, and windows are moved up by 1: the greatest that is moved, whether that is
+/// refused, the window of stream 1, and whether stream 3 is as before.
+fn moved_beside_full(alloc: Global, kind: Kind) -> Result<(i32, bool, i32, bool), Fail> {
+    let mut streams = Streams::new(alloc);
+    streams.open_stream(1, numbers(10, None), Pick::NotFound, false)?;
+    let full = Stream {
+        id: 3,
+        kind,
+        numbers: numbers(2_147_483_647, None),
+        pick: Pick::NotFound,
+    };
+    streams.put(full)?;
+    let greatest = streams.greatest_send().ok_or("a window")?.value();
+    let refused = streams.shift_send(1).is_err();
+    let window = streams.stream_at(1).numbers.send.value();
+    Ok((greatest, refused, window, streams.stream_at(3) == full))
 }
 
 #[test]
@@ -112,28 +150,15 @@ fn a_full_window_refuses_for_all_where_settings_move_it(rt: HostRuntime) -> Resu
         (Kind::HalfRemote, 2_147_483_647, true, 10),
         (Kind::HalfLocal, 10, false, 11),
     ] {
-        let mut streams = Streams::new(rt.alloc());
-        streams.open_stream(1, numbers(10, None), Pick::NotFound, false)?;
-        let full = Stream {
-            id: 3,
-            kind,
-            numbers: numbers(2_147_483_647, None),
-            pick: Pick::NotFound,
-        };
-        streams.put(full)?;
-        let found = streams
-            .greatest_send()
-            .ok_or("a window that settings move")?;
-        assert_eq!(rt; found.value(), greatest, "{kind:?}");
-        assert_eq!(rt; shifted(&mut streams, 1, 1)?, (refused, window), "{kind:?}");
-        assert_eq!(rt; streams.stream_at(3), full, "{kind:?}");
+        let moved = moved_beside_full(rt.alloc(), kind)?;
+        assert_eq!(rt; moved, (greatest, refused, window, true), "{kind:?}");
     }
     assert_eq!(rt; FlowFault::Overflow.number(), 10);
     Ok(())
 }
 
 /// Five streams whose requests have ended; 1, 7 and 11 have octets left to send.
-fn five_streams(rt: &impl Abort, alloc: Global) -> Result<Streams<Global>, Fail> {
+fn five_streams(rt: &impl Abort, alloc: Global) -> Result<Streams<Global>, AllocError> {
     let mut streams = Streams::new(alloc);
     for (id, left) in [
         (1, Some(5)),
@@ -142,8 +167,7 @@ fn five_streams(rt: &impl Abort, alloc: Global) -> Result<Streams<Global>, Fail>
         (7, Some(1)),
         (11, Some(2)),
     ] {
-        assert!(rt; streams.last() < id && id % 2 == 1);
-        streams.open_stream(id, numbers(0, left), Pick::NotFound, true)?;
+        open(rt, &mut streams, id, left, true)?;
     }
     Ok(streams)
 }
@@ -157,14 +181,13 @@ fn reset_7_and_fill_3(rt: &impl Abort, streams: &mut Streams<Global>) {
 }
 
 /// Puts stream 1 as ended, then as reset, and a new stream 13.
-fn put_1_and_13(rt: &impl Abort, streams: &mut Streams<Global>) -> Result<(), Fail> {
+fn put_1_and_13(rt: &impl Abort, streams: &mut Streams<Global>) -> Result<(), AllocError> {
     assert!(rt; matches!(streams.kind(1), Kind::HalfRemote));
     streams.put(not_live(1, Kind::Ended))?;
     assert!(rt; matches!(streams.kind(1), Kind::Ended));
     streams.put(not_live(1, Kind::WeReset))?;
     assert!(rt; streams.last() < 13);
-    streams.put(not_live(13, Kind::WeReset))?;
-    Ok(())
+    streams.put(not_live(13, Kind::WeReset))
 }
 
 #[test]

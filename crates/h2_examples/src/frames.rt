@@ -1,0 +1,147 @@
+//! Octets, the items that they hold, and heads (RFC 9113, 3.4 and 4).
+
+ghost use Rattle.std.specs.Prelude.{◌≡◌, false};
+
+use h2_frame::{FrameRef, Head, Item, Splitter, read_head, write_frame};
+use linked_list_allocator::LocalHeap;
+use std::alloc::{AllocError, Global};
+use std::test::Fail;
+
+/// The client preface (RFC 9113, 3.4).
+pub(crate) const PREFACE: &[u8] = b"PRI * HTTP/2.0\r\n\r\nSM\r\n\r\n";
+
+/// What PING holds.
+const DIGITS: &[u8] = b"\x01\x02\x03\x04\x05\x06\x07\x08";
+
+const PING: &[u8] = b"\x00\x00\x08\x06\x00\x00\x00\x00\x00\x01\x02\x03\x04\x05\x06\x07\x08";
+
+fn head(length: u32, kind: u8, stream: u32) -> Head
+    ensures { result ≡ record { length = length; kind = kind; flags = 0; reserved = false; stream = stream } }
+{
+    Head {
+        length,
+        kind,
+        flags: 0,
+        reserved: false,
+        stream,
+    }
+}
+
+// These have no clause, so that the proof of a test does not carry what a splitter holds.
+
+/// A splitter that was given the octets one by one.
+fn fed(alloc: Global, octets: &[u8]) -> Result<Splitter<Global>, AllocError> {
+    let mut splitter = Splitter::new(alloc);
+    for octet in octets {
+        splitter.push(&[*octet])?;
+    }
+    Ok(splitter)
+}
+
+/// The next item, frames of at most 16,384 octets.
+fn next(splitter: &mut Splitter<Global>) -> Option<Item<'_>> {
+    splitter.next(16_384)
+}
+
+/// Octets, the first item in them, how many are left, and a name.
+static FIRST: [(&[u8], Option<Item<'static>>, usize, &str); 5] = [
+    (b"", None, 0, "nothing"),
+    (
+        b"PRI * HTTP/2.0\r\n\r\nSM\r\n\r",
+        None,
+        23,
+        "a preface without its last octet",
+    ),
+    (
+        b"PRI * HTTP/2.0\r\n\r\nSM\r\n\r\n",
+        Some(Item::Preface),
+        0,
+        "the preface",
+    ),
+    (
+        b"PRI * HTTP/2.0\r\n\r\nSM\r\n\r\x0b",
+        Some(Item::BadPreface),
+        0,
+        "a last octet that differs",
+    ),
+    (b"GET / HTTP/1.1", Some(Item::BadPreface), 13, "GET"),
+];
+
+#[test]
+fn first_item_and_octets_left(rt: HostRuntime) -> Result<(), Fail> {
+    for (octets, item, left, name) in &FIRST {
+        let mut splitter = fed(rt.alloc(), octets)?;
+        assert_eq!(rt; next(&mut splitter), *item, "{name}");
+        assert_eq!(rt; splitter.rest_len(), *left, "{name}");
+    }
+    Ok(())
+}
+
+/// A splitter of which the preface is taken, and which was given the octets.
+fn running(alloc: Global, octets: &[u8]) -> Result<Splitter<Global>, AllocError> {
+    let mut splitter = fed(alloc, PREFACE)?;
+    splitter.next(16_384);
+    splitter.push(octets)?;
+    Ok(splitter)
+}
+
+#[test]
+fn frames_behind_the_preface(rt: HostRuntime) -> Result<(), Fail> {
+    // PING, and a head of DATA of 16,385 octets.
+    let mut splitter = running(
+        rt.alloc(),
+        b"\x00\x00\x08\x06\x00\x00\x00\x00\x00\x01\x02\x03\x04\x05\x06\x07\x08\x00\x40\x01\x00\x00\x00\x00\x00\x01",
+    )?;
+    let ping = FrameRef {
+        head: head(8, 6, 0),
+        payload: DIGITS,
+    };
+    assert_eq!(rt; next(&mut splitter), Some(Item::Frame(ping)));
+    assert_eq!(rt;
+        next(&mut splitter),
+        Some(Item::Oversize(head(16_385, 0, 1))),
+        "its payload is not awaited"
+    );
+    splitter.push(PING)?;
+    assert_eq!(rt; next(&mut splitter), None, "no item follows");
+    Ok(())
+}
+
+/// Whether frames of no octets are taken as they come, so many, where the splitter has no more memory than these 64 octets.
+fn taken_within(heap: &LocalHeap, count: u32) -> Result<bool, AllocError> {
+    let mut splitter = Splitter::new(heap);
+    splitter.push(PREFACE)?;
+    let mut all_taken = splitter.next(16_384) == Some(Item::Preface);
+    for _ in 0..count {
+        splitter.push(b"\x00\x00\x00\x0a\x00\x00\x00\x00\x00")?;
+        all_taken = all_taken && splitter.next(16_384).is_some();
+    }
+    Ok(all_taken && splitter.rest_len() == 0)
+}
+
+#[test]
+fn room_follows_what_is_held(rt: HostRuntime) -> Result<(), Fail> {
+    // A list that grew with the 9,000 octets that pass would be refused its memory.
+    let heap = LocalHeap::new(rt.alloc(), 64)?;
+    assert!(rt; taken_within(&heap, 1000)?);
+    Ok(())
+}
+
+#[test]
+fn heads_read_and_written(rt: HostRuntime) -> Result<(), Fail> {
+    assert_eq!(rt; read_head(&PING[..8]), None);
+    assert_eq!(rt; read_head(PING), Some(head(8, 6, 0)));
+    let wanted = Head {
+        length: 16_384,
+        kind: 255,
+        flags: 9,
+        reserved: true,
+        stream: 2_147_483_647,
+    };
+    let reserved = read_head(b"\x00\x40\x00\xff\x09\xff\xff\xff\xff");
+    assert_eq!(rt; reserved, Some(wanted));
+    let mut out = Vec::new(rt.alloc());
+    write_frame(&head(8, 6, 0), DIGITS, &mut out)?;
+    assert_eq!(rt; out.as_slice(), PING);
+    Ok(())
+}

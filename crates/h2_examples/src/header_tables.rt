@@ -1,0 +1,120 @@
+//! The header tables on worked values: of RFC 7541, Appendix A and 4, and of entries at the edge of the maximum.
+
+use h2_table::{DynTable, static_field};
+use std::alloc::{AllocError, Global};
+use std::test::Fail;
+
+// These have no clause, so that the proof of a test does not carry the entries.
+
+fn add(
+    table: &mut DynTable<Global>,
+    alloc: Global,
+    name: &str,
+    value: &str,
+) -> Result<(), AllocError> {
+    let name = Vec::from_slice(alloc, name.as_bytes())?;
+    let value = Vec::from_slice(alloc, value.as_bytes())?;
+    table.insert(name, value);
+    Ok(())
+}
+
+/// How many entries there are, what they count, and the maximum.
+fn counts(table: &DynTable<Global>) -> (usize, usize, u32) {
+    (table.len(), table.size(), table.max())
+}
+
+/// The number of the fault that refuses a maximum, or 0.
+fn set_max(table: &mut DynTable<Global>, max: u64) -> u8 {
+    match table.set_max(max) {
+        Ok(()) => 0,
+        Err(fault) => fault.number(),
+    }
+}
+
+#[test]
+fn entries_come_and_go(rt: HostRuntime) -> Result<(), Fail> {
+    let mut table = DynTable::new(rt.alloc(), 100)?;
+    assert!(rt; table.is_empty() && table.limit() == 100);
+    for (name, value, len, size) in [("a", "b", 1, 34), ("c", "d", 2, 68), ("e", "f", 2, 68)] {
+        add(&mut table, rt.alloc(), name, value)?;
+        assert_eq!(rt; counts(&table), (len, size, 100), "with the entry {name}");
+    }
+    for (max, fault, size) in [(40, 0, 34), (101, 3, 34)] {
+        assert_eq!(rt; set_max(&mut table, max), fault, "a maximum of {max}");
+        assert_eq!(rt; counts(&table), (1, size, 40), "a maximum of {max}");
+    }
+    Ok(())
+}
+
+/// A copy of a table in which an entry has taken the place of another.
+fn copied(alloc: Global) -> Result<DynTable<Global>, AllocError> {
+    let mut table = DynTable::new(alloc, 40)?;
+    add(&mut table, alloc, "c", "d")?;
+    add(&mut table, alloc, "e", "f")?;
+    table.try_clone()
+}
+
+fn entry_at(table: &DynTable<Global>, place: usize) -> Option<(&[u8], &[u8])> {
+    table.get(place)
+}
+
+#[test]
+fn copies_have_the_same_entries(rt: HostRuntime) -> Result<(), Fail> {
+    let copy = copied(rt.alloc())?;
+    let newest = Some((b"e".as_slice(), b"f".as_slice()));
+    for (place, entry) in [(0, None), (1, newest), (2, None)] {
+        assert_eq!(rt; entry_at(&copy, place), entry, "{place}");
+    }
+    Ok(())
+}
+
+/// A table of one small entry.
+fn small(alloc: Global) -> Result<DynTable<Global>, AllocError> {
+    let mut table = DynTable::new(alloc, 4096)?;
+    add(&mut table, alloc, "a", "b")?;
+    Ok(table)
+}
+
+/// What a table counts with an entry without a name, whose value has so many octets.
+fn with_long(
+    table: &mut DynTable<Global>,
+    alloc: Global,
+    count: usize,
+) -> Result<(usize, usize, u32), AllocError> {
+    let value = vec![in alloc; b'x'; count]?;
+    table.insert(Vec::new(alloc), value);
+    Ok(counts(table))
+}
+
+#[test]
+fn an_entry_larger_than_the_maximum_empties_the_table(rt: HostRuntime) -> Result<(), Fail> {
+    let mut table = small(rt.alloc())?;
+    for (count, len, size, name) in [
+        (
+            4064,
+            1,
+            4096,
+            "4,064 octets and 32 more are the whole table",
+        ),
+        (4065, 0, 0, "one octet more is too large"),
+    ] {
+        let counted = with_long(&mut table, rt.alloc(), count)?;
+        assert_eq!(rt; counted, (len, size, 4096), "{name}");
+    }
+    Ok(())
+}
+
+#[test]
+fn the_static_table_is_numbered_from_1(rt: HostRuntime) {
+    for (index, name, value) in [
+        (1, ":authority", ""),
+        (2, ":method", "GET"),
+        (8, ":status", "200"),
+        (16, "accept-encoding", "gzip, deflate"),
+        (61, "www-authenticate", ""),
+    ] {
+        let field = Some((name.as_bytes(), value.as_bytes()));
+        assert_eq!(rt; static_field(index), field, "{index}");
+    }
+    assert!(rt; static_field(0).is_none() && static_field(62).is_none());
+}

@@ -1,0 +1,184 @@
+//! What the payloads of frames hold (RFC 9113, 6).
+
+ghost use Rattle.std.specs.Prelude.{◌≡◌};
+
+use h2_frame::{
+    FrameRef, Head, HeadersPart, Part, PayloadFault, data_of, goaway_of, headers_of, part_of,
+    reset_of, settings_of, window_of,
+};
+
+/// A frame of this type and these flags on stream 1.
+fn frame(kind: u8, flags: u8, payload: &[u8]) -> FrameRef<'_>
+    ensures kind { result.head.kind ≡ kind }
+{
+    let head = Head {
+        length: 0,
+        kind,
+        flags,
+        reserved: false,
+        stream: 1,
+    };
+    FrameRef { head, payload }
+}
+
+// These have no clause, so that the proof of a test does not carry what a payload holds.
+
+/// The content of DATA, and how many octets of padding it has.
+fn data(flags: u8, payload: &[u8]) -> Result<(&[u8], usize), PayloadFault> {
+    let part = data_of(frame(0, flags, payload))?;
+    Ok((part.content, part.padding.len()))
+}
+
+/// Flags and payloads of DATA, and what they hold.
+static DATA: [(u8, &[u8], Result<(&[u8], usize), PayloadFault>); 5] = [
+    (0x08, b"\x02\x61\x00\x00", Ok((b"\x61", 2))),
+    (0x08, b"\x03\x61\x00\x00", Ok((b"", 3))),
+    (0x08, b"\x04\x61\x00\x00", Err(PayloadFault::PadFault)),
+    (0x08, b"", Err(PayloadFault::SizeFault)),
+    (0x01, b"\x02\x61", Ok((b"\x02\x61", 0))),
+];
+
+#[test]
+fn data_with_padding(rt: HostRuntime) {
+    for (flags, payload, wanted) in &DATA {
+        assert_eq!(rt; data(*flags, payload), *wanted, "{flags} {payload:?}");
+    }
+}
+
+fn headers(flags: u8, payload: &[u8]) -> Result<HeadersPart<'_>, PayloadFault> {
+    headers_of(frame(1, flags, payload))
+}
+
+/// Flags and payloads of HEADERS, and what they hold.
+static HEADERS: [(u8, &[u8], Result<HeadersPart<'static>, PayloadFault>); 4] = [
+    (
+        0x2c,
+        b"\x01\x80\x00\x00\x03\x0f\x82\x00",
+        Ok(HeadersPart {
+            pad: Some(1),
+            priority: Some((2_147_483_651, 15)),
+            fragment: b"\x82",
+            padding: b"\x00",
+        }),
+    ),
+    (0x2c, b"\x01\x80\x00\x00\x03", Err(PayloadFault::SizeFault)),
+    (
+        0x2c,
+        b"\x02\x80\x00\x00\x03\x0f\x82",
+        Err(PayloadFault::PadFault),
+    ),
+    (
+        0x04,
+        b"\x82\x86",
+        Ok(HeadersPart {
+            pad: None,
+            priority: None,
+            fragment: b"\x82\x86",
+            padding: b"",
+        }),
+    ),
+];
+
+#[test]
+fn headers_with_padding_and_priority(rt: HostRuntime) {
+    for (flags, payload, wanted) in &HEADERS {
+        assert_eq!(rt; headers(*flags, payload), *wanted, "{flags} {payload:?}");
+    }
+}
+
+/// How many settings there are, and those at the places 0, 1 and 2.
+type Listed = (
+    usize,
+    Option<(u16, u32)>,
+    Option<(u16, u32)>,
+    Option<(u16, u32)>,
+);
+
+fn settings(flags: u8, payload: &[u8]) -> Result<Listed, PayloadFault> {
+    let part = settings_of(frame(4, flags, payload))?;
+    Ok((part.count(), part.pair(0), part.pair(1), part.pair(2)))
+}
+
+/// Flags and payloads of SETTINGS, the settings in them, and a name.
+static SETTINGS: [(u8, &[u8], Result<Listed, PayloadFault>, &str); 4] = [
+    (
+        0,
+        b"\x00\x03\x00\x00\x00\x64\x00\x06\x00\x01\x00\x00",
+        Ok((2, Some((3, 100)), Some((6, 65_536)), None)),
+        "two settings",
+    ),
+    (0x01, b"", Ok((0, None, None, None)), "an acknowledgement"),
+    (
+        0x01,
+        b"\x00\x03\x00\x00\x00\x64",
+        Err(PayloadFault::SizeFault),
+        "an acknowledgement with settings",
+    ),
+    (
+        0,
+        b"\x00\x03\x00\x00\x00",
+        Err(PayloadFault::SizeFault),
+        "five octets",
+    ),
+];
+
+#[test]
+fn settings_in_their_order(rt: HostRuntime) {
+    for (flags, payload, wanted, name) in &SETTINGS {
+        assert_eq!(rt; settings(*flags, payload), *wanted, "{name}");
+    }
+}
+
+/// The last stream and the code of GOAWAY, which has type 7; the increment of WINDOW_UPDATE, which has type 8, and 0; or the code of RST_STREAM and 0.
+fn numbers(kind: u8, payload: &[u8]) -> Result<(u32, u32), PayloadFault> {
+    match kind {
+        7 => goaway_of(frame(7, 0, payload)),
+        8 => Ok((window_of(frame(8, 0, payload))?, 0)),
+        _ => Ok((reset_of(frame(3, 0, payload))?, 0)),
+    }
+}
+
+/// Types and payloads, and the numbers in them. The reserved bits of GOAWAY and WINDOW_UPDATE are ignored.
+static NUMBERS: [(u8, &[u8], Result<(u32, u32), PayloadFault>); 6] = [
+    (8, b"\xff\xff\xff\xff", Ok((2_147_483_647, 0))),
+    (8, b"\x00\x00\x01", Err(PayloadFault::SizeFault)),
+    (7, b"\x80\x00\x00\x05\x00\x00\x00\x02bye", Ok((5, 2))),
+    (
+        7,
+        b"\x00\x00\x00\x05\x00\x00\x00",
+        Err(PayloadFault::SizeFault),
+    ),
+    (3, b"\x80\x00\x00\x08", Ok((2_147_483_656, 0))),
+    (3, b"", Err(PayloadFault::SizeFault)),
+];
+
+#[test]
+fn numbers_of_small_frames(rt: HostRuntime) {
+    for (kind, payload, wanted) in &NUMBERS {
+        assert_eq!(rt; numbers(*kind, payload), *wanted, "{kind} {payload:?}");
+    }
+}
+
+fn part(kind: u8, flags: u8, payload: &[u8]) -> Result<Part<'_>, PayloadFault> {
+    part_of(frame(kind, flags, payload))
+}
+
+/// Types, flags and payloads, and what they hold.
+static PARTS: [(u8, u8, &[u8], Result<Part<'static>, PayloadFault>); 4] = [
+    (
+        6,
+        0,
+        b"\x01\x02\x03\x04\x05\x06\x07\x08",
+        Ok(Part::Ping(b"\x01\x02\x03\x04\x05\x06\x07\x08")),
+    ),
+    (6, 0, b"\x01", Err(PayloadFault::SizeFault)),
+    (2, 0, b"\x00\x00\x00\x01\x0f", Ok(Part::Priority)),
+    (4, 0x01, b"", Ok(Part::SettingsAck)),
+];
+
+#[test]
+fn parts_of_frames(rt: HostRuntime) {
+    for (kind, flags, payload, wanted) in &PARTS {
+        assert_eq!(rt; part(*kind, *flags, payload), *wanted, "{kind} {payload:?}");
+    }
+}
