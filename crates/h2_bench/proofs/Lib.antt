@@ -3,8 +3,8 @@ pub mod Assembled
 pub mod Books
 pub mod Grammar
 pub mod HexTexts
-pub mod InHand
 pub mod Numbers
 pub mod Places
 pub mod Played
 pub mod Tables
+pub mod Written

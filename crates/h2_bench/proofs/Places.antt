@@ -8,12 +8,13 @@ use Rattle.h2_spec.specs.Parse.{Front, Stop, One, Parsed, parse_all, parse_first
 use Rattle.h2_spec.specs.State.{State}
 use Rattle.h2_spec.specs.Frame.{Next, NoItem, Got}
 use Rattle.h2_spec.specs.Trace.{Event, event_on, next_event, next_item, trace}
-use Rattle.h2_spec.specs.View.{View, view}
+use Rattle.h2_spec.specs.View.{view}
 use Rattle.h2_spec.proofs.ParseLaws.{Uses, parse_all-step}
 use Rattle.h2_spec.proofs.TraceLaws.{event-uses}
 use Rattle.h2_conn.specs.Connection.{Connection, going}
-use Rattle.h2_conn.specs.Runs.{TakesOne}
-use Rattle.h2_bench.specs.Each.{TellsItem}
+use Rattle.h2_conn.specs.Runs.{TakesOne, Waits}
+use Rattle.h2_bench.specs.declared.each.Taken.{Taken}
+use Rattle.h2_bench.specs.Each.{TakesItem}
 use Rattle.h2_bench.specs.Told.{item_text, item_texts}
 
 -- the events of a run
@@ -40,20 +41,21 @@ items-cons : (place : ℕ) (e : Event) (es : List Event) → item_texts place (e
 unfolding item_texts
 items-cons place e es = refl
 
-pub item-within : (s : State) (octets : List ℕ) (at place used : ℕ) (a b : List ℕ) (c : Connection) → at ≤ length octets → TellsItem s (drop at octets) place a c b used
-    → (0 < used) × (at + used ≤ length octets)
-item-within s octets at place used a b c h x =
-    let uses : Uses (drop at octets) (One x.event c.state used) = subst (λ (n : Front State Event). Uses (drop at octets) n) x.comes (event-uses s (drop at octets)) in
+pub item-within : (s : State) (octets : List ℕ) (at : ℕ) (c : Connection) (t : Taken) → at ≤ length octets → TakesItem s (drop at octets) c t
+    → (0 < t.used) × (at + t.used ≤ length octets)
+item-within s octets at c t h x =
+    let uses : Uses (drop at octets) (One x.event c.state t.used) = subst (λ (n : Front State Event). Uses (drop at octets) n) x.comes (event-uses s (drop at octets)) in
     (uses.0, omega (arith, h, uses.1, length-drop at octets))
 
 -- the next place of a run is its next item
-pub item-next : (s : State) (octets : List ℕ) (at place used : ℕ) (a b : List ℕ) (c : Connection) (x : TellsItem s (drop at octets) place a c b used)
-    → item_texts place (events s (drop at octets)) ≡ item_text place (frames_octets x.event.sent) (view c.state) ∷ item_texts (place + 1) (events c.state (drop (at + used) octets))
-item-next s octets at place used a b c x =
-    let later : List Event = events c.state (drop (at + used) octets) in
+pub item-next : (s : State) (octets : List ℕ) (at place : ℕ) (c : Connection) (t : Taken) → TakesItem s (drop at octets) c t
+    → item_texts place (events s (drop at octets)) ≡ item_text place t.sent.items (view c.state) ∷ item_texts (place + 1) (events c.state (drop (at + t.used) octets))
+item-next s octets at place c t x =
+    let later : List Event = events c.state (drop (at + t.used) octets) in
     let one : events s (drop at octets) ≡ x.event ∷ later =
-    events-one s c.state (drop at octets) x.event used x.comes ∙ ap (λ (r : List ℕ). x.event ∷ events c.state r) (drop-drop used at octets) in
-    ap (item_texts place) one ∙ items-cons place x.event later ∙ ap (λ (t : State). item_text place (frames_octets x.event.sent) (view t) ∷ item_texts (place + 1) later) x.state
+    events-one s c.state (drop at octets) x.event t.used x.comes ∙ ap (λ (r : List ℕ). x.event ∷ events c.state r) (drop-drop t.used at octets) in
+    ap (item_texts place) one ∙ items-cons place x.event later
+    ∙ ap₂ (λ (sent : List ℕ) (t : State). item_text place sent (view t) ∷ item_texts (place + 1) later) (sym x.sent) x.state
 
 pub none-next : (s : State) (b : List ℕ) (place : ℕ) → next_event s b ≡ Stop → item_texts place (events s b) ≡ []
 none-next s b place e = ap (item_texts place) (events-stop s b e) ∙ items-none place
@@ -83,18 +85,21 @@ event-state : (s t : State) (b : List ℕ) (e : Event) (used : ℕ) → next_eve
 unfolding next_event same-state
 event-state s t b e used h = subst (same-state s) h (event-same s (next_item s b))
 
--- one item that was taken from octets alone is told
-pub taken-told : (c c' : Connection) (octets out text text' : List ℕ) (used place : ℕ) (shown : View) → c ≡ going c.state [] → TakesOne c octets [] c' out used
-    → shown ≡ view c'.state → text' ≡ text ++ item_text place out shown → TellsItem c.state octets place text c' text' used
-taken-told c c' octets out text text' used place shown fresh x v told =
+-- one item that was taken from octets alone
+pub taken-alone : (c c' : Connection) (octets : List ℕ) (t : Taken) → c ≡ going c.state [] → TakesOne c octets [] c' t.sent.items t.used → TakesItem c.state octets c' t
+taken-alone c c' octets t fresh x =
     let empty : c.rest ≡ [] = ap (λ (d : Connection). d.rest) fresh in
     let state : c'.state ≡ x.next = ap (λ (d : Connection). d.state) x.after in
     let comes : next_event c.state octets ≡ One x.event x.next x.taken = ap (λ (r : List ℕ). next_event c.state (r ++ octets)) (sym empty) ∙ x.comes in
-    let count : used ≡ x.taken = omega (arith, x.used_is, ap length empty) in
+    let count : t.used ≡ x.taken = omega (arith, x.used_is, ap length empty) in
     record {
       event = x.event;
       comes = rw (state, count) comes;
       state = event-state c.state x.next octets x.event x.taken comes ∙ sym state;
       after = x.after ∙ ap (λ (t : State). going t []) (sym state);
-      told = rw (← v, ← x.sent) told;
+      sent = x.sent;
     }
+
+-- where octets alone have no item
+pub none-alone : (c c' : Connection) (octets out : List ℕ) (used : ℕ) → c ≡ going c.state [] → Waits c octets [] c' out used → next_event c.state octets ≡ Stop
+none-alone c c' octets out used fresh x = ap (λ (d : Connection). next_event c.state (d.rest ++ octets)) (sym fresh) ∙ x.none

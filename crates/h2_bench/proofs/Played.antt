@@ -1,5 +1,5 @@
 -- What is told of each place of a new connection is what `play` tells of it.
-use Rattle.std.proofs.Common.{◌≡◌, ℕ, List, [], Bool, true, if◌then◌else◌, sym, ap, ap₂, subst}
+use Rattle.std.proofs.Common.{◌≡◌, ℕ, List, [], Bool, true, false, ◌∙◌, if◌then◌else◌, sym, ap, ap₂, subst}
 use Rattle.std.specs.List.{concat}
 use Rattle.h2_spec.specs.declared.connection.Config.{Config}
 use Rattle.h2_spec.specs.Answer.{Entry}
@@ -7,8 +7,9 @@ use Rattle.h2_spec.specs.Opening.{opening_octets}
 use Rattle.h2_spec.specs.State.{State, opening}
 use Rattle.h2_spec.specs.View.{view}
 use Rattle.h2_conn.specs.Connection.{Connection, going, is_allowed}
+use Rattle.h2_conn.specs.Runs.{Opens}
 use Rattle.h2_bench.specs.Tell.{OrCutShort, Told, done, failed}
-use Rattle.h2_bench.specs.Told.{item_text, places_from, places_played, places_run, told_played}
+use Rattle.h2_bench.specs.Told.{item_text, places_from, places_played, places_run, sent_and_state, told_played, told_run}
 use Rattle.h2_bench.specs.declared.fault.BenchFault.TheVariants.{BadConfig}
 
 pub of-opened : (book : List Entry) (config : Config) (octets sent : List ℕ) (c : Connection) (t : Told) → is_allowed config ≡ true → c ≡ going (opening book config) [] → sent ≡ opening_octets config
@@ -19,3 +20,10 @@ of-opened book config octets sent c t allowed opened is x =
     ap₂ (λ (o : List ℕ) (s : State). places_from (item_text 0 o (view s)) s octets) is (ap (λ (d : Connection). d.state) opened) in
     subst (λ (b : Bool). OrCutShort (if b then places_run book config octets else []) (if b then done (concat (places_run book config octets)) else failed BadConfig) t) (sym allowed)
     (subst (λ (ps : List (List ℕ)). OrCutShort ps (done (concat ps)) t) same x)
+
+-- what is told of a connection that the octets were fed to
+pub whole-played : (book : List Entry) (config : Config) (octets sent : List ℕ) (c : Connection) → is_allowed config ≡ true → Opens book config octets [] c sent
+    → done (sent_and_state sent (view c.state)) ≡ told_played false book config octets
+whole-played book config octets sent c allowed x =
+    ap₂ (λ (o : List ℕ) (s : State). done (sent_and_state o (view s))) x.sent (ap (λ (d : Connection). d.state) x.after)
+    ∙ ap (λ (b : Bool). if b then told_run false book config octets else failed BadConfig) (sym allowed)

@@ -1,14 +1,11 @@
 -- The program `table`: line after line, and entry after entry.
-use Rattle.std.proofs.Common.{◌≡◌, ◌∙◌, ◌+◌, ◌<◌, ◌≤◌, ℕ, zero, suc, Bool, true, false, cond, List, [], ◌∷◌, ◌++◌, length, drop, Some, None, refl, sym, ap, arith, ltb, ltb-true, append_assoc, drop_of_length-le, nat_eq}
-use Rattle.std.specs.Prelude.{slice_get}
+use Rattle.std.proofs.Common.{◌≡◌, ◌∙◌, ◌<◌, ◌≤◌, ℕ, Bool, true, false, cond, List, [], ◌∷◌, ◌++◌, length, Some, None, refl, sym, ap, arith, ltb, ltb-true, append_assoc, nat_eq}
 use Rattle.std.specs.List.{position_or_len}
-use Rattle.std.proofs.lemmas.List.{append-nil}
-use Rattle.h2_spec.specs.Field.{Field}
 use Rattle.h2_spec.specs.Parse.{Front, One, Parsed, parse_all, parse_first}
 use Rattle.h2_spec.specs.DynamicTable.{LimitedTable}
-use Rattle.h2_spec.specs.Show.{entry_line, entry_lines}
+use Rattle.h2_spec.specs.Show.{entry_lines}
 use Rattle.h2_spec.proofs.ParseLaws.{Uses, parse_all-step}
-use Rattle.h2_bench.specs.TableProgram.{behind_line, command_of, first_line, line_at, line_end, lines_of, obeyed, place_line, told_lines, told_of, used_to}
+use Rattle.h2_bench.specs.TableProgram.{behind_line, command_of, first_line, line_at, line_end, lines_of, obeyed, told_lines, told_of, used_to}
 
 -- ---- lines
 
@@ -59,35 +56,3 @@ line-told t u text line more a b all some l m o p q =
 
 pub lines-end : (t : LimitedTable) (text a all : List ℕ) → length text ≤ 0 → a ++ told_lines t (lines_of text) ≡ all → a ++ entry_lines 62 t.table.entries ≡ all
 lines-end t text a all none q = ap (λ (x : List ℕ). a ++ x) (sym (told-none t) ∙ ap (told_lines t) (sym (lines-none text none))) ∙ q
-
--- ---- entries
-
-at-place : (k : ℕ) (es : List Field) → k < length es → (x : Field) × (slice_get es k ≡ Some x) × (drop k es ≡ x ∷ drop (suc k) es)
-at-place k [] inside = absurd (omega arith)
-at-place zero (e ∷ es) inside = (e, refl, refl)
-at-place (suc k) (e ∷ es) inside = at-place k es (omega arith)
-
-entries-first : (i : ℕ) (e : Field) (es : List Field) → entry_lines i (e ∷ es) ≡ entry_line i e ++ entry_lines (i + 1) es
-unfolding entry_lines
-entries-first i e es = refl
-
-entries-none : (i : ℕ) → entry_lines i [] ≡ []
-unfolding entry_lines
-entries-none i = refl
-
-entries-next : (k : ℕ) (es : List Field) → k < length es → entry_lines (62 + k) (drop k es) ≡ place_line k es ++ entry_lines (62 + (k + 1)) (drop (k + 1) es)
-entries-next k es inside =
-    let x = at-place k es inside in
-    let one : k + 1 ≡ suc k = omega arith in
-    let further : 62 + k + 1 ≡ 62 + suc k = omega arith in
-    rw (x.1, x.2, one) (entries-first (62 + k) x.0 (drop (suc k) es) ∙ rw further refl)
-
-pub entry-told : (k : ℕ) (es : List Field) (a b all : List ℕ) → k < length es → b ≡ a ++ place_line k es → a ++ entry_lines (62 + k) (drop k es) ≡ all
-    → b ++ entry_lines (62 + (k + 1)) (drop (k + 1) es) ≡ all
-entry-told k es a b all inside p q =
-    rw p (append_assoc a (place_line k es) (entry_lines (62 + (k + 1)) (drop (k + 1) es)) ∙ ap (λ (x : List ℕ). a ++ x) (sym (entries-next k es inside)) ∙ q)
-
-pub entries-end : (k : ℕ) (es : List Field) (a all : List ℕ) → length es ≤ k → a ++ entry_lines (62 + k) (drop k es) ≡ all → a ≡ all
-entries-end k es a all past q =
-    let none : entry_lines (62 + k) (drop k es) ≡ [] = ap (entry_lines (62 + k)) (drop_of_length-le es past) ∙ entries-none (62 + k) in
-    sym (append-nil a) ∙ ap (λ (x : List ℕ). a ++ x) (sym none) ∙ q

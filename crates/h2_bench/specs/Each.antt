@@ -1,40 +1,29 @@
 -- A run that is told place by place, and written as it is made.
-use Rattle.std.specs.Prelude.{◌≡◌, ◌⊎◌, ℕ, ◌++◌, Bool, true, false, List, [], Option, Some, None, Result, Ok, Err, take}
+use Rattle.std.specs.Prelude.{◌≡◌, ℕ, ◌++◌, Bool, true, false, List, [], Option, Some, None, Result, Ok, Err, take}
 use Rattle.std.specs.List.{concat}
 use Rattle.h2_spec.specs.Frame.{frames_octets}
 use Rattle.h2_spec.specs.Parse.{Stop, One}
 use Rattle.h2_spec.specs.State.{State}
 use Rattle.h2_spec.specs.Trace.{Event, next_event}
-use Rattle.h2_spec.specs.View.{view}
 use Rattle.h2_conn.specs.Connection.{Connection, going}
 use Rattle.h2_bench.specs.Tell.{Told, done, failed_after}
-use Rattle.h2_bench.specs.Told.{item_text}
+use Rattle.h2_bench.specs.declared.each.Taken.{Taken}
 use Rattle.h2_bench.specs.declared.each.Untold.{Untold}
 use Rattle.h2_bench.specs.declared.each.Untold.TheVariants.{Fault, NotWritten}
 use Rattle.h2_bench.specs.declared.fault.BenchFault.TheVariants.{NoMemory}
 
--- the next item was taken with so many octets, and is told behind a text
-pub record TellsItem (s : State) (b : List ℕ) (place : ℕ) (text : List ℕ) (c : Connection) (text' : List ℕ) (used : ℕ) : Type 0 where
+-- the next item was taken: so many octets, and those that are sent for it
+pub record TakesItem (s : State) (b : List ℕ) (c : Connection) (t : Taken) : Type 0 where
   pub event : Event
-  pub comes : next_event s b ≡ One event c.state used
+  pub comes : next_event s b ≡ One event c.state t.used
   pub state : event.state ≡ c.state
   pub after : c ≡ going c.state []
-  pub told : text' ≡ text ++ item_text place (frames_octets event.sent) (view c.state)
+  pub sent : t.sent.items ≡ frames_octets event.sent
 
 -- or there is none
-abbrev pub TellsNext : State → List ℕ → ℕ → List ℕ → Connection → List ℕ → Option ℕ → Type 0
-TellsNext s b place text c text' None = (next_event s b ≡ Stop) × (text' ≡ text)
-TellsNext s b place text c text' (Some used) = TellsItem s b place text c text' used
-
--- a text in hand went to the output, behind what that held, or it stays in hand
-abbrev pub Passes : List ℕ → List ℕ → Option (List ℕ) → List ℕ → Type 0
-Passes held text after left = ((after ≡ Some held) × (left ≡ text)) ⊎ ((after ≡ Some (held ++ text)) × (left ≡ []))
-
--- some first places were written behind what an output held, and with the text in hand they are all that was made
-pub record InHand (places : List (List ℕ)) (held made : List ℕ) (after : Option (List ℕ)) (text : List ℕ) : Type 0 where
-  pub count : ℕ
-  pub written : after ≡ Some (held ++ concat (take count places))
-  pub rest : concat (take count places) ++ text ≡ made
+abbrev pub TakesNext : State → List ℕ → Connection → Option Taken → Type 0
+TakesNext s b c None = next_event s b ≡ Stop
+TakesNext s b c (Some t) = TakesItem s b c t
 
 -- some first places were written, and then memory was refused; or a write failed
 abbrev pub Stops : List (List ℕ) → List ℕ → Option (List ℕ) → Untold → Type 0

@@ -1,12 +1,12 @@
 -- The program `table`: what the lines of its input do to a dynamic table, and what is printed (RFC 7541, 2.3.2 and 4).
-use Rattle.std.specs.Prelude.{ℕ, ◌+◌, ◌==◌, List, [], ◌∷◌, ◌++◌, length, take, drop, position, nat_lt, if◌then◌else◌, codes, decimal, Option, Some, None, option_map, slice_get}
+use Rattle.std.specs.Prelude.{ℕ, ◌+◌, ◌==◌, List, [], ◌∷◌, ◌++◌, length, take, drop, position, nat_lt, if◌then◌else◌, codes, decimal, Option, Some, None, option_map}
 use Rattle.std.specs.Str.{bytes_eq}
 use Rattle.h2_spec.specs.Assemble.{number_at}
 use Rattle.h2_spec.specs.Script.{max_u32}
 use Rattle.h2_spec.specs.Parse.{Front, Stop, One, parse_all}
-use Rattle.h2_spec.specs.Field.{Field, field}
+use Rattle.h2_spec.specs.Field.{field}
 use Rattle.h2_spec.specs.DynamicTable.{Table, LimitedTable, insert, resize, total_size}
-use Rattle.h2_spec.specs.Show.{entry_line, entry_lines, joined}
+use Rattle.h2_spec.specs.Show.{entry_lines, joined}
 use Rattle.h2_bench.specs.Faults.{fault_line}
 
 -- ---- the words of a line
@@ -58,14 +58,6 @@ abbrev pub told_of : LimitedTable → Option Command → List ℕ
 told_of t None = fault_line 27
 told_of t (Some (Add name value)) = counts_line (insert t.table (field name value))
 told_of t (Some (Max n)) = if nat_lt t.limit n then fault_line 3 else counts_line (resize t.table n)
-
--- the line of the entry at a place, 0 for the newest, if there is one
-abbrev pub line_of : ℕ → Option Field → List ℕ
-line_of place None = []
-line_of place (Some f) = entry_line (62 + place) f
-
-abbrev pub place_line : ℕ → List Field → List ℕ
-place_line place entries = line_of place (slice_get entries place)
 
 -- ---- the whole input
 

@@ -19,7 +19,7 @@ use std::alloc::{AllocError, Global};
 #[derive(Debug, Drop)]
 pub struct Play<'a> {
     pub config: Config,
-    /// How many octets a piece has, 0 to 65536; 0 for one piece.
+    /// How many octets a piece has, 0 to 65536; 0 for 65536.
     pub cut: u32,
     /// Whether each item is told.
     pub each: bool,
@@ -75,7 +75,7 @@ fn cut_option<'a>(alloc: Global) -> Arg<'a>
     ensures { (rule_of result ≡ cut_rule) × (result.global ≡ false) }
 {
     Arg::new(alloc, "cut")
-        .help("The octets of a piece, 0 to 65536; all in one piece where it is 0 or not given")
+        .help("The octets of a piece, 0 to 65536; 65536 where it is 0 or not given")
         .long("cut")
         .action(ArgAction::Set)
         .value_parser(ValueParser::Unsigned(0, 65536))

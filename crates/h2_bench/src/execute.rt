@@ -20,7 +20,7 @@ use crate::dis::dis_text;
 use crate::each::Untold;
 use crate::fault::BenchFault;
 use crate::input::read_all;
-use crate::play::{book_of, play_text, write_each};
+use crate::play::{book_of, write_play};
 use crate::report::{Report, whole};
 use crate::table::table_text;
 use crate::words::Words;
@@ -101,25 +101,18 @@ fn tell_played<W: Write>(
     alloc: Global,
     play: &Play<'_>,
     book: &Book<Global>,
-    input: &[u8],
+    input: Vec<u8>,
     output: &mut W,
     output_failed: &mut bool,
 ) -> u8
     requires { output_failed.old ≡ false }
-    ensures told { output_failed.new ≡ false → let spelled = octets_spelled input.now in
+    ensures told { output_failed.new ≡ false → let spelled = octets_spelled input.items in
         TellsSome (OrCutShort (places_play play.now.each book.now play.now.config spelled) (told_play play.now.each book.now play.now.config spelled))
         (W.contents output.old) (W.contents output.new) result }
     ensures failed { (output_failed.new ≡ false) ⊎ ((output_failed.new ≡ true) × (result ≡ 3)) }
 {
-    if play.each {
-        let ended = write_each(alloc, play, book, input, output, output_failed);
-        return tell_end(output, output_failed, ended);
-    }
-    tell_answer(
-        output,
-        output_failed,
-        whole(play_text(alloc, play, book, input)),
-    )
+    let ended = write_play(alloc, play, book, input, output, output_failed);
+    tell_end(output, output_failed, ended)
 }
 
 /// What `table` answers to a whole input.
@@ -132,28 +125,34 @@ fn table_report(alloc: Global, limit: u32, input: &[u8]) -> Result<Report, Bench
     }
 }
 
-/// Does a command over a whole input, with the book of its answers.
+/// Does a command over a whole input, with the book of its answers. The input is given back once it is read.
 fn tell_input<W: Write>(
     alloc: Global,
     plan: &Plan<'_>,
     book: &Book<Global>,
-    input: &[u8],
+    input: Vec<u8>,
     output: &mut W,
     output_failed: &mut bool,
 ) -> u8
     requires book { book.now ≡ book_for (planned plan.now) }
     requires writer { output_failed.old ≡ false }
-    ensures told { output_failed.new ≡ false → TellsSome (OrCutShort (places (planned plan.now) input.now) (told (planned plan.now) input.now))
+    ensures told { output_failed.new ≡ false → TellsSome (OrCutShort (places (planned plan.now) input.items) (told (planned plan.now) input.items))
         (W.contents output.old) (W.contents output.new) result }
     ensures failed { (output_failed.new ≡ false) ⊎ ((output_failed.new ≡ true) × (result ≡ 3)) }
 {
     match plan {
         Plan::Play(play) => tell_played(alloc, play, book, input, output, output_failed),
-        Plan::Asm => tell_answer(output, output_failed, asm_report(alloc, input)),
-        Plan::Dis => tell_answer(output, output_failed, whole(dis_text(alloc, input))),
-        Plan::Table(limit) => {
-            tell_answer(output, output_failed, table_report(alloc, *limit, input))
-        }
+        Plan::Asm => tell_answer(output, output_failed, asm_report(alloc, input.as_slice())),
+        Plan::Dis => tell_answer(
+            output,
+            output_failed,
+            whole(dis_text(alloc, input.as_slice())),
+        ),
+        Plan::Table(limit) => tell_answer(
+            output,
+            output_failed,
+            table_report(alloc, *limit, input.as_slice()),
+        ),
     }
 }
 
@@ -176,7 +175,7 @@ fn respond<R: Read, W: Write>(
         Err(fault) => return tell_fault(output, output_failed, fault),
     };
     match read_all(alloc, input, input_failed) {
-        Ok(octets) => tell_input(alloc, plan, &book, octets.as_slice(), output, output_failed),
+        Ok(octets) => tell_input(alloc, plan, &book, octets, output, output_failed),
         Err(fault) => tell_fault(output, output_failed, fault),
     }
 }
@@ -206,7 +205,7 @@ pub fn run_watched<R: Read, W: Write>(
     }
 }
 
-/// Does what the words ask for, and gives the exit status.
+/// Does what the words ask for, and gives the exit status. It writes in small pieces: the output had better be buffered, and flushed afterwards.
 ///
 /// 0: done. 1: a fault ended it, and its line was written. 2: the words were refused, or ask for help, and what there is to say of them was written.
 /// 3: the output could not be written.

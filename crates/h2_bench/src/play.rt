@@ -1,34 +1,34 @@
 //! The program `play`: a connection over the octets that hex text spells.
-//! Rests on `answer`, h2_conn and the crate `hex`; definitions: `specs/Books.antt`, `specs/Told.antt`.
+//! Rests on `answer`, `each` and h2_conn; definitions: `specs/Books.antt`, `specs/Told.antt`.
 
-ghost use Rattle.std.specs.Prelude.{◌≡◌, ◌⊎◌, ◌<◌, ◌^◌, [], Ok, Err, true, false, length, map, IfErr, IfOk, OnOk};
-ghost use Rattle.std.specs.String.{string_bytes};
+ghost use Rattle.std.specs.Prelude.{◌≡◌, ◌⊎◌, ◌<◌, ◌^◌, [], Ok, Err, Some, true, false, length, map, IfErr, IfOk, OnOk};
 ghost use Rattle.h2_request.specs.Fault as book;
 ghost use Rattle.h2_request.specs.declared.fault.BookFault.TheVariants as books;
-ghost use Rattle.h2_bench.specs.Answers.{Meets};
+ghost use Rattle.h2_spec.specs.View.{view};
+ghost use Rattle.h2_conn.specs.Connection.{is_allowed};
+ghost use Rattle.h2_conn.specs.Runs.{Opens};
 ghost use Rattle.h2_bench.specs.Books.{book_of, with_answer};
 ghost use Rattle.h2_bench.specs.Each.{WritesSome, not_written};
 ghost use Rattle.h2_bench.specs.Faults.{fault_number};
-ghost use Rattle.h2_bench.specs.Input.{octets_spelled};
+ghost use Rattle.h2_bench.specs.Input.{IsNoHex, octets_spelled};
 ghost use Rattle.h2_bench.specs.Plans.{piece_lengths};
 ghost use Rattle.h2_bench.specs.Told.{OrCutShort, places_play, places_played, sent_and_state, told_play, told_played};
-ghost use Rattle.h2_bench.specs.declared.fault.BenchFault.TheVariants.{NoMemory};
+ghost use Rattle.h2_bench.specs.declared.fault.BenchFault.TheVariants.{BadConfig, NoMemory};
 
 use crate::answer::parse_answer;
 use crate::command::Play;
+use crate::device::write_text;
 use crate::each::{Untold, write_places};
 use crate::fault::BenchFault;
 use crate::input::read_hex;
-use h2_conn::play::play;
-use h2_conn::show::write_view;
-use h2_conn::view::View;
+use h2_conn::hex_text::HexText;
+use h2_conn::play::open_and_feed;
 use h2_conn::{Conn, ConnFault};
 use h2_request::book::Book;
 use h2_request::fault::BookFault;
 use h2_spec::connection::Config;
 use std::alloc::{AllocError, Global};
-use std::fmt::Write;
-use std::io;
+use std::{fmt, io};
 
 /// What a book refused, by the name that programs have for it.
 fn refused_by(fault: BookFault) -> BenchFault
@@ -79,52 +79,87 @@ pub fn book_of(alloc: Global, words: &[&str]) -> Result<Book<Global>, BenchFault
 }
 
 /// The line of the octets sent, and the text of the state.
-#[tactic(auto, unfolding(crate::specs::Told::sent_and_state))]
-fn sent_and_state(alloc: Global, sent: &[u8], view: &View<Global>) -> Result<String, AllocError>
-    ensures { IfOk result (λ text. string_bytes text ≡ sent_and_state sent.now view.now) }
-{
-    let sent = hex::encode(alloc, sent)?;
-    let mut text = String::new(alloc);
-    writeln!(text, "sent {sent}")?;
-    write_view(&mut text, view)?;
-    Ok(text)
+#[derive(Drop)]
+struct PlayedText<'p, 'b> {
+    sent: &'p [u8],
+    conn: &'p Conn<'b, Global>,
 }
 
-/// The lengths of the pieces into which this many octets are cut: as many as there are whole ones of this length, or none where it is 0.
+#[tactic(auto, unfolding(crate::specs::Told::sent_and_state))]
+impl fmt::Display for PlayedText<'_, '_> {
+    ghost output = { λ x. Some (sent_and_state x.sent.now (view x.conn.now.state)) };
+
+    fn fmt<W: fmt::Write>(&self, f: &mut fmt::Formatter<W>) -> fmt::Result {
+        let sent = HexText(self.sent);
+        let conn = self.conn;
+        write!(f, "sent {sent}\n{conn}")
+    }
+}
+
+/// How long a piece is where the words don't say it: a connection holds a copy of a piece, so a whole input is fed piece after piece.
+const PIECE: usize = 65536;
+
+/// The lengths of the pieces into which this many octets are cut: as many as there are whole ones of this length, or of 65,536 octets where it is 0.
 fn piece_lengths(alloc: Global, cut: u32, total: usize) -> Result<Vec<usize>, AllocError>
     ensures { IfOk result (λ lengths. lengths.items ≡ piece_lengths cut total) }
 {
-    let count = if cut == 0 { 0 } else { total / cut as usize };
-    vec![in alloc; cut as usize; count]
+    let length = if cut == 0 { PIECE } else { cut as usize };
+    vec![in alloc; length; total / length]
 }
 
-/// What `play` prints of octets: those sent, and the state after all of them.
-fn played_whole(
+/// A new connection that the octets were fed to, in pieces of this length, and what was sent.
+fn played<'b>(
     alloc: Global,
-    book: &Book<Global>,
+    book: &'b Book<Global>,
     config: Config,
     cut: u32,
     octets: &[u8],
-) -> Result<String, BenchFault>
-    ensures { Meets result (told_played false book.now config octets.now) }
+    sent: &mut Vec<u8>,
+) -> Result<Conn<'b, Global>, BenchFault>
+    ensures ok { IfOk result (λ conn. Opens book.now config octets.now sent.old.items conn sent.new.items) }
+    ensures allowed { OnOk result (is_allowed config ≡ true) }
+    ensures fault { IfErr result (λ fault. (fault ≡ NoMemory) ⊎ ((fault ≡ BadConfig) × (is_allowed config ≡ false))) }
 {
     let lengths = piece_lengths(alloc, cut, octets.len())?;
-    let mut sent = Vec::new(alloc);
-    match play(book, config, octets, lengths.as_slice(), &mut sent) {
-        Ok(view) => match sent_and_state(alloc, sent.as_slice(), &view) {
-            Ok(text) => Ok(text),
-            Err(_) => Err(BenchFault::NoMemory),
-        },
+    match open_and_feed(book, config, octets, lengths.as_slice(), sent) {
+        Ok(conn) => Ok(conn),
         Err(ConnFault::BadConfig) => Err(BenchFault::BadConfig),
         Err(_) => Err(BenchFault::NoMemory),
     }
 }
 
-/// Writes what `play` prints of octets place by place. Items are taken one by one, so pieces don't matter.
-fn write_played<W: io::Write>(
+/// Writes what `play` prints of octets: those sent, and the state after all of them. No memory is wanted once anything is written.
+fn write_whole<W: io::Write>(
     alloc: Global,
+    play: &Play<'_>,
     book: &Book<Global>,
+    octets: &[u8],
+    output: &mut W,
+    output_failed: &mut bool,
+) -> Result<(), Untold>
+    requires { output_failed.old ≡ false }
+    ensures told { output_failed.new ≡ false → WritesSome (OrCutShort [] (told_played false book.now play.now.config octets.now))
+        result (W.contents output.old) (W.contents output.new) }
+    ensures flag { output_failed.new ≡ not_written result }
+{
+    let mut sent = Vec::new(alloc);
+    let conn = match played(alloc, book, play.config, play.cut, octets, &mut sent) {
+        Ok(conn) => conn,
+        Err(fault) => return Err(Untold::Fault(fault)),
+    };
+    let sent = sent.as_slice();
+    let conn = &conn;
+    match write_text(output, output_failed, PlayedText { sent, conn }) {
+        Ok(()) => Ok(()),
+        Err(_) => Err(Untold::NotWritten),
+    }
+}
+
+/// Writes what `play` prints of octets place by place. Items are taken one by one, so pieces don't matter.
+fn write_each<W: io::Write>(
+    alloc: Global,
     config: Config,
+    book: &Book<Global>,
     octets: &[u8],
     output: &mut W,
     output_failed: &mut bool,
@@ -150,50 +185,56 @@ fn write_played<W: io::Write>(
     }
 }
 
-/// Writes what `play` prints of its input place by place: the start, and each item.
-///
-/// `BadHex` where the input is no hex text, then `BadConfig` where a limit is out of range; nothing is written then. `NoMemory` where memory is refused:
-/// some first places were written. `NotWritten` where a write failed.
-pub fn write_each<W: io::Write>(
+/// Writes what `play` prints of octets: of each place of their run, or of the whole.
+fn write_played<W: io::Write>(
     alloc: Global,
     play: &Play<'_>,
     book: &Book<Global>,
-    input: &[u8],
+    octets: &[u8],
+    output: &mut W,
+    output_failed: &mut bool,
+) -> Result<(), Untold>
+    requires few { length octets.now < 2 ^ 63 }
+    requires writer { output_failed.old ≡ false }
+    ensures told { output_failed.new ≡ false → WritesSome (OrCutShort (places_played play.now.each book.now play.now.config octets.now) (told_played play.now.each book.now play.now.config octets.now))
+        result (W.contents output.old) (W.contents output.new) }
+    ensures flag { output_failed.new ≡ not_written result }
+{
+    if play.each {
+        write_each(alloc, play.config, book, octets, output, output_failed)
+    } else {
+        write_whole(alloc, play, book, octets, output, output_failed)
+    }
+}
+
+/// The octets that hex text spells; the text is given back.
+fn octets_of(alloc: Global, input: Vec<u8>) -> Result<Vec<u8>, BenchFault>
+    ensures ok { IfOk result (λ octets. octets_spelled input.items ≡ Some octets.items) }
+    ensures err { IfErr result (λ fault. IsNoHex (octets_spelled input.items) fault) }
+{
+    read_hex(alloc, input.as_slice())
+}
+
+/// Writes what `play` prints of its input, however the octets are cut: the octets sent, and the state after all of them; or the same of each place.
+///
+/// `BadHex` where the input is no hex text, then `BadConfig` where a limit is out of range; nothing is written then. `NoMemory` where memory is refused:
+/// nothing was written, or some first places. `NotWritten` where a write failed.
+pub fn write_play<W: io::Write>(
+    alloc: Global,
+    play: &Play<'_>,
+    book: &Book<Global>,
+    input: Vec<u8>,
     output: &mut W,
     output_failed: &mut bool,
 ) -> Result<(), Untold>
     requires { output_failed.old ≡ false }
-    ensures told { output_failed.new ≡ false → WritesSome (OrCutShort (places_play true book.now play.now.config (octets_spelled input.now)) (told_play true book.now play.now.config (octets_spelled input.now)))
+    ensures told { output_failed.new ≡ false → let spelled = octets_spelled input.items in
+        WritesSome (OrCutShort (places_play play.now.each book.now play.now.config spelled) (told_play play.now.each book.now play.now.config spelled))
         result (W.contents output.old) (W.contents output.new) }
     ensures flag { output_failed.new ≡ not_written result }
 {
-    match read_hex(alloc, input) {
-        Ok(octets) => write_played(
-            alloc,
-            book,
-            play.config,
-            octets.as_slice(),
-            output,
-            output_failed,
-        ),
+    match octets_of(alloc, input) {
+        Ok(octets) => write_played(alloc, play, book, octets.as_slice(), output, output_failed),
         Err(fault) => Err(Untold::Fault(fault)),
     }
-}
-
-/// What `play` prints of its input, however the octets are cut: the octets sent, and the state after all of them.
-///
-/// `BadHex` where the input is no hex text, then `BadConfig` where a limit is out of range; `NoMemory` where memory is refused.
-pub fn play_text(
-    alloc: Global,
-    play: &Play<'_>,
-    book: &Book<Global>,
-    input: &[u8],
-) -> Result<String, BenchFault>
-    ensures { Meets result (told_play false book.now play.now.config (octets_spelled input.now)) }
-{
-    let octets = match read_hex(alloc, input) {
-        Ok(octets) => octets,
-        Err(fault) => return Err(fault),
-    };
-    played_whole(alloc, book, play.config, play.cut, octets.as_slice())
 }

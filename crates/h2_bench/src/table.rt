@@ -8,10 +8,10 @@ ghost use Rattle.h2_bench.specs.Commands.{asked_by};
 ghost use Rattle.h2_spec.specs.DynamicTable.{insert};
 ghost use Rattle.h2_spec.specs.Field.{field};
 ghost use Rattle.h2_bench.specs.Faults.{fault_line};
-ghost use Rattle.h2_bench.specs.TableProgram.{place_line, behind_line, command_of, counts_line, first_line, obeyed, table_text, told_of};
+ghost use Rattle.h2_bench.specs.TableProgram.{behind_line, command_of, counts_line, first_line, obeyed, table_text, told_of};
 
 use crate::fault::BenchFault;
-use h2_conn::show::write_entry;
+use h2_conn::show::EntriesText;
 use h2_script::number_at;
 use h2_table::DynTable;
 use std::alloc::{AllocError, Allocator, Global};
@@ -118,45 +118,12 @@ fn obey<A: Allocator + Copy>(
     }
 }
 
-/// How many entries there are: each counts 32 octets or more, and all together at most the maximum.
-fn count_of<A: Allocator>(table: &DynTable<A>) -> usize
-    ensures count { result ≡ length table.now.table.entries }
-    ensures few { result < 2 ^ 32 }
-{
-    let _size = table.size();
-    let _max = table.max();
-    table.len()
-}
-
-/// The line of the entry at a place, 0 for the newest.
-#[tactic(auto, unfolding(h2_spec::specs::DynamicTable::entry_at))]
-fn write_place<A: Allocator + Copy>(
-    text: &mut String<A>,
-    table: &DynTable<A>,
-    place: usize,
-) -> Result<(), AllocError>
-    requires inside { place < length table.now.table.entries }
-    requires few { place < 2 ^ 32 }
-    ensures { OnOk result (string_bytes text.new ≡ string_bytes text.old ++ place_line place table.now.table.entries) }
-{
-    match table.get(place + 1) {
-        Some((name, value)) => write_entry(text, 62 + place, name, value),
-        None => Ok(()),
-    }
-}
-
 /// The lines of the entries, the newest first.
-fn write_entries<A: Allocator + Copy>(
-    text: &mut String<A>,
-    table: &DynTable<A>,
-) -> Result<(), AllocError>
+fn write_entries<A: Allocator>(text: &mut String<A>, table: &DynTable<A>) -> Result<(), AllocError>
     ensures { OnOk result (string_bytes text.new ≡ string_bytes text.old ++ entry_lines 62 table.now.table.entries) }
 {
-    let count = count_of(table);
-    for place in 0..count {
-        write_place(text, table, place)?;
-    }
-    Ok(())
+    let entries = EntriesText(table);
+    write!(text, "{entries}")
 }
 
 /// The first line, without its line feed, and what follows it.

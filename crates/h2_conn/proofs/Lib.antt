@@ -14,3 +14,4 @@ mod Runs
 mod Shortest
 mod Views
 mod SentLaws
+mod Texts

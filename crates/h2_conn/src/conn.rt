@@ -2,7 +2,7 @@
 //! Rests on h2_frame's splitter, on `item`, `opening`, `view` and `show`.
 //! Definitions: h2_spec's `specs/Trace.antt`; `specs/Connection.antt` for what a connection stands for, `specs/Runs.antt` for what feeding it comes to.
 
-ghost use Rattle.std.specs.Prelude.{◌≡◌, ◌++◌, ◌∷◌, ◌<◌, ◌^◌, [], true, false, IfOk, IfErr, OnOk, OnErr, option_map};
+ghost use Rattle.std.specs.Prelude.{◌≡◌, ◌++◌, ◌∷◌, ◌<◌, ◌^◌, [], true, false, IfOk, IfErr, OnOk, OnErr, Some, option_map};
 ghost use Rattle.std.specs.String.{string_bytes};
 ghost use Rattle.h2_spec.specs.Errors.{code_number};
 ghost use Rattle.h2_spec.specs.Opening.{opening_octets};
@@ -19,14 +19,16 @@ ghost use Rattle.h2_conn.specs.Runs.{Advances, Feeds, FeedsOne, Halted, Halts, R
 use crate::fault::ConnFault;
 use crate::one::One;
 use crate::opening::write_opening;
-use crate::show::write_view;
+use crate::show::StateText;
 use crate::state::State;
 use crate::view::View;
 use h2_frame::Splitter;
 use h2_request::book::Book;
 use h2_spec::connection::{Config, Phase};
 use std::alloc::{AllocError, Allocator};
+use std::fmt;
 use std::marker::Model;
+use std::string::ToString;
 
 /// Whether a connection error has ended the connection.
 fn is_ended(phase: Phase) -> bool
@@ -278,14 +280,20 @@ impl<'b, A: Allocator + Copy> Conn<'b, A> {
 
     /// The text of what is shown of the state, line by line.
     ///
-    /// `AllocError` where memory for the view or the text is refused.
+    /// `AllocError` where memory for the text is refused.
     pub fn show(&self, alloc: A) -> Result<String<A>, AllocError>
         ensures { IfOk result (λ text. string_bytes text ≡ show (view self.now.state)) }
     {
-        let view = self.state(alloc)?;
-        let mut text = String::new(alloc);
-        write_view(&mut text, &view)?;
-        Ok(text)
+        self.to_string(alloc)
+    }
+}
+
+/// The text of what is shown of the state, line by line. It takes no memory.
+impl<'b, A: Allocator> fmt::Display for Conn<'b, A> {
+    ghost output = { λ c. Some (show (view c.state)) };
+
+    fn fmt<W: fmt::Write>(&self, f: &mut fmt::Formatter<W>) -> fmt::Result {
+        f.write(StateText(&self.state))
     }
 }
 

@@ -6,7 +6,7 @@ ghost use Rattle.h2_spec.specs.Opening.{opening_octets};
 ghost use Rattle.h2_spec.specs.State.{opening};
 ghost use Rattle.h2_conn.specs.Connection.{going, is_allowed};
 ghost use Rattle.h2_conn.specs.Faults.{refusal_for};
-ghost use Rattle.h2_conn.specs.Runs.{Fed, Plays};
+ghost use Rattle.h2_conn.specs.Runs.{Fed, Opens, Plays};
 ghost use Rattle.h2_conn.specs.declared.fault.ConnFault.TheVariants.{NoMemory};
 
 use crate::conn::Conn;
@@ -44,23 +44,34 @@ fn feed_pieces<'b, A: Allocator + Copy>(
     }
 }
 
-/// Opens a connection, feeds it, and answers what is shown of its last state.
-fn open_and_feed<A: Allocator + Copy>(
-    book: &Book<A>,
+/// Opens a connection and feeds it the octets, cut into pieces of these lengths and what remains; a length above what is left takes what is left.
+///
+/// `out` gains the opening SETTINGS and all frames sent. The connection is the same however the octets are cut.
+///
+/// # Errors
+///
+/// `BadConfig` where the most streams are not 1 to 1000, or the credit is not 1 to 65535; then `NoMemory`. Both leave `out` as it was.
+pub fn open_and_feed<'b, A: Allocator + Copy>(
+    book: &'b Book<A>,
     config: Config,
     octets: &[u8],
     lengths: &[usize],
     out: &mut Vec<u8, A>,
-) -> Result<View<A>, ConnFault>
-    ensures ok { IfOk result (λ shown. Plays book.now config octets.now out.old.items shown out.new.items) }
+) -> Result<Conn<'b, A>, ConnFault>
+    ensures ok { IfOk result (λ conn. Opens book.now config octets.now out.old.items conn out.new.items) }
     ensures allowed { OnOk result (is_allowed config ≡ true) }
     ensures fault { IfErr result (λ fault. fault ≡ refusal_for (is_allowed config)) }
-    ensures kept { take (length out.old.items) out.new.items ≡ out.old.items }
+    ensures unchanged { OnErr result (out.new.items ≡ out.old.items) }
 {
+    let mark = out.as_slice().len();
     let mut conn = Conn::new(book, config, out)?;
-    feed_pieces(&mut conn, octets, lengths, out)?;
-    let view = conn.state(*out.allocator())?;
-    Ok(view)
+    match feed_pieces(&mut conn, octets, lengths, out) {
+        Ok(()) => Ok(conn),
+        Err(fault) => {
+            out.truncate(mark);
+            Err(fault)
+        }
+    }
 }
 
 /// Plays a connection over the octets, cut into pieces of these lengths and what remains; a length above what is left takes what is left.
@@ -82,12 +93,13 @@ pub fn play<A: Allocator + Copy>(
     ensures fault { IfErr result (λ fault. fault ≡ refusal_for (is_allowed config)) }
     ensures unchanged { OnErr result (out.new.items ≡ out.old.items) }
 {
-    let mark = out.as_slice().len();
-    match open_and_feed(book, config, octets, lengths, out) {
+    let length = out.as_slice().len();
+    let conn = open_and_feed(book, config, octets, lengths, out)?;
+    match conn.state(*out.allocator()) {
         Ok(view) => Ok(view),
-        Err(fault) => {
-            out.truncate(mark);
-            Err(fault)
+        Err(_) => {
+            out.truncate(length);
+            Err(ConnFault::NoMemory)
         }
     }
 }

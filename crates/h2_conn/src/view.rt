@@ -1,7 +1,7 @@
 //! What is shown of a connection's state.
 //! Rests on `state` and, for the fields of the header table, on h2_fields; definition: h2_spec's `specs/View.antt`.
 
-ghost use Rattle.std.specs.Prelude.{◌≡◌, ◌<◌, ◌^◌, IfOk, map, option_map, slice_get};
+ghost use Rattle.std.specs.Prelude.{◌≡◌, ◌<◌, ◌^◌, IfOk, length, map, option_map, slice_get};
 ghost use Rattle.h2_spec.specs.Field.{field};
 ghost use Rattle.h2_table.specs.Lent.{lent_field};
 ghost use Rattle.h2_spec.specs.View.{shown_block, shown_stream, view};
@@ -81,8 +81,18 @@ fn field_of<A: Allocator + Copy>(
     Ok(Field::new(name, value))
 }
 
+/// How many entries there are: each counts 32 octets or more, and all together at most the maximum.
+pub fn count_of<A: Allocator>(table: &DynTable<A>) -> usize
+    ensures count { result ≡ length table.now.table.entries }
+    ensures few { result < 2 ^ 32 }
+{
+    let _size = table.size();
+    let _max = table.max();
+    table.len()
+}
+
 /// The name and the value of the entry at a place, 0 for the newest.
-fn entry_at<A: Allocator>(table: &DynTable<A>, place: usize) -> Option<(&[u8], &[u8])>
+pub fn entry_at<A: Allocator>(table: &DynTable<A>, place: usize) -> Option<(&[u8], &[u8])>
     requires few { place < 2 ^ 63 }
     ensures { option_map lent_field result ≡ slice_get table.now.table.entries place }
 {
@@ -104,7 +114,7 @@ fn entries_of<A: Allocator + Copy>(
 }
 
 /// What is shown of a stream.
-fn shown_stream(stream: &Stream) -> StreamView
+pub fn shown_stream(stream: &Stream) -> StreamView
     ensures { result ≡ shown_stream stream.now }
 {
     StreamView {
@@ -129,7 +139,7 @@ fn streams_of<A: Allocator + Copy>(
 }
 
 /// What is shown of an open block.
-fn shown_block<A: Allocator>(block: &Option<OpenBlock<A>>) -> Option<BlockView>
+pub fn shown_block<A: Allocator>(block: &Option<OpenBlock<A>>) -> Option<BlockView>
     ensures { result ≡ shown_block block.now }
 {
     match block {

@@ -1,9 +1,11 @@
 //! Single calls of a connection (RFC 9113, 3.4).
 
 use crate::frames::PREFACE;
+use h2_conn::play::play;
 use h2_conn::{Conn, ConnFault};
 use h2_request::book::Book;
 use h2_spec::connection::{Config, Phase};
+use h2_spec::streams::Kind;
 use std::alloc::Global;
 use std::test::Fail;
 
@@ -135,25 +137,86 @@ fn nothing_is_taken_after_the_end(rt: HostRuntime) -> Result<(), Fail> {
     Ok(())
 }
 
-/// The text of a new connection's state, and its phase.
-fn shown(alloc: Global) -> Result<(String, Phase), Fail> {
+/// The text of a new connection's state, the same as the connection writes it between two words, and its phase.
+fn shown(alloc: Global) -> Result<(String, String, Phase), Fail> {
     let book = Book::new(alloc);
     let conn = Conn::new(&book, usual(), &mut Vec::new(alloc))?;
     let text = conn.show(alloc)?;
+    let written = format!(in alloc; "state\n{conn}end")?;
     let view = conn.state(alloc)?;
-    Ok((text, view.phase))
+    Ok((text, written, view.phase))
 }
 
 #[test]
 fn the_state_is_shown(rt: HostRuntime) -> Result<(), Fail> {
-    let (text, phase) = shown(rt.alloc())?;
-    let want = "phase preface last 0\n\
+    let (text, written, phase) = shown(rt.alloc())?;
+    let want = "state\n\
+                phase preface last 0\n\
                 window recv 65535 owed 0 send 65535\n\
                 peer table 4096 push 1 streams - window 65535 frame 16384 list - signal 0\n\
                 acked 0 goaway -\n\
                 block -\n\
-                table 0 0 4096\n";
-    assert_eq!(rt; (text.as_str(), phase), (want, Phase::Preface));
+                table 0 0 4096\n\
+                end";
+    assert_eq!(rt; (written.as_str(), phase), (want, Phase::Preface));
+    assert_eq!(rt;
+        Some(text.as_str()),
+        written
+            .as_str()
+            .strip_prefix("state\n")
+            .and_then(|it| it.strip_suffix("end"))
+    );
+    Ok(())
+}
+
+/// The phase and the last stream of a run over octets in pieces of these lengths, its streams, and the octets sent.
+type Played = (Phase, u32, Vec<(u32, Kind)>, Vec<u8>);
+
+fn played(alloc: Global, octets: &[u8], lengths: &[usize]) -> Result<Played, Fail> {
+    let book = Book::new(alloc);
+    let mut sent = Vec::new(alloc);
+    let view = play(&book, usual(), octets, lengths, &mut sent)?;
+    let mut streams = Vec::new(alloc);
+    for stream in view.streams.as_slice() {
+        streams.push((stream.id, stream.kind))?;
+    }
+    Ok((view.phase, view.last, streams, sent))
+}
+
+#[test]
+fn runs_are_played(rt: HostRuntime) -> Result<(), Fail> {
+    // SETTINGS, and a request on stream 1 of one field, `:method: GET`, which is malformed (RFC 9113, 8.3.1).
+    let octets =
+        b"PRI * HTTP/2.0\r\n\r\nSM\r\n\r\n\x00\x00\x00\x04\x00\x00\x00\x00\x00\x00\x00\x01\x01\x05\x00\x00\x00\x01\x82";
+    // SETTINGS of 100 streams and 65536 octets of fields, the acknowledgement, RST_STREAM with PROTOCOL_ERROR.
+    let answers =
+        b"\x00\x00\x0c\x04\x00\x00\x00\x00\x00\x00\x03\x00\x00\x00\x64\x00\x06\x00\x01\x00\x00\x00\x00\x00\x04\x01\x00\x00\x00\x00\x00\x00\x04\x03\x00\x00\x00\x00\x01\x00\x00\x00\x01";
+    for lengths in [[].as_slice(), [1, 24, 100].as_slice()] {
+        let (phase, last, streams, sent) = played(rt.alloc(), octets, lengths)?;
+        assert_eq!(rt; (phase, last), (Phase::Running, 1));
+        assert_eq!(rt; streams.as_slice(), [(1, Kind::WeReset)].as_slice());
+        assert_eq!(rt; sent.as_slice(), answers.as_slice());
+    }
+    Ok(())
+}
+
+/// The fault of a run of no stream, and the octets behind which it would have sent.
+fn refused(alloc: Global) -> Result<(Option<ConnFault>, Vec<u8>), Fail> {
+    let book = Book::new(alloc);
+    let mut sent = Vec::from_slice(alloc, b"kept")?;
+    let config = Config {
+        streams: 0,
+        credit: 1,
+    };
+    let fault = play(&book, config, PREFACE, &[], &mut sent).err();
+    Ok((fault, sent))
+}
+
+#[test]
+fn runs_out_of_limits_are_refused(rt: HostRuntime) -> Result<(), Fail> {
+    let (fault, sent) = refused(rt.alloc())?;
+    assert_eq!(rt; fault, Some(ConnFault::BadConfig));
+    assert_eq!(rt; sent.as_slice(), b"kept".as_slice());
     Ok(())
 }
 

@@ -3,8 +3,7 @@
 use crate::program::ran;
 use h2_bench::parse_answer;
 use h2_conn::Conn;
-use h2_conn::play::play;
-use h2_conn::show::write_view;
+use h2_conn::play::open_and_feed;
 use h2_request::book::Book;
 use h2_spec::connection::Config;
 use std::alloc::{AllocError, Global};
@@ -48,9 +47,8 @@ fn played(
     lengths: &[usize],
 ) -> Result<(Vec<u8>, String), Fail> {
     let mut sent = Vec::new(alloc);
-    let view = play(book, one_stream(), octets, lengths, &mut sent)?;
-    let mut text = String::new(alloc);
-    write_view(&mut text, &view)?;
+    let conn = open_and_feed(book, one_stream(), octets, lengths, &mut sent)?;
+    let text = conn.show(alloc)?;
     Ok((sent, text))
 }
 

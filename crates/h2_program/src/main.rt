@@ -4,8 +4,11 @@
 
 use h2_bench::{Words, run};
 use std::io;
-use std::io::Write;
+use std::io::{BufWriter, Write};
 use std::process::ExitCode;
+
+/// How many octets of output are gathered before they are written.
+const GATHERED: usize = 32768;
 
 /// The words of the command line, the program's name first.
 fn words_of(rt: &HostRuntime) -> io::Result<Words> {
@@ -16,7 +19,7 @@ fn words_of(rt: &HostRuntime) -> io::Result<Words> {
     Ok(words)
 }
 
-/// Says why the words could not be read: memory was refused, or one of them is not UTF-8.
+/// Says why nothing is done: memory was refused, or a word is not UTF-8.
 fn refuse<W: Write>(output: &mut W, error: &io::Error) -> ExitCode {
     let (text, status) = match error.kind() {
         io::ErrorKind::InvalidData => ("error: a word of the command line is not UTF-8\n", 2),
@@ -28,11 +31,22 @@ fn refuse<W: Write>(output: &mut W, error: &io::Error) -> ExitCode {
     }
 }
 
+/// Does what the words ask for. The output is gathered into larger writes; where no memory is left for that, nothing is done.
+fn answer(rt: &HostRuntime, words: &Words) -> ExitCode {
+    let mut output = match BufWriter::with_capacity(rt.alloc(), GATHERED, rt.stdout()) {
+        Ok(output) => output,
+        Err(error) => return refuse(&mut rt.stdout(), &error),
+    };
+    let status = run(rt.alloc(), words, &mut rt.stdin(), &mut output);
+    match output.flush() {
+        Ok(()) => ExitCode::from(status),
+        Err(_) => ExitCode::from(3),
+    }
+}
+
 fn main(rt: HostRuntime) -> ExitCode {
-    let mut input = rt.stdin();
-    let mut output = rt.stdout();
     match words_of(&rt) {
-        Ok(words) => ExitCode::from(run(rt.alloc(), &words, &mut input, &mut output)),
-        Err(error) => refuse(&mut output, &error),
+        Ok(words) => answer(&rt, &words),
+        Err(error) => refuse(&mut rt.stdout(), &error),
     }
 }

@@ -1,15 +1,9 @@
-use Rattle.std.proofs.Common.{◌∙◌, ℕ, List, [], Option, true, ap, inl, inr, sym}
-use Rattle.h2_bench.specs.Tell.{failed_after}
-use Rattle.h2_bench.specs.Told.{told_play}
-use Rattle.h2_bench.proofs.InHand.{unchanged}
+use Rattle.std.proofs.Common.{◌∙◌}
+use Rattle.h2_bench.proofs.Played.{of-opened}
 use Rattle.h2_bench.proofs.play.write_each.Goals as goal
 
-pub returns-in-Err-clause-told : goal.returns-in-Err-clause-told
-returns-in-Err-clause-told g c = λ well held is. (
-  [],
-  unchanged held _ is,
-  elim c.in-Err.ensures.err [
-    | inl memory ↦ inr (0, ap (failed_after []) memory.0)
-    | inr bad ↦ inl (ap (failed_after []) bad.0 ∙ ap (λ (o : Option (List ℕ)). told_play true c.args.book.now c.args.play.now.config o) (sym bad.1))
-  ],
-)
+pub returns-in-Ok-clause-told : goal.returns-in-Ok-clause-told
+returns-in-Ok-clause-told g c = λ well held is.
+    let sent = rw c.new-sent.ensures.items at c.in-Ok.ensures.sent in
+    let x = c.write_places.ensures.told well held is in
+    (x.0, x.1, of-opened c.args.book.now c.args.config c.args.octets.now _ _ _ c.in-Ok.ensures.allowed c.in-Ok.ensures.opened (c.as_slice.ensures.value ∙ sent) x.2)

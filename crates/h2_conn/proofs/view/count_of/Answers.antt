@@ -1,7 +1,7 @@
 use Rattle.std.proofs.Common.{◌≤◌, List, [], ◌∷◌, length, arith}
 use Rattle.h2_spec.specs.DynamicTable.{total_size}
 use Rattle.h2_spec.specs.Field.{Field}
-use Rattle.h2_bench.proofs.table.count_of.Goals as goal
+use Rattle.h2_conn.proofs.view.count_of.Goals as goal
 
 length-total : (es : List Field) → length es ≤ total_size es
 length-total [] = omega arith

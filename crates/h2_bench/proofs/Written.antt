@@ -1,0 +1,47 @@
+-- What an output holds after texts were written, and what is told then.
+use Rattle.std.proofs.Common.{◌≡◌, ◌∙◌, ℕ, suc, List, [], ◌∷◌, ◌++◌, false, Option, Some, None, Result, Ok, Err, IfErr, OnOk, take, refl, sym, ap, subst, inl, inr, append_assoc}
+use Rattle.std.specs.List.{concat}
+use Rattle.std.specs.Io.KnownBytes.{Appends}
+use Rattle.std.proofs.lemmas.List.{append-nil}
+use Rattle.h2_bench.specs.Answers.{Gives, seen}
+use Rattle.h2_bench.specs.Each.{Stops, not_written, told_after}
+use Rattle.h2_bench.specs.Tell.{OrCutShort, Told, done, failed, failed_after}
+use Rattle.h2_bench.specs.declared.each.Untold.{Untold}
+use Rattle.h2_bench.specs.declared.each.Untold.TheVariants.{Fault, NotWritten}
+use Rattle.h2_bench.specs.declared.fault.BenchFault.{BenchFault}
+use Rattle.h2_bench.specs.declared.report.Report.{Report}
+
+pub appended : (now text : List ℕ) (before after : Option (List ℕ)) → before ≡ Some now → Appends before after text → after ≡ Some (now ++ text)
+appended now text before (Some later) e x = ap (λ (t : List ℕ). Some t) (subst (λ (b : Option (List ℕ)). Appends b (Some later) text) e x)
+appended now text before None e x = absurd (subst (λ (b : Option (List ℕ)). Appends b None text) e x)
+
+-- a text more is written behind those that were
+pub more-written : (held done text later : List ℕ) (before after : Option (List ℕ)) → before ≡ Some (held ++ done) → Appends before after text → later ≡ done ++ text → after ≡ Some (held ++ later)
+more-written held done text later before after is a e =
+    appended (held ++ done) text before after is a ∙ ap (λ (t : List ℕ). Some t) (append_assoc held done text ∙ ap (λ (t : List ℕ). held ++ t) (sym e))
+
+-- places that were cut off lead to such an answer
+pub stopped : (ps : List (List ℕ)) (told : Told) (held : List ℕ) (after : Option (List ℕ)) (why : Untold) → not_written (Err why) ≡ false → Stops ps held after why
+    → (text : List ℕ) × (after ≡ Some (held ++ text)) × OrCutShort ps told (told_after text (Err why))
+stopped ps told held after (Fault fault) well x = (concat (take x.1.0 ps), x.1.1, inr (x.1.0, ap (failed_after (concat (take x.1.0 ps))) x.0))
+stopped ps told held after NotWritten well x = cc
+
+pub unchanged : (held : List ℕ) (after : Option (List ℕ)) → after ≡ Some held → after ≡ Some (held ++ [])
+unchanged held after e = e ∙ ap (λ (t : List ℕ). Some t) (sym (append-nil held))
+
+-- a report is what is to be told, or memory was refused before anything was written
+pub given : (r : Result Report BenchFault) (t : Told) (ps : List (List ℕ)) → Gives r t → OrCutShort ps t (seen r)
+given (Ok report) t ps x = inl (sym x)
+given (Err fault) t ps (inl memory) = inr (0, ap (λ (f : BenchFault). failed f) memory)
+given (Err fault) t ps (inr x) = inl (sym x)
+
+-- the start of a run was written, and then its items, or some first of them
+pub with-start : (start : List ℕ) (items : List (List ℕ)) (held : List ℕ) (before after : Option (List ℕ)) (r : Result (Unit {0}) Untold) → not_written r ≡ false → before ≡ Some (held ++ start)
+    → OnOk r ((now : List ℕ) → before ≡ Some now → after ≡ Some (now ++ concat items)) → IfErr r (λ why. (now : List ℕ) → before ≡ Some now → Stops items now after why)
+    → (text : List ℕ) × (after ≡ Some (held ++ text)) × OrCutShort (start ∷ items) (done (concat (start ∷ items))) (told_after text r)
+with-start start items held before after (Ok u) well is o e = (concat (start ∷ items), o (held ++ start) is ∙ ap (λ (t : List ℕ). Some t) (append_assoc held start (concat items)), inl refl)
+with-start start items held before after (Err why) well is o e = stopped (start ∷ items) (done (concat (start ∷ items))) held after why well (starts why (e (held ++ start) is))
+  where
+    starts : (why : Untold) → Stops items (held ++ start) after why → Stops (start ∷ items) held after why
+    starts (Fault fault) x = (x.0, (suc x.1.0, x.1.1 ∙ ap (λ (t : List ℕ). Some t) (append_assoc held start (concat (take x.1.0 items)))))
+    starts NotWritten x = tt

@@ -1,0 +1,11 @@
+use Rattle.std.proofs.Common.{rules, ◌≡◌, [], Bool, true, subst}
+use Rattle.h2_conn.specs.Runs.{FeedsAs}
+use Rattle.h2_bench.proofs.Places.{taken-alone}
+use Rattle.h2_bench.proofs.each.take_next.Goals as goal
+
+pub returns : goal.returns
+returns c =
+    let some : c.in-Ok.one.item ≡ true = search rules in
+    let taken = subst (λ (b : Bool). FeedsAs b c.args.conn.now c.args.octets.now [] c.feed_one.new.self c.feed_one.new.out.items c.in-Ok.one.used) some
+    (rw c.new-sent.ensures.items at c.in-Ok.ensures.ok) in
+    taken-alone c.args.conn.now c.feed_one.new.self c.args.octets.now _ c.requires taken
