@@ -364,6 +364,16 @@ fn trailers_end_the_side_of_the_peer(rt: HostRuntime) {
     }
 }
 
+/// The same where the server's settings are not acknowledged yet.
+fn fresh() -> Core
+    ensures { IsSoundCore result }
+{
+    Core {
+        acked: false,
+        ..running()
+    }
+}
+
 /// What is sent on the connection, what becomes of the streams, the GOAWAY that is kept, and whether the settings are acknowledged.
 type Kept = (ConnectionFrame, Touch, Option<(u32, u32)>, bool);
 
@@ -381,13 +391,25 @@ fn kept(reaction: Reaction) -> Option<Kept> {
 fn ping_is_answered_and_goaway_is_noted(rt: HostRuntime) {
     let answered = ConnectionFrame::PingAck;
     let quiet = ConnectionFrame::Quiet;
-    for (reaction, frame, goaway, name) in [
-        (on_ping(running(), false), answered, None, "PING"),
-        (on_ping(running(), true), quiet, None, "an answer"),
-        (on_goaway(running(), 7, 2), quiet, Some((7, 2)), "GOAWAY"),
-        (acknowledged(running()), quiet, None, "SETTINGS with ACK"),
+    for (reaction, frame, goaway, acked, name) in [
+        (on_ping(fresh(), false), answered, None, false, "PING"),
+        (on_ping(fresh(), true), quiet, None, false, "an answer"),
+        (
+            on_goaway(fresh(), 7, 2),
+            quiet,
+            Some((7, 2)),
+            false,
+            "GOAWAY",
+        ),
+        (
+            acknowledged(fresh()),
+            quiet,
+            None,
+            true,
+            "SETTINGS with ACK",
+        ),
     ] {
-        let wanted = (frame, Touch::Same, goaway, true);
+        let wanted = (frame, Touch::Same, goaway, acked);
         assert_eq!(rt; kept(reaction), Some(wanted), "{name}");
     }
 }
