@@ -4,13 +4,13 @@
 ghost use Rattle.std.specs.Prelude.{◌≡◌, ◌++◌, ◌∷◌, [], codes, decimal, true, Some};
 ghost use Rattle.std.specs.Fmt.{signed_decimal};
 ghost use Rattle.h2_spec.specs.Field.{field};
-ghost use Rattle.h2_spec.specs.Stream.{is_live};
 ghost use Rattle.h2_spec.specs.Show.{joined, phase_line, phase_text, peer_line, acked_line, goaway_text, block_line, table_line, entry_line, stream_line, stream_line_as, kind_text, option_text, flag_text};
 
 use crate::hex_text::OctetsText;
 use h2_spec::connection::{BlockView, Phase};
 use h2_spec::flow::{Credit, Settings, Window};
 use h2_spec::streams::{Kind, StreamView};
+use h2_streams::is_live;
 use std::fmt;
 
 /// A number, and a dash where there is none.
@@ -259,12 +259,6 @@ fn kind_name(kind: Kind) -> &'static str
         Kind::PeerReset => "peer-reset",
         Kind::WeReset => "we-reset",
     }
-}
-
-fn is_live(kind: Kind) -> bool
-    ensures { result ≡ is_live kind }
-{
-    matches!(kind, Kind::BothOpen | Kind::HalfRemote | Kind::HalfLocal)
 }
 
 /// A live stream with its numbers.
