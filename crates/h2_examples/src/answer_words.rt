@@ -1,5 +1,6 @@
 //! The words of one answer on the command line.
 
+use crate::program::joined;
 use h2_bench::parse_answer;
 use h2_request::book::Entry;
 use std::alloc::{AllocError, Global};
@@ -7,11 +8,32 @@ use std::test::Fail;
 
 // These have no clause, so that the proof of a test does not carry what the words say.
 
-/// The entry that the words say, or the number of the fault.
-fn said(alloc: Global, text: &str) -> Result<Entry<Global>, u8> {
+/// The method, path, body and fields of an entry, line by line.
+fn lines(alloc: Global, entry: &Entry<Global>) -> Result<Vec<u8>, AllocError> {
+    let (method, path) = (entry.method.as_slice(), entry.path.as_slice());
+    let body = entry.body.as_slice();
+    let mut lines = joined(alloc, &[method, b"\n", path, b"\n", body, b"\n"])?;
+    write_fields(&mut lines, entry)?;
+    Ok(lines)
+}
+
+fn write_fields(lines: &mut Vec<u8>, entry: &Entry<Global>) -> Result<(), AllocError> {
+    for field in &entry.fields {
+        lines.extend_from_slice(field.name.as_slice())?;
+        lines.extend_from_slice(b": ")?;
+        lines.extend_from_slice(field.value.as_slice())?;
+        lines.push(b'\n')?;
+    }
+    Ok(())
+}
+
+/// The status of the answer that the words say, and its other parts line by line; or the number of the fault.
+type Said = Result<(u16, Vec<u8>), u8>;
+
+fn said(alloc: Global, text: &str) -> Result<Said, AllocError> {
     match parse_answer(alloc, text) {
-        Ok(entry) => Ok(entry),
-        Err(fault) => Err(fault.number()),
+        Ok(entry) => Ok(Ok((entry.status, lines(alloc, &entry)?))),
+        Err(fault) => Ok(Err(fault.number())),
     }
 }
 
@@ -30,51 +52,19 @@ static REFUSED: [(&str, &str); 11] = [
     ("|||", "no status"),
 ];
 
-/// The number of the fault, or 255.
-fn fault_of(alloc: Global, text: &str) -> u8 {
-    match said(alloc, text) {
-        Ok(_) => 255,
-        Err(number) => number,
-    }
-}
-
 #[test]
-fn words_that_say_no_answer_are_refused(rt: HostRuntime) {
+fn words_that_say_no_answer_are_refused(rt: HostRuntime) -> Result<(), Fail> {
     for (text, message) in &REFUSED {
-        assert_eq!(rt; fault_of(rt.alloc(), text), 26, "{message}");
-    }
-}
-
-/// An entry, line by line: its method, path, status, body and fields.
-fn lines(alloc: Global, entry: &Entry<Global>) -> Result<Vec<u8>, AllocError> {
-    let mut lines = Vec::new(alloc);
-    for octets in [&entry.method, &entry.path, &entry.body] {
-        lines.extend_from_slice(octets.as_slice())?;
-        lines.push(b'\n')?;
-    }
-    write_fields(&mut lines, entry)?;
-    Ok(lines)
-}
-
-fn write_fields(lines: &mut Vec<u8>, entry: &Entry<Global>) -> Result<(), AllocError> {
-    for field in &entry.fields {
-        lines.extend_from_slice(field.name.as_slice())?;
-        lines.extend_from_slice(b": ")?;
-        lines.extend_from_slice(field.value.as_slice())?;
-        lines.push(b'\n')?;
+        let fault = said(rt.alloc(), text)?.err();
+        assert_eq!(rt; fault, Some(26), "{message}");
     }
     Ok(())
 }
 
-/// The status of an answer, and its other parts line by line.
-fn told(alloc: Global, text: &str) -> Result<(u16, Vec<u8>), Fail> {
-    let entry = said(alloc, text).ok().ok_or("an entry")?;
-    Ok((entry.status, lines(alloc, &entry)?))
-}
-
 #[test]
 fn words_say_answers(rt: HostRuntime) -> Result<(), Fail> {
-    let (status, lines) = told(rt.alloc(), "GET|/|999|6aF0|a=b=c|=|x=")?;
+    let said = said(rt.alloc(), "GET|/|999|6aF0|a=b=c|=|x=")?;
+    let (status, lines) = said.ok().ok_or("an answer")?;
     let wanted = b"GET\n/\n\x6a\xf0\na: b=c\n: \nx: \n";
     assert_eq!(rt; (status, lines.as_slice()), (999, wanted.as_slice()));
     Ok(())
@@ -82,7 +72,8 @@ fn words_say_answers(rt: HostRuntime) -> Result<(), Fail> {
 
 #[test]
 fn parts_of_answers_may_be_empty(rt: HostRuntime) -> Result<(), Fail> {
-    let (status, lines) = told(rt.alloc(), "||000|")?;
+    let said = said(rt.alloc(), "||000|")?;
+    let (status, lines) = said.ok().ok_or("an answer")?;
     assert_eq!(rt; (status, lines.as_slice()), (0, b"\n\n\n".as_slice()));
     Ok(())
 }

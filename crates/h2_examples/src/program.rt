@@ -84,7 +84,7 @@ pub(crate) fn long_answer(alloc: Global, count: u32) -> Result<String, Fail> {
 }
 
 /// Texts one behind another.
-fn joined(alloc: Global, texts: &[&[u8]]) -> Result<Vec<u8>, AllocError> {
+pub(crate) fn joined(alloc: Global, texts: &[&[u8]]) -> Result<Vec<u8>, AllocError> {
     let mut all = Vec::new(alloc);
     for text in texts {
         all.extend_from_slice(text)?;
