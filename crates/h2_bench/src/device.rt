@@ -48,18 +48,3 @@ pub fn write_text<W: Write, D: Display + Drop>(
         }
     }
 }
-
-/// Writes all of a text. Where a write fails, the flag is set; part of the text may be written then.
-pub fn write_all<W: Write>(output: &mut W, failed: &mut bool, text: &[u8]) -> Result<(), Failed>
-    ensures octets { OnOk result (Appends (W.contents output.old) (W.contents output.new) text.now) }
-    ensures ok { OnOk result (failed.new ≡ failed.old) }
-    ensures err { OnErr result (failed.new ≡ true) }
-{
-    match output.write_all(text) {
-        Ok(()) => Ok(()),
-        Err(_) => {
-            *failed = true;
-            Err(Failed)
-        }
-    }
-}

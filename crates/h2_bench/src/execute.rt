@@ -15,7 +15,7 @@ ghost use Rattle.h2_bench.specs.declared.fault.BenchFault.TheVariants.{NoMemory}
 
 use crate::asm::asm_report;
 use crate::command::{Plan, Play, Refusal, parse};
-use crate::device::write_all;
+use crate::device::write_text;
 use crate::dis::dis_text;
 use crate::each::Untold;
 use crate::fault::BenchFault;
@@ -46,7 +46,7 @@ fn tell<W: Write>(output: &mut W, output_failed: &mut bool, text: &str, status: 
         → Tells (record { text = text.now; status = status }) held (W.contents output.new) result }
     ensures failed { (output_failed.new ≡ false) ⊎ ((output_failed.new ≡ true) × (result ≡ 3)) }
 {
-    match write_all(output, output_failed, text.as_bytes()) {
+    match write_text(output, output_failed, text) {
         Ok(()) => status,
         Err(_) => 3,
     }
