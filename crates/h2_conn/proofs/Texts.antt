@@ -2,6 +2,8 @@
 use Rattle.std.proofs.Common.{◌≡◌, ◌∙◌, ℕ, zero, suc, Bool, true, ◌&&◌, ltb, IsAscii, ◌+◌, ◌<◌, List, [], ◌∷◌, ◌++◌, codes, decimal, drop, length, map, Some, None, refl, sym, ap, arith, append_assoc, append-nil}
 use Rattle.std.specs.Prelude.{slice_get}
 use Rattle.std.proofs.lemmas.Bool.Decides.{Decides-by_and, Decides-ltb}
+use Rattle.std.proofs.lemmas.List.{drop_more}
+use Rattle.std.proofs.lemmas.Option.{get_or_from_slice_get, slice_get_within}
 use Rattle.std.proofs.lemmas.Str.Ascii.{IsAscii-from_all}
 use Rattle.hex.proofs.HexLemmas.{IsAscii-encode_with}
 use Rattle.hex.specs.Hex.{encode_lower, encode_with, lower_digits}
@@ -25,10 +27,8 @@ text-end done rest all e q = sym (append-nil done) ∙ ap (λ (t : List ℕ). do
 
 -- ---- places of a list
 
-drop-at : {X : Type 0} → (k : ℕ) (xs : List X) (x : X) → slice_get xs k ≡ Some x → drop k xs ≡ x ∷ drop (suc k) xs
-drop-at k [] x h = cc
-drop-at zero (y ∷ ys) x h = let same : y ≡ x = cc in ap (λ z. z ∷ ys) same
-drop-at (suc k) (y ∷ ys) x h = drop-at k ys x h
+drop-at : {X : Type 0} → (k : ℕ) (xs : List X) (x : X) → slice_get xs k ≡ Some x → drop k xs ≡ x ∷ drop (k + 1) xs
+drop-at k xs x e = drop_more xs k x (slice_get_within xs k x e) ∙ ap (λ q. q ∷ drop (k + 1) xs) (get_or_from_slice_get xs k x x e)
 
 drop-past : {X : Type 0} → (k : ℕ) (xs : List X) → slice_get xs k ≡ None → drop k xs ≡ []
 drop-past zero [] h = refl
@@ -69,9 +69,8 @@ entries-none i = refl
 
 pub entries-next : (k : ℕ) (es : List Field) (x : Field) → slice_get es k ≡ Some x → entry_lines (62 + k) (drop k es) ≡ entry_line (62 + k) x ++ entry_lines (62 + (k + 1)) (drop (k + 1) es)
 entries-next k es x h =
-    let one : k + 1 ≡ suc k = omega arith in
-    let further : 62 + k + 1 ≡ 62 + suc k = omega arith in
-    rw (drop-at k es x h, one) (entries-first (62 + k) x (drop (suc k) es) ∙ rw further refl)
+    let further : 62 + k + 1 ≡ 62 + (k + 1) = omega arith in
+    rw (drop-at k es x h) (entries-first (62 + k) x (drop (k + 1) es) ∙ rw further refl)
 
 pub entries-past : (k i : ℕ) (es : List Field) → slice_get es k ≡ None → entry_lines i (drop k es) ≡ []
 entries-past k i es h = ap (entry_lines i) (drop-past k es h) ∙ entries-none i
@@ -89,8 +88,7 @@ streams-none = refl
 pub streams-next : (k : ℕ) (sts : List Stream) (x : Stream) → slice_get sts k ≡ Some x
     → stream_lines (map shown_stream (drop k sts)) ≡ stream_line (shown_stream x) ++ stream_lines (map shown_stream (drop (k + 1) sts))
 streams-next k sts x h =
-    let one : k + 1 ≡ suc k = omega arith in
-    rw (drop-at k sts x h, one) (streams-first (shown_stream x) (map shown_stream (drop (suc k) sts)))
+    rw (drop-at k sts x h) (streams-first (shown_stream x) (map shown_stream (drop (k + 1) sts)))
 
 pub streams-past : (k : ℕ) (sts : List Stream) → slice_get sts k ≡ None → stream_lines (map shown_stream (drop k sts)) ≡ []
 streams-past k sts h = ap (λ (l : List Stream). stream_lines (map shown_stream l)) (drop-past k sts h) ∙ streams-none
