@@ -1,6 +1,6 @@
 //! Huffman strings (RFC 7541, 5.2 and Appendix B): how long one is, writing one, and reading one.
 //! It rests on the arrays of `tables`, which proofs tie to the code of `h2_spec`; its definitions are `spell_huffman` and
-//! `huffman_text` of `h2_spec`, specs/Huffman.antt, and the law that these are what the RFC says is `h2_spec::huffman_laws`.
+//! `huffman_text` of `h2_spec`, specs/Huffman.antt, and the law that these are what the RFC says is `h2_laws::huffman_laws`.
 
 ghost use Rattle.std.specs.Prelude.{◌≡◌, ℕ, ◌+◌, ◌*◌, ◌^◌, ◌<◌, ◌≤◌, ◌↔◌, ◌++◌, Bool, List, length, take, IfOk, OnOk, OnErr, IsErrOf};
 ghost use Rattle.std.specs.Vec.{vec_len, vec_capacity};

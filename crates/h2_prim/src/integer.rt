@@ -1,6 +1,6 @@
 //! Integers with a prefix of some bits of an octet (RFC 7541, 5.1).
 //! It rests on nothing; its definitions are `int_at` and `spell_int` of `h2_spec`, specs/Integer.antt, and the law that
-//! these are what the RFC says is `h2_spec::integer_laws`.
+//! these are what the RFC says is `h2_laws::integer_laws`.
 
 ghost use Rattle.std.specs.Prelude.{◌≡◌, ℕ, ◌+◌, ◌-◌, ◌%◌, ◌^◌, ◌<◌, ◌≤◌, ◌++◌, OnOk, OnErr};
 ghost use Rattle.std.specs.Vec.{vec_len, vec_capacity};

@@ -1,6 +1,6 @@
 //! Whether fields make a request or trailers, and what a request asks for (RFC 9113, 8.1 to 8.5).
 //! It rests on `walk`; the definitions are `malformed`, `malformed_trailers` and `request_of` of `h2_spec`,
-//! specs/Request.antt, which specs/Reasons.antt says once more of the places of fields in their list.
+//! specs/Request.antt, which `h2_laws`, specs/Reasons.antt, says once more of the places of fields in their list.
 
 ghost use Rattle.std.specs.Prelude.{◌≡◌, ◌==◌, [], length, unwrap_or, IfOk, IfErr, OnOk};
 ghost use Rattle.std.specs.Option.{option_map, option_copied};

@@ -12,7 +12,7 @@ use Rattle.h2_spec.specs.HuffmanCode.{code}
 use Rattle.h2_spec.specs.Instruction.{Instruction, Indexed, Update, Literal, Mode, NameRef, Ref, Named, TextStr, coded, coded_name, spell, spell_name, spell_string}
 use Rattle.h2_spec.specs.Integer.{spell_int}
 use Rattle.h2_spec.specs.Script.{instruction_octets, is_plain, SaysCharacter, SaysInstruction, SaysName, SaysText}
-use Rattle.h2_spec.proofs.ReadingParts.{instruction_back}
+use Rattle.h2_spec.proofs.ReadingInstructions.{instruction_back}
 use Rattle.h2_spec.proofs.SpellingLaws.{length-spell_huffman}
 use Rattle.h2_script.specs.Readings.{Stands}
 use Rattle.h2_script.specs.Writable.{can_write, can_write_name}

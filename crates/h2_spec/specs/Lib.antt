@@ -14,8 +14,6 @@ pub mod Errors
 pub mod Field
 pub mod Frame
 pub mod FrameType
-pub mod Grants
-pub mod GrantsTest
 pub mod Headers
 pub mod Huffman
 pub mod HuffmanCode
@@ -23,17 +21,14 @@ pub mod Instruction
 pub mod Integer
 pub mod Octets
 pub mod Opening
-pub mod Order
 pub mod Parse
 pub mod Payload
 pub mod Pump
 pub mod Read
-pub mod Reasons
 pub mod Request
 pub mod Script
 pub mod Settings
 pub mod SettingsFrame
-pub mod Shares
 pub mod Show
 pub mod State
 pub mod StaticTable

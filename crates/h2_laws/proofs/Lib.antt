@@ -1,0 +1,23 @@
+pub mod BadLines
+mod BeginningLaws
+mod BlockRows
+mod DebugRows
+mod FlowLaws
+mod FrameLaws
+mod FrameRows
+mod Hex
+mod HuffmanRows
+mod IntegerRows
+mod GrantsRows
+pub mod grants
+mod LongBodies
+mod LongLists
+mod PayloadLaws
+pub mod RequestLaws
+mod RequestRows
+pub mod ReadingLines
+mod ReadingParts
+mod Rows
+mod Runs
+mod ScriptRows
+mod SplitLaws

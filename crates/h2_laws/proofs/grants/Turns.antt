@@ -1,0 +1,435 @@
+-- The rules on one stream: what frames they send, and that the record after them fits the mark after those frames.
+use Rattle.std.proofs.Common.{◌≡◌, ◌≢◌, ℕ, ◌+◌, ◌-◌, Bool, true, false, cond, ◌||◌, List, [], ◌∷◌, ◌++◌, length, drop, refl, sym, ap, subst, ◌∙◌, arith, eqb, Option, Some, None}
+use Rattle.std.proofs.lemmas.Bool.{eqb-true, eqb-false, both_ways}
+use Rattle.std.proofs.lemmas.Int.{ints}
+use Rattle.std.proofs.lemmas.List.{nil_from_length, append-nil}
+use Rattle.std.specs.Option.{is_some}
+use Rattle.std.specs.Prelude.{ℤ, pos, ◌+ℤ◌}
+use Rattle.h2_spec.specs.declared.connection.Config.{Config}
+use Rattle.h2_spec.specs.declared.connection.Core.{Core}
+use Rattle.h2_spec.specs.declared.errors.ErrorCode.{ErrorCode}
+use Rattle.h2_spec.specs.declared.errors.ErrorCode.TheVariants.{ProtocolError, FlowControlError, RefusedStream, EnhanceYourCalm}
+use Rattle.h2_spec.specs.declared.reactions.Came.{Came}
+use Rattle.h2_spec.specs.declared.reactions.Facts.{Facts}
+use Rattle.h2_spec.specs.declared.reactions.Turn.{Turn}
+use Rattle.h2_spec.specs.declared.streams.Kind.{Kind}
+use Rattle.h2_spec.specs.declared.streams.Kind.TheVariants.{Idle, Skipped, BothOpen, HalfRemote, HalfLocal, Ended, PeerReset, WeReset}
+use Rattle.h2_spec.specs.declared.streams.Numbers.{Numbers}
+use Rattle.h2_spec.specs.declared.streams.Pick.{Pick}
+use Rattle.h2_spec.specs.declared.streams.Stream.{Stream}
+use Rattle.h2_spec.specs.Frame.{Frame}
+use Rattle.h2_spec.specs.Answer.{Entry, picked}
+use Rattle.h2_spec.specs.Window.{given_back}
+use Rattle.h2_spec.specs.Stream.{octets_waiting}
+use Rattle.h2_spec.specs.Change.{quiet_turn, stream_error, second_frames, answer_frames, with_send}
+use Rattle.h2_spec.specs.Ends.{server_ended, begun, with_left, with_kind, answered, answered_unless, peer_ended}
+use Rattle.h2_spec.specs.Data.{returned, returned_as, taken, data_turn}
+use Rattle.h2_spec.specs.WindowUpdate.{window_turn}
+use Rattle.h2_spec.specs.Headers.{new_stream, request_turn, trailers_turn}
+use Rattle.h2_spec.specs.Effect.{body_length, reset_turn}
+use Rattle.h2_laws.specs.Grants.{Mark, Tally, When, IsOfBody, body_or_nothing, blank, marked_by}
+use Rattle.h2_laws.proofs.grants.Tallies.{always, Leads, Leads-nil, Leads-cons}
+use Rattle.h2_laws.proofs.grants.Agreement.{Waits, Sends, Ends, Cut, FitsAs, Fits, HasBody}
+
+-- ---- frames of one stream that are no DATA
+
+abbrev pub OnlyOn : ℕ → List Frame → Type 0
+OnlyOn j [] = Unit {0}
+OnlyOn j (f ∷ fs) = (f.stream ≡ j) × (eqb f.kind 0 ≡ false) × OnlyOn j fs
+
+abbrev pub marked_all : Mark → List Frame → Mark
+marked_all m [] = m
+marked_all m (f ∷ fs) = marked_all (marked_by m f) fs
+
+-- their order
+abbrev pub InTurn : Mark → List Frame → Type 0
+InTurn m [] = Unit {0}
+InTurn m (f ∷ fs) = (When (eqb f.kind 1) ((m.headers ≡ 0) × (m.ended ≡ false)) × (m.reset ≡ false)) × InTurn (marked_by m f) fs
+
+-- where they're of another stream they change nothing
+pub other-leads : (id j : ℕ) (t : Tally) (fs : List Frame) → eqb j id ≡ false → OnlyOn j fs → Leads id t fs t
+other-leads id j t [] e o = Leads-nil id t
+other-leads id j t (f ∷ fs) e o =
+    let other : eqb f.stream id ≡ false = rw o.0 e in
+    let same : t.sent + 0 ≡ t.sent = omega arith in
+    Leads-cons id t t t f fs (rw (other, o.1) (tt, (tt, tt), (tt, tt))) (rw (other, o.1, same) refl) (other-leads id j t fs e o.2)
+
+-- on the stream they mark it
+pub own-leads : (id j : ℕ) (t : Tally) (fs : List Frame) → eqb j id ≡ true → OnlyOn j fs → InTurn t.mark fs → Leads id t fs (record t { mark = marked_all t.mark fs })
+own-leads id j t [] e o h = Leads-nil id t
+own-leads id j t (f ∷ fs) e o h =
+    let own : eqb f.stream id ≡ true = rw o.0 e in
+    let same : t.sent + 0 ≡ t.sent = omega arith in
+    let u : Tally = record t { mark = marked_by t.mark f } in
+    Leads-cons id t u _ f fs (rw (own, o.1) (tt, (headers (eqb f.kind 1) h.0.0, tt), (ended (eqb f.kind 1) h.0.0, h.0.1))) (rw (own, o.1, same) refl) (own-leads id j u fs e o.2 h.1)
+  where
+    headers : (b : Bool) → When b ((t.mark.headers ≡ 0) × (t.mark.ended ≡ false)) → When b (t.mark.headers ≡ 0)
+    headers true p = p.0
+    headers false p = tt
+
+    ended : (b : Bool) → When b ((t.mark.headers ≡ 0) × (t.mark.ended ≡ false)) → When (b || false) (t.mark.ended ≡ false)
+    ended true p = p.1
+    ended false p = tt
+
+-- ---- what holds of a turn
+
+-- what a turn sends
+abbrev pub turn_frames : List Entry → Turn → List Frame
+turn_frames book turn = second_frames turn.frame ++ answer_frames book turn.answer
+
+-- of any stream: it keeps the identifier, sends on it alone, and waits for no more than the body
+pub record Proper (book : List Entry) (st : Stream) (turn : Turn) : Type 0 where
+  pub same_id : turn.stream.id ≡ st.id
+  pub only : OnlyOn st.id (turn_frames book turn)
+  pub has_body : HasBody book st → HasBody book turn.stream
+
+-- of the stream that is followed, m being its mark before the frames
+pub record Good (book : List Entry) (window : ℕ) (m : Mark) (turn : Turn) : Type 0 where
+  pub in_turn : InTurn m (turn_frames book turn)
+  pub fits : Fits book window turn.stream (marked_all m (turn_frames book turn))
+
+-- tests are gone through without a look at what they say
+either-proper : (book : List Entry) (st : Stream) (b : Bool) (x y : Turn) → Proper book st x → Proper book st y → Proper book st (cond b x y)
+either-proper book st true x y p q = p
+either-proper book st false x y p q = q
+
+either-good : (book : List Entry) (window : ℕ) (m : Mark) (b : Bool) (x y : Turn) → Good book window m x → Good book window m y → Good book window m (cond b x y)
+either-good book window m true x y p q = p
+either-good book window m false x y p q = q
+
+-- ---- a turn that changes nothing, and a stream error
+
+quiet-proper : (book : List Entry) (signal : Bool) (st : Stream) → Proper book st (quiet_turn signal st)
+quiet-proper book signal st = record { same_id = refl; only = tt; has_body = λ h. h }
+
+quiet-good : (book : List Entry) (window : ℕ) (m : Mark) (signal : Bool) (st : Stream) → Fits book window st m → Good book window m (quiet_turn signal st)
+quiet-good book window m signal st f = record { in_turn = tt; fits = f }
+
+pub error-proper : (book : List Entry) (signal : Bool) (st : Stream) (code : ErrorCode) → Proper book st (stream_error signal st.id code)
+unfolding octets_waiting
+error-proper book signal st code = record { same_id = refl; only = (refl, refl, tt); has_body = λ h. (omega arith, tt) }
+
+-- the stream has a request and was not reset
+pub record Uncut (m : Mark) : Type 0 where
+  pub promised : is_some m.promised ≡ true
+  pub of_body : IsOfBody m
+  pub reset : m.reset ≡ false
+
+pub error-good : (book : List Entry) (window : ℕ) (m : Mark) (signal : Bool) (id : ℕ) (code : ErrorCode) → Uncut m → Good book window m (stream_error signal id code)
+error-good book window m signal id code u = record { in_turn = ((tt, u.reset), tt); fits = record { promised = u.promised; of_body = u.of_body; reset = refl } }
+
+pub Uncut-sends : (body : List ℕ) (window : ℕ) (send : ℤ) (left : Option ℕ) (m : Mark) → Sends body window send left m → Uncut m
+Uncut-sends body window send left m f = record {
+  promised = ap is_some f.promised;
+  of_body = at left f.waits;
+  reset = f.reset;
+}
+  where
+    promised : body ≡ body_or_nothing m.promised
+    promised = ap body_or_nothing (sym f.promised)
+
+    not_ended : (P : Type 0) (b : Bool) → b ≡ false → When b P
+    not_ended P true e = absurd (both_ways true e refl)
+    not_ended P false e = tt
+
+    at : (o : Option ℕ) → Waits body o m → IsOfBody m
+    at None w = ((body_or_nothing m.promised, ap (λ xs. xs ++ body_or_nothing m.promised) w.1), not_ended (m.content ≡ body_or_nothing m.promised) m.ended f.ended)
+    at (Some n) w = ((drop (length body - n) body, w.3 ∙ promised), not_ended (m.content ≡ body_or_nothing m.promised) m.ended f.ended)
+
+-- whichever state a stream with a record is in
+pub Uncut-live : (kind : Kind) (body : List ℕ) (window : ℕ) (send : ℤ) (left : Option ℕ) (m : Mark) → FitsAs kind body window send left m → m.reset ≡ false → Uncut m
+Uncut-live Idle body window send left m f r = absurd f
+Uncut-live Skipped body window send left m f r = absurd f
+Uncut-live BothOpen body window send left m f r = Uncut-sends body window send left m f
+Uncut-live HalfRemote body window send left m f r = Uncut-sends body window send left m f
+Uncut-live HalfLocal body window send left m f r = record { promised = f.0.promised; of_body = f.0.of_body; reset = r }
+Uncut-live Ended body window send left m f r = record { promised = f.promised; of_body = f.of_body; reset = r }
+Uncut-live PeerReset body window send left m f r = record { promised = f.promised; of_body = f.of_body; reset = r }
+Uncut-live WeReset body window send left m f r = record { promised = f.promised; of_body = f.of_body; reset = r }
+
+-- ---- the answer begins
+
+answered-proper : (book : List Entry) (signal : Bool) (st : Stream) → Proper book st (answered signal (body_length book st) st)
+unfolding answered begun server_ended octets_waiting
+answered-proper book signal st = at (eqb (body_length book st) 0) st.kind
+  where
+    -- the record with another state
+    in_state : Kind → Stream
+    in_state k = record st { kind = k }
+
+    at : (b : Bool) (k : Kind) → Proper book (in_state k) (record (answered signal (body_length book st) (in_state k)) { stream = cond b (server_ended (in_state k)) (with_left (in_state k) (body_length book st)) })
+    at false Idle = record { same_id = refl; only = (refl, refl, tt); has_body = λ h. (omega arith, h.1) }
+    at false Skipped = record { same_id = refl; only = (refl, refl, tt); has_body = λ h. (omega arith, h.1) }
+    at false BothOpen = record { same_id = refl; only = (refl, refl, tt); has_body = λ h. (omega arith, h.1) }
+    at false HalfRemote = record { same_id = refl; only = (refl, refl, tt); has_body = λ h. (omega arith, h.1) }
+    at false HalfLocal = record { same_id = refl; only = (refl, refl, tt); has_body = λ h. (omega arith, h.1) }
+    at false Ended = record { same_id = refl; only = (refl, refl, tt); has_body = λ h. (omega arith, h.1) }
+    at false PeerReset = record { same_id = refl; only = (refl, refl, tt); has_body = λ h. (omega arith, h.1) }
+    at false WeReset = record { same_id = refl; only = (refl, refl, tt); has_body = λ h. (omega arith, h.1) }
+    at true Idle = record { same_id = refl; only = (refl, refl, tt); has_body = λ h. h }
+    at true Skipped = record { same_id = refl; only = (refl, refl, tt); has_body = λ h. h }
+    at true BothOpen = record { same_id = refl; only = (refl, refl, tt); has_body = λ h. (omega arith, tt) }
+    at true HalfRemote = record { same_id = refl; only = (refl, refl, tt); has_body = λ h. (omega arith, tt) }
+    at true HalfLocal = record { same_id = refl; only = (refl, refl, tt); has_body = λ h. h }
+    at true Ended = record { same_id = refl; only = (refl, refl, tt); has_body = λ h. h }
+    at true PeerReset = record { same_id = refl; only = (refl, refl, tt); has_body = λ h. h }
+    at true WeReset = record { same_id = refl; only = (refl, refl, tt); has_body = λ h. h }
+
+-- on a stream that nothing was sent on, and that the peer has ended
+answered-good : (book : List Entry) (window : ℕ) (m : Mark) (signal : Bool) (i : ℕ) (x : Numbers) (pick : Pick) → Sends (picked book pick).body window x.send None m →
+    let st : Stream = record { id = i; kind = HalfRemote; numbers = x; pick = pick } in
+    Good book window m (answered signal (body_length book st) st)
+unfolding answered begun server_ended
+answered-good book window m signal i x pick f = at (eqb (length body) 0) refl
+  where
+    body : List ℕ
+    body = (picked book pick).body
+
+    one : m.headers + 1 ≡ 1
+    one = let w = f.waits.0 in omega arith
+
+    promised : body ≡ body_or_nothing m.promised
+    promised = ap body_or_nothing (sym f.promised)
+
+    no_body : eqb (length body) 0 ≡ true → m.content ≡ body
+    no_body e = f.waits.1 ∙ sym (nil_from_length body (eqb-true (length body) 0 e))
+
+    ends : (e : eqb (length body) 0 ≡ true) → Ends (record m { headers = m.headers + 1; ended = m.ended || true })
+    ends e = record {
+      promised = ap is_some f.promised;
+      of_body = (([], append-nil m.content ∙ (no_body e ∙ promised)), always (m.ended || true) (no_body e ∙ promised));
+      ended = rw f.ended refl;
+    }
+
+    goes_on : eqb (length body) 0 ≡ false → Sends body window x.send (Some (length body)) (record m { headers = m.headers + 1; ended = m.ended || false })
+    goes_on e = record {
+      promised = f.promised;
+      send_is = f.send_is;
+      waits = (one, (let some : length body ≢ 0 = eqb-false (length body) 0 e in omega arith), omega arith, (let first : length body - length body ≡ 0 = omega arith in rw (first, f.waits.1) refl));
+      ended = rw f.ended refl;
+      reset = f.reset;
+    }
+
+    st : Stream
+    st = record { id = i; kind = HalfRemote; numbers = x; pick = pick }
+
+    at : (b : Bool) → eqb (length body) 0 ≡ b → Good book window m (record (answered signal (length body) st) { stream = cond b (server_ended st) (with_left st (length body)) })
+    at true e = record { in_turn = (((f.waits.0, f.ended), f.reset), tt); fits = rw e (ends e) }
+    at false e = record { in_turn = (((f.waits.0, f.ended), f.reset), tt); fits = rw e (goes_on e) }
+
+-- ---- the peer's side ends
+
+-- what is right for the record after a change is right for the record before it
+moved-proper : (book : List Entry) (st after : Stream) (turn : Turn) → after.id ≡ st.id → (HasBody book st → HasBody book after) → Proper book after turn → Proper book st turn
+moved-proper book st after turn e h p = record { same_id = p.same_id ∙ e; only = subst (λ j. OnlyOn j (turn_frames book turn)) e p.only; has_body = λ b. p.has_body (h b) }
+
+peer_ended-proper : (book : List Entry) (signal : Bool) (st : Stream) → Proper book st (peer_ended signal (body_length book st) st)
+unfolding peer_ended octets_waiting
+peer_ended-proper book signal st = at st.kind
+  where
+    after : Stream
+    after = with_kind st HalfRemote
+
+    begins : (b : Bool) → Proper book (record st { kind = BothOpen }) (answered_unless b signal (body_length book st) after)
+    begins true = record { same_id = refl; only = tt; has_body = λ h. h }
+    begins false = moved-proper book (record st { kind = BothOpen }) after (answered signal (body_length book st) after) refl (λ h. h) (answered-proper book signal after)
+
+    at : (k : Kind) → Proper book (record st { kind = k }) (peer_ended signal (body_length book st) (record st { kind = k }))
+    at Idle = quiet-proper book signal (record st { kind = Idle })
+    at Skipped = quiet-proper book signal (record st { kind = Skipped })
+    at BothOpen = begins (is_some st.numbers.left)
+    at HalfRemote = quiet-proper book signal (record st { kind = HalfRemote })
+    at HalfLocal = record { same_id = refl; only = tt; has_body = λ h. (omega arith, tt) }
+    at Ended = quiet-proper book signal (record st { kind = Ended })
+    at PeerReset = quiet-proper book signal (record st { kind = PeerReset })
+    at WeReset = quiet-proper book signal (record st { kind = WeReset })
+
+peer_ended-good : (book : List Entry) (window : ℕ) (m : Mark) (signal : Bool) (st : Stream) → Fits book window st m → Good book window m (peer_ended signal (body_length book st) st)
+unfolding peer_ended
+peer_ended-good book window m signal st f = at st.kind f
+  where
+    begins : (o : Option ℕ) → Sends (picked book st.pick).body window st.numbers.send o m →
+        let after : Stream = record st { kind = HalfRemote; numbers = record st.numbers { left = o } } in
+        Good book window m (answered_unless (is_some o) signal (body_length book st) after)
+    begins None f = answered-good book window m signal st.id (record st.numbers { left = None }) st.pick f
+    begins (Some l) f = record { in_turn = tt; fits = f }
+
+    at : (k : Kind) → Fits book window (record st { kind = k }) m → Good book window m (peer_ended signal (body_length book st) (record st { kind = k }))
+    at Idle f = absurd f
+    at Skipped f = absurd f
+    at BothOpen f = begins st.numbers.left f
+    at HalfRemote f = quiet-good book window m signal (record st { kind = HalfRemote }) f
+    at HalfLocal f = record { in_turn = tt; fits = f.0 }
+    at Ended f = quiet-good book window m signal (record st { kind = Ended }) f
+    at PeerReset f = quiet-good book window m signal (record st { kind = PeerReset }) f
+    at WeReset f = quiet-good book window m signal (record st { kind = WeReset }) f
+
+-- ---- DATA
+
+returned-proper : (book : List Entry) (threshold : ℕ) (signal : Bool) (st : Stream) → Proper book st (returned threshold signal st)
+unfolding returned octets_waiting
+returned-proper book threshold signal st = at (given_back threshold st.numbers.owed)
+  where
+    at : (o : Option ℕ) → Proper book st (returned_as o signal st)
+    at (Some n) = record { same_id = refl; only = (refl, refl, tt); has_body = λ h. h }
+    at None = quiet-proper book signal st
+
+returned-good : (book : List Entry) (window : ℕ) (m : Mark) (threshold : ℕ) (signal : Bool) (st : Stream) → Fits book window st m → m.reset ≡ false → Good book window m (returned threshold signal st)
+unfolding returned
+returned-good book window m threshold signal st f r = at (given_back threshold st.numbers.owed)
+  where
+    at : (o : Option ℕ) → Good book window m (returned_as o signal st)
+    at (Some n) = record { in_turn = ((tt, r), tt); fits = f }
+    at None = quiet-good book window m signal st f
+
+pub data_turn-proper : (book : List Entry) (threshold : ℕ) (signal : Bool) (d : Came) (st : Stream) → Proper book st (data_turn threshold signal (body_length book st) d st)
+unfolding data_turn taken octets_waiting
+data_turn-proper book threshold signal d st =
+    let after : Stream = taken st d in
+    either-proper book st _ _ _ (error-proper book signal st FlowControlError)
+    (either-proper book st _ _ _ (error-proper book signal st ProtocolError)
+    (either-proper book st d.ends _ _
+    (moved-proper book st after _ refl (λ h. h) (peer_ended-proper book signal after))
+    (moved-proper book st after _ refl (λ h. h) (returned-proper book threshold signal after))))
+
+pub data_turn-good : (book : List Entry) (window : ℕ) (m : Mark) (threshold : ℕ) (signal : Bool) (d : Came) (st : Stream) → Fits book window st m → m.reset ≡ false → Good book window m (data_turn threshold signal (body_length book st) d st)
+unfolding data_turn taken
+data_turn-good book window m threshold signal d st f r =
+    let u : Uncut m = Uncut-live st.kind (picked book st.pick).body window st.numbers.send st.numbers.left m f r in
+    either-good book window m _ _ _ (error-good book window m signal st.id FlowControlError u)
+    (either-good book window m _ _ _ (error-good book window m signal st.id ProtocolError u)
+    (either-good book window m d.ends _ _ (peer_ended-good book window m signal (taken st d) f) (returned-good book window m threshold signal (taken st d) f r)))
+
+-- ---- WINDOW_UPDATE and RST_STREAM
+
+-- the mark with an increment
+abbrev pub granted_more : ℕ → Mark → Mark
+granted_more n m = record m { granted = m.granted + n }
+
+-- the mark with RST_STREAM received
+abbrev pub now_reset : Mark → Mark
+now_reset m = record m { reset = true }
+
+-- what the window is moved by does not matter where nothing more is sent
+granted-sends : (body : List ℕ) (window : ℕ) (send : ℤ) (left : Option ℕ) (m : Mark) (i : ℕ) → Sends body window send left m → Sends body window (send +ℤ pos i) left (granted_more i m)
+granted-sends body window send left m i f = record { promised = f.promised; send_is = let e = f.send_is in omega (arith, ints); waits = waits left f.waits; ended = f.ended; reset = f.reset }
+  where
+    waits : (o : Option ℕ) → Waits body o m → Waits body o (granted_more i m)
+    waits None w = w
+    waits (Some l) w = w
+
+granted-ends : (m : Mark) (i : ℕ) → Ends m → Ends (granted_more i m)
+granted-ends m i f = record { promised = f.promised; of_body = f.of_body; ended = f.ended }
+
+granted-cut : (m : Mark) (i : ℕ) → Cut m → Cut (granted_more i m)
+granted-cut m i f = record { promised = f.promised; of_body = f.of_body; reset = f.reset }
+
+granted-fits : (kind : Kind) (body : List ℕ) (window : ℕ) (send : ℤ) (left : Option ℕ) (m : Mark) (i : ℕ) → FitsAs kind body window send left m → FitsAs kind body window (send +ℤ pos i) left (granted_more i m)
+granted-fits Idle body window send left m i f = f
+granted-fits Skipped body window send left m i f = f
+granted-fits BothOpen body window send left m i f = granted-sends body window send left m i f
+granted-fits HalfRemote body window send left m i f = granted-sends body window send left m i f
+granted-fits HalfLocal body window send left m i f = (granted-ends m i f.0, f.1, f.2)
+granted-fits Ended body window send left m i f = granted-ends m i f
+granted-fits PeerReset body window send left m i f = granted-cut m i f
+granted-fits WeReset body window send left m i f = granted-cut m i f
+
+-- the server has nothing more to send, whatever comes
+abbrev pub IsOver : Kind → Type 0
+IsOver Ended = Unit {0}
+IsOver PeerReset = Unit {0}
+IsOver WeReset = Unit {0}
+IsOver Idle = ⊥
+IsOver Skipped = ⊥
+IsOver BothOpen = ⊥
+IsOver HalfRemote = ⊥
+IsOver HalfLocal = ⊥
+
+pub over-granted : (kind : Kind) (body : List ℕ) (window : ℕ) (send : ℤ) (left : Option ℕ) (m : Mark) (i : ℕ) → IsOver kind → FitsAs kind body window send left m → FitsAs kind body window send left (granted_more i m)
+over-granted Ended body window send left m i o f = granted-ends m i f
+over-granted PeerReset body window send left m i o f = granted-cut m i f
+over-granted WeReset body window send left m i o f = granted-cut m i f
+over-granted Idle body window send left m i o f = absurd o
+over-granted Skipped body window send left m i o f = absurd o
+over-granted BothOpen body window send left m i o f = absurd o
+over-granted HalfRemote body window send left m i o f = absurd o
+over-granted HalfLocal body window send left m i o f = absurd o
+
+pub over-reset : (kind : Kind) (body : List ℕ) (window : ℕ) (send : ℤ) (left : Option ℕ) (m : Mark) → IsOver kind → FitsAs kind body window send left m → FitsAs kind body window send left (now_reset m)
+over-reset Ended body window send left m o f = record { promised = f.promised; of_body = f.of_body; ended = f.ended }
+over-reset PeerReset body window send left m o f = record { promised = f.promised; of_body = f.of_body; reset = refl }
+over-reset WeReset body window send left m o f = record { promised = f.promised; of_body = f.of_body; reset = refl }
+over-reset Idle body window send left m o f = absurd o
+over-reset Skipped body window send left m o f = absurd o
+over-reset BothOpen body window send left m o f = absurd o
+over-reset HalfRemote body window send left m o f = absurd o
+over-reset HalfLocal body window send left m o f = absurd o
+
+pub window_turn-proper : (book : List Entry) (signal : Bool) (i : ℕ) (st : Stream) → Proper book st (window_turn signal i st)
+unfolding window_turn octets_waiting
+window_turn-proper book signal i st =
+    either-proper book st _ _ _ (error-proper book signal st ProtocolError)
+    (either-proper book st _ _ _ (error-proper book signal st FlowControlError) (record { same_id = refl; only = tt; has_body = λ h. h }))
+
+pub window_turn-good : (book : List Entry) (window : ℕ) (m : Mark) (signal : Bool) (i : ℕ) (st : Stream) → Fits book window st m → m.reset ≡ false → Good book window (granted_more i m) (window_turn signal i st)
+unfolding window_turn
+window_turn-good book window m signal i st f r =
+    let more : Mark = granted_more i m in
+    let g : FitsAs st.kind (picked book st.pick).body window (st.numbers.send +ℤ pos i) st.numbers.left more = granted-fits st.kind (picked book st.pick).body window st.numbers.send st.numbers.left m i f in
+    let u : Uncut more = Uncut-live st.kind (picked book st.pick).body window (st.numbers.send +ℤ pos i) st.numbers.left more g r in
+    either-good book window more _ _ _ (error-good book window more signal st.id ProtocolError u)
+    (either-good book window more _ _ _ (error-good book window more signal st.id FlowControlError u) (quiet-good book window more signal (with_send st (st.numbers.send +ℤ pos i)) g))
+
+pub reset_turn-proper : (book : List Entry) (signal : Bool) (st : Stream) → Proper book st (reset_turn signal st)
+unfolding octets_waiting
+reset_turn-proper book signal st = record { same_id = refl; only = tt; has_body = λ h. (omega arith, tt) }
+
+pub reset_turn-good : (book : List Entry) (window : ℕ) (m : Mark) (signal : Bool) (st : Stream) → Fits book window st m → m.reset ≡ false → Good book window (now_reset m) (reset_turn signal st)
+reset_turn-good book window m signal st f r =
+    let u : Uncut m = Uncut-live st.kind (picked book st.pick).body window st.numbers.send st.numbers.left m f r in
+    record { in_turn = tt; fits = record { promised = u.promised; of_body = u.of_body; reset = refl } }
+
+-- ---- the ends of blocks
+
+pub trailers_turn-proper : (book : List Entry) (size : ℕ) (malformed signal ends : Bool) (st : Stream) → Proper book st (trailers_turn size malformed (body_length book st) signal ends st)
+unfolding trailers_turn
+trailers_turn-proper book size malformed signal ends st =
+    either-proper book st _ _ _ (error-proper book signal st EnhanceYourCalm)
+    (either-proper book st _ _ _ (error-proper book signal st ProtocolError) (peer_ended-proper book signal st))
+
+pub trailers_turn-good : (book : List Entry) (window : ℕ) (m : Mark) (size : ℕ) (malformed signal ends : Bool) (st : Stream) → Fits book window st m → m.reset ≡ false →
+    Good book window m (trailers_turn size malformed (body_length book st) signal ends st)
+unfolding trailers_turn
+trailers_turn-good book window m size malformed signal ends st f r =
+    let u : Uncut m = Uncut-live st.kind (picked book st.pick).body window st.numbers.send st.numbers.left m f r in
+    either-good book window m _ _ _ (error-good book window m signal st.id EnhanceYourCalm u)
+    (either-good book window m _ _ _ (error-good book window m signal st.id ProtocolError u) (peer_ended-good book window m signal st f))
+
+pub request_turn-proper : (book : List Entry) (config : Config) (live : ℕ) (core : Core) (id : ℕ) (ends : Bool) (f : Facts) →
+    Proper book (new_stream core id f) (request_turn config live (body_length book (new_stream core id f)) core id ends f)
+unfolding request_turn
+request_turn-proper book config live core id ends f =
+    let st : Stream = new_stream core id f in
+    either-proper book st _ _ _ (error-proper book core.peer.signal st RefusedStream)
+    (either-proper book st _ _ _ (error-proper book core.peer.signal st EnhanceYourCalm)
+    (either-proper book st _ _ _ (error-proper book core.peer.signal st ProtocolError)
+    (either-proper book st ends _ _ (peer_ended-proper book core.peer.signal st) (quiet-proper book core.peer.signal st))))
+
+-- the mark of a stream whose request has just come
+abbrev pub just_asked : List ℕ → Mark
+just_asked body = record blank { promised = Some body }
+
+pub request_turn-good : (book : List Entry) (config : Config) (live : ℕ) (core : Core) (id : ℕ) (ends : Bool) (f : Facts) →
+    Good book core.peer.window (just_asked (picked book f.pick).body) (request_turn config live (body_length book (new_stream core id f)) core id ends f)
+unfolding request_turn
+request_turn-good book config live core id ends f =
+    let st : Stream = new_stream core id f in
+    let body : List ℕ = (picked book f.pick).body in
+    let m : Mark = just_asked body in
+    let w : ℕ = core.peer.window in
+    let g : Sends body w (pos w) None m = record { promised = refl; send_is = omega (arith, ints); waits = (refl, refl); ended = refl; reset = refl } in
+    let u : Uncut m = Uncut-sends body w (pos w) None m g in
+    either-good book w m _ _ _ (error-good book w m core.peer.signal id RefusedStream u)
+    (either-good book w m _ _ _ (error-good book w m core.peer.signal id EnhanceYourCalm u)
+    (either-good book w m _ _ _ (error-good book w m core.peer.signal id ProtocolError u)
+    (either-good book w m ends _ _ (peer_ended-good book w m core.peer.signal st g) (quiet-good book w m core.peer.signal st g))))

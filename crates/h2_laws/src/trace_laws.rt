@@ -1,0 +1,18 @@
+//! Laws of items and of whole runs: octets may come in any pieces.
+//! Each law is the contract of a function with an empty body; definitions: `h2_spec/specs/Frame.antt`, `h2_spec/specs/Trace.antt`.
+
+ghost use Rattle.std.specs.Prelude.{◌≡◌, ℕ, Bool, List, ◌++◌};
+ghost use Rattle.h2_spec.specs.Frame.{next};
+ghost use Rattle.h2_spec.specs.State.{State};
+ghost use Rattle.h2_spec.specs.Trace.{trace, carried_on, IsKept, IsWithin};
+
+/// An item takes at least one octet and no more than there are, and more octets behind it leave it as it is (RFC 9113, 3.4 and 4.1).
+pub fn items_are_cut_anywhere()
+    ensures within { (preface : Bool) (limit : ℕ) (b : List ℕ) → IsWithin b (next preface limit b) }
+    ensures kept { (preface : Bool) (limit : ℕ) (b c : List ℕ) → IsKept (next preface limit b) (next preface limit (b ++ c)) }
+{}
+
+/// The run of a connection over octets in two pieces is the run over their sum.
+pub fn runs_are_cut_anywhere()
+    ensures { (s : State) (b c : List ℕ) → trace s (b ++ c) ≡ carried_on (trace s b) c }
+{}
