@@ -67,7 +67,7 @@ impl<A: Allocator + Copy> Streams<A> {
     pub fn try_clone(&self) -> Result<Self, AllocError>
         ensures { IfOk result (λ copy. copy ≡ self.now) }
     {
-        let records = self.records.clone()?;
+        let records = copy_of(&self.records)?;
         let live = self.live.clone()?;
         Ok(Streams {
             records,
@@ -280,6 +280,15 @@ impl<A: Allocator> Streams<A> {
         let before = write(&mut self.records, stream);
         self.waiting = self.waiting - before + after;
     }
+}
+
+/// The same entries again.
+fn copy_of<A: Allocator + Copy>(
+    records: &IndexMap<u32, Stream, IdHash, A>,
+) -> Result<IndexMap<u32, Stream, IdHash, A>, AllocError>
+    ensures { IfOk result (λ copy. copy.entries ≡ records.now.entries) }
+{
+    records.clone()
 }
 
 /// Appends a record, and its identifier where it is live. An `Err` leaves both as they were.
