@@ -133,9 +133,7 @@ impl Window {
     pub fn overflows_by(self, from: u32, to: u32) -> bool
         ensures { result ≡ int_lt (pos max_window) (self +ℤ (pos to -ℤ pos from)) }
     {
-        let delta = i64::from(to) - i64::from(from);
-        let moved = i64::from(self.size) + delta;
-        moved > i64::from(MAX_WINDOW)
+        from < to && self.overflows(to - from)
     }
 
     /// Where the initial window goes from one value to another; it may become negative (RFC 9113, 6.9.2).
