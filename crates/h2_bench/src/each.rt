@@ -12,7 +12,7 @@ ghost use Rattle.h2_bench.specs.Told.{OrCutShort, done, item_text, item_texts, p
 use crate::device::write_text;
 use crate::fault::BenchFault;
 use h2_conn::Conn;
-use h2_conn::hex_text::OctetsText;
+use h2_text::hex_text::OctetsText;
 use std::alloc::Global;
 use std::{fmt, io};
 

@@ -21,12 +21,12 @@ use crate::device::write_text;
 use crate::each::{Untold, write_places};
 use crate::fault::BenchFault;
 use crate::input::read_hex;
-use h2_conn::hex_text::HexText;
 use h2_conn::play::open_and_feed;
 use h2_conn::{Conn, ConnFault};
 use h2_request::book::Book;
 use h2_request::fault::BookFault;
 use h2_spec::connection::Config;
+use h2_text::hex_text::HexText;
 use std::alloc::{AllocError, Global};
 use std::{fmt, io};
 

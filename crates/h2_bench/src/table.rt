@@ -1,5 +1,5 @@
 //! The program `table`: changes a dynamic table by the lines of its input (RFC 7541, 2.3.2 and 4).
-//! Rests on h2_table, h2_conn's `show` and h2_script's numbers; definitions: `specs/TableProgram.antt`.
+//! Rests on h2_table, h2_text and h2_script's numbers; definitions: `specs/TableProgram.antt`.
 
 ghost use Rattle.std.specs.Prelude.{◌≡◌, ◌==◌, ◌+◌, ◌<◌, ◌≤◌, ◌^◌, ◌++◌, length, take, drop, position, option_map, IfOk, IfSome, OnOk};
 ghost use Rattle.std.specs.String.{string_bytes};
@@ -11,9 +11,9 @@ ghost use Rattle.h2_bench.specs.Faults.{fault_line};
 ghost use Rattle.h2_bench.specs.TableProgram.{behind_line, command_of, counts_line, first_line, obeyed, table_text, told_of};
 
 use crate::fault::BenchFault;
-use h2_conn::show::EntriesText;
 use h2_script::number_at;
 use h2_table::DynTable;
+use h2_text::show::EntriesText;
 use std::alloc::{AllocError, Allocator, Global};
 use std::fmt::Write;
 

@@ -12,6 +12,4 @@ mod Plays
 mod PreviewLaws
 mod Runs
 mod Shortest
-mod Views
 mod SentLaws
-mod Texts

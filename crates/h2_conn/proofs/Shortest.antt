@@ -18,7 +18,7 @@ use Rattle.h2_conn.specs.Connection.{going, is_ended}
 use Rattle.h2_conn.specs.Runs.{Takes, TakesOne, Waits}
 use Rattle.h2_conn.proofs.Items.{none-after}
 use Rattle.h2_conn.proofs.Plays.{empty-stop, left-none}
-use Rattle.h2_conn.proofs.Views.{take-next}
+use Rattle.h2_text.proofs.Views.{take-next}
 use Rattle.h2_conn.proofs.Runs.{left-ended, left-going, stop-none}
 
 -- octets that agree with others, as far as these reach

@@ -1,5 +1,5 @@
 //! A connection over octets: items off their front, each whole or not at all (RFC 9113, 3.4).
-//! Rests on h2_frame's splitter, on `item`, `opening`, `view` and `show`.
+//! Rests on h2_frame's splitter, on `item`, `opening` and `view`.
 //! Definitions: h2_spec's `specs/Trace.antt`; `specs/Connection.antt` for what a connection stands for, `specs/Runs.antt` for what feeding it comes to.
 
 ghost use Rattle.std.specs.Prelude.{◌≡◌, ◌++◌, ◌∷◌, ◌<◌, ◌^◌, [], true, false, IfOk, IfErr, OnOk, OnErr, Some, option_map};
@@ -19,7 +19,6 @@ ghost use Rattle.h2_conn.specs.Runs.{Advances, Feeds, FeedsOne, Halted, Halts, R
 use crate::fault::ConnFault;
 use crate::one::One;
 use crate::opening::write_opening;
-use crate::show::StateText;
 use crate::state::State;
 use crate::view::View;
 use h2_frame::Splitter;
@@ -275,7 +274,7 @@ impl<'b, A: Allocator + Copy> Conn<'b, A> {
     pub fn state(&self, alloc: A) -> Result<View<A>, AllocError>
         ensures { IfOk result (λ shown. shown ≡ view self.now.state) }
     {
-        self.state.view(alloc)
+        self.state.shown().view(alloc)
     }
 
     /// The text of what is shown of the state, line by line.
@@ -293,7 +292,7 @@ impl<'b, A: Allocator> fmt::Display for Conn<'b, A> {
     ghost output = { λ c. Some (show (view c.state)) };
 
     fn fmt<W: fmt::Write>(&self, f: &mut fmt::Formatter<W>) -> fmt::Result {
-        f.write(StateText(&self.state))
+        f.write(self.state.shown())
     }
 }
 

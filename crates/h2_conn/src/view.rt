@@ -1,145 +1,17 @@
 //! What is shown of a connection's state.
-//! Rests on `state` and, for the fields of the header table, on h2_fields; definition: h2_spec's `specs/View.antt`.
+//! Rests on `state` and on h2_text; definition: h2_spec's `specs/View.antt`.
 
-ghost use Rattle.std.specs.Prelude.{◌≡◌, ◌<◌, ◌^◌, IfOk, length, map, option_map, slice_get};
-ghost use Rattle.h2_spec.specs.Field.{field};
-ghost use Rattle.h2_table.specs.Lent.{lent_field};
-ghost use Rattle.h2_spec.specs.View.{shown_block, shown_stream, view};
+ghost use Rattle.std.specs.Prelude.{◌≡◌};
+ghost use Rattle.h2_spec.specs.View.{shown_block, view};
 
 use crate::state::{OpenBlock, State};
-use h2_fields::field::Field;
-use h2_spec::connection::{BlockView, Phase};
-use h2_spec::flow::{Credit, Settings, Window};
-use h2_spec::streams::{Stream, StreamView};
-use h2_streams::Streams;
-use h2_table::DynTable;
-use std::alloc::{AllocError, Allocator};
-use std::marker::Model;
-
-/// What is shown of a connection's state.
-#[derive(Drop)]
-pub struct View<A: Allocator> {
-    pub phase: Phase,
-    /// The highest client stream whose request block has ended, 0 at first.
-    pub last: u32,
-    /// The receive window of the connection (RFC 9113, 6.9).
-    pub recv: Window,
-    /// Octets received that the server has not yet given back by WINDOW_UPDATE.
-    pub owed: Credit,
-    /// The send window of the connection (RFC 9113, 6.9).
-    pub send: Window,
-    /// The peer's settings.
-    pub peer: Settings,
-    /// Whether the peer has acknowledged the server's settings.
-    pub acked: bool,
-    /// The last stream and the code of the latest GOAWAY received.
-    pub goaway: Option<(u32, u32)>,
-    /// The open field block.
-    pub block: Option<BlockView>,
-    /// The dynamic table, the newest entry first (RFC 7541, 2.3.2).
-    pub table: Vec<Field<A>, A>,
-    /// What the entries count (RFC 7541, 4.1).
-    pub table_size: usize,
-    /// The table's maximum (RFC 7541, 4.2).
-    pub table_max: u32,
-    /// The streams in the order of their opening.
-    pub streams: Vec<StreamView, A>,
-}
-
-impl<A: Allocator> Model for View<A> {
-    ghost use Rattle.h2_spec.specs.View as spec;
-
-    ghost Value = { spec.View };
-
-    ghost view = { λ v. record {
-      phase = v.phase;
-      last = v.last;
-      recv = v.recv;
-      owed = v.owed;
-      send = v.send;
-      peer = v.peer;
-      acked = v.acked;
-      goaway = v.goaway;
-      block = v.block;
-      table = v.table.items;
-      table_size = v.table_size;
-      table_max = v.table_max;
-      streams = v.streams.items;
-    } };
-}
-
-/// The field of this name and this value, in memory of its own.
-fn field_of<A: Allocator + Copy>(
-    alloc: A,
-    name: &[u8],
-    value: &[u8],
-) -> Result<Field<A>, AllocError>
-    ensures { IfOk result (λ copy. copy ≡ field name.now value.now) }
-{
-    let name = Vec::from_slice(alloc, name)?;
-    let value = Vec::from_slice(alloc, value)?;
-    Ok(Field::new(name, value))
-}
-
-/// How many entries there are: each counts 32 octets or more, and all together at most the maximum.
-pub fn count_of<A: Allocator>(table: &DynTable<A>) -> usize
-    ensures count { result ≡ length table.now.table.entries }
-    ensures few { result < 2 ^ 32 }
-{
-    let _size = table.size();
-    let _max = table.max();
-    table.len()
-}
-
-/// The name and the value of the entry at a place, 0 for the newest.
-pub fn entry_at<A: Allocator>(table: &DynTable<A>, place: usize) -> Option<(&[u8], &[u8])>
-    requires few { place < 2 ^ 63 }
-    ensures { option_map lent_field result ≡ slice_get table.now.table.entries place }
-{
-    table.get(place + 1)
-}
-
-/// The entries of a header table, the newest first.
-fn entries_of<A: Allocator + Copy>(
-    alloc: A,
-    table: &DynTable<A>,
-) -> Result<Vec<Field<A>, A>, AllocError>
-    ensures { IfOk result (λ fields. fields.items ≡ table.now.table.entries) }
-{
-    let mut fields = Vec::new(alloc);
-    while let Some((name, value)) = entry_at(table, fields.len()) {
-        fields.push(field_of(alloc, name, value)?)?;
-    }
-    Ok(fields)
-}
-
-/// What is shown of a stream.
-pub fn shown_stream(stream: &Stream) -> StreamView
-    ensures { result ≡ shown_stream stream.now }
-{
-    StreamView {
-        id: stream.id,
-        kind: stream.kind,
-        numbers: stream.numbers,
-    }
-}
-
-/// What is shown of the streams, in the order of their opening.
-fn streams_of<A: Allocator + Copy>(
-    alloc: A,
-    streams: &Streams<A>,
-) -> Result<Vec<StreamView, A>, AllocError>
-    ensures { IfOk result (λ views. views.items ≡ map shown_stream streams.now.streams) }
-{
-    let mut views = Vec::new(alloc);
-    while let Some(stream) = streams.at(views.len()) {
-        views.push(shown_stream(stream))?;
-    }
-    Ok(views)
-}
+use h2_spec::connection::BlockView;
+use h2_text::view::Shown;
+pub use h2_text::view::View;
+use std::alloc::Allocator;
 
 /// What is shown of an open block.
-pub fn shown_block<A: Allocator>(block: &Option<OpenBlock<A>>) -> Option<BlockView>
+fn shown_block<A: Allocator>(block: &Option<OpenBlock<A>>) -> Option<BlockView>
     ensures { result ≡ shown_block block.now }
 {
     match block {
@@ -148,30 +20,17 @@ pub fn shown_block<A: Allocator>(block: &Option<OpenBlock<A>>) -> Option<BlockVi
     }
 }
 
-impl<'b, A: Allocator + Copy> State<'b, A> {
-    /// What is shown of the state.
-    ///
-    /// `AllocError` where memory for the entries of the header table and for the streams is refused.
+impl<'b, A: Allocator> State<'b, A> {
+    /// What is shown of the state, lent.
     #[tactic(auto, unfolding(h2_spec::specs::View::view))]
-    pub fn view(&self, alloc: A) -> Result<View<A>, AllocError>
-        ensures { IfOk result (λ shown. shown ≡ view self.now) }
+    pub fn shown(&self) -> Shown<'_, A>
+        ensures { result ≡ view self.now }
     {
-        let table = entries_of(alloc, &self.table)?;
-        let streams = streams_of(alloc, &self.streams)?;
-        Ok(View {
-            phase: self.core.phase,
-            last: self.core.last,
-            recv: self.core.recv,
-            owed: self.core.owed,
-            send: self.core.send,
-            peer: self.core.peer,
-            acked: self.core.acked,
-            goaway: self.core.goaway,
+        Shown {
+            core: self.core,
             block: shown_block(&self.block),
-            table,
-            table_size: self.table.size(),
-            table_max: self.table.max(),
-            streams,
-        })
+            table: &self.table,
+            streams: &self.streams,
+        }
     }
 }

@@ -1,12 +1,13 @@
 -- What is shown of a connection's state.
 use Rattle.std.specs.Prelude.{ℕ, Bool, List, map, Option, None, Some, ℤ}
 use Rattle.h2_spec.specs.declared.connection.BlockView.{BlockView}
+use Rattle.h2_spec.specs.declared.connection.Core.{Core}
 use Rattle.h2_spec.specs.declared.connection.Phase.{Phase}
 use Rattle.h2_spec.specs.declared.flow.Settings.{Settings}
 use Rattle.h2_spec.specs.declared.streams.Stream.{Stream}
 use Rattle.h2_spec.specs.declared.streams.StreamView.{StreamView}
 use Rattle.h2_spec.specs.Field.{Field}
-use Rattle.h2_spec.specs.DynamicTable.{total_size}
+use Rattle.h2_spec.specs.DynamicTable.{Table, total_size}
 use Rattle.h2_spec.specs.State.{State, OpenBlock}
 
 -- the table's fields stand newest first, the streams in the order of their opening
@@ -34,20 +35,24 @@ abbrev pub shown_block : Option OpenBlock → Option BlockView
 shown_block None = None
 shown_block (Some b) = Some b.shown
 
+-- the view of these counts, this open block, this header table and these records
+abbrev pub view_of : Core → Option BlockView → Table → List Stream → View
+view_of core block table streams = record {
+  phase = core.phase;
+  last = core.last;
+  recv = core.recv;
+  owed = core.owed;
+  send = core.send;
+  peer = core.peer;
+  acked = core.acked;
+  goaway = core.goaway;
+  block = block;
+  table = table.entries;
+  table_size = total_size table.entries;
+  table_max = table.max;
+  streams = map shown_stream streams;
+}
+
 -- the view of a state
 unfoldable pub view : State → View
-view s = record {
-  phase = s.core.phase;
-  last = s.core.last;
-  recv = s.core.recv;
-  owed = s.core.owed;
-  send = s.core.send;
-  peer = s.core.peer;
-  acked = s.core.acked;
-  goaway = s.core.goaway;
-  block = shown_block s.block;
-  table = s.table.entries;
-  table_size = total_size s.table.entries;
-  table_max = s.table.max;
-  streams = map shown_stream s.streams;
-}
+view s = view_of s.core (shown_block s.block) s.table s.streams

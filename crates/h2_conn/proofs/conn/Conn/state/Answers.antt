@@ -8,5 +8,5 @@ use Rattle.h2_conn.proofs.conn.Conn.state.Goals as goal
 pub returns : goal.returns
 returns g c =
     IfOk-weaker c.view.result _ _
-    (λ shown h. h ∙ sym (connection-view c.self.inside.failed c.self.inside.state c.self.inside.splitter.octets) ∙ ap (λ (d : Connection). view d.state) c.self.view_is)
+    (λ shown h. h ∙ c.shown.ensures ∙ sym (connection-view c.self.inside.failed c.self.inside.state c.self.inside.splitter.octets) ∙ ap (λ (d : Connection). view d.state) c.self.view_is)
     c.view.ensures

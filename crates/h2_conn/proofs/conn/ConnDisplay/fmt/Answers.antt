@@ -9,5 +9,5 @@ use Rattle.h2_conn.proofs.conn.ConnDisplay.fmt.Goals as goal
 pub returns-clause-writes : goal.returns-clause-writes
 returns-clause-writes g c = λ plain ok.
     has_written_of_eq _ _ _ _ _
-    (ap (λ (v : View). show v) (sym (connection-view c.self.inside.failed c.self.inside.state c.self.inside.splitter.octets) ∙ ap (λ (d : Connection). view d.state) c.self.view_is))
+    (ap (λ (v : View). show v) (c.shown.ensures ∙ sym (connection-view c.self.inside.failed c.self.inside.state c.self.inside.splitter.octets) ∙ ap (λ (d : Connection). view d.state) c.self.view_is))
     (c.write.ensures.writes plain ok)

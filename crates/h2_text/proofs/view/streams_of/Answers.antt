@@ -1,0 +1,15 @@
+use Rattle.std.proofs.Common.{rules, ◌≡◌, length, Some, None}
+use Rattle.std.specs.Prelude.{slice_get}
+use Rattle.h2_spec.specs.View.{shown_stream}
+use Rattle.h2_text.proofs.Views.{copied-next, copied-all}
+use Rattle.h2_text.proofs.view.streams_of.Goals as goal
+
+pub loop-stream-preserved : goal.loop-stream-preserved
+loop-stream-preserved g c =
+    let at : slice_get c.args.streams.now.streams (length c.loop-stream.views.items) ≡ Some c.in-Some.stream.now = search rules in
+    copied-next shown_stream _ _ _ _ _ c.in_ok-push.ensures.items c.shown_stream.ensures at c.loop-stream.invariant
+
+pub returns : goal.returns
+returns g c =
+    let none : slice_get c.args.streams.now.streams (length c.loop-stream.views.items) ≡ None = search rules in
+    copied-all shown_stream _ _ none c.loop-stream.invariant

@@ -1,0 +1,183 @@
+//! What is shown of a connection's state.
+//! Rests on h2_table, h2_streams and, for the fields of the header table, on h2_fields; definition: h2_spec's `specs/View.antt`.
+
+ghost use Rattle.std.specs.Prelude.{◌≡◌, ◌<◌, ◌^◌, IfOk, length, map, option_map, slice_get};
+ghost use Rattle.h2_spec.specs.Field.{field};
+ghost use Rattle.h2_table.specs.Lent.{lent_field};
+ghost use Rattle.h2_spec.specs.View.{shown_stream};
+
+use h2_fields::field::Field;
+use h2_spec::connection::{BlockView, Core, Phase};
+use h2_spec::flow::{Credit, Settings, Window};
+use h2_spec::streams::{Stream, StreamView};
+use h2_streams::Streams;
+use h2_table::DynTable;
+use std::alloc::{AllocError, Allocator};
+use std::marker::Model;
+
+/// What is shown of a connection's state.
+#[derive(Drop)]
+pub struct View<A: Allocator> {
+    pub phase: Phase,
+    /// The highest client stream whose request block has ended, 0 at first.
+    pub last: u32,
+    /// The receive window of the connection (RFC 9113, 6.9).
+    pub recv: Window,
+    /// Octets received that the server has not yet given back by WINDOW_UPDATE.
+    pub owed: Credit,
+    /// The send window of the connection (RFC 9113, 6.9).
+    pub send: Window,
+    /// The peer's settings.
+    pub peer: Settings,
+    /// Whether the peer has acknowledged the server's settings.
+    pub acked: bool,
+    /// The last stream and the code of the latest GOAWAY received.
+    pub goaway: Option<(u32, u32)>,
+    /// The open field block.
+    pub block: Option<BlockView>,
+    /// The dynamic table, the newest entry first (RFC 7541, 2.3.2).
+    pub table: Vec<Field<A>, A>,
+    /// What the entries count (RFC 7541, 4.1).
+    pub table_size: usize,
+    /// The table's maximum (RFC 7541, 4.2).
+    pub table_max: u32,
+    /// The streams in the order of their opening.
+    pub streams: Vec<StreamView, A>,
+}
+
+impl<A: Allocator> Model for View<A> {
+    ghost use Rattle.h2_spec.specs.View as spec;
+
+    ghost Value = { spec.View };
+
+    ghost view = { λ v. record {
+      phase = v.phase;
+      last = v.last;
+      recv = v.recv;
+      owed = v.owed;
+      send = v.send;
+      peer = v.peer;
+      acked = v.acked;
+      goaway = v.goaway;
+      block = v.block;
+      table = v.table.items;
+      table_size = v.table_size;
+      table_max = v.table_max;
+      streams = v.streams.items;
+    } };
+}
+
+/// The field of this name and this value, in memory of its own.
+fn field_of<A: Allocator + Copy>(
+    alloc: A,
+    name: &[u8],
+    value: &[u8],
+) -> Result<Field<A>, AllocError>
+    ensures { IfOk result (λ copy. copy ≡ field name.now value.now) }
+{
+    let name = Vec::from_slice(alloc, name)?;
+    let value = Vec::from_slice(alloc, value)?;
+    Ok(Field::new(name, value))
+}
+
+/// How many entries there are: each counts 32 octets or more, and all together at most the maximum.
+pub(crate) fn count_of<A: Allocator>(table: &DynTable<A>) -> usize
+    ensures count { result ≡ length table.now.table.entries }
+    ensures few { result < 2 ^ 32 }
+{
+    let _size = table.size();
+    let _max = table.max();
+    table.len()
+}
+
+/// The name and the value of the entry at a place, 0 for the newest.
+pub(crate) fn entry_at<A: Allocator>(table: &DynTable<A>, place: usize) -> Option<(&[u8], &[u8])>
+    requires few { place < 2 ^ 63 }
+    ensures { option_map lent_field result ≡ slice_get table.now.table.entries place }
+{
+    table.get(place + 1)
+}
+
+/// The entries of a header table, the newest first.
+fn entries_of<A: Allocator + Copy>(
+    alloc: A,
+    table: &DynTable<A>,
+) -> Result<Vec<Field<A>, A>, AllocError>
+    ensures { IfOk result (λ fields. fields.items ≡ table.now.table.entries) }
+{
+    let mut fields = Vec::new(alloc);
+    while let Some((name, value)) = entry_at(table, fields.len()) {
+        fields.push(field_of(alloc, name, value)?)?;
+    }
+    Ok(fields)
+}
+
+/// What is shown of a stream.
+pub(crate) fn shown_stream(stream: &Stream) -> StreamView
+    ensures { result ≡ shown_stream stream.now }
+{
+    StreamView {
+        id: stream.id,
+        kind: stream.kind,
+        numbers: stream.numbers,
+    }
+}
+
+/// What is shown of the streams, in the order of their opening.
+fn streams_of<A: Allocator + Copy>(
+    alloc: A,
+    streams: &Streams<A>,
+) -> Result<Vec<StreamView, A>, AllocError>
+    ensures { IfOk result (λ views. views.items ≡ map shown_stream streams.now.streams) }
+{
+    let mut views = Vec::new(alloc);
+    while let Some(stream) = streams.at(views.len()) {
+        views.push(shown_stream(stream))?;
+    }
+    Ok(views)
+}
+
+/// What is shown of a connection's state, as it stands there: the parts that a view is made of.
+#[derive(Drop)]
+pub struct Shown<'s, A: Allocator> {
+    pub core: Core,
+    /// The open field block.
+    pub block: Option<BlockView>,
+    pub table: &'s DynTable<A>,
+    pub streams: &'s Streams<A>,
+}
+
+impl<'s, A: Allocator> Model for Shown<'s, A> {
+    ghost use Rattle.h2_spec.specs.View.{View, view_of};
+
+    ghost Value = { View };
+
+    ghost view = { λ s. view_of s.core s.block s.table.now.table s.streams.now.streams };
+}
+
+impl<A: Allocator + Copy> Shown<'_, A> {
+    /// The view, with the fields and the streams in memory of its own.
+    ///
+    /// `AllocError` where memory for the entries of the header table and for the streams is refused.
+    pub fn view(&self, alloc: A) -> Result<View<A>, AllocError>
+        ensures { IfOk result (λ view. view ≡ self.now) }
+    {
+        let table = entries_of(alloc, self.table)?;
+        let streams = streams_of(alloc, self.streams)?;
+        Ok(View {
+            phase: self.core.phase,
+            last: self.core.last,
+            recv: self.core.recv,
+            owed: self.core.owed,
+            send: self.core.send,
+            peer: self.core.peer,
+            acked: self.core.acked,
+            goaway: self.core.goaway,
+            block: self.block,
+            table,
+            table_size: self.table.size(),
+            table_max: self.table.max(),
+            streams,
+        })
+    }
+}
