@@ -34,14 +34,21 @@ struct Parts<'a> {
 /// # Errors
 ///
 /// `BadAnswer` where the words say no entry, which is found before memory is wanted; `NoMemory` where they say one and memory is refused.
-#[tactic(auto, unfolding(h2_spec::specs::AnswerWords::entry_of))]
 pub fn parse_answer(alloc: Global, text: &str) -> Result<Entry<Global>, BenchFault>
     ensures said { IfOk result (λ entry. words.entry_of text.now ≡ Some entry) }
     ensures refused { IfErr result (λ fault. fault ≡ refusal_of (words.entry_of text.now)) }
 {
-    let Some(parts) = parts_in(text.as_bytes()) else {
-        return Err(BenchFault::BadAnswer);
-    };
+    match parts_in(text.as_bytes()) {
+        Some(parts) => entry_of(alloc, parts),
+        None => Err(BenchFault::BadAnswer),
+    }
+}
+
+/// The entry of these parts; `BadAnswer` where they are not what they have to be, which is found before memory is wanted.
+fn entry_of(alloc: Global, parts: Parts<'_>) -> Result<Entry<Global>, BenchFault>
+    ensures said { IfOk result (λ entry. words.entry_with parts.entry.method.now parts.entry.path.now (words.status_of parts.entry.status.now) (words.body_of parts.entry.body.now) (words.fields_of (parts_behind parts.entry.fields.now)) ≡ Some entry) }
+    ensures refused { IfErr result (λ fault. fault ≡ refusal_of (words.entry_with parts.entry.method.now parts.entry.path.now (words.status_of parts.entry.status.now) (words.body_of parts.entry.body.now) (words.fields_of (parts_behind parts.entry.fields.now)))) }
+{
     let Some(status) = status_in(parts.status) else {
         return Err(BenchFault::BadAnswer);
     };

@@ -16,7 +16,7 @@ use h2_spec::connection::Config;
 use std::alloc::{AllocError, Global};
 
 /// How a connection is played.
-#[derive(Debug, Drop)]
+#[derive(Drop)]
 pub struct Play<'a> {
     pub config: Config,
     /// How many octets a piece has, 0 to 65536; 0 for 65536.
@@ -28,7 +28,7 @@ pub struct Play<'a> {
 }
 
 /// What is to be done.
-#[derive(Debug, Drop)]
+#[derive(Drop)]
 pub enum Plan<'a> {
     /// Plays a connection over the octets of the input.
     Play(Play<'a>),
@@ -41,7 +41,7 @@ pub enum Plan<'a> {
 }
 
 /// Why words were refused.
-#[derive(Debug, Drop)]
+#[derive(Drop)]
 pub enum Refusal {
     /// The words are no command, or ask for help: what is to be told of them.
     Words(String),
@@ -144,10 +144,11 @@ fn table_command<'a>(alloc: Global) -> Result<Command<'a>, AllocError>
 fn bench_command<'a>(alloc: Global) -> Result<Command<'a>, AllocError>
     ensures { IfOk result (λ c. app_of c ≡ bench_app) }
 {
+    let play = play_command(alloc)?;
     Command::new(alloc, "h2_bench")
         .about("An HTTP/2 server emulator and frame debugger")
         .subcommand_required(true)
-        .subcommand(play_command(alloc)?)?
+        .subcommand(play)?
         .subcommand(asm_command(alloc))?
         .subcommand(dis_command(alloc))?
         .subcommand(table_command(alloc)?)

@@ -8,7 +8,7 @@ use std::fmt::Display;
 use std::io::{Read, Write};
 
 /// A call of a device failed.
-#[derive(Clone, Copy, Debug, PartialEq, Eq)]
+#[derive(Clone, Copy)]
 pub struct Failed;
 
 /// Reads once; 0 octets are the input's end. Where the read fails, an interruption too, the flag is set.

@@ -17,7 +17,7 @@ use std::alloc::Global;
 use std::{fmt, io};
 
 /// Why places were not all written.
-#[derive(Clone, Copy, Debug, PartialEq, Eq)]
+#[derive(Clone, Copy)]
 pub enum Untold {
     /// A fault, whose line is still to be written.
     Fault(BenchFault),

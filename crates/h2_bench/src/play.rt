@@ -12,7 +12,7 @@ ghost use Rattle.h2_bench.specs.Each.{WritesSome, not_written};
 ghost use Rattle.h2_bench.specs.Faults.{fault_number};
 ghost use Rattle.h2_bench.specs.Input.{IsNoHex, octets_spelled};
 ghost use Rattle.h2_bench.specs.Plans.{piece_lengths};
-ghost use Rattle.h2_bench.specs.Told.{OrCutShort, places_play, places_played, sent_and_state, told_play, told_played};
+ghost use Rattle.h2_bench.specs.Told.{OrCutShort, done, places_play, places_played, sent_and_state, told_play, told_played};
 ghost use Rattle.h2_bench.specs.declared.fault.BenchFault.TheVariants.{BadConfig, NoMemory};
 
 use crate::answer::parse_answer;
@@ -128,6 +128,24 @@ fn played<'b>(
     }
 }
 
+/// Writes the line of the octets sent, and the text of the state.
+fn write_sent<W: io::Write>(
+    conn: &Conn<'_, Global>,
+    sent: &[u8],
+    output: &mut W,
+    output_failed: &mut bool,
+) -> Result<(), Untold>
+    requires { output_failed.old ≡ false }
+    ensures told { output_failed.new ≡ false → WritesSome (λ t. t ≡ done (sent_and_state sent.now (view conn.now.state)))
+        result (W.contents output.old) (W.contents output.new) }
+    ensures flag { output_failed.new ≡ not_written result }
+{
+    match write_text(output, output_failed, PlayedText { sent, conn }) {
+        Ok(()) => Ok(()),
+        Err(_) => Err(Untold::NotWritten),
+    }
+}
+
 /// Writes what `play` prints of octets: those sent, and the state after all of them. No memory is wanted once anything is written.
 fn write_whole<W: io::Write>(
     alloc: Global,
@@ -143,15 +161,9 @@ fn write_whole<W: io::Write>(
     ensures flag { output_failed.new ≡ not_written result }
 {
     let mut sent = Vec::new(alloc);
-    let conn = match played(alloc, book, play.config, play.cut, octets, &mut sent) {
-        Ok(conn) => conn,
-        Err(fault) => return Err(Untold::Fault(fault)),
-    };
-    let sent = sent.as_slice();
-    let conn = &conn;
-    match write_text(output, output_failed, PlayedText { sent, conn }) {
-        Ok(()) => Ok(()),
-        Err(_) => Err(Untold::NotWritten),
+    match played(alloc, book, play.config, play.cut, octets, &mut sent) {
+        Ok(conn) => write_sent(&conn, sent.as_slice(), output, output_failed),
+        Err(fault) => Err(Untold::Fault(fault)),
     }
 }
 

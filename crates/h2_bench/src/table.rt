@@ -18,7 +18,7 @@ use std::alloc::{AllocError, Allocator, Global};
 use std::fmt::Write;
 
 /// What a line asks for.
-#[derive(Clone, Copy, Debug, PartialEq, Eq)]
+#[derive(Clone, Copy)]
 pub enum TableCommand<'a> {
     /// Puts a field of this name and this value in the table.
     Add(&'a [u8], &'a [u8]),

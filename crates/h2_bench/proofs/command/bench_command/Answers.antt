@@ -9,8 +9,8 @@ unfolding bench_app
 returns c =
     let top_is : app_of c.subcommand_required.result ≡ top_app = search rules in
     let one : app_of c.in_ok-subcommand.field-0 ≡ with_subcommand top_app play_app.top =
-    c.in_ok-subcommand.ensures.shape (c.in_ok-play_command.ensures.1)
-    ∙ ap₂ with_subcommand top_is (ap (λ (a : App). a.top) c.in_ok-play_command.ensures.0) in
+    c.in_ok-subcommand.ensures.shape (c.in_ok-play.ensures.1)
+    ∙ ap₂ with_subcommand top_is (ap (λ (a : App). a.top) c.in_ok-play.ensures.0) in
     let two : app_of c.in_ok-subcommand-2.field-0 ≡ with_subcommand (with_subcommand top_app play_app.top) asm_app.top =
     c.in_ok-subcommand-2.ensures.shape (c.asm_command.ensures.1)
     ∙ ap₂ with_subcommand one (ap (λ (a : App). a.top) c.asm_command.ensures.0) in

@@ -13,3 +13,6 @@ returns-in-Err-clause-told g c = λ well held is. (
     | inr bad ↦ inl (ap (failed_after []) bad.0 ∙ ap (λ (o : Option (List ℕ)). told_play c.args.play.now.each c.args.book.now c.args.play.now.config o) (sym bad.1))
   ],
 )
+
+pub returns-in-Ok-clause-told : goal.returns-in-Ok-clause-told
+returns-in-Ok-clause-told g c = λ well. rw (c.in-Ok.ensures.ok, ← c.as_slice.ensures.value) (c.write_played.ensures.told well)
