@@ -7,7 +7,7 @@ use Rattle.h2_text.proofs.view.streams_of.Goals as goal
 pub loop-stream-preserved : goal.loop-stream-preserved
 loop-stream-preserved g c =
     let at : slice_get c.args.streams.now.streams (length c.loop-stream.views.items) ≡ Some c.in-Some.stream.now = search rules in
-    copied-next shown_stream _ _ _ _ _ c.in_ok-push.ensures.items c.shown_stream.ensures at c.loop-stream.invariant
+    copied-next shown_stream c.args.streams.now.streams c.loop-stream.views.items c.push.new.self.items c.in-Some.stream.now c.shown_stream.result c.in_ok-push.ensures.items c.shown_stream.ensures at c.loop-stream.invariant
 
 pub returns : goal.returns
 returns g c =
