@@ -1,6 +1,7 @@
 //! The words of one answer on the command line.
 
 use crate::program::joined;
+use crate::same::same;
 use h2_bench::parse_answer;
 use h2_request::book::Entry;
 use std::alloc::{AllocError, Global};
@@ -56,7 +57,7 @@ static REFUSED: [(&str, &str); 11] = [
 fn words_that_say_no_answer_are_refused(rt: HostRuntime) -> Result<(), Fail> {
     for (text, message) in &REFUSED {
         let fault = said(rt.alloc(), text)?.err();
-        assert_eq!(rt; fault, Some(26), "{message}");
+        same(&rt, &fault, &Some(26), message);
     }
     Ok(())
 }
@@ -66,7 +67,12 @@ fn words_say_answers(rt: HostRuntime) -> Result<(), Fail> {
     let said = said(rt.alloc(), "GET|/|999|6aF0|a=b=c|=|x=")?;
     let (status, lines) = said.ok().ok_or("an answer")?;
     let wanted = b"GET\n/\n\x6a\xf0\na: b=c\n: \nx: \n";
-    assert_eq!(rt; (status, lines.as_slice()), (999, wanted.as_slice()));
+    same(
+        &rt,
+        &(status, lines.as_slice()),
+        &(999, wanted.as_slice()),
+        &"an answer of three fields",
+    );
     Ok(())
 }
 
@@ -74,6 +80,11 @@ fn words_say_answers(rt: HostRuntime) -> Result<(), Fail> {
 fn parts_of_answers_may_be_empty(rt: HostRuntime) -> Result<(), Fail> {
     let said = said(rt.alloc(), "||000|")?;
     let (status, lines) = said.ok().ok_or("an answer")?;
-    assert_eq!(rt; (status, lines.as_slice()), (0, b"\n\n\n".as_slice()));
+    same(
+        &rt,
+        &(status, lines.as_slice()),
+        &(0, b"\n\n\n".as_slice()),
+        &"empty parts",
+    );
     Ok(())
 }

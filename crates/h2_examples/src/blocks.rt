@@ -1,12 +1,12 @@
 //! Field blocks: size updates, faults of compression, and the longest ones (RFC 7541; RFC 9113, 4.3).
 
-use crate::program::{Exchange, Piece, compare_exchange, compare_exchanges, filled};
+use crate::program::{Exchange, Piece, compare_exchange, filled};
 use std::alloc::Global;
 use std::process::Abort;
 use std::test::Fail;
 
 /// Field blocks.
-static DECODED: [Exchange; 10] = [
+pub(crate) static DECODED: [Exchange; 10] = [
     (
         "a size update opens the block",
         &["play"],
@@ -130,11 +130,6 @@ static DECODED: [Exchange; 10] = [
     ),
 ];
 
-#[test]
-fn blocks_are_decoded(rt: HostRuntime) -> Result<(), Fail> {
-    compare_exchanges(&rt, rt.alloc(), &DECODED)
-}
-
 /// Three ways to cut what comes.
 static CUTS: [(&str, &[&str]); 3] = [
     ("whole", &["play", "--cut", "0"]),
@@ -158,20 +153,18 @@ fn compare_long_block(
     Ok(())
 }
 
-/// HEADERS and three CONTINUATION of 16384 octets 82, the last with END_HEADERS.
-static LONG_LIST: [Piece; 4] = [
-    ("004000010000000001", 16384),
-    ("004000090000000001", 16384),
-    ("004000090000000001", 16384),
-    ("004000090400000001", 16384),
-];
+/// Frames that are filled with octets 82, what is sent, and the text of the state.
+type LongBlock = (&'static [Piece], &'static str, &'static str);
 
-#[test]
-fn long_lists_are_refused(rt: HostRuntime) -> Result<(), Fail> {
-    compare_long_block(
-        &rt,
-        rt.alloc(),
-        &LONG_LIST,
+/// HEADERS and three CONTINUATION of 16384 octets 82: the last with END_HEADERS, and with one more octet.
+static LONG_BLOCKS: [LongBlock; 2] = [
+    (
+        &[
+            ("004000010000000001", 16384),
+            ("004000090000000001", 16384),
+            ("004000090000000001", 16384),
+            ("004000090400000001", 16384),
+        ],
         "0000040300000000010000000b",
         "phase running last 1\n\
          window recv 65535 owed 0 send 65535\n\
@@ -180,24 +173,15 @@ fn long_lists_are_refused(rt: HostRuntime) -> Result<(), Fail> {
          block -\n\
          table 0 0 4096\n\
          stream 1 we-reset\n",
-    )
-}
-
-/// HEADERS and three CONTINUATION of 16384 octets 82, and one more octet.
-static LONG_BLOCK: [Piece; 5] = [
-    ("004000010000000001", 16384),
-    ("004000090000000001", 16384),
-    ("004000090000000001", 16384),
-    ("004000090000000001", 16384),
-    ("000001090000000001", 1),
-];
-
-#[test]
-fn long_blocks_end_the_connection(rt: HostRuntime) -> Result<(), Fail> {
-    compare_long_block(
-        &rt,
-        rt.alloc(),
-        &LONG_BLOCK,
+    ),
+    (
+        &[
+            ("004000010000000001", 16384),
+            ("004000090000000001", 16384),
+            ("004000090000000001", 16384),
+            ("004000090000000001", 16384),
+            ("000001090000000001", 1),
+        ],
         "000008070000000000000000000000000b",
         "phase ended 11 last 0\n\
          window recv 65535 owed 0 send 65535\n\
@@ -205,5 +189,13 @@ fn long_blocks_end_the_connection(rt: HostRuntime) -> Result<(), Fail> {
          acked 0 goaway -\n\
          block stream 1 octets 65536 list 2752512 ends 0\n\
          table 0 0 4096\n",
-    )
+    ),
+];
+
+#[test]
+fn long_blocks_are_refused_or_end_the_connection(rt: HostRuntime) -> Result<(), Fail> {
+    for (pieces, sent, state) in &LONG_BLOCKS {
+        compare_long_block(&rt, rt.alloc(), pieces, sent, state)?;
+    }
+    Ok(())
 }

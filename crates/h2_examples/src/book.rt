@@ -1,6 +1,7 @@
 //! The book of answers: entries that are refused, and what requests pick (RFC 9113, 8.3.2).
 
 use crate::fields::fields_of;
+use crate::same::same;
 use h2_fields::field::Field;
 use h2_fields::octets::Octets;
 use h2_request::book::{Book, Entry, Pick};
@@ -59,9 +60,9 @@ fn entries_of_a_book(rt: HostRuntime) -> Result<(), Fail> {
     let mut book = Book::new(rt.alloc());
     for (method, status, name, body, fault, message) in &ENTRIES {
         let entry = entry(rt.alloc(), method, *status, name, body)?;
-        assert_eq!(rt; fault_of(&mut book, entry), *fault, "{message}");
+        same(&rt, &fault_of(&mut book, entry), fault, message);
     }
-    assert_eq!(rt; book.len(), 2);
+    same(&rt, &book.len(), &2, &"entries that are kept");
     Ok(())
 }
 
@@ -84,10 +85,11 @@ fn long_body_refused(alloc: Global) -> Result<Option<BookFault>, AllocError> {
 #[test]
 fn long_bodies(rt: HostRuntime) -> Result<(), Fail> {
     let refused = long_body_refused(rt.alloc())?;
-    assert_eq!(rt;
-        refused,
-        Some(BookFault::TooLong),
-        "one octet above the limit"
+    same(
+        &rt,
+        &refused,
+        &Some(BookFault::TooLong),
+        &"an octet too long",
     );
     Ok(())
 }
@@ -126,7 +128,12 @@ fn requests_pick_answers(rt: HostRuntime) -> Result<(), Fail> {
         ],
     )?;
     let picked = picked(&book, fields.as_slice());
-    assert_eq!(rt; picked, Some((Some(12), Pick::Listed(0))));
+    same(
+        &rt,
+        &picked,
+        &Some((Some(12), Pick::Listed(0))),
+        &"a GET of the root",
+    );
     Ok(())
 }
 
@@ -141,7 +148,7 @@ fn picks_are_answered(rt: HostRuntime) -> Result<(), Fail> {
     ];
     for (pick, status, body, fields, block) in cases {
         let answer = answer_of(&book, pick);
-        assert_eq!(rt; answer, (status, body, fields, block), "{pick:?}");
+        same(&rt, &answer, &(status, body, fields, block), &pick);
     }
     Ok(())
 }

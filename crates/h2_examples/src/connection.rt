@@ -1,6 +1,7 @@
 //! Single calls of a connection (RFC 9113, 3.4).
 
 use crate::frames::PREFACE;
+use crate::same::same;
 use h2_conn::play::play;
 use h2_conn::{Conn, ConnFault};
 use h2_request::book::Book;
@@ -8,9 +9,6 @@ use h2_spec::connection::{Config, Phase};
 use h2_spec::streams::Kind;
 use std::alloc::Global;
 use std::test::Fail;
-
-/// SETTINGS of no setting (RFC 9113, 6.5).
-const SETTINGS: &[u8] = b"\x00\x00\x00\x04\x00\x00\x00\x00\x00";
 
 /// The usual limits.
 fn usual() -> Config {
@@ -41,10 +39,11 @@ fn opened(
 fn limits_out_of_range_are_refused(rt: HostRuntime) {
     for (streams, credit) in [(0, 1), (1001, 1), (1, 0), (1, 65536)] {
         let (refused, sent) = opened(rt.alloc(), streams, credit);
-        assert_eq!(rt;
-            (refused, sent.len()),
-            (Err(ConnFault::BadConfig), 0),
-            "{streams} streams, credit {credit}"
+        same(
+            &rt,
+            &(refused, sent.len()),
+            &(Err(ConnFault::BadConfig), 0),
+            &(streams, credit),
         );
     }
 }
@@ -55,9 +54,11 @@ fn settings_are_sent_first(rt: HostRuntime) {
     // SETTINGS_MAX_CONCURRENT_STREAMS 1000 and SETTINGS_MAX_HEADER_LIST_SIZE 65536 (RFC 9113, 6.5.2).
     let opening =
         b"\x00\x00\x0c\x04\x00\x00\x00\x00\x00\x00\x03\x00\x00\x03\xe8\x00\x06\x00\x01\x00\x00";
-    assert_eq!(rt;
-        (state, sent.as_slice()),
-        (Ok((None, false)), opening.as_slice())
+    same(
+        &rt,
+        &(state, sent.as_slice()),
+        &(Ok((None, false)), opening.as_slice()),
+        &"the opening SETTINGS",
     );
 }
 
@@ -65,107 +66,167 @@ fn settings_are_sent_first(rt: HostRuntime) {
 /// whether memory was refused.
 type Progress = (Vec<(usize, usize)>, Vec<u8>, (Option<u32>, bool));
 
-fn fed(alloc: Global, pieces: &[&[u8]]) -> Result<Progress, Fail> {
-    let book = Book::new(alloc);
-    let mut conn = Conn::new(&book, usual(), &mut Vec::new(alloc))?;
+/// A new connection over this book.
+fn opened_over(alloc: Global, book: &Book<Global>) -> Result<Conn<'_, Global>, Fail> {
+    Ok(Conn::new(book, usual(), &mut Vec::new(alloc))?)
+}
+
+/// After each piece the number of items in it and of the octets sent.
+fn counted(
+    alloc: Global,
+    conn: &mut Conn<'_, Global>,
+    pieces: &[&[u8]],
+    sent: &mut Vec<u8>,
+) -> Result<Vec<(usize, usize)>, Fail> {
     let mut counts = Vec::new(alloc);
-    let mut sent = Vec::new(alloc);
     for piece in pieces {
-        let items = conn.feed(piece, &mut sent)?;
+        let items = conn.feed(piece, sent)?;
         counts.push((items, sent.len()))?;
     }
+    Ok(counts)
+}
+
+fn fed(alloc: Global, pieces: &[&[u8]]) -> Result<Progress, Fail> {
+    let book = Book::new(alloc);
+    let mut conn = opened_over(alloc, &book)?;
+    let mut sent = Vec::new(alloc);
+    let counts = counted(alloc, &mut conn, pieces, &mut sent)?;
     Ok((counts, sent, (conn.ended(), conn.failed())))
 }
 
+/// Pieces; the number of items in each and of the octets sent after it; the octets sent; and the code that ended the connection.
+type Fed = (
+    &'static [&'static [u8]],
+    &'static [(usize, usize)],
+    &'static [u8],
+    Option<u32>,
+);
+
+static FED: [Fed; 2] = [
+    // The preface; SETTINGS, PING, and the beginning of a head; nothing. SETTINGS and PING are acknowledged.
+    (
+        &[
+            b"PRI * HTTP/2.0\r\n\r\nSM\r\n\r\n",
+            b"\x00\x00\x00\x04\x00\x00\x00\x00\x00\x00\x00\x08\x06\x00\x00\x00\x00\x00debugger\x00\x00",
+            b"",
+        ],
+        &[(1, 0), (2, 26), (0, 26)],
+        b"\x00\x00\x00\x04\x01\x00\x00\x00\x00\x00\x00\x08\x06\x01\x00\x00\x00\x00debugger",
+        None,
+    ),
+    // GOAWAY: last stream 0, PROTOCOL_ERROR (RFC 9113, 6.8). Behind it nothing is taken.
+    (
+        &[b"GET / HTTP/1.1\r\n", b"PRI * HTTP/2.0\r\n\r\nSM\r\n\r\n"],
+        &[(1, 17), (0, 17)],
+        b"\x00\x00\x08\x07\x00\x00\x00\x00\x00\x00\x00\x00\x00\x00\x00\x00\x01",
+        Some(1),
+    ),
+];
+
 #[test]
 fn items_are_counted_and_answered(rt: HostRuntime) -> Result<(), Fail> {
-    // SETTINGS, PING, and the beginning of a head.
-    let piece =
-        b"\x00\x00\x00\x04\x00\x00\x00\x00\x00\x00\x00\x08\x06\x00\x00\x00\x00\x00debugger\x00\x00";
-    let answers =
-        b"\x00\x00\x00\x04\x01\x00\x00\x00\x00\x00\x00\x08\x06\x01\x00\x00\x00\x00debugger";
-    let (counts, sent, _) = fed(rt.alloc(), &[PREFACE, piece, b""])?;
-    assert_eq!(rt; counts.as_slice(), [(1, 0), (2, 26), (0, 26)].as_slice());
-    assert_eq!(rt; sent.as_slice(), answers.as_slice());
+    for (pieces, wanted, answers, ended) in &FED {
+        let (counts, sent, end) = fed(rt.alloc(), pieces)?;
+        let found = (counts.as_slice(), sent.as_slice(), end);
+        same(&rt, &found, &(*wanted, *answers, (*ended, false)), answers);
+    }
     Ok(())
 }
 
-#[test]
-fn errors_end_the_connection(rt: HostRuntime) -> Result<(), Fail> {
-    // GOAWAY: last stream 0, PROTOCOL_ERROR (RFC 9113, 6.8). Behind it nothing is taken.
-    let goaway = b"\x00\x00\x08\x07\x00\x00\x00\x00\x00\x00\x00\x00\x00\x00\x00\x00\x01";
-    let (counts, sent, end) = fed(rt.alloc(), &[b"GET / HTTP/1.1\r\n", PREFACE])?;
-    assert_eq!(rt; counts.as_slice(), [(1, 17), (0, 17)].as_slice());
-    assert_eq!(rt; sent.as_slice(), goaway.as_slice());
-    assert_eq!(rt; end, (Some(1), false));
-    Ok(())
+/// What comes of a piece that is given for one item: the octets used of it, whether there was an item, and the number of the octets sent.
+fn step(
+    conn: &mut Conn<'_, Global>,
+    piece: &[u8],
+    sent: &mut Vec<u8>,
+) -> Result<(usize, bool, usize), Fail> {
+    let one = conn.feed_one(piece, sent)?;
+    Ok((one.used, one.item, sent.len()))
 }
 
-/// What comes of pieces that are given one after another for one item: the octets used of each, whether there was an item, and the number of the octets sent.
-fn fed_one(alloc: Global, pieces: &[&[u8]]) -> Result<Vec<(usize, bool, usize)>, Fail> {
-    let book = Book::new(alloc);
-    let mut conn = Conn::new(&book, usual(), &mut Vec::new(alloc))?;
+fn steps(
+    alloc: Global,
+    conn: &mut Conn<'_, Global>,
+    pieces: &[&[u8]],
+) -> Result<Vec<(usize, bool, usize)>, Fail> {
     let mut steps = Vec::new(alloc);
     let mut sent = Vec::new(alloc);
     for piece in pieces {
-        let one = conn.feed_one(piece, &mut sent)?;
-        steps.push((one.used, one.item, sent.len()))?;
+        steps.push(step(conn, piece, &mut sent)?)?;
     }
     Ok(steps)
 }
 
-#[test]
-fn one_item_is_taken(rt: HostRuntime) -> Result<(), Fail> {
-    let piece = b"PRI * HTTP/2.0\r\n\r\nSM\r\n\r\n\x00\x00\x00\x04";
-    let steps = fed_one(rt.alloc(), &[piece])?;
-    assert_eq!(rt; steps.as_slice(), [(24, true, 0)].as_slice());
-    Ok(())
-}
-
-#[test]
-fn octets_without_an_item_are_taken(rt: HostRuntime) -> Result<(), Fail> {
-    let steps = fed_one(rt.alloc(), &[b"PRI", b" * HTTP/2.0\r\n\r\nSM\r\n\r\n"])?;
-    assert_eq!(rt; steps.as_slice(), [(3, false, 0), (21, true, 0)].as_slice());
-    Ok(())
-}
-
-#[test]
-fn nothing_is_taken_after_the_end(rt: HostRuntime) -> Result<(), Fail> {
-    let steps = fed_one(rt.alloc(), &[b"G", PREFACE, SETTINGS])?;
-    let wanted = [(1, true, 17), (24, false, 17), (9, false, 17)];
-    assert_eq!(rt; steps.as_slice(), wanted.as_slice());
-    Ok(())
-}
-
-/// The text of a new connection's state, the same as the connection writes it between two words, and its phase.
-fn shown(alloc: Global) -> Result<(String, String, Phase), Fail> {
+/// What comes of each piece that is given to a new connection.
+fn fed_one(alloc: Global, pieces: &[&[u8]]) -> Result<Vec<(usize, bool, usize)>, Fail> {
     let book = Book::new(alloc);
-    let conn = Conn::new(&book, usual(), &mut Vec::new(alloc))?;
+    let mut conn = opened_over(alloc, &book)?;
+    steps(alloc, &mut conn, pieces)
+}
+
+/// Pieces, and what comes of each.
+type FedOne = (&'static [&'static [u8]], &'static [(usize, bool, usize)]);
+
+static FED_ONE: [FedOne; 3] = [
+    // One item, and no more, is taken.
+    (
+        &[b"PRI * HTTP/2.0\r\n\r\nSM\r\n\r\n\x00\x00\x00\x04"],
+        &[(24, true, 0)],
+    ),
+    // Octets without an item are taken.
+    (
+        &[b"PRI", b" * HTTP/2.0\r\n\r\nSM\r\n\r\n"],
+        &[(3, false, 0), (21, true, 0)],
+    ),
+    // After the end nothing is: the preface and SETTINGS of no setting (RFC 9113, 6.5).
+    (
+        &[
+            b"G",
+            b"PRI * HTTP/2.0\r\n\r\nSM\r\n\r\n",
+            b"\x00\x00\x00\x04\x00\x00\x00\x00\x00",
+        ],
+        &[(1, true, 17), (24, false, 17), (9, false, 17)],
+    ),
+];
+
+#[test]
+fn one_item_is_taken_at_a_time(rt: HostRuntime) -> Result<(), Fail> {
+    for (pieces, wanted) in &FED_ONE {
+        let steps = fed_one(rt.alloc(), pieces)?;
+        same(&rt, &steps.as_slice(), wanted, pieces);
+    }
+    Ok(())
+}
+
+/// The text of a connection's state, and the same as the connection writes it between two words.
+fn texts(alloc: Global, conn: &Conn<'_, Global>) -> Result<(String, String), Fail> {
     let text = conn.show(alloc)?;
-    let written = format!(in alloc; "state\n{conn}end")?;
-    let view = conn.state(alloc)?;
-    Ok((text, written, view.phase))
+    Ok((text, format!(in alloc; "state\n{conn}end")?))
+}
+
+fn phase_of(alloc: Global, conn: &Conn<'_, Global>) -> Result<Phase, Fail> {
+    Ok(conn.state(alloc)?.phase)
+}
+
+/// The phase of a new connection, and the texts of its state.
+fn shown(alloc: Global) -> Result<(Phase, (String, String)), Fail> {
+    let book = Book::new(alloc);
+    let conn = opened_over(alloc, &book)?;
+    Ok((phase_of(alloc, &conn)?, texts(alloc, &conn)?))
 }
 
 #[test]
 fn the_state_is_shown(rt: HostRuntime) -> Result<(), Fail> {
-    let (text, written, phase) = shown(rt.alloc())?;
-    let want = "state\n\
-                phase preface last 0\n\
-                window recv 65535 owed 0 send 65535\n\
-                peer table 4096 push 1 streams - window 65535 frame 16384 list - signal 0\n\
-                acked 0 goaway -\n\
-                block -\n\
-                table 0 0 4096\n\
-                end";
-    assert_eq!(rt; (written.as_str(), phase), (want, Phase::Preface));
-    assert_eq!(rt;
-        Some(text.as_str()),
-        written
-            .as_str()
-            .strip_prefix("state\n")
-            .and_then(|it| it.strip_suffix("end"))
-    );
+    let (phase, (text, written)) = shown(rt.alloc())?;
+    let state = "phase preface last 0\n\
+                 window recv 65535 owed 0 send 65535\n\
+                 peer table 4096 push 1 streams - window 65535 frame 16384 list - signal 0\n\
+                 acked 0 goaway -\n\
+                 block -\n\
+                 table 0 0 4096\n";
+    let between = format!(in rt.alloc(); "state\n{state}end")?;
+    let found = (text.as_str(), written.as_str(), phase);
+    let wanted = (state, between.as_str(), Phase::Preface);
+    same(&rt, &found, &wanted, &"a new connection");
     Ok(())
 }
 
@@ -193,9 +254,10 @@ fn runs_are_played(rt: HostRuntime) -> Result<(), Fail> {
         b"\x00\x00\x0c\x04\x00\x00\x00\x00\x00\x00\x03\x00\x00\x00\x64\x00\x06\x00\x01\x00\x00\x00\x00\x00\x04\x01\x00\x00\x00\x00\x00\x00\x04\x03\x00\x00\x00\x00\x01\x00\x00\x00\x01";
     for lengths in [[].as_slice(), [1, 24, 100].as_slice()] {
         let (phase, last, streams, sent) = played(rt.alloc(), octets, lengths)?;
-        assert_eq!(rt; (phase, last), (Phase::Running, 1));
-        assert_eq!(rt; streams.as_slice(), [(1, Kind::WeReset)].as_slice());
-        assert_eq!(rt; sent.as_slice(), answers.as_slice());
+        let found = (phase, last, streams.as_slice(), sent.as_slice());
+        let streams = [(1, Kind::WeReset)];
+        let wanted = (Phase::Running, 1, streams.as_slice(), answers.as_slice());
+        same(&rt, &found, &wanted, &lengths);
     }
     Ok(())
 }
@@ -215,8 +277,8 @@ fn refused(alloc: Global) -> Result<(Option<ConnFault>, Vec<u8>), Fail> {
 #[test]
 fn runs_out_of_limits_are_refused(rt: HostRuntime) -> Result<(), Fail> {
     let (fault, sent) = refused(rt.alloc())?;
-    assert_eq!(rt; fault, Some(ConnFault::BadConfig));
-    assert_eq!(rt; sent.as_slice(), b"kept".as_slice());
+    let wanted = (Some(ConnFault::BadConfig), b"kept".as_slice());
+    same(&rt, &(fault, sent.as_slice()), &wanted, &"no stream");
     Ok(())
 }
 
@@ -227,6 +289,6 @@ fn faults_have_their_numbers(rt: HostRuntime) {
         (ConnFault::BadConfig, 16),
         (ConnFault::Failed, 17),
     ] {
-        assert_eq!(rt; fault.number(), number, "{fault:?}");
+        same(&rt, &fault.number(), &number, &fault);
     }
 }

@@ -1,5 +1,6 @@
 //! The decoder of field blocks on worked values: RFC 7541, Appendix C.2 to C.6; blocks that are refused, cut, or at the edge of the table.
 
+use crate::same::same;
 use h2_fields::block::BlockDecoder;
 use h2_fields::fault::BlockFault;
 use h2_table::DynTable;
@@ -363,15 +364,12 @@ fn compare_blocks(rt: &impl Abort, alloc: Global, by_octets: bool) -> Result<(),
             table = empty_table(alloc, limit)?;
         }
         let held = decoded(alloc, &mut table, case.block, by_octets)?;
-        let lines = (held.fields.as_slice(), held.entries.as_slice());
-        assert_eq!(rt;
-            lines,
-            (case.fields.as_bytes(), case.entries.as_bytes()),
-            "{}",
-            case.name
-        );
-        let sizes = (held.list_size, held.table_size);
-        assert_eq!(rt; sizes, (case.list_size, case.table_size), "{}", case.name);
+        let fields = (held.fields.as_slice(), held.list_size);
+        let wanted = (case.fields.as_bytes(), case.list_size);
+        same(rt, &fields, &wanted, &case.name);
+        let entries = (held.entries.as_slice(), held.table_size);
+        let wanted = (case.entries.as_bytes(), case.table_size);
+        same(rt, &entries, &wanted, &case.name);
     }
     Ok(())
 }
@@ -504,6 +502,17 @@ fn answer(answer: Result<(), BlockFault>) -> &'static str {
     }
 }
 
+/// The answer to a fragment.
+fn pushed_hex(
+    alloc: Global,
+    decoder: &mut BlockDecoder<Global>,
+    table: &mut DynTable<Global>,
+    fragment: &str,
+) -> Result<&'static str, Fail> {
+    let octets = octets_of(alloc, fragment)?;
+    Ok(answer(pushed(decoder, table, octets.as_slice())))
+}
+
 /// The answers to fragments and to the end, with a space between them.
 fn answers(
     alloc: Global,
@@ -513,8 +522,7 @@ fn answers(
 ) -> Result<String, Fail> {
     let mut answers = String::new(alloc);
     for fragment in fragments {
-        let octets = octets_of(alloc, fragment)?;
-        answers.push_str(answer(pushed(decoder, table, octets.as_slice())))?;
+        answers.push_str(pushed_hex(alloc, decoder, table, fragment)?)?;
         answers.push_str(" ")?;
     }
     answers.push_str(answer(finished(decoder)))?;
@@ -543,7 +551,7 @@ fn blocks_are_refused(rt: HostRuntime) -> Result<(), Fail> {
             case.fields.as_bytes(),
             case.entries.as_bytes(),
         );
-        assert_eq!(rt; left, wanted, "{}", case.name);
+        same(&rt, &left, &wanted, &case.name);
     }
     Ok(())
 }
@@ -580,12 +588,22 @@ fn begun(alloc: Global, table: &mut DynTable<Global>) -> Result<BlockDecoder<Glo
     Ok(decoder)
 }
 
+/// A decoder that goes on, and its copy from before that.
+fn go_on_beside_a_copy(
+    alloc: Global,
+    table: &mut DynTable<Global>,
+    text: &mut Vec<u8>,
+) -> Result<BlockDecoder<Global>, Fail> {
+    let mut decoder = begun(alloc, table)?;
+    let copy = copied(&decoder)?;
+    go_on(alloc, &mut decoder, table, b"c\x86", text)?;
+    Ok(copy)
+}
+
 /// A decoder that goes on, its copy before that, and the copy that goes on in another way.
 fn show_a_copy(alloc: Global, text: &mut Vec<u8>) -> Result<(), Fail> {
     let mut table = empty_table(alloc, 4096)?;
-    let mut decoder = begun(alloc, &mut table)?;
-    let mut copy = copied(&decoder)?;
-    go_on(alloc, &mut decoder, &mut table, b"c\x86", text)?;
+    let mut copy = go_on_beside_a_copy(alloc, &mut table, text)?;
     show(alloc, &copy, text)?;
     go_on(alloc, &mut copy, &mut table, b"d", text)
 }
@@ -596,7 +614,7 @@ fn a_copy_goes_its_own_way(rt: HostRuntime) -> Result<(), Fail> {
     show_a_copy(rt.alloc(), &mut text)?;
     let want =
         b":method: GET\na: bc\n:scheme: http\nok\n:method: GET\n8\n:method: GET\na: bd\nok\n";
-    assert_eq!(rt; text.as_slice(), want.as_slice());
+    same(&rt, &text.as_slice(), &want.as_slice(), &"a copy");
     Ok(())
 }
 
@@ -669,7 +687,7 @@ fn the_front_of_a_block_leaves_the_table(rt: HostRuntime) -> Result<(), Fail> {
         let (used, front, fields) = still_and_whole(rt.alloc(), case.block)?;
         let found = (used, front.as_slice(), fields.as_slice());
         let wanted = (case.used, case.front.as_bytes(), case.fields.as_bytes());
-        assert_eq!(rt; found, wanted, "{}", case.name);
+        same(&rt, &found, &wanted, &case.name);
     }
     Ok(())
 }

@@ -1,6 +1,7 @@
 //! Runs whose reader or writer fails.
 
 use crate::program::{PREFACE, SETTINGS, filled, ran, words_of};
+use crate::same::same;
 use h2_bench::{Words, run};
 use std::alloc::{AllocError, Global};
 use std::io;
@@ -45,7 +46,12 @@ fn readers_fail(rt: HostRuntime) -> Result<(), Fail> {
     let words = words_of(rt.alloc(), &["play"])?;
     let mut text = Vec::new(rt.alloc());
     let status = run_unread(rt.alloc(), &words, &mut text);
-    assert_eq!(rt; (status, text.as_slice()), (1, b"fault 22\n".as_slice()));
+    same(
+        &rt,
+        &(status, text.as_slice()),
+        &(1, b"fault 22\n".as_slice()),
+        &"a reader that fails",
+    );
     Ok(())
 }
 
@@ -53,7 +59,7 @@ fn readers_fail(rt: HostRuntime) -> Result<(), Fail> {
 fn writers_fail(rt: HostRuntime) -> Result<(), Fail> {
     let play = words_of(rt.alloc(), &["play"])?;
     for words in [&play, &Words::new(rt.alloc())] {
-        assert_eq!(rt; run_unwritten(rt.alloc(), words), 3);
+        same(&rt, &run_unwritten(rt.alloc(), words), &3, &"exit status");
     }
     Ok(())
 }
@@ -115,7 +121,7 @@ fn places_are_written_until_a_write_fails(rt: HostRuntime) -> Result<(), Fail> {
     for room in [0, 1, 1000, 40000, 65536, length - 1, length] {
         let (status, taken) = narrowed(rt.alloc(), input.as_slice(), room)?;
         let wanted = if room == length { 0 } else { 3 };
-        assert_eq!(rt; (status, taken.len()), (wanted, room), "at {room}");
+        same(&rt, &(status, taken.len()), &(wanted, room), &room);
         assert!(rt; whole.starts_with(taken.as_slice()), "at {room}");
     }
     Ok(())

@@ -1,11 +1,12 @@
 //! Limits, answers and hex texts that `play` refuses.
 
-use crate::program::{Run, compare_runs, long_answer, ran};
+use crate::program::{Run, long_answer, ran};
+use crate::same::same;
 use std::alloc::Global;
 use std::test::Fail;
 
 /// What is refused.
-static REFUSED: [Run; 11] = [
+pub(crate) static REFUSED: [Run; 11] = [
     ("a digit alone", &["play"], "0", "fault 25\n", 1),
     ("no digit", &["play"], "0g", "fault 25\n", 1),
     (
@@ -67,11 +68,6 @@ static REFUSED: [Run; 11] = [
     ),
 ];
 
-#[test]
-fn refusals_are_told(rt: HostRuntime) -> Result<(), Fail> {
-    compare_runs(&rt, rt.alloc(), &REFUSED)
-}
-
 /// What `play` prints, and its exit status, with an answer of so many octets, and nothing that comes.
 fn ran_with_body(alloc: Global, count: u32) -> Result<(u8, Vec<u8>), Fail> {
     let answer = long_answer(alloc, count)?;
@@ -83,7 +79,7 @@ fn bodies_of_answers_have_a_greatest_length(rt: HostRuntime) -> Result<(), Fail>
     for (count, status, is_fault) in [(1_048_577, 1, true), (1_048_576, 0, false)] {
         let (got, text) = ran_with_body(rt.alloc(), count)?;
         let is_told = text.as_slice() == b"fault 15\n".as_slice();
-        assert_eq!(rt; (got, is_told), (status, is_fault), "{count} octets");
+        same(&rt, &(got, is_told), &(status, is_fault), &count);
     }
     Ok(())
 }

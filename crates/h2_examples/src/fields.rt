@@ -4,6 +4,7 @@ ghost use Rattle.std.specs.Prelude.{◌≤◌};
 ghost use Rattle.std.specs.List.{AllByRecursion};
 ghost use Rattle.h2_fields.specs.Instructions.{IsWritableField};
 
+use crate::same::same;
 use h2_fields::field::Field;
 use h2_fields::octets::Octets;
 use h2_fields::response::response_block;
@@ -44,9 +45,11 @@ fn copied(alloc: Global, name: &str, value: &str) -> Result<(Vec<u8>, Vec<u8>), 
 #[test]
 fn fields_are_copied(rt: HostRuntime) -> Result<(), Fail> {
     let (name, value) = copied(rt.alloc(), "a", "b")?;
-    assert_eq!(rt;
-        (name.as_slice(), value.as_slice()),
-        (b"a".as_slice(), b"b".as_slice())
+    same(
+        &rt,
+        &(name.as_slice(), value.as_slice()),
+        &(b"a".as_slice(), b"b".as_slice()),
+        &"a copy of a field",
     );
     Ok(())
 }
@@ -55,7 +58,7 @@ fn fields_are_copied(rt: HostRuntime) -> Result<(), Fail> {
 fn octets_are_copied(rt: HostRuntime) -> Result<(), Fail> {
     let octets = Octets::new(Vec::from_slice(rt.alloc(), b"abc")?);
     let copy = octets.try_clone()?;
-    assert_eq!(rt; copy.as_slice(), octets.as_slice());
+    same(&rt, &copy.as_slice(), &octets.as_slice(), &"octets");
     Ok(())
 }
 
@@ -83,7 +86,7 @@ fn responses_stand_as_indexed_or_spelled(rt: HostRuntime) -> Result<(), Fail> {
     ] {
         assert!(rt; status >= 200 && status <= 599);
         let block = response(rt.alloc(), signal, status, none.as_slice())?;
-        assert_eq!(rt; block.as_str(), wanted);
+        same(&rt, &block.as_str(), &wanted, &status);
     }
     Ok(())
 }
@@ -95,6 +98,6 @@ fn fields_of_responses_are_spelled(rt: HostRuntime) -> Result<(), Fail> {
     let mut fields = Vec::new(rt.alloc());
     fields.push(Field::new(name, value))?;
     let block = response(rt.alloc(), false, 302, fields.as_slice())?;
-    assert_eq!(rt; block.as_str(), "08033330320001610162");
+    same(&rt, &block.as_str(), &"08033330320001610162", &"302");
     Ok(())
 }

@@ -1,10 +1,9 @@
 //! Windows, credit, padding, and declared lengths (RFC 9113, 5.2, 6.1, 6.9 and 8.1.1).
 
-use crate::program::{Exchange, compare_exchanges};
-use std::test::Fail;
+use crate::program::Exchange;
 
 /// WINDOW_UPDATE and SETTINGS that open windows.
-static OPENED: [Exchange; 5] = [
+pub(crate) static OPENED: [Exchange; 5] = [
     (
         "the connection's window passes its limit",
         &["play"],
@@ -70,13 +69,8 @@ static OPENED: [Exchange; 5] = [
     ),
 ];
 
-#[test]
-fn windows_are_opened(rt: HostRuntime) -> Result<(), Fail> {
-    compare_exchanges(&rt, rt.alloc(), &OPENED)
-}
-
 /// DATA.
-static COUNTED: [Exchange; 8] = [
+pub(crate) static COUNTED: [Exchange; 8] = [
     (
         "DATA for a stream that was reset is counted",
         &["play", "GET|/|200|6869"],
@@ -182,8 +176,3 @@ static COUNTED: [Exchange; 8] = [
          stream 1 open recv 65535 owed 0 send 65536 got 0 of - left -\n",
     ),
 ];
-
-#[test]
-fn data_is_counted(rt: HostRuntime) -> Result<(), Fail> {
-    compare_exchanges(&rt, rt.alloc(), &COUNTED)
-}

@@ -2,6 +2,7 @@
 
 ghost use Rattle.std.specs.Prelude.{◌≡◌, false};
 
+use crate::same::same;
 use h2_frame::{FrameRef, Head, Item, Splitter, read_head, write_frame};
 use linked_list_allocator::LocalHeap;
 use std::alloc::{AllocError, Global};
@@ -71,8 +72,8 @@ static FIRST: [(&[u8], Option<Item<'static>>, usize, &str); 5] = [
 fn first_item_and_octets_left(rt: HostRuntime) -> Result<(), Fail> {
     for (octets, item, left, name) in &FIRST {
         let mut splitter = fed(rt.alloc(), octets)?;
-        assert_eq!(rt; next(&mut splitter), *item, "{name}");
-        assert_eq!(rt; splitter.rest_len(), *left, "{name}");
+        same(&rt, &next(&mut splitter), item, name);
+        same(&rt, &splitter.rest_len(), left, name);
     }
     Ok(())
 }
@@ -103,7 +104,7 @@ fn frames_behind_the_preface(rt: HostRuntime) -> Result<(), Fail> {
         "its payload is not awaited"
     );
     splitter.push(PING)?;
-    assert_eq!(rt; next(&mut splitter), None, "no item follows");
+    assert!(rt; next(&mut splitter).is_none(), "no item follows");
     Ok(())
 }
 
@@ -129,8 +130,8 @@ fn room_follows_what_is_held(rt: HostRuntime) -> Result<(), Fail> {
 
 #[test]
 fn heads_read_and_written(rt: HostRuntime) -> Result<(), Fail> {
-    assert_eq!(rt; read_head(&PING[..8]), None);
-    assert_eq!(rt; read_head(PING), Some(head(8, 6, 0)));
+    same(&rt, &read_head(&PING[..8]), &None, &"a part of a head");
+    same(&rt, &read_head(PING), &Some(head(8, 6, 0)), &"PING");
     let wanted = Head {
         length: 16_384,
         kind: 255,
@@ -139,9 +140,9 @@ fn heads_read_and_written(rt: HostRuntime) -> Result<(), Fail> {
         stream: 2_147_483_647,
     };
     let reserved = read_head(b"\x00\x40\x00\xff\x09\xff\xff\xff\xff");
-    assert_eq!(rt; reserved, Some(wanted));
+    same(&rt, &reserved, &Some(wanted), &"the largest values");
     let mut out = Vec::new(rt.alloc());
     write_frame(&head(8, 6, 0), DIGITS, &mut out)?;
-    assert_eq!(rt; out.as_slice(), PING);
+    same(&rt, &out.as_slice(), &PING, &"PING written");
     Ok(())
 }

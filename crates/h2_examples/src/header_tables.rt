@@ -1,5 +1,6 @@
 //! The header tables on worked values: of RFC 7541, Appendix A and 4, and of entries at the edge of the maximum.
 
+use crate::same::same;
 use h2_table::{DynTable, static_field};
 use std::alloc::{AllocError, Global};
 use std::test::Fail;
@@ -37,11 +38,11 @@ fn entries_come_and_go(rt: HostRuntime) -> Result<(), Fail> {
     assert!(rt; table.is_empty() && table.limit() == 100);
     for (name, value, len, size) in [("a", "b", 1, 34), ("c", "d", 2, 68), ("e", "f", 2, 68)] {
         add(&mut table, rt.alloc(), name, value)?;
-        assert_eq!(rt; counts(&table), (len, size, 100), "with the entry {name}");
+        same(&rt, &counts(&table), &(len, size, 100), &name);
     }
     for (max, fault, size) in [(40, 0, 34), (101, 3, 34)] {
-        assert_eq!(rt; set_max(&mut table, max), fault, "a maximum of {max}");
-        assert_eq!(rt; counts(&table), (1, size, 40), "a maximum of {max}");
+        same(&rt, &set_max(&mut table, max), &fault, &max);
+        same(&rt, &counts(&table), &(1, size, 40), &max);
     }
     Ok(())
 }
@@ -63,7 +64,7 @@ fn copies_have_the_same_entries(rt: HostRuntime) -> Result<(), Fail> {
     let copy = copied(rt.alloc())?;
     let newest = Some((b"e".as_slice(), b"f".as_slice()));
     for (place, entry) in [(0, None), (1, newest), (2, None)] {
-        assert_eq!(rt; entry_at(&copy, place), entry, "{place}");
+        same(&rt, &entry_at(&copy, place), &entry, &place);
     }
     Ok(())
 }
@@ -99,7 +100,7 @@ fn an_entry_larger_than_the_maximum_empties_the_table(rt: HostRuntime) -> Result
         (4065, 0, 0, "one octet more is too large"),
     ] {
         let counted = with_long(&mut table, rt.alloc(), count)?;
-        assert_eq!(rt; counted, (len, size, 4096), "{name}");
+        same(&rt, &counted, &(len, size, 4096), &name);
     }
     Ok(())
 }
@@ -114,7 +115,7 @@ fn the_static_table_is_numbered_from_1(rt: HostRuntime) {
         (61, "www-authenticate", ""),
     ] {
         let field = Some((name.as_bytes(), value.as_bytes()));
-        assert_eq!(rt; static_field(index), field, "{index}");
+        same(&rt, &static_field(index), &field, &index);
     }
     assert!(rt; static_field(0).is_none() && static_field(62).is_none());
 }

@@ -3,6 +3,7 @@
 ghost use Rattle.std.specs.Prelude.{◌≡◌, true};
 ghost use Rattle.h2_fields.specs.Instructions.{IsWritable, IsWritableName, IsWritableText, instr_of, name_text_of};
 
+use crate::same::same;
 use h2_fields::fault::BlockFault;
 use h2_fields::instruction::{Instr, InstrRead, Name, Text, read_instr, write_instr};
 use std::alloc::{AllocError, Global};
@@ -177,9 +178,11 @@ fn instructions_are_read_and_written(rt: HostRuntime) -> Result<(), Fail> {
     for case in &SPELLINGS {
         let (found, used, written) = meaning(rt.alloc(), case.octets)?;
         let shortest = written.as_str().strip_prefix("3f");
-        assert_eq!(rt;
-            (found.as_str(), used, shortest),
-            (case.meaning, case.octets.len() / 2, Some(case.shortest))
+        same(
+            &rt,
+            &(found.as_str(), used, shortest),
+            &(case.meaning, case.octets.len() / 2, Some(case.shortest)),
+            &case.octets,
         );
     }
     Ok(())
@@ -209,7 +212,7 @@ fn instructions_are_refused(rt: HostRuntime) -> Result<(), Fail> {
         ("4182ffff", Some(6)),
         ("4184ffffffff", Some(6)),
     ] {
-        assert_eq!(rt; fault_of(rt.alloc(), octets)?, fault, "{octets}");
+        same(&rt, &fault_of(rt.alloc(), octets)?, &fault, &octets);
     }
     Ok(())
 }

@@ -1,5 +1,6 @@
 //! Integers with a prefix of some bits of an octet (RFC 7541, 5.1 and Appendix C.1).
 
+use crate::same::same;
 use h2_prim::{IntRead, read_int, write_int};
 use std::test::Fail;
 
@@ -39,7 +40,7 @@ static READ: [(u8, &[u8], IntRead, &str); 8] = [
 fn reads_integers(rt: HostRuntime) {
     for (prefix, octets, wanted, name) in &READ {
         assert!(rt; *prefix >= 1 && *prefix <= 8);
-        assert_eq!(rt; read_int(*prefix, octets), *wanted, "{name}");
+        same(&rt, &read_int(*prefix, octets), wanted, name);
     }
 }
 
@@ -61,7 +62,7 @@ fn writes_integers(rt: HostRuntime) -> Result<(), Fail> {
     for (prefix, high, value, wanted, name) in cases {
         let mut out = Vec::new(rt.alloc());
         write_int(prefix, high, value, &mut out)?;
-        assert_eq!(rt; out.as_slice(), wanted, "{name}");
+        same(&rt, &out.as_slice(), &wanted, &name);
     }
     Ok(())
 }

@@ -1,10 +1,9 @@
 //! `play` told item by item.
 
-use crate::program::{Run, compare_runs};
-use std::test::Fail;
+use crate::program::Run;
 
 /// Runs told item by item.
-static TOLD: [Run; 2] = [
+pub(crate) static TOLD: [Run; 2] = [
     (
         "one octet that is no preface",
         &["play", "--each"],
@@ -66,8 +65,3 @@ static TOLD: [Run; 2] = [
         0,
     ),
 ];
-
-#[test]
-fn each_item_is_told(rt: HostRuntime) -> Result<(), Fail> {
-    compare_runs(&rt, rt.alloc(), &TOLD)
-}

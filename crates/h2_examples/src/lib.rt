@@ -51,6 +51,8 @@ mod requests;
 #[cfg(test)]
 mod rules;
 #[cfg(test)]
+mod same;
+#[cfg(test)]
 mod script_calls;
 #[cfg(test)]
 mod scripts;

@@ -1,6 +1,6 @@
 //! The preface, the first frames, and heads of frames (RFC 9113, 3.4 and 4).
 
-use crate::program::{Exchange, Run, compare_exchange, compare_exchanges, compare_runs, filled};
+use crate::program::{Exchange, Run, compare_exchange, filled};
 use std::test::Fail;
 
 /// The text of the state where settings were exchanged, and nothing else came.
@@ -12,7 +12,7 @@ const RUNNING: &str = "phase running last 0\n\
     table 0 0 4096\n";
 
 /// Openings.
-static OPENED: [Run; 6] = [
+pub(crate) static OPENED: [Run; 6] = [
     (
         "no octets",
         &["play"],
@@ -93,13 +93,8 @@ static OPENED: [Run; 6] = [
     ),
 ];
 
-#[test]
-fn connections_are_opened(rt: HostRuntime) -> Result<(), Fail> {
-    compare_runs(&rt, rt.alloc(), &OPENED)
-}
-
 /// Openings that end the connection, and one that is not whole.
-static BAD_OPENINGS: [Run; 7] = [
+pub(crate) static BAD_OPENINGS: [Run; 7] = [
     (
         "preface without its last octet",
         &["play"],
@@ -193,13 +188,8 @@ static BAD_OPENINGS: [Run; 7] = [
     ),
 ];
 
-#[test]
-fn bad_openings_end_the_connection(rt: HostRuntime) -> Result<(), Fail> {
-    compare_runs(&rt, rt.alloc(), &BAD_OPENINGS)
-}
-
 /// Heads of frames.
-static HEADS: [Exchange; 5] = [
+pub(crate) static HEADS: [Exchange; 5] = [
     (
         "head above the largest frame",
         &["play"],
@@ -261,11 +251,6 @@ static HEADS: [Exchange; 5] = [
          table 0 0 4096\n",
     ),
 ];
-
-#[test]
-fn heads_are_checked(rt: HostRuntime) -> Result<(), Fail> {
-    compare_exchanges(&rt, rt.alloc(), &HEADS)
-}
 
 #[test]
 fn unknown_types_of_the_greatest_length_are_ignored(rt: HostRuntime) -> Result<(), Fail> {

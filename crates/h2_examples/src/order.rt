@@ -1,10 +1,9 @@
 //! The order of streams, and how many are open at once (RFC 9113, 5.1.1 and 5.1.2).
 
-use crate::program::{Exchange, Run, compare_exchanges, compare_runs};
-use std::test::Fail;
+use crate::program::{Exchange, Run};
 
 /// Streams below, beside and above others.
-static IN_ORDER: [Exchange; 4] = [
+pub(crate) static IN_ORDER: [Exchange; 4] = [
     (
         "HEADERS below the last stream",
         &["play"],
@@ -59,13 +58,8 @@ static IN_ORDER: [Exchange; 4] = [
     ),
 ];
 
-#[test]
-fn streams_are_opened_in_order(rt: HostRuntime) -> Result<(), Fail> {
-    compare_exchanges(&rt, rt.alloc(), &IN_ORDER)
-}
-
 /// More streams than are allowed.
-static ABOVE_THE_LIMIT: [Run; 1] = [(
+pub(crate) static ABOVE_THE_LIMIT: [Run; 1] = [(
     "one stream at a time",
     &["play", "--streams", "1"],
     "505249202a20485454502f322e300d0a0d0a534d0d0a0d0a 000000040000000000 000003010400000001828684 0000080105000000038286844001610162 000000000100000001 000004010500000005828684be",
@@ -82,8 +76,3 @@ static ABOVE_THE_LIMIT: [Run; 1] = [(
          stream 5 ended\n",
     0,
 )];
-
-#[test]
-fn streams_above_the_limit_are_refused(rt: HostRuntime) -> Result<(), Fail> {
-    compare_runs(&rt, rt.alloc(), &ABOVE_THE_LIMIT)
-}

@@ -2,6 +2,7 @@
 
 ghost use Rattle.std.specs.Prelude.{◌≡◌};
 
+use crate::same::same;
 use h2_frame::{
     FrameRef, Head, HeadersPart, Part, PayloadFault, data_of, goaway_of, headers_of, part_of,
     reset_of, settings_of, window_of,
@@ -41,7 +42,7 @@ static DATA: [(u8, &[u8], Result<(&[u8], usize), PayloadFault>); 5] = [
 #[test]
 fn data_with_padding(rt: HostRuntime) {
     for (flags, payload, wanted) in &DATA {
-        assert_eq!(rt; data(*flags, payload), *wanted, "{flags} {payload:?}");
+        same(&rt, &data(*flags, payload), wanted, &(flags, payload));
     }
 }
 
@@ -82,7 +83,7 @@ static HEADERS: [(u8, &[u8], Result<HeadersPart<'static>, PayloadFault>); 4] = [
 #[test]
 fn headers_with_padding_and_priority(rt: HostRuntime) {
     for (flags, payload, wanted) in &HEADERS {
-        assert_eq!(rt; headers(*flags, payload), *wanted, "{flags} {payload:?}");
+        same(&rt, &headers(*flags, payload), wanted, &(flags, payload));
     }
 }
 
@@ -125,7 +126,7 @@ static SETTINGS: [(u8, &[u8], Result<Listed, PayloadFault>, &str); 4] = [
 #[test]
 fn settings_in_their_order(rt: HostRuntime) {
     for (flags, payload, wanted, name) in &SETTINGS {
-        assert_eq!(rt; settings(*flags, payload), *wanted, "{name}");
+        same(&rt, &settings(*flags, payload), wanted, name);
     }
 }
 
@@ -155,7 +156,7 @@ static NUMBERS: [(u8, &[u8], Result<(u32, u32), PayloadFault>); 6] = [
 #[test]
 fn numbers_of_small_frames(rt: HostRuntime) {
     for (kind, payload, wanted) in &NUMBERS {
-        assert_eq!(rt; numbers(*kind, payload), *wanted, "{kind} {payload:?}");
+        same(&rt, &numbers(*kind, payload), wanted, &(kind, payload));
     }
 }
 
@@ -179,6 +180,6 @@ static PARTS: [(u8, u8, &[u8], Result<Part<'static>, PayloadFault>); 4] = [
 #[test]
 fn parts_of_frames(rt: HostRuntime) {
     for (kind, flags, payload, wanted) in &PARTS {
-        assert_eq!(rt; part(*kind, *flags, payload), *wanted, "{kind} {payload:?}");
+        same(&rt, &part(*kind, *flags, payload), wanted, &(kind, payload));
     }
 }

@@ -1,6 +1,8 @@
-//! Runs of the program over memory, and tables of them.
+//! Runs of the program over memory, and the tables of them, which stand in a file for each topic.
 //! Rests on h2_bench.
 
+use crate::same::same;
+use crate::{blocks, faults, flow, items, opening, order, requests, tables};
 use h2_bench::{Words, run};
 use std::alloc::{AllocError, Global};
 use std::process::Abort;
@@ -94,10 +96,13 @@ pub(crate) fn joined(alloc: Global, texts: &[&[u8]]) -> Result<Vec<u8>, AllocErr
 
 /// A text without its spaces.
 fn closed_up(alloc: Global, text: &[u8]) -> Result<Vec<u8>, AllocError> {
-    text.iter()
-        .copied()
-        .filter(|octet| *octet != b' ')
-        .collect(alloc)
+    let mut closed = Vec::new(alloc);
+    for octet in text {
+        if *octet != b' ' {
+            closed.push(*octet)?;
+        }
+    }
+    Ok(closed)
 }
 
 /// What `play` prints where these frames are sent behind the opening SETTINGS and the acknowledgement, and this state is shown.
@@ -126,7 +131,7 @@ pub(crate) fn compare(
     wanted: (u8, &[u8]),
 ) -> Result<(), Fail> {
     let (status, text) = ran(alloc, words, input)?;
-    assert_eq!(rt; (status, text.as_slice()), wanted, "at {name}");
+    same(rt, &(status, text.as_slice()), &wanted, &name);
     Ok(())
 }
 
@@ -172,4 +177,26 @@ pub(crate) fn compare_exchanges(
         compare_exchange(rt, alloc, name, words, frames, sent, state)?;
     }
     Ok(())
+}
+
+#[test]
+fn runs_print_what_the_tables_say(rt: HostRuntime) -> Result<(), Fail> {
+    compare_runs(&rt, rt.alloc(), &opening::OPENED)?;
+    compare_runs(&rt, rt.alloc(), &opening::BAD_OPENINGS)?;
+    compare_runs(&rt, rt.alloc(), &order::ABOVE_THE_LIMIT)?;
+    compare_runs(&rt, rt.alloc(), &items::TOLD)?;
+    compare_runs(&rt, rt.alloc(), &faults::REFUSED)?;
+    compare_runs(&rt, rt.alloc(), &tables::LINES)
+}
+
+#[test]
+fn exchanges_are_as_the_tables_say(rt: HostRuntime) -> Result<(), Fail> {
+    compare_exchanges(&rt, rt.alloc(), &opening::HEADS)?;
+    compare_exchanges(&rt, rt.alloc(), &requests::ANSWERED)?;
+    compare_exchanges(&rt, rt.alloc(), &requests::MALFORMED)?;
+    compare_exchanges(&rt, rt.alloc(), &requests::TRAILERS)?;
+    compare_exchanges(&rt, rt.alloc(), &blocks::DECODED)?;
+    compare_exchanges(&rt, rt.alloc(), &flow::OPENED)?;
+    compare_exchanges(&rt, rt.alloc(), &flow::COUNTED)?;
+    compare_exchanges(&rt, rt.alloc(), &order::IN_ORDER)
 }

@@ -2,6 +2,7 @@
 
 ghost use Rattle.std.specs.Prelude.{◌≡◌, ◌≤◌, pos};
 
+use crate::same::same;
 use h2_spec::flow::{Credit, Window};
 use h2_streams::{FlowFault, Kind, Numbers, Pick, Stream, Streams, not_live, octets_waiting};
 use std::alloc::{AllocError, Global};
@@ -57,7 +58,7 @@ fn end_both(rt: &impl Abort, streams: &mut Streams<Global>, id: u32) {
 #[test]
 fn a_stream_opens_and_ends(rt: HostRuntime) -> Result<(), Fail> {
     let mut streams = Streams::new(rt.alloc());
-    assert_eq!(rt; kind_of(&streams, 1), Kind::Idle);
+    same(&rt, &kind_of(&streams, 1), &Kind::Idle, &"at first");
     open(&rt, &mut streams, 5, None, false)?;
     for (id, kind) in [
         (1, Kind::Skipped),
@@ -66,10 +67,15 @@ fn a_stream_opens_and_ends(rt: HostRuntime) -> Result<(), Fail> {
         (5, Kind::BothOpen),
         (7, Kind::Idle),
     ] {
-        assert_eq!(rt; kind_of(&streams, id), kind, "stream {id}");
+        same(&rt, &kind_of(&streams, id), &kind, &id);
     }
     end_both(&rt, &mut streams, 5);
-    assert_eq!(rt; streams.stream_at(5), not_live(5, Kind::Ended));
+    same(
+        &rt,
+        &streams.stream_at(5),
+        &not_live(5, Kind::Ended),
+        &"stream 5 at its end",
+    );
     Ok(())
 }
 
@@ -85,13 +91,18 @@ fn open_and_reset(rt: &impl Abort, alloc: Global) -> Result<Streams<Global>, All
 #[test]
 fn records_stand_in_the_order_of_opening(rt: HostRuntime) -> Result<(), Fail> {
     let mut streams = open_and_reset(&rt, rt.alloc())?;
-    assert_eq!(rt; (streams.last(), streams.live_count()), (7, 1));
-    assert_eq!(rt; kind_of(&streams, 7), Kind::WeReset);
+    same(
+        &rt,
+        &(streams.last(), streams.live_count()),
+        &(7, 1),
+        &"the last stream and the live ones",
+    );
+    same(&rt, &kind_of(&streams, 7), &Kind::WeReset, &"stream 7");
     let ids = [id_at(&streams, 0), id_at(&streams, 1), id_at(&streams, 2)];
-    assert_eq!(rt; ids, [Some(5), Some(7), None]);
+    same(&rt, &ids, &[Some(5), Some(7), None], &"in their order");
     assert!(rt; streams.get(3).is_none());
     end_both(&rt, &mut streams, 5);
-    assert_eq!(rt; streams.live_count(), 0);
+    same(&rt, &streams.live_count(), &0, &"live streams at the end");
     Ok(())
 }
 
@@ -120,7 +131,7 @@ fn settings_move_windows_to_their_limits(rt: HostRuntime) -> Result<(), Fail> {
         (1, 2_147_483_647, true, 1),
     ] {
         let moved = shifted(rt.alloc(), start, delta)?;
-        assert_eq!(rt; moved, (refused, window), "at {start} by {delta}");
+        same(&rt, &moved, &(refused, window), &(start, delta));
     }
     Ok(())
 }
@@ -151,9 +162,14 @@ fn a_full_window_refuses_for_all_where_settings_move_it(rt: HostRuntime) -> Resu
         (Kind::HalfLocal, 10, false, 11),
     ] {
         let moved = moved_beside_full(rt.alloc(), kind)?;
-        assert_eq!(rt; moved, (greatest, refused, window, true), "{kind:?}");
+        same(&rt, &moved, &(greatest, refused, window, true), &kind);
     }
-    assert_eq!(rt; FlowFault::Overflow.number(), 10);
+    same(
+        &rt,
+        &FlowFault::Overflow.number(),
+        &10,
+        &"the number of the fault",
+    );
     Ok(())
 }
 
@@ -193,21 +209,46 @@ fn put_1_and_13(rt: &impl Abort, streams: &mut Streams<Global>) -> Result<(), Al
 #[test]
 fn streams_are_put_in_their_places(rt: HostRuntime) -> Result<(), Fail> {
     let mut streams = five_streams(&rt, rt.alloc())?;
-    assert_eq!(rt; octets_waiting(&streams.stream_at(11)), 2);
+    same(
+        &rt,
+        &octets_waiting(&streams.stream_at(11)),
+        &2,
+        &"what waits on stream 11",
+    );
     reset_7_and_fill_3(&rt, &mut streams);
-    assert_eq!(rt; streams.stream_at(7), not_live(7, Kind::PeerReset));
+    same(
+        &rt,
+        &streams.stream_at(7),
+        &not_live(7, Kind::PeerReset),
+        &"stream 7",
+    );
     put_1_and_13(&rt, &mut streams)?;
-    assert_eq!(rt; streams.stream_at(1), not_live(1, Kind::WeReset));
-    assert_eq!(rt; (streams.last(), streams.live_count()), (13, 3));
+    same(
+        &rt,
+        &streams.stream_at(1),
+        &not_live(1, Kind::WeReset),
+        &"stream 1",
+    );
+    same(
+        &rt,
+        &(streams.last(), streams.live_count()),
+        &(13, 3),
+        &"the last stream and the live ones",
+    );
     Ok(())
+}
+
+/// The streams that wait to send above an identifier: after the changes, and in a copy from before them.
+fn waiting_above(rt: &impl Abort, alloc: Global, after: u32) -> Result<[Option<u32>; 2], Fail> {
+    let mut streams = five_streams(rt, alloc)?;
+    let copy = streams.try_clone()?;
+    reset_7_and_fill_3(rt, &mut streams);
+    put_1_and_13(rt, &mut streams)?;
+    Ok([streams.next_waiting(after), copy.next_waiting(after)])
 }
 
 #[test]
 fn streams_wait_to_send_by_rising_identifier(rt: HostRuntime) -> Result<(), Fail> {
-    let mut streams = five_streams(&rt, rt.alloc())?;
-    let copy = streams.try_clone()?;
-    reset_7_and_fill_3(&rt, &mut streams);
-    put_1_and_13(&rt, &mut streams)?;
     for (after, next, before) in [
         (0, Some(3), Some(1)),
         (1, Some(3), Some(7)),
@@ -215,8 +256,8 @@ fn streams_wait_to_send_by_rising_identifier(rt: HostRuntime) -> Result<(), Fail
         (10, Some(11), Some(11)),
         (11, None, None),
     ] {
-        let found = (streams.next_waiting(after), copy.next_waiting(after));
-        assert_eq!(rt; found, (next, before), "above {after}, and in the copy");
+        let found = waiting_above(&rt, rt.alloc(), after)?;
+        same(&rt, &found, &[next, before], &after);
     }
     Ok(())
 }

@@ -1,6 +1,7 @@
 //! The reasons against requests and trailers: each table is taken from the sections of RFC 9113 that it names.
 
 use crate::fields::fields_of;
+use crate::same::same;
 use h2_request::well_formed::{check, check_trailers};
 use std::alloc::{AllocError, Global};
 use std::test::Fail;
@@ -74,7 +75,7 @@ static ALONE: [(&str, &str, u8, &str); 26] = [
 #[test]
 fn fields_alone(rt: HostRuntime) -> Result<(), Fail> {
     for (name, value, reason, message) in &ALONE {
-        assert_eq!(rt; get(rt.alloc(), name, value)?, *reason, "{message}");
+        same(&rt, &get(rt.alloc(), name, value)?, reason, message);
     }
     Ok(())
 }
@@ -164,7 +165,7 @@ static TOGETHER: [Row; 11] = [
 #[test]
 fn pseudo_fields_and_lengths(rt: HostRuntime) -> Result<(), Fail> {
     for (pairs, reason, message) in &TOGETHER {
-        assert_eq!(rt; request(rt.alloc(), pairs)?, *reason, "{message}");
+        same(&rt, &request(rt.alloc(), pairs)?, reason, message);
     }
     Ok(())
 }
@@ -188,7 +189,7 @@ static TRAILERS: [(&str, &str, u8, &str); 7] = [
 #[test]
 fn fields_of_trailers(rt: HostRuntime) -> Result<(), Fail> {
     for (name, value, reason, message) in &TRAILERS {
-        assert_eq!(rt; trailers(rt.alloc(), name, value)?, *reason, "{message}");
+        same(&rt, &trailers(rt.alloc(), name, value)?, reason, message);
     }
     Ok(())
 }

@@ -1,10 +1,9 @@
 //! Requests, what they are answered, and what makes them malformed (RFC 9113, 8).
 
-use crate::program::{Exchange, compare_exchanges};
-use std::test::Fail;
+use crate::program::Exchange;
 
 /// Requests and their answers.
-static ANSWERED: [Exchange; 6] = [
+pub(crate) static ANSWERED: [Exchange; 6] = [
     (
         "a whole block",
         &["play", "GET|/|200|6869"],
@@ -87,13 +86,8 @@ static ANSWERED: [Exchange; 6] = [
     ),
 ];
 
-#[test]
-fn requests_are_answered(rt: HostRuntime) -> Result<(), Fail> {
-    compare_exchanges(&rt, rt.alloc(), &ANSWERED)
-}
-
 /// Malformed requests.
-static MALFORMED: [Exchange; 9] = [
+pub(crate) static MALFORMED: [Exchange; 9] = [
     (
         "an upper-case letter in a name",
         &["play"],
@@ -213,13 +207,8 @@ static MALFORMED: [Exchange; 9] = [
     ),
 ];
 
-#[test]
-fn malformed_requests_are_reset(rt: HostRuntime) -> Result<(), Fail> {
-    compare_exchanges(&rt, rt.alloc(), &MALFORMED)
-}
-
 /// Trailers.
-static TRAILERS: [Exchange; 2] = [
+pub(crate) static TRAILERS: [Exchange; 2] = [
     (
         "trailers that don't end the stream",
         &["play"],
@@ -247,8 +236,3 @@ static TRAILERS: [Exchange; 2] = [
          stream 1 ended\n",
     ),
 ];
-
-#[test]
-fn trailers_end_a_request(rt: HostRuntime) -> Result<(), Fail> {
-    compare_exchanges(&rt, rt.alloc(), &TRAILERS)
-}

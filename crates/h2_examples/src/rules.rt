@@ -3,6 +3,7 @@
 ghost use Rattle.std.specs.Prelude.{◌≡◌};
 ghost use Rattle.h2_rules.specs.Sound.{IsSoundCore, IsSoundStream};
 
+use crate::same::same;
 use h2_frame::{FrameRef, Head, settings_of};
 use h2_rules::checks::refusal;
 use h2_rules::control::{on_goaway, on_ping};
@@ -128,7 +129,7 @@ fn data_is_counted_with_its_padding(rt: HostRuntime) {
     for (threshold, sent, counts) in [(3, given, (65_535, 0)), (4, quiet, (65_532, 3))] {
         let counted = data_counted(data(threshold, 3, 1, Kind::BothOpen));
         let wanted = (sent, counts, counts, 1, Kind::BothOpen);
-        assert_eq!(rt; counted, Some(wanted), "credit {threshold}");
+        same(&rt, &counted, &Some(wanted), &threshold);
     }
 }
 
@@ -139,7 +140,12 @@ fn data_after_the_end_of_the_peer_is_counted_and_refused(rt: HostRuntime) -> Res
     let (sent, counts, _, _, kind) = counted.ok_or("a change")?;
     let reset = StreamFrame::Reset(1, ErrorCode::StreamClosed);
     let wanted = ((ConnectionFrame::Quiet, reset), (65_530, 5), Kind::WeReset);
-    assert_eq!(rt; (sent, counts, kind), wanted);
+    same(
+        &rt,
+        &(sent, counts, kind),
+        &wanted,
+        &"DATA on a stream that is half-closed (remote)",
+    );
     Ok(())
 }
 
@@ -147,7 +153,7 @@ fn data_after_the_end_of_the_peer_is_counted_and_refused(rt: HostRuntime) -> Res
 fn data_fills_a_window_and_no_more(rt: HostRuntime) {
     for (octets, error) in [(65_535, None), (65_536, Some(ErrorCode::FlowControlError))] {
         let after = data(65_535, octets, octets, Kind::BothOpen);
-        assert_eq!(rt; error_of(after), error, "{octets} octets");
+        same(&rt, &error_of(after), &error, &octets);
     }
 }
 
@@ -182,7 +188,7 @@ static STATES: [(Kind, Option<ErrorCode>, Option<ErrorCode>); 8] = [
 #[test]
 fn frames_come_in_each_state_of_a_stream(rt: HostRuntime) {
     for (kind, data, others) in &STATES {
-        assert_eq!(rt; errors(*kind), (*data, *others, *others), "on {kind:?}");
+        same(&rt, &errors(*kind), &(*data, *others, *others), kind);
     }
 }
 
@@ -203,7 +209,7 @@ fn window_update_on_the_connection(rt: HostRuntime) {
         (2_147_418_112, Ok(2_147_483_647)),
         (2_147_418_113, Err(ErrorCode::FlowControlError)),
     ] {
-        assert_eq!(rt; connection_sends(increment), window, "{increment}");
+        same(&rt, &connection_sends(increment), &window, &increment);
     }
 }
 
@@ -229,12 +235,13 @@ fn window_update_of_0_and_to_the_largest_window(rt: HostRuntime) {
         (2_147_418_113, 0, reset(ErrorCode::FlowControlError)),
     ] {
         let wanted = Some((window, frame));
-        assert_eq!(rt; stream_sends(increment), wanted, "{increment}");
+        same(&rt, &stream_sends(increment), &wanted, &increment);
     }
 }
 
-/// What SETTINGS with this payload come to, where this is the greatest of the windows that they move.
-fn settled(greatest: Option<Window>, payload: &[u8]) -> Option<Reaction> {
+/// What SETTINGS with this payload come to, where they move a window of 2^31 - 1 octets, or none.
+fn settled(has_full: bool, payload: &[u8]) -> Option<Reaction> {
+    let greatest = has_full.then_some(Window::start(2_147_483_647));
     let head = Head {
         length: 0,
         kind: 4,
@@ -261,41 +268,47 @@ fn settings_changed(reaction: Reaction) -> Option<(u32, u32, ConnectionFrame, To
 #[test]
 fn settings_are_taken_whole(rt: HostRuntime) -> Result<(), Fail> {
     // SETTINGS_INITIAL_WINDOW_SIZE 1000, and then SETTINGS_ENABLE_PUSH 0.
-    let reaction = settled(None, b"\x00\x04\x00\x00\x03\xe8\x00\x02\x00\x00\x00\x00");
+    let reaction = settled(false, b"\x00\x04\x00\x00\x03\xe8\x00\x02\x00\x00\x00\x00");
     let changed = settings_changed(reaction.ok_or("settings")?);
     let acknowledged = ConnectionFrame::SettingsAck;
     let moved = Touch::Shift(65_535, 1_000);
     // The flow-control window of the connection is not moved (6.9.2).
-    assert_eq!(rt; changed, Some((1_000, 0, acknowledged, moved, 65_535)));
+    same(
+        &rt,
+        &changed,
+        &Some((1_000, 0, acknowledged, moved, 65_535)),
+        &"two settings",
+    );
     Ok(())
 }
 
+/// Whether SETTINGS move a window of 2^31 - 1 octets, their payload, and the error that they come to.
+static REFUSED_SETTINGS: [(bool, &[u8], ErrorCode); 3] = [
+    // ENABLE_PUSH 2 behind a window of 1000: nothing of the frame stays (6.5.2).
+    (
+        false,
+        b"\x00\x04\x00\x00\x03\xe8\x00\x02\x00\x00\x00\x02",
+        ErrorCode::ProtocolError,
+    ),
+    // A window of 2^31 before ENABLE_PUSH 2: the first one that is refused decides.
+    (
+        false,
+        b"\x00\x04\x80\x00\x00\x00\x00\x02\x00\x00\x00\x02",
+        ErrorCode::FlowControlError,
+    ),
+    // A stream's window of 2^31 - 1 octets is moved up by 1 (6.9.2).
+    (
+        true,
+        b"\x00\x04\x00\x01\x00\x00",
+        ErrorCode::FlowControlError,
+    ),
+];
+
 #[test]
 fn settings_are_taken_whole_or_not_at_all(rt: HostRuntime) {
-    let full = Some(Window::start(2_147_483_647));
-    let cases: [(Option<Window>, &[u8], ErrorCode); 3] = [
-        // ENABLE_PUSH 2 behind a window of 1000: nothing of the frame stays (6.5.2).
-        (
-            None,
-            b"\x00\x04\x00\x00\x03\xe8\x00\x02\x00\x00\x00\x02",
-            ErrorCode::ProtocolError,
-        ),
-        // A window of 2^31 before ENABLE_PUSH 2: the first one that is refused decides.
-        (
-            None,
-            b"\x00\x04\x80\x00\x00\x00\x00\x02\x00\x00\x00\x02",
-            ErrorCode::FlowControlError,
-        ),
-        // A stream's window of 2^31 - 1 octets is moved up by 1 (6.9.2).
-        (
-            full,
-            b"\x00\x04\x00\x01\x00\x00",
-            ErrorCode::FlowControlError,
-        ),
-    ];
-    for (greatest, payload, error) in cases {
-        let wanted = Some(Reaction::ConnectionError(error));
-        assert_eq!(rt; settled(greatest, payload), wanted, "{payload:?}");
+    for (has_full, payload, error) in &REFUSED_SETTINGS {
+        let wanted = Some(Reaction::ConnectionError(*error));
+        same(&rt, &settled(*has_full, payload), &wanted, payload);
     }
 }
 
@@ -331,11 +344,7 @@ fn requests_at_their_limits(rt: HostRuntime) {
         (0, 42, Some(1), refused(ErrorCode::ProtocolError)),
     ] {
         let answer = requested(live, size, declared);
-        assert_eq!(rt;
-            answer,
-            wanted,
-            "{live} streams, {size} octets, {declared:?} declared"
-        );
+        same(&rt, &answer, &wanted, &(live, size, declared));
     }
 }
 
@@ -356,11 +365,7 @@ fn trailers_end_the_side_of_the_peer(rt: HostRuntime) {
         (65_537, false, true, refused(ErrorCode::EnhanceYourCalm)),
     ] {
         let answer = trailed(size, malformed, ends);
-        assert_eq!(rt;
-            answer,
-            wanted,
-            "{size} octets, malformed {malformed}, ends {ends}"
-        );
+        same(&rt, &answer, &wanted, &(size, malformed, ends));
     }
 }
 
@@ -389,29 +394,15 @@ fn kept(reaction: Reaction) -> Option<Kept> {
 
 #[test]
 fn ping_is_answered_and_goaway_is_noted(rt: HostRuntime) {
-    let answered = ConnectionFrame::PingAck;
     let quiet = ConnectionFrame::Quiet;
-    for (reaction, frame, goaway, acked, name) in [
-        (on_ping(fresh(), false), answered, None, false, "PING"),
-        (on_ping(fresh(), true), quiet, None, false, "an answer"),
-        (
-            on_goaway(fresh(), 7, 2),
-            quiet,
-            Some((7, 2)),
-            false,
-            "GOAWAY",
-        ),
-        (
-            acknowledged(fresh()),
-            quiet,
-            None,
-            true,
-            "SETTINGS with ACK",
-        ),
-    ] {
-        let wanted = (frame, Touch::Same, goaway, acked);
-        assert_eq!(rt; kept(reaction), Some(wanted), "{name}");
-    }
+    let answered = Some((ConnectionFrame::PingAck, Touch::Same, None, false));
+    same(&rt, &kept(on_ping(fresh(), false)), &answered, &"PING");
+    let ignored = Some((quiet, Touch::Same, None, false));
+    same(&rt, &kept(on_ping(fresh(), true)), &ignored, &"an answer");
+    let noted = Some((quiet, Touch::Same, Some((7, 2)), false));
+    same(&rt, &kept(on_goaway(fresh(), 7, 2)), &noted, &"GOAWAY");
+    let taken = Some((quiet, Touch::Same, None, true));
+    same(&rt, &kept(acknowledged(fresh())), &taken, &"SETTINGS ACK");
 }
 
 /// Why the head of an empty frame is refused.
@@ -457,10 +448,6 @@ fn heads_that_are_refused(rt: HostRuntime) {
     for (block, phase, kind, flags, stream, is_refused) in &HEADS {
         let answer = refused(*block, *phase, *kind, *flags, *stream);
         let wanted = is_refused.then_some(ErrorCode::ProtocolError);
-        assert_eq!(rt;
-            answer,
-            wanted,
-            "type {kind}, flags {flags}, stream {stream}"
-        );
+        same(&rt, &answer, &wanted, &(kind, flags, stream));
     }
 }

@@ -1,5 +1,6 @@
 //! Single calls of `assemble` and `disassemble`; the expected octets are written out from RFC 9113 and RFC 7541.
 
+use crate::same::same;
 use h2_script::{ScriptFault, SyntaxKind, assemble, disassemble};
 use std::alloc::Global;
 use std::test::Fail;
@@ -66,7 +67,7 @@ static FORMS: [(&str, &str, &str); 11] = [
 fn assembles_each_form(rt: HostRuntime) -> Result<(), Fail> {
     for (text, wanted, name) in &FORMS {
         let digits = assembled(rt.alloc(), text)?;
-        assert_eq!(rt; digits.as_str(), *wanted, "{name}");
+        same(&rt, &digits.as_str(), wanted, name);
     }
     Ok(())
 }
@@ -87,10 +88,11 @@ fn tells_the_first_bad_line(rt: HostRuntime) -> Result<(), Fail> {
         ("HEADERS 00 1 hi1,", 1, SyntaxKind::Payload),
     ];
     for (text, line, kind) in cases {
-        assert_eq!(rt;
-            refused(rt.alloc(), text),
-            Some(ScriptFault::Syntax(line, kind)),
-            "{text}"
+        same(
+            &rt,
+            &refused(rt.alloc(), text),
+            &Some(ScriptFault::Syntax(line, kind)),
+            &text,
         );
     }
     Ok(())
@@ -168,9 +170,9 @@ static WRITTEN: [(&str, &str, &str); 16] = [
 fn writes_the_one_script(rt: HostRuntime) -> Result<(), Fail> {
     for (digits, wanted, name) in &WRITTEN {
         let text = written(rt.alloc(), digits)?;
-        assert_eq!(rt; text.as_str(), *wanted, "{name}");
+        same(&rt, &text.as_str(), wanted, name);
         let again = assembled(rt.alloc(), text.as_str())?;
-        assert_eq!(rt; again.as_str(), *digits, "{name}");
+        same(&rt, &again.as_str(), digits, name);
     }
     Ok(())
 }

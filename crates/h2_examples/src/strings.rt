@@ -1,5 +1,6 @@
 //! Strings and their Huffman code (RFC 7541, 5.2; the examples of Appendix C, and octets of Appendix B).
 
+use crate::same::same;
 use h2_prim::{HuffFault, StrAt, StrRead, find_str, huff_len, huff_read, huff_write, read_str};
 use std::alloc::Global;
 use std::test::Fail;
@@ -45,10 +46,9 @@ static CODES: [(&[u8], &[u8]); 11] = [
 fn codes_texts(rt: HostRuntime) -> Result<(), Fail> {
     for (text, octets) in &CODES {
         let (length, out) = coded(rt.alloc(), text)?;
-        assert_eq!(rt; length, octets.len(), "{text:?}");
-        assert_eq!(rt; out.as_slice(), *octets, "{text:?}");
         let back = read(rt.alloc(), octets)?;
-        assert_eq!(rt; back.as_slice(), *text, "{text:?}");
+        let found = (length, out.as_slice(), back.as_slice());
+        same(&rt, &found, &(octets.len(), *octets, *text), text);
     }
     Ok(())
 }
@@ -72,7 +72,7 @@ static NO_CODES: [(&[u8], HuffFault, &str); 4] = [
 #[test]
 fn refuses_other_octets(rt: HostRuntime) {
     for (octets, wanted, name) in &NO_CODES {
-        assert_eq!(rt; read(rt.alloc(), octets).err(), Some(*wanted), "{name}");
+        same(&rt, &read(rt.alloc(), octets).err(), &Some(*wanted), name);
     }
 }
 
@@ -95,8 +95,8 @@ static STRINGS: [(&[u8], &[u8], bool, usize); 3] = [
 fn reads_strings(rt: HostRuntime) -> Result<(), Fail> {
     for (octets, wanted, huffman, used) in &STRINGS {
         let (text, flag, taken) = whole(rt.alloc(), octets)?;
-        assert_eq!(rt; text.as_slice(), *wanted);
-        assert_eq!(rt; (flag, taken), (*huffman, *used));
+        let found = (text.as_slice(), flag, taken);
+        same(&rt, &found, &(*wanted, *huffman, *used), octets);
     }
     Ok(())
 }
@@ -114,9 +114,11 @@ fn lacks_octets(alloc: Global, octets: &[u8]) -> Result<bool, Fail> {
 fn finds_strings_and_what_is_missing_of_them(rt: HostRuntime) -> Result<(), Fail> {
     assert!(rt; lacks_octets(rt.alloc(), b"\x82\x64")?);
     assert!(rt; !lacks_octets(rt.alloc(), b"\x7f\x80\x80\x80\x80\x80")?);
-    assert_eq!(rt;
-        find_str(b"\x82\x64\x02"),
-        StrAt::Whole(true, b"\x64\x02", 3)
+    same(
+        &rt,
+        &find_str(b"\x82\x64\x02"),
+        &StrAt::Whole(true, b"\x64\x02", 3),
+        &"a Huffman string",
     );
     Ok(())
 }
@@ -128,6 +130,6 @@ fn numbers_faults(rt: HostRuntime) {
         (HuffFault::Eos, 1),
         (HuffFault::Padding, 2),
     ] {
-        assert_eq!(rt; fault.number(), number, "{fault:?}");
+        same(&rt, &fault.number(), &number, &fault);
     }
 }

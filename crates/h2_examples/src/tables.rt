@@ -1,10 +1,10 @@
 //! The program `table`: a dynamic table (RFC 7541, 4).
 
-use crate::program::{Run, compare, compare_runs, filled};
+use crate::program::{Run, compare, filled};
 use std::test::Fail;
 
 /// Lines and what they answer.
-static LINES: [Run; 6] = [
+pub(crate) static LINES: [Run; 6] = [
     (
         "three entries and two maxima",
         &["table", "100"],
@@ -59,11 +59,6 @@ static LINES: [Run; 6] = [
         0,
     ),
 ];
-
-#[test]
-fn tables_are_kept(rt: HostRuntime) -> Result<(), Fail> {
-    compare_runs(&rt, rt.alloc(), &LINES)
-}
 
 #[test]
 fn entries_above_the_maximum_empty_the_table(rt: HostRuntime) -> Result<(), Fail> {

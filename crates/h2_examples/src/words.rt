@@ -1,6 +1,7 @@
 //! Command words that are refused.
 
 use crate::program::ran;
+use crate::same::same;
 use std::test::Fail;
 
 static REFUSED: [&[&str]; 10] = [
@@ -20,7 +21,7 @@ static REFUSED: [&[&str]; 10] = [
 fn words_are_refused(rt: HostRuntime) -> Result<(), Fail> {
     for words in &REFUSED {
         let (status, text) = ran(rt.alloc(), words, b"")?;
-        assert_eq!(rt; (status, text.is_empty()), (2, false), "at {words:?}");
+        same(&rt, &(status, text.is_empty()), &(2, false), words);
     }
     Ok(())
 }
