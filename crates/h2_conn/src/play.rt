@@ -4,6 +4,7 @@
 ghost use Rattle.std.specs.Prelude.{◌≡◌, true, ◌+◌, ◌≤◌, ◌++◌, [], drop, length, take, IfErr, IfOk, OnOk, OnErr};
 ghost use Rattle.h2_spec.specs.Opening.{opening_octets};
 ghost use Rattle.h2_spec.specs.State.{opening};
+ghost use Rattle.h2_spec.specs.View.{view};
 ghost use Rattle.h2_conn.specs.Connection.{going, is_allowed};
 ghost use Rattle.h2_conn.specs.Faults.{refusal_for};
 ghost use Rattle.h2_conn.specs.Runs.{Fed, Opens, Plays};
@@ -74,6 +75,25 @@ pub fn open_and_feed<'b, A: Allocator + Copy>(
     }
 }
 
+/// The view of a connection's state; where memory for it is refused, `out` is cut to a length.
+fn view_or_cut<A: Allocator + Copy>(
+    conn: &Conn<'_, A>,
+    length: usize,
+    out: &mut Vec<u8, A>,
+) -> Result<View<A>, ConnFault>
+    ensures ok { IfOk result (λ shown. (shown ≡ view conn.now.state) × (out.new.items ≡ out.old.items)) }
+    ensures fault { IfErr result (λ fault. fault ≡ NoMemory) }
+    ensures cut { OnErr result (out.new.items ≡ take length out.old.items) }
+{
+    match conn.state(*out.allocator()) {
+        Ok(view) => Ok(view),
+        Err(_) => {
+            out.truncate(length);
+            Err(ConnFault::NoMemory)
+        }
+    }
+}
+
 /// Plays a connection over the octets, cut into pieces of these lengths and what remains; a length above what is left takes what is left.
 ///
 /// `out` gains the opening SETTINGS and all frames sent, and the answer is what is shown of the last state, however the octets are cut.
@@ -95,11 +115,5 @@ pub fn play<A: Allocator + Copy>(
 {
     let length = out.as_slice().len();
     let conn = open_and_feed(book, config, octets, lengths, out)?;
-    match conn.state(*out.allocator()) {
-        Ok(view) => Ok(view),
-        Err(_) => {
-            out.truncate(length);
-            Err(ConnFault::NoMemory)
-        }
-    }
+    view_or_cut(&conn, length, out)
 }
