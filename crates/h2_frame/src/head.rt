@@ -85,9 +85,9 @@ pub fn append_frame<A: Allocator>(
     let length = (count as u32).to_be_bytes();
     let stream = stream.to_be_bytes();
     out.reserve(9 + count)?;
-    out.extend_from_slice(&[length[1], length[2], length[3], kind, flags])?;
-    out.extend_from_slice(&stream)?;
+    out.extend_from_slice(&[
+        length[1], length[2], length[3], kind, flags, stream[0], stream[1], stream[2], stream[3],
+    ])?;
     out.extend_from_slice(front)?;
-    out.extend_from_slice(rest)?;
-    Ok(())
+    out.extend_from_slice(rest)
 }
