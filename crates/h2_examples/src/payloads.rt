@@ -4,8 +4,8 @@ ghost use Rattle.std.specs.Prelude.{◌≡◌};
 
 use crate::same::same;
 use h2_frame::{
-    FrameRef, Head, HeadersPart, Part, PayloadFault, data_of, goaway_of, headers_of, part_of,
-    reset_of, settings_of, window_of,
+    FrameRef, Head, Part, PayloadFault, data_of, goaway_of, headers_of, part_of, reset_of,
+    settings_of, window_of,
 };
 
 /// A frame of this type and these flags on stream 1.
@@ -46,21 +46,20 @@ fn data_with_padding(rt: HostRuntime) {
     }
 }
 
-fn headers(flags: u8, payload: &[u8]) -> Result<HeadersPart<'_>, PayloadFault> {
-    headers_of(frame(1, flags, payload))
+/// What HEADERS hold: the length of the padding, the dependency with the weight, the fragment and the padding.
+type Headers<'a> = (Option<u8>, Option<(u32, u8)>, &'a [u8], &'a [u8]);
+
+fn headers(flags: u8, payload: &[u8]) -> Result<Headers<'_>, PayloadFault> {
+    let part = headers_of(frame(1, flags, payload))?;
+    Ok((part.pad, part.priority, part.fragment, part.padding))
 }
 
 /// Flags and payloads of HEADERS, and what they hold.
-static HEADERS: [(u8, &[u8], Result<HeadersPart<'static>, PayloadFault>); 4] = [
+static HEADERS: [(u8, &[u8], Result<Headers<'static>, PayloadFault>); 4] = [
     (
         0x2c,
         b"\x01\x80\x00\x00\x03\x0f\x82\x00",
-        Ok(HeadersPart {
-            pad: Some(1),
-            priority: Some((2_147_483_651, 15)),
-            fragment: b"\x82",
-            padding: b"\x00",
-        }),
+        Ok((Some(1), Some((2_147_483_651, 15)), b"\x82", b"\x00")),
     ),
     (0x2c, b"\x01\x80\x00\x00\x03", Err(PayloadFault::SizeFault)),
     (
@@ -68,16 +67,7 @@ static HEADERS: [(u8, &[u8], Result<HeadersPart<'static>, PayloadFault>); 4] = [
         b"\x02\x80\x00\x00\x03\x0f\x82",
         Err(PayloadFault::PadFault),
     ),
-    (
-        0x04,
-        b"\x82\x86",
-        Ok(HeadersPart {
-            pad: None,
-            priority: None,
-            fragment: b"\x82\x86",
-            padding: b"",
-        }),
-    ),
+    (0x04, b"\x82\x86", Ok((None, None, b"\x82\x86", b""))),
 ];
 
 #[test]
@@ -160,21 +150,27 @@ fn numbers_of_small_frames(rt: HostRuntime) {
     }
 }
 
-fn part(kind: u8, flags: u8, payload: &[u8]) -> Result<Part<'_>, PayloadFault> {
-    part_of(frame(kind, flags, payload))
+/// The part of a frame that is PING, PRIORITY or an acknowledgement, by name, and the octets of PING.
+fn part(kind: u8, flags: u8, payload: &[u8]) -> Result<(&str, &[u8]), PayloadFault> {
+    match part_of(frame(kind, flags, payload))? {
+        Part::Ping(octets) => Ok(("PING", octets)),
+        Part::Priority => Ok(("PRIORITY", b"")),
+        Part::SettingsAck => Ok(("acknowledgement", b"")),
+        _ => Ok(("another part", b"")),
+    }
 }
 
 /// Types, flags and payloads, and what they hold.
-static PARTS: [(u8, u8, &[u8], Result<Part<'static>, PayloadFault>); 4] = [
+static PARTS: [(u8, u8, &[u8], Result<(&str, &[u8]), PayloadFault>); 4] = [
     (
         6,
         0,
         b"\x01\x02\x03\x04\x05\x06\x07\x08",
-        Ok(Part::Ping(b"\x01\x02\x03\x04\x05\x06\x07\x08")),
+        Ok(("PING", b"\x01\x02\x03\x04\x05\x06\x07\x08")),
     ),
     (6, 0, b"\x01", Err(PayloadFault::SizeFault)),
-    (2, 0, b"\x00\x00\x00\x01\x0f", Ok(Part::Priority)),
-    (4, 0x01, b"", Ok(Part::SettingsAck)),
+    (2, 0, b"\x00\x00\x00\x01\x0f", Ok(("PRIORITY", b""))),
+    (4, 0x01, b"", Ok(("acknowledgement", b""))),
 ];
 
 #[test]

@@ -282,6 +282,11 @@ fn settings_are_taken_whole(rt: HostRuntime) -> Result<(), Fail> {
     Ok(())
 }
 
+/// The error that SETTINGS of this payload come to.
+fn refused_for(has_full: bool, payload: &[u8]) -> Option<ErrorCode> {
+    error_of(settled(has_full, payload)?)
+}
+
 /// Whether SETTINGS move a window of 2^31 - 1 octets, their payload, and the error that they come to.
 static REFUSED_SETTINGS: [(bool, &[u8], ErrorCode); 3] = [
     // ENABLE_PUSH 2 behind a window of 1000: nothing of the frame stays (6.5.2).
@@ -307,8 +312,7 @@ static REFUSED_SETTINGS: [(bool, &[u8], ErrorCode); 3] = [
 #[test]
 fn settings_are_taken_whole_or_not_at_all(rt: HostRuntime) {
     for (has_full, payload, error) in &REFUSED_SETTINGS {
-        let wanted = Some(Reaction::ConnectionError(*error));
-        same(&rt, &settled(*has_full, payload), &wanted, payload);
+        same(&rt, &refused_for(*has_full, payload), &Some(*error), payload);
     }
 }
 

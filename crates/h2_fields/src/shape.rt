@@ -13,7 +13,7 @@ use crate::instruction::Mode;
 use h2_prim::{IntRead, StrAt, find_str, read_int};
 
 /// Why nothing whole stands at the front of octets.
-#[derive(Clone, Copy, Debug, PartialEq, Eq)]
+#[derive(Clone, Copy)]
 pub enum Cut {
     /// It goes on in octets that are not there.
     More,
@@ -22,21 +22,21 @@ pub enum Cut {
 }
 
 /// A string as it stands: whether its octets are a Huffman string, and its octets.
-#[derive(Clone, Copy, Debug)]
+#[derive(Clone, Copy)]
 pub struct RawString<'a> {
     pub huffman: bool,
     pub octets: &'a [u8],
 }
 
 /// The name of a literal as it stands: an index of the tables, or a string.
-#[derive(Clone, Copy, Debug)]
+#[derive(Clone, Copy)]
 pub enum RawName<'a> {
     Ref(u64),
     Named(RawString<'a>),
 }
 
 /// An instruction as it stands.
-#[derive(Clone, Copy, Debug)]
+#[derive(Clone, Copy)]
 pub enum Shape<'a> {
     Indexed(u64),
     Update(u64),

@@ -14,7 +14,7 @@ use crate::head::FrameRef;
 use h2_spec::frames::{ACK, FrameType, PADDED, PRIORITY, PayloadFault};
 
 /// What DATA holds (RFC 9113, 6.1).
-#[derive(Clone, Copy, Debug, PartialEq, Eq)]
+#[derive(Clone, Copy)]
 pub struct DataPart<'a> {
     /// The length of the padding, if the frame is padded.
     pub pad: Option<u8>,
@@ -23,7 +23,7 @@ pub struct DataPart<'a> {
 }
 
 /// What HEADERS hold (RFC 9113, 6.2).
-#[derive(Clone, Copy, Debug, PartialEq, Eq)]
+#[derive(Clone, Copy)]
 pub struct HeadersPart<'a> {
     /// The length of the padding, if the frame is padded.
     pub pad: Option<u8>,
@@ -35,7 +35,7 @@ pub struct HeadersPart<'a> {
 }
 
 /// The settings of a SETTINGS frame in their order, six octets each (RFC 9113, 6.5.1).
-#[derive(Clone, Copy, Debug, PartialEq, Eq)]
+#[derive(Clone, Copy)]
 pub struct SettingsPart<'a> {
     octets: &'a [u8],
 }
@@ -227,7 +227,7 @@ pub fn reset_of(frame: FrameRef<'_>) -> Result<u32, PayloadFault>
 }
 
 /// What a payload holds, by the frame's type (RFC 9113, 6).
-#[derive(Clone, Copy, Debug, PartialEq, Eq)]
+#[derive(Clone, Copy)]
 pub enum Part<'a> {
     Data(DataPart<'a>),
     Headers(HeadersPart<'a>),

@@ -4,7 +4,7 @@
 use std::alloc::Allocator;
 
 /// The octets of a payload.
-#[derive(Drop, Debug)]
+#[derive(Drop)]
 pub(crate) enum Built<A: Allocator> {
     /// The octets, any number of them.
     Whole(Vec<u8, A>),

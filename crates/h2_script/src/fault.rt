@@ -47,7 +47,7 @@ pub fn kind_number(kind: SyntaxKind) -> u8
 }
 
 /// Why one line was not read.
-#[derive(Clone, Copy, Debug, PartialEq, Eq)]
+#[derive(Clone, Copy)]
 pub(crate) enum LineFault {
     NoMemory,
     Bad(SyntaxKind),

@@ -26,7 +26,7 @@ pub struct Config {
 }
 
 /// What a connection counts and knows, besides its streams, table and open block.
-#[derive(Clone, Copy, Debug, PartialEq, Eq)]
+#[derive(Clone, Copy)]
 pub struct Core {
     pub phase: Phase,
     /// The highest client stream whose request block has ended, 0 at first.
@@ -48,7 +48,7 @@ pub struct Core {
 }
 
 /// What the fields of an open block are for.
-#[derive(Clone, Copy, Debug, PartialEq, Eq)]
+#[derive(Clone, Copy)]
 pub enum Purpose {
     /// They open a stream.
     Request,
@@ -61,7 +61,7 @@ pub enum Purpose {
 }
 
 /// A field block that is open, as it is shown (RFC 9113, 4.3).
-#[derive(Clone, Copy, Debug, PartialEq, Eq)]
+#[derive(Clone, Copy)]
 pub struct BlockView {
     pub stream: u32,
     /// The octets of its fragments so far.

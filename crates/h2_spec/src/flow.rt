@@ -306,7 +306,7 @@ impl Settings {
 }
 
 /// The server's own settings that are in force.
-#[derive(Clone, Copy, Debug, PartialEq, Eq)]
+#[derive(Clone, Copy)]
 pub struct Own {
     /// The limit of the header table, in octets.
     pub table: u32,

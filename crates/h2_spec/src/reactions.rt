@@ -37,7 +37,7 @@ pub enum StreamFrame {
 }
 
 /// An answer that begins: HEADERS is sent.
-#[derive(Clone, Copy, Debug, PartialEq, Eq)]
+#[derive(Clone, Copy)]
 pub struct Answering {
     pub id: u32,
     pub pick: Pick,
@@ -46,7 +46,7 @@ pub struct Answering {
 }
 
 /// What a rule of one stream answers: its record, what is sent on it, and whether a table size update is still to be sent.
-#[derive(Clone, Copy, Debug, PartialEq, Eq)]
+#[derive(Clone, Copy)]
 pub struct Turn {
     pub stream: Stream,
     pub frame: StreamFrame,
@@ -55,7 +55,7 @@ pub struct Turn {
 }
 
 /// What an item changes, and what is sent for it.
-#[derive(Clone, Copy, Debug, PartialEq, Eq)]
+#[derive(Clone, Copy)]
 pub struct Change {
     pub core: Core,
     pub touch: Touch,
@@ -65,14 +65,14 @@ pub struct Change {
 }
 
 /// What an item comes to: a connection error, or a change (RFC 9113, 5.4).
-#[derive(Clone, Copy, Debug, PartialEq, Eq)]
+#[derive(Clone, Copy)]
 pub enum Reaction {
     ConnectionError(ErrorCode),
     Continues(Change),
 }
 
 /// DATA that comes: its octets, those of its content, and whether it ends the peer's side.
-#[derive(Clone, Copy, Debug, PartialEq, Eq)]
+#[derive(Clone, Copy)]
 pub struct Came {
     pub octets: u32,
     pub content: u32,
@@ -80,7 +80,7 @@ pub struct Came {
 }
 
 /// What the fields of a block come to: their size, whether a reason stands against them, what they declare, and the answer that is picked.
-#[derive(Clone, Copy, Debug, PartialEq, Eq)]
+#[derive(Clone, Copy)]
 pub struct Facts {
     pub size: u64,
     pub malformed: bool,

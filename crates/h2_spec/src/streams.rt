@@ -62,7 +62,7 @@ pub struct Stream {
 }
 
 /// A stream as it is shown: its record without the answer.
-#[derive(Clone, Copy, Debug, PartialEq, Eq)]
+#[derive(Clone, Copy)]
 pub struct StreamView {
     pub id: u32,
     pub kind: Kind,
