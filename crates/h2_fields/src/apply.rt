@@ -123,12 +123,23 @@ fn literal_still<A: Allocator + Copy>(
 {
     match mode {
         Mode::Add => Ok(false),
-        Mode::Without | Mode::Never => {
-            let texts = literal_texts(gathered, table, name, value)?;
-            gathered.add(Field::new(texts.0, texts.1))?;
-            Ok(true)
-        }
+        Mode::Without | Mode::Never => add_still(gathered, table, name, value),
     }
+}
+
+/// Adds a literal field that does not enter the table.
+fn add_still<A: Allocator + Copy>(
+    gathered: &mut Gathered<A>,
+    table: &DynTable<A>,
+    name: RawName<'_>,
+    value: RawString<'_>,
+) -> Result<bool, BlockFault>
+    ensures without { IsAppliedStill table.now.limit (progress_of gathered.old table.now) (spec.Literal spec.Without (name_of name.entry) (string_of value.entry)) (progress_of gathered.new table.now) result }
+    ensures never { IsAppliedStill table.now.limit (progress_of gathered.old table.now) (spec.Literal spec.Never (name_of name.entry) (string_of value.entry)) (progress_of gathered.new table.now) result }
+{
+    let texts = literal_texts(gathered, table, name, value)?;
+    gathered.add(Field::new(texts.0, texts.1))?;
+    Ok(true)
 }
 
 /// The name and the value of a literal, where no size update is due.
