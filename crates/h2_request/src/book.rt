@@ -29,9 +29,6 @@ pub const MAX_ENTRIES: usize = 1000;
 /// The most octets of an answer's body.
 pub const MAX_BODY: usize = 1_048_576;
 
-/// The field block of a bare 404: the index of `:status: 404` (RFC 7541, Appendix A).
-static NOT_FOUND: [u8; 1] = [0x8d];
-
 /// An entry of the book: the answer to requests with this method and this path.
 #[derive(Drop)]
 pub struct Entry<A: Allocator> {
@@ -149,7 +146,7 @@ impl<A: Allocator> Book<A> {
     fn fault_of(&self, entry: &Entry<A>) -> Option<BookFault>
         ensures { MatchOption result (entry_fault self.now entry.now ≡ None) (λ fault. IsRefusal (entry_fault self.now entry.now) fault × (fault ≢ NoMemory)) }
     {
-        if entry.status < 200 || entry.status > 599 {
+        if is_bad_status(entry.status) {
             Some(BookFault::BadStatus)
         } else if has_bad_field(entry.fields.as_slice()) {
             Some(BookFault::BadField)
@@ -211,7 +208,6 @@ impl<A: Allocator> Book<A> {
 
     /// The field block of that answer's HEADERS, at most 16,383 octets, without a table size update; it was made when the
     /// entry was added.
-    #[tactic(auto, unfolding(h2_spec::specs::Answer::response_block))]
     pub fn block(&self, pick: Pick) -> &[u8]
         ensures block { result.now ≡ block_of_answer (picked self.now pick) }
         ensures within { length result.now ≤ 16383 }
@@ -219,10 +215,10 @@ impl<A: Allocator> Book<A> {
         match pick {
             Pick::Listed(place) => match self.entries.get(place) {
                 Some(stored) => block_of(stored),
-                None => NOT_FOUND.as_slice(),
+                None => block_404(),
             },
-            Pick::NotFound => NOT_FOUND.as_slice(),
-            Pick::Connect => b"\x08\x03501".as_slice(),
+            Pick::NotFound => block_404(),
+            Pick::Connect => block_501(),
         }
     }
 
@@ -261,6 +257,31 @@ fn block_of<A: Allocator>(stored: &Stored<A>) -> &[u8]
     ensures within { length result.now ≤ 16383 }
 {
     stored.block.as_slice()
+}
+
+/// The field block of a bare 404: the index of `:status: 404` (RFC 7541, Appendix A).
+#[tactic(auto, unfolding(h2_spec::specs::Answer::response_block))]
+fn block_404() -> &'static [u8]
+    ensures block { result.now ≡ block_of_answer (bare_answer 404) }
+    ensures within { length result.now ≤ 16383 }
+{
+    b"\x8d".as_slice()
+}
+
+/// The field block of a bare 501: the index of the name `:status`, and its value (RFC 7541, 6.2.2).
+#[tactic(auto, unfolding(h2_spec::specs::Answer::response_block))]
+fn block_501() -> &'static [u8]
+    ensures block { result.now ≡ block_of_answer (bare_answer 501) }
+    ensures within { length result.now ≤ 16383 }
+{
+    b"\x08\x03501".as_slice()
+}
+
+/// Whether no answer has this status.
+fn is_bad_status(status: u16) -> bool
+    ensures { result ≡ spec.is_bad_status status }
+{
+    status < 200 || status > 599
 }
 
 /// Whether a field may not stand in an answer.
