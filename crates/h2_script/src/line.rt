@@ -104,6 +104,19 @@ fn add_frame<A: Allocator + Copy>(
     }
 }
 
+/// The reserved bit and the stream's identifier (RFC 9113, 4.1).
+fn stream_octets(stream: u32, reserved: bool) -> [u8; 4]
+    requires { stream < 2 ^ 31 }
+    ensures { result ≡ stream_octets stream reserved }
+{
+    let number = if reserved {
+        stream + 2_147_483_648
+    } else {
+        stream
+    };
+    number.to_be_bytes()
+}
+
 /// Appends a frame with this reserved bit, unless its payload is longer than a frame's can be (RFC 9113, 4.1).
 fn push_frame<A: Allocator>(
     kind: u8,
@@ -121,13 +134,8 @@ fn push_frame<A: Allocator>(
         return Err(LineFault::Bad(SyntaxKind::Size));
     }
     let length = (payload.len() as u32).to_be_bytes();
-    let stream = if reserved {
-        stream + 2_147_483_648
-    } else {
-        stream
-    };
     out.extend_from_slice(&[length[1], length[2], length[3], kind, flags])?;
-    out.extend_from_slice(&stream.to_be_bytes())?;
+    out.extend_from_slice(&stream_octets(stream, reserved))?;
     out.extend_from_slice(payload)?;
     Ok(())
 }
