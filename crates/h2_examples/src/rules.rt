@@ -312,7 +312,12 @@ static REFUSED_SETTINGS: [(bool, &[u8], ErrorCode); 3] = [
 #[test]
 fn settings_are_taken_whole_or_not_at_all(rt: HostRuntime) {
     for (has_full, payload, error) in &REFUSED_SETTINGS {
-        same(&rt, &refused_for(*has_full, payload), &Some(*error), payload);
+        same(
+            &rt,
+            &refused_for(*has_full, payload),
+            &Some(*error),
+            payload,
+        );
     }
 }
 
