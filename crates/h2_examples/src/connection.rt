@@ -71,6 +71,11 @@ fn opened_over(alloc: Global, book: &Book<Global>) -> Result<Conn<'_, Global>, F
     Ok(Conn::new(book, usual(), &mut Vec::new(alloc))?)
 }
 
+/// The number of items in a piece.
+fn taken(conn: &mut Conn<'_, Global>, piece: &[u8], sent: &mut Vec<u8>) -> Result<usize, Fail> {
+    Ok(conn.feed(piece, sent)?)
+}
+
 /// After each piece the number of items in it and of the octets sent.
 fn counted(
     alloc: Global,
@@ -80,7 +85,7 @@ fn counted(
 ) -> Result<Vec<(usize, usize)>, Fail> {
     let mut counts = Vec::new(alloc);
     for piece in pieces {
-        let items = conn.feed(piece, sent)?;
+        let items = taken(conn, piece, sent)?;
         counts.push((items, sent.len()))?;
     }
     Ok(counts)
