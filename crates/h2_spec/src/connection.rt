@@ -61,7 +61,7 @@ pub enum Purpose {
 }
 
 /// A field block that is open, as it is shown (RFC 9113, 4.3).
-#[derive(Clone, Copy)]
+#[derive(Clone, Copy, Debug, PartialEq, Eq)]
 pub struct BlockView {
     pub stream: u32,
     /// The octets of its fragments so far.

@@ -62,7 +62,7 @@ pub struct Stream {
 }
 
 /// A stream as it is shown: its record without the answer.
-#[derive(Clone, Copy)]
+#[derive(Clone, Copy, Debug, PartialEq, Eq)]
 pub struct StreamView {
     pub id: u32,
     pub kind: Kind,
