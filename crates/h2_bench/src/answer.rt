@@ -7,7 +7,7 @@ ghost use Rattle.std.specs.List.{list_all};
 ghost use Rattle.hex.specs.Hex.{is_hex_digit};
 ghost use Rattle.h2_spec.specs.AnswerWords as words;
 ghost use Rattle.h2_spec.specs.Field.{field};
-ghost use Rattle.h2_bench.specs.AnswerParts.{parts_behind, refusal_of};
+ghost use Rattle.h2_bench.specs.AnswerParts.{entry_from, entry_in, parts_behind, refusal_of};
 
 use crate::fault::BenchFault;
 use crate::table::{place_of, text_before, text_from};
@@ -46,8 +46,8 @@ pub fn parse_answer(alloc: Global, text: &str) -> Result<Entry<Global>, BenchFau
 
 /// The entry of these parts; `BadAnswer` where they are not what they have to be, which is found before memory is wanted.
 fn entry_of(alloc: Global, parts: Parts<'_>) -> Result<Entry<Global>, BenchFault>
-    ensures said { IfOk result (λ entry. words.entry_with parts.entry.method.now parts.entry.path.now (words.status_of parts.entry.status.now) (words.body_of parts.entry.body.now) (words.fields_of (parts_behind parts.entry.fields.now)) ≡ Some entry) }
-    ensures refused { IfErr result (λ fault. fault ≡ refusal_of (words.entry_with parts.entry.method.now parts.entry.path.now (words.status_of parts.entry.status.now) (words.body_of parts.entry.body.now) (words.fields_of (parts_behind parts.entry.fields.now)))) }
+    ensures said { IfOk result (λ entry. entry_in parts.entry ≡ Some entry) }
+    ensures refused { IfErr result (λ fault. fault ≡ refusal_of (entry_in parts.entry)) }
 {
     let Some(status) = status_in(parts.status) else {
         return Err(BenchFault::BadAnswer);
@@ -62,7 +62,7 @@ fn entry_of(alloc: Global, parts: Parts<'_>) -> Result<Entry<Global>, BenchFault
 fn entry_from(alloc: Global, parts: Parts<'_>, status: u16) -> Result<Entry<Global>, AllocError>
     requires body { IsTrue (is_some (words.body_of parts.body.now)) }
     requires fields { IsTrue (is_some (words.fields_of (parts_behind parts.fields.now))) }
-    ensures { IfOk result (λ entry. words.entry_with parts.entry.method.now parts.entry.path.now (Some status) (words.body_of parts.entry.body.now) (words.fields_of (parts_behind parts.entry.fields.now)) ≡ Some entry) }
+    ensures { IfOk result (λ entry. entry_from (Some status) parts.entry ≡ Some entry) }
 {
     Ok(Entry {
         method: Octets::new(parts.method.to_vec(alloc)?),
