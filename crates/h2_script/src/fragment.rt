@@ -12,7 +12,7 @@ ghost use Rattle.h2_spec.specs.Written.{block_said, instruction_text, is_writabl
 ghost use Rattle.h2_script.specs.Texts.{AddsText, IsBlockText, IsFirstSaid, is_writable_name};
 
 use crate::said::push_hex;
-use crate::text::{push_number, push_string};
+use crate::text::{push_number, push_numbered, push_string};
 use crate::words::octets_from;
 use h2_fields::fault::BlockFault;
 use h2_fields::instruction::{Instr, InstrRead, Mode, Name, Text, read_instr, write_instr};
@@ -128,21 +128,25 @@ fn push_instruction<A: Allocator, B: Allocator>(
     ensures { OnOk result (string_bytes out.new ≡ string_bytes out.old ++ instruction_text (instr_of instr.now)) }
 {
     match instr {
-        Instr::Indexed(index) => {
-            out.push_str("i")?;
-            push_number(*index, out)
-        }
-        Instr::Update(max) => {
-            out.push_str("u")?;
-            push_number(*max, out)
-        }
-        Instr::Literal { mode, name, value } => {
-            out.push_str(letter_of(*mode))?;
-            push_name(name, out)?;
-            out.push_str("=")?;
-            push_text(value, out)
-        }
+        Instr::Indexed(index) => push_numbered("i", *index, out),
+        Instr::Update(max) => push_numbered("u", *max, out),
+        Instr::Literal { mode, name, value } => push_literal(*mode, name, value, out),
     }
+}
+
+/// Appends a literal: its letter, its name, an equals sign, its value.
+fn push_literal<A: Allocator, B: Allocator>(
+    mode: Mode,
+    name: &Name<B>,
+    value: &Text<B>,
+    out: &mut String<A>,
+) -> Result<(), AllocError>
+    ensures { OnOk result (string_bytes out.new ≡ string_bytes out.old ++ (mode_letter (mode_of mode) ∷ (name_text (name_text_of name.now) ++ 61 ∷ string_text value.now))) }
+{
+    out.push_str(letter_of(mode))?;
+    push_name(name, out)?;
+    out.push_str("=")?;
+    push_text(value, out)
 }
 
 /// The letter of a literal, by what becomes of it.

@@ -1,7 +1,7 @@
 //! One line of a script: what it says, as octets.
 //! It rests on `words` and `payload`; the definition is `statement_at` of `h2_spec`, specs/Assemble.antt.
 
-ghost use Rattle.std.specs.Prelude.{◌≡◌, ◌⊎◌, ◌^◌, ◌<◌, ◌≤◌, ◌++◌, ◌∷◌, ℕ, List, Some, None, length, OnOk, IfErr, IfSome};
+ghost use Rattle.std.specs.Prelude.{◌≡◌, ◌⊎◌, ◌^◌, ◌<◌, ◌≤◌, ◌++◌, ◌∷◌, [], ℕ, List, Some, None, length, OnOk, IfErr, IfSome};
 ghost use Rattle.h2_spec.specs.Assemble.{frame_at, raw_at, statement_at, stream_at, type_at, words_at};
 ghost use Rattle.h2_spec.specs.Octets.{big_endian};
 ghost use Rattle.h2_spec.specs.Script.{stream_octets};
@@ -117,6 +117,15 @@ fn stream_octets(stream: u32, reserved: bool) -> [u8; 4]
     number.to_be_bytes()
 }
 
+/// The length, the type and the flags of a frame (RFC 9113, 4.1).
+fn front_octets(length: u32, kind: u8, flags: u8) -> [u8; 5]
+    requires { length < 2 ^ 24 }
+    ensures { result ≡ big_endian 3 length ++ kind ∷ flags ∷ [] }
+{
+    let length = length.to_be_bytes();
+    [length[1], length[2], length[3], kind, flags]
+}
+
 /// Appends a frame with this reserved bit, unless its payload is longer than a frame's can be (RFC 9113, 4.1).
 fn push_frame<A: Allocator>(
     kind: u8,
@@ -133,8 +142,7 @@ fn push_frame<A: Allocator>(
     if payload.len() >= 16_777_216 {
         return Err(LineFault::Bad(SyntaxKind::Size));
     }
-    let length = (payload.len() as u32).to_be_bytes();
-    out.extend_from_slice(&[length[1], length[2], length[3], kind, flags])?;
+    out.extend_from_slice(&front_octets(payload.len() as u32, kind, flags))?;
     out.extend_from_slice(&stream_octets(stream, reserved))?;
     out.extend_from_slice(payload)?;
     Ok(())

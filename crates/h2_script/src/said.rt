@@ -11,7 +11,7 @@ ghost use Rattle.h2_spec.specs.Script.{Octets};
 ghost use Rattle.h2_spec.specs.Written.{each_text, is_fragment, payload_said, payload_text, setting_text};
 
 use crate::fragment::push_fragment;
-use crate::text::{push_number, push_octets};
+use crate::text::{push_number, push_numbered, push_octets};
 use crate::words::octets_from;
 use std::alloc::{AllocError, Allocator};
 
@@ -74,8 +74,7 @@ fn push_lettered<A: Allocator>(
     requires { length octets.now ≡ 4 }
     ensures { OnOk result (string_bytes out.new ≡ string_bytes out.old ++ (letter.now ++ decimal (four_octets octets.now 0))) }
 {
-    out.push_str(letter)?;
-    push_number(number_of(octets), out)
+    push_numbered(letter, number_of(octets), out)
 }
 
 /// The number that the first four octets write.

@@ -53,6 +53,18 @@ pub(crate) fn push_number<A: Allocator>(number: u64, out: &mut String<A>) -> Res
     write!(out, "{number}")
 }
 
+/// Appends a letter and a number.
+pub(crate) fn push_numbered<A: Allocator>(
+    letter: &str,
+    number: u64,
+    out: &mut String<A>,
+) -> Result<(), AllocError>
+    ensures { OnOk result (string_bytes out.new ≡ string_bytes out.old ++ (letter.now ++ decimal number)) }
+{
+    out.push_str(letter)?;
+    push_number(number, out)
+}
+
 /// Appends an octet of a string: itself, or a backslash and two hex digits.
 fn push_character<A: Allocator>(octet: u8, out: &mut String<A>) -> Result<(), AllocError>
     ensures { OnOk result (string_bytes out.new ≡ string_bytes out.old ++ character_text octet) }
