@@ -1,7 +1,7 @@
 -- Where a decoder stands after some of its octets, and what it stands for after a fragment.
 use Rattle.std.proofs.Common.{◌≡◌, ◌≢◌, ℕ, ◌+◌, ◌-◌, ◌<◌, ◌≤◌, List, [], ◌++◌, length, drop, take, Some, None, option_map, Result, refl, ap, ◌∙◌, sym, arith, length-drop}
 use Rattle.std.proofs.lemmas.List.{append-nil, take_all}
-use Rattle.h2_spec.specs.Block.{Fault, Index, Integer, Huffman, SizeUpdate, Outcome, Unfinished, Faulty, Progress, Decoded, BlockSoFar, applied, decoded, decoded_with, carried_on}
+use Rattle.h2_spec.specs.Block.{Fault, Index, Integer, Huffman, SizeUpdate, Outcome, Unfinished, Faulty, Progress, Decoded, BlockSoFar, StandsWithin, applied, decoded, decoded_with, carried_on}
 use Rattle.h2_spec.specs.DynamicTable.{Table}
 use Rattle.h2_spec.specs.Instruction.{Shape, instr_at}
 use Rattle.h2_spec.specs.Read.{Whole, More, TooLong}
@@ -47,13 +47,17 @@ too_long-faulted limit p q b at s e = record {
   within = λ _. stands-within limit p q b at s;
 }
 
--- memory is refused behind whole instructions
-pub refused-memory : (limit : ℕ) (p q : Progress) (b : List ℕ) (at : ℕ) (f : BlockFault) → Stands limit p b at q → f ≡ faults.NoMemory → IsFaulted limit p b q f
-refused-memory limit p q b at f s e = record {
+-- memory is refused where some of the instructions were done
+pub short-faulted : (limit : ℕ) (p now : Progress) (b : List ℕ) (f : BlockFault) → StandsWithin limit p b now → f ≡ faults.NoMemory → IsFaulted limit p b now f
+short-faulted limit p now b f s e = record {
   named = λ k. let clash : faults.NoMemory ≡ faults.Truncated = sym e ∙ k in cc;
   exact = λ h. absurd (h e);
-  within = λ _. stands-within limit p q b at s;
+  within = λ _. s;
 }
+
+-- memory is refused behind whole instructions
+pub refused-memory : (limit : ℕ) (p q : Progress) (b : List ℕ) (at : ℕ) (f : BlockFault) → Stands limit p b at q → f ≡ faults.NoMemory → IsFaulted limit p b q f
+refused-memory limit p q b at f s e = short-faulted limit p q b f (stands-within limit p q b at s) e
 
 -- or before anything was done
 pub refused-at_once : (limit : ℕ) (p : Progress) (b : List ℕ) (f : BlockFault) → f ≡ faults.NoMemory → IsFaulted limit p b p f
