@@ -1,9 +1,28 @@
-use Rattle.std.proofs.Common.{◌≡◌, ◌∙◌, ◌+◌, ◌-◌, ◌<◌, List, ℕ, suc, ap, sym, arith, length, Some}
+use Rattle.std.proofs.Common.{◌≡◌, ◌∙◌, ◌+◌, ◌-◌, ◌<◌, List, ℕ, suc, ap, sym, arith, length, [], Some}
 use Rattle.h2_spec.specs.Assemble.{setting_at}
 use Rattle.h2_spec.specs.Script.{setting_octets}
 use Rattle.h2_script.specs.Each.{behind_each}
-use Rattle.h2_script.proofs.Eachs.{each_last, each_more, each_other}
+use Rattle.h2_script.proofs.Eachs.{each_last, each_more, each_none, each_other}
 use Rattle.h2_script.proofs.payload.settings_at.Goals as goal
+
+pub loop-turn-init : goal.loop-turn-init
+loop-turn-init g c =
+    let all : length c.args.text.now + 1 - 0 ≡ length c.args.text.now + 1 = omega arith in
+    rw c.new-octets.ensures.items (ap (λ (k : ℕ). behind_each setting_at setting_octets [] k c.args.text.now) all)
+
+pub returns-in_default : goal.returns-in_default
+returns-in_default g c =
+    let rest = c.loop-turn.rest.now in
+    let items = c.loop-turn.octets.items in
+    let n = length c.args.text.now + 1 - (c.loop-turn._turn + 1) in
+    let fuel : length c.args.text.now + 1 - c.loop-turn._turn ≡ suc n = omega (arith, c.loop-turn-test.true) in
+    let none = each_none setting_at setting_octets items n rest c.in_default.ensures in
+    sym none ∙ ap (λ (k : ℕ). behind_each setting_at setting_octets items k rest) (sym fuel) ∙ c.loop-turn.invariant
+
+pub returns : goal.returns
+returns g c =
+    let none : length c.args.text.now + 1 - c.loop-turn._turn ≡ 0 = omega (arith, c.loop-turn-test.false) in
+    ap (λ (k : ℕ). behind_each setting_at setting_octets c.loop-turn.octets.items k c.loop-turn.rest.now) (sym none) ∙ c.loop-turn.invariant
 
 pub returns-then-is_empty : goal.returns-then-is_empty
 returns-then-is_empty g c =
