@@ -1,5 +1,5 @@
 -- Where a decoder stands after some of its octets, and what it stands for after a fragment.
-use Rattle.std.proofs.Common.{◌≡◌, ◌≢◌, ℕ, ◌+◌, ◌-◌, ◌<◌, ◌≤◌, List, [], ◌++◌, length, drop, take, Some, None, option_map, Result, refl, ap, ◌∙◌, sym, arith, length-drop}
+use Rattle.std.proofs.Common.{◌≡◌, ◌≢◌, ℕ, ◌+◌, ◌-◌, ◌<◌, ◌≤◌, List, [], ◌++◌, length, drop, take, Some, None, option_map, Result, Err, refl, ap, ◌∙◌, sym, arith, length-drop}
 use Rattle.std.proofs.lemmas.List.{append-nil, take_all}
 use Rattle.h2_spec.specs.Block.{Fault, Index, Integer, Huffman, SizeUpdate, Outcome, Unfinished, Faulty, Progress, Decoded, BlockSoFar, StandsWithin, applied, decoded, decoded_with, carried_on}
 use Rattle.h2_spec.specs.DynamicTable.{Table}
@@ -7,7 +7,7 @@ use Rattle.h2_spec.specs.Instruction.{Shape, instr_at}
 use Rattle.h2_spec.specs.Read.{Whole, More, TooLong}
 use Rattle.h2_spec.proofs.BlockLaws.{Stands, stands-start, stands-refused, stands-too_long, stands-within, stands-more, decoded-more}
 use Rattle.h2_spec.proofs.InstructionLaws.{whole-takes}
-use Rattle.h2_fields.specs.Blocks.{IsFaulted, faulted, outcome_of, progress_so_far}
+use Rattle.h2_fields.specs.Blocks.{IsFaulted, answer_of, faulted, outcome_of, progress_so_far}
 use Rattle.h2_fields.specs.Faults.{refusal, fault_of}
 use Rattle.h2_fields.specs.declared.fault.BlockFault.{BlockFault}
 use Rattle.h2_fields.specs.declared.fault.BlockFault.TheVariants as faults
@@ -90,6 +90,24 @@ faulty_outcome rest faults.Integer n h = (Integer, refl)
 faulty_outcome rest faults.Huffman n h = (Huffman, refl)
 faulty_outcome rest faults.SizeUpdate n h = (SizeUpdate, refl)
 faulty_outcome rest faults.Truncated n h = absurd (n refl)
+
+-- a fault that shows nothing is that memory was refused
+pub shows_nothing : (rest : List ℕ) (f : BlockFault) → outcome_of rest (Some f) ≡ None → f ≡ faults.NoMemory
+shows_nothing rest faults.NoMemory h = refl
+shows_nothing rest faults.Index h = absurd cc
+shows_nothing rest faults.Integer h = absurd cc
+shows_nothing rest faults.Huffman h = absurd cc
+shows_nothing rest faults.SizeUpdate h = absurd cc
+shows_nothing rest faults.Truncated h = absurd cc
+
+-- a fault that stands is what a further fragment is answered
+pub answers-faulty : (rest : List ℕ) (f : BlockFault) → f ≢ faults.Truncated → Err f ≡ answer_of (outcome_of rest (Some f))
+answers-faulty rest faults.NoMemory n = refl
+answers-faulty rest faults.Index n = refl
+answers-faulty rest faults.Integer n = refl
+answers-faulty rest faults.Huffman n = refl
+answers-faulty rest faults.SizeUpdate n = refl
+answers-faulty rest faults.Truncated n = absurd (n refl)
 
 -- a decoder that has a fault stays as it is
 pub carried-faulty : (limit : ℕ) (table : Table) (s : BlockSoFar) (piece : List ℕ) (x : Fault) → s.outcome ≡ Some (Faulty x) → decoded_with table s ≡ option_map (λ d. carried_on limit d piece) (decoded_with table s)
