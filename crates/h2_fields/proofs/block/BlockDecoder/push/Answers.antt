@@ -1,7 +1,8 @@
-use Rattle.std.proofs.Common.{◌≡◌, ◌≢◌, ◌++◌, Some, option_map, refl, ap, ◌∙◌, subst, sym}
-use Rattle.h2_spec.specs.Block.{BlockSoFar, Decoded, carried_on, decoded, decoded_with}
-use Rattle.h2_fields.specs.Blocks.{CanStand, outcome_of, progress_of}
-use Rattle.h2_fields.proofs.Standing.{faulty_outcome, carried-faulty, carried-open, shown-faulty}
+use Rattle.std.proofs.Common.{◌≡◌, ◌≢◌, ◌++◌, Option, Some, None, option_map, refl, ap, ◌∙◌, subst, sym}
+use Rattle.h2_spec.specs.Block.{BlockSoFar, Decoded, StandsWithin, Unfinished, carried_on, decoded, decoded_with}
+use Rattle.h2_fields.specs.Blocks.{CanStand, answer_of, outcome_of, progress_of, progress_so_far, unfinished}
+use Rattle.h2_fields.proofs.Standing.{answers-faulty, faulty_outcome, shows_nothing, carried-faulty, carried-open, shown-faulty}
+use Rattle.h2_fields.specs.declared.fault.BlockFault.{BlockFault}
 use Rattle.h2_fields.specs.declared.fault.BlockFault.TheVariants as faults
 use Rattle.h2_fields.proofs.block.BlockDecoder.push.Goals as goal
 
@@ -40,3 +41,24 @@ returns-in-Err-clause-carried g c = λ h.
     shown-faulty new.table.table now new.rest.items result f refl exact.0 exact.1
     ∙ carried-open limit table was d.rest.items piece (ap (outcome_of d.rest.items) c.in_default.is)
     ∙ ap (λ (s : BlockSoFar). option_map (λ (before : Decoded). carried_on limit before piece) (decoded_with table s)) c.self.view_is
+
+pub invariant_of-self : goal.invariant_of-self
+invariant_of-self g c = subst (CanStand c.decode_piece.new.rest.items) (sym c.in_default.is) c.in-Ok.ensures.cut
+
+pub returns-in-Ok-clause-answer : goal.returns-in-Ok-clause-answer
+returns-in-Ok-clause-answer g c = sym (ap (λ (f : Option BlockFault). answer_of (outcome_of c.decode_piece.new.rest.items f)) c.in_default.is)
+
+pub returns-in-Ok-clause-refused : goal.returns-in-Ok-clause-refused
+returns-in-Ok-clause-refused g c = λ h _.
+    let rest = c.decode_piece.new.rest.items in
+    absurd (let w : Some (Unfinished rest) ≡ None = sym (ap (outcome_of rest) c.in_default.is) ∙ h in cc)
+
+pub returns-in-Err-clause-answer : goal.returns-in-Err-clause-answer
+returns-in-Err-clause-answer g c = answers-faulty c.decode_piece.new.rest.items c.in-Err.fault c.in-Err.ensures.fault.named
+
+pub returns-in-Err-clause-refused : goal.returns-in-Err-clause-refused
+returns-in-Err-clause-refused g c = λ h _.
+    let new = c.decode_piece.new in
+    let within = c.in-Err.ensures.fault.within (shows_nothing new.rest.items c.in-Err.fault h) in
+    let stands = λ (s : BlockSoFar). StandsWithin c.args.table.now.limit (progress_so_far c.args.table.now.table s) (unfinished s.outcome ++ c.args.piece.now) (progress_of new.gathered new.table) in
+    subst stands c.self.view_is (rw c.in_default.is within)
