@@ -6,7 +6,7 @@ use Rattle.h2_spec.specs.Frame.{head_at, head_of, preface}
 use Rattle.h2_spec.specs.Octets.{four_octets, two_octets}
 use Rattle.h2_spec.specs.Parse.{Stop, One, parse_upto}
 use Rattle.h2_spec.specs.Payload.{setting_pairs}
-use Rattle.h2_spec.specs.Script.{Statement}
+use Rattle.h2_spec.specs.Script.{Statement, Preface}
 use Rattle.h2_spec.specs.Written.{each_text, frame_said, line_text, next_said, rest_text, setting_text}
 use Rattle.h2_spec.specs.declared.frames.Head.{Head}
 use Rattle.h2_script.specs.Texts.{said_text}
@@ -53,6 +53,20 @@ pub said_one : (n : ℕ) (first : Bool) (b : List ℕ) (s : Statement) (used : �
 said_one n first b s used e =
     let after = parse_upto next_said n false (drop used b) in
     rw e (append_assoc (line_text s) (flat_map line_text after.elements) (rest_text after.rest))
+
+-- a head has nine octets
+pub head_nine : (h : Head) (b : List ℕ) → Some h ≡ head_at b → 9 ≤ length b
+unfolding head_at
+head_nine h b head = go (nat_lt (length b) 9) refl head
+  where
+    go : (t : Bool) → nat_lt (length b) 9 ≡ t → Some h ≡ cond t None (Some (head_of b)) → 9 ≤ length b
+    go true e k = absurd (cc)
+    go false e k = ltb-false _ _ e
+
+-- the preface, where octets begin
+pub next_preface : (first : Bool) (b : List ℕ) → (first && starts_with nat_eq b preface) ≡ true → next_said first b ≡ One Preface false 24
+unfolding next_said
+next_preface first b e = rw e refl
 
 -- the frame of a head, where its payload is there
 pub next_frame : (first : Bool) (b : List ℕ) (h : Head) → (first && starts_with nat_eq b preface) ≡ false → Some h ≡ head_at b → h.length ≤ length (drop 9 b)
