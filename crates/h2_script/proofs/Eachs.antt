@@ -1,7 +1,18 @@
 -- What is said one after another: the step from one to the next.
-use Rattle.std.proofs.Common.{◌≡◌, ◌∙◌, ◌++◌, ◌==◌, ◌<◌, ℕ, Bool, true, false, suc, List, [], ◌∷◌, Option, Some, None, length, refl, sym, ap, arith, cond, option_map, option_and_then, flat_map, append_assoc, append-nil}
+use Rattle.std.proofs.Common.{◌≡◌, ◌∙◌, ◌++◌, ◌==◌, ◌+◌, ◌-◌, ◌<◌, ℕ, Bool, true, false, suc, List, [], ◌∷◌, Option, Some, None, length, refl, sym, ap, arith, cond, option_map, option_and_then, flat_map, append_assoc, append-nil}
 use Rattle.h2_spec.specs.Assemble.{behind, each_at}
 use Rattle.h2_script.specs.Each.{behind_each}
+
+-- a turn is left
+pub turn : (n k : ℕ) → k < n → n - k ≡ suc (n - (k + 1))
+turn n k h = omega (arith, h)
+
+-- nothing is left, or something
+pub none_left : (e : Bool) (n : ℕ) → e ≡ (n == 0) → e ≡ true → n ≡ 0
+none_left e n is h = grind (arith, is, h)
+
+pub some_left : (e : Bool) (n : ℕ) → e ≡ (n == 0) → e ≡ false → 0 < n
+some_left e n is h = grind (arith, is, h)
 
 module _ {A : Type 0} (next : List ℕ → Option (A × List ℕ)) (octets : A → List ℕ) (written : List ℕ) (n : ℕ) (text : List ℕ) where
   pub each_none : None ≡ next text → behind_each next octets written (suc n) text ≡ None
