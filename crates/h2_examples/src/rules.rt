@@ -282,11 +282,6 @@ fn settings_are_taken_whole(rt: HostRuntime) -> Result<(), Fail> {
     Ok(())
 }
 
-/// The error that SETTINGS of this payload come to.
-fn refused_for(has_full: bool, payload: &[u8]) -> Option<ErrorCode> {
-    error_of(settled(has_full, payload)?)
-}
-
 /// Whether SETTINGS move a window of 2^31 - 1 octets, their payload, and the error that they come to.
 static REFUSED_SETTINGS: [(bool, &[u8], ErrorCode); 3] = [
     // ENABLE_PUSH 2 behind a window of 1000: nothing of the frame stays (6.5.2).
@@ -310,15 +305,12 @@ static REFUSED_SETTINGS: [(bool, &[u8], ErrorCode); 3] = [
 ];
 
 #[test]
-fn settings_are_taken_whole_or_not_at_all(rt: HostRuntime) {
+fn settings_are_taken_whole_or_not_at_all(rt: HostRuntime) -> Result<(), Fail> {
     for (has_full, payload, error) in &REFUSED_SETTINGS {
-        same(
-            &rt,
-            &refused_for(*has_full, payload),
-            &Some(*error),
-            payload,
-        );
+        let reaction = settled(*has_full, payload).ok_or("settings")?;
+        same(&rt, &error_of(reaction), &Some(*error), payload);
     }
+    Ok(())
 }
 
 /// What a request of a list of this size, that declares this much content and ends its side, is answered where at most two streams may live and so many do.
