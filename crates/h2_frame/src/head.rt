@@ -1,9 +1,11 @@
 //! Heads of frames: reading them, and writing whole frames (RFC 9113, 4.1).
 //! Rests on `h2_spec`; definitions: `h2_spec/specs/Frame.antt`.
 
-ghost use Rattle.std.specs.Prelude.{◌≡◌, ◌+◌, ◌<◌, ◌≤◌, ◌^◌, ◌++◌, length, OnOk, OnErr};
+ghost use Rattle.std.specs.Prelude.{◌≡◌, ◌+◌, ◌<◌, ◌≤◌, ◌^◌, ◌∷◌, ◌++◌, length, OnOk, OnErr};
 ghost use Rattle.h2_spec.specs.Frame.{head_at, head_of, frame, frame_octets, frame_of};
+ghost use Rattle.h2_spec.specs.Octets.{big_endian};
 
+use crate::cuts::u31_at;
 use h2_spec::frames::Head;
 use std::alloc::{AllocError, Allocator};
 
@@ -33,16 +35,12 @@ pub(crate) fn first_head(octets: &[u8]) -> Head
     ensures { result ≡ head_of octets.now }
 {
     let length = u32::from(octets[0]) * 65536 + u32::from(octets[1]) * 256 + u32::from(octets[2]);
-    let stream = u32::from(octets[5] % 128) * 16_777_216
-        + u32::from(octets[6]) * 65536
-        + u32::from(octets[7]) * 256
-        + u32::from(octets[8]);
     Head {
         length,
         kind: octets[3],
         flags: octets[4],
         reserved: octets[5] >= 128,
-        stream,
+        stream: u31_at(octets, 5),
     }
 }
 
@@ -50,7 +48,6 @@ pub(crate) fn first_head(octets: &[u8]) -> Head
 ///
 /// The head's length is the payload's, and the reserved bit is written as 0 whatever the head says.
 /// `AllocError` where `out` could not grow; then `out` is as before.
-#[tactic(auto, unfolding(h2_spec::specs::Frame::frame_octets))]
 pub fn write_frame<A: Allocator>(
     head: &Head,
     payload: &[u8],
@@ -82,12 +79,20 @@ pub fn append_frame<A: Allocator>(
     ensures no_memory { OnErr result (out.new.items ≡ out.old.items) }
 {
     let count = front.len() + rest.len();
-    let length = (count as u32).to_be_bytes();
-    let stream = stream.to_be_bytes();
+    let head = head_octets(count as u32, kind, flags, stream);
     out.reserve(9 + count)?;
-    out.extend_from_slice(&[
-        length[1], length[2], length[3], kind, flags, stream[0], stream[1], stream[2], stream[3],
-    ])?;
+    out.extend_from_slice(&head)?;
     out.extend_from_slice(front)?;
     out.extend_from_slice(rest)
+}
+
+/// The nine octets of a head with the reserved bit 0.
+fn head_octets(length: u32, kind: u8, flags: u8, stream: u32) -> [u8; 9]
+    ensures { result ≡ big_endian 3 length ++ kind ∷ flags ∷ big_endian 4 stream }
+{
+    let length = length.to_be_bytes();
+    let stream = stream.to_be_bytes();
+    [
+        length[1], length[2], length[3], kind, flags, stream[0], stream[1], stream[2], stream[3],
+    ]
 }

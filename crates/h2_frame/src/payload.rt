@@ -5,7 +5,8 @@ ghost use Rattle.std.specs.Prelude.{◌≡◌, ℕ, ◌+◌, ◌-◌, ◌*◌, �
 ghost use Rattle.h2_spec.specs.FrameType.{DATA, HEADERS, RST_STREAM, SETTINGS, GOAWAY, WINDOW_UPDATE, ACK, PADDED, has};
 ghost use Rattle.h2_spec.specs.Octets.{four_octets};
 ghost use Rattle.h2_spec.specs.Payload as spec;
-ghost use Rattle.h2_spec.specs.Payload.{octets_if, fixed_len, pad_or_0, pad_length, priority_of, setting_pairs, data_part, headers_part, settings_part, window_part, goaway_part, reset_part, with_part, settings_or_ack};
+ghost use Rattle.h2_spec.specs.Payload.Part.{OfPriority};
+ghost use Rattle.h2_spec.specs.Payload.{octets_if, fixed_len, pad_or_0, pad_length, priority_of, setting_pairs, data_part, headers_part, settings_part, window_part, goaway_part, reset_part, with_part, of_length, settings_or_ack};
 ghost use Rattle.h2_spec.specs.declared.frames.PayloadFault.TheVariants.{SizeFault, PadFault};
 ghost use Rattle.h2_frame.specs.Parts.{both_seen, cut_between, data_seen, headers_seen, settings_in, part_seen, seen};
 
@@ -42,7 +43,6 @@ pub struct SettingsPart<'a> {
 
 impl SettingsPart<'_> {
     /// How many settings there are.
-    #[tactic(auto, using(crate::proofs::Pairs::counted))]
     pub fn count(self) -> usize
         ensures { result ≡ length (settings_in self.entry) }
     {
@@ -53,7 +53,8 @@ impl SettingsPart<'_> {
     pub fn pair(self, place: usize) -> Option<(u16, u32)>
         ensures { result ≡ slice_get (settings_in self.entry) place }
     {
-        if place < self.count() {
+        let count = self.count();
+        if place < count {
             Some(self.pair_at(place))
         } else {
             None
@@ -260,10 +261,7 @@ pub fn part_of(frame: FrameRef<'_>) -> Result<Part<'_>, PayloadFault>
     let part = match frame.head.frame_type() {
         FrameType::Data => Part::Data(data_of(frame)?),
         FrameType::Headers => Part::Headers(headers_of(frame)?),
-        FrameType::Priority => {
-            octets_of_length(frame.payload, 5)?;
-            Part::Priority
-        }
+        FrameType::Priority => priority_part(frame.payload)?,
         FrameType::RstStream => Part::RstStream(reset_of(frame)?),
         FrameType::Settings => settings_or_ack(frame)?,
         FrameType::PushPromise => Part::PushPromise,
@@ -287,6 +285,14 @@ fn octets_of_length(octets: &[u8], count: usize) -> Result<&[u8], PayloadFault>
         return Err(PayloadFault::SizeFault);
     }
     Ok(octets)
+}
+
+/// The five octets of a PRIORITY frame, which are not looked at.
+fn priority_part(octets: &[u8]) -> Result<Part<'_>, PayloadFault>
+    ensures { seen part_seen result ≡ of_length 5 OfPriority octets.now }
+{
+    octets_of_length(octets, 5)?;
+    Ok(Part::Priority)
 }
 
 /// The settings of a SETTINGS frame, or its acknowledgement.

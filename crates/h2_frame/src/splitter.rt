@@ -6,7 +6,7 @@ ghost use Rattle.std.specs.List.{common_prefix_len};
 ghost use Rattle.std.specs.Option.{option_map};
 ghost use Rattle.std.specs.Borrow.{sem};
 ghost use Rattle.std.specs.Io.BufRead.{Rests};
-ghost use Rattle.h2_spec.specs.Frame.{next, preface};
+ghost use Rattle.h2_spec.specs.Frame.{next, preface, frame_item};
 ghost use Rattle.h2_frame.specs.Items.{item_of, ends_items, found_in, found, item_in, next_in, rest_after};
 ghost use Rattle.h2_frame.specs.contracts.splitter.Splitter.{the_row};
 
@@ -192,7 +192,15 @@ fn frame_item(octets: &[u8], limit: u32) -> Option<(Item<'_>, usize)>
     if octets.len() < 9 {
         return None;
     }
-    let head = first_head(octets);
+    headed_item(first_head(octets), octets, limit)
+}
+
+/// The item of a head and the octets from it on: the head alone where the frame is longer than the limit.
+fn headed_item(head: Head, octets: &[u8], limit: u32) -> Option<(Item<'_>, usize)>
+    requires { 9 ≤ length octets.now }
+    ensures item { found_in result ≡ frame_item limit head octets.now }
+    ensures within { IfSome result (λ x. x.1 ≤ length octets.now) }
+{
     if head.length > limit {
         return Some((Item::Oversize(head), 9));
     }
