@@ -1,6 +1,7 @@
 pub mod AnswerParts
 pub mod Answers
 pub mod Books
+pub mod Built
 pub mod Commands
 pub mod Each
 pub mod Ends

@@ -1,11 +1,11 @@
 //! What the words of a command line ask for.
 //! Rests on `words` and on clap, whose definition of a command says which words are taken: `specs/Grammar.antt`.
 
-ghost use Rattle.std.specs.Prelude.{◌≡◌, IfOk, IfErr, Some, None, false, map, option_map};
-ghost use Rattle.clap.specs.Words.{app_of, found_of, kind_of, rows_of, rule_of};
+ghost use Rattle.std.specs.Prelude.{◌≡◌, IfOk, IfErr, Some, None, codes, map, option_map};
+ghost use Rattle.clap.specs.Words.{App, Rule, found_of, kind_of, rows_of, subcommand_rows_of, with_rule, with_subcommand};
 ghost use Rattle.clap.specs.declared.error.ErrorKind.TheVariants.{OutOfMemory};
-ghost use Rattle.clap.specs.declared.builder.Command.TheViews.{out-Command};
-ghost use Rattle.h2_bench.specs.Grammar.{answer_rule, asked_by, asked_of, asm_app, bench_app, config_at, credit_rule, cut_rule, dis_app, each_rule, is_set, number_at, play_app, streams_rule, table_app, texts_at};
+ghost use Rattle.h2_bench.specs.Grammar.{answer_rule, asked_at, asked_by, asked_of, asm_app, bench_app, config_at, credit_rule, cut_rule, dis_app, each_rule, is_set, limit_rule, number_at, play_app, streams_rule, table_app, texts_at, top_app};
+ghost use Rattle.h2_bench.specs.Built.{IsArg, IsCommand, number_rule};
 ghost use Rattle.h2_bench.specs.Plans.{planned, Refuses};
 
 use crate::words::Words;
@@ -49,40 +49,41 @@ pub enum Refusal {
     NoMemory,
 }
 
-fn streams_option<'a>(alloc: Global) -> Arg<'a>
-    ensures { (rule_of result ≡ streams_rule) × (result.global ≡ false) }
+/// An argument that takes a number from 0 to the most.
+fn number_arg<'a>(alloc: Global, id: &'a str, most: u64) -> Arg<'a>
+    ensures { IsArg (number_rule id.entry.now most) result }
 {
-    Arg::new(alloc, "streams")
-        .help("The most streams at a time, 1 to 1000; 100 where none is given")
-        .long("streams")
+    Arg::new(alloc, id)
         .action(ArgAction::Set)
-        .value_parser(ValueParser::Unsigned(0, 4294967295))
+        .value_parser(ValueParser::Unsigned(0, most))
+}
+
+fn streams_option<'a>(alloc: Global) -> Arg<'a>
+    ensures { IsArg streams_rule result }
+{
+    number_arg(alloc, "streams", 4294967295)
+        .long("streams")
+        .help("The most streams at a time, 1 to 1000; 100 where none is given")
 }
 
 fn credit_option<'a>(alloc: Global) -> Arg<'a>
-    ensures { (rule_of result ≡ credit_rule) × (result.global ≡ false) }
+    ensures { IsArg credit_rule result }
 {
-    Arg::new(alloc, "credit")
-        .help(
-            "The octets that are owed before they are given back, 1 to 65535; 32768 where none is given",
-        )
-        .long("credit")
-        .action(ArgAction::Set)
-        .value_parser(ValueParser::Unsigned(0, 4294967295))
+    number_arg(alloc, "credit", 4294967295).long("credit").help(
+        "The octets that are owed before they are given back, 1 to 65535; 32768 where none is given",
+    )
 }
 
 fn cut_option<'a>(alloc: Global) -> Arg<'a>
-    ensures { (rule_of result ≡ cut_rule) × (result.global ≡ false) }
+    ensures { IsArg cut_rule result }
 {
-    Arg::new(alloc, "cut")
-        .help("The octets of a piece, 0 to 65536; 65536 where it is 0 or not given")
-        .long("cut")
-        .action(ArgAction::Set)
-        .value_parser(ValueParser::Unsigned(0, 65536))
+    number_arg(alloc, "cut", 65536).long("cut").help(
+        "The octets of a piece, 0 to 65536; 65536 where it is 0 or not given",
+    )
 }
 
 fn each_option<'a>(alloc: Global) -> Arg<'a>
-    ensures { (rule_of result ≡ each_rule) × (result.global ≡ false) }
+    ensures { IsArg each_rule result }
 {
     Arg::new(alloc, "each")
         .help("Tells the state at the start and after each item")
@@ -91,27 +92,56 @@ fn each_option<'a>(alloc: Global) -> Arg<'a>
 }
 
 fn answer_words<'a>(alloc: Global) -> Arg<'a>
-    ensures { (rule_of result ≡ answer_rule) × (result.global ≡ false) }
+    ensures { IsArg answer_rule result }
 {
     Arg::new(alloc, "ANSWER")
         .help("METHOD|PATH|STATUS|BODYHEX, and any number of |NAME=VALUE")
         .action(ArgAction::Append)
 }
 
-fn play_command<'a>(alloc: Global) -> Result<Command<'a>, AllocError>
-    ensures { IfOk result (λ c. (app_of c ≡ play_app) × ((out-Command c).has_globals ≡ false)) }
+fn limit_word<'a>(alloc: Global) -> Arg<'a>
+    ensures { IsArg limit_rule result }
 {
-    Command::new(alloc, "play")
-        .about("Plays one connection over the octets that standard input has as hex")
-        .arg(streams_option(alloc))?
-        .arg(credit_option(alloc))?
-        .arg(cut_option(alloc))?
-        .arg(each_option(alloc))?
-        .arg(answer_words(alloc))
+    number_arg(alloc, "LIMIT", 65536)
+        .required(true)
+        .help("The table's limit in octets, 0 to 65536")
+}
+
+/// The command with one more argument.
+fn with_arg<'a>(
+    command: Result<Command<'a>, AllocError>,
+    arg: Arg<'a>,
+) -> Result<Command<'a>, AllocError>
+    ensures { (app : App) → (rule : Rule) → IfOk command.entry (IsCommand app) → IsArg rule arg.entry → IfOk result (IsCommand (with_rule app rule)) }
+{
+    command?.arg(arg)
+}
+
+/// The command with one more subcommand.
+fn with_subcommand<'a>(
+    command: Result<Command<'a>, AllocError>,
+    subcommand: Result<Command<'a>, AllocError>,
+) -> Result<Command<'a>, AllocError>
+    ensures { (app sub : App) → IfOk command.entry (IsCommand app) → IfOk subcommand.entry (IsCommand sub) → IfOk result (IsCommand (with_subcommand app sub.top)) }
+{
+    command?.subcommand(subcommand?)
+}
+
+fn play_command<'a>(alloc: Global) -> Result<Command<'a>, AllocError>
+    ensures { IfOk result (IsCommand play_app) }
+{
+    let command = Command::new(alloc, "play").about(
+        "Plays one connection over the octets that standard input has as hex",
+    );
+    let command = with_arg(Ok(command), streams_option(alloc));
+    let command = with_arg(command, credit_option(alloc));
+    let command = with_arg(command, cut_option(alloc));
+    let command = with_arg(command, each_option(alloc));
+    with_arg(command, answer_words(alloc))
 }
 
 fn asm_command<'a>(alloc: Global) -> Command<'a>
-    ensures { (app_of result ≡ asm_app) × ((out-Command result).has_globals ≡ false) }
+    ensures { IsCommand asm_app result }
 {
     Command::new(alloc, "asm").about(
         "Writes the octets of the script that standard input is, as hex",
@@ -119,7 +149,7 @@ fn asm_command<'a>(alloc: Global) -> Command<'a>
 }
 
 fn dis_command<'a>(alloc: Global) -> Command<'a>
-    ensures { (app_of result ≡ dis_app) × ((out-Command result).has_globals ≡ false) }
+    ensures { IsCommand dis_app result }
 {
     Command::new(alloc, "dis").about(
         "Writes the script of the octets that standard input has as hex",
@@ -127,31 +157,30 @@ fn dis_command<'a>(alloc: Global) -> Command<'a>
 }
 
 fn table_command<'a>(alloc: Global) -> Result<Command<'a>, AllocError>
-    ensures { IfOk result (λ c. (app_of c ≡ table_app) × ((out-Command c).has_globals ≡ false)) }
+    ensures { IfOk result (IsCommand table_app) }
 {
-    let limit = Arg::new(alloc, "LIMIT")
-        .help("The table's limit in octets, 0 to 65536")
-        .required(true)
-        .action(ArgAction::Set)
-        .value_parser(ValueParser::Unsigned(0, 65536));
     Command::new(alloc, "table")
         .about(
             "Changes a dynamic header table by the lines of standard input: add NAME VALUE, max N",
         )
-        .arg(limit)
+        .arg(limit_word(alloc))
 }
 
-fn bench_command<'a>(alloc: Global) -> Result<Command<'a>, AllocError>
-    ensures { IfOk result (λ c. app_of c ≡ bench_app) }
+fn top_command<'a>(alloc: Global) -> Command<'a>
+    ensures { IsCommand top_app result }
 {
-    let play = play_command(alloc)?;
     Command::new(alloc, "h2_bench")
         .about("An HTTP/2 server emulator and frame debugger")
         .subcommand_required(true)
-        .subcommand(play)?
-        .subcommand(asm_command(alloc))?
-        .subcommand(dis_command(alloc))?
-        .subcommand(table_command(alloc)?)
+}
+
+fn bench_command<'a>(alloc: Global) -> Result<Command<'a>, AllocError>
+    ensures { IfOk result (IsCommand bench_app) }
+{
+    let command = with_subcommand(Ok(top_command(alloc)), play_command(alloc));
+    let command = with_subcommand(command, Ok(asm_command(alloc)));
+    let command = with_subcommand(command, Ok(dis_command(alloc)));
+    with_subcommand(command, table_command(alloc))
 }
 
 /// The number that an option or a positional was given, or another.
@@ -195,6 +224,19 @@ fn config_at(matches: &ArgMatches<'_>) -> Config
     }
 }
 
+/// How a connection is to be played.
+fn play_from<'a>(alloc: Global, matches: &ArgMatches<'a>) -> Result<Play<'a>, AllocError>
+    ensures { IfOk result (λ play. Some (planned (Plan.Play play)) ≡ asked_by (codes "play") (rows_of (found_of matches.now))) }
+{
+    let answers = texts_at(alloc, matches, "ANSWER")?;
+    Ok(Play {
+        config: config_at(matches),
+        cut: number_at(matches, "cut", 0),
+        each: is_set(matches, "each"),
+        answers,
+    })
+}
+
 fn plan_from<'a>(
     alloc: Global,
     name: &str,
@@ -203,16 +245,7 @@ fn plan_from<'a>(
     ensures { IfOk result (λ plan. option_map planned plan ≡ asked_by name.now (rows_of (found_of matches.now))) }
 {
     if name == "play" {
-        let config = config_at(matches);
-        let cut = number_at(matches, "cut", 0);
-        let each = is_set(matches, "each");
-        let answers = texts_at(alloc, matches, "ANSWER")?;
-        return Ok(Some(Plan::Play(Play {
-            config,
-            cut,
-            each,
-            answers,
-        })));
+        return Ok(Some(Plan::Play(play_from(alloc, matches)?)));
     }
     if name == "asm" {
         return Ok(Some(Plan::Asm));
@@ -239,17 +272,28 @@ fn told_of(alloc: Global, error: &clap::Error) -> Refusal
     }
 }
 
-/// What the words ask for. They are refused where they are no command, or ask for help, and where memory is.
-pub fn parse<'a>(alloc: Global, words: &'a Words) -> Result<Plan<'a>, Refusal>
-    ensures ok { IfOk result (λ plan. asked_of words.entry.now ≡ Some (planned plan)) }
+/// What clap finds in the words, where it takes them.
+fn matches_of<'a>(alloc: Global, words: &'a Words) -> Result<ArgMatches<'a>, Refusal>
+    ensures ok { IfOk result (λ matches. asked_of words.entry.now ≡ asked_at (subcommand_rows_of matches)) }
     ensures refused { IfErr result (Refuses (asked_of words.entry.now)) }
 {
     let Ok(command) = bench_command(alloc) else {
         return Err(Refusal::NoMemory);
     };
-    let matches = match command.try_get_matches_from(words.as_slice()) {
+    match command.try_get_matches_from(words.as_slice()) {
+        Ok(matches) => Ok(matches),
+        Err(error) => Err(told_of(alloc, &error)),
+    }
+}
+
+/// What the words ask for. They are refused where they are no command, or ask for help, and where memory is.
+pub fn parse<'a>(alloc: Global, words: &'a Words) -> Result<Plan<'a>, Refusal>
+    ensures ok { IfOk result (λ plan. asked_of words.entry.now ≡ Some (planned plan)) }
+    ensures refused { IfErr result (Refuses (asked_of words.entry.now)) }
+{
+    let matches = match matches_of(alloc, words) {
         Ok(matches) => matches,
-        Err(error) => return Err(told_of(alloc, &error)),
+        Err(refusal) => return Err(refusal),
     };
     let Some((name, inner)) = matches.subcommand() else {
         return Err(Refusal::Words(String::new(alloc)));
