@@ -16,7 +16,8 @@ pub(crate) fn drop_ended<A: Allocator>(live: &mut Vec<u32, A>, stream: &Stream)
     requires { kept.IdsRise 0 live.old.items }
     ensures { live.new.items ≡ kept.still_live stream.now live.old.items }
 {
-    if !is_live(stream.kind) {
+    let live_still = is_live(stream.kind);
+    if !live_still {
         remove_id(live, stream.id);
     }
 }

@@ -2,7 +2,7 @@
 //! Rests on `kinds`, `hash` and `indexmap`.
 //! Definitions: `h2_spec/specs/Stream.antt`; what the fields keep: `specs/Kept.antt`.
 
-ghost use Rattle.std.specs.Prelude.{◌≡◌, ◌<◌, ◌≤◌, ◌%◌, [], ◌∷◌, ◌++◌, nat_eq, IsOk, OnOk, OnErr, IfOk, IfErr, IfSome, IsTrue, is_err, slice_get};
+ghost use Rattle.std.specs.Prelude.{◌≡◌, ◌<◌, ◌≤◌, ◌%◌, [], ◌∷◌, ◌++◌, ◌==◌, ◌||◌, nat_eq, nat_lt, IsOk, OnOk, OnErr, IfOk, IfErr, IfSome, IsTrue, is_err, slice_get};
 ghost use Rattle.std.specs.List.{AllByRecursion};
 ghost use Rattle.std.specs.Map.{set_value};
 ghost use Rattle.indexmap.specs.IndexMap.{insert_entry};
@@ -84,8 +84,7 @@ impl<A: Allocator> Streams<A> {
         ensures value { result ≡ self.now.last }
         ensures rising { spec.AreRising 0 self.now.last self.now.streams }
     {
-        // Client streams have odd identifiers: 0 stands for none.
-        self.last
+        self.last // 0 for none: client streams have odd identifiers
     }
 
     /// The record of the stream, if it has one.
@@ -116,7 +115,7 @@ impl<A: Allocator> Streams<A> {
         ensures value { result ≡ spec.stream_at self.now.last self.now.streams id }
         ensures id { result.id ≡ id }
     {
-        if id % 2 == 0 || self.last() < id {
+        if is_idle(self.last(), id) {
             return not_live(id, Kind::Idle);
         }
         match self.get(id) {
@@ -280,6 +279,13 @@ impl<A: Allocator> Streams<A> {
         let before = write(&mut self.records, stream);
         self.waiting = self.waiting - before + after;
     }
+}
+
+/// Whether the stream is idle, where the last one that was opened is this: even identifiers are the server's, which opens none.
+fn is_idle(last: u32, id: u32) -> bool
+    ensures { result ≡ (id % 2 == 0 || nat_lt last id) }
+{
+    id % 2 == 0 || last < id
 }
 
 /// The same entries again.
