@@ -140,11 +140,11 @@ fn data_taken(config: Config, core: Core, body: u64, came: Came, stream: Stream)
     ensures rule { result ≡ rule.data_taken config core body came stream }
     ensures sound { (book : List Entry) (r : Records) → body ≡ length (picked book stream.pick).body → HasBody book stream → stream ≡ stream_at r.last r.streams stream.id → is_live stream.kind ≡ true → r.last ≡ core.last → IsSound book r core.peer.window result }
 {
+    let threshold = config.credit;
     if core.recv.is_below(came.octets) {
         return Reaction::ConnectionError(ErrorCode::FlowControlError);
     }
     let signal = core.peer.signal;
-    let threshold = config.credit;
     let change = counted(threshold, core, came.octets);
     let turn = data_turn(threshold, signal, body, came, stream);
     Reaction::Continues(turned(change, turn))

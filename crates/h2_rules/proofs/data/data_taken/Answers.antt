@@ -1,4 +1,5 @@
-use Rattle.std.proofs.Common.{sym, ◌∙◌}
+use Rattle.std.proofs.Common.{refl, sym, ◌∙◌}
+use Rattle.h2_spec.specs.Data.{data_taken}
 use Rattle.h2_rules.proofs.SoundLaws.{live-put, live-recorded}
 use Rattle.h2_rules.proofs.data.data_taken.Goals as goal
 
@@ -7,3 +8,7 @@ returns-clause-sound c = λ book r same has found live last.
     let put = live-put r c.args.stream c.data_turn-turn.result.stream found live c.data_turn-turn.ensures.id in
     let sound = c.data_turn-turn.ensures.sound c.args.core.peer.window c.requires.core.1 c.requires.stream in
     c.turned.ensures.sound book r c.args.core c.counted-change.ensures.calm (sym last ∙ put.1) sound (c.data_turn-turn.ensures.waits book same has) put.0 (c.data_turn-turn.ensures.recorded (live-recorded c.args.stream.kind live))
+
+pub returns-then-is_below-clause-rule : goal.returns-then-is_below-clause-rule
+unfolding data_taken
+returns-then-is_below-clause-rule c = rw (← c.is_below.ensures, c.if-is_below.true) refl

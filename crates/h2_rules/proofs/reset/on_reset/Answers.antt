@@ -5,6 +5,7 @@ use Rattle.h2_spec.specs.declared.streams.Stream.{Stream}
 use Rattle.h2_spec.specs.Stream.{not_live}
 use Rattle.h2_rules.specs.Sound.{HasBody, IsCalm, IsSoundStream, is_recorded}
 use Rattle.h2_rules.proofs.SoundLaws.{is-live, live-put, not-live-sound, not-live-body}
+use Rattle.h2_spec.specs.Effect.{on_reset}
 use Rattle.h2_rules.proofs.reset.on_reset.Goals as goal
 
 pub returns-in-BothOpen-clause-sound : goal.returns-in-BothOpen-clause-sound
@@ -17,3 +18,7 @@ returns-in-BothOpen-clause-sound c = λ book r found last.
     let calm = subst (IsCalm c.args.core) (sym c.stay-in-BothOpen.ensures) (c.requires.core, refl, refl) in
     c.turned.ensures.sound book r c.args.core calm
     (sym last ∙ put.1) (subst (IsSoundStream window) (sym is) (not-live-sound window st.id PeerReset refl)) (subst (HasBody book) (sym is) (not-live-body book st.id PeerReset)) put.0 (ap (λ (x : Stream). is_recorded x.kind) is)
+
+pub returns-in-Idle-clause-rule : goal.returns-in-Idle-clause-rule
+unfolding on_reset
+returns-in-Idle-clause-rule c = rw c.in-Idle.is refl

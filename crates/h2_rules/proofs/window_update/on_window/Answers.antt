@@ -1,6 +1,7 @@
-use Rattle.std.proofs.Common.{refl, sym, ◌∙◌, subst}
+use Rattle.std.proofs.Common.{refl, sym, ◌∙◌, subst, rules}
 use Rattle.h2_rules.specs.Sound.{IsCalm}
 use Rattle.h2_rules.proofs.SoundLaws.{is-live, live-put, live-recorded}
+use Rattle.h2_spec.specs.Effect.{on_window}
 use Rattle.h2_rules.proofs.window_update.on_window.Goals as goal
 
 pub returns-in-BothOpen-clause-sound : goal.returns-in-BothOpen-clause-sound
@@ -13,3 +14,7 @@ returns-in-BothOpen-clause-sound c = λ book r has found last.
     let calm = subst (IsCalm c.args.core) (sym c.stay-in-BothOpen.ensures) (c.requires.core, refl, refl) in
     c.turned.ensures.sound book r c.args.core calm
     (sym last ∙ put.1) (turn.ensures.sound window c.requires.core.1 c.requires.stream) (turn.ensures.waits book has) put.0 (turn.ensures.recorded (live-recorded st.kind live))
+
+pub returns-in-Idle-clause-rule : goal.returns-in-Idle-clause-rule
+unfolding on_window
+returns-in-Idle-clause-rule c = search rules
