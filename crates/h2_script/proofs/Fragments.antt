@@ -1,5 +1,7 @@
 -- Field blocks as text: what is read of octets can be written, and one instruction after another makes the whole.
 use Rattle.std.proofs.Common.{◌≡◌, ◌∙◌, ◌-◌, ◌<◌, ◌≤◌, ◌^◌, ◌++◌, ◌&&◌, ℕ, Bool, true, false, cond, zero, suc, List, [], ◌∷◌, Option, Some, None, length, take, drop, refl, sym, ap, subst, arith, nat_lt, ltb-true, true≢false, bytes_eq, flat_map, option_map, append_assoc, append-nil, length-append}
+use Rattle.std.specs.String.{string_bytes}
+use Rattle.std.specs.declared.string.String.{String}
 use Rattle.std.proofs.lemmas.Grind.{flat_map-append}
 use Rattle.std.proofs.lemmas.List.{length-drop, length-take}
 use Rattle.h2_fields.specs.Instructions.{IsWritable, IsWritableName, IsWritableText}
@@ -13,7 +15,7 @@ use Rattle.h2_spec.proofs.InstructionLaws.{mapped, whole-takes}
 use Rattle.h2_spec.proofs.ReadShapes.{IsWholeName, IsWholeShape, OnRead, first_whole}
 use Rattle.h2_spec.proofs.SpellingLaws.{length-bits}
 use Rattle.h2_spec.proofs.WrittenLaws.{bytes_of}
-use Rattle.h2_script.specs.Texts.{AddsText}
+use Rattle.h2_script.specs.Texts.{AddsText, IsBlockText}
 use Rattle.h2_script.proofs.Long.{codes_long}
 
 -- ---- what is read can be written out
@@ -191,10 +193,17 @@ reaches_whole p text octets [] h none = h.whole ∙ ends h.most
     ends (suc n) = ap (λ (x : List Instruction). Some x) (append-nil h.is)
 reaches_whole p text octets (x ∷ xs) h none = absurd (omega arith)
 
-pub reaches_same : (p text octets rest : List ℕ) → (h : Reaches p text octets rest) → length rest ≡ 0 → bytes_eq octets p ≡ true → block_said p ≡ Instructions h.is
+reaches_same : (p text octets rest : List ℕ) → (h : Reaches p text octets rest) → length rest ≡ 0 → bytes_eq octets p ≡ true → block_said p ≡ Instructions h.is
 unfolding block_said
 reaches_same p text octets rest h none same = ap (or_octets p) (reaches_whole p text octets rest h none) ∙ rw (ap (λ (x : List ℕ). bytes_eq x p) (sym h.spelled) ∙ same) refl
 
-pub reaches_other : (p text octets rest : List ℕ) → Reaches p text octets rest → length rest ≡ 0 → bytes_eq octets p ≡ false → block_said p ≡ Octets p
+reaches_other : (p text octets rest : List ℕ) → Reaches p text octets rest → length rest ≡ 0 → bytes_eq octets p ≡ false → block_said p ≡ Octets p
 unfolding block_said
 reaches_other p text octets rest h none other = ap (or_octets p) (reaches_whole p text octets rest h none) ∙ rw (ap (λ (x : List ℕ). bytes_eq x p) (sym h.spelled) ∙ other) refl
+
+pub reaches_end : {Z : Type 0} (t : String Z) (r : Option (String Z)) (p octets rest : List ℕ) → Reaches p (string_bytes t) octets rest → length rest ≡ 0 → r ≡ cond (bytes_eq octets p) (Some t) None → IsBlockText r (block_said p) p
+reaches_end {Z} t r p octets rest h none e = go (bytes_eq octets p) refl e
+  where
+    go : (same : Bool) → bytes_eq octets p ≡ same → r ≡ cond same (Some t) None → IsBlockText r (block_said p) p
+    go true same is = subst (λ (x : Option (String Z)). IsBlockText x (block_said p) p) (sym is) (h.is, reaches_same p (string_bytes t) octets rest h none same, h.written)
+    go false same is = subst (λ (x : Option (String Z)). IsBlockText x (block_said p) p) (sym is) (reaches_other p (string_bytes t) octets rest h none same)

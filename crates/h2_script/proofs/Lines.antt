@@ -1,23 +1,29 @@
 -- Lines in turn.
-use Rattle.std.proofs.Common.{◌≡◌, ◌∙◌, ◌+◌, ◌<◌, ◌≤◌, ◌++◌, ◌==◌, ℕ, false, List, [], ◌∷◌, Some, None, Result, Ok, Err, length, refl, sym, ap, append_assoc, append-nil, arith, slice_index, subst}
+use Rattle.std.proofs.Common.{◌≡◌, ◌∙◌, ◌+◌, ◌<◌, ◌≤◌, ◌++◌, ◌==◌, ℕ, true, false, List, [], ◌∷◌, Option, Some, None, Result, Ok, Err, length, refl, sym, ap, append_assoc, append-nil, arith, subst}
 use Rattle.std.specs.List.{position_or_len}
 use Rattle.std.proofs.lemmas.List.{get_or-take, length-append, length-take-le}
 use Rattle.std.proofs.lemmas.List.Sums.{fails_before_first, prefix_len-le-length}
 use Rattle.std.proofs.lemmas.List.Splits.{slice_split_at, slice_split_none}
 use Rattle.h2_spec.specs.Assemble.{before, line_then, lines_at, statement_at, with_front, words_at}
-use Rattle.h2_spec.specs.Script.{Statement, cut_at, lines_of, octets_of}
+use Rattle.h2_spec.specs.Script.{Nothing, Statement, cut_at, lines_of, octets_of}
 use Rattle.h2_spec.specs.declared.scripts.SyntaxKind.{SyntaxKind}
 use Rattle.h2_spec.proofs.ReadingWords.{cut_back, cut_none}
 use Rattle.h2_spec.proofs.ScriptTexts.{Lacks}
-use Rattle.h2_script.specs.Readings.{AddsAt, Refuses, with_octets}
+use Rattle.h2_script.specs.Readings.{AddsAt, Refuses, says_nothing, with_octets}
 use Rattle.h2_script.specs.declared.fault.ScriptFault.{ScriptFault}
 use Rattle.h2_script.specs.declared.fault.ScriptFault.TheVariants.{NoMemory, Syntax}
 
--- a line that is not empty and no comment is read by its words
-pub statement_words : (line word rest : List ℕ) → 0 < length line → (slice_index line 0 == 59) ≡ false → Some (word, rest) ≡ cut_at 32 line → words_at line (Some (word, rest)) ≡ statement_at line
+-- a line that is empty or a comment says nothing
+pub statement_nothing : (line : List ℕ) → says_nothing line ≡ true → statement_at line ≡ Ok Nothing
 unfolding statement_at
-statement_words [] word rest some differs cut = absurd (omega arith)
-statement_words (c ∷ cs) word rest some differs cut = ap (words_at (c ∷ cs)) cut ∙ rw differs refl
+statement_nothing [] nothing = refl
+statement_nothing (c ∷ cs) nothing = rw nothing refl
+
+-- another line is read by its words
+pub statement_words : (line : List ℕ) (words : Option (List ℕ × List ℕ)) → says_nothing line ≡ false → words ≡ cut_at 32 line → words_at line words ≡ statement_at line
+unfolding statement_at
+statement_words [] words some cut = absurd (cc)
+statement_words (c ∷ cs) words some cut = ap (words_at (c ∷ cs)) cut ∙ rw some refl
 
 before_lacks : (c : ℕ) (xs : List ℕ) → Lacks c (before c xs)
 before_lacks c xs k d lt =

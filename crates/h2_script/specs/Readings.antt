@@ -1,6 +1,7 @@
 -- What the code read, beside what reading gives.
-use Rattle.std.specs.Prelude.{◌≡◌, ◌≤◌, ◌^◌, ◌++◌, ℕ, Bool, true, false, List, length, Option, Some, None, Result, Ok, Err}
-use Rattle.h2_spec.specs.Script.{Payload, Statement, octets_of, payload_octets}
+use Rattle.std.specs.Prelude.{◌≡◌, ◌≤◌, ◌==◌, ◌^◌, ◌++◌, ℕ, Bool, true, false, List, [], ◌∷◌, length, Option, Some, None, Result, Ok, Err}
+use Rattle.h2_spec.specs.Instruction.{Instruction}
+use Rattle.h2_spec.specs.Script.{Payload, Statement, instruction_octets, octets_of, payload_octets}
 use Rattle.h2_spec.specs.declared.scripts.SyntaxKind.{SyntaxKind}
 use Rattle.h2_script.specs.declared.built.Built.{Built}
 use Rattle.h2_script.specs.declared.built.Built.TheVariants as built
@@ -19,10 +20,20 @@ IsBuilt (Some built.Long) read = (p : Payload) × (read ≡ Some p) × (2 ^ 24 �
 abbrev pub Stands : Bool → List ℕ → List ℕ → Type 0
 Stands long items octets = (long ≡ false → items ≡ octets) × (long ≡ true → 2 ^ 24 ≤ length octets)
 
+-- the instruction at the front was added, and this is left behind it, or there is none
+abbrev pub AddsFirst : Bool → List ℕ → Bool → List ℕ → Option (List ℕ) → Option (Instruction × List ℕ) → Type 0
+AddsFirst long old long' new None read = None ≡ read
+AddsFirst long old long' new (Some left) read = (i : Instruction) × (Some (i, left) ≡ read) × ((o : List ℕ) → Stands long old o → Stands long' new (o ++ instruction_octets i))
+
 -- the octets of a statement behind others
 abbrev pub with_octets : List ℕ → Result Statement SyntaxKind → Result (List ℕ) SyntaxKind
 with_octets old (Ok s) = Ok (old ++ octets_of s)
 with_octets old (Err kind) = Err kind
+
+-- a line that is empty or a comment
+abbrev pub says_nothing : List ℕ → Bool
+says_nothing [] = true
+says_nothing (c ∷ cs) = c == 59
 
 -- a line's octets were added, or it is bad so
 abbrev pub Adds : List ℕ → List ℕ → Result Unit LineFault → Result Statement SyntaxKind → Type 0

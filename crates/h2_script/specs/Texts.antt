@@ -7,7 +7,7 @@ use Rattle.h2_fields.specs.declared.instruction.Instr.{Instr}
 use Rattle.h2_spec.specs.Instruction.{Instruction, NameRef, Ref, Named, TextStr}
 use Rattle.h2_spec.specs.Parse.{Front, Stop, One, parse_upto}
 use Rattle.h2_spec.specs.Read.{Read, Whole}
-use Rattle.h2_spec.specs.Script.{Payload, Octets, Instructions, Statement}
+use Rattle.h2_spec.specs.Script.{Payload, Octets, Instructions, Statement, instruction_octets}
 use Rattle.h2_spec.specs.Written.{each_text, first_said, instruction_text, is_writable, line_text, next_said, rest_text}
 
 -- the lines of at most this many statements, and of what is left
@@ -34,6 +34,12 @@ IsFirstSaid (Some r) read = (read ≡ Whole (Some (instr_of r.0)) r.1) × (is_wr
 -- an instruction was written behind others
 abbrev pub AddsText : List ℕ → List ℕ → Instruction → Type 0
 AddsText old new i = (is : List Instruction) → old ≡ each_text instruction_text is → new ≡ each_text instruction_text (is ++ i ∷ [])
+
+-- the instruction at the front was written as text and as octets, or a script cannot say one
+abbrev pub SaysFirst : List ℕ → List ℕ → List ℕ → List ℕ → Option ℕ → Read (Option Instruction) → Type 0
+SaysFirst old new octets octets' None read = (more : ℕ → Option (List Instruction)) → first_said read more ≡ None
+SaysFirst old new octets octets' (Some used) read =
+    (i : Instruction) × (read ≡ Whole (Some i) used) × (is_writable i ≡ true) × AddsText old new i × (octets' ≡ octets ++ instruction_octets i)
 
 -- the text of the instructions that a field block is, or it is said as octets
 abbrev pub IsBlockText : {Z : Type 0} → Option (String Z) → Payload → List ℕ → Type 0

@@ -2,14 +2,14 @@
 //! It rests on `h2_fields` for reading and writing instructions, and on `text`; the definitions are `block_said` and
 //! `instruction_text` of `h2_spec`, specs/Written.antt.
 
-ghost use Rattle.std.specs.Prelude.{◌≡◌, ◌<◌, ◌^◌, ◌++◌, ◌∷◌, [], length, IfOk, OnOk, true};
+ghost use Rattle.std.specs.Prelude.{◌≡◌, ◌<◌, ◌^◌, ◌++◌, ◌∷◌, [], length, IfOk, OnOk, true, bytes_eq, if◌then◌else◌, Some, None};
 ghost use Rattle.std.specs.String.{string_bytes};
 ghost use Rattle.h2_fields.specs.Instructions.{instr_of, name_text_of};
 ghost use Rattle.h2_fields.specs.Shapes.{mode_of};
 ghost use Rattle.h2_spec.specs.Instruction as spec;
 ghost use Rattle.h2_spec.specs.Script.{mode_letter};
 ghost use Rattle.h2_spec.specs.Written.{block_said, instruction_text, is_writable, name_text, payload_text, string_text};
-ghost use Rattle.h2_script.specs.Texts.{AddsText, IsBlockText, IsFirstSaid, is_writable_name};
+ghost use Rattle.h2_script.specs.Texts.{AddsText, IsBlockText, IsFirstSaid, SaysFirst, is_writable_name};
 
 use crate::said::push_hex;
 use crate::text::{push_number, push_numbered, push_string};
@@ -48,18 +48,37 @@ fn instructions_text<A: Allocator + Copy>(
     let mut octets = Vec::new(alloc);
     let mut rest = payload;
     while !rest.is_empty() {
-        let Some((instr, used)) = first_said(alloc, rest)? else {
+        let Some(used) = push_first(alloc, rest, &mut text, &mut octets)? else {
             return Ok(None);
         };
-        push_behind(&instr, &mut text)?;
-        write_instr(&instr, &mut octets)?;
         rest = octets_from(rest, used);
     }
-    if octets.as_slice() == payload {
-        Ok(Some(text))
-    } else {
-        Ok(None)
-    }
+    Ok(if_spelled(text, octets.as_slice(), payload))
+}
+
+/// The text of instructions, where the octets that a script spells for it are the payload.
+fn if_spelled<A: Allocator>(text: String<A>, octets: &[u8], payload: &[u8]) -> Option<String<A>>
+    ensures { result ≡ if bytes_eq octets.now payload.now then Some text else None }
+{
+    if octets == payload { Some(text) } else { None }
+}
+
+/// Appends the text and the octets of the instruction at the front, if a script can say it; answers how many octets it takes.
+fn push_first<A: Allocator + Copy>(
+    alloc: A,
+    rest: &[u8],
+    text: &mut String<A>,
+    octets: &mut Vec<u8, A>,
+) -> Result<Option<usize>, AllocError>
+    requires { length rest.now < 2 ^ 24 }
+    ensures { IfOk result (λ used. SaysFirst (string_bytes text.old) (string_bytes text.new) octets.old.items octets.new.items used (spec.instruction_at rest.now)) }
+{
+    let Some((instr, used)) = first_said(alloc, rest)? else {
+        return Ok(None);
+    };
+    push_behind(&instr, text)?;
+    write_instr(&instr, octets)?;
+    Ok(Some(used))
 }
 
 /// The instruction at the front of octets, if it is whole and a script can say it, and how many octets it takes.

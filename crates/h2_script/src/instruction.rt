@@ -4,10 +4,10 @@
 ghost use Rattle.std.specs.Prelude.{◌≡◌, ◌≤◌, ◌^◌, ◌++◌, ℕ, List, length, nat_le, slice_index, option_map, option_and_then, IfOk, OnOk, true, false, Some};
 ghost use Rattle.h2_fields.specs.Instructions.{instr_of, name_text_of, IsWritable, IsWritableName, IsWritableText};
 ghost use Rattle.h2_fields.specs.Shapes.{mode_of};
-ghost use Rattle.h2_spec.specs.Assemble.{all_at, instruction_at, is_quote, literal_at, name_at, numbered_at, string_at, string_of};
+ghost use Rattle.h2_spec.specs.Assemble.{all_at, instruction_at, is_quote, literal_at, name_at, numbered_at, string_at, string_of, value_at};
 ghost use Rattle.h2_spec.specs.Instruction.{Indexed, Update};
 ghost use Rattle.h2_spec.specs.Script.{Instructions, Payload, cut_at, instruction_octets, payload_octets};
-ghost use Rattle.h2_script.specs.Readings.{IsBuilt, Stands};
+ghost use Rattle.h2_script.specs.Readings.{AddsFirst, IsBuilt, Stands};
 ghost use Rattle.h2_script.specs.Writable.{can_write, can_write_name, indexed_name};
 
 use crate::built::Built;
@@ -28,10 +28,9 @@ pub(crate) fn instructions_at<A: Allocator + Copy>(
     let mut long = false;
     let mut rest = text;
     for _turn in 0..text.len() + 1 {
-        let Some((instr, behind)) = instruction_at(alloc, rest)? else {
+        let Some(behind) = push_first(alloc, rest, &mut octets, &mut long)? else {
             return Ok(None);
         };
-        push_instr(&instr, &mut octets, &mut long)?;
         if behind.is_empty() {
             return Ok(Some(built(octets, long)));
         }
@@ -52,6 +51,22 @@ fn built<A: Allocator>(octets: Vec<u8, A>, long: bool) -> Built<A>
     } else {
         Built::Whole(octets)
     }
+}
+
+/// Appends the instruction at the front of a text, if there is one; answers what stands behind it.
+fn push_first<'a, A: Allocator + Copy>(
+    alloc: A,
+    text: &'a [u8],
+    octets: &mut Vec<u8, A>,
+    long: &mut bool,
+) -> Result<Option<&'a [u8]>, AllocError>
+    ensures { IfOk result (λ left. AddsFirst long.old octets.old.items long.new octets.new.items (option_map (λ t. t.now) left) (instruction_at text.now)) }
+{
+    let Some((instr, behind)) = instruction_at(alloc, text)? else {
+        return Ok(None);
+    };
+    push_instr(&instr, octets, long)?;
+    Ok(Some(behind))
 }
 
 /// Appends an instruction, or notes that it alone is more than a frame holds.
@@ -118,16 +133,28 @@ fn literal_at<A: Allocator + Copy>(
 ) -> Result<Option<(Instr<A>, &[u8])>, AllocError>
     ensures { IfOk result (λ o. option_map (λ p. (instr_of p.0, p.1.now)) o ≡ literal_at (mode_of mode) text.now) }
 {
-    let Some((name, rest)) = name_at(alloc, text)? else {
+    match name_at(alloc, text)? {
+        Some((name, rest)) => value_at(alloc, mode, name, rest),
+        None => Ok(None),
+    }
+}
+
+/// The equals sign and the value of a literal of this name.
+fn value_at<A: Allocator + Copy>(
+    alloc: A,
+    mode: Mode,
+    name: Name<A>,
+    text: &[u8],
+) -> Result<Option<(Instr<A>, &[u8])>, AllocError>
+    ensures { IfOk result (λ o. option_map (λ p. (instr_of p.0, p.1.now)) o ≡ value_at (mode_of mode) (name_text_of name) text.now) }
+{
+    let Some(rest) = after(text, b'=') else {
         return Ok(None);
     };
-    let Some(rest) = after(rest, b'=') else {
-        return Ok(None);
-    };
-    let Some((value, rest)) = string_at(alloc, rest)? else {
-        return Ok(None);
-    };
-    Ok(Some((Instr::Literal { mode, name, value }, rest)))
+    match string_at(alloc, rest)? {
+        Some((value, rest)) => Ok(Some((Instr::Literal { mode, name, value }, rest))),
+        None => Ok(None),
+    }
 }
 
 /// The name of a literal: an index of 1 or more, or a string.

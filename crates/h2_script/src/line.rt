@@ -1,11 +1,11 @@
 //! One line of a script: what it says, as octets.
 //! It rests on `words` and `payload`; the definition is `statement_at` of `h2_spec`, specs/Assemble.antt.
 
-ghost use Rattle.std.specs.Prelude.{◌≡◌, ◌⊎◌, ◌^◌, ◌<◌, ◌≤◌, ◌++◌, ◌∷◌, [], ℕ, List, Some, None, length, OnOk, IfErr, IfSome};
-ghost use Rattle.h2_spec.specs.Assemble.{frame_at, raw_at, statement_at, stream_at, type_at, words_at};
+ghost use Rattle.std.specs.Prelude.{◌≡◌, ◌⊎◌, ◌+◌, ◌^◌, ◌<◌, ◌≤◌, ◌++◌, ◌∷◌, if◌then◌else◌, ℕ, List, Some, None, length, OnOk, IfErr, IfSome};
+ghost use Rattle.h2_spec.specs.Assemble.{frame_at, frame_of, octet_at, raw_at, statement_at, stream_at, type_at, words_at};
 ghost use Rattle.h2_spec.specs.Octets.{big_endian};
 ghost use Rattle.h2_spec.specs.Script.{stream_octets};
-ghost use Rattle.h2_script.specs.Readings.{Adds};
+ghost use Rattle.h2_script.specs.Readings.{Adds, says_nothing};
 ghost use Rattle.h2_spec.specs.declared.scripts.SyntaxKind.TheVariants.{Size};
 ghost use Rattle.h2_script.specs.declared.fault.LineFault.TheVariants.{Bad, NoMemory};
 
@@ -14,6 +14,7 @@ use crate::fault::LineFault;
 use crate::number::number_at;
 use crate::payload::payload_at;
 use crate::words::{after, cut, octet_at, octets_at};
+use h2_frame::append_frame;
 use h2_spec::scripts::SyntaxKind;
 use std::alloc::Allocator;
 
@@ -21,7 +22,6 @@ use std::alloc::Allocator;
 pub(crate) const PREFACE: &[u8; 24] = b"PRI * HTTP/2.0\r\n\r\nSM\r\n\r\n";
 
 /// Appends the octets that a line stands for.
-#[tactic(auto, unfolding(h2_spec::specs::Assemble::statement_at))]
 pub(crate) fn add_line<A: Allocator + Copy>(
     alloc: A,
     line: &[u8],
@@ -29,16 +29,20 @@ pub(crate) fn add_line<A: Allocator + Copy>(
 ) -> Result<(), LineFault>
     ensures { Adds out.old.items out.new.items result (statement_at line.now) }
 {
-    if line.is_empty() {
-        return Ok(());
-    }
-    if line[0] == b';' {
+    if says_nothing(line) {
         return Ok(());
     }
     match cut(line, b' ') {
         None => add_word(line, out),
         Some((word, rest)) => add_words(alloc, word, rest, out),
     }
+}
+
+/// Whether a line is empty or a comment.
+fn says_nothing(line: &[u8]) -> bool
+    ensures { result ≡ says_nothing line.now }
+{
+    line.is_empty() || line[0] == b';'
 }
 
 /// Appends the octets of a line that is one word.
@@ -92,11 +96,35 @@ fn add_frame<A: Allocator + Copy>(
 ) -> Result<(), LineFault>
     ensures { Adds out.old.items out.new.items result (frame_at name.now rest.now) }
 {
-    let (flags, rest) = cut(rest, b' ').ok_or(LineFault::Bad(SyntaxKind::Parts))?;
-    let (stream, text) = cut(rest, b' ').ok_or(LineFault::Bad(SyntaxKind::Parts))?;
-    let kind = type_at(name).ok_or(LineFault::Bad(SyntaxKind::Name))?;
-    let flags = octet_at(flags).ok_or(LineFault::Bad(SyntaxKind::Flags))?;
-    let (stream, reserved) = stream_at(stream).ok_or(LineFault::Bad(SyntaxKind::Stream))?;
+    let Some((flags, rest)) = cut(rest, b' ') else {
+        return Err(LineFault::Bad(SyntaxKind::Parts));
+    };
+    let Some((stream, text)) = cut(rest, b' ') else {
+        return Err(LineFault::Bad(SyntaxKind::Parts));
+    };
+    add_parts(alloc, name, flags, stream, text, out)
+}
+
+/// Appends the frame of four parts.
+fn add_parts<A: Allocator + Copy>(
+    alloc: A,
+    name: &[u8],
+    flags: &[u8],
+    stream: &[u8],
+    text: &[u8],
+    out: &mut Vec<u8, A>,
+) -> Result<(), LineFault>
+    ensures { Adds out.old.items out.new.items result (frame_of name.now flags.now stream.now text.now) }
+{
+    let Some(kind) = type_at(name) else {
+        return Err(LineFault::Bad(SyntaxKind::Name));
+    };
+    let Some(flags) = flags_at(flags) else {
+        return Err(LineFault::Bad(SyntaxKind::Flags));
+    };
+    let Some((stream, reserved)) = stream_at(stream) else {
+        return Err(LineFault::Bad(SyntaxKind::Stream));
+    };
     let built = payload_at(alloc, text)?.ok_or(LineFault::Bad(SyntaxKind::Payload))?;
     match built {
         Built::Whole(octets) => push_frame(kind, flags, stream, reserved, octets.as_slice(), out),
@@ -104,29 +132,15 @@ fn add_frame<A: Allocator + Copy>(
     }
 }
 
-/// The reserved bit and the stream's identifier (RFC 9113, 4.1).
-fn stream_octets(stream: u32, reserved: bool) -> [u8; 4]
-    requires { stream < 2 ^ 31 }
-    ensures { result ≡ stream_octets stream reserved }
+/// The flags of a frame: two hex digits.
+fn flags_at(text: &[u8]) -> Option<u8>
+    ensures { result ≡ octet_at text.now }
 {
-    let number = if reserved {
-        stream + 2_147_483_648
-    } else {
-        stream
-    };
-    number.to_be_bytes()
-}
-
-/// The length, the type and the flags of a frame (RFC 9113, 4.1).
-fn front_octets(length: u32, kind: u8, flags: u8) -> [u8; 5]
-    requires { length < 2 ^ 24 }
-    ensures { result ≡ big_endian 3 length ++ kind ∷ flags ∷ [] }
-{
-    let length = length.to_be_bytes();
-    [length[1], length[2], length[3], kind, flags]
+    octet_at(text)
 }
 
 /// Appends a frame with this reserved bit, unless its payload is longer than a frame's can be (RFC 9113, 4.1).
+#[tactic(auto, unfolding(h2_spec::specs::Frame::frame_octets))]
 fn push_frame<A: Allocator>(
     kind: u8,
     flags: u8,
@@ -142,10 +156,27 @@ fn push_frame<A: Allocator>(
     if payload.len() >= 16_777_216 {
         return Err(LineFault::Bad(SyntaxKind::Size));
     }
-    out.extend_from_slice(&front_octets(payload.len() as u32, kind, flags))?;
-    out.extend_from_slice(&stream_octets(stream, reserved))?;
-    out.extend_from_slice(payload)?;
+    append_frame(
+        kind,
+        flags,
+        stream_number(stream, reserved),
+        &[],
+        payload,
+        out,
+    )?;
     Ok(())
+}
+
+/// The number that the last four octets of a head write: the reserved bit above the stream's identifier (RFC 9113, 4.1).
+fn stream_number(stream: u32, reserved: bool) -> u32
+    requires { stream < 2 ^ 31 }
+    ensures { result ≡ if reserved then 2 ^ 31 + stream else stream }
+{
+    if reserved {
+        stream + 2_147_483_648
+    } else {
+        stream
+    }
 }
 
 /// The number of a frame type: of its name, or of `T` and two hex digits.

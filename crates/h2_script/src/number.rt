@@ -1,7 +1,7 @@
 //! Numbers in scripts and commands.
 //! It rests on nothing; the definitions are in `h2_spec`, specs/Assemble.antt, under the same names.
 
-ghost use Rattle.std.specs.Prelude.{◌≡◌, ◌≤◌, length, IfSome};
+ghost use Rattle.std.specs.Prelude.{◌≡◌, ◌≤◌, ◌&&◌, nat_le, nat_lt, length, IfSome};
 ghost use Rattle.h2_spec.specs.Assemble.{number_at, scanned};
 
 /// The number that at most ten decimal digits write.
@@ -27,7 +27,7 @@ pub fn number_at(most: u32, text: &[u8]) -> Option<u32>
     ensures value { result ≡ number_at most text.now }
     ensures small { IfSome result (λ n. n ≤ most) }
 {
-    if text.is_empty() || text.len() > 10 {
+    if !has_few_octets(text) {
         return None;
     }
     let number = digits_at(text)?;
@@ -36,4 +36,11 @@ pub fn number_at(most: u32, text: &[u8]) -> Option<u32>
     } else {
         None
     }
+}
+
+/// Whether a text has 1 to 10 octets.
+fn has_few_octets(text: &[u8]) -> bool
+    ensures { result ≡ (nat_lt 0 (length text.now) && nat_le (length text.now) 10) }
+{
+    !text.is_empty() && text.len() <= 10
 }

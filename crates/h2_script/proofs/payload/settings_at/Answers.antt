@@ -30,7 +30,7 @@ returns-then-is_empty g c =
     let items = c.loop-turn.octets.items in
     let n = length c.args.text.now + 1 - (c.loop-turn._turn + 1) in
     let fuel : length c.args.text.now + 1 - c.loop-turn._turn ≡ suc n = turn (length c.args.text.now + 1) c.loop-turn._turn c.loop-turn-test.true in
-    let none : length c.in-Some.behind.now ≡ 0 = none_left _ _ c.is_empty.ensures c.if-is_empty.true in
+    let none : length c.in-Some.behind.now ≡ 0 = none_left c.is_empty.result (length c.in-Some.behind.now) c.is_empty.ensures c.if-is_empty.true in
     let last = each_last setting_at setting_octets items n rest c.in-Some.setting c.in-Some.behind.now c.in-Some.ensures none in
     ap (λ (o : List ℕ). Some o) c.in_ok-push_setting.ensures ∙ sym last ∙ ap (λ (k : ℕ). behind_each setting_at setting_octets items k rest) (sym fuel) ∙ c.loop-turn.invariant
 
@@ -40,7 +40,7 @@ returns-in_default-after g c =
     let items = c.loop-turn.octets.items in
     let n = length c.args.text.now + 1 - (c.loop-turn._turn + 1) in
     let fuel : length c.args.text.now + 1 - c.loop-turn._turn ≡ suc n = turn (length c.args.text.now + 1) c.loop-turn._turn c.loop-turn-test.true in
-    let some : 0 < length c.in-Some.behind.now = some_left _ _ c.is_empty.ensures c.if-is_empty.false in
+    let some : 0 < length c.in-Some.behind.now = some_left c.is_empty.result (length c.in-Some.behind.now) c.is_empty.ensures c.if-is_empty.false in
     let other = each_other setting_at setting_octets items n rest c.in-Some.setting c.in-Some.behind.now c.in-Some.ensures some c.in_default-after.ensures in
     sym other ∙ ap (λ (k : ℕ). behind_each setting_at setting_octets items k rest) (sym fuel) ∙ c.loop-turn.invariant
 
@@ -50,7 +50,7 @@ loop-turn-preserved g c =
     let items = c.loop-turn.octets.items in
     let n = length c.args.text.now + 1 - (c.loop-turn._turn + 1) in
     let fuel : length c.args.text.now + 1 - c.loop-turn._turn ≡ suc n = turn (length c.args.text.now + 1) c.loop-turn._turn c.loop-turn-test.true in
-    let some : 0 < length c.in-Some.behind.now = some_left _ _ c.is_empty.ensures c.if-is_empty.false in
+    let some : 0 < length c.in-Some.behind.now = some_left c.is_empty.result (length c.in-Some.behind.now) c.is_empty.ensures c.if-is_empty.false in
     let more = each_more setting_at setting_octets items n rest c.in-Some.setting c.in-Some.behind.now c.in-Some-after.more.now c.in-Some.ensures some c.in-Some-after.ensures in
     ap (λ (w : List ℕ). behind_each setting_at setting_octets w n c.in-Some-after.more.now) c.in_ok-push_setting.ensures
     ∙ sym more ∙ ap (λ (k : ℕ). behind_each setting_at setting_octets items k rest) (sym fuel) ∙ c.loop-turn.invariant

@@ -17,7 +17,7 @@ loop-at-preserved g c =
     let text = drop c.loop-at.at c.args.text.now in
     let size = length-drop c.loop-at.at c.args.text.now in
     let read : Some (c.in-Some.octet, c.in-Some.used) ≡ character_at text = c.in-Some.ensures.octet ∙ ap character_at c.octets_from.ensures in
-    let next = follows_next c.loop-at.octets.items _ text c.in-Some.octet c.in-Some.used (unescaped c.args.text.now) read c.in_ok-push.ensures.items c.loop-at.invariant.so_far in
+    let next = follows_next c.loop-at.octets.items c.push.new.self.items text c.in-Some.octet c.in-Some.used (unescaped c.args.text.now) read c.in_ok-push.ensures.items c.loop-at.invariant.so_far in
     let within : c.in-Some.used ≤ length text = subst (λ (t : List ℕ). c.in-Some.used ≤ length t) c.octets_from.ensures c.in-Some.ensures.within.1 in
     record {
       so_far = subst (λ (t : List ℕ). Follows c.push.new.self.items t (unescaped c.args.text.now)) (sym (drop-twice c.loop-at.at c.in-Some.used c.args.text.now)) next;

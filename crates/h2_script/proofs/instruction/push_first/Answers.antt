@@ -1,0 +1,13 @@
+use Rattle.std.proofs.Common.{◌≡◌, Some}
+use Rattle.h2_fields.specs.Instructions.{instr_of}
+use Rattle.h2_spec.specs.Assemble.{instruction_at}
+use Rattle.h2_script.proofs.Long.{long_instruction}
+use Rattle.h2_script.proofs.instruction.push_first.Goals as goal
+
+pub push_instr-requires : goal.push_instr-requires
+push_instr-requires g c =
+    let read : Some (instr_of c.in-Some.instr, c.in-Some.behind.now) ≡ instruction_at c.args.text.now = rw c.in-Some.is at c.in_ok-instr.ensures in
+    long_instruction c.args.text.now (instr_of c.in-Some.instr) c.in-Some.behind.now read
+
+pub returns : goal.returns
+returns g c = (instr_of c.in-Some.instr, rw c.in-Some.is at c.in_ok-instr.ensures, c.in_ok-push_instr.ensures)
