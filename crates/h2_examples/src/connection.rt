@@ -91,12 +91,20 @@ fn counted(
     Ok(counts)
 }
 
+fn progress(
+    alloc: Global,
+    conn: &mut Conn<'_, Global>,
+    pieces: &[&[u8]],
+) -> Result<Progress, Fail> {
+    let mut sent = Vec::new(alloc);
+    let counts = counted(alloc, conn, pieces, &mut sent)?;
+    Ok((counts, sent, (conn.ended(), conn.failed())))
+}
+
 fn fed(alloc: Global, pieces: &[&[u8]]) -> Result<Progress, Fail> {
     let book = Book::new(alloc);
     let mut conn = opened_over(alloc, &book)?;
-    let mut sent = Vec::new(alloc);
-    let counts = counted(alloc, &mut conn, pieces, &mut sent)?;
-    Ok((counts, sent, (conn.ended(), conn.failed())))
+    progress(alloc, &mut conn, pieces)
 }
 
 /// Pieces; the number of items in each and of the octets sent after it; the octets sent; and the code that ended the connection.
@@ -212,11 +220,20 @@ fn phase_of(alloc: Global, conn: &Conn<'_, Global>) -> Result<Phase, Fail> {
     Ok(conn.state(alloc)?.phase)
 }
 
-/// The phase of a new connection, and the texts of its state.
+/// The phase of a connection, and the texts of its state.
+fn phase_and_texts(
+    alloc: Global,
+    conn: &Conn<'_, Global>,
+) -> Result<(Phase, (String, String)), Fail> {
+    let phase = phase_of(alloc, conn)?;
+    Ok((phase, texts(alloc, conn)?))
+}
+
+/// The same of a new connection.
 fn shown(alloc: Global) -> Result<(Phase, (String, String)), Fail> {
     let book = Book::new(alloc);
     let conn = opened_over(alloc, &book)?;
-    Ok((phase_of(alloc, &conn)?, texts(alloc, &conn)?))
+    phase_and_texts(alloc, &conn)
 }
 
 #[test]

@@ -44,7 +44,11 @@ fn pieces_change_nothing(rt: HostRuntime) -> Result<(), Fail> {
     Ok(())
 }
 
-// This has no clause, so that the proof of a test does not carry the state of a run.
+// These have no clause, so that the proof of a test does not carry the state of a run.
+
+fn opened<'a>(book: &'a Book<Global>, sent: &mut Vec<u8>) -> Result<Conn<'a, Global>, Fail> {
+    Ok(Conn::new(book, one_stream(), sent)?)
+}
 
 /// The connection that octets in pieces of these lengths leave.
 fn fed<'a>(
@@ -56,16 +60,33 @@ fn fed<'a>(
     Ok(open_and_feed(book, one_stream(), octets, lengths, sent)?)
 }
 
+fn shown(alloc: Global, conn: &Conn<'_, Global>) -> Result<String, Fail> {
+    Ok(conn.show(alloc)?)
+}
+
+/// The text of the state that octets in pieces of these lengths leave.
+fn left(
+    alloc: Global,
+    book: &Book<Global>,
+    octets: &[u8],
+    lengths: &[usize],
+    sent: &mut Vec<u8>,
+) -> Result<String, Fail> {
+    let conn = fed(book, octets, lengths, sent)?;
+    shown(alloc, &conn)
+}
+
 /// What is sent for octets in pieces of these lengths, and the text of the state.
+type Played = (Vec<u8>, String);
+
 fn played(
     alloc: Global,
     book: &Book<Global>,
     octets: &[u8],
     lengths: &[usize],
-) -> Result<(Vec<u8>, String), Fail> {
+) -> Result<Played, Fail> {
     let mut sent = Vec::new(alloc);
-    let conn = fed(book, octets, lengths, &mut sent)?;
-    let text = conn.show(alloc)?;
+    let text = left(alloc, book, octets, lengths, &mut sent)?;
     Ok((sent, text))
 }
 
@@ -78,42 +99,80 @@ fn ones(alloc: Global, count: usize) -> Result<Vec<usize>, AllocError> {
     Ok(lengths)
 }
 
-/// Cuts octets in two in each place, and into single octets, and compares what is sent and shown with that of the octets whole.
-fn compare_cuts(rt: &impl Abort, alloc: Global, name: &str, hex: &str) -> Result<(), Fail> {
+/// A book of one answer with a body.
+fn book_of_one(alloc: Global) -> Result<Book<Global>, Fail> {
     let mut book = Book::new(alloc);
     book.add(parse_answer(alloc, "GET|/|200|6869")?)?;
-    let octets = hex::decode(alloc, hex)?;
-    let whole = played(alloc, &book, octets.as_slice(), &[])?;
-    for at in 0..octets.len() {
-        let in_two = played(alloc, &book, octets.as_slice(), &[at])?;
-        same(rt, &in_two, &whole, &(name, at));
-    }
-    let lengths = ones(alloc, octets.len())?;
-    let in_octets = played(alloc, &book, octets.as_slice(), lengths.as_slice())?;
-    same(rt, &in_octets, &whole, &name);
+    Ok(book)
+}
+
+/// Compares what is sent and shown for octets in pieces of these lengths with that of the octets whole.
+fn compare_pieces(
+    rt: &impl Abort,
+    alloc: Global,
+    book: &Book<Global>,
+    octets: &[u8],
+    lengths: &[usize],
+    whole: &Played,
+    case: &(&str, usize),
+) -> Result<(), Fail> {
+    let in_pieces = played(alloc, book, octets, lengths)?;
+    same(rt, &in_pieces, whole, case);
     Ok(())
 }
 
+/// Cuts octets in two in each place, and into single octets.
+fn compare_cuts(
+    rt: &impl Abort,
+    alloc: Global,
+    book: &Book<Global>,
+    name: &str,
+    octets: &[u8],
+) -> Result<(), Fail> {
+    let whole = played(alloc, book, octets, &[])?;
+    for at in 0..octets.len() {
+        compare_pieces(rt, alloc, book, octets, &[at], &whole, &(name, at))?;
+    }
+    let lengths = ones(alloc, octets.len())?;
+    let case = (name, octets.len());
+    compare_pieces(rt, alloc, book, octets, lengths.as_slice(), &whole, &case)
+}
+
+/// The same of octets in hex.
+fn compare_cuts_of_hex(
+    rt: &impl Abort,
+    alloc: Global,
+    book: &Book<Global>,
+    name: &str,
+    hex: &str,
+) -> Result<(), Fail> {
+    let octets = hex::decode(alloc, hex)?;
+    compare_cuts(rt, alloc, book, name, octets.as_slice())
+}
+
+/// Octets in hex, by name.
+static CUT: [(&str, &str); 5] = [
+    (
+        "a request",
+        "505249202a20485454502f322e300d0a0d0a534d0d0a0d0a000000040000000000000014010500000001828684410f7777772e6578616d706c652e636f6d",
+    ),
+    ("a request in two frames", IN_TWO_FRAMES),
+    (
+        "DATA for a stream that was reset",
+        "505249202a20485454502f322e300d0a0d0a534d0d0a0d0a000000040000000000000006040000000000000400000000000014010500000001828684410f7777772e6578616d706c652e636f6d000003000000000001616263000003000000000001616263",
+    ),
+    ("one stream at a time", ONE_AT_A_TIME),
+    (
+        "more content than declared",
+        "505249202a20485454502f322e300d0a0d0a534d0d0a0d0a0000000400000000000000070104000000018386840f0d013300000400010000000161626364",
+    ),
+];
+
 #[test]
 fn cuts_change_nothing(rt: HostRuntime) -> Result<(), Fail> {
-    let cases: [(&str, &str); 5] = [
-        (
-            "a request",
-            "505249202a20485454502f322e300d0a0d0a534d0d0a0d0a000000040000000000000014010500000001828684410f7777772e6578616d706c652e636f6d",
-        ),
-        ("a request in two frames", IN_TWO_FRAMES),
-        (
-            "DATA for a stream that was reset",
-            "505249202a20485454502f322e300d0a0d0a534d0d0a0d0a000000040000000000000006040000000000000400000000000014010500000001828684410f7777772e6578616d706c652e636f6d000003000000000001616263000003000000000001616263",
-        ),
-        ("one stream at a time", ONE_AT_A_TIME),
-        (
-            "more content than declared",
-            "505249202a20485454502f322e300d0a0d0a534d0d0a0d0a0000000400000000000000070104000000018386840f0d013300000400010000000161626364",
-        ),
-    ];
-    for (name, hex) in cases {
-        compare_cuts(&rt, rt.alloc(), name, hex)?;
+    let book = book_of_one(rt.alloc())?;
+    for (name, hex) in &CUT {
+        compare_cuts_of_hex(&rt, rt.alloc(), &book, name, hex)?;
     }
     Ok(())
 }
@@ -137,7 +196,7 @@ fn beginnings_send_beginnings(rt: HostRuntime) -> Result<(), Fail> {
 /// What the program prints where this was sent and a connection shows this.
 fn told(alloc: Global, conn: &Conn<'_, Global>, sent: &[u8]) -> Result<String, Fail> {
     let sent = hex::encode(alloc, sent)?;
-    let shown = conn.show(alloc)?;
+    let shown = shown(alloc, conn)?;
     Ok(format!(in alloc; "sent {sent}\n{shown}")?)
 }
 
@@ -156,16 +215,35 @@ fn compare_place(
     compare(rt, alloc, name, &words, input.as_bytes(), (0, want))
 }
 
+/// Feeds octets one by one, and compares the place before each of them and behind the last one.
+fn compare_places(
+    rt: &impl Abort,
+    alloc: Global,
+    conn: &mut Conn<'_, Global>,
+    sent: &mut Vec<u8>,
+    octets: &[u8],
+) -> Result<(), Fail> {
+    for end in 0..octets.len() {
+        compare_place(rt, alloc, conn, sent.as_slice(), &octets[..end])?;
+        conn.feed(&octets[end..end + 1], sent)?;
+    }
+    compare_place(rt, alloc, conn, sent.as_slice(), octets)
+}
+
+/// The same on a new connection.
+fn compare_places_from_the_opening(
+    rt: &impl Abort,
+    alloc: Global,
+    octets: &[u8],
+) -> Result<(), Fail> {
+    let book = Book::new(alloc);
+    let mut sent = Vec::new(alloc);
+    let mut conn = opened(&book, &mut sent)?;
+    compare_places(rt, alloc, &mut conn, &mut sent, octets)
+}
+
 #[test]
 fn beginnings_are_played_as_octets_come(rt: HostRuntime) -> Result<(), Fail> {
-    let book = Book::new(rt.alloc());
     let octets = hex::decode(rt.alloc(), ONE_AT_A_TIME)?;
-    let mut sent = Vec::new(rt.alloc());
-    let mut conn = Conn::new(&book, one_stream(), &mut sent)?;
-    for end in 0..octets.len() {
-        let octets = octets.as_slice();
-        compare_place(&rt, rt.alloc(), &conn, sent.as_slice(), &octets[..end])?;
-        conn.feed(&octets[end..end + 1], &mut sent)?;
-    }
-    compare_place(&rt, rt.alloc(), &conn, sent.as_slice(), octets.as_slice())
+    compare_places_from_the_opening(&rt, rt.alloc(), octets.as_slice())
 }

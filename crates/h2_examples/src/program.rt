@@ -181,22 +181,34 @@ pub(crate) fn compare_exchanges(
 
 #[test]
 fn runs_print_what_the_tables_say(rt: HostRuntime) -> Result<(), Fail> {
-    compare_runs(&rt, rt.alloc(), &opening::OPENED)?;
-    compare_runs(&rt, rt.alloc(), &opening::BAD_OPENINGS)?;
-    compare_runs(&rt, rt.alloc(), &order::ABOVE_THE_LIMIT)?;
-    compare_runs(&rt, rt.alloc(), &items::TOLD)?;
-    compare_runs(&rt, rt.alloc(), &faults::REFUSED)?;
-    compare_runs(&rt, rt.alloc(), &tables::LINES)
+    let tables: [&[Run]; 6] = [
+        &opening::OPENED,
+        &opening::BAD_OPENINGS,
+        &order::ABOVE_THE_LIMIT,
+        &items::TOLD,
+        &faults::REFUSED,
+        &tables::LINES,
+    ];
+    for cases in tables {
+        compare_runs(&rt, rt.alloc(), cases)?;
+    }
+    Ok(())
 }
 
 #[test]
 fn exchanges_are_as_the_tables_say(rt: HostRuntime) -> Result<(), Fail> {
-    compare_exchanges(&rt, rt.alloc(), &opening::HEADS)?;
-    compare_exchanges(&rt, rt.alloc(), &requests::ANSWERED)?;
-    compare_exchanges(&rt, rt.alloc(), &requests::MALFORMED)?;
-    compare_exchanges(&rt, rt.alloc(), &requests::TRAILERS)?;
-    compare_exchanges(&rt, rt.alloc(), &blocks::DECODED)?;
-    compare_exchanges(&rt, rt.alloc(), &flow::OPENED)?;
-    compare_exchanges(&rt, rt.alloc(), &flow::COUNTED)?;
-    compare_exchanges(&rt, rt.alloc(), &order::IN_ORDER)
+    let tables: [&[Exchange]; 8] = [
+        &opening::HEADS,
+        &requests::ANSWERED,
+        &requests::MALFORMED,
+        &requests::TRAILERS,
+        &blocks::DECODED,
+        &flow::OPENED,
+        &flow::COUNTED,
+        &order::IN_ORDER,
+    ];
+    for cases in tables {
+        compare_exchanges(&rt, rt.alloc(), cases)?;
+    }
+    Ok(())
 }
