@@ -1,6 +1,7 @@
 //! The records of streams on worked values, and windows at their limits (RFC 9113, 5.1 and 6.9.2).
 
-ghost use Rattle.std.specs.Prelude.{◌≡◌, ◌≤◌, pos};
+ghost use Rattle.std.specs.Prelude.{◌≡◌, ◌≤◌, ◌≤ℤ◌, negsuc, pos};
+ghost use Rattle.h2_spec.specs.Stream.{no_records};
 
 use crate::same::same;
 use h2_spec::flow::{Credit, Window};
@@ -37,8 +38,21 @@ fn open(
     streams.open_stream(id, numbers(0, left), Pick::NotFound, ended)
 }
 
-fn kind_of(streams: &Streams<Global>, id: u32) -> Kind {
-    streams.kind(id)
+/// Compares the states of streams.
+fn compare_kinds(rt: &impl Abort, streams: &Streams<Global>, kinds: &[(u32, Kind)], name: &str) {
+    for (id, kind) in kinds {
+        same(rt, &streams.kind(*id), kind, &(name, id));
+    }
+}
+
+/// Compares a stream with one that is not live and in this state.
+fn compare_closed(rt: &impl Abort, streams: &Streams<Global>, id: u32, kind: Kind, name: &str) {
+    same(rt, &streams.stream_at(id), &not_live(id, kind), &name);
+}
+
+/// Compares the last stream and the number of the live ones.
+fn compare_counts(rt: &impl Abort, streams: &Streams<Global>, counts: (u32, usize), name: &str) {
+    same(rt, &(streams.last(), streams.live_count()), &counts, &name);
 }
 
 /// The identifier of the record at a place, if there is one.
@@ -58,24 +72,18 @@ fn end_both(rt: &impl Abort, streams: &mut Streams<Global>, id: u32) {
 #[test]
 fn a_stream_opens_and_ends(rt: HostRuntime) -> Result<(), Fail> {
     let mut streams = Streams::new(rt.alloc());
-    same(&rt, &kind_of(&streams, 1), &Kind::Idle, &"at first");
+    compare_kinds(&rt, &streams, &[(1, Kind::Idle)], "at first");
     open(&rt, &mut streams, 5, None, false)?;
-    for (id, kind) in [
+    let kinds = [
         (1, Kind::Skipped),
         (2, Kind::Idle),
         (3, Kind::Skipped),
         (5, Kind::BothOpen),
         (7, Kind::Idle),
-    ] {
-        same(&rt, &kind_of(&streams, id), &kind, &id);
-    }
+    ];
+    compare_kinds(&rt, &streams, &kinds, "stream 5 is open");
     end_both(&rt, &mut streams, 5);
-    same(
-        &rt,
-        &streams.stream_at(5),
-        &not_live(5, Kind::Ended),
-        &"stream 5 at its end",
-    );
+    compare_closed(&rt, &streams, 5, Kind::Ended, "stream 5 at its end");
     Ok(())
 }
 
@@ -88,35 +96,52 @@ fn open_and_reset(rt: &impl Abort, alloc: Global) -> Result<Streams<Global>, All
     Ok(streams)
 }
 
+/// The identifiers of the first records, in their order.
+fn first_ids(streams: &Streams<Global>) -> [Option<u32>; 3] {
+    [id_at(streams, 0), id_at(streams, 1), id_at(streams, 2)]
+}
+
+fn has_record(streams: &Streams<Global>, id: u32) -> bool {
+    streams.get(id).is_some()
+}
+
 #[test]
 fn records_stand_in_the_order_of_opening(rt: HostRuntime) -> Result<(), Fail> {
     let mut streams = open_and_reset(&rt, rt.alloc())?;
-    same(
-        &rt,
-        &(streams.last(), streams.live_count()),
-        &(7, 1),
-        &"the last stream and the live ones",
-    );
-    same(&rt, &kind_of(&streams, 7), &Kind::WeReset, &"stream 7");
-    let ids = [id_at(&streams, 0), id_at(&streams, 1), id_at(&streams, 2)];
+    compare_counts(&rt, &streams, (7, 1), "the last stream and the live ones");
+    compare_kinds(&rt, &streams, &[(7, Kind::WeReset)], "stream 7");
+    let ids = first_ids(&streams);
     same(&rt, &ids, &[Some(5), Some(7), None], &"in their order");
-    assert!(rt; streams.get(3).is_none());
+    assert!(rt; !has_record(&streams, 3));
     end_both(&rt, &mut streams, 5);
-    same(&rt, &streams.live_count(), &0, &"live streams at the end");
+    compare_counts(&rt, &streams, (7, 0), "live streams at the end");
     Ok(())
 }
 
-/// A stream 1 with a window of 0 and a stream 3 with another are moved: whether that is refused, and the window of stream 3.
-fn shifted(alloc: Global, start: u32, delta: i64) -> Result<(bool, i32), Fail> {
+/// The send window of a stream, if it has a record.
+fn window_of(streams: &Streams<Global>, id: u32) -> Option<i32> {
+    Some(streams.get(id)?.numbers.send.value())
+}
+
+/// Opens a stream 1 with a window of 0 and a stream 3 with another, and moves them: whether that is refused.
+fn open_and_shift(streams: &mut Streams<Global>, start: u32, delta: i64) -> Result<bool, AllocError>
+    requires new { streams.old ≡ no_records }
+    requires start { start ≤ 2147483647 }
+    requires delta { negsuc 2147483647 ≤ℤ delta }
+{
+    streams.open_stream(1, numbers(0, None), Pick::NotFound, false)?;
+    streams.open_stream(3, numbers(start, None), Pick::NotFound, true)?;
+    Ok(streams.shift_send(delta).is_err())
+}
+
+/// Whether the move is refused, and the window of stream 3.
+fn shifted(alloc: Global, start: u32, delta: i64) -> Result<(bool, Option<i32>), Fail> {
     if delta < -2_147_483_648 || start > 2_147_483_647 {
         return Err(Fail::from("windows that can be moved"));
     }
     let mut streams = Streams::new(alloc);
-    streams.open_stream(1, numbers(0, None), Pick::NotFound, false)?;
-    streams.open_stream(3, numbers(start, None), Pick::NotFound, true)?;
-    let refused = streams.shift_send(delta).is_err();
-    let stream = streams.get(3).ok_or("the stream has a record")?;
-    Ok((refused, stream.numbers.send.value()))
+    let refused = open_and_shift(&mut streams, start, delta)?;
+    Ok((refused, window_of(&streams, 3)))
 }
 
 #[test]
@@ -131,27 +156,51 @@ fn settings_move_windows_to_their_limits(rt: HostRuntime) -> Result<(), Fail> {
         (1, 2_147_483_647, true, 1),
     ] {
         let moved = shifted(rt.alloc(), start, delta)?;
-        same(&rt, &moved, &(refused, window), &(start, delta));
+        same(&rt, &moved, &(refused, Some(window)), &(start, delta));
     }
     Ok(())
 }
 
-/// Beside a stream 1 with a window of 10, a stream 3 has a full one, in a state, and windows are moved up by 1: the greatest that is moved, whether that is
-/// refused, the window of stream 1, and whether stream 3 is as before.
-fn moved_beside_full(alloc: Global, kind: Kind) -> Result<(i32, bool, i32, bool), Fail> {
-    let mut streams = Streams::new(alloc);
-    streams.open_stream(1, numbers(10, None), Pick::NotFound, false)?;
-    let full = Stream {
+/// A stream 3 with a full window, in a state.
+fn full(kind: Kind) -> Stream
+    ensures id { result.id ≡ 3 }
+    ensures window { result.numbers.send ≡ pos 2147483647 }
+{
+    Stream {
         id: 3,
         kind,
         numbers: numbers(2_147_483_647, None),
         pick: Pick::NotFound,
-    };
+    }
+}
+
+/// Opens a stream 1 with a window of 10 beside a full one, and moves windows up by 1: the greatest that is moved, and whether that is refused.
+fn open_and_move(
+    streams: &mut Streams<Global>,
+    full: Stream,
+) -> Result<(Option<Window>, bool), AllocError>
+    requires new { streams.old ≡ no_records }
+    requires id { full.id ≡ 3 }
+    requires window { full.numbers.send ≡ pos 2147483647 }
+{
+    streams.open_stream(1, numbers(10, None), Pick::NotFound, false)?;
     streams.put(full)?;
-    let greatest = streams.greatest_send().ok_or("a window")?.value();
-    let refused = streams.shift_send(1).is_err();
-    let window = streams.stream_at(1).numbers.send.value();
-    Ok((greatest, refused, window, streams.stream_at(3) == full))
+    let greatest = streams.greatest_send();
+    Ok((greatest, streams.shift_send(1).is_err()))
+}
+
+fn stream_at(streams: &Streams<Global>, id: u32) -> Stream {
+    streams.stream_at(id)
+}
+
+/// The greatest window that is moved, whether that is refused, the window of stream 1, and whether the full stream 3 is as before.
+fn moved_beside_full(alloc: Global, kind: Kind) -> Result<(i32, bool, i32, bool), Fail> {
+    let mut streams = Streams::new(alloc);
+    let full = full(kind);
+    let (greatest, refused) = open_and_move(&mut streams, full)?;
+    let greatest = greatest.ok_or("a window")?.value();
+    let window = stream_at(&streams, 1).numbers.send.value();
+    Ok((greatest, refused, window, stream_at(&streams, 3) == full))
 }
 
 #[test]
@@ -209,46 +258,36 @@ fn put_1_and_13(rt: &impl Abort, streams: &mut Streams<Global>) -> Result<(), Al
 #[test]
 fn streams_are_put_in_their_places(rt: HostRuntime) -> Result<(), Fail> {
     let mut streams = five_streams(&rt, rt.alloc())?;
-    same(
-        &rt,
-        &octets_waiting(&streams.stream_at(11)),
-        &2,
-        &"what waits on stream 11",
-    );
+    let waiting = octets_waiting(&stream_at(&streams, 11));
+    same(&rt, &waiting, &2, &"what waits on stream 11");
     reset_7_and_fill_3(&rt, &mut streams);
-    same(
-        &rt,
-        &streams.stream_at(7),
-        &not_live(7, Kind::PeerReset),
-        &"stream 7",
-    );
+    compare_closed(&rt, &streams, 7, Kind::PeerReset, "stream 7");
     put_1_and_13(&rt, &mut streams)?;
-    same(
-        &rt,
-        &streams.stream_at(1),
-        &not_live(1, Kind::WeReset),
-        &"stream 1",
-    );
-    same(
-        &rt,
-        &(streams.last(), streams.live_count()),
-        &(13, 3),
-        &"the last stream and the live ones",
-    );
+    compare_closed(&rt, &streams, 1, Kind::WeReset, "stream 1");
+    compare_counts(&rt, &streams, (13, 3), "the last stream and the live ones");
     Ok(())
 }
 
-/// The streams that wait to send above an identifier: after the changes, and in a copy from before them.
-fn waiting_above(rt: &impl Abort, alloc: Global, after: u32) -> Result<[Option<u32>; 2], Fail> {
-    let mut streams = five_streams(rt, alloc)?;
-    let copy = streams.try_clone()?;
-    reset_7_and_fill_3(rt, &mut streams);
-    put_1_and_13(rt, &mut streams)?;
-    Ok([streams.next_waiting(after), copy.next_waiting(after)])
+fn copied(streams: &Streams<Global>) -> Result<Streams<Global>, AllocError> {
+    streams.try_clone()
+}
+
+fn next_waiting(streams: &Streams<Global>, after: u32) -> Option<u32> {
+    streams.next_waiting(after)
+}
+
+/// Changes streams, and gives a copy from before that.
+fn changed(rt: &impl Abort, streams: &mut Streams<Global>) -> Result<Streams<Global>, AllocError> {
+    let copy = copied(streams)?;
+    reset_7_and_fill_3(rt, streams);
+    put_1_and_13(rt, streams)?;
+    Ok(copy)
 }
 
 #[test]
 fn streams_wait_to_send_by_rising_identifier(rt: HostRuntime) -> Result<(), Fail> {
+    let mut streams = five_streams(&rt, rt.alloc())?;
+    let copy = changed(&rt, &mut streams)?;
     for (after, next, before) in [
         (0, Some(3), Some(1)),
         (1, Some(3), Some(7)),
@@ -256,7 +295,7 @@ fn streams_wait_to_send_by_rising_identifier(rt: HostRuntime) -> Result<(), Fail
         (10, Some(11), Some(11)),
         (11, None, None),
     ] {
-        let found = waiting_above(&rt, rt.alloc(), after)?;
+        let found = [next_waiting(&streams, after), next_waiting(&copy, after)];
         same(&rt, &found, &[next, before], &after);
     }
     Ok(())
