@@ -62,29 +62,22 @@ fn words_that_say_no_answer_are_refused(rt: HostRuntime) -> Result<(), Fail> {
     Ok(())
 }
 
-#[test]
-fn words_say_answers(rt: HostRuntime) -> Result<(), Fail> {
-    let said = said(rt.alloc(), "GET|/|999|6aF0|a=b=c|=|x=")?;
-    let (status, lines) = said.ok().ok_or("an answer")?;
-    let wanted = b"GET\n/\n\x6a\xf0\na: b=c\n: \nx: \n";
-    same(
-        &rt,
-        &(status, lines.as_slice()),
-        &(999, wanted.as_slice()),
-        &"an answer of three fields",
-    );
-    Ok(())
-}
+/// Words, the status that they say, the other parts line by line, and a name.
+static SAID: [(&str, u16, &[u8], &str); 2] = [
+    (
+        "GET|/|999|6aF0|a=b=c|=|x=",
+        999,
+        b"GET\n/\n\x6a\xf0\na: b=c\n: \nx: \n",
+        "an answer of three fields",
+    ),
+    ("||000|", 0, b"\n\n\n", "empty parts"),
+];
 
 #[test]
-fn parts_of_answers_may_be_empty(rt: HostRuntime) -> Result<(), Fail> {
-    let said = said(rt.alloc(), "||000|")?;
-    let (status, lines) = said.ok().ok_or("an answer")?;
-    same(
-        &rt,
-        &(status, lines.as_slice()),
-        &(0, b"\n\n\n".as_slice()),
-        &"empty parts",
-    );
+fn words_say_answers_whose_parts_may_be_empty(rt: HostRuntime) -> Result<(), Fail> {
+    for (text, status, lines, name) in &SAID {
+        let (said, parts) = said(rt.alloc(), text)?.ok().ok_or("an answer")?;
+        same(&rt, &(said, parts.as_slice()), &(*status, *lines), name);
+    }
     Ok(())
 }

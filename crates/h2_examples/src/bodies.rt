@@ -9,7 +9,20 @@ use std::test::Fail;
 /// opening SETTINGS and the acknowledgement, with octets 61, and the text of the state.
 type LongExchange = (&'static str, &'static str, &'static [Piece], &'static str);
 
-/// Plays each exchange with a GET whose answer has so many octets 61, and compares what is printed; the exit status is 0.
+/// Plays an exchange with answers of these words, and compares what is printed; the exit status is 0.
+fn compare_long_answer(
+    rt: &impl Abort,
+    alloc: Global,
+    words: &[&str],
+    case: &LongExchange,
+) -> Result<(), Fail> {
+    let (name, frames, pieces, state) = case;
+    let sent = filled(alloc, "61", pieces)?;
+    let (frames, sent) = (frames.as_bytes(), sent.as_slice());
+    compare_exchange(rt, alloc, name, words, frames, sent, state)
+}
+
+/// The same of each exchange, with a GET whose answer has so many octets 61.
 fn compare_long_answers(
     rt: &impl Abort,
     alloc: Global,
@@ -18,10 +31,8 @@ fn compare_long_answers(
 ) -> Result<(), Fail> {
     let answer = long_answer(alloc, count)?;
     let words = ["play", answer.as_str()];
-    for (name, frames, pieces, state) in cases {
-        let sent = filled(alloc, "61", pieces)?;
-        let (frames, sent) = (frames.as_bytes(), sent.as_slice());
-        compare_exchange(rt, alloc, name, &words, frames, sent, state)?;
+    for case in cases {
+        compare_long_answer(rt, alloc, &words, case)?;
     }
     Ok(())
 }

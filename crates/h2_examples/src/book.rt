@@ -8,6 +8,7 @@ use h2_request::book::{Book, Entry, Pick};
 use h2_request::fault::BookFault;
 use h2_request::well_formed::check;
 use std::alloc::{AllocError, Global};
+use std::process::Abort;
 use std::test::Fail;
 
 // These have no clause, so that the proof of a test does not carry the state of each call.
@@ -55,13 +56,22 @@ static ENTRIES: [(&str, u16, &str, &str, u8, &str); 6] = [
     ("GET", 201, "a", "ho", 0, "another for the same requests"),
 ];
 
+fn compare_entries(
+    rt: &impl Abort,
+    alloc: Global,
+    book: &mut Book<Global>,
+) -> Result<(), AllocError> {
+    for (method, status, name, body, fault, message) in &ENTRIES {
+        let entry = entry(alloc, method, *status, name, body)?;
+        same(rt, &fault_of(book, entry), fault, message);
+    }
+    Ok(())
+}
+
 #[test]
 fn entries_of_a_book(rt: HostRuntime) -> Result<(), Fail> {
     let mut book = Book::new(rt.alloc());
-    for (method, status, name, body, fault, message) in &ENTRIES {
-        let entry = entry(rt.alloc(), method, *status, name, body)?;
-        same(&rt, &fault_of(&mut book, entry), fault, message);
-    }
+    compare_entries(&rt, rt.alloc(), &mut book)?;
     same(&rt, &book.len(), &2, &"entries that are kept");
     Ok(())
 }
@@ -137,18 +147,23 @@ fn requests_pick_answers(rt: HostRuntime) -> Result<(), Fail> {
     Ok(())
 }
 
+/// What is picked, the status of its answer, its body, how many fields it has, and its field block (RFC 7541, 6.1 and 6.2.2).
+static ANSWERS: [(Pick, u16, &[u8], usize, &[u8]); 3] = [
+    (Pick::Listed(0), 200, b"hi", 1, b"\x88\x00\x01a\x01b"),
+    (Pick::NotFound, 404, b"", 0, b"\x8d"),
+    (Pick::Connect, 501, b"", 0, b"\x08\x03501"),
+];
+
+fn compare_answers(rt: &impl Abort, book: &Book<Global>) {
+    for (pick, status, body, fields, block) in &ANSWERS {
+        let answer = answer_of(book, *pick);
+        same(rt, &answer, &(*status, *body, *fields, *block), pick);
+    }
+}
+
 #[test]
 fn picks_are_answered(rt: HostRuntime) -> Result<(), Fail> {
     let book = book_of_one(rt.alloc())?;
-    let cases: [(Pick, u16, &[u8], usize, &[u8]); 3] = [
-        // RFC 7541, 6.1 and 6.2.2.
-        (Pick::Listed(0), 200, b"hi", 1, b"\x88\x00\x01a\x01b"),
-        (Pick::NotFound, 404, b"", 0, b"\x8d"),
-        (Pick::Connect, 501, b"", 0, b"\x08\x03501"),
-    ];
-    for (pick, status, body, fields, block) in cases {
-        let answer = answer_of(&book, pick);
-        same(&rt, &answer, &(status, body, fields, block), &pick);
-    }
+    compare_answers(&rt, &book);
     Ok(())
 }

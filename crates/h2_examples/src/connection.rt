@@ -20,25 +20,44 @@ fn usual() -> Config {
 
 // These have no clause, so that the proof of a test does not carry the state of each call.
 
-/// The code that ended a new connection of these limits, and whether memory was refused; and what it sends.
-fn opened(
+/// A new connection of these limits; what it sends stands behind `sent`.
+pub(crate) fn opened<'a>(
+    book: &'a Book<Global>,
+    config: Config,
+    sent: &mut Vec<u8>,
+) -> Result<Conn<'a, Global>, ConnFault> {
+    Conn::new(book, config, sent)
+}
+
+/// The code that ended a connection, and whether memory was refused.
+type End = (Option<u32>, bool);
+
+fn end_of(conn: &Conn<'_, Global>) -> End {
+    (conn.ended(), conn.failed())
+}
+
+/// The end of a new connection.
+fn opened_end(
     alloc: Global,
     streams: u32,
     credit: u32,
-) -> (Result<(Option<u32>, bool), ConnFault>, Vec<u8>) {
+    sent: &mut Vec<u8>,
+) -> Result<End, ConnFault> {
     let book = Book::new(alloc);
-    let mut out = Vec::new(alloc);
-    let opened = match Conn::new(&book, Config { streams, credit }, &mut out) {
-        Ok(conn) => Ok((conn.ended(), conn.failed())),
-        Err(fault) => Err(fault),
-    };
-    (opened, out)
+    let conn = opened(&book, Config { streams, credit }, sent)?;
+    Ok(end_of(&conn))
+}
+
+/// The same, and what the connection sends.
+fn opening(alloc: Global, streams: u32, credit: u32) -> (Result<End, ConnFault>, Vec<u8>) {
+    let mut sent = Vec::new(alloc);
+    (opened_end(alloc, streams, credit, &mut sent), sent)
 }
 
 #[test]
 fn limits_out_of_range_are_refused(rt: HostRuntime) {
     for (streams, credit) in [(0, 1), (1001, 1), (1, 0), (1, 65536)] {
-        let (refused, sent) = opened(rt.alloc(), streams, credit);
+        let (refused, sent) = opening(rt.alloc(), streams, credit);
         same(
             &rt,
             &(refused, sent.len()),
@@ -50,25 +69,24 @@ fn limits_out_of_range_are_refused(rt: HostRuntime) {
 
 #[test]
 fn settings_are_sent_first(rt: HostRuntime) {
-    let (state, sent) = opened(rt.alloc(), 1000, 65535);
+    let (end, sent) = opening(rt.alloc(), 1000, 65535);
     // SETTINGS_MAX_CONCURRENT_STREAMS 1000 and SETTINGS_MAX_HEADER_LIST_SIZE 65536 (RFC 9113, 6.5.2).
-    let opening =
+    let settings =
         b"\x00\x00\x0c\x04\x00\x00\x00\x00\x00\x00\x03\x00\x00\x03\xe8\x00\x06\x00\x01\x00\x00";
     same(
         &rt,
-        &(state, sent.as_slice()),
-        &(Ok((None, false)), opening.as_slice()),
+        &(end, sent.as_slice()),
+        &(Ok((None, false)), settings.as_slice()),
         &"the opening SETTINGS",
     );
 }
 
-/// After each piece the number of items in it and of the octets sent; the octets sent behind the opening SETTINGS; the code that ended the connection, and
-/// whether memory was refused.
-type Progress = (Vec<(usize, usize)>, Vec<u8>, (Option<u32>, bool));
+/// After each piece the number of items in it and of the octets sent; the octets sent behind the opening SETTINGS; and the end.
+type Progress = (Vec<(usize, usize)>, Vec<u8>, End);
 
 /// A new connection over this book.
 fn opened_over(alloc: Global, book: &Book<Global>) -> Result<Conn<'_, Global>, Fail> {
-    Ok(Conn::new(book, usual(), &mut Vec::new(alloc))?)
+    Ok(opened(book, usual(), &mut Vec::new(alloc))?)
 }
 
 /// The number of items in a piece.
@@ -98,7 +116,7 @@ fn progress(
 ) -> Result<Progress, Fail> {
     let mut sent = Vec::new(alloc);
     let counts = counted(alloc, conn, pieces, &mut sent)?;
-    Ok((counts, sent, (conn.ended(), conn.failed())))
+    Ok((counts, sent, end_of(conn)))
 }
 
 fn fed(alloc: Global, pieces: &[&[u8]]) -> Result<Progress, Fail> {

@@ -1,5 +1,6 @@
 //! The same octets in other pieces, and the beginnings of octets (RFC 9113, 4.1).
 
+use crate::connection::opened;
 use crate::program::{compare, ran};
 use crate::same::same;
 use h2_bench::parse_answer;
@@ -33,22 +34,25 @@ fn cut_at(alloc: Global, cut: &str) -> Result<(u8, Vec<u8>), Fail> {
     ran(alloc, words.as_slice(), IN_TWO_FRAMES.as_bytes())
 }
 
+/// Lengths of pieces.
+static LENGTHS: [&str; 7] = ["0", "1", "2", "3", "7", "33", "65536"];
+
+fn compare_lengths(rt: &impl Abort, alloc: Global, whole: &(u8, Vec<u8>)) -> Result<(), Fail> {
+    for cut in &LENGTHS {
+        same(rt, &cut_at(alloc, cut)?, whole, cut);
+    }
+    Ok(())
+}
+
 #[test]
 fn pieces_change_nothing(rt: HostRuntime) -> Result<(), Fail> {
     let words = ["play", "GET|/|200|6869"];
     let whole = ran(rt.alloc(), words.as_slice(), IN_TWO_FRAMES.as_bytes())?;
-    for cut in ["0", "1", "2", "3", "7", "33", "65536"] {
-        same(&rt, &cut_at(rt.alloc(), cut)?, &whole, &cut);
-    }
     same(&rt, &whole.0, &0, &"the exit status");
-    Ok(())
+    compare_lengths(&rt, rt.alloc(), &whole)
 }
 
 // These have no clause, so that the proof of a test does not carry the state of a run.
-
-fn opened<'a>(book: &'a Book<Global>, sent: &mut Vec<u8>) -> Result<Conn<'a, Global>, Fail> {
-    Ok(Conn::new(book, one_stream(), sent)?)
-}
 
 /// The connection that octets in pieces of these lengths leave.
 fn fed<'a>(
@@ -177,20 +181,28 @@ fn cuts_change_nothing(rt: HostRuntime) -> Result<(), Fail> {
     Ok(())
 }
 
-#[test]
-fn beginnings_send_beginnings(rt: HostRuntime) -> Result<(), Fail> {
-    let alloc = rt.alloc();
-    let book = Book::new(alloc);
-    let octets = hex::decode(alloc, ONE_AT_A_TIME)?;
-    let (sent, _) = played(alloc, &book, octets.as_slice(), &[])?;
+fn compare_beginnings(
+    rt: &impl Abort,
+    alloc: Global,
+    book: &Book<Global>,
+    octets: &[u8],
+) -> Result<(), Fail> {
+    let (sent, _) = played(alloc, book, octets, &[])?;
     for end in 0..octets.len() {
-        let (first, _) = played(alloc, &book, &octets.as_slice()[..end], &[])?;
+        let (first, _) = played(alloc, book, &octets[..end], &[])?;
         assert!(rt;
             sent.as_slice().starts_with(first.as_slice()),
             "up to {end}"
         );
     }
     Ok(())
+}
+
+#[test]
+fn beginnings_send_beginnings(rt: HostRuntime) -> Result<(), Fail> {
+    let book = Book::new(rt.alloc());
+    let octets = hex::decode(rt.alloc(), ONE_AT_A_TIME)?;
+    compare_beginnings(&rt, rt.alloc(), &book, octets.as_slice())
 }
 
 /// What the program prints where this was sent and a connection shows this.
@@ -238,7 +250,7 @@ fn compare_places_from_the_opening(
 ) -> Result<(), Fail> {
     let book = Book::new(alloc);
     let mut sent = Vec::new(alloc);
-    let mut conn = opened(&book, &mut sent)?;
+    let mut conn = opened(&book, one_stream(), &mut sent)?;
     compare_places(rt, alloc, &mut conn, &mut sent, octets)
 }
 

@@ -339,6 +339,20 @@ static CASES: [Case; 24] = [
     },
 ];
 
+/// Pushes a block in one piece, or octet by octet, and ends it.
+fn push_whole(
+    decoder: &mut BlockDecoder<Global>,
+    table: &mut DynTable<Global>,
+    block: &[u8],
+    by_octets: bool,
+) -> Result<(), BlockFault> {
+    let length = if by_octets { 1 } else { 4096 };
+    for piece in block.chunks(length) {
+        pushed(decoder, table, piece)?;
+    }
+    finished(decoder)
+}
+
 /// What a block leaves that comes in one piece, or octet by octet.
 fn decoded(
     alloc: Global,
@@ -347,29 +361,42 @@ fn decoded(
     by_octets: bool,
 ) -> Result<Held, Fail> {
     let block = octets_of(alloc, block)?;
-    let length = if by_octets { 1 } else { 4096 };
     let mut decoder = started(alloc);
-    for piece in block.as_slice().chunks(length) {
-        pushed(&mut decoder, table, piece)?;
-    }
-    finished(&decoder)?;
+    push_whole(&mut decoder, table, block.as_slice(), by_octets)?;
     Ok(held_by(alloc, &decoder, table)?)
 }
 
-/// Decodes each block, and compares what it leaves.
+/// Compares what a block leaves.
+fn compare_held(rt: &impl Abort, held: &Held, case: &Case) {
+    let fields = (held.fields.as_slice(), held.list_size);
+    let wanted = (case.fields.as_bytes(), case.list_size);
+    same(rt, &fields, &wanted, &case.name);
+    let entries = (held.entries.as_slice(), held.table_size);
+    let wanted = (case.entries.as_bytes(), case.table_size);
+    same(rt, &entries, &wanted, &case.name);
+}
+
+/// Decodes a block, and compares what it leaves.
+fn compare_block(
+    rt: &impl Abort,
+    alloc: Global,
+    table: &mut DynTable<Global>,
+    case: &Case,
+    by_octets: bool,
+) -> Result<(), Fail> {
+    if let Some(limit) = case.limit {
+        *table = empty_table(alloc, limit)?;
+    }
+    let held = decoded(alloc, table, case.block, by_octets)?;
+    compare_held(rt, &held, case);
+    Ok(())
+}
+
+/// The same of each block.
 fn compare_blocks(rt: &impl Abort, alloc: Global, by_octets: bool) -> Result<(), Fail> {
     let mut table = empty_table(alloc, 0)?;
     for case in &CASES {
-        if let Some(limit) = case.limit {
-            table = empty_table(alloc, limit)?;
-        }
-        let held = decoded(alloc, &mut table, case.block, by_octets)?;
-        let fields = (held.fields.as_slice(), held.list_size);
-        let wanted = (case.fields.as_bytes(), case.list_size);
-        same(rt, &fields, &wanted, &case.name);
-        let entries = (held.entries.as_slice(), held.table_size);
-        let wanted = (case.entries.as_bytes(), case.table_size);
-        same(rt, &entries, &wanted, &case.name);
+        compare_block(rt, alloc, &mut table, case, by_octets)?;
     }
     Ok(())
 }
@@ -529,12 +556,22 @@ fn answers(
     Ok(answers)
 }
 
-/// The answers to fragments on an empty table of limit 4096, and what is left.
+/// The answers to fragments, and what is left.
+fn answers_and_held(
+    alloc: Global,
+    decoder: &mut BlockDecoder<Global>,
+    table: &mut DynTable<Global>,
+    fragments: &[&str],
+) -> Result<(String, Held), Fail> {
+    let answers = answers(alloc, decoder, table, fragments)?;
+    Ok((answers, held_by(alloc, decoder, table)?))
+}
+
+/// The same on an empty table of limit 4096.
 fn refused(alloc: Global, fragments: &[&str]) -> Result<(String, Held), Fail> {
     let mut table = empty_table(alloc, 4096)?;
     let mut decoder = started(alloc);
-    let answers = answers(alloc, &mut decoder, &mut table, fragments)?;
-    Ok((answers, held_by(alloc, &decoder, &table)?))
+    answers_and_held(alloc, &mut decoder, &mut table, fragments)
 }
 
 #[test]
@@ -671,14 +708,25 @@ fn end_behind(
 }
 
 /// How many octets leave the table as it is, their fields, and all fields.
-fn still_and_whole(alloc: Global, block: &str) -> Result<(usize, Vec<u8>, Vec<u8>), Fail> {
+type StillAndWhole = (usize, Vec<u8>, Vec<u8>);
+
+fn push_in_two(
+    alloc: Global,
+    decoder: &mut BlockDecoder<Global>,
+    table: &mut DynTable<Global>,
+    block: &[u8],
+) -> Result<StillAndWhole, Fail> {
+    let used = pushed_still(decoder, table, block)?;
+    let front = fields(alloc, decoder)?;
+    end_behind(decoder, table, block, used)?;
+    Ok((used, front, fields(alloc, decoder)?))
+}
+
+fn still_and_whole(alloc: Global, block: &str) -> Result<StillAndWhole, Fail> {
     let block = octets_of(alloc, block)?;
     let mut table = empty_table(alloc, 4096)?;
     let mut decoder = started(alloc);
-    let used = pushed_still(&mut decoder, &table, block.as_slice())?;
-    let front = fields(alloc, &decoder)?;
-    end_behind(&mut decoder, &mut table, block.as_slice(), used)?;
-    Ok((used, front, fields(alloc, &decoder)?))
+    push_in_two(alloc, &mut decoder, &mut table, block.as_slice())
 }
 
 #[test]

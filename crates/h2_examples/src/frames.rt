@@ -6,6 +6,7 @@ use crate::same::same;
 use h2_frame::{FrameRef, Head, Item, Splitter, read_head, write_frame};
 use linked_list_allocator::LocalHeap;
 use std::alloc::{AllocError, Global};
+use std::process::Abort;
 use std::test::Fail;
 
 /// The client preface (RFC 9113, 3.4).
@@ -86,6 +87,30 @@ fn running(alloc: Global, octets: &[u8]) -> Result<Splitter<Global>, AllocError>
     Ok(splitter)
 }
 
+fn push(splitter: &mut Splitter<Global>, octets: &[u8]) -> Result<(), AllocError> {
+    splitter.push(octets)
+}
+
+/// Compares PING, and the head of DATA of 16,385 octets.
+fn compare_items(rt: &impl Abort, splitter: &mut Splitter<Global>) -> Result<(), AllocError> {
+    let ping = FrameRef {
+        head: head(8, 6, 0),
+        payload: DIGITS,
+    };
+    let frame = Some(Item::Frame(ping));
+    same(rt, &next(splitter), &frame, &"PING");
+    let oversize = Some(Item::Oversize(head(16_385, 0, 1)));
+    same(
+        rt,
+        &next(splitter),
+        &oversize,
+        &"its payload is not awaited",
+    );
+    push(splitter, PING)?;
+    same(rt, &next(splitter), &None, &"no item follows");
+    Ok(())
+}
+
 #[test]
 fn frames_behind_the_preface(rt: HostRuntime) -> Result<(), Fail> {
     // PING, and a head of DATA of 16,385 octets.
@@ -93,24 +118,11 @@ fn frames_behind_the_preface(rt: HostRuntime) -> Result<(), Fail> {
         rt.alloc(),
         b"\x00\x00\x08\x06\x00\x00\x00\x00\x00\x01\x02\x03\x04\x05\x06\x07\x08\x00\x40\x01\x00\x00\x00\x00\x00\x01",
     )?;
-    let ping = FrameRef {
-        head: head(8, 6, 0),
-        payload: DIGITS,
-    };
-    assert_eq!(rt; next(&mut splitter), Some(Item::Frame(ping)));
-    assert_eq!(rt;
-        next(&mut splitter),
-        Some(Item::Oversize(head(16_385, 0, 1))),
-        "its payload is not awaited"
-    );
-    splitter.push(PING)?;
-    assert!(rt; next(&mut splitter).is_none(), "no item follows");
-    Ok(())
+    Ok(compare_items(&rt, &mut splitter)?)
 }
 
-/// Whether frames of no octets are taken as they come, so many, where the splitter has no more memory than these 64 octets.
-fn taken_within(heap: &LocalHeap, count: u32) -> Result<bool, AllocError> {
-    let mut splitter = Splitter::new(heap);
+/// Whether frames of no octets are taken as they come, so many.
+fn takes_frames(splitter: &mut Splitter<&LocalHeap>, count: u32) -> Result<bool, AllocError> {
     splitter.push(PREFACE)?;
     let mut all_taken = splitter.next(16_384) == Some(Item::Preface);
     for _ in 0..count {
@@ -118,6 +130,12 @@ fn taken_within(heap: &LocalHeap, count: u32) -> Result<bool, AllocError> {
         all_taken = all_taken && splitter.next(16_384).is_some();
     }
     Ok(all_taken && splitter.rest_len() == 0)
+}
+
+/// The same where the splitter has no more memory than these octets.
+fn taken_within(heap: &LocalHeap, count: u32) -> Result<bool, AllocError> {
+    let mut splitter = Splitter::new(heap);
+    takes_frames(&mut splitter, count)
 }
 
 #[test]

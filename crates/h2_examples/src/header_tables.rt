@@ -3,6 +3,7 @@
 use crate::same::same;
 use h2_table::{DynTable, static_field};
 use std::alloc::{AllocError, Global};
+use std::process::Abort;
 use std::test::Fail;
 
 // These have no clause, so that the proof of a test does not carry the entries.
@@ -32,18 +33,38 @@ fn set_max(table: &mut DynTable<Global>, max: u64) -> u8 {
     }
 }
 
+/// Names and values that are added to a table of 100 octets, how many entries there are then, and what they count.
+static ADDED: [(&str, &str, usize, usize); 3] = [
+    ("a", "b", 1, 34),
+    ("c", "d", 2, 68),
+    ("e", "f", 2, 68),
+];
+
+fn compare_added(
+    rt: &impl Abort,
+    alloc: Global,
+    table: &mut DynTable<Global>,
+) -> Result<(), AllocError> {
+    for (name, value, len, size) in &ADDED {
+        add(table, alloc, name, value)?;
+        same(rt, &counts(table), &(*len, *size, 100), name);
+    }
+    Ok(())
+}
+
+fn compare_maxima(rt: &impl Abort, table: &mut DynTable<Global>) {
+    for (max, fault, size) in [(40, 0, 34), (101, 3, 34)] {
+        same(rt, &set_max(table, max), &fault, &max);
+        same(rt, &counts(table), &(1, size, 40), &max);
+    }
+}
+
 #[test]
 fn entries_come_and_go(rt: HostRuntime) -> Result<(), Fail> {
     let mut table = DynTable::new(rt.alloc(), 100)?;
     assert!(rt; table.is_empty() && table.limit() == 100);
-    for (name, value, len, size) in [("a", "b", 1, 34), ("c", "d", 2, 68), ("e", "f", 2, 68)] {
-        add(&mut table, rt.alloc(), name, value)?;
-        same(&rt, &counts(&table), &(len, size, 100), &name);
-    }
-    for (max, fault, size) in [(40, 0, 34), (101, 3, 34)] {
-        same(&rt, &set_max(&mut table, max), &fault, &max);
-        same(&rt, &counts(&table), &(1, size, 40), &max);
-    }
+    compare_added(&rt, rt.alloc(), &mut table)?;
+    compare_maxima(&rt, &mut table);
     Ok(())
 }
 
@@ -105,17 +126,20 @@ fn an_entry_larger_than_the_maximum_empties_the_table(rt: HostRuntime) -> Result
     Ok(())
 }
 
+/// Indices, and the fields of the static table there.
+static FIELDS: [(usize, Option<(&[u8], &[u8])>); 7] = [
+    (0, None),
+    (1, Some((b":authority", b""))),
+    (2, Some((b":method", b"GET"))),
+    (8, Some((b":status", b"200"))),
+    (16, Some((b"accept-encoding", b"gzip, deflate"))),
+    (61, Some((b"www-authenticate", b""))),
+    (62, None),
+];
+
 #[test]
 fn the_static_table_is_numbered_from_1(rt: HostRuntime) {
-    for (index, name, value) in [
-        (1, ":authority", ""),
-        (2, ":method", "GET"),
-        (8, ":status", "200"),
-        (16, "accept-encoding", "gzip, deflate"),
-        (61, "www-authenticate", ""),
-    ] {
-        let field = Some((name.as_bytes(), value.as_bytes()));
-        same(&rt, &static_field(index), &field, &index);
+    for (index, field) in &FIELDS {
+        same(&rt, &static_field(*index), field, index);
     }
-    assert!(rt; static_field(0).is_none() && static_field(62).is_none());
 }

@@ -198,21 +198,24 @@ fn fault_of(alloc: Global, digits: &str) -> Result<Option<u8>, Fail> {
     }
 }
 
+/// Octets that spell no instruction, and the number of the fault.
+static REFUSED: [(&str, Option<u8>); 10] = [
+    ("", None),
+    ("ff80808080", None),
+    ("41", None),
+    ("4182", None),
+    ("4182ff", None),
+    ("3fe1", None),
+    ("ff8080808080", Some(5)),
+    ("417fff8080808080", Some(5)),
+    ("4182ffff", Some(6)),
+    ("4184ffffffff", Some(6)),
+];
+
 #[test]
 fn instructions_are_refused(rt: HostRuntime) -> Result<(), Fail> {
-    for (octets, fault) in [
-        ("", None),
-        ("ff80808080", None),
-        ("41", None),
-        ("4182", None),
-        ("4182ff", None),
-        ("3fe1", None),
-        ("ff8080808080", Some(5)),
-        ("417fff8080808080", Some(5)),
-        ("4182ffff", Some(6)),
-        ("4184ffffffff", Some(6)),
-    ] {
-        same(&rt, &fault_of(rt.alloc(), octets)?, &fault, &octets);
+    for (octets, fault) in &REFUSED {
+        same(&rt, &fault_of(rt.alloc(), octets)?, fault, octets);
     }
     Ok(())
 }

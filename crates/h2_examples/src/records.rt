@@ -69,11 +69,12 @@ fn end_both(rt: &impl Abort, streams: &mut Streams<Global>, id: u32) {
     streams.end_local(id);
 }
 
-#[test]
-fn a_stream_opens_and_ends(rt: HostRuntime) -> Result<(), Fail> {
-    let mut streams = Streams::new(rt.alloc());
-    compare_kinds(&rt, &streams, &[(1, Kind::Idle)], "at first");
-    open(&rt, &mut streams, 5, None, false)?;
+fn compare_opened_and_ended(
+    rt: &impl Abort,
+    streams: &mut Streams<Global>,
+) -> Result<(), AllocError> {
+    compare_kinds(rt, streams, &[(1, Kind::Idle)], "at first");
+    open(rt, streams, 5, None, false)?;
     let kinds = [
         (1, Kind::Skipped),
         (2, Kind::Idle),
@@ -81,19 +82,23 @@ fn a_stream_opens_and_ends(rt: HostRuntime) -> Result<(), Fail> {
         (5, Kind::BothOpen),
         (7, Kind::Idle),
     ];
-    compare_kinds(&rt, &streams, &kinds, "stream 5 is open");
-    end_both(&rt, &mut streams, 5);
-    compare_closed(&rt, &streams, 5, Kind::Ended, "stream 5 at its end");
+    compare_kinds(rt, streams, &kinds, "stream 5 is open");
+    end_both(rt, streams, 5);
+    compare_closed(rt, streams, 5, Kind::Ended, "stream 5 at its end");
     Ok(())
 }
 
-/// A stream 5 that is open, and a stream 7 that the server has reset.
-fn open_and_reset(rt: &impl Abort, alloc: Global) -> Result<Streams<Global>, AllocError> {
-    let mut streams = Streams::new(alloc);
-    open(rt, &mut streams, 5, None, false)?;
+#[test]
+fn a_stream_opens_and_ends(rt: HostRuntime) -> Result<(), Fail> {
+    let mut streams = Streams::new(rt.alloc());
+    Ok(compare_opened_and_ended(&rt, &mut streams)?)
+}
+
+/// A stream 5 is opened, and a stream 7 that the server resets.
+fn open_and_reset(rt: &impl Abort, streams: &mut Streams<Global>) -> Result<(), AllocError> {
+    open(rt, streams, 5, None, false)?;
     assert!(rt; streams.last() < 7);
-    streams.open_reset(7)?;
-    Ok(streams)
+    streams.open_reset(7)
 }
 
 /// The identifiers of the first records, in their order.
@@ -105,17 +110,22 @@ fn has_record(streams: &Streams<Global>, id: u32) -> bool {
     streams.get(id).is_some()
 }
 
+fn compare_order(rt: &impl Abort, streams: &mut Streams<Global>) -> Result<(), AllocError> {
+    open_and_reset(rt, streams)?;
+    compare_counts(rt, streams, (7, 1), "the last stream and the live ones");
+    compare_kinds(rt, streams, &[(7, Kind::WeReset)], "stream 7");
+    let ids = first_ids(streams);
+    same(rt, &ids, &[Some(5), Some(7), None], &"in their order");
+    assert!(rt; !has_record(streams, 3));
+    end_both(rt, streams, 5);
+    compare_counts(rt, streams, (7, 0), "live streams at the end");
+    Ok(())
+}
+
 #[test]
 fn records_stand_in_the_order_of_opening(rt: HostRuntime) -> Result<(), Fail> {
-    let mut streams = open_and_reset(&rt, rt.alloc())?;
-    compare_counts(&rt, &streams, (7, 1), "the last stream and the live ones");
-    compare_kinds(&rt, &streams, &[(7, Kind::WeReset)], "stream 7");
-    let ids = first_ids(&streams);
-    same(&rt, &ids, &[Some(5), Some(7), None], &"in their order");
-    assert!(rt; !has_record(&streams, 3));
-    end_both(&rt, &mut streams, 5);
-    compare_counts(&rt, &streams, (7, 0), "live streams at the end");
-    Ok(())
+    let mut streams = Streams::new(rt.alloc());
+    Ok(compare_order(&rt, &mut streams)?)
 }
 
 /// The send window of a stream, if it has a record.
@@ -194,13 +204,21 @@ fn stream_at(streams: &Streams<Global>, id: u32) -> Stream {
 }
 
 /// The greatest window that is moved, whether that is refused, the window of stream 1, and whether the full stream 3 is as before.
-fn moved_beside_full(alloc: Global, kind: Kind) -> Result<(i32, bool, i32, bool), Fail> {
-    let mut streams = Streams::new(alloc);
+type Moved = (i32, bool, i32, bool);
+
+fn moved(streams: &mut Streams<Global>, kind: Kind) -> Result<Moved, Fail>
+    requires { streams.old ≡ no_records }
+{
     let full = full(kind);
-    let (greatest, refused) = open_and_move(&mut streams, full)?;
+    let (greatest, refused) = open_and_move(streams, full)?;
     let greatest = greatest.ok_or("a window")?.value();
-    let window = stream_at(&streams, 1).numbers.send.value();
-    Ok((greatest, refused, window, stream_at(&streams, 3) == full))
+    let window = stream_at(streams, 1).numbers.send.value();
+    Ok((greatest, refused, window, stream_at(streams, 3) == full))
+}
+
+fn moved_beside_full(alloc: Global, kind: Kind) -> Result<Moved, Fail> {
+    let mut streams = Streams::new(alloc);
+    moved(&mut streams, kind)
 }
 
 #[test]
@@ -255,17 +273,21 @@ fn put_1_and_13(rt: &impl Abort, streams: &mut Streams<Global>) -> Result<(), Al
     streams.put(not_live(13, Kind::WeReset))
 }
 
+fn compare_puts(rt: &impl Abort, streams: &mut Streams<Global>) -> Result<(), AllocError> {
+    let waiting = octets_waiting(&stream_at(streams, 11));
+    same(rt, &waiting, &2, &"what waits on stream 11");
+    reset_7_and_fill_3(rt, streams);
+    compare_closed(rt, streams, 7, Kind::PeerReset, "stream 7");
+    put_1_and_13(rt, streams)?;
+    compare_closed(rt, streams, 1, Kind::WeReset, "stream 1");
+    compare_counts(rt, streams, (13, 3), "the last stream and the live ones");
+    Ok(())
+}
+
 #[test]
 fn streams_are_put_in_their_places(rt: HostRuntime) -> Result<(), Fail> {
     let mut streams = five_streams(&rt, rt.alloc())?;
-    let waiting = octets_waiting(&stream_at(&streams, 11));
-    same(&rt, &waiting, &2, &"what waits on stream 11");
-    reset_7_and_fill_3(&rt, &mut streams);
-    compare_closed(&rt, &streams, 7, Kind::PeerReset, "stream 7");
-    put_1_and_13(&rt, &mut streams)?;
-    compare_closed(&rt, &streams, 1, Kind::WeReset, "stream 1");
-    compare_counts(&rt, &streams, (13, 3), "the last stream and the live ones");
-    Ok(())
+    Ok(compare_puts(&rt, &mut streams)?)
 }
 
 fn copied(streams: &Streams<Global>) -> Result<Streams<Global>, AllocError> {
@@ -284,19 +306,26 @@ fn changed(rt: &impl Abort, streams: &mut Streams<Global>) -> Result<Streams<Glo
     Ok(copy)
 }
 
+/// An identifier, and the streams that wait to send above it: after the changes, and in a copy from before them.
+static WAITING: [(u32, Option<u32>, Option<u32>); 5] = [
+    (0, Some(3), Some(1)),
+    (1, Some(3), Some(7)),
+    (3, Some(11), Some(7)),
+    (10, Some(11), Some(11)),
+    (11, None, None),
+];
+
+fn compare_waiting(rt: &impl Abort, streams: &Streams<Global>, copy: &Streams<Global>) {
+    for (after, next, before) in &WAITING {
+        let found = [next_waiting(streams, *after), next_waiting(copy, *after)];
+        same(rt, &found, &[*next, *before], after);
+    }
+}
+
 #[test]
 fn streams_wait_to_send_by_rising_identifier(rt: HostRuntime) -> Result<(), Fail> {
     let mut streams = five_streams(&rt, rt.alloc())?;
     let copy = changed(&rt, &mut streams)?;
-    for (after, next, before) in [
-        (0, Some(3), Some(1)),
-        (1, Some(3), Some(7)),
-        (3, Some(11), Some(7)),
-        (10, Some(11), Some(11)),
-        (11, None, None),
-    ] {
-        let found = [next_waiting(&streams, after), next_waiting(&copy, after)];
-        same(&rt, &found, &[next, before], &after);
-    }
+    compare_waiting(&rt, &streams, &copy);
     Ok(())
 }
