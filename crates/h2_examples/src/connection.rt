@@ -3,11 +3,12 @@
 use crate::frames::PREFACE;
 use crate::same::same;
 use h2_conn::play::play;
+use h2_conn::view::View;
 use h2_conn::{Conn, ConnFault};
 use h2_request::book::Book;
 use h2_spec::connection::{Config, Phase};
 use h2_spec::streams::Kind;
-use std::alloc::Global;
+use std::alloc::{AllocError, Global};
 use std::test::Fail;
 
 /// The usual limits.
@@ -19,6 +20,10 @@ fn usual() -> Config {
 }
 
 // These have no clause, so that the proof of a test does not carry the state of each call.
+
+pub(crate) fn no_answers(alloc: Global) -> Book<Global> {
+    Book::new(alloc)
+}
 
 /// A new connection of these limits; what it sends stands behind `sent`.
 pub(crate) fn opened<'a>(
@@ -43,7 +48,7 @@ fn opened_end(
     credit: u32,
     sent: &mut Vec<u8>,
 ) -> Result<End, ConnFault> {
-    let book = Book::new(alloc);
+    let book = no_answers(alloc);
     let conn = opened(&book, Config { streams, credit }, sent)?;
     Ok(end_of(&conn))
 }
@@ -54,31 +59,28 @@ fn opening(alloc: Global, streams: u32, credit: u32) -> (Result<End, ConnFault>,
     (opened_end(alloc, streams, credit, &mut sent), sent)
 }
 
-#[test]
-fn limits_out_of_range_are_refused(rt: HostRuntime) {
-    for (streams, credit) in [(0, 1), (1001, 1), (1, 0), (1, 65536)] {
-        let (refused, sent) = opening(rt.alloc(), streams, credit);
-        same(
-            &rt,
-            &(refused, sent.len()),
-            &(Err(ConnFault::BadConfig), 0),
-            &(streams, credit),
-        );
-    }
-}
+/// Limits, the end of a new connection of them, what it sends, and a name.
+static LIMITS: [(u32, u32, Result<End, ConnFault>, &[u8], &str); 5] = [
+    (0, 1, Err(ConnFault::BadConfig), b"", "no stream"),
+    (1001, 1, Err(ConnFault::BadConfig), b"", "1001 streams"),
+    (1, 0, Err(ConnFault::BadConfig), b"", "no credit"),
+    (1, 65536, Err(ConnFault::BadConfig), b"", "65536 octets"),
+    // SETTINGS_MAX_CONCURRENT_STREAMS 1000 and SETTINGS_MAX_HEADER_LIST_SIZE 65536 (RFC 9113, 6.5.2).
+    (
+        1000,
+        65535,
+        Ok((None, false)),
+        b"\x00\x00\x0c\x04\x00\x00\x00\x00\x00\x00\x03\x00\x00\x03\xe8\x00\x06\x00\x01\x00\x00",
+        "the opening SETTINGS",
+    ),
+];
 
 #[test]
-fn settings_are_sent_first(rt: HostRuntime) {
-    let (end, sent) = opening(rt.alloc(), 1000, 65535);
-    // SETTINGS_MAX_CONCURRENT_STREAMS 1000 and SETTINGS_MAX_HEADER_LIST_SIZE 65536 (RFC 9113, 6.5.2).
-    let settings =
-        b"\x00\x00\x0c\x04\x00\x00\x00\x00\x00\x00\x03\x00\x00\x03\xe8\x00\x06\x00\x01\x00\x00";
-    same(
-        &rt,
-        &(end, sent.as_slice()),
-        &(Ok((None, false)), settings.as_slice()),
-        &"the opening SETTINGS",
-    );
+fn limits_out_of_range_are_refused_and_settings_sent_first(rt: HostRuntime) {
+    for (streams, credit, end, octets, name) in &LIMITS {
+        let (found, sent) = opening(rt.alloc(), *streams, *credit);
+        same(&rt, &(found, sent.as_slice()), &(*end, *octets), name);
+    }
 }
 
 /// After each piece the number of items in it and of the octets sent; the octets sent behind the opening SETTINGS; and the end.
@@ -120,7 +122,7 @@ fn progress(
 }
 
 fn fed(alloc: Global, pieces: &[&[u8]]) -> Result<Progress, Fail> {
-    let book = Book::new(alloc);
+    let book = no_answers(alloc);
     let mut conn = opened_over(alloc, &book)?;
     progress(alloc, &mut conn, pieces)
 }
@@ -189,7 +191,7 @@ fn steps(
 
 /// What comes of each piece that is given to a new connection.
 fn fed_one(alloc: Global, pieces: &[&[u8]]) -> Result<Vec<(usize, bool, usize)>, Fail> {
-    let book = Book::new(alloc);
+    let book = no_answers(alloc);
     let mut conn = opened_over(alloc, &book)?;
     steps(alloc, &mut conn, pieces)
 }
@@ -249,7 +251,7 @@ fn phase_and_texts(
 
 /// The same of a new connection.
 fn shown(alloc: Global) -> Result<(Phase, (String, String)), Fail> {
-    let book = Book::new(alloc);
+    let book = no_answers(alloc);
     let conn = opened_over(alloc, &book)?;
     phase_and_texts(alloc, &conn)
 }
@@ -270,18 +272,26 @@ fn the_state_is_shown(rt: HostRuntime) -> Result<(), Fail> {
     Ok(())
 }
 
-/// The phase and the last stream of a run over octets in pieces of these lengths, its streams, and the octets sent.
-type Played = (Phase, u32, Vec<(u32, Kind)>, Vec<u8>);
+/// The phase and the last stream of a run over octets in pieces of these lengths, and its streams.
+type Seen = (Phase, u32, Vec<(u32, Kind)>);
 
-fn played(alloc: Global, octets: &[u8], lengths: &[usize]) -> Result<Played, Fail> {
-    let book = Book::new(alloc);
-    let mut sent = Vec::new(alloc);
-    let view = play(&book, usual(), octets, lengths, &mut sent)?;
+fn seen(alloc: Global, view: &View<Global>) -> Result<Seen, AllocError> {
     let mut streams = Vec::new(alloc);
     for stream in view.streams.as_slice() {
         streams.push((stream.id, stream.kind))?;
     }
-    Ok((view.phase, view.last, streams, sent))
+    Ok((view.phase, view.last, streams))
+}
+
+fn played(
+    alloc: Global,
+    octets: &[u8],
+    lengths: &[usize],
+    sent: &mut Vec<u8>,
+) -> Result<Seen, Fail> {
+    let book = no_answers(alloc);
+    let view = play(&book, usual(), octets, lengths, sent)?;
+    Ok(seen(alloc, &view)?)
 }
 
 #[test]
@@ -293,7 +303,8 @@ fn runs_are_played(rt: HostRuntime) -> Result<(), Fail> {
     let answers =
         b"\x00\x00\x0c\x04\x00\x00\x00\x00\x00\x00\x03\x00\x00\x00\x64\x00\x06\x00\x01\x00\x00\x00\x00\x00\x04\x01\x00\x00\x00\x00\x00\x00\x04\x03\x00\x00\x00\x00\x01\x00\x00\x00\x01";
     for lengths in [[].as_slice(), [1, 24, 100].as_slice()] {
-        let (phase, last, streams, sent) = played(rt.alloc(), octets, lengths)?;
+        let mut sent = Vec::new(rt.alloc());
+        let (phase, last, streams) = played(rt.alloc(), octets, lengths, &mut sent)?;
         let found = (phase, last, streams.as_slice(), sent.as_slice());
         let streams = [(1, Kind::WeReset)];
         let wanted = (Phase::Running, 1, streams.as_slice(), answers.as_slice());
@@ -304,7 +315,7 @@ fn runs_are_played(rt: HostRuntime) -> Result<(), Fail> {
 
 /// The fault of a run of no stream, and the octets behind which it would have sent.
 fn refused(alloc: Global) -> Result<(Option<ConnFault>, Vec<u8>), Fail> {
-    let book = Book::new(alloc);
+    let book = no_answers(alloc);
     let mut sent = Vec::from_slice(alloc, b"kept")?;
     let config = Config {
         streams: 0,

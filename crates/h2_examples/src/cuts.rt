@@ -1,7 +1,7 @@
 //! The same octets in other pieces, and the beginnings of octets (RFC 9113, 4.1).
 
-use crate::connection::opened;
-use crate::program::{compare, ran};
+use crate::connection::{no_answers, opened};
+use crate::program::{compare, digits_of, octets_of, ran};
 use crate::same::same;
 use h2_bench::parse_answer;
 use h2_conn::Conn;
@@ -105,7 +105,7 @@ fn ones(alloc: Global, count: usize) -> Result<Vec<usize>, AllocError> {
 
 /// A book of one answer with a body.
 fn book_of_one(alloc: Global) -> Result<Book<Global>, Fail> {
-    let mut book = Book::new(alloc);
+    let mut book = no_answers(alloc);
     book.add(parse_answer(alloc, "GET|/|200|6869")?)?;
     Ok(book)
 }
@@ -150,7 +150,7 @@ fn compare_cuts_of_hex(
     name: &str,
     hex: &str,
 ) -> Result<(), Fail> {
-    let octets = hex::decode(alloc, hex)?;
+    let octets = octets_of(alloc, hex)?;
     compare_cuts(rt, alloc, book, name, octets.as_slice())
 }
 
@@ -200,14 +200,14 @@ fn compare_beginnings(
 
 #[test]
 fn beginnings_send_beginnings(rt: HostRuntime) -> Result<(), Fail> {
-    let book = Book::new(rt.alloc());
-    let octets = hex::decode(rt.alloc(), ONE_AT_A_TIME)?;
+    let book = no_answers(rt.alloc());
+    let octets = octets_of(rt.alloc(), ONE_AT_A_TIME)?;
     compare_beginnings(&rt, rt.alloc(), &book, octets.as_slice())
 }
 
 /// What the program prints where this was sent and a connection shows this.
 fn told(alloc: Global, conn: &Conn<'_, Global>, sent: &[u8]) -> Result<String, Fail> {
-    let sent = hex::encode(alloc, sent)?;
+    let sent = digits_of(alloc, sent)?;
     let shown = shown(alloc, conn)?;
     Ok(format!(in alloc; "sent {sent}\n{shown}")?)
 }
@@ -220,7 +220,7 @@ fn compare_place(
     sent: &[u8],
     octets: &[u8],
 ) -> Result<(), Fail> {
-    let input = hex::encode(alloc, octets)?;
+    let input = digits_of(alloc, octets)?;
     let want = told(alloc, conn, sent)?;
     let words = ["play", "--streams", "1"];
     let (name, want) = (input.as_str(), want.as_bytes());
@@ -248,7 +248,7 @@ fn compare_places_from_the_opening(
     alloc: Global,
     octets: &[u8],
 ) -> Result<(), Fail> {
-    let book = Book::new(alloc);
+    let book = no_answers(alloc);
     let mut sent = Vec::new(alloc);
     let mut conn = opened(&book, one_stream(), &mut sent)?;
     compare_places(rt, alloc, &mut conn, &mut sent, octets)
@@ -256,6 +256,6 @@ fn compare_places_from_the_opening(
 
 #[test]
 fn beginnings_are_played_as_octets_come(rt: HostRuntime) -> Result<(), Fail> {
-    let octets = hex::decode(rt.alloc(), ONE_AT_A_TIME)?;
+    let octets = octets_of(rt.alloc(), ONE_AT_A_TIME)?;
     compare_places_from_the_opening(&rt, rt.alloc(), octets.as_slice())
 }

@@ -1,5 +1,6 @@
 //! The decoder of field blocks on worked values: RFC 7541, Appendix C.2 to C.6; blocks that are refused, cut, or at the edge of the table.
 
+use crate::program::octets_of;
 use crate::same::same;
 use h2_fields::block::BlockDecoder;
 use h2_fields::fault::BlockFault;
@@ -50,11 +51,6 @@ fn list_size(decoder: &BlockDecoder<Global>) -> u64 {
 
 fn table_size(table: &DynTable<Global>) -> usize {
     table.size()
-}
-
-/// The octets that digits spell.
-fn octets_of(alloc: Global, digits: &str) -> Result<Vec<u8>, Fail> {
-    Ok(hex::decode(alloc, digits)?)
 }
 
 /// A decoder's fields as the cases write them.
@@ -625,24 +621,24 @@ fn begun(alloc: Global, table: &mut DynTable<Global>) -> Result<BlockDecoder<Glo
     Ok(decoder)
 }
 
-/// A decoder that goes on, and its copy from before that.
-fn go_on_beside_a_copy(
+/// A decoder that goes on, its copy from before that, and the copy that goes on in another way.
+fn show_both(
     alloc: Global,
+    decoder: &mut BlockDecoder<Global>,
+    copy: &mut BlockDecoder<Global>,
     table: &mut DynTable<Global>,
     text: &mut Vec<u8>,
-) -> Result<BlockDecoder<Global>, Fail> {
-    let mut decoder = begun(alloc, table)?;
-    let copy = copied(&decoder)?;
-    go_on(alloc, &mut decoder, table, b"c\x86", text)?;
-    Ok(copy)
+) -> Result<(), Fail> {
+    go_on(alloc, decoder, table, b"c\x86", text)?;
+    show(alloc, copy, text)?;
+    go_on(alloc, copy, table, b"d", text)
 }
 
-/// A decoder that goes on, its copy before that, and the copy that goes on in another way.
 fn show_a_copy(alloc: Global, text: &mut Vec<u8>) -> Result<(), Fail> {
     let mut table = empty_table(alloc, 4096)?;
-    let mut copy = go_on_beside_a_copy(alloc, &mut table, text)?;
-    show(alloc, &copy, text)?;
-    go_on(alloc, &mut copy, &mut table, b"d", text)
+    let mut decoder = begun(alloc, &mut table)?;
+    let mut copy = copied(&decoder)?;
+    show_both(alloc, &mut decoder, &mut copy, &mut table, text)
 }
 
 #[test]

@@ -4,6 +4,7 @@ ghost use Rattle.std.specs.Prelude.{◌≤◌};
 ghost use Rattle.std.specs.List.{AllByRecursion};
 ghost use Rattle.h2_fields.specs.Instructions.{IsWritableField};
 
+use crate::program::digits_of;
 use crate::same::same;
 use h2_fields::field::Field;
 use h2_fields::octets::Octets;
@@ -73,7 +74,7 @@ fn response(
     requires fields { AllByRecursion IsWritableField fields.now }
 {
     let block = response_block(alloc, signal, status, fields)?;
-    Ok(hex::encode(alloc, block.as_slice())?)
+    digits_of(alloc, block.as_slice())
 }
 
 #[test]

@@ -3,6 +3,7 @@
 ghost use Rattle.std.specs.Prelude.{◌≡◌, true};
 ghost use Rattle.h2_fields.specs.Instructions.{IsWritable, IsWritableName, IsWritableText, instr_of, name_text_of};
 
+use crate::program::{digits_of, octets_of};
 use crate::same::same;
 use h2_fields::fault::BlockFault;
 use h2_fields::instruction::{Instr, InstrRead, Name, Text, read_instr, write_instr};
@@ -36,11 +37,6 @@ fn is_writable_text(text: &Text<Global>) -> bool
 }
 
 // These have no clause that says what they answer, so that the proof of a test does not carry the state of each call.
-
-/// The octets that digits spell.
-fn octets_of(alloc: Global, digits: &str) -> Result<Vec<u8>, Fail> {
-    Ok(hex::decode(alloc, digits)?)
-}
 
 fn read(alloc: Global, octets: &[u8]) -> Result<InstrRead<Global>, BlockFault> {
     read_instr(alloc, octets)
@@ -153,7 +149,7 @@ static SPELLINGS: [Spelling; 9] = [
 fn written(alloc: Global, instr: &Instr<Global>) -> Result<String, Fail> {
     let mut out = Vec::from_slice(alloc, b"?")?;
     if write(instr, &mut out)? {
-        Ok(hex::encode(alloc, out.as_slice())?)
+        digits_of(alloc, out.as_slice())
     } else {
         Err(Fail::from("the instruction can be written"))
     }

@@ -52,6 +52,17 @@ pub(crate) fn words_of(alloc: Global, texts: &[&str]) -> Result<Words, AllocErro
     Ok(words)
 }
 
+/// The octets that digits spell.
+// These two have no clause, so that the proof of a test does not carry the digits.
+pub(crate) fn octets_of(alloc: Global, digits: &str) -> Result<Vec<u8>, Fail> {
+    Ok(hex::decode(alloc, digits)?)
+}
+
+/// The digits that spell octets.
+pub(crate) fn digits_of(alloc: Global, octets: &[u8]) -> Result<String, Fail> {
+    Ok(hex::encode(alloc, octets)?)
+}
+
 /// The exit status of a run of the program, and what it prints.
 pub(crate) fn ran(alloc: Global, texts: &[&str], input: &[u8]) -> Result<(u8, Vec<u8>), Fail> {
     let words = words_of(alloc, texts)?;

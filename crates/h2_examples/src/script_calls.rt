@@ -1,5 +1,6 @@
 //! Single calls of `assemble` and `disassemble`; the expected octets are written out from RFC 9113 and RFC 7541.
 
+use crate::program::{digits_of, octets_of};
 use crate::same::same;
 use h2_script::{ScriptFault, SyntaxKind, assemble, disassemble};
 use std::alloc::Global;
@@ -10,7 +11,7 @@ use std::test::Fail;
 /// The octets that a script stands for, as hex.
 fn assembled(alloc: Global, text: &str) -> Result<String, Fail> {
     let octets = assemble(alloc, text).ok().ok_or("a script")?;
-    Ok(hex::encode(alloc, octets.as_slice())?)
+    digits_of(alloc, octets.as_slice())
 }
 
 /// Why a text is no script.
@@ -20,7 +21,7 @@ fn refused(alloc: Global, text: &str) -> Option<ScriptFault> {
 
 /// The script that is written for octets.
 fn written(alloc: Global, digits: &str) -> Result<String, Fail> {
-    let octets = hex::decode(alloc, digits)?;
+    let octets = octets_of(alloc, digits)?;
     Ok(disassemble(alloc, octets.as_slice())?)
 }
 
