@@ -1,7 +1,7 @@
 //! Windows, credit and settings: the small values that flow control counts with (RFC 9113, 5.2, 6.5.2 and 6.9).
 //! Rests on `errors`; definitions: `specs/Window.antt`, `specs/Settings.antt`.
 
-ghost use Rattle.std.specs.Prelude.{◌≡◌, ℕ, ℤ, pos, negsuc, ◌+◌, ◌<◌, ◌≤◌, ◌^◌, ◌-ℤ◌, ◌+ℤ◌, ◌≤ℤ◌, ◌↔◌, int_lt, IsOk, OnOk, IfErr};
+ghost use Rattle.std.specs.Prelude.{◌≡◌, ℕ, ℤ, pos, negsuc, ◌+◌, ◌<◌, ◌≤◌, ◌^◌, ◌-ℤ◌, ◌+ℤ◌, ◌≤ℤ◌, ◌↔◌, ◌&&◌, nat_le, int_lt, IsOk, OnOk, IfErr};
 ghost use Rattle.h2_spec.specs.Window.{max_window, given_back, still_owed};
 ghost use Rattle.h2_spec.specs.Settings.{initial, own_initial, with_setting, window_change, settings_or};
 
@@ -53,7 +53,8 @@ impl Window {
         ensures taken { OnOk result (self.new ≡ self.old -ℤ pos count) }
         ensures refused { IfErr result (λ e. (e ≡ FlowFault.Exceeded) × (self.new ≡ self.old)) }
     {
-        if self.is_below(count) {
+        let lacks = self.is_below(count);
+        if lacks {
             return Err(FlowFault::Exceeded);
         }
         *self = self.minus(count);
@@ -191,7 +192,8 @@ impl Credit {
         ensures owed { self.new ≡ still_owed threshold (self.old + count) }
     {
         let owed = self.octets + count;
-        if owed < threshold {
+        let keeps = owed < threshold;
+        if keeps {
             self.octets = owed;
             return None;
         }
@@ -287,13 +289,13 @@ impl Settings {
             }
             SETTINGS_MAX_CONCURRENT_STREAMS => self.streams = Some(value),
             SETTINGS_INITIAL_WINDOW_SIZE => {
-                if value > MAX_WINDOW {
+                if !is_window(value) {
                     return Err(FlowFault::BadSetting(ErrorCode::FlowControlError));
                 }
                 self.window = value;
             }
             SETTINGS_MAX_FRAME_SIZE => {
-                if !(16_384..=16_777_215).contains(&value) {
+                if !is_frame_size(value) {
                     return Err(FlowFault::BadSetting(ErrorCode::ProtocolError));
                 }
                 self.frame = value;
@@ -303,6 +305,20 @@ impl Settings {
         }
         Ok(i64::from(self.window) - i64::from(window))
     }
+}
+
+/// Whether a SETTINGS_INITIAL_WINDOW_SIZE is allowed (RFC 9113, 6.5.2).
+fn is_window(value: u32) -> bool
+    ensures { result ≡ nat_le value max_window }
+{
+    value <= MAX_WINDOW
+}
+
+/// Whether a SETTINGS_MAX_FRAME_SIZE is allowed (RFC 9113, 6.5.2).
+fn is_frame_size(value: u32) -> bool
+    ensures { result ≡ (nat_le 16384 value && nat_le value 16777215) }
+{
+    (16_384..=16_777_215).contains(&value)
 }
 
 /// The server's own settings that are in force.
