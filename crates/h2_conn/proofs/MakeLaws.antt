@@ -1,5 +1,6 @@
 -- A change is made: what the records have to be for it, and what its two passes come to.
-use Rattle.std.proofs.Common.{◌≡◌, ℕ, ◌++◌, List, refl, sym, ap, subst, ◌∙◌, append-nil}
+use Rattle.std.proofs.Common.{◌≡◌, ℕ, ◌++◌, List, refl, sym, ap, subst, ◌∙◌, append-nil, append_assoc}
+use Rattle.std.proofs.lemmas.Grind.{flat_map-append}
 use Rattle.std.specs.Prelude.{None, Some, Option}
 use Rattle.h2_spec.specs.declared.connection.Core.{Core}
 use Rattle.h2_spec.specs.declared.connection.Phase.{Phase}
@@ -10,7 +11,7 @@ use Rattle.h2_spec.specs.declared.reactions.Touch.TheVariants.{Same, Put, Shift}
 use Rattle.h2_spec.specs.declared.streams.Stream.{Stream}
 use Rattle.h2_spec.specs.Answer.{Entry}
 use Rattle.h2_spec.specs.Change.{Step, frames_of, made, touched}
-use Rattle.h2_spec.specs.Frame.{Frame, frames_octets}
+use Rattle.h2_spec.specs.Frame.{Frame, frame_octets, frames_octets}
 use Rattle.h2_spec.specs.Pump.{pump}
 use Rattle.h2_spec.specs.State.{Decoding, OpenBlock, State}
 use Rattle.h2_spec.specs.Stream.{Records}
@@ -22,6 +23,12 @@ use Rattle.h2_conn.specs.Sending.{all_frames, core_after, core_after_as, records
 use Rattle.h2_rules.specs.Sound.{IsSoundChange, IsSoundState, IsSoundTouch, touched_records}
 use Rattle.h2_conn.proofs.KindLaws.{open-after-sending}
 use Rattle.h2_rules.proofs.SoundLaws.{touch-can-shift, touched-streams}
+
+-- frames, and then others
+pub in-turn : (out out' out'' : List ℕ) (fs gs : List Frame) → out' ≡ out ++ frames_octets fs → out'' ≡ out' ++ frames_octets gs → out'' ≡ out ++ frames_octets (fs ++ gs)
+in-turn out out' out'' fs gs first second =
+    second ∙ ap (λ (o : List ℕ). o ++ frames_octets gs) first
+    ∙ append_assoc out (frames_octets fs) (frames_octets gs) ∙ ap (λ (o : List ℕ). out ++ o) (sym (flat_map-append frame_octets fs gs))
 
 -- what is sound for the records of a state is sound for those that it holds
 pub inside-sound : (book : List Entry) (core : Core) (r : Records) (c : Change) → IsSoundState book core r →

@@ -6,6 +6,7 @@ ghost use Rattle.h2_spec.specs.Answer.{Entry};
 ghost use Rattle.h2_spec.specs.Change as changes;
 ghost use Rattle.h2_spec.specs.Frame.{frames_octets};
 ghost use Rattle.h2_spec.specs.Trace.{then_sent};
+ghost use Rattle.h2_spec.specs.declared.connection.Phase.TheVariants as phase;
 ghost use Rattle.h2_conn.specs.Blocks.{IsOpenFor};
 ghost use Rattle.h2_conn.specs.Does.{Does};
 ghost use Rattle.h2_conn.specs.Preview.{CanSend};
@@ -115,7 +116,7 @@ fn touch<A: Allocator>(streams: &mut Streams<A>, touch: Touch) -> Result<(), All
 }
 
 /// All that is sent for a change and behind it, and then what becomes of the records: whole, or in part and then they stay.
-fn send_and_touch<A: Allocator>(
+fn write_and_touch<A: Allocator>(
     book: &Book<A>,
     streams: &mut Streams<A>,
     change: &Change,
@@ -136,6 +137,32 @@ fn send_and_touch<A: Allocator>(
     touch(streams, change.touch)
 }
 
+/// All that is sent for a change and behind it, and then what becomes of the records: whole, or nothing.
+fn send_and_touch<A: Allocator>(
+    book: &Book<A>,
+    streams: &mut Streams<A>,
+    change: &Change,
+    payload: &[u8],
+    out: &mut Vec<u8, A>,
+) -> Result<(), AllocError>
+    requires fits { length payload.now < 2 ^ 24 }
+    requires frame { (0 < change.now.core.peer.frame) × (change.now.core.peer.frame < 2 ^ 24) }
+    requires sends { CanSend book.now streams.old change.now.touch }
+    requires touches { CanMake streams.old change.now.touch }
+    ensures sent { OnOk result (out.new.items ≡ out.old.items ++ frames_octets (all_frames book.now payload.now change.now streams.old.streams)) }
+    ensures touched { OnOk result (streams.new ≡ touched_records change.now.touch streams.old) }
+    ensures err { OnErr result ((streams.new ≡ streams.old) × (out.new.items ≡ out.old.items)) }
+{
+    let mark = out.len();
+    match write_and_touch(book, streams, change, payload, out) {
+        Ok(()) => Ok(()),
+        Err(error) => {
+            out.truncate(mark);
+            Err(error)
+        }
+    }
+}
+
 /// An open block that is decoded no more.
 fn stop<A: Allocator>(block: Option<OpenBlock<A>>) -> Option<OpenBlock<A>>
     ensures { result ≡ changes.only_shown block }
@@ -146,6 +173,16 @@ fn stop<A: Allocator>(block: Option<OpenBlock<A>>) -> Option<OpenBlock<A>>
             shown: block.shown,
             decoding: None,
         }),
+    }
+}
+
+/// The counts after a connection error: the phase alone is another (RFC 9113, 5.4.1).
+fn ended_by(code: ErrorCode, core: Core) -> Core
+    ensures { result ≡ record core { phase = phase.Ended code } }
+{
+    Core {
+        phase: Phase::Ended(code),
+        ..core
     }
 }
 
@@ -163,16 +200,12 @@ impl<'b, A: Allocator> State<'b, A> {
         ensures ok { OnOk result (Does (then_sent change.core.phase (changes.made self.old payload.now change)) out.old.items self.new out.new.items) }
         ensures err { OnErr result ((self.new ≡ self.old) × (out.new.items ≡ out.old.items)) }
     {
-        let mark = out.len();
         match send_and_touch(self.book, &mut self.streams, &change, payload, out) {
             Ok(()) => {
                 self.core = take_waiting(change.core, &mut self.streams);
                 Ok(())
             }
-            Err(error) => {
-                out.truncate(mark);
-                Err(error)
-            }
+            Err(error) => Err(error),
         }
     }
 
@@ -182,7 +215,7 @@ impl<'b, A: Allocator> State<'b, A> {
         ensures err { OnErr result ((self.new ≡ self.old) × (out.new.items ≡ out.old.items)) }
     {
         write_goaway(self.core.last, code, out)?;
-        self.core.phase = Phase::Ended(code);
+        self.core = ended_by(code, self.core);
         let block = self.block.take();
         self.block = stop(block);
         Ok(())
