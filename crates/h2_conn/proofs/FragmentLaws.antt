@@ -1,5 +1,5 @@
 -- Fragments: what a decoder that goes on comes to, and how a block ends.
-use Rattle.std.proofs.Common.{◌≡◌, ◌≢◌, ℕ, zero, suc, Bool, true, false, ◌&&◌, not, cond, ◌+◌, nat_lt, List, [], ◌∷◌, ◌++◌, append_assoc, drop, take, length, nat_le, Option, Some, None, Result, Ok, Err, refl, sym, ap, subst, ◌∙◌}
+use Rattle.std.proofs.Common.{◌≡◌, ◌≢◌, ℕ, zero, suc, Bool, true, false, ◌&&◌, not, cond, ◌+◌, ◌==◌, arith, nat_lt, List, [], ◌∷◌, ◌++◌, append_assoc, drop, take, length, nat_le, Option, Some, None, Result, Ok, Err, refl, sym, ap, subst, ◌∙◌}
 use Rattle.std.proofs.lemmas.List.{take-append-drop}
 use Rattle.std.specs.Option.{option_map}
 use Rattle.h2_fields.specs.Blocks.{answer_of, finish_of, unfinished}
@@ -7,7 +7,8 @@ use Rattle.h2_fields.specs.Faults.{fault_of}
 use Rattle.h2_fields.specs.declared.fault.BlockFault.{BlockFault}
 use Rattle.h2_fields.specs.declared.fault.BlockFault.TheVariants as fault
 use Rattle.h2_spec.specs.declared.connection.BlockView.{BlockView}
-use Rattle.h2_spec.specs.declared.errors.ErrorCode.TheVariants.{EnhanceYourCalm}
+use Rattle.h2_spec.specs.declared.errors.ErrorCode.{ErrorCode}
+use Rattle.h2_spec.specs.declared.errors.ErrorCode.TheVariants.{CompressionError, EnhanceYourCalm}
 use Rattle.h2_spec.specs.Block.{BlockSoFar, Decoded, Decoding, Fault, Faulty, Given, Index, SizeUpdate, Outcome, Progress, Unfinished, apply, carried_on, decoded, decoded_with, given, indexed_result, instr_taken, literal_result, name_of, next_instr, table_after, taken_unless, text_result, where_not_due, decoding, list_size}
 use Rattle.h2_spec.specs.DynamicTable.{Table, field_at, resize}
 use Rattle.h2_spec.specs.Field.{Field, field}
@@ -18,7 +19,7 @@ use Rattle.h2_spec.specs.Parse.{Front, Stop, One, parse_all, parse_upto, parse_f
 use Rattle.h2_spec.specs.Read.{Read, Whole, More, TooLong}
 use Rattle.h2_spec.specs.State as state
 use Rattle.h2_spec.proofs.BlockLaws.{decoded-append}
-use Rattle.h2_conn.specs.Blocks.{IsFaulty, IsGoing, after_fragment, before_fragment}
+use Rattle.h2_conn.specs.Blocks.{IsFaulty, IsGoing, after_fragment, before_fragment, end_error}
 
 -- ---- an update that is not due stays not due
 
@@ -170,7 +171,32 @@ ended-empty (Some (Faulty f)) h = refl
 ended-empty (Some (Unfinished [])) h = refl
 ended-empty (Some (Unfinished (x ∷ rest))) h = absurd (ok-not-err fault.Truncated (sym h))
 
--- and so the block ends
+-- and where it is one, some are
+pub ended-inside : (o : Option Outcome) (f : BlockFault) → o ≡ Some (Unfinished (unfinished o)) → finish_of o ≡ Err f → Some CompressionError ≡ end_error (unfinished o)
+ended-inside None f h e = cc
+ended-inside (Some (Faulty x)) f h e = cc
+ended-inside (Some (Unfinished [])) f h e = absurd (ok-not-err f e)
+ended-inside (Some (Unfinished (x ∷ rest))) f h e = refl
+
+some-not-none : (code : ErrorCode) → Some code ≡ None → ⊥
+some-not-none code e = cc
+
+pub no-error : (rest : List ℕ) → end_error rest ≡ None → rest ≡ []
+no-error [] h = refl
+no-error (x ∷ rest) h = absurd (some-not-none CompressionError h)
+
+-- and the block ends with a connection error
+pub read-broken : (s : state.State) (b : BlockView) (d : state.Decoding) (ends : Bool) (code : ErrorCode) → ends ≡ true → Some code ≡ end_error d.rest → headers.Breaks code ≡ fragment_read s b d ends
+read-broken s b d ends code e h = at d.rest h ∙ ap (λ t. fragment_read s b d t) (sym e)
+  where
+    at : (rest : List ℕ) → Some code ≡ end_error rest →
+        headers.Breaks code ≡ cond (length rest == 0) (headers.Makes (with_block s None) (headers.block_ends s b.stream b.ends d.fields d.purpose)) (headers.Breaks CompressionError)
+    at [] h = absurd (some-not-none code h)
+    at (x ∷ rest) h =
+        let some : (length (x ∷ rest) == 0) ≡ false = grind arith in
+        rw some (ap headers.Breaks (some-same code CompressionError h))
+
+-- where none are, the block ends
 pub read-ended : (s : state.State) (b : BlockView) (d : state.Decoding) (ends : Bool) → ends ≡ true → d.rest ≡ [] →
     fragment_read s b d ends ≡ headers.Makes (with_block s None) (headers.block_ends s b.stream b.ends d.fields d.purpose)
 read-ended s b d ends e none = rw (e, none) refl

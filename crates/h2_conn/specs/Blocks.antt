@@ -1,8 +1,9 @@
 -- Field blocks that are not at their end.
-use Rattle.std.specs.Prelude.{◌≡◌, ℕ, false, List, Option, Some, None, Result, Ok, Err}
+use Rattle.std.specs.Prelude.{◌≡◌, ℕ, false, List, [], ◌∷◌, Option, Some, None, Result, Ok, Err}
 use Rattle.h2_spec.specs.declared.connection.BlockView.{BlockView}
 use Rattle.h2_spec.specs.declared.connection.Purpose.{Purpose}
 use Rattle.h2_spec.specs.declared.errors.ErrorCode.{ErrorCode}
+use Rattle.h2_spec.specs.declared.errors.ErrorCode.TheVariants.{CompressionError}
 use Rattle.h2_spec.specs.Answer.{Entry}
 use Rattle.h2_spec.specs.Block.{BlockSoFar, Decoded, Fault, Faulty, Progress, Unfinished}
 use Rattle.h2_spec.specs.DynamicTable.{Table}
@@ -56,6 +57,11 @@ after_fragment table b = record { progress = record { fields = b.fields; table =
 -- it has a fault
 abbrev pub IsFaulty : Decoded → Type 0
 IsFaulty d = (f : Fault) × (d.outcome ≡ Faulty f)
+
+-- the connection error of a block that ends with these octets left: it ends inside an instruction (RFC 9113, 4.3)
+abbrev pub end_error : List ℕ → Option ErrorCode
+end_error [] = None
+end_error (octet ∷ rest) = Some CompressionError
 
 -- ---- what a fragment comes to
 

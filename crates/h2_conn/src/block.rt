@@ -12,7 +12,7 @@ ghost use Rattle.h2_spec.specs.Stream.{Records, kind_of};
 ghost use Rattle.h2_spec.specs.Table.{headers_cell};
 ghost use Rattle.h2_fields.specs.Blocks.{unfinished};
 ghost use Rattle.h2_fields.specs.declared.fault.BlockFault.TheVariants.{NoMemory};
-ghost use Rattle.h2_conn.specs.Blocks.{HasLimit, IsFaulty, IsGoing, IsOpenAt, IsSoundEffect, after_fragment, before_fragment, cell_of, effect_seen, state_of, table_by};
+ghost use Rattle.h2_conn.specs.Blocks.{HasLimit, IsFaulty, IsGoing, IsOpenAt, IsSoundEffect, after_fragment, before_fragment, cell_of, effect_seen, end_error, state_of, table_by};
 ghost use Rattle.h2_rules.specs.Sound.{AreSound, IsSoundState};
 
 use crate::pieces::octets_from;
@@ -130,8 +130,8 @@ fn read<A: Allocator + Copy>(
         };
         return FragmentEffect::Makes(Some(block), table, stay(core));
     }
-    match decoding.decoder.finish() {
-        Ok(()) => {
+    match end_error(&decoding.decoder) {
+        None => {
             let purpose = decoding.purpose;
             let change = block_ends(
                 book,
@@ -144,7 +144,18 @@ fn read<A: Allocator + Copy>(
             );
             FragmentEffect::Makes(None, table, change)
         }
-        Err(_) => FragmentEffect::Breaks(ErrorCode::CompressionError),
+        Some(code) => FragmentEffect::Breaks(code),
+    }
+}
+
+/// The connection error of a block that ends inside an instruction (RFC 9113, 4.3).
+fn end_error<A: Allocator + Copy>(decoder: &BlockDecoder<A>) -> Option<ErrorCode>
+    requires { IsGoing decoder.now }
+    ensures { result ≡ end_error (unfinished decoder.now.outcome) }
+{
+    match decoder.finish() {
+        Ok(()) => None,
+        Err(_) => Some(ErrorCode::CompressionError),
     }
 }
 
