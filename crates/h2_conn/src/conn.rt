@@ -11,7 +11,7 @@ ghost use Rattle.h2_spec.specs.State.{ended_code, opening};
 ghost use Rattle.h2_spec.specs.Trace.{left_by};
 ghost use Rattle.h2_spec.specs.View.{view};
 ghost use Rattle.h2_conn.specs.Connection.{Fits, going, halted, is_allowed, is_ended, IsAtRest};
-ghost use Rattle.h2_conn.specs.declared.fault.ConnFault.TheVariants.{Failed};
+ghost use Rattle.h2_conn.specs.declared.fault.ConnFault.TheVariants.{Failed, NoMemory};
 ghost use Rattle.h2_conn.specs.Does.{stopped};
 ghost use Rattle.h2_conn.specs.Faults.{refusal_after, refusal_for};
 ghost use Rattle.h2_conn.specs.Runs.{Advances, Feeds, FeedsOne, Halted, Halts, Ran};
@@ -172,6 +172,15 @@ fn is_allowed(config: Config) -> bool
     1 <= config.streams && config.streams <= 1000 && 1 <= config.credit && config.credit <= 65535
 }
 
+/// Memory was refused: from now on nothing is taken.
+fn refused(failed: &mut bool) -> ConnFault
+    ensures failed { failed.new ≡ true }
+    ensures fault { result ≡ NoMemory }
+{
+    *failed = true;
+    ConnFault::NoMemory
+}
+
 /// The server's end of one connection.
 ///
 /// A contract sees its state, the octets that wait for more, and whether memory was refused. No octets wait after the end.
@@ -236,10 +245,7 @@ impl<'b, A: Allocator + Copy> Conn<'b, A> {
         }
         match take_piece(&mut self.splitter, &mut self.state, piece, out) {
             Ok(count) => Ok(count),
-            Err(_) => {
-                self.failed = true;
-                Err(ConnFault::NoMemory)
-            }
+            Err(_) => Err(refused(&mut self.failed)),
         }
     }
 
@@ -261,10 +267,7 @@ impl<'b, A: Allocator + Copy> Conn<'b, A> {
         }
         match take_one(&mut self.splitter, &mut self.state, piece, out) {
             Ok(one) => Ok(one),
-            Err(_) => {
-                self.failed = true;
-                Err(ConnFault::NoMemory)
-            }
+            Err(_) => Err(refused(&mut self.failed)),
         }
     }
 

@@ -45,6 +45,29 @@ fn feed_pieces<'b, A: Allocator + Copy>(
     }
 }
 
+/// The same; where memory is refused, `out` is cut to a length that is within it.
+fn feed_or_cut<'b, A: Allocator + Copy>(
+    conn: &mut Conn<'b, A>,
+    octets: &[u8],
+    lengths: &[usize],
+    mark: usize,
+    out: &mut Vec<u8, A>,
+) -> Result<(), ConnFault>
+    requires new { conn.old ≡ going conn.old.state [] }
+    requires within { mark ≤ length out.old.items }
+    ensures ok { OnOk result (Fed conn.old octets.now out.old.items conn.new out.new.items) }
+    ensures fault { IfErr result (λ fault. fault ≡ NoMemory) }
+    ensures cut { OnErr result (out.new.items ≡ take mark out.old.items) }
+{
+    match feed_pieces(conn, octets, lengths, out) {
+        Ok(()) => Ok(()),
+        Err(fault) => {
+            out.truncate(mark);
+            Err(fault)
+        }
+    }
+}
+
 /// Opens a connection and feeds it the octets, cut into pieces of these lengths and what remains; a length above what is left takes what is left.
 ///
 /// `out` gains the opening SETTINGS and all frames sent. The connection is the same however the octets are cut.
@@ -66,12 +89,9 @@ pub fn open_and_feed<'b, A: Allocator + Copy>(
 {
     let mark = out.as_slice().len();
     let mut conn = Conn::new(book, config, out)?;
-    match feed_pieces(&mut conn, octets, lengths, out) {
+    match feed_or_cut(&mut conn, octets, lengths, mark, out) {
         Ok(()) => Ok(conn),
-        Err(fault) => {
-            out.truncate(mark);
-            Err(fault)
-        }
+        Err(fault) => Err(fault),
     }
 }
 
@@ -114,6 +134,8 @@ pub fn play<A: Allocator + Copy>(
     ensures unchanged { OnErr result (out.new.items ≡ out.old.items) }
 {
     let length = out.as_slice().len();
-    let conn = open_and_feed(book, config, octets, lengths, out)?;
-    view_or_cut(&conn, length, out)
+    match open_and_feed(book, config, octets, lengths, out) {
+        Ok(conn) => view_or_cut(&conn, length, out),
+        Err(fault) => Err(fault),
+    }
 }
