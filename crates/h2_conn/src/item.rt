@@ -47,9 +47,10 @@ fn came(head: &Head, payload: &[u8], part: DataPart<'_>) -> Came
     requires part { part_of head.now payload.now ≡ Ok (OfData (data_seen part)) }
     ensures { result ≡ rule.came head.now payload.now (data_seen part.entry) }
 {
+    let content = part.content.len() as u32;
     Came {
         octets: payload.len() as u32,
-        content: part.content.len() as u32,
+        content,
         ends: has(head.flags, FLAG_1),
     }
 }

@@ -1,13 +1,14 @@
-use Rattle.std.proofs.Common.{◌≡◌, ◌∙◌, ℕ, List, Bool, Option, Some, None, ap, refl, rules}
+use Rattle.std.proofs.Common.{◌≡◌, ◌∙◌, ℕ, List, Bool, Option, Some, None, ap, refl, rules, sym}
 use Rattle.std.proofs.lemmas.Result.{on_err_weaker}
 use Rattle.h2_spec.specs.Change.{broken, ended, only_shown}
+use Rattle.h2_spec.specs.Effect as rule
 use Rattle.h2_spec.specs.FrameType.{END_HEADERS, has}
 use Rattle.h2_spec.specs.Headers as headers
 use Rattle.h2_spec.specs.Headers.{Breaks}
 use Rattle.h2_spec.specs.State.{OpenBlock, Decoding, State}
 use Rattle.h2_spec.specs.declared.errors.ErrorCode.TheVariants.{ProtocolError}
 use Rattle.h2_conn.specs.Blocks.{decoding_in, decoding_of}
-use Rattle.h2_conn.specs.Does.{stopped}
+use Rattle.h2_conn.specs.Does.{stepped, stopped}
 use Rattle.h2_conn.proofs.state.State.on_continuation.Goals as goal
 
 shown-alone : (b : Option OpenBlock) → only_shown (only_shown b) ≡ only_shown b
@@ -36,7 +37,9 @@ returns-in-None-clause-ok g c =
     let s = c.args.self.now in
     let error = not-decoded s s.block c.args.octets.now (has c.args.head.now.flags END_HEADERS) c.in-None.ensures.taken in
     let alone = broken-alone s c.take_decoding.new.self c.take_decoding.ensures.stopped in
-    rw error (search (rules, alone))
+    let step : stepped (rule.concluded s c.args.payload.now (headers.continuation s s.block c.args.octets.now (has c.args.head.now.flags END_HEADERS))) ≡ broken c.take_decoding.new.self ProtocolError =
+    ap (λ e. stepped (rule.concluded s c.args.payload.now e)) error ∙ sym alone in
+    rw step (search rules)
 
 pub returns-in-Some-clause-err : goal.returns-in-Some-clause-err
 returns-in-Some-clause-err g c =
