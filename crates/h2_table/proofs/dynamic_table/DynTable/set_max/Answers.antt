@@ -1,0 +1,7 @@
+use Rattle.std.proofs.Common.{rules}
+use Rattle.h2_spec.specs.DynamicTable.{resize}
+use Rattle.h2_table.proofs.dynamic_table.DynTable.set_max.Goals as goal
+
+pub returns-clause-resized : goal.returns-clause-resized
+unfolding resize
+returns-clause-resized g c = search rules
