@@ -1,5 +1,6 @@
 -- The program's arrays are the code of Appendix B: computed over the whole arrays.
-use Rattle.std.proofs.Common.{◌≡◌, ℕ, ◌+◌, ◌*◌, ◌/◌, ◌%◌, ◌^◌, ◌<◌, ◌≤◌, Bool, true, false, ◌&&◌, ◌||◌, not, eqb, eqb-true, ltb, ltb-false, lt-ltb, le-ltb, leb, List, [], ◌∷◌, ◌++◌, cond, length, get_or, take, drop, refl, ap, sym, ◌∙◌, arith, append_assoc, length-drop}
+use Rattle.std.proofs.Common.{◌≡◌, ℕ, ◌+◌, ◌*◌, ◌/◌, ◌%◌, ◌^◌, ◌<◌, ◌≤◌, Bool, true, false, ◌&&◌, ◌||◌, not, eqb, eqb-true, ltb, ltb-false, lt-ltb, le-ltb, leb, List, [], ◌∷◌, ◌++◌, cond, length, get_or, map, take, drop, refl, ap, sym, ◌∙◌, arith, append_assoc, length-drop}
+use Rattle.std.proofs.Math.ListN.{get_or-map}
 use Rattle.std.proofs.lemmas.List.{append-nil, take-append-drop}
 use Rattle.std.proofs.lemmas.Bool.{leb-true}
 use borrow.Author.Tests.{ltb-true}
@@ -99,20 +100,32 @@ path_start = refl
 
 -- ---- the moves
 
+-- the bits of all states, so that they are computed once
+paths : List (List Bool)
+unfolding places code
+paths = map (λ (place : ℕ × ℕ). take place.1 (code place.0)) places
+
+path_in : (s : ℕ) → get_or paths s [] ≡ path_of s
+unfolding paths path_of
+path_in s = get_or-map (λ (place : ℕ × ℕ). take place.1 (code place.0)) places s (0, 0)
+
 -- the bits are these, or from the end of a string on begin with these
 lands : Bool → List Bool → List Bool → Bool
 lands true bs found = same bs found
 lands false bs found = begins bs found
 
-goes : Bool → ℕ → ℕ → ℕ → ℕ → Bool
-goes true s nibble next symbol = lands (ltb next 256) (path_of s ++ bits_of 4 nibble) (codes (emitted symbol) ++ path_of next)
-goes false s nibble next symbol = eqb next 256 && eqb symbol 256
+goes : List (List Bool) → Bool → ℕ → ℕ → ℕ → ℕ → Bool
+goes ps true s nibble next symbol = lands (ltb next 256) (get_or ps s [] ++ bits_of 4 nibble) (codes (emitted symbol) ++ get_or ps next [])
+goes ps false s nibble next symbol = eqb next 256 && eqb symbol 256
 
-move_right : ℕ → ℕ → ℕ → Bool
-move_right k next symbol = leb next 256 && leb symbol 256 && goes (ltb (k / 16) 256) (k / 16) (k % 16) next symbol
+move_right : List (List Bool) → ℕ → ℕ → ℕ → Bool
+move_right ps k next symbol = leb next 256 && leb symbol 256 && goes ps (ltb (k / 16) 256) (k / 16) (k % 16) next symbol
 
-moves_right : both_from move_right 0 NEXT SYMBOLS ≡ true
-unfolding move_right goes lands path_of places codes code bits_of
+all_right : List (List Bool) → Bool
+all_right ps = both_from (move_right ps) 0 NEXT SYMBOLS
+
+moves_right : all_right paths ≡ true
+unfolding all_right move_right goes lands paths places codes code bits_of
 moves_right = refl
 
 lands-is : (t : Bool) (bs found : List Bool) → lands t bs found ≡ true → (rest : List Bool) × (t ≡ true → rest ≡ []) × (bs ≡ found ++ rest)
@@ -126,10 +139,13 @@ pub record IsMove (s nibble next symbol : ℕ) : Type 0 where
   pub symbol_small : symbol ≤ 256
   pub leads : Leads s (bits_of 4 nibble) symbol next
 
-goes-is : (t : Bool) (s nibble next symbol : ℕ) → ltb s 256 ≡ t → s ≤ 256 → goes t s nibble next symbol ≡ true → Leads s (bits_of 4 nibble) symbol next
+goes-is : (t : Bool) (s nibble next symbol : ℕ) → ltb s 256 ≡ t → s ≤ 256 → goes paths t s nibble next symbol ≡ true → Leads s (bits_of 4 nibble) symbol next
 unfolding goes codes
 goes-is true s nibble next symbol e few h = λ rest ended.
-    let l = lands-is (ltb next 256) (path_of s ++ bits_of 4 nibble) (codes (emitted symbol) ++ path_of next) h in
+    let bits : get_or paths s [] ++ bits_of 4 nibble ≡ path_of s ++ bits_of 4 nibble = ap (λ p. p ++ bits_of 4 nibble) (path_in s) in
+    let found : codes (emitted symbol) ++ get_or paths next [] ≡ codes (emitted symbol) ++ path_of next = ap (λ p. codes (emitted symbol) ++ p) (path_in next) in
+    let there : lands (ltb next 256) (path_of s ++ bits_of 4 nibble) (codes (emitted symbol) ++ path_of next) ≡ true = ap (λ b. lands (ltb next 256) b (codes (emitted symbol) ++ path_of next)) (sym bits) ∙ ap (λ f. lands (ltb next 256) (get_or paths s [] ++ bits_of 4 nibble) f) (sym found) ∙ h in
+    let l = lands-is (ltb next 256) (path_of s ++ bits_of 4 nibble) (codes (emitted symbol) ++ path_of next) there in
     let none : rest ≡ [] = ended (ltb-true s 256 e) in
     rw none (record {
       octets = emitted_octet symbol;
@@ -143,18 +159,19 @@ goes-is false s nibble next symbol e few h = λ rest ended.
     let nothing : symbol ≡ 256 = eqb-true symbol 256 (and-right (eqb next 256) (eqb symbol 256) h) in
     rw (state, stays, nothing) (record { octets = tt; rest = rest ++ bits_of 4 nibble; ended = λ small. absurd (omega arith); read = refl })
 
-move_tells : (k s nibble next symbol : ℕ) → k / 16 ≡ s → k % 16 ≡ nibble → s ≤ 256 → move_right k next symbol ≡ true → IsMove s nibble next symbol
+move_tells : (k s nibble next symbol : ℕ) → k / 16 ≡ s → k % 16 ≡ nibble → s ≤ 256 → move_right paths k next symbol ≡ true → IsMove s nibble next symbol
 unfolding move_right
 move_tells k s nibble next symbol q r few h =
     let both = leb next 256 && leb symbol 256 in
-    let small = and-left (leb next 256 && leb symbol 256) (goes (ltb (k / 16) 256) (k / 16) (k % 16) next symbol) h in
+    let small = and-left (leb next 256 && leb symbol 256) (goes paths (ltb (k / 16) 256) (k / 16) (k % 16) next symbol) h in
     record {
       next_small = leb-true next 256 (and-left (leb next 256) (leb symbol 256) small);
       symbol_small = leb-true symbol 256 (and-right (leb next 256) (leb symbol 256) small);
-      leads = rw (← q, ← r) (goes-is (ltb (k / 16) 256) (k / 16) (k % 16) next symbol refl (omega arith) (and-right (leb next 256 && leb symbol 256) (goes (ltb (k / 16) 256) (k / 16) (k % 16) next symbol) h));
+      leads = rw (← q, ← r) (goes-is (ltb (k / 16) 256) (k / 16) (k % 16) next symbol refl (omega arith) (and-right (leb next 256 && leb symbol 256) (goes paths (ltb (k / 16) 256) (k / 16) (k % 16) next symbol) h));
     }
 
 pub move_at : (s nibble : ℕ) → s ≤ 256 → nibble < 16 → IsMove s nibble (get_or NEXT (s * 16 + nibble) 0) (get_or SYMBOLS (s * 16 + nibble) 0)
+unfolding all_right
 move_at s nibble few small =
     let k = s * 16 + nibble in
-    move_tells k s nibble (get_or NEXT k 0) (get_or SYMBOLS k 0) (omega arith) (omega arith) few (both-at move_right NEXT SYMBOLS k 0 0 moves_right (omega arith))
+    move_tells k s nibble (get_or NEXT k 0) (get_or SYMBOLS k 0) (omega arith) (omega arith) few (both-at (move_right paths) NEXT SYMBOLS k 0 0 moves_right (omega arith))
