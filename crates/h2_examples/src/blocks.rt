@@ -10,9 +10,9 @@ pub(crate) static DECODED: [Exchange; 10] = [
     (
         "a size update opens the block",
         &["play"],
-        "0000060105000000013fe11f828684",
-        "0000010105000000018d",
-        "phase running last 1\n\
+        b"0000060105000000013fe11f828684",
+        b"0000010105000000018d",
+        b"phase running last 1\n\
          window recv 65535 owed 0 send 65535\n\
          peer table 4096 push 1 streams - window 65535 frame 16384 list - signal 0\n\
          acked 0 goaway -\n\
@@ -23,9 +23,9 @@ pub(crate) static DECODED: [Exchange; 10] = [
     (
         "a size update above the limit",
         &["play"],
-        "0000030105000000013fe21f",
-        "0000080700000000000000000000000009",
-        "phase ended 9 last 0\n\
+        b"0000030105000000013fe21f",
+        b"0000080700000000000000000000000009",
+        b"phase ended 9 last 0\n\
          window recv 65535 owed 0 send 65535\n\
          peer table 4096 push 1 streams - window 65535 frame 16384 list - signal 0\n\
          acked 0 goaway -\n\
@@ -35,9 +35,9 @@ pub(crate) static DECODED: [Exchange; 10] = [
     (
         "a size update behind a field",
         &["play"],
-        "0000020105000000018220",
-        "0000080700000000000000000000000009",
-        "phase ended 9 last 0\n\
+        b"0000020105000000018220",
+        b"0000080700000000000000000000000009",
+        b"phase ended 9 last 0\n\
          window recv 65535 owed 0 send 65535\n\
          peer table 4096 push 1 streams - window 65535 frame 16384 list - signal 0\n\
          acked 0 goaway -\n\
@@ -47,9 +47,9 @@ pub(crate) static DECODED: [Exchange; 10] = [
     (
         "index 0",
         &["play"],
-        "00000101050000000180",
-        "0000080700000000000000000000000009",
-        "phase ended 9 last 0\n\
+        b"00000101050000000180",
+        b"0000080700000000000000000000000009",
+        b"phase ended 9 last 0\n\
          window recv 65535 owed 0 send 65535\n\
          peer table 4096 push 1 streams - window 65535 frame 16384 list - signal 0\n\
          acked 0 goaway -\n\
@@ -59,9 +59,9 @@ pub(crate) static DECODED: [Exchange; 10] = [
     (
         "an index of 0 behind a field that enters the table, which stays as before the frame",
         &["play"],
-        "000006010500000001400161016280",
-        "0000080700000000000000000000000009",
-        "phase ended 9 last 0\n\
+        b"000006010500000001400161016280",
+        b"0000080700000000000000000000000009",
+        b"phase ended 9 last 0\n\
          window recv 65535 owed 0 send 65535\n\
          peer table 4096 push 1 streams - window 65535 frame 16384 list - signal 0\n\
          acked 0 goaway -\n\
@@ -71,9 +71,9 @@ pub(crate) static DECODED: [Exchange; 10] = [
     (
         "an index past both tables",
         &["play"],
-        "000001010500000001c0",
-        "0000080700000000000000000000000009",
-        "phase ended 9 last 0\n\
+        b"000001010500000001c0",
+        b"0000080700000000000000000000000009",
+        b"phase ended 9 last 0\n\
          window recv 65535 owed 0 send 65535\n\
          peer table 4096 push 1 streams - window 65535 frame 16384 list - signal 0\n\
          acked 0 goaway -\n\
@@ -83,9 +83,9 @@ pub(crate) static DECODED: [Exchange; 10] = [
     (
         "bad Huffman padding",
         &["play"],
-        "0000040105000000014182ffff",
-        "0000080700000000000000000000000009",
-        "phase ended 9 last 0\n\
+        b"0000040105000000014182ffff",
+        b"0000080700000000000000000000000009",
+        b"phase ended 9 last 0\n\
          window recv 65535 owed 0 send 65535\n\
          peer table 4096 push 1 streams - window 65535 frame 16384 list - signal 0\n\
          acked 0 goaway -\n\
@@ -95,9 +95,9 @@ pub(crate) static DECODED: [Exchange; 10] = [
     (
         "a cut instruction at the end",
         &["play"],
-        "00000101050000000141",
-        "0000080700000000000000000000000009",
-        "phase ended 9 last 0\n\
+        b"00000101050000000141",
+        b"0000080700000000000000000000000009",
+        b"phase ended 9 last 0\n\
          window recv 65535 owed 0 send 65535\n\
          peer table 4096 push 1 streams - window 65535 frame 16384 list - signal 0\n\
          acked 0 goaway -\n\
@@ -107,9 +107,9 @@ pub(crate) static DECODED: [Exchange; 10] = [
     (
         "an instruction that more octets may end",
         &["play"],
-        "00000101010000000141",
-        "",
-        "phase running last 0\n\
+        b"00000101010000000141",
+        b"",
+        b"phase running last 0\n\
          window recv 65535 owed 0 send 65535\n\
          peer table 4096 push 1 streams - window 65535 frame 16384 list - signal 0\n\
          acked 0 goaway -\n\
@@ -119,9 +119,9 @@ pub(crate) static DECODED: [Exchange; 10] = [
     (
         "an instruction that no octets end",
         &["play"],
-        "00000101010000000141 000000090400000001",
-        "0000080700000000000000000000000009",
-        "phase ended 9 last 0\n\
+        b"00000101010000000141 000000090400000001",
+        b"0000080700000000000000000000000009",
+        b"phase ended 9 last 0\n\
          window recv 65535 owed 0 send 65535\n\
          peer table 4096 push 1 streams - window 65535 frame 16384 list - signal 0\n\
          acked 0 goaway -\n\
@@ -142,19 +142,18 @@ fn compare_long_block(
     rt: &impl Abort,
     alloc: Global,
     pieces: &[Piece],
-    sent: &str,
-    state: &str,
+    sent: &[u8],
+    state: &[u8],
 ) -> Result<(), Fail> {
     let frames = filled(alloc, "82", pieces)?;
     for (name, words) in &CUTS {
-        let (frames, sent) = (frames.as_slice(), sent.as_bytes());
-        compare_exchange(rt, alloc, name, words, frames, sent, state)?;
+        compare_exchange(rt, alloc, name, words, frames.as_slice(), sent, state)?;
     }
     Ok(())
 }
 
 /// Frames that are filled with octets 82, what is sent, and the text of the state.
-type LongBlock = (&'static [Piece], &'static str, &'static str);
+type LongBlock = (&'static [Piece], &'static [u8], &'static [u8]);
 
 /// HEADERS and three CONTINUATION of 16384 octets 82: the last with END_HEADERS, and with one more octet.
 static LONG_BLOCKS: [LongBlock; 2] = [
@@ -165,8 +164,8 @@ static LONG_BLOCKS: [LongBlock; 2] = [
             ("004000090000000001", 16384),
             ("004000090400000001", 16384),
         ],
-        "0000040300000000010000000b",
-        "phase running last 1\n\
+        b"0000040300000000010000000b",
+        b"phase running last 1\n\
          window recv 65535 owed 0 send 65535\n\
          peer table 4096 push 1 streams - window 65535 frame 16384 list - signal 0\n\
          acked 0 goaway -\n\
@@ -182,8 +181,8 @@ static LONG_BLOCKS: [LongBlock; 2] = [
             ("004000090000000001", 16384),
             ("000001090000000001", 1),
         ],
-        "000008070000000000000000000000000b",
-        "phase ended 11 last 0\n\
+        b"000008070000000000000000000000000b",
+        b"phase ended 11 last 0\n\
          window recv 65535 owed 0 send 65535\n\
          peer table 4096 push 1 streams - window 65535 frame 16384 list - signal 0\n\
          acked 0 goaway -\n\

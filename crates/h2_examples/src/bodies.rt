@@ -7,22 +7,9 @@ use std::test::Fail;
 
 /// An exchange of a GET whose answer is long: its name, the frames that come behind the preface and SETTINGS of no setting, those that are sent behind the
 /// opening SETTINGS and the acknowledgement, with octets 61, and the text of the state.
-type LongExchange = (&'static str, &'static str, &'static [Piece], &'static str);
+type LongExchange = (&'static str, &'static [u8], &'static [Piece], &'static [u8]);
 
-/// Plays an exchange with answers of these words, and compares what is printed; the exit status is 0.
-fn compare_long_answer(
-    rt: &impl Abort,
-    alloc: Global,
-    words: &[&str],
-    case: &LongExchange,
-) -> Result<(), Fail> {
-    let (name, frames, pieces, state) = case;
-    let sent = filled(alloc, "61", pieces)?;
-    let (frames, sent) = (frames.as_bytes(), sent.as_slice());
-    compare_exchange(rt, alloc, name, words, frames, sent, state)
-}
-
-/// The same of each exchange, with a GET whose answer has so many octets 61.
+/// Plays each exchange with a GET whose answer has so many octets 61, and compares what is printed; the exit status is 0.
 fn compare_long_answers(
     rt: &impl Abort,
     alloc: Global,
@@ -31,8 +18,9 @@ fn compare_long_answers(
 ) -> Result<(), Fail> {
     let answer = long_answer(alloc, count)?;
     let words = ["play", answer.as_str()];
-    for case in cases {
-        compare_long_answer(rt, alloc, &words, case)?;
+    for (name, frames, pieces, state) in cases {
+        let sent = filled(alloc, "61", pieces)?;
+        compare_exchange(rt, alloc, name, &words, frames, sent.as_slice(), state)?;
     }
     Ok(())
 }
@@ -41,14 +29,14 @@ fn compare_long_answers(
 static ON_ONE_STREAM: [LongExchange; 6] = [
     (
         "the connection's window is used up",
-        "000014010500000001828684410f7777772e6578616d706c652e636f6d",
+        b"000014010500000001828684410f7777772e6578616d706c652e636f6d",
         &[
             ("00000101040000000188 004000000000000001", 16384),
             ("004000000000000001", 16384),
             ("004000000000000001", 16384),
             ("003fff000000000001", 16383),
         ],
-        "phase running last 1\n\
+        b"phase running last 1\n\
          window recv 65535 owed 0 send 0\n\
          peer table 4096 push 1 streams - window 65535 frame 16384 list - signal 0\n\
          acked 0 goaway -\n\
@@ -59,14 +47,14 @@ static ON_ONE_STREAM: [LongExchange; 6] = [
     ),
     (
         "the connection's window alone is opened again",
-        "000014010500000001828684410f7777772e6578616d706c652e636f6d 000004080000000000000186a0",
+        b"000014010500000001828684410f7777772e6578616d706c652e636f6d 000004080000000000000186a0",
         &[
             ("00000101040000000188 004000000000000001", 16384),
             ("004000000000000001", 16384),
             ("004000000000000001", 16384),
             ("003fff000000000001", 16383),
         ],
-        "phase running last 1\n\
+        b"phase running last 1\n\
          window recv 65535 owed 0 send 100000\n\
          peer table 4096 push 1 streams - window 65535 frame 16384 list - signal 0\n\
          acked 0 goaway -\n\
@@ -77,7 +65,7 @@ static ON_ONE_STREAM: [LongExchange; 6] = [
     ),
     (
         "both windows are opened again",
-        "000014010500000001828684410f7777772e6578616d706c652e636f6d 000004080000000000000186a0 00000408000000000100001171",
+        b"000014010500000001828684410f7777772e6578616d706c652e636f6d 000004080000000000000186a0 00000408000000000100001171",
         &[
             ("00000101040000000188 004000000000000001", 16384),
             ("004000000000000001", 16384),
@@ -85,7 +73,7 @@ static ON_ONE_STREAM: [LongExchange; 6] = [
             ("003fff000000000001", 16383),
             ("001171000100000001", 4465),
         ],
-        "phase running last 1\n\
+        b"phase running last 1\n\
          window recv 65535 owed 0 send 95535\n\
          peer table 4096 push 1 streams - window 65535 frame 16384 list - signal 0\n\
          acked 0 goaway -\n\
@@ -96,7 +84,7 @@ static ON_ONE_STREAM: [LongExchange; 6] = [
     ),
     (
         "the initial window becomes 0",
-        "000014010500000001828684410f7777772e6578616d706c652e636f6d 000006040000000000000400000000",
+        b"000014010500000001828684410f7777772e6578616d706c652e636f6d 000006040000000000000400000000",
         &[
             ("00000101040000000188 004000000000000001", 16384),
             ("004000000000000001", 16384),
@@ -104,7 +92,7 @@ static ON_ONE_STREAM: [LongExchange; 6] = [
             ("003fff000000000001", 16383),
             ("000000040100000000", 0),
         ],
-        "phase running last 1\n\
+        b"phase running last 1\n\
          window recv 65535 owed 0 send 0\n\
          peer table 4096 push 1 streams - window 0 frame 16384 list - signal 0\n\
          acked 0 goaway -\n\
@@ -115,7 +103,7 @@ static ON_ONE_STREAM: [LongExchange; 6] = [
     ),
     (
         "the initial window becomes 0, and then 65535",
-        "000014010500000001828684410f7777772e6578616d706c652e636f6d 000006040000000000000400000000 00000604000000000000040000ffff",
+        b"000014010500000001828684410f7777772e6578616d706c652e636f6d 000006040000000000000400000000 00000604000000000000040000ffff",
         &[
             ("00000101040000000188 004000000000000001", 16384),
             ("004000000000000001", 16384),
@@ -123,7 +111,7 @@ static ON_ONE_STREAM: [LongExchange; 6] = [
             ("003fff000000000001", 16383),
             ("000000040100000000 000000040100000000", 0),
         ],
-        "phase running last 1\n\
+        b"phase running last 1\n\
          window recv 65535 owed 0 send 0\n\
          peer table 4096 push 1 streams - window 65535 frame 16384 list - signal 0\n\
          acked 0 goaway -\n\
@@ -134,7 +122,7 @@ static ON_ONE_STREAM: [LongExchange; 6] = [
     ),
     (
         "two settings open the stream's window",
-        "000014010500000001828684410f7777772e6578616d706c652e636f6d 000004080000000000000186a0 00000c040000000000000400000000000400011170",
+        b"000014010500000001828684410f7777772e6578616d706c652e636f6d 000004080000000000000186a0 00000c040000000000000400000000000400011170",
         &[
             ("00000101040000000188 004000000000000001", 16384),
             ("004000000000000001", 16384),
@@ -142,7 +130,7 @@ static ON_ONE_STREAM: [LongExchange; 6] = [
             ("003fff000000000001", 16383),
             ("000000040100000000 001171000100000001", 4465),
         ],
-        "phase running last 1\n\
+        b"phase running last 1\n\
          window recv 65535 owed 0 send 95535\n\
          peer table 4096 push 1 streams - window 70000 frame 16384 list - signal 0\n\
          acked 0 goaway -\n\
@@ -157,7 +145,7 @@ static ON_ONE_STREAM: [LongExchange; 6] = [
 static ON_TWO_STREAMS: [LongExchange; 2] = [
     (
         "the first stream is sent whole, and the second as far as the window goes",
-        "000003010500000001828684 000003010500000003828684",
+        b"000003010500000001828684 000003010500000003828684",
         &[
             ("00000101040000000188 004000000000000001", 16384),
             ("004000000000000001", 16384),
@@ -165,7 +153,7 @@ static ON_TWO_STREAMS: [LongExchange; 2] = [
             ("00000101040000000388 004000000000000003", 16384),
             ("0023bf000000000003", 9151),
         ],
-        "phase running last 3\n\
+        b"phase running last 3\n\
          window recv 65535 owed 0 send 0\n\
          peer table 4096 push 1 streams - window 65535 frame 16384 list - signal 0\n\
          acked 0 goaway -\n\
@@ -176,7 +164,7 @@ static ON_TWO_STREAMS: [LongExchange; 2] = [
     ),
     (
         "one octet more may be sent",
-        "000003010500000001828684 000003010500000003828684 00000408000000000000000001",
+        b"000003010500000001828684 000003010500000003828684 00000408000000000000000001",
         &[
             ("00000101040000000188 004000000000000001", 16384),
             ("004000000000000001", 16384),
@@ -185,7 +173,7 @@ static ON_TWO_STREAMS: [LongExchange; 2] = [
             ("0023bf000000000003", 9151),
             ("000001000000000003", 1),
         ],
-        "phase running last 3\n\
+        b"phase running last 3\n\
          window recv 65535 owed 0 send 0\n\
          peer table 4096 push 1 streams - window 65535 frame 16384 list - signal 0\n\
          acked 0 goaway -\n\

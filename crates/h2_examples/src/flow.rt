@@ -7,9 +7,9 @@ pub(crate) static OPENED: [Exchange; 5] = [
     (
         "the connection's window passes its limit",
         &["play"],
-        "0000040800000000007fffffff",
-        "0000080700000000000000000000000003",
-        "phase ended 3 last 0\n\
+        b"0000040800000000007fffffff",
+        b"0000080700000000000000000000000003",
+        b"phase ended 3 last 0\n\
          window recv 65535 owed 0 send 65535\n\
          peer table 4096 push 1 streams - window 65535 frame 16384 list - signal 0\n\
          acked 0 goaway -\n\
@@ -19,9 +19,9 @@ pub(crate) static OPENED: [Exchange; 5] = [
     (
         "a stream's window passes its limit",
         &["play"],
-        "000003010400000001828684 0000040800000000017fffffff",
-        "00000403000000000100000003",
-        "phase running last 1\n\
+        b"000003010400000001828684 0000040800000000017fffffff",
+        b"00000403000000000100000003",
+        b"phase running last 1\n\
          window recv 65535 owed 0 send 65535\n\
          peer table 4096 push 1 streams - window 65535 frame 16384 list - signal 0\n\
          acked 0 goaway -\n\
@@ -32,9 +32,9 @@ pub(crate) static OPENED: [Exchange; 5] = [
     (
         "increment 0 on a stream",
         &["play"],
-        "000003010400000001828684 00000408000000000100000000",
-        "00000403000000000100000001",
-        "phase running last 1\n\
+        b"000003010400000001828684 00000408000000000100000000",
+        b"00000403000000000100000001",
+        b"phase running last 1\n\
          window recv 65535 owed 0 send 65535\n\
          peer table 4096 push 1 streams - window 65535 frame 16384 list - signal 0\n\
          acked 0 goaway -\n\
@@ -45,9 +45,9 @@ pub(crate) static OPENED: [Exchange; 5] = [
     (
         "increment 0 on an ended stream",
         &["play"],
-        "000003010500000001828684 00000408000000000100000000",
-        "0000010105000000018d",
-        "phase running last 1\n\
+        b"000003010500000001828684 00000408000000000100000000",
+        b"0000010105000000018d",
+        b"phase running last 1\n\
          window recv 65535 owed 0 send 65535\n\
          peer table 4096 push 1 streams - window 65535 frame 16384 list - signal 0\n\
          acked 0 goaway -\n\
@@ -58,9 +58,9 @@ pub(crate) static OPENED: [Exchange; 5] = [
     (
         "increment 0 on the connection",
         &["play"],
-        "00000408000000000000000000",
-        "0000080700000000000000000000000001",
-        "phase ended 1 last 0\n\
+        b"00000408000000000000000000",
+        b"0000080700000000000000000000000001",
+        b"phase ended 1 last 0\n\
          window recv 65535 owed 0 send 65535\n\
          peer table 4096 push 1 streams - window 65535 frame 16384 list - signal 0\n\
          acked 0 goaway -\n\
@@ -74,9 +74,9 @@ pub(crate) static COUNTED: [Exchange; 8] = [
     (
         "DATA for a stream that was reset is counted",
         &["play", "GET|/|200|6869"],
-        "000006040000000000000400000000 000014010500000001828684410f7777772e6578616d706c652e636f6d 000003000000000001616263 000003000000000001616263",
-        "000000040100000000 00000101040000000188 00000403000000000100000005",
-        "phase running last 1\n\
+        b"000006040000000000000400000000 000014010500000001828684410f7777772e6578616d706c652e636f6d 000003000000000001616263 000003000000000001616263",
+        b"000000040100000000 00000101040000000188 00000403000000000100000005",
+        b"phase running last 1\n\
          window recv 65529 owed 6 send 65535\n\
          peer table 4096 push 1 streams - window 0 frame 16384 list - signal 0\n\
          acked 0 goaway -\n\
@@ -88,9 +88,9 @@ pub(crate) static COUNTED: [Exchange; 8] = [
     (
         "padding counts",
         &["play"],
-        "000003010400000001828684 000003000800000001020000",
-        "",
-        "phase running last 1\n\
+        b"000003010400000001828684 000003000800000001020000",
+        b"",
+        b"phase running last 1\n\
          window recv 65532 owed 3 send 65535\n\
          peer table 4096 push 1 streams - window 65535 frame 16384 list - signal 0\n\
          acked 0 goaway -\n\
@@ -101,9 +101,9 @@ pub(crate) static COUNTED: [Exchange; 8] = [
     (
         "too much padding",
         &["play"],
-        "000003010400000001828684 000003000800000001030000",
-        "0000080700000000000000000100000001",
-        "phase ended 1 last 1\n\
+        b"000003010400000001828684 000003000800000001030000",
+        b"0000080700000000000000000100000001",
+        b"phase ended 1 last 1\n\
          window recv 65535 owed 0 send 65535\n\
          peer table 4096 push 1 streams - window 65535 frame 16384 list - signal 0\n\
          acked 0 goaway -\n\
@@ -114,9 +114,9 @@ pub(crate) static COUNTED: [Exchange; 8] = [
     (
         "DATA without its Pad Length",
         &["play"],
-        "000000000800000001",
-        "0000080700000000000000000000000006",
-        "phase ended 6 last 0\n\
+        b"000000000800000001",
+        b"0000080700000000000000000000000006",
+        b"phase ended 6 last 0\n\
          window recv 65535 owed 0 send 65535\n\
          peer table 4096 push 1 streams - window 65535 frame 16384 list - signal 0\n\
          acked 0 goaway -\n\
@@ -126,9 +126,9 @@ pub(crate) static COUNTED: [Exchange; 8] = [
     (
         "more content than declared",
         &["play"],
-        "0000070104000000018386840f0d0133 00000400010000000161626364",
-        "00000403000000000100000001",
-        "phase running last 1\n\
+        b"0000070104000000018386840f0d0133 00000400010000000161626364",
+        b"00000403000000000100000001",
+        b"phase running last 1\n\
          window recv 65531 owed 4 send 65535\n\
          peer table 4096 push 1 streams - window 65535 frame 16384 list - signal 0\n\
          acked 0 goaway -\n\
@@ -139,9 +139,9 @@ pub(crate) static COUNTED: [Exchange; 8] = [
     (
         "credit of 4 octets",
         &["play", "--credit", "4"],
-        "000003010400000001828684 00000400000000000161626364",
-        "00000408000000000000000004 00000408000000000100000004",
-        "phase running last 1\n\
+        b"000003010400000001828684 00000400000000000161626364",
+        b"00000408000000000000000004 00000408000000000100000004",
+        b"phase running last 1\n\
          window recv 65535 owed 0 send 65535\n\
          peer table 4096 push 1 streams - window 65535 frame 16384 list - signal 0\n\
          acked 0 goaway -\n\
@@ -152,9 +152,9 @@ pub(crate) static COUNTED: [Exchange; 8] = [
     (
         "credit of 4 octets at the end of a stream",
         &["play", "--credit", "4"],
-        "000003010400000001828684 00000400010000000161626364",
-        "00000408000000000000000004 0000010105000000018d",
-        "phase running last 1\n\
+        b"000003010400000001828684 00000400010000000161626364",
+        b"00000408000000000000000004 0000010105000000018d",
+        b"phase running last 1\n\
          window recv 65535 owed 0 send 65535\n\
          peer table 4096 push 1 streams - window 65535 frame 16384 list - signal 0\n\
          acked 0 goaway -\n\
@@ -165,9 +165,9 @@ pub(crate) static COUNTED: [Exchange; 8] = [
     (
         "settings take a stream's window too far",
         &["play"],
-        "000003010400000001828684 00000408000000000100000001 00000604000000000000047fffffff",
-        "0000080700000000000000000100000003",
-        "phase ended 3 last 1\n\
+        b"000003010400000001828684 00000408000000000100000001 00000604000000000000047fffffff",
+        b"0000080700000000000000000100000003",
+        b"phase ended 3 last 1\n\
          window recv 65535 owed 0 send 65535\n\
          peer table 4096 push 1 streams - window 65535 frame 16384 list - signal 0\n\
          acked 0 goaway -\n\

@@ -7,8 +7,8 @@ pub(crate) static TOLD: [Run; 2] = [
     (
         "one octet that is no preface",
         &["play", "--each"],
-        "47",
-        "item 0\n\
+        b"47",
+        b"item 0\n\
          sent 00000c040000000000000300000064000600010000\n\
          phase preface last 0\n\
          window recv 65535 owed 0 send 65535\n\
@@ -29,8 +29,8 @@ pub(crate) static TOLD: [Run; 2] = [
     (
         "preface, SETTINGS, an unknown type and a part of a head",
         &["play", "--each"],
-        "505249202a20485454502f322e300d0a0d0a534d0d0a0d0a 000000040000000000 0000010a000000000000 0000",
-        "item 0\n\
+        b"505249202a20485454502f322e300d0a0d0a534d0d0a0d0a 000000040000000000 0000010a000000000000 0000",
+        b"item 0\n\
          sent 00000c040000000000000300000064000600010000\n\
          phase preface last 0\n\
          window recv 65535 owed 0 send 65535\n\

@@ -4,7 +4,7 @@ use crate::program::{Exchange, Run, compare_exchange, filled};
 use std::test::Fail;
 
 /// The text of the state where settings were exchanged, and nothing else came.
-const RUNNING: &str = "phase running last 0\n\
+const RUNNING: &[u8] = b"phase running last 0\n\
     window recv 65535 owed 0 send 65535\n\
     peer table 4096 push 1 streams - window 65535 frame 16384 list - signal 0\n\
     acked 0 goaway -\n\
@@ -16,8 +16,8 @@ pub(crate) static OPENED: [Run; 6] = [
     (
         "no octets",
         &["play"],
-        "",
-        "sent 00000c040000000000000300000064000600010000\n\
+        b"",
+        b"sent 00000c040000000000000300000064000600010000\n\
          phase preface last 0\n\
          window recv 65535 owed 0 send 65535\n\
          peer table 4096 push 1 streams - window 65535 frame 16384 list - signal 0\n\
@@ -29,8 +29,8 @@ pub(crate) static OPENED: [Run; 6] = [
     (
         "preface and SETTINGS",
         &["play"],
-        "505249202a20485454502f322e300d0a0d0a534d0d0a0d0a 000000040000000000",
-        "sent 00000c040000000000000300000064000600010000000000040100000000\n\
+        b"505249202a20485454502f322e300d0a0d0a534d0d0a0d0a 000000040000000000",
+        b"sent 00000c040000000000000300000064000600010000000000040100000000\n\
          phase running last 0\n\
          window recv 65535 owed 0 send 65535\n\
          peer table 4096 push 1 streams - window 65535 frame 16384 list - signal 0\n\
@@ -42,8 +42,8 @@ pub(crate) static OPENED: [Run; 6] = [
     (
         "preface and SETTINGS, octet by octet",
         &["play", "--cut", "1"],
-        "505249202a20485454502f322e300d0a0d0a534d0d0a0d0a 000000040000000000",
-        "sent 00000c040000000000000300000064000600010000000000040100000000\n\
+        b"505249202a20485454502f322e300d0a0d0a534d0d0a0d0a 000000040000000000",
+        b"sent 00000c040000000000000300000064000600010000000000040100000000\n\
          phase running last 0\n\
          window recv 65535 owed 0 send 65535\n\
          peer table 4096 push 1 streams - window 65535 frame 16384 list - signal 0\n\
@@ -55,8 +55,8 @@ pub(crate) static OPENED: [Run; 6] = [
     (
         "acknowledgement of the settings",
         &["play"],
-        "505249202a20485454502f322e300d0a0d0a534d0d0a0d0a 000000040000000000 000000040100000000",
-        "sent 00000c040000000000000300000064000600010000000000040100000000\n\
+        b"505249202a20485454502f322e300d0a0d0a534d0d0a0d0a 000000040000000000 000000040100000000",
+        b"sent 00000c040000000000000300000064000600010000000000040100000000\n\
          phase running last 0\n\
          window recv 65535 owed 0 send 65535\n\
          peer table 4096 push 1 streams - window 65535 frame 16384 list - signal 0\n\
@@ -68,8 +68,8 @@ pub(crate) static OPENED: [Run; 6] = [
     (
         "the same over lines",
         &["play"],
-        "50 5249202a20485454502f322e300d0a0d0a534d0d0a0d0a\r\n000000040000000000\n\t000000040100000000\n",
-        "sent 00000c040000000000000300000064000600010000000000040100000000\n\
+        b"50 5249202a20485454502f322e300d0a0d0a534d0d0a0d0a\r\n000000040000000000\n\t000000040100000000\n",
+        b"sent 00000c040000000000000300000064000600010000000000040100000000\n\
          phase running last 0\n\
          window recv 65535 owed 0 send 65535\n\
          peer table 4096 push 1 streams - window 65535 frame 16384 list - signal 0\n\
@@ -81,8 +81,8 @@ pub(crate) static OPENED: [Run; 6] = [
     (
         "PING",
         &["play"],
-        "505249202a20485454502f322e300d0a0d0a534d0d0a0d0a 000000040000000000 0000080600000000000102030405060708",
-        "sent 00000c0400000000000003000000640006000100000000000401000000000000080601000000000102030405060708\n\
+        b"505249202a20485454502f322e300d0a0d0a534d0d0a0d0a 000000040000000000 0000080600000000000102030405060708",
+        b"sent 00000c0400000000000003000000640006000100000000000401000000000000080601000000000102030405060708\n\
          phase running last 0\n\
          window recv 65535 owed 0 send 65535\n\
          peer table 4096 push 1 streams - window 65535 frame 16384 list - signal 0\n\
@@ -98,8 +98,8 @@ pub(crate) static BAD_OPENINGS: [Run; 7] = [
     (
         "preface without its last octet",
         &["play"],
-        "505249202a20485454502f322e300d0a0d0a534d0d0a0d",
-        "sent 00000c040000000000000300000064000600010000\n\
+        b"505249202a20485454502f322e300d0a0d0a534d0d0a0d",
+        b"sent 00000c040000000000000300000064000600010000\n\
          phase preface last 0\n\
          window recv 65535 owed 0 send 65535\n\
          peer table 4096 push 1 streams - window 65535 frame 16384 list - signal 0\n\
@@ -111,8 +111,8 @@ pub(crate) static BAD_OPENINGS: [Run; 7] = [
     (
         "preface whose last octet differs",
         &["play"],
-        "505249202a20485454502f322e300d0a0d0a534d0d0a0d0b",
-        "sent 00000c0400000000000003000000640006000100000000080700000000000000000000000001\n\
+        b"505249202a20485454502f322e300d0a0d0a534d0d0a0d0b",
+        b"sent 00000c0400000000000003000000640006000100000000080700000000000000000000000001\n\
          phase ended 1 last 0\n\
          window recv 65535 owed 0 send 65535\n\
          peer table 4096 push 1 streams - window 65535 frame 16384 list - signal 0\n\
@@ -124,8 +124,8 @@ pub(crate) static BAD_OPENINGS: [Run; 7] = [
     (
         "more octets behind it",
         &["play"],
-        "505249202a20485454502f322e300d0a0d0a534d0d0a0d0b 000000040000000000 0000080600000000000102030405060708",
-        "sent 00000c0400000000000003000000640006000100000000080700000000000000000000000001\n\
+        b"505249202a20485454502f322e300d0a0d0a534d0d0a0d0b 000000040000000000 0000080600000000000102030405060708",
+        b"sent 00000c0400000000000003000000640006000100000000080700000000000000000000000001\n\
          phase ended 1 last 0\n\
          window recv 65535 owed 0 send 65535\n\
          peer table 4096 push 1 streams - window 65535 frame 16384 list - signal 0\n\
@@ -137,8 +137,8 @@ pub(crate) static BAD_OPENINGS: [Run; 7] = [
     (
         "the same, octet by octet",
         &["play", "--cut", "1"],
-        "505249202a20485454502f322e300d0a0d0a534d0d0a0d0b 000000040000000000 0000080600000000000102030405060708",
-        "sent 00000c0400000000000003000000640006000100000000080700000000000000000000000001\n\
+        b"505249202a20485454502f322e300d0a0d0a534d0d0a0d0b 000000040000000000 0000080600000000000102030405060708",
+        b"sent 00000c0400000000000003000000640006000100000000080700000000000000000000000001\n\
          phase ended 1 last 0\n\
          window recv 65535 owed 0 send 65535\n\
          peer table 4096 push 1 streams - window 65535 frame 16384 list - signal 0\n\
@@ -150,8 +150,8 @@ pub(crate) static BAD_OPENINGS: [Run; 7] = [
     (
         "one octet that is no preface",
         &["play"],
-        "47",
-        "sent 00000c0400000000000003000000640006000100000000080700000000000000000000000001\n\
+        b"47",
+        b"sent 00000c0400000000000003000000640006000100000000080700000000000000000000000001\n\
          phase ended 1 last 0\n\
          window recv 65535 owed 0 send 65535\n\
          peer table 4096 push 1 streams - window 65535 frame 16384 list - signal 0\n\
@@ -163,8 +163,8 @@ pub(crate) static BAD_OPENINGS: [Run; 7] = [
     (
         "first frame SETTINGS on stream 1",
         &["play"],
-        "505249202a20485454502f322e300d0a0d0a534d0d0a0d0a 000000040000000001",
-        "sent 00000c0400000000000003000000640006000100000000080700000000000000000000000001\n\
+        b"505249202a20485454502f322e300d0a0d0a534d0d0a0d0a 000000040000000001",
+        b"sent 00000c0400000000000003000000640006000100000000080700000000000000000000000001\n\
          phase ended 1 last 0\n\
          window recv 65535 owed 0 send 65535\n\
          peer table 4096 push 1 streams - window 65535 frame 16384 list - signal 0\n\
@@ -176,8 +176,8 @@ pub(crate) static BAD_OPENINGS: [Run; 7] = [
     (
         "first frame PING",
         &["play"],
-        "505249202a20485454502f322e300d0a0d0a534d0d0a0d0a 0000080600000000000102030405060708",
-        "sent 00000c0400000000000003000000640006000100000000080700000000000000000000000001\n\
+        b"505249202a20485454502f322e300d0a0d0a534d0d0a0d0a 0000080600000000000102030405060708",
+        b"sent 00000c0400000000000003000000640006000100000000080700000000000000000000000001\n\
          phase ended 1 last 0\n\
          window recv 65535 owed 0 send 65535\n\
          peer table 4096 push 1 streams - window 65535 frame 16384 list - signal 0\n\
@@ -193,9 +193,9 @@ pub(crate) static HEADS: [Exchange; 5] = [
     (
         "head above the largest frame",
         &["play"],
-        "004001000000000001",
-        "0000080700000000000000000000000006",
-        "phase ended 6 last 0\n\
+        b"004001000000000001",
+        b"0000080700000000000000000000000006",
+        b"phase ended 6 last 0\n\
          window recv 65535 owed 0 send 65535\n\
          peer table 4096 push 1 streams - window 65535 frame 16384 list - signal 0\n\
          acked 0 goaway -\n\
@@ -205,9 +205,9 @@ pub(crate) static HEADS: [Exchange; 5] = [
     (
         "PING of 7 octets",
         &["play"],
-        "00000706000000000001020304050607",
-        "0000080700000000000000000000000006",
-        "phase ended 6 last 0\n\
+        b"00000706000000000001020304050607",
+        b"0000080700000000000000000000000006",
+        b"phase ended 6 last 0\n\
          window recv 65535 owed 0 send 65535\n\
          peer table 4096 push 1 streams - window 65535 frame 16384 list - signal 0\n\
          acked 0 goaway -\n\
@@ -217,9 +217,9 @@ pub(crate) static HEADS: [Exchange; 5] = [
     (
         "PING on stream 1",
         &["play"],
-        "0000080600000000010102030405060708",
-        "0000080700000000000000000000000001",
-        "phase ended 1 last 0\n\
+        b"0000080600000000010102030405060708",
+        b"0000080700000000000000000000000001",
+        b"phase ended 1 last 0\n\
          window recv 65535 owed 0 send 65535\n\
          peer table 4096 push 1 streams - window 65535 frame 16384 list - signal 0\n\
          acked 0 goaway -\n\
@@ -229,9 +229,9 @@ pub(crate) static HEADS: [Exchange; 5] = [
     (
         "unknown type",
         &["play"],
-        "0000010a000000000000",
-        "",
-        "phase running last 0\n\
+        b"0000010a000000000000",
+        b"",
+        b"phase running last 0\n\
          window recv 65535 owed 0 send 65535\n\
          peer table 4096 push 1 streams - window 65535 frame 16384 list - signal 0\n\
          acked 0 goaway -\n\
@@ -241,9 +241,9 @@ pub(crate) static HEADS: [Exchange; 5] = [
     (
         "cut off in a frame",
         &["play"],
-        "00000806000000",
-        "",
-        "phase running last 0\n\
+        b"00000806000000",
+        b"",
+        b"phase running last 0\n\
          window recv 65535 owed 0 send 65535\n\
          peer table 4096 push 1 streams - window 65535 frame 16384 list - signal 0\n\
          acked 0 goaway -\n\

@@ -7,9 +7,9 @@ pub(crate) static IN_ORDER: [Exchange; 4] = [
     (
         "HEADERS below the last stream",
         &["play"],
-        "000003010400000005828684 000003010400000003828684",
-        "0000080700000000000000000500000001",
-        "phase ended 1 last 5\n\
+        b"000003010400000005828684 000003010400000003828684",
+        b"0000080700000000000000000500000001",
+        b"phase ended 1 last 5\n\
          window recv 65535 owed 0 send 65535\n\
          peer table 4096 push 1 streams - window 65535 frame 16384 list - signal 0\n\
          acked 0 goaway -\n\
@@ -20,9 +20,9 @@ pub(crate) static IN_ORDER: [Exchange; 4] = [
     (
         "DATA on a skipped stream",
         &["play"],
-        "000003010400000005828684 00000100000000000361",
-        "0000080700000000000000000500000005",
-        "phase ended 5 last 5\n\
+        b"000003010400000005828684 00000100000000000361",
+        b"0000080700000000000000000500000005",
+        b"phase ended 5 last 5\n\
          window recv 65535 owed 0 send 65535\n\
          peer table 4096 push 1 streams - window 65535 frame 16384 list - signal 0\n\
          acked 0 goaway -\n\
@@ -33,9 +33,9 @@ pub(crate) static IN_ORDER: [Exchange; 4] = [
     (
         "PRIORITY on a skipped stream",
         &["play"],
-        "000003010400000005828684 0000050200000000030000000000",
-        "",
-        "phase running last 5\n\
+        b"000003010400000005828684 0000050200000000030000000000",
+        b"",
+        b"phase running last 5\n\
          window recv 65535 owed 0 send 65535\n\
          peer table 4096 push 1 streams - window 65535 frame 16384 list - signal 0\n\
          acked 0 goaway -\n\
@@ -46,9 +46,9 @@ pub(crate) static IN_ORDER: [Exchange; 4] = [
     (
         "HEADERS on an even stream",
         &["play"],
-        "000003010400000005828684 000003010400000002828684",
-        "0000080700000000000000000500000001",
-        "phase ended 1 last 5\n\
+        b"000003010400000005828684 000003010400000002828684",
+        b"0000080700000000000000000500000001",
+        b"phase ended 1 last 5\n\
          window recv 65535 owed 0 send 65535\n\
          peer table 4096 push 1 streams - window 65535 frame 16384 list - signal 0\n\
          acked 0 goaway -\n\
@@ -62,8 +62,8 @@ pub(crate) static IN_ORDER: [Exchange; 4] = [
 pub(crate) static ABOVE_THE_LIMIT: [Run; 1] = [(
     "one stream at a time",
     &["play", "--streams", "1"],
-    "505249202a20485454502f322e300d0a0d0a534d0d0a0d0a 000000040000000000 000003010400000001828684 0000080105000000038286844001610162 000000000100000001 000004010500000005828684be",
-    "sent 00000c040000000000000300000001000600010000000000040100000000000004030000000003000000070000010105000000018d0000010105000000058d\n\
+    b"505249202a20485454502f322e300d0a0d0a534d0d0a0d0a 000000040000000000 000003010400000001828684 0000080105000000038286844001610162 000000000100000001 000004010500000005828684be",
+    b"sent 00000c040000000000000300000001000600010000000000040100000000000004030000000003000000070000010105000000018d0000010105000000058d\n\
          phase running last 5\n\
          window recv 65535 owed 0 send 65535\n\
          peer table 4096 push 1 streams - window 65535 frame 16384 list - signal 0\n\

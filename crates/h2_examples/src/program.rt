@@ -24,8 +24,8 @@ pub(crate) const ACKNOWLEDGEMENT: &str = "000000040100000000";
 pub(crate) type Run = (
     &'static str,
     &'static [&'static str],
-    &'static str,
-    &'static str,
+    &'static [u8],
+    &'static [u8],
     u8,
 );
 
@@ -34,9 +34,9 @@ pub(crate) type Run = (
 pub(crate) type Exchange = (
     &'static str,
     &'static [&'static str],
-    &'static str,
-    &'static str,
-    &'static str,
+    &'static [u8],
+    &'static [u8],
+    &'static [u8],
 );
 
 /// A text, and behind it another one so many times.
@@ -117,7 +117,7 @@ fn closed_up(alloc: Global, text: &[u8]) -> Result<Vec<u8>, AllocError> {
 }
 
 /// What `play` prints where these frames are sent behind the opening SETTINGS and the acknowledgement, and this state is shown.
-fn printed(alloc: Global, sent: &[u8], state: &str) -> Result<Vec<u8>, AllocError> {
+fn printed(alloc: Global, sent: &[u8], state: &[u8]) -> Result<Vec<u8>, AllocError> {
     let sent = closed_up(alloc, sent)?;
     joined(
         alloc,
@@ -127,7 +127,7 @@ fn printed(alloc: Global, sent: &[u8], state: &str) -> Result<Vec<u8>, AllocErro
             ACKNOWLEDGEMENT.as_bytes(),
             sent.as_slice(),
             b"\n",
-            state.as_bytes(),
+            state,
         ],
     )
 }
@@ -149,8 +149,7 @@ pub(crate) fn compare(
 /// Runs the program for each case, and compares what is printed and the exit status.
 pub(crate) fn compare_runs(rt: &impl Abort, alloc: Global, cases: &[Run]) -> Result<(), Fail> {
     for (name, words, input, text, status) in cases {
-        let wanted = (*status, text.as_bytes());
-        compare(rt, alloc, name, words, input.as_bytes(), wanted)?;
+        compare(rt, alloc, name, words, input, (*status, *text))?;
     }
     Ok(())
 }
@@ -163,7 +162,7 @@ pub(crate) fn compare_exchange(
     words: &[&str],
     frames: &[u8],
     sent: &[u8],
-    state: &str,
+    state: &[u8],
 ) -> Result<(), Fail> {
     let input = joined(alloc, &[PREFACE.as_bytes(), SETTINGS.as_bytes(), frames])?;
     let text = printed(alloc, sent, state)?;
@@ -184,7 +183,6 @@ pub(crate) fn compare_exchanges(
     cases: &[Exchange],
 ) -> Result<(), Fail> {
     for (name, words, frames, sent, state) in cases {
-        let (frames, sent) = (frames.as_bytes(), sent.as_bytes());
         compare_exchange(rt, alloc, name, words, frames, sent, state)?;
     }
     Ok(())

@@ -7,9 +7,9 @@ pub(crate) static ANSWERED: [Exchange; 6] = [
     (
         "a whole block",
         &["play", "GET|/|200|6869"],
-        "000014010500000001828684410f7777772e6578616d706c652e636f6d",
-        "00000101040000000188 0000020001000000016869",
-        "phase running last 1\n\
+        b"000014010500000001828684410f7777772e6578616d706c652e636f6d",
+        b"00000101040000000188 0000020001000000016869",
+        b"phase running last 1\n\
          window recv 65535 owed 0 send 65533\n\
          peer table 4096 push 1 streams - window 65535 frame 16384 list - signal 0\n\
          acked 0 goaway -\n\
@@ -21,9 +21,9 @@ pub(crate) static ANSWERED: [Exchange; 6] = [
     (
         "a block in two frames, cut in an instruction, with Huffman",
         &["play", "GET|/|200|6869"],
-        "000007010100000001828684418cf1e3 00000a090400000001c2e5f23a6ba0ab90f4ff",
-        "00000101040000000188 0000020001000000016869",
-        "phase running last 1\n\
+        b"000007010100000001828684418cf1e3 00000a090400000001c2e5f23a6ba0ab90f4ff",
+        b"00000101040000000188 0000020001000000016869",
+        b"phase running last 1\n\
          window recv 65535 owed 0 send 65533\n\
          peer table 4096 push 1 streams - window 65535 frame 16384 list - signal 0\n\
          acked 0 goaway -\n\
@@ -35,9 +35,9 @@ pub(crate) static ANSWERED: [Exchange; 6] = [
     (
         "PING in a block",
         &["play", "GET|/|200|6869"],
-        "000007010100000001828684418cf1e3 0000080600000000000102030405060708",
-        "0000080700000000000000000000000001",
-        "phase ended 1 last 0\n\
+        b"000007010100000001828684418cf1e3 0000080600000000000102030405060708",
+        b"0000080700000000000000000000000001",
+        b"phase ended 1 last 0\n\
          window recv 65535 owed 0 send 65535\n\
          peer table 4096 push 1 streams - window 65535 frame 16384 list - signal 0\n\
          acked 0 goaway -\n\
@@ -47,9 +47,9 @@ pub(crate) static ANSWERED: [Exchange; 6] = [
     (
         "no answer for the path",
         &["play"],
-        "000003010500000001828684",
-        "0000010105000000018d",
-        "phase running last 1\n\
+        b"000003010500000001828684",
+        b"0000010105000000018d",
+        b"phase running last 1\n\
          window recv 65535 owed 0 send 65535\n\
          peer table 4096 push 1 streams - window 65535 frame 16384 list - signal 0\n\
          acked 0 goaway -\n\
@@ -60,9 +60,9 @@ pub(crate) static ANSWERED: [Exchange; 6] = [
     (
         "the peer's table of size 0",
         &["play", "GET|/|200|6869"],
-        "000006040000000000000100000000 000014010500000001828684410f7777772e6578616d706c652e636f6d",
-        "000000040100000000 0000020104000000012088 0000020001000000016869",
-        "phase running last 1\n\
+        b"000006040000000000000100000000 000014010500000001828684410f7777772e6578616d706c652e636f6d",
+        b"000000040100000000 0000020104000000012088 0000020001000000016869",
+        b"phase running last 1\n\
          window recv 65535 owed 0 send 65533\n\
          peer table 0 push 1 streams - window 65535 frame 16384 list - signal 0\n\
          acked 0 goaway -\n\
@@ -74,9 +74,9 @@ pub(crate) static ANSWERED: [Exchange; 6] = [
     (
         "CONNECT",
         &["play"],
-        "00000c0105000000010207434f4e4e454354010161",
-        "0000050105000000010803353031",
-        "phase running last 1\n\
+        b"00000c0105000000010207434f4e4e454354010161",
+        b"0000050105000000010803353031",
+        b"phase running last 1\n\
          window recv 65535 owed 0 send 65535\n\
          peer table 4096 push 1 streams - window 65535 frame 16384 list - signal 0\n\
          acked 0 goaway -\n\
@@ -91,9 +91,9 @@ pub(crate) static MALFORMED: [Exchange; 9] = [
     (
         "an upper-case letter in a name",
         &["play"],
-        "0000080105000000018286840001410162",
-        "00000403000000000100000001",
-        "phase running last 1\n\
+        b"0000080105000000018286840001410162",
+        b"00000403000000000100000001",
+        b"phase running last 1\n\
          window recv 65535 owed 0 send 65535\n\
          peer table 4096 push 1 streams - window 65535 frame 16384 list - signal 0\n\
          acked 0 goaway -\n\
@@ -104,9 +104,9 @@ pub(crate) static MALFORMED: [Exchange; 9] = [
     (
         "a value with a carriage return",
         &["play"],
-        "000008010500000001828684000161010d",
-        "00000403000000000100000001",
-        "phase running last 1\n\
+        b"000008010500000001828684000161010d",
+        b"00000403000000000100000001",
+        b"phase running last 1\n\
          window recv 65535 owed 0 send 65535\n\
          peer table 4096 push 1 streams - window 65535 frame 16384 list - signal 0\n\
          acked 0 goaway -\n\
@@ -117,9 +117,9 @@ pub(crate) static MALFORMED: [Exchange; 9] = [
     (
         "a pseudo-field behind a field",
         &["play"],
-        "0000080105000000018286000161016284",
-        "00000403000000000100000001",
-        "phase running last 1\n\
+        b"0000080105000000018286000161016284",
+        b"00000403000000000100000001",
+        b"phase running last 1\n\
          window recv 65535 owed 0 send 65535\n\
          peer table 4096 push 1 streams - window 65535 frame 16384 list - signal 0\n\
          acked 0 goaway -\n\
@@ -130,9 +130,9 @@ pub(crate) static MALFORMED: [Exchange; 9] = [
     (
         "a pseudo-field of another name",
         &["play"],
-        "00000901050000000182868400023a780162",
-        "00000403000000000100000001",
-        "phase running last 1\n\
+        b"00000901050000000182868400023a780162",
+        b"00000403000000000100000001",
+        b"phase running last 1\n\
          window recv 65535 owed 0 send 65535\n\
          peer table 4096 push 1 streams - window 65535 frame 16384 list - signal 0\n\
          acked 0 goaway -\n\
@@ -143,9 +143,9 @@ pub(crate) static MALFORMED: [Exchange; 9] = [
     (
         ":path twice",
         &["play"],
-        "00000401050000000182868484",
-        "00000403000000000100000001",
-        "phase running last 1\n\
+        b"00000401050000000182868484",
+        b"00000403000000000100000001",
+        b"phase running last 1\n\
          window recv 65535 owed 0 send 65535\n\
          peer table 4096 push 1 streams - window 65535 frame 16384 list - signal 0\n\
          acked 0 goaway -\n\
@@ -156,9 +156,9 @@ pub(crate) static MALFORMED: [Exchange; 9] = [
     (
         "no :scheme",
         &["play"],
-        "0000020105000000018284",
-        "00000403000000000100000001",
-        "phase running last 1\n\
+        b"0000020105000000018284",
+        b"00000403000000000100000001",
+        b"phase running last 1\n\
          window recv 65535 owed 0 send 65535\n\
          peer table 4096 push 1 streams - window 65535 frame 16384 list - signal 0\n\
          acked 0 goaway -\n\
@@ -169,9 +169,9 @@ pub(crate) static MALFORMED: [Exchange; 9] = [
     (
         "a field of one connection",
         &["play"],
-        "000011010500000001828684000a636f6e6e656374696f6e0161",
-        "00000403000000000100000001",
-        "phase running last 1\n\
+        b"000011010500000001828684000a636f6e6e656374696f6e0161",
+        b"00000403000000000100000001",
+        b"phase running last 1\n\
          window recv 65535 owed 0 send 65535\n\
          peer table 4096 push 1 streams - window 65535 frame 16384 list - signal 0\n\
          acked 0 goaway -\n\
@@ -182,9 +182,9 @@ pub(crate) static MALFORMED: [Exchange; 9] = [
     (
         "te: gzip",
         &["play"],
-        "00000c0105000000018286840002746504677a6970",
-        "00000403000000000100000001",
-        "phase running last 1\n\
+        b"00000c0105000000018286840002746504677a6970",
+        b"00000403000000000100000001",
+        b"phase running last 1\n\
          window recv 65535 owed 0 send 65535\n\
          peer table 4096 push 1 streams - window 65535 frame 16384 list - signal 0\n\
          acked 0 goaway -\n\
@@ -195,9 +195,9 @@ pub(crate) static MALFORMED: [Exchange; 9] = [
     (
         "content-length: 1x",
         &["play"],
-        "0000080105000000018286840f0d023178",
-        "00000403000000000100000001",
-        "phase running last 1\n\
+        b"0000080105000000018286840f0d023178",
+        b"00000403000000000100000001",
+        b"phase running last 1\n\
          window recv 65535 owed 0 send 65535\n\
          peer table 4096 push 1 streams - window 65535 frame 16384 list - signal 0\n\
          acked 0 goaway -\n\
@@ -212,9 +212,9 @@ pub(crate) static TRAILERS: [Exchange; 2] = [
     (
         "trailers that don't end the stream",
         &["play"],
-        "000003010400000001828684 0000050104000000010001610162",
-        "00000403000000000100000001",
-        "phase running last 1\n\
+        b"000003010400000001828684 0000050104000000010001610162",
+        b"00000403000000000100000001",
+        b"phase running last 1\n\
          window recv 65535 owed 0 send 65535\n\
          peer table 4096 push 1 streams - window 65535 frame 16384 list - signal 0\n\
          acked 0 goaway -\n\
@@ -225,9 +225,9 @@ pub(crate) static TRAILERS: [Exchange; 2] = [
     (
         "trailers",
         &["play"],
-        "000003010400000001828684 0000050105000000010001610162",
-        "0000010105000000018d",
-        "phase running last 1\n\
+        b"000003010400000001828684 0000050105000000010001610162",
+        b"0000010105000000018d",
+        b"phase running last 1\n\
          window recv 65535 owed 0 send 65535\n\
          peer table 4096 push 1 streams - window 65535 frame 16384 list - signal 0\n\
          acked 0 goaway -\n\

@@ -8,8 +8,8 @@ pub(crate) static LINES: [Run; 6] = [
     (
         "three entries and two maxima",
         &["table", "100"],
-        "add a b\nadd c d\nadd e f\nmax 40\nmax 101\n",
-        "1 34 100\n\
+        b"add a b\nadd c d\nadd e f\nmax 40\nmax 101\n",
+        b"1 34 100\n\
          2 68 100\n\
          2 68 100\n\
          1 34 40\n\
@@ -20,8 +20,8 @@ pub(crate) static LINES: [Run; 6] = [
     (
         "a line that is no command",
         &["table", "100"],
-        "max 40\nmax 101\nfoo",
-        "0 0 40\n\
+        b"max 40\nmax 101\nfoo",
+        b"0 0 40\n\
          fault 3\n\
          fault 27\n",
         0,
@@ -29,8 +29,8 @@ pub(crate) static LINES: [Run; 6] = [
     (
         "empty lines, empty texts and any octets",
         &["table", "100"],
-        "\nadd  \nadd a\nadd  b c",
-        "fault 27\n\
+        b"\nadd  \nadd a\nadd  b c",
+        b"fault 27\n\
          1 32 100\n\
          fault 27\n\
          2 67 100\n\
@@ -41,8 +41,8 @@ pub(crate) static LINES: [Run; 6] = [
     (
         "numbers of maxima",
         &["table", "65536"],
-        "max 0000065536\nmax 00000065536\nmax +5\nmax 4294967295\nmax 4294967296\nmax \n",
-        "0 0 65536\n\
+        b"max 0000065536\nmax 00000065536\nmax +5\nmax 4294967295\nmax 4294967296\nmax \n",
+        b"0 0 65536\n\
          fault 27\n\
          fault 27\n\
          fault 3\n\
@@ -50,12 +50,12 @@ pub(crate) static LINES: [Run; 6] = [
          fault 27\n",
         0,
     ),
-    ("no line", &["table", "0"], "", "", 0),
+    ("no line", &["table", "0"], b"", b"", 0),
     (
         "a number of another form",
         &["table", "007"],
-        "max 7",
-        "0 0 7\n",
+        b"max 7",
+        b"0 0 7\n",
         0,
     ),
 ];
