@@ -56,22 +56,13 @@ static ENTRIES: [(&str, u16, &str, &str, u8, &str); 6] = [
     ("GET", 201, "a", "ho", 0, "another for the same requests"),
 ];
 
-fn compare_entries(
-    rt: &impl Abort,
-    alloc: Global,
-    book: &mut Book<Global>,
-) -> Result<(), AllocError> {
-    for (method, status, name, body, fault, message) in &ENTRIES {
-        let entry = entry(alloc, method, *status, name, body)?;
-        same(rt, &fault_of(book, entry), fault, message);
-    }
-    Ok(())
-}
-
 #[test]
 fn entries_of_a_book(rt: HostRuntime) -> Result<(), Fail> {
     let mut book = Book::new(rt.alloc());
-    compare_entries(&rt, rt.alloc(), &mut book)?;
+    for (method, status, name, body, fault, message) in &ENTRIES {
+        let entry = entry(rt.alloc(), method, *status, name, body)?;
+        same(&rt, &fault_of(&mut book, entry), fault, message);
+    }
     same(&rt, &book.len(), &2, &"entries that are kept");
     Ok(())
 }

@@ -8,7 +8,7 @@ use h2_conn::{Conn, ConnFault};
 use h2_request::book::Book;
 use h2_spec::connection::{Config, Phase};
 use h2_spec::streams::Kind;
-use std::alloc::{AllocError, Global};
+use std::alloc::Global;
 use std::test::Fail;
 
 /// The usual limits.
@@ -275,7 +275,7 @@ fn the_state_is_shown(rt: HostRuntime) -> Result<(), Fail> {
 /// The phase and the last stream of a run over octets in pieces of these lengths, and its streams.
 type Seen = (Phase, u32, Vec<(u32, Kind)>);
 
-fn seen(alloc: Global, view: &View<Global>) -> Result<Seen, AllocError> {
+fn seen(alloc: Global, view: &View<Global>) -> Result<Seen, Fail> {
     let mut streams = Vec::new(alloc);
     for stream in view.streams.as_slice() {
         streams.push((stream.id, stream.kind))?;
@@ -291,7 +291,7 @@ fn played(
 ) -> Result<Seen, Fail> {
     let book = no_answers(alloc);
     let view = play(&book, usual(), octets, lengths, sent)?;
-    Ok(seen(alloc, &view)?)
+    seen(alloc, &view)
 }
 
 #[test]

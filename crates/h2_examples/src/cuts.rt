@@ -181,28 +181,20 @@ fn cuts_change_nothing(rt: HostRuntime) -> Result<(), Fail> {
     Ok(())
 }
 
-fn compare_beginnings(
-    rt: &impl Abort,
-    alloc: Global,
-    book: &Book<Global>,
-    octets: &[u8],
-) -> Result<(), Fail> {
-    let (sent, _) = played(alloc, book, octets, &[])?;
+#[test]
+fn beginnings_send_beginnings(rt: HostRuntime) -> Result<(), Fail> {
+    let alloc = rt.alloc();
+    let book = no_answers(alloc);
+    let octets = octets_of(alloc, ONE_AT_A_TIME)?;
+    let (sent, _) = played(alloc, &book, octets.as_slice(), &[])?;
     for end in 0..octets.len() {
-        let (first, _) = played(alloc, book, &octets[..end], &[])?;
+        let (first, _) = played(alloc, &book, &octets.as_slice()[..end], &[])?;
         assert!(rt;
             sent.as_slice().starts_with(first.as_slice()),
             "up to {end}"
         );
     }
     Ok(())
-}
-
-#[test]
-fn beginnings_send_beginnings(rt: HostRuntime) -> Result<(), Fail> {
-    let book = no_answers(rt.alloc());
-    let octets = octets_of(rt.alloc(), ONE_AT_A_TIME)?;
-    compare_beginnings(&rt, rt.alloc(), &book, octets.as_slice())
 }
 
 /// What the program prints where this was sent and a connection shows this.

@@ -6,7 +6,6 @@ use h2_bench::{Words, run};
 use std::alloc::{AllocError, Global};
 use std::io;
 use std::io::{ErrorKind, Read, Write};
-use std::process::Abort;
 use std::test::Fail;
 
 /// A reader and a writer of which each call fails.
@@ -113,34 +112,17 @@ fn pings(alloc: Global) -> Result<Vec<u8>, AllocError> {
     filled(alloc, ping, &[(PREFACE, 0), (SETTINGS, 400)])
 }
 
-/// Compares what a writer of this room takes with the beginning of all that is written.
-fn compare_narrowed(
-    rt: &impl Abort,
-    alloc: Global,
-    input: &[u8],
-    whole: &[u8],
-    room: usize,
-) -> Result<(), Fail> {
-    let (status, taken) = narrowed(alloc, input, room)?;
-    let wanted = if room == whole.len() { 0 } else { 3 };
-    same(rt, &(status, taken.len()), &(wanted, room), &room);
-    assert!(rt; whole.starts_with(taken.as_slice()), "at {room}");
-    Ok(())
-}
-
-/// The same for writers of less room and more.
-fn compare_rooms(rt: &impl Abort, alloc: Global, input: &[u8], whole: &[u8]) -> Result<(), Fail> {
-    let length = whole.len();
-    assert!(rt; length > 65536, "it takes two writes at least");
-    for room in [0, 1, 1000, 40000, 65536, length - 1, length] {
-        compare_narrowed(rt, alloc, input, whole, room)?;
-    }
-    Ok(())
-}
-
 #[test]
 fn places_are_written_until_a_write_fails(rt: HostRuntime) -> Result<(), Fail> {
     let input = pings(rt.alloc())?;
     let (_, whole) = ran(rt.alloc(), &["play", "--each"], input.as_slice())?;
-    compare_rooms(&rt, rt.alloc(), input.as_slice(), whole.as_slice())
+    let length = whole.len();
+    assert!(rt; length > 65536, "it takes two writes at least");
+    for room in [0, 1, 1000, 40000, 65536, length - 1, length] {
+        let (status, taken) = narrowed(rt.alloc(), input.as_slice(), room)?;
+        let wanted = if room == length { 0 } else { 3 };
+        same(&rt, &(status, taken.len()), &(wanted, room), &room);
+        assert!(rt; whole.starts_with(taken.as_slice()), "at {room}");
+    }
+    Ok(())
 }

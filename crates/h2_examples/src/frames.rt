@@ -92,7 +92,7 @@ fn push(splitter: &mut Splitter<Global>, octets: &[u8]) -> Result<(), AllocError
 }
 
 /// Compares PING, and the head of DATA of 16,385 octets.
-fn compare_items(rt: &impl Abort, splitter: &mut Splitter<Global>) -> Result<(), AllocError> {
+fn compare_items(rt: &impl Abort, splitter: &mut Splitter<Global>) -> Result<(), Fail> {
     let ping = FrameRef {
         head: head(8, 6, 0),
         payload: DIGITS,
@@ -118,11 +118,12 @@ fn frames_behind_the_preface(rt: HostRuntime) -> Result<(), Fail> {
         rt.alloc(),
         b"\x00\x00\x08\x06\x00\x00\x00\x00\x00\x01\x02\x03\x04\x05\x06\x07\x08\x00\x40\x01\x00\x00\x00\x00\x00\x01",
     )?;
-    Ok(compare_items(&rt, &mut splitter)?)
+    compare_items(&rt, &mut splitter)
 }
 
-/// Whether frames of no octets are taken as they come, so many.
-fn takes_frames(splitter: &mut Splitter<&LocalHeap>, count: u32) -> Result<bool, AllocError> {
+/// Whether frames of no octets are taken as they come, so many, where the splitter has no more memory than these 64 octets.
+fn taken_within(heap: &LocalHeap, count: u32) -> Result<bool, AllocError> {
+    let mut splitter = Splitter::new(heap);
     splitter.push(PREFACE)?;
     let mut all_taken = splitter.next(16_384) == Some(Item::Preface);
     for _ in 0..count {
@@ -130,12 +131,6 @@ fn takes_frames(splitter: &mut Splitter<&LocalHeap>, count: u32) -> Result<bool,
         all_taken = all_taken && splitter.next(16_384).is_some();
     }
     Ok(all_taken && splitter.rest_len() == 0)
-}
-
-/// The same where the splitter has no more memory than these octets.
-fn taken_within(heap: &LocalHeap, count: u32) -> Result<bool, AllocError> {
-    let mut splitter = Splitter::new(heap);
-    takes_frames(&mut splitter, count)
 }
 
 #[test]

@@ -155,18 +155,23 @@ fn written(alloc: Global, instr: &Instr<Global>) -> Result<String, Fail> {
     }
 }
 
-/// What an instruction means, and what it is written as.
-fn told_and_written(alloc: Global, instr: &Instr<Global>) -> Result<(String, String), Fail> {
-    Ok((told(alloc, instr)?, written(alloc, instr)?))
+/// What octets mean, how many of them that takes, and what the instruction is written as.
+type Meaning = (String, usize, String);
+
+fn told_and_written(alloc: Global, instr: &Instr<Global>, used: usize) -> Result<Meaning, Fail> {
+    Ok((told(alloc, instr)?, used, written(alloc, instr)?))
 }
 
-/// What octets mean, with an octet behind them, how many of them that takes, and what the instruction is written as.
-fn meaning(alloc: Global, digits: &str) -> Result<(String, usize, String), Fail> {
+fn meaning_of(alloc: Global, octets: &[u8]) -> Result<Meaning, Fail> {
+    let (instr, used) = read_whole(alloc, octets)?;
+    told_and_written(alloc, &instr, used)
+}
+
+/// The same of octets that digits spell, with an octet behind them.
+fn meaning(alloc: Global, digits: &str) -> Result<Meaning, Fail> {
     let mut octets = octets_of(alloc, digits)?;
     octets.push(130)?;
-    let (instr, used) = read_whole(alloc, octets.as_slice())?;
-    let (told, written) = told_and_written(alloc, &instr)?;
-    Ok((told, used, written))
+    meaning_of(alloc, octets.as_slice())
 }
 
 #[test]
@@ -185,13 +190,18 @@ fn instructions_are_read_and_written(rt: HostRuntime) -> Result<(), Fail> {
 }
 
 /// What octets are, that spell no instruction: the number of a fault, or none where they are the beginning of one.
-fn fault_of(alloc: Global, digits: &str) -> Result<Option<u8>, Fail> {
-    let octets = octets_of(alloc, digits)?;
-    match read(alloc, octets.as_slice()) {
+fn fault(alloc: Global, octets: &[u8]) -> Result<Option<u8>, Fail> {
+    match read(alloc, octets) {
         Ok(InstrRead::Whole(..)) => Err(Fail::from("no instruction")),
         Ok(InstrRead::More) => Ok(None),
         Err(fault) => Ok(Some(fault.number())),
     }
+}
+
+/// The same of octets that digits spell.
+fn fault_of(alloc: Global, digits: &str) -> Result<Option<u8>, Fail> {
+    let octets = octets_of(alloc, digits)?;
+    fault(alloc, octets.as_slice())
 }
 
 /// Octets that spell no instruction, and the number of the fault.

@@ -69,10 +69,7 @@ fn end_both(rt: &impl Abort, streams: &mut Streams<Global>, id: u32) {
     streams.end_local(id);
 }
 
-fn compare_opened_and_ended(
-    rt: &impl Abort,
-    streams: &mut Streams<Global>,
-) -> Result<(), AllocError> {
+fn compare_opened_and_ended(rt: &impl Abort, streams: &mut Streams<Global>) -> Result<(), Fail> {
     compare_kinds(rt, streams, &[(1, Kind::Idle)], "at first");
     open(rt, streams, 5, None, false)?;
     let kinds = [
@@ -91,7 +88,7 @@ fn compare_opened_and_ended(
 #[test]
 fn a_stream_opens_and_ends(rt: HostRuntime) -> Result<(), Fail> {
     let mut streams = Streams::new(rt.alloc());
-    Ok(compare_opened_and_ended(&rt, &mut streams)?)
+    compare_opened_and_ended(&rt, &mut streams)
 }
 
 /// A stream 5 is opened, and a stream 7 that the server resets.
@@ -110,7 +107,7 @@ fn has_record(streams: &Streams<Global>, id: u32) -> bool {
     streams.get(id).is_some()
 }
 
-fn compare_order(rt: &impl Abort, streams: &mut Streams<Global>) -> Result<(), AllocError> {
+fn compare_order(rt: &impl Abort, streams: &mut Streams<Global>) -> Result<(), Fail> {
     open_and_reset(rt, streams)?;
     compare_counts(rt, streams, (7, 1), "the last stream and the live ones");
     compare_kinds(rt, streams, &[(7, Kind::WeReset)], "stream 7");
@@ -125,7 +122,7 @@ fn compare_order(rt: &impl Abort, streams: &mut Streams<Global>) -> Result<(), A
 #[test]
 fn records_stand_in_the_order_of_opening(rt: HostRuntime) -> Result<(), Fail> {
     let mut streams = Streams::new(rt.alloc());
-    Ok(compare_order(&rt, &mut streams)?)
+    compare_order(&rt, &mut streams)
 }
 
 /// The send window of a stream, if it has a record.
@@ -240,9 +237,8 @@ fn a_full_window_refuses_for_all_where_settings_move_it(rt: HostRuntime) -> Resu
     Ok(())
 }
 
-/// Five streams whose requests have ended; 1, 7 and 11 have octets left to send.
-fn five_streams(rt: &impl Abort, alloc: Global) -> Result<Streams<Global>, AllocError> {
-    let mut streams = Streams::new(alloc);
+/// Opens five streams whose requests have ended; 1, 7 and 11 have octets left to send.
+fn open_five(rt: &impl Abort, streams: &mut Streams<Global>) -> Result<(), AllocError> {
     for (id, left) in [
         (1, Some(5)),
         (3, None),
@@ -250,9 +246,9 @@ fn five_streams(rt: &impl Abort, alloc: Global) -> Result<Streams<Global>, Alloc
         (7, Some(1)),
         (11, Some(2)),
     ] {
-        open(rt, &mut streams, id, left, true)?;
+        open(rt, streams, id, left, true)?;
     }
-    Ok(streams)
+    Ok(())
 }
 
 /// The peer resets stream 7, and stream 3 gets 9 octets to send.
@@ -273,7 +269,8 @@ fn put_1_and_13(rt: &impl Abort, streams: &mut Streams<Global>) -> Result<(), Al
     streams.put(not_live(13, Kind::WeReset))
 }
 
-fn compare_puts(rt: &impl Abort, streams: &mut Streams<Global>) -> Result<(), AllocError> {
+fn compare_puts(rt: &impl Abort, streams: &mut Streams<Global>) -> Result<(), Fail> {
+    open_five(rt, streams)?;
     let waiting = octets_waiting(&stream_at(streams, 11));
     same(rt, &waiting, &2, &"what waits on stream 11");
     reset_7_and_fill_3(rt, streams);
@@ -286,8 +283,8 @@ fn compare_puts(rt: &impl Abort, streams: &mut Streams<Global>) -> Result<(), Al
 
 #[test]
 fn streams_are_put_in_their_places(rt: HostRuntime) -> Result<(), Fail> {
-    let mut streams = five_streams(&rt, rt.alloc())?;
-    Ok(compare_puts(&rt, &mut streams)?)
+    let mut streams = Streams::new(rt.alloc());
+    compare_puts(&rt, &mut streams)
 }
 
 fn copied(streams: &Streams<Global>) -> Result<Streams<Global>, AllocError> {
@@ -298,8 +295,12 @@ fn next_waiting(streams: &Streams<Global>, after: u32) -> Option<u32> {
     streams.next_waiting(after)
 }
 
-/// Changes streams, and gives a copy from before that.
-fn changed(rt: &impl Abort, streams: &mut Streams<Global>) -> Result<Streams<Global>, AllocError> {
+/// Opens five streams and changes them, and gives a copy from before the change.
+fn copied_and_changed(
+    rt: &impl Abort,
+    streams: &mut Streams<Global>,
+) -> Result<Streams<Global>, AllocError> {
+    open_five(rt, streams)?;
     let copy = copied(streams)?;
     reset_7_and_fill_3(rt, streams);
     put_1_and_13(rt, streams)?;
@@ -322,10 +323,14 @@ fn compare_waiting(rt: &impl Abort, streams: &Streams<Global>, copy: &Streams<Gl
     }
 }
 
+fn compare_before_and_after(rt: &impl Abort, streams: &mut Streams<Global>) -> Result<(), Fail> {
+    let copy = copied_and_changed(rt, streams)?;
+    compare_waiting(rt, streams, &copy);
+    Ok(())
+}
+
 #[test]
 fn streams_wait_to_send_by_rising_identifier(rt: HostRuntime) -> Result<(), Fail> {
-    let mut streams = five_streams(&rt, rt.alloc())?;
-    let copy = changed(&rt, &mut streams)?;
-    compare_waiting(&rt, &streams, &copy);
-    Ok(())
+    let mut streams = Streams::new(rt.alloc());
+    compare_before_and_after(&rt, &mut streams)
 }
