@@ -2,7 +2,7 @@
 //! It rests on `h2_fields` and `octets`; the definitions are `entry_fault` of `h2_spec`, specs/Book.antt, and `pick_of` and
 //! `picked` of specs/Answer.antt.
 
-ghost use Rattle.std.specs.Prelude.{◌≡◌, ◌≢◌, ◌≤◌, ◌==◌, ◌&&◌, ◌||◌, [], ◌∷◌, ◌++◌, OnOk, OnErr, IfErr, MatchOption, codes, length, position, bytes_eq};
+ghost use Rattle.std.specs.Prelude.{None, ◌≡◌, ◌≢◌, ◌≤◌, ◌==◌, ◌&&◌, ◌||◌, [], ◌∷◌, ◌++◌, OnOk, OnErr, IfErr, MatchOption, codes, length, position, bytes_eq};
 ghost use Rattle.std.specs.List.{list_any};
 ghost use Rattle.h2_spec.specs.Answer.{bare as bare_answer, pick_of, picked};
 ghost use Rattle.h2_spec.specs.Book.{entry_fault};
@@ -11,6 +11,7 @@ ghost use Rattle.h2_request.specs.Asked.{asked};
 ghost use Rattle.h2_request.specs.Fault.{IsRefusal};
 ghost use Rattle.h2_request.specs.Lent.{answered, block_of_answer, IsPickOf};
 ghost use Rattle.h2_request.specs.declared.fault.BookFault.TheVariants.{NoMemory};
+ghost use Rattle.h2_spec.specs.declared.streams.Pick.TheVariants.{Listed};
 
 use crate::block_length::is_block_too_long;
 use crate::fault::BookFault;
@@ -114,13 +115,20 @@ impl<A: Allocator + Copy> Book<A> {
     {
         match self.fault_of(&entry) {
             Some(fault) => Err(fault),
-            None => {
-                let alloc = *self.entries.allocator();
-                let block = response_block(alloc, false, entry.status, entry.fields.as_slice())?;
-                self.entries.push(Stored { entry, block })?;
-                Ok(())
-            }
+            None => self.put(entry),
         }
+    }
+
+    /// Puts an entry that is allowed behind those of the book, with the field block of its answer.
+    fn put(&mut self, entry: Entry<A>) -> Result<(), BookFault>
+        requires { entry_fault self.old entry ≡ None }
+        ensures added { OnOk result (self.new ≡ self.old ++ entry ∷ []) }
+        ensures refused { IfErr result (λ fault. (fault ≡ NoMemory) × (self.new ≡ self.old)) }
+    {
+        let alloc = *self.entries.allocator();
+        let block = response_block(alloc, false, entry.status, entry.fields.as_slice())?;
+        self.entries.push(Stored { entry, block })?;
+        Ok(())
     }
 }
 
@@ -197,12 +205,19 @@ impl<A: Allocator> Book<A> {
         ensures { answered result ≡ picked self.now pick }
     {
         match pick {
-            Pick::Listed(place) => match self.entries.get(place) {
-                Some(stored) => answer_of(stored),
-                None => self.bare(404),
-            },
+            Pick::Listed(place) => self.answer_at(place),
             Pick::NotFound => self.bare(404),
             Pick::Connect => self.bare(501),
+        }
+    }
+
+    /// The answer of the entry at a place, or a bare 404.
+    fn answer_at(&self, place: usize) -> Answer<'_, A>
+        ensures { answered result ≡ picked self.now (Listed place) }
+    {
+        match self.entries.get(place) {
+            Some(stored) => answer_of(stored),
+            None => self.bare(404),
         }
     }
 
@@ -213,12 +228,20 @@ impl<A: Allocator> Book<A> {
         ensures within { length result.now ≤ 16383 }
     {
         match pick {
-            Pick::Listed(place) => match self.entries.get(place) {
-                Some(stored) => block_of(stored),
-                None => block_404(),
-            },
+            Pick::Listed(place) => self.block_at(place),
             Pick::NotFound => block_404(),
             Pick::Connect => block_501(),
+        }
+    }
+
+    /// The field block of the entry at a place, or that of a bare 404.
+    fn block_at(&self, place: usize) -> &[u8]
+        ensures block { result.now ≡ block_of_answer (picked self.now (Listed place)) }
+        ensures within { length result.now ≤ 16383 }
+    {
+        match self.entries.get(place) {
+            Some(stored) => block_of(stored),
+            None => block_404(),
         }
     }
 

@@ -2,7 +2,8 @@
 //! It rests on `octets`; how a field more changes each is `marked`, `noted` and `measured` of specs/Walk.antt, and that
 //! they then say what the definitions test of the whole list is proved in proofs/Seen.antt.
 
-ghost use Rattle.std.specs.Prelude.{◌≡◌, false};
+ghost use Rattle.std.specs.Prelude.{◌≡◌, ◌||◌, false, Some, is_some, unwrap_or};
+ghost use Rattle.std.specs.Option.{option_copied};
 ghost use Rattle.h2_spec.specs.Field.{field};
 ghost use Rattle.h2_request.specs.Walk.{marked, noted, measured, pseudo_of, with_pseudo};
 ghost use Rattle.h2_request.specs.Seen.{AreSeen};
@@ -99,35 +100,27 @@ impl<'a> PseudoFields<'a> {
         ensures { pseudo_of result ≡ with_pseudo (pseudo_of self.entry) (field name.now value.now) }
     {
         if name == b":method".as_slice() {
-            let double = self.double || self.method.is_some();
-            let method = Some(self.method.unwrap_or(value));
             PseudoFields {
-                double,
-                method,
+                double: is_double(self.double, self.method),
+                method: first_value(self.method, value),
                 ..self
             }
         } else if name == b":scheme".as_slice() {
-            let double = self.double || self.scheme.is_some();
-            let scheme = Some(self.scheme.unwrap_or(value));
             PseudoFields {
-                double,
-                scheme,
+                double: is_double(self.double, self.scheme),
+                scheme: first_value(self.scheme, value),
                 ..self
             }
         } else if name == b":path".as_slice() {
-            let double = self.double || self.path.is_some();
-            let path = Some(self.path.unwrap_or(value));
             PseudoFields {
-                double,
-                path,
+                double: is_double(self.double, self.path),
+                path: first_value(self.path, value),
                 ..self
             }
         } else if name == b":authority".as_slice() {
-            let double = self.double || self.authority.is_some();
-            let authority = Some(self.authority.unwrap_or(value));
             PseudoFields {
-                double,
-                authority,
+                double: is_double(self.double, self.authority),
+                authority: first_value(self.authority, value),
                 ..self
             }
         } else {
@@ -137,6 +130,20 @@ impl<'a> PseudoFields<'a> {
             }
         }
     }
+}
+
+/// Whether a pseudo-field is there twice, where this was its value before.
+fn is_double(double: bool, before: Option<&[u8]>) -> bool
+    ensures { result ≡ (double || is_some (option_copied before.entry)) }
+{
+    double || before.is_some()
+}
+
+/// The first value of a pseudo-field that has this value too.
+fn first_value<'a>(before: Option<&'a [u8]>, value: &'a [u8]) -> Option<&'a [u8]>
+    ensures { option_copied result ≡ Some (unwrap_or (option_copied before.entry) value.now) }
+{
+    Some(before.unwrap_or(value))
 }
 
 /// The content-length of a request: its number, and whether one is no number or another number.

@@ -4,18 +4,18 @@ use Rattle.h2_fields.specs.Instructions.{IsWritableField}
 use Rattle.h2_spec.specs.Answer.{Entry, response_block}
 use Rattle.h2_spec.specs.Field.{Field}
 use Rattle.h2_request.proofs.BookLaws.{allowed-status, allowed-fields, allowed-block}
-use Rattle.h2_request.proofs.book.Book.add.Goals as goal
+use Rattle.h2_request.proofs.book.Book.put.Goals as goal
 
 pub response_block-requires-clause-status : goal.response_block-requires-clause-status
 response_block-requires-clause-status g c =
-    subst (λ (e : Entry). (200 ≤ e.answer.status) × (e.answer.status ≤ 599)) (sym c.entry.view_is) (allowed-status c.args.self.now c.args.entry c.in-None.ensures)
+    subst (λ (e : Entry). (200 ≤ e.answer.status) × (e.answer.status ≤ 599)) (sym c.entry.view_is) (allowed-status c.args.self.now c.args.entry c.requires)
 
 pub response_block-requires-clause-fields : goal.response_block-requires-clause-fields
 response_block-requires-clause-fields g c =
     subst (λ (fields : List Field). AllByRecursion IsWritableField fields) (sym c.as_slice.ensures.value)
-    (subst (λ (e : Entry). AllByRecursion IsWritableField e.answer.fields) (sym c.entry.view_is) (allowed-fields c.args.self.now c.args.entry c.in-None.ensures))
+    (subst (λ (e : Entry). AllByRecursion IsWritableField e.answer.fields) (sym c.entry.view_is) (allowed-fields c.args.self.now c.args.entry c.requires))
 
 pub invariant_of-push : goal.invariant_of-push
 invariant_of-push g c =
-    let same : c.in_ok-block-in-None.block.items ≡ response_block false c.args.entry.answer.status c.args.entry.answer.fields = search rules in
-    (same, subst (λ (b : List ℕ). length b ≤ 16383) (sym same) (allowed-block c.args.self.now c.args.entry c.in-None.ensures))
+    let same : c.in_ok-block.block.items ≡ response_block false c.args.entry.answer.status c.args.entry.answer.fields = search rules in
+    (same, subst (λ (b : List ℕ). length b ≤ 16383) (sym same) (allowed-block c.args.self.now c.args.entry c.requires))
