@@ -116,7 +116,8 @@ impl<A: Allocator> DynTable<A> {
         ensures fault { IfErr result (λ fault. fault ≡ faults.OverLimit) }
         ensures unchanged { OnErr result (self.new ≡ self.old) }
     {
-        if n > u64::from(self.limit) {
+        let is_over = n > u64::from(self.limit);
+        if is_over {
             return Err(TableFault::OverLimit);
         }
         let max = n as u32;

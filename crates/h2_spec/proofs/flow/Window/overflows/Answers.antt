@@ -1,5 +1,6 @@
-use Rattle.std.proofs.Common.{rules}
+use Rattle.std.proofs.Common.{arith}
+use Rattle.std.proofs.lemmas.Int.{ints}
 use Rattle.h2_spec.proofs.flow.Window.overflows.Goals as goal
 
 pub returns : goal.returns
-returns c = search rules
+returns c = grind (arith, ints)
