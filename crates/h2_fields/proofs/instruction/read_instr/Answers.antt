@@ -1,4 +1,4 @@
-use Rattle.std.proofs.Common.{◌≡◌, Some, None, Err, ap, sym, ◌∙◌}
+use Rattle.std.proofs.Common.{◌≡◌, Some, None, Err, ap, sym, ◌∙◌, rules}
 use Rattle.std.proofs.lemmas.Result.{err_from_is_err_and}
 use Rattle.h2_fields.specs.Instructions.{fault_at, instr_of}
 use Rattle.h2_fields.specs.Shapes.{shape_of, read_of}
@@ -30,3 +30,6 @@ returns-in-Err-More-clause-read g c = texts-more c.args.octets.now (ap (λ e. re
 
 pub returns-in-Err-TooLong-clause-fault : goal.returns-in-Err-TooLong-clause-fault
 returns-in-Err-TooLong-clause-fault g c = λ h. ap fault_at (sym (texts-too_long c.args.octets.now (ap (λ e. read_of shape_of (Err e)) (sym c.in-Err-TooLong.field-0-is) ∙ c.in-Err-TooLong.ensures.read)))
+
+pub returns-in-Err-TooLong-clause-read : goal.returns-in-Err-TooLong-clause-read
+returns-in-Err-TooLong-clause-read g c = search rules
