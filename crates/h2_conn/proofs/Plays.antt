@@ -1,6 +1,6 @@
 -- Octets in pieces, one after another.
 use Rattle.std.proofs.Common.{◌≡◌, ◌∙◌, ℕ, ◌+◌, ◌≤◌, List, [], ◌++◌, length, take, drop, arith, length-take, length-append, refl, sym, ap, subst, append_assoc, false}
-use Rattle.std.proofs.Math.Seq.{take-add, take-append_seam}
+use Rattle.std.proofs.Math.Seq.{take-add}
 use Rattle.std.proofs.lemmas.List.{append-nil, take-append-drop, take-append-le, take-take}
 use Rattle.h2_spec.specs.declared.connection.Config.{Config}
 use Rattle.h2_spec.specs.declared.connection.Phase.{Phase}
@@ -66,11 +66,7 @@ kept-more o p q m h e =
     let within : length o ≤ length p = omega (arith, length-take (length o) p, ap length h) in
     rw (e, take-append-le (length o) p m within) h
 
--- kept behind more that is kept
-pub kept-behind : (o m q : List ℕ) (p : List ℕ) → p ≡ o ++ m → take (length p) q ≡ p → take (length o) q ≡ o
-kept-behind o m q p e h =
-    kept-more o p q (drop (length p) q) (rw e (take-append_seam o m)) (sym (take-append-drop (length p) q) ∙ ap (λ (x : List ℕ). x ++ drop (length p) q) h)
-
+-- a cut within what is kept
 pub cut-behind : (n : ℕ) (o q : List ℕ) → n ≤ length o → take (length o) q ≡ o → take n q ≡ take n o
 cut-behind n o q within h = sym (take-take n (length o) q within) ∙ ap (take n) h
 

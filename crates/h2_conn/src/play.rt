@@ -45,7 +45,7 @@ fn feed_pieces<'b, A: Allocator + Copy>(
     }
 }
 
-/// The same; where memory is refused, `out` is cut to a length that is within it.
+/// Feeds a connection the octets in pieces of these lengths, then what remains; where memory is refused, `out` is cut to a length.
 fn feed_or_cut<'b, A: Allocator + Copy>(
     conn: &mut Conn<'b, A>,
     octets: &[u8],
@@ -134,8 +134,6 @@ pub fn play<A: Allocator + Copy>(
     ensures unchanged { OnErr result (out.new.items ≡ out.old.items) }
 {
     let length = out.as_slice().len();
-    match open_and_feed(book, config, octets, lengths, out) {
-        Ok(conn) => view_or_cut(&conn, length, out),
-        Err(fault) => Err(fault),
-    }
+    let conn = open_and_feed(book, config, octets, lengths, out)?;
+    view_or_cut(&conn, length, out)
 }

@@ -5,11 +5,11 @@ use Rattle.h2_spec.specs.View.{view}
 use Rattle.h2_conn.specs.Connection.{Connection}
 use Rattle.h2_conn.proofs.play.play.Goals as goal
 
-pub returns-in-Ok-clause-ok : goal.returns-in-Ok-clause-ok
-returns-in-Ok-clause-ok g c =
-    let opened = c.in-Ok.ensures.ok in
+pub returns-clause-ok : goal.returns-clause-ok
+returns-clause-ok g c =
+    let opened = c.in_ok-conn.ensures.ok in
     IfOk-weaker c.view_or_cut.result _ _
     (λ shown x. record { sent = x.1 ∙ opened.sent; shown_is = x.0 ∙ ap (λ (d : Connection). view d.state) opened.after }) c.view_or_cut.ensures.ok
 
-pub returns-in-Ok-clause-unchanged : goal.returns-in-Ok-clause-unchanged
-returns-in-Ok-clause-unchanged g c = rw (c.as_slice-length.ensures.value, c.in-Ok.ensures.ok.sent, append_assoc, take-append_seam) at c.view_or_cut.ensures.cut
+pub returns-clause-unchanged : goal.returns-clause-unchanged
+returns-clause-unchanged g c = rw (c.as_slice-length.ensures.value, c.in_ok-conn.ensures.ok.sent, append_assoc, take-append_seam) at c.view_or_cut.ensures.cut
