@@ -92,7 +92,11 @@ fn opened_over(alloc: Global, book: &Book<Global>) -> Result<Conn<'_, Global>, F
 }
 
 /// The number of items in a piece.
-fn taken(conn: &mut Conn<'_, Global>, piece: &[u8], sent: &mut Vec<u8>) -> Result<usize, Fail> {
+pub(crate) fn taken(
+    conn: &mut Conn<'_, Global>,
+    piece: &[u8],
+    sent: &mut Vec<u8>,
+) -> Result<usize, Fail> {
     Ok(conn.feed(piece, sent)?)
 }
 

@@ -1,6 +1,6 @@
 //! The same octets in other pieces, and the beginnings of octets (RFC 9113, 4.1).
 
-use crate::connection::{no_answers, opened};
+use crate::connection::{no_answers, opened, taken};
 use crate::program::{compare, digits_of, octets_of, ran};
 use crate::same::same;
 use h2_bench::parse_answer;
@@ -229,7 +229,7 @@ fn compare_places(
 ) -> Result<(), Fail> {
     for end in 0..octets.len() {
         compare_place(rt, alloc, conn, sent.as_slice(), &octets[..end])?;
-        conn.feed(&octets[end..end + 1], sent)?;
+        taken(conn, &octets[end..end + 1], sent)?;
     }
     compare_place(rt, alloc, conn, sent.as_slice(), octets)
 }

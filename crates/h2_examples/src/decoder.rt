@@ -12,7 +12,7 @@ use std::test::Fail;
 // These have no clause, so that the proof of a test does not carry the state of each call.
 
 /// An empty table.
-fn empty_table(alloc: Global, limit: u32) -> Result<DynTable<Global>, AllocError> {
+pub(crate) fn empty_table(alloc: Global, limit: u32) -> Result<DynTable<Global>, AllocError> {
     DynTable::new(alloc, limit)
 }
 

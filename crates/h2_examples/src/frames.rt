@@ -5,7 +5,7 @@ ghost use Rattle.std.specs.Prelude.{◌≡◌, false};
 use crate::same::same;
 use h2_frame::{FrameRef, Head, Item, Splitter, read_head, write_frame};
 use linked_list_allocator::LocalHeap;
-use std::alloc::{AllocError, Global};
+use std::alloc::{AllocError, Allocator, Global};
 use std::process::Abort;
 use std::test::Fail;
 
@@ -31,17 +31,21 @@ fn head(length: u32, kind: u8, stream: u32) -> Head
 
 // These have no clause, so that the proof of a test does not carry what a splitter holds.
 
+fn push<A: Allocator>(splitter: &mut Splitter<A>, octets: &[u8]) -> Result<(), AllocError> {
+    splitter.push(octets)
+}
+
 /// A splitter that was given the octets one by one.
 fn fed(alloc: Global, octets: &[u8]) -> Result<Splitter<Global>, AllocError> {
     let mut splitter = Splitter::new(alloc);
     for octet in octets {
-        splitter.push(&[*octet])?;
+        push(&mut splitter, &[*octet])?;
     }
     Ok(splitter)
 }
 
 /// The next item, frames of at most 16,384 octets.
-fn next(splitter: &mut Splitter<Global>) -> Option<Item<'_>> {
+fn next<A: Allocator>(splitter: &mut Splitter<A>) -> Option<Item<'_>> {
     splitter.next(16_384)
 }
 
@@ -82,13 +86,9 @@ fn first_item_and_octets_left(rt: HostRuntime) -> Result<(), Fail> {
 /// A splitter of which the preface is taken, and which was given the octets.
 fn running(alloc: Global, octets: &[u8]) -> Result<Splitter<Global>, AllocError> {
     let mut splitter = fed(alloc, PREFACE)?;
-    splitter.next(16_384);
-    splitter.push(octets)?;
+    next(&mut splitter);
+    push(&mut splitter, octets)?;
     Ok(splitter)
-}
-
-fn push(splitter: &mut Splitter<Global>, octets: &[u8]) -> Result<(), AllocError> {
-    splitter.push(octets)
 }
 
 /// Compares PING, and the head of DATA of 16,385 octets.
@@ -124,11 +124,11 @@ fn frames_behind_the_preface(rt: HostRuntime) -> Result<(), Fail> {
 /// Whether frames of no octets are taken as they come, so many, where the splitter has no more memory than these 64 octets.
 fn taken_within(heap: &LocalHeap, count: u32) -> Result<bool, AllocError> {
     let mut splitter = Splitter::new(heap);
-    splitter.push(PREFACE)?;
-    let mut all_taken = splitter.next(16_384) == Some(Item::Preface);
+    push(&mut splitter, PREFACE)?;
+    let mut all_taken = next(&mut splitter) == Some(Item::Preface);
     for _ in 0..count {
-        splitter.push(b"\x00\x00\x00\x0a\x00\x00\x00\x00\x00")?;
-        all_taken = all_taken && splitter.next(16_384).is_some();
+        push(&mut splitter, b"\x00\x00\x00\x0a\x00\x00\x00\x00\x00")?;
+        all_taken = all_taken && next(&mut splitter).is_some();
     }
     Ok(all_taken && splitter.rest_len() == 0)
 }

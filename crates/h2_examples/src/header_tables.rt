@@ -1,5 +1,6 @@
 //! The header tables on worked values: of RFC 7541, Appendix A and 4, and of entries at the edge of the maximum.
 
+use crate::decoder::empty_table;
 use crate::same::same;
 use h2_table::{DynTable, static_field};
 use std::alloc::{AllocError, Global};
@@ -61,7 +62,7 @@ fn compare_maxima(rt: &impl Abort, table: &mut DynTable<Global>) {
 
 #[test]
 fn entries_come_and_go(rt: HostRuntime) -> Result<(), Fail> {
-    let mut table = DynTable::new(rt.alloc(), 100)?;
+    let mut table = empty_table(rt.alloc(), 100)?;
     assert!(rt; table.is_empty() && table.limit() == 100);
     compare_added(&rt, rt.alloc(), &mut table)?;
     compare_maxima(&rt, &mut table);
@@ -70,7 +71,7 @@ fn entries_come_and_go(rt: HostRuntime) -> Result<(), Fail> {
 
 /// A copy of a table in which an entry has taken the place of another.
 fn copied(alloc: Global) -> Result<DynTable<Global>, AllocError> {
-    let mut table = DynTable::new(alloc, 40)?;
+    let mut table = empty_table(alloc, 40)?;
     add(&mut table, alloc, "c", "d")?;
     add(&mut table, alloc, "e", "f")?;
     table.try_clone()
@@ -92,7 +93,7 @@ fn copies_have_the_same_entries(rt: HostRuntime) -> Result<(), Fail> {
 
 /// A table of one small entry.
 fn small(alloc: Global) -> Result<DynTable<Global>, AllocError> {
-    let mut table = DynTable::new(alloc, 4096)?;
+    let mut table = empty_table(alloc, 4096)?;
     add(&mut table, alloc, "a", "b")?;
     Ok(table)
 }
