@@ -64,6 +64,7 @@ pub fn write_frame<A: Allocator>(
 
 /// Appends a frame whose payload is in two parts, as a response's header block behind a table size update.
 ///
+/// The last four octets of its head write `stream`: an identifier, or 2^31 more where the reserved bit is to be set.
 /// `AllocError` where `out` could not grow; then `out` is as before.
 #[tactic(auto, unfolding(h2_spec::specs::Frame::frame_octets))]
 pub fn append_frame<A: Allocator>(
@@ -86,7 +87,7 @@ pub fn append_frame<A: Allocator>(
     out.extend_from_slice(rest)
 }
 
-/// The nine octets of a head with the reserved bit 0.
+/// The nine octets of a head; the last four write the number of its stream, with the reserved bit where that has it.
 fn head_octets(length: u32, kind: u8, flags: u8, stream: u32) -> [u8; 9]
     ensures { result ≡ big_endian 3 length ++ kind ∷ flags ∷ big_endian 4 stream }
 {
