@@ -1,5 +1,6 @@
 -- Fragments: what a decoder that goes on comes to, and how a block ends.
 use Rattle.std.proofs.Common.{◌≡◌, ◌≢◌, ℕ, zero, suc, Bool, true, false, ◌&&◌, not, cond, ◌+◌, ◌==◌, arith, nat_lt, List, [], ◌∷◌, ◌++◌, append_assoc, drop, take, length, nat_le, Option, Some, None, Result, Ok, Err, refl, sym, ap, subst, ◌∙◌}
+use Rattle.std.proofs.lemmas.Option.{none-some}
 use Rattle.std.proofs.lemmas.List.{take-append-drop}
 use Rattle.std.specs.Option.{option_map}
 use Rattle.h2_fields.specs.Blocks.{answer_of, finish_of, unfinished}
@@ -178,12 +179,9 @@ ended-inside (Some (Faulty x)) f h e = cc
 ended-inside (Some (Unfinished [])) f h e = absurd (ok-not-err f e)
 ended-inside (Some (Unfinished (x ∷ rest))) f h e = refl
 
-some-not-none : (code : ErrorCode) → Some code ≡ None → ⊥
-some-not-none code e = cc
-
 pub no-error : (rest : List ℕ) → end_error rest ≡ None → rest ≡ []
 no-error [] h = refl
-no-error (x ∷ rest) h = absurd (some-not-none CompressionError h)
+no-error (x ∷ rest) h = absurd (none-some CompressionError (sym h))
 
 -- and the block ends with a connection error
 pub read-broken : (s : state.State) (b : BlockView) (d : state.Decoding) (ends : Bool) (code : ErrorCode) → ends ≡ true → Some code ≡ end_error d.rest → headers.Breaks code ≡ fragment_read s b d ends
@@ -191,7 +189,7 @@ read-broken s b d ends code e h = at d.rest h ∙ ap (λ t. fragment_read s b d 
   where
     at : (rest : List ℕ) → Some code ≡ end_error rest →
         headers.Breaks code ≡ cond (length rest == 0) (headers.Makes (with_block s None) (headers.block_ends s b.stream b.ends d.fields d.purpose)) (headers.Breaks CompressionError)
-    at [] h = absurd (some-not-none code h)
+    at [] h = absurd (none-some code (sym h))
     at (x ∷ rest) h =
         let some : (length (x ∷ rest) == 0) ≡ false = grind arith in
         rw some (ap headers.Breaks (some-same code CompressionError h))
