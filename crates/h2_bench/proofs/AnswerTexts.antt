@@ -77,20 +77,6 @@ fields-next fields part parts f e = rw (← e) (go (fields_of parts))
     go None = refl
     go (Some fs) = ap Some (sym (append_assoc fields (f ∷ []) fs))
 
-pub fields-end : (fields : List Field) → fields_after fields [] ≡ Some fields
-fields-end fields = ap Some (append-nil fields)
-
-pub none-said : (part : List ℕ) (parts : List (List ℕ)) → None ≡ field_of part → is_some (fields_of (part ∷ parts)) ≡ false
-none-said part parts e = rw (← e) refl
-
-pub one-said : (part : List ℕ) (parts : List (List ℕ)) → is_some (field_of part) ≡ true → is_some (fields_of (part ∷ parts)) ≡ is_some (fields_of parts)
-one-said part parts e = go (field_of part) e (fields_of parts)
-  where
-    go : (f : Option Field) → is_some f ≡ true → (fs : Option (List Field)) → is_some (with_field f fs) ≡ is_some fs
-    go (Some f) e (Some fs) = refl
-    go (Some f) e None = refl
-    go None e fs = absurd (cc e)
-
 -- ---- the body
 
 -- an even number of digits is a body where each is a hex digit

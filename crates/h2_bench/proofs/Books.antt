@@ -28,9 +28,3 @@ by_number n b e code.BadStatus fault h same memory = inr (rw (h, same) refl)
 by_number n b e code.BadField fault h same memory = inr (rw (h, same) refl)
 by_number n b e code.BodyNotAllowed fault h same memory = inr (rw (h, same) refl)
 by_number n b e code.TooLong fault h same memory = inr (rw (h, same) refl)
-
--- the book refuses the entry, or memory was refused
-pub entry_refused : (b : List Entry) (word : List ℕ) (e : Entry) (refusal : BookFault) (fault : BenchFault) → entry_of word ≡ Some e → book.IsRefusal (entry_fault b e) refusal
-    → fault_number fault ≡ book.fault_number refusal → (refusal ≡ code.NoMemory → fault ≡ NoMemory) → (fault ≡ NoMemory) ⊎ (with_answer b word ≡ Err (fault_number fault))
-unfolding with_answer
-entry_refused b word e refusal fault said h same memory = rw said (by_number (entry_fault b e) b e refusal fault h same memory)

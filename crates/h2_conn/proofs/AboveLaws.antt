@@ -335,15 +335,6 @@ next_is after last ss id r e = at (find (waits_above after) ss) refl e
     at None f e = absurd (none_some id e)
     at (Some st) f e = ap (λ x. Some x) (sym (ap (λ i. stream_at last ss i) (sym (some_same st.id id e)) ∙ found_stream (waits_above after) last ss st r f))
 
--- and there is none, where no identifier is found
-pub next_is_none : (after : ℕ) (ss : List Stream) → next_waiting after ss ≡ None → find (waits_above after) ss ≡ None
-unfolding next_waiting
-next_is_none after ss e = at (find (waits_above after) ss) refl e
-  where
-    at : (o : Option Stream) → find (waits_above after) ss ≡ o → option_map id_of o ≡ None → o ≡ None
-    at None f e = refl
-    at (Some st) f e = absurd (none_some st.id (sym e))
-
 waits_is_live : (after : ℕ) (st : Stream) → waits_above after st ≡ true → is_live st.kind ≡ true
 unfolding octets_waiting
 waits_is_live after st e = at (nat_lt after st.id) (is_live st.kind) e

@@ -1,7 +1,7 @@
 -- A change is made: what the records have to be for it, and what its two passes come to.
 use Rattle.std.proofs.Common.{◌≡◌, ℕ, ◌++◌, List, refl, sym, ap, subst, ◌∙◌, append-nil, append_assoc}
 use Rattle.std.proofs.lemmas.Grind.{flat_map-append}
-use Rattle.std.specs.Prelude.{None, Some, Option}
+use Rattle.std.specs.Prelude.{Option}
 use Rattle.h2_spec.specs.declared.connection.Core.{Core}
 use Rattle.h2_spec.specs.declared.connection.Phase.{Phase}
 use Rattle.h2_spec.specs.declared.connection.Phase.TheVariants as phase
@@ -13,11 +13,11 @@ use Rattle.h2_spec.specs.Answer.{Entry}
 use Rattle.h2_spec.specs.Change.{Step, frames_of, made, touched}
 use Rattle.h2_spec.specs.Frame.{Frame, frame_octets, frames_octets}
 use Rattle.h2_spec.specs.Pump.{pump}
-use Rattle.h2_spec.specs.State.{Decoding, OpenBlock, State}
+use Rattle.h2_spec.specs.State.{OpenBlock, State}
 use Rattle.h2_spec.specs.Stream.{Records}
 use Rattle.h2_spec.specs.Trace.{then_sent}
 use Rattle.h2_spec.specs.Window.{sendable}
-use Rattle.h2_conn.specs.Blocks.{IsDecodedAt, IsOpenFor, IsStopped}
+use Rattle.h2_conn.specs.Blocks.{IsOpenFor}
 use Rattle.h2_conn.specs.Does.{Does}
 use Rattle.h2_conn.specs.Sending.{all_frames, core_after, core_after_as, records_after, streams_after, streams_after_as, waiting_frames_as, CanMake}
 use Rattle.h2_rules.specs.Sound.{IsSoundChange, IsSoundState, IsSoundTouch, touched_records}
@@ -42,11 +42,6 @@ can-make book core r c state sound = at c.touch sound.1
     at Same h = tt
     at (Put st) h = h.3
     at (Shift from to) h = touch-can-shift book core c.core r from to state h
-
--- of a block that is decoded no more there is nothing to know
-pub stopped-open : (r : Records) (b : Option OpenBlock) → IsStopped b → IsOpenFor r b
-stopped-open r None h = tt
-stopped-open r (Some b) h = subst (λ (d : Option Decoding). IsDecodedAt r b.shown.stream d) (sym h) tt
 
 -- what is known of an open block is known of it after sending
 pub open-after : (core : Core) (r : Records) (b : Option OpenBlock) → IsOpenFor r b → IsOpenFor (records_after core r) b

@@ -2,19 +2,15 @@
 use Rattle.std.proofs.Common.{◌≡◌, ◌∙◌, ℕ, ◌+◌, ◌≤◌, List, [], ◌++◌, length, take, drop, arith, length-take, length-append, refl, sym, ap, subst, append_assoc, false}
 use Rattle.std.proofs.Math.Seq.{take-add}
 use Rattle.std.proofs.lemmas.List.{append-nil, take-append-drop, take-append-le, take-take}
-use Rattle.h2_spec.specs.declared.connection.Config.{Config}
 use Rattle.h2_spec.specs.declared.connection.Phase.{Phase}
 use Rattle.h2_spec.specs.declared.connection.Phase.TheVariants as phase
-use Rattle.h2_spec.specs.Answer.{Entry}
-use Rattle.h2_spec.specs.Opening.{opening_octets}
 use Rattle.h2_spec.specs.Parse.{Front, Stop, One}
-use Rattle.h2_spec.specs.State.{State, opening}
+use Rattle.h2_spec.specs.State.{State}
 use Rattle.h2_spec.specs.Trace.{Event, Run, carried_on, left_by, next_event, sent_octets, trace}
-use Rattle.h2_spec.specs.View.{View, view}
 use Rattle.h2_spec.proofs.ParseLaws.{Uses}
 use Rattle.h2_spec.proofs.TraceLaws.{event-uses, trace-append}
 use Rattle.h2_conn.specs.Connection.{Connection, going}
-use Rattle.h2_conn.specs.Runs.{Fed, Halts, Plays, fed}
+use Rattle.h2_conn.specs.Runs.{Fed, Halts, fed}
 use Rattle.h2_conn.proofs.Runs.{sent-append, sent-none, trace-stop}
 
 -- of no octets nothing is an item
@@ -92,12 +88,3 @@ pub rest-fed : (c c' c'' : Connection) (octets : List ℕ) (at : ℕ) (piece out
 rest-fed c c' c'' octets at piece out out' out'' e x y =
     subst (λ (b : List ℕ). Fed c b out c'' out'') (ap (λ (q : List ℕ). take at octets ++ q) e ∙ take-append-drop at octets)
     (fed-more c c' c'' (take at octets) piece out out' out'' x y)
-
-pub plays-all : (book : List Entry) (config : Config) (octets out out' : List ℕ) (c c' : Connection) (shown : View) → c ≡ going (opening book config) []
-    → Fed c octets (out ++ opening_octets config) c' out' → shown ≡ view c'.state → Plays book config octets out shown out'
-plays-all book config octets out out' c c' shown e x v =
-    let run : fed c octets ≡ trace (opening book config) octets = ap (λ (d : Connection). fed d octets) e in
-    record {
-      sent = x.1.sent ∙ ap (λ (r : Run). (out ++ opening_octets config) ++ sent_octets r.events) run;
-      shown_is = v ∙ ap (λ (d : Connection). view d.state) x.1.after ∙ ap (λ (r : Run). view r.state) run;
-    }

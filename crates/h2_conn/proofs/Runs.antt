@@ -107,14 +107,6 @@ leads-stop s t n b c out out' l e =
       stops = e;
     }
 
-pub leads-halts : (s t u : State) (n : ℕ) (b c out out' out'' : List ℕ) → Leads s b out n t c out' → stopped u ≡ stopped t → out'' ≡ out' → Halted s b out u out''
-leads-halts s t u n b c out out' out'' l h o = record {
-  items = n;
-  within = l.within;
-  after = h ∙ ap stopped (sym l.after);
-  sent = o ∙ l.sent;
-}
-
 -- an item takes octets
 pub takes-shorter : (s t : State) (b c out out' : List ℕ) → Takes s b out t c out' → length c < length b
 takes-shorter s t b c out out' x =

@@ -14,15 +14,7 @@ use Rattle.h2_spec.specs.Integer.{spell_int}
 use Rattle.h2_spec.specs.Script.{instruction_octets, is_plain, SaysCharacter, SaysInstruction, SaysName, SaysText}
 use Rattle.h2_spec.proofs.ReadingInstructions.{instruction_back}
 use Rattle.h2_spec.proofs.SpellingLaws.{length-spell_huffman}
-use Rattle.h2_script.specs.Readings.{Stands}
 use Rattle.h2_script.specs.Writable.{can_write, can_write_name}
-
-pub stands_written : (long : Bool) (items new o x : List ℕ) → Stands long items o → new ≡ items ++ x → Stands long new (o ++ x)
-stands_written long items new o x h e =
-    (λ f. e ∙ ap (λ (v : List ℕ). v ++ x) (h.0 f), λ t. let size = length-append o x in let big = h.1 t in omega arith)
-
-pub stands_long : (items o x : List ℕ) → 2 ^ 24 ≤ length x → Stands true items (o ++ x)
-stands_long items o x big = (λ f. absurd (true≢false f), λ t. let size = length-append o x in omega arith)
 
 -- ---- Huffman strings
 

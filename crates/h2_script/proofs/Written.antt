@@ -4,7 +4,7 @@ use Rattle.std.specs.List.{starts_with}
 use Rattle.std.proofs.lemmas.List.{length-drop}
 use Rattle.h2_spec.specs.Frame.{head_at, head_of, preface}
 use Rattle.h2_spec.specs.Octets.{four_octets, two_octets}
-use Rattle.h2_spec.specs.Parse.{Stop, One, parse_upto}
+use Rattle.h2_spec.specs.Parse.{One, parse_upto}
 use Rattle.h2_spec.specs.Payload.{setting_pairs}
 use Rattle.h2_spec.specs.Script.{Statement, Preface}
 use Rattle.h2_spec.specs.Written.{each_text, frame_said, line_text, next_said, rest_text, setting_text}
@@ -45,9 +45,6 @@ comma old mid new more text a b =
     ap (λ (x : List ℕ). x ++ more) (b ∙ ap (λ (x : List ℕ). x ++ 44 ∷ []) a ∙ append_assoc old text (44 ∷ [])) ∙ append_assoc old (text ++ 44 ∷ []) more ∙ ap (λ (x : List ℕ). old ++ x) (append_assoc text (44 ∷ []) more)
 
 -- ---- statements
-
-pub said_none : (n : ℕ) (first : Bool) (b : List ℕ) → next_said first b ≡ Stop → said_text (suc n) first b ≡ rest_text b
-said_none n first b e = rw e refl
 
 pub said_one : (n : ℕ) (first : Bool) (b : List ℕ) (s : Statement) (used : ℕ) → next_said first b ≡ One s false used → said_text (suc n) first b ≡ line_text s ++ said_text n false (drop used b)
 said_one n first b s used e =
