@@ -2,7 +2,7 @@
 use Rattle.std.specs.Prelude.{◌≡◌, ℕ, List, [], ◌∷◌, replicate, refl, codes, true, false}
 use Rattle.h2_spec.specs.Field.{field}
 use Rattle.h2_spec.specs.DynamicTable.{Table, total_size}
-use Rattle.h2_spec.specs.Block.{Decoded, Unfinished, Faulty, Index, Integer, Huffman, SizeUpdate, decoded, carried_on, list_size, start}
+use Rattle.h2_spec.specs.Block.{Decoded, Outcome, Unfinished, Faulty, Index, Integer, Huffman, SizeUpdate, decoded, carried_on, list_size, start}
 use Rattle.h2_laws.proofs.Hex.{hex}
 
 abbrev empty : ℕ → Table
@@ -110,13 +110,9 @@ fault_stays = refl
 
 -- ---- a long block: 65,536 indexed fields, 42 octets each
 
-many : List ℕ
-many = replicate 65536 0x82
+outcome_and_size : Decoded → Outcome × ℕ
+outcome_and_size d = (d.outcome, list_size d.progress.fields)
 
-long_block_ends : (block 4096 many).outcome ≡ Unfinished []
-unfolding block many
-long_block_ends = refl
-
-long_block_counts : list_size (block 4096 many).progress.fields ≡ 2752512
-unfolding block many
-long_block_counts = refl
+long_block_ends_and_counts : outcome_and_size (block 4096 (replicate 65536 0x82)) ≡ (Unfinished [], 2752512)
+unfolding outcome_and_size block
+long_block_ends_and_counts = refl

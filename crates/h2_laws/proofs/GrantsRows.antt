@@ -180,13 +180,13 @@ two_long : List Event
 unfolding events long
 two_long = events long "0000060400000000000004000186a000000301050000000182868400000301050000000382868400000408000000000000001388"
 
-first_of_two : tests long 1 two_long ≡ [] ∷ [] ∷ [] ∷ [] ∷ [] ∷ []
-unfolding tests long two_long
-first_of_two = refl
+-- on each of the two streams
+both : List Event → List (List (List Test))
+both es = tests long 1 es ∷ tests long 3 es ∷ []
 
-second_of_two : tests long 3 two_long ≡ [] ∷ [] ∷ [] ∷ [] ∷ [] ∷ []
-unfolding tests long two_long
-second_of_two = refl
+both_of_two : both two_long ≡ ([] ∷ [] ∷ [] ∷ [] ∷ [] ∷ []) ∷ ([] ∷ [] ∷ [] ∷ [] ∷ [] ∷ []) ∷ []
+unfolding both tests long two_long
+both_of_two = refl
 
 -- ---- wrong frames, and the tests that refuse them
 
@@ -248,20 +248,29 @@ data_behind_our_reset : refused_by short 1 (edited 3 (frame RST_STREAM 0 1 (0 �
 unfolding refused_by short reset_by_us
 data_behind_our_reset = refl
 
-one_data_an_item : refused_by long 1 (edited 2 (headers_on 1 ∷ data_on 1 0 (replicate 16384 120) ∷ []) two_long) ≡ (2, NothingHeldBack) ∷ []
-unfolding refused_by long two_long
-one_data_an_item = refl
+-- wrong frames for those of the two streams
+one_data_an_item : List Event → List Event
+one_data_an_item es = edited 2 (headers_on 1 ∷ data_on 1 0 (replicate 16384 120) ∷ []) es
 
-longer_than_the_frame_size : refused_by long 1 (edited 2 (headers_on 1 ∷ data_frames 1 false 16385 (replicate 65535 120)) two_long) ≡ (2, WithinFrameSize) ∷ []
-unfolding refused_by long two_long data_frames
-longer_than_the_frame_size = refl
+longer_than_the_frame_size : List Event → List Event
+unfolding data_frames
+longer_than_the_frame_size es = edited 2 (headers_on 1 ∷ data_frames 1 false 16385 (replicate 65535 120)) es
 
 -- as if the initial window moved the connection's window too
-past_the_connection_window : refused_by long 1 (edited 2 (headers_on 1 ∷ data_frames 1 true 16384 (replicate 70000 120)) two_long) ≡ (2, WithinConnection) ∷ []
-unfolding refused_by long two_long data_frames
-past_the_connection_window = refl
+past_the_connection_window : List Event → List Event
+unfolding data_frames
+past_the_connection_window es = edited 2 (headers_on 1 ∷ data_frames 1 true 16384 (replicate 70000 120)) es
 
 -- what is left of the first, and on the second as much as if it were alone
-connection_window_given_twice : refused_by long 1 (edited 4 (data_frames 1 true 16384 (replicate 4465 120) ++ data_frames 3 false 16384 (replicate 5000 120)) two_long) ≡ (4, WithinConnection) ∷ []
-unfolding refused_by long two_long data_frames
-connection_window_given_twice = refl
+connection_window_given_twice : List Event → List Event
+unfolding data_frames
+connection_window_given_twice es = edited 4 (data_frames 1 true 16384 (replicate 4465 120) ++ data_frames 3 false 16384 (replicate 5000 120)) es
+
+long_refusals : List Event → List (List (ℕ × Test))
+long_refusals es =
+    refused_by long 1 (one_data_an_item es) ∷ refused_by long 1 (longer_than_the_frame_size es) ∷ refused_by long 1 (past_the_connection_window es) ∷
+    refused_by long 1 (connection_window_given_twice es) ∷ []
+
+long_runs_are_refused : long_refusals two_long ≡ ((2, NothingHeldBack) ∷ []) ∷ ((2, WithinFrameSize) ∷ []) ∷ ((2, WithinConnection) ∷ []) ∷ ((4, WithinConnection) ∷ []) ∷ []
+unfolding long_refusals one_data_an_item longer_than_the_frame_size past_the_connection_window connection_window_given_twice refused_by long two_long
+long_runs_are_refused = refl
