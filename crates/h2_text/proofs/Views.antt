@@ -1,9 +1,10 @@
 -- Lists that are copied element after element.
-use Rattle.std.proofs.Common.{◌≡◌, ◌∙◌, ℕ, zero, suc, ◌+◌, List, [], ◌∷◌, ◌++◌, length, take, map, Option, Some, None, refl, ap, arith}
+use Rattle.std.proofs.Common.{◌≡◌, ◌∙◌, ℕ, zero, suc, ◌+◌, ◌-◌, ◌<◌, List, [], ◌∷◌, ◌++◌, length, take, map, Option, Some, None, refl, ap, arith}
 use Rattle.std.specs.Prelude.{slice_get}
 use Rattle.h2_spec.specs.DynamicTable.{entry_at}
 use Rattle.h2_spec.specs.Field.{Field}
 use Rattle.std.proofs.lemmas.List.{map-append, length-append}
+use Rattle.std.proofs.lemmas.Option.{slice_get_within}
 
 pub take-next : {X : Type 0} → (k : ℕ) (xs : List X) (x : X) → slice_get xs k ≡ Some x → take (suc k) xs ≡ take k xs ++ x ∷ []
 take-next k [] x h = cc
@@ -24,6 +25,10 @@ pub taken-next : {X : Type 0} (xs ys zs : List X) (x : X) → zs ≡ ys ++ x ∷
 taken-next xs ys zs x e h i =
     let more : length zs ≡ suc (length ys) = omega (arith, ap length e, length-append ys (x ∷ [])) in
     rw more (rw (take-next (length ys) xs x h, ← i) e)
+
+-- what is left to copy becomes less
+pub fewer-left : {X Y : Type 0} (xs : List X) (ys zs : List Y) (y : Y) (x : X) → zs ≡ ys ++ y ∷ [] → slice_get xs (length ys) ≡ Some x → length xs - length zs < length xs - length ys
+fewer-left xs ys zs y x e h = omega (arith, ap length e, length-append ys (y ∷ []), slice_get_within xs (length ys) x h)
 
 pub taken-all : {X : Type 0} (xs ys : List X) → slice_get xs (length ys) ≡ None → ys ≡ take (length ys) xs → ys ≡ xs
 taken-all xs ys h i = i ∙ take-past (length ys) xs h

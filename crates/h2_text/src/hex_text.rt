@@ -43,7 +43,7 @@ impl fmt::Display for OctetsText<'_> {
 
     fn fmt<W: fmt::Write>(&self, f: &mut fmt::Formatter<W>) -> fmt::Result {
         if self.0.is_empty() {
-            write!(f, "-")
+            f.write_str("-")
         } else {
             f.write(HexText(self.0))
         }

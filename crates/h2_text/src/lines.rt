@@ -7,8 +7,8 @@ ghost use Rattle.h2_spec.specs.Field.{field};
 ghost use Rattle.h2_spec.specs.Show.{joined, phase_line, phase_text, peer_line, acked_line, goaway_text, block_line, table_line, entry_line, stream_line, stream_line_as, kind_text, option_text, flag_text};
 
 use crate::hex_text::OctetsText;
-use h2_spec::connection::{BlockView, Phase};
-use h2_spec::flow::{Credit, Settings, Window};
+use h2_spec::connection::{BlockView, Core, Phase};
+use h2_spec::flow::Settings;
 use h2_spec::streams::{Kind, StreamView};
 use h2_streams::is_live;
 use std::fmt;
@@ -23,8 +23,8 @@ impl fmt::Display for OptionText {
 
     fn fmt<W: fmt::Write>(&self, f: &mut fmt::Formatter<W>) -> fmt::Result {
         match self.0 {
-            None => write!(f, "-"),
-            Some(number) => write!(f, "{number}"),
+            None => f.write_str("-"),
+            Some(number) => f.write(number),
         }
     }
 }
@@ -39,23 +39,10 @@ impl fmt::Display for FlagText {
 
     fn fmt<W: fmt::Write>(&self, f: &mut fmt::Formatter<W>) -> fmt::Result {
         if self.0 {
-            write!(f, "1")
+            f.write_str("1")
         } else {
-            write!(f, "0")
+            f.write_str("0")
         }
-    }
-}
-
-/// The octets of a window, which may be negative.
-#[derive(Drop)]
-struct WindowText(Window);
-
-impl fmt::Display for WindowText {
-    ghost output = { λ x. Some (signed_decimal x.0) };
-
-    fn fmt<W: fmt::Write>(&self, f: &mut fmt::Formatter<W>) -> fmt::Result {
-        let octets = self.0.value();
-        write!(f, "{octets}")
     }
 }
 
@@ -69,13 +56,10 @@ impl fmt::Display for PhaseText {
 
     fn fmt<W: fmt::Write>(&self, f: &mut fmt::Formatter<W>) -> fmt::Result {
         match self.0 {
-            Phase::Preface => write!(f, "preface"),
-            Phase::Settings => write!(f, "settings"),
-            Phase::Running => write!(f, "running"),
-            Phase::Ended(code) => {
-                let number = code.number();
-                write!(f, "ended {number}")
-            }
+            Phase::Preface => f.write_str("preface"),
+            Phase::Settings => f.write_str("settings"),
+            Phase::Running => f.write_str("running"),
+            Phase::Ended(code) => write!(f, "ended {}", code.number()),
         }
     }
 }
@@ -90,7 +74,7 @@ impl fmt::Display for GoawayText {
 
     fn fmt<W: fmt::Write>(&self, f: &mut fmt::Formatter<W>) -> fmt::Result {
         match self.0 {
-            None => write!(f, "-"),
+            None => f.write_str("-"),
             Some((last, code)) => write!(f, "{last} {code}"),
         }
     }
@@ -98,37 +82,28 @@ impl fmt::Display for GoawayText {
 
 /// How far the connection has come, and the last stream that was opened.
 #[derive(Drop)]
-pub struct PhaseLine {
-    pub phase: Phase,
-    pub last: u32,
-}
+pub struct PhaseLine<'c>(pub &'c Core);
 
 #[tactic(auto, unfolding(h2_spec::specs::Show::phase_line))]
-impl fmt::Display for PhaseLine {
-    ghost output = { λ x. Some (phase_line x.phase x.last) };
+impl fmt::Display for PhaseLine<'_> {
+    ghost output = { λ x. Some (phase_line x.0.now.phase x.0.now.last) };
 
     fn fmt<W: fmt::Write>(&self, f: &mut fmt::Formatter<W>) -> fmt::Result {
-        let phase = PhaseText(self.phase);
-        let last = self.last;
-        writeln!(f, "phase {phase} last {last}")
+        writeln!(f, "phase {} last {}", PhaseText(self.0.phase), self.0.last)
     }
 }
 
 /// The windows of the connection, and what is owed on it.
 #[derive(Drop)]
-pub struct WindowLine {
-    pub recv: Window,
-    pub owed: Credit,
-    pub send: Window,
-}
+pub struct WindowLine<'c>(pub &'c Core);
 
-impl fmt::Display for WindowLine {
-    ghost output = { λ x. Some (joined (codes "window recv " ∷ signed_decimal x.recv ∷ codes " owed " ∷ decimal x.owed ∷ codes " send " ∷ signed_decimal x.send ∷ codes "\n" ∷ [])) };
+impl fmt::Display for WindowLine<'_> {
+    ghost output = { λ x. Some (joined (codes "window recv " ∷ signed_decimal x.0.now.recv ∷ codes " owed " ∷ decimal x.0.now.owed ∷ codes " send " ∷ signed_decimal x.0.now.send ∷ codes "\n" ∷ [])) };
 
     fn fmt<W: fmt::Write>(&self, f: &mut fmt::Formatter<W>) -> fmt::Result {
-        let recv = WindowText(self.recv);
-        let owed = self.owed.owed();
-        let send = WindowText(self.send);
+        let recv = self.0.recv.value();
+        let owed = self.0.owed.owed();
+        let send = self.0.send.value();
         writeln!(f, "window recv {recv} owed {owed} send {send}")
     }
 }
@@ -142,42 +117,42 @@ fn widened(number: Option<u32>) -> Option<u64>
 
 /// The peer's settings.
 #[derive(Drop)]
-pub struct PeerLine(pub Settings);
+pub struct PeerLine<'c>(pub &'c Settings);
 
 #[tactic(auto, unfolding(h2_spec::specs::Show::peer_line))]
-impl fmt::Display for PeerLine {
-    ghost output = { λ x. Some (peer_line x.0) };
+impl fmt::Display for PeerLine<'_> {
+    ghost output = { λ x. Some (peer_line x.0.now) };
 
     fn fmt<W: fmt::Write>(&self, f: &mut fmt::Formatter<W>) -> fmt::Result {
-        let table = self.0.header_table;
-        let push = self.0.push;
-        let streams = OptionText(widened(self.0.streams));
-        let window = self.0.window;
-        let frame = self.0.frame;
-        let list = OptionText(widened(self.0.list));
-        let signal = FlagText(self.0.signal);
         writeln!(
             f,
-            "peer table {table} push {push} streams {streams} window {window} frame {frame} list {list} signal {signal}"
+            "peer table {} push {} streams {} window {} frame {} list {} signal {}",
+            self.0.header_table,
+            self.0.push,
+            OptionText(widened(self.0.streams)),
+            self.0.window,
+            self.0.frame,
+            OptionText(widened(self.0.list)),
+            FlagText(self.0.signal)
         )
     }
 }
 
 /// Whether the server's settings are acknowledged, and the latest GOAWAY.
 #[derive(Drop)]
-pub struct AckedLine {
-    pub acked: bool,
-    pub goaway: Option<(u32, u32)>,
-}
+pub struct AckedLine<'c>(pub &'c Core);
 
 #[tactic(auto, unfolding(h2_spec::specs::Show::acked_line))]
-impl fmt::Display for AckedLine {
-    ghost output = { λ x. Some (acked_line x.acked x.goaway) };
+impl fmt::Display for AckedLine<'_> {
+    ghost output = { λ x. Some (acked_line x.0.now.acked x.0.now.goaway) };
 
     fn fmt<W: fmt::Write>(&self, f: &mut fmt::Formatter<W>) -> fmt::Result {
-        let acked = FlagText(self.acked);
-        let goaway = GoawayText(self.goaway);
-        writeln!(f, "acked {acked} goaway {goaway}")
+        writeln!(
+            f,
+            "acked {} goaway {}",
+            FlagText(self.0.acked),
+            GoawayText(self.0.goaway)
+        )
     }
 }
 
@@ -190,16 +165,16 @@ impl fmt::Display for BlockLine {
     ghost output = { λ x. Some (block_line x.0) };
 
     fn fmt<W: fmt::Write>(&self, f: &mut fmt::Formatter<W>) -> fmt::Result {
-        let Some(block) = self.0 else {
-            return writeln!(f, "block -");
+        let Some(block) = &self.0 else {
+            return f.write_str("block -\n");
         };
-        let stream = block.stream;
-        let octets = block.octets;
-        let list = block.list_size;
-        let ends = FlagText(block.ends);
         writeln!(
             f,
-            "block stream {stream} octets {octets} list {list} ends {ends}"
+            "block stream {} octets {} list {} ends {}",
+            block.stream,
+            block.octets,
+            block.list_size,
+            FlagText(block.ends)
         )
     }
 }
@@ -217,10 +192,7 @@ impl fmt::Display for TableLine {
     ghost output = { λ x. Some (table_line x.count x.size x.max) };
 
     fn fmt<W: fmt::Write>(&self, f: &mut fmt::Formatter<W>) -> fmt::Result {
-        let count = self.count;
-        let size = self.size;
-        let max = self.max;
-        writeln!(f, "table {count} {size} {max}")
+        writeln!(f, "table {} {} {}", self.count, self.size, self.max)
     }
 }
 
@@ -237,10 +209,9 @@ impl fmt::Display for EntryLine<'_> {
     ghost output = { λ x. Some (entry_line x.index (field x.name.now x.value.now)) };
 
     fn fmt<W: fmt::Write>(&self, f: &mut fmt::Formatter<W>) -> fmt::Result {
-        let index = self.index;
         let name = OctetsText(self.name);
         let value = OctetsText(self.value);
-        writeln!(f, "entry {index} {name} {value}")
+        writeln!(f, "entry {} {name} {value}", self.index)
     }
 }
 
@@ -270,17 +241,18 @@ impl fmt::Display for LiveLine {
     ghost output = { λ x. Some (stream_line_as true x.0) };
 
     fn fmt<W: fmt::Write>(&self, f: &mut fmt::Formatter<W>) -> fmt::Result {
-        let id = self.0.id;
-        let kind = kind_name(self.0.kind);
-        let recv = WindowText(self.0.numbers.recv);
-        let owed = self.0.numbers.owed.owed();
-        let send = WindowText(self.0.numbers.send);
-        let got = self.0.numbers.got;
-        let declared = OptionText(self.0.numbers.declared);
-        let left = OptionText(self.0.numbers.left);
+        let numbers = &self.0.numbers;
         writeln!(
             f,
-            "stream {id} {kind} recv {recv} owed {owed} send {send} got {got} of {declared} left {left}"
+            "stream {} {} recv {} owed {} send {} got {} of {} left {}",
+            self.0.id,
+            kind_name(self.0.kind),
+            numbers.recv.value(),
+            numbers.owed.owed(),
+            numbers.send.value(),
+            numbers.got,
+            OptionText(numbers.declared),
+            OptionText(numbers.left)
         )
     }
 }
@@ -297,8 +269,6 @@ impl fmt::Display for StreamLine {
         if is_live(self.0.kind) {
             return f.write(LiveLine(self.0));
         }
-        let id = self.0.id;
-        let kind = kind_name(self.0.kind);
-        writeln!(f, "stream {id} {kind}")
+        writeln!(f, "stream {} {}", self.0.id, kind_name(self.0.kind))
     }
 }

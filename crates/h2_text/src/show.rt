@@ -1,7 +1,7 @@
 //! The text of what is shown of a state, as values that write themselves: no memory is taken for it.
 //! Rests on `lines` and `view`; definition: h2_spec's `specs/Show.antt`.
 
-ghost use Rattle.std.specs.Prelude.{◌≡◌, map, Some};
+ghost use Rattle.std.specs.Prelude.{◌≡◌, ◌+◌, ◌<◌, ◌^◌, map, Some};
 ghost use Rattle.h2_spec.specs.Show.{entry_lines, show, stream_lines};
 ghost use Rattle.h2_spec.specs.View.{shown_stream};
 
@@ -26,12 +26,20 @@ impl<A: Allocator> fmt::Display for EntriesText<'_, A> {
         let _count = count_of(self.0);
         let mut place = 0usize;
         while let Some((name, value)) = entry_at(self.0, place) {
-            let index = 62 + place;
+            let index = index_of(place);
             f.write(EntryLine { index, name, value })?;
             place += 1;
         }
         Ok(())
     }
+}
+
+/// The index in both tables of the entry at a place of the dynamic table: 62 is the newest (RFC 7541, 2.3.3).
+fn index_of(place: usize) -> usize
+    requires { place < 2 ^ 63 }
+    ensures { result ≡ 62 + place }
+{
+    62 + place
 }
 
 /// The streams that have records, a line each, in the order of their opening.
@@ -59,20 +67,10 @@ impl<A: Allocator> fmt::Display for Shown<'_, A> {
 
     fn fmt<W: fmt::Write>(&self, f: &mut fmt::Formatter<W>) -> fmt::Result {
         let core = &self.core;
-        let phase = PhaseLine {
-            phase: core.phase,
-            last: core.last,
-        };
-        let window = WindowLine {
-            recv: core.recv,
-            owed: core.owed,
-            send: core.send,
-        };
-        let peer = PeerLine(core.peer);
-        let acked = AckedLine {
-            acked: core.acked,
-            goaway: core.goaway,
-        };
+        let phase = PhaseLine(core);
+        let window = WindowLine(core);
+        let peer = PeerLine(&core.peer);
+        let acked = AckedLine(core);
         let block = BlockLine(self.block);
         let table = TableLine {
             count: self.table.len(),

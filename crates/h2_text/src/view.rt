@@ -164,7 +164,16 @@ impl<A: Allocator + Copy> Shown<'_, A> {
     {
         let table = entries_of(alloc, self.table)?;
         let streams = streams_of(alloc, self.streams)?;
-        Ok(View {
+        Ok(self.view_with(table, streams))
+    }
+
+    /// The view that has these fields and these streams, which are copies of what it lends.
+    fn view_with(&self, table: Vec<Field<A>, A>, streams: Vec<StreamView, A>) -> View<A>
+        requires table { table.items ≡ self.now.table }
+        requires streams { streams.items ≡ self.now.streams }
+        ensures { result ≡ self.now }
+    {
+        View {
             phase: self.core.phase,
             last: self.core.last,
             recv: self.core.recv,
@@ -178,6 +187,6 @@ impl<A: Allocator + Copy> Shown<'_, A> {
             table_size: self.table.size(),
             table_max: self.table.max(),
             streams,
-        })
+        }
     }
 }

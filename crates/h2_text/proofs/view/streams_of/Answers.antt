@@ -1,8 +1,13 @@
 use Rattle.std.proofs.Common.{rules, ◌≡◌, length, Some, None}
 use Rattle.std.specs.Prelude.{slice_get}
 use Rattle.h2_spec.specs.View.{shown_stream}
-use Rattle.h2_text.proofs.Views.{copied-next, copied-all}
+use Rattle.h2_text.proofs.Views.{copied-next, copied-all, fewer-left}
 use Rattle.h2_text.proofs.view.streams_of.Goals as goal
+
+pub loop-stream-smaller : goal.loop-stream-smaller
+loop-stream-smaller g c =
+    let at : slice_get c.args.streams.now.streams (length c.loop-stream.views.items) ≡ Some c.in-Some.stream.now = search rules in
+    fewer-left c.args.streams.now.streams c.loop-stream.views.items c.push.new.self.items c.shown_stream.result c.in-Some.stream.now c.in_ok-push.ensures.items at
 
 pub loop-stream-preserved : goal.loop-stream-preserved
 loop-stream-preserved g c =

@@ -7,8 +7,8 @@ use Rattle.h2_spec.specs.Show.{entry_line}
 use Rattle.h2_text.proofs.Texts.{entries-next, entries-past, text-end, text-next}
 use Rattle.h2_text.proofs.show.EntriesTextDisplay.fmt.Goals as goal
 
-pub overflow_add-index : goal.overflow_add-index
-overflow_add-index g c = omega (arith, c.loop-name.invariant.0, c.count_of-count.ensures.count, c.count_of-count.ensures.few)
+pub index_of-index-requires : goal.index_of-index-requires
+index_of-index-requires g c = omega (arith, c.loop-name.invariant.0, c.count_of-count.ensures.count, c.count_of-count.ensures.few)
 
 pub loop-name-preserved : goal.loop-name-preserved
 loop-name-preserved g c =
