@@ -2,7 +2,7 @@
 //! It rests on `h2_fields` and `octets`; the definitions are `entry_fault` of `h2_spec`, specs/Book.antt, and `pick_of` and
 //! `picked` of specs/Answer.antt.
 
-ghost use Rattle.std.specs.Prelude.{None, ◌≡◌, ◌≢◌, ◌≤◌, ◌==◌, ◌&&◌, ◌||◌, [], ◌∷◌, ◌++◌, OnOk, OnErr, IfErr, MatchOption, codes, length, position, bytes_eq};
+ghost use Rattle.std.specs.Prelude.{None, ◌≡◌, ◌≢◌, ◌≤◌, ◌==◌, ◌&&◌, ◌||◌, [], ◌∷◌, ◌++◌, OnOk, OnErr, IfOk, IfErr, MatchOption, codes, length, nat_lt, position, bytes_eq};
 ghost use Rattle.std.specs.List.{list_any};
 ghost use Rattle.h2_spec.specs.Answer.{bare as bare_answer, pick_of, picked};
 ghost use Rattle.h2_spec.specs.Book.{entry_fault};
@@ -113,22 +113,26 @@ impl<A: Allocator + Copy> Book<A> {
         ensures kept { OnErr result (self.new ≡ self.old) }
         ensures refused { IfErr result (λ fault. IsRefusal (entry_fault self.old entry) fault) }
     {
-        match self.fault_of(&entry) {
-            Some(fault) => Err(fault),
-            None => self.put(entry),
-        }
-    }
-
-    /// Puts an entry that is allowed behind those of the book, with the field block of its answer.
-    fn put(&mut self, entry: Entry<A>) -> Result<(), BookFault>
-        requires { entry_fault self.old entry ≡ None }
-        ensures added { OnOk result (self.new ≡ self.old ++ entry ∷ []) }
-        ensures refused { IfErr result (λ fault. (fault ≡ NoMemory) × (self.new ≡ self.old)) }
-    {
-        let alloc = *self.entries.allocator();
-        let block = response_block(alloc, false, entry.status, entry.fields.as_slice())?;
+        let block = self.block_for(&entry)?;
         self.entries.push(Stored { entry, block })?;
         Ok(())
+    }
+
+    /// The field block of an entry's answer, where the entry is allowed.
+    fn block_for(&self, entry: &Entry<A>) -> Result<Vec<u8, A>, BookFault>
+        ensures allowed { OnOk result (entry_fault self.now entry.now ≡ None) }
+        ensures block { IfOk result (λ block. block.items ≡ block_of_answer entry.now.answer) }
+        ensures within { IfOk result (λ block. length block.items ≤ 16383) }
+        ensures refused { IfErr result (λ fault. IsRefusal (entry_fault self.now entry.now) fault) }
+    {
+        match self.fault_of(entry) {
+            Some(fault) => Err(fault),
+            None => {
+                let alloc = *self.entries.allocator();
+                let block = response_block(alloc, false, entry.status, entry.fields.as_slice())?;
+                Ok(block)
+            }
+        }
     }
 }
 
@@ -172,7 +176,7 @@ impl<A: Allocator> Book<A> {
         ensures { result ≡ spec.is_too_long self.now entry.now }
     {
         self.entries.len() >= MAX_ENTRIES
-            || entry.body.as_slice().len() > MAX_BODY
+            || is_body_too_long(entry.body.as_slice())
             || is_block_too_long(entry.status, entry.fields.as_slice())
     }
 
@@ -324,6 +328,13 @@ fn has_bad_field<A: Allocator>(fields: &[Field<A>]) -> bool
     ensures { result ≡ list_any spec.is_bad_field fields.now }
 {
     fields.iter().any(|field| is_bad_field(field))
+}
+
+/// Whether no answer has a body of so many octets.
+fn is_body_too_long(body: &[u8]) -> bool
+    ensures { result ≡ nat_lt spec.max_body (length body.now) }
+{
+    body.len() > MAX_BODY
 }
 
 /// Whether there is a body where none may be.

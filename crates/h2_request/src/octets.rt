@@ -4,7 +4,7 @@
 ghost use Rattle.std.specs.Prelude.{◌≡◌, ◌≤◌, ◌==◌, ◌||◌, not, drop, length, codes, bytes_eq, map, if◌then◌else◌};
 ghost use Rattle.std.specs.Char.{to_ascii_lowercase};
 ghost use Rattle.std.specs.List.{list_any, list_all};
-ghost use Rattle.h2_spec.specs.Request.{first_is, last_is, is_between, is_colon, is_outside_names, is_outside_values, is_blank, is_digits, decimal_value, request_pseudo, connection_names};
+ghost use Rattle.h2_spec.specs.Request.{first_is, last_is, is_between, is_colon, is_outside_names, is_outside_values, is_blank, is_digits, decimal_value, connection_names};
 
 /// Whether a name is empty, has an octet that no name has, or a colon that is not its first octet.
 pub fn is_bad_name(name: &[u8]) -> bool
@@ -89,16 +89,6 @@ pub fn is_pseudo_name(name: &[u8]) -> bool
         [] => false,
         [first, ..] => *first == b':',
     }
-}
-
-/// Whether a name is one of a request's pseudo-fields.
-pub fn is_request_pseudo(name: &[u8]) -> bool
-    ensures { result ≡ list_any (λ other. bytes_eq name.now other) request_pseudo }
-{
-    name == b":method".as_slice()
-        || name == b":scheme".as_slice()
-        || name == b":path".as_slice()
-        || name == b":authority".as_slice()
 }
 
 /// Whether a name is one of an HTTP/1.1 connection's fields.

@@ -100,27 +100,31 @@ impl<'a> PseudoFields<'a> {
         ensures { pseudo_of result ≡ with_pseudo (pseudo_of self.entry) (field name.now value.now) }
     {
         if name == b":method".as_slice() {
+            let (double, method) = once_more(self.double, self.method, value);
             PseudoFields {
-                double: is_double(self.double, self.method),
-                method: first_value(self.method, value),
+                double,
+                method,
                 ..self
             }
         } else if name == b":scheme".as_slice() {
+            let (double, scheme) = once_more(self.double, self.scheme, value);
             PseudoFields {
-                double: is_double(self.double, self.scheme),
-                scheme: first_value(self.scheme, value),
+                double,
+                scheme,
                 ..self
             }
         } else if name == b":path".as_slice() {
+            let (double, path) = once_more(self.double, self.path, value);
             PseudoFields {
-                double: is_double(self.double, self.path),
-                path: first_value(self.path, value),
+                double,
+                path,
                 ..self
             }
         } else if name == b":authority".as_slice() {
+            let (double, authority) = once_more(self.double, self.authority, value);
             PseudoFields {
-                double: is_double(self.double, self.authority),
-                authority: first_value(self.authority, value),
+                double,
+                authority,
                 ..self
             }
         } else {
@@ -132,18 +136,16 @@ impl<'a> PseudoFields<'a> {
     }
 }
 
-/// Whether a pseudo-field is there twice, where this was its value before.
-fn is_double(double: bool, before: Option<&[u8]>) -> bool
-    ensures { result ≡ (double || is_some (option_copied before.entry)) }
+/// With one value more of a pseudo-field: whether one is there twice now, and the first value.
+fn once_more<'a>(
+    double: bool,
+    before: Option<&'a [u8]>,
+    value: &'a [u8],
+) -> (bool, Option<&'a [u8]>)
+    ensures double { result.0 ≡ (double || is_some (option_copied before.entry)) }
+    ensures first { option_copied result.1 ≡ Some (unwrap_or (option_copied before.entry) value.now) }
 {
-    double || before.is_some()
-}
-
-/// The first value of a pseudo-field that has this value too.
-fn first_value<'a>(before: Option<&'a [u8]>, value: &'a [u8]) -> Option<&'a [u8]>
-    ensures { option_copied result ≡ Some (unwrap_or (option_copied before.entry) value.now) }
-{
-    Some(before.unwrap_or(value))
+    (double || before.is_some(), Some(before.unwrap_or(value)))
 }
 
 /// The content-length of a request: its number, and whether one is no number or another number.

@@ -1,5 +1,8 @@
-use Rattle.std.proofs.Common.{◌≡◌, ◌∙◌, ap}
-use Rattle.h2_spec.specs.Field.{field}
+use Rattle.std.proofs.Common.{◌≡◌, ◌∙◌, List, take, ap, subst}
+use Rattle.std.proofs.lemmas.List.{take_all}
+use Rattle.h2_spec.specs.Field.{Field, field}
+use Rattle.h2_request.specs.Seen.{AreMarks, ArePseudo, IsLength}
+use Rattle.h2_request.specs.Walk.{pseudo_of}
 use Rattle.h2_request.proofs.Seen.{marks-walked, pseudo-walked, length-walked}
 use Rattle.h2_request.proofs.walk.Seen.of.Goals as goal
 
@@ -12,4 +15,14 @@ loop-field-preserved g c =
       marks = marks-walked c.args.fields.now c.loop-field.field-index c.field-item.result (field name value) _ _ c.loop-field-test.true c.field-item.is same c.with-marks.ensures c.loop-field.invariant.marks;
       pseudo = pseudo-walked c.args.fields.now c.loop-field.field-index c.field-item.result (field name value) _ _ c.loop-field-test.true c.field-item.is same c.with-pseudo.ensures c.loop-field.invariant.pseudo;
       length = length-walked c.args.fields.now c.loop-field.field-index c.field-item.result (field name value) _ _ c.loop-field-test.true c.field-item.is same c.with-length.ensures c.loop-field.invariant.length;
+    }
+
+pub returns : goal.returns
+returns g c =
+    let l = c.loop-field in
+    let all : take l.field-index c.args.fields.now ≡ c.args.fields.now = take_all l.field-index c.args.fields.now c.loop-field-test.false in
+    record {
+      marks = subst (λ (xs : List Field). AreMarks xs l.marks) all l.invariant.marks;
+      pseudo = subst (λ (xs : List Field). ArePseudo xs (pseudo_of l.pseudo)) all l.invariant.pseudo;
+      length = subst (λ (xs : List Field). IsLength xs l.length) all l.invariant.length;
     }
