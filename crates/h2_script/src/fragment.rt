@@ -60,7 +60,7 @@ fn instructions_text<A: Allocator + Copy>(
 fn if_spelled<A: Allocator>(text: String<A>, octets: &[u8], payload: &[u8]) -> Option<String<A>>
     ensures { result ≡ if bytes_eq octets.now payload.now then Some text else None }
 {
-    if octets == payload { Some(text) } else { None }
+    (octets == payload).then_some(text)
 }
 
 /// Appends the text and the octets of the instruction at the front, if a script can say it; answers how many octets it takes.
