@@ -258,23 +258,22 @@ pub enum Part<'a> {
 pub fn part_of(frame: FrameRef<'_>) -> Result<Part<'_>, PayloadFault>
     ensures { seen part_seen result ≡ spec.part_of frame.entry.head frame.entry.payload.now }
 {
-    let part = match frame.head.frame_type() {
-        FrameType::Data => Part::Data(data_of(frame)?),
-        FrameType::Headers => Part::Headers(headers_of(frame)?),
-        FrameType::Priority => priority_part(frame.payload)?,
-        FrameType::RstStream => Part::RstStream(reset_of(frame)?),
-        FrameType::Settings => settings_or_ack(frame)?,
-        FrameType::PushPromise => Part::PushPromise,
-        FrameType::Ping => Part::Ping(octets_of_length(frame.payload, 8)?),
+    match frame.head.frame_type() {
+        FrameType::Data => Ok(Part::Data(data_of(frame)?)),
+        FrameType::Headers => Ok(Part::Headers(headers_of(frame)?)),
+        FrameType::Priority => priority_part(frame.payload),
+        FrameType::RstStream => Ok(Part::RstStream(reset_of(frame)?)),
+        FrameType::Settings => settings_or_ack(frame),
+        FrameType::PushPromise => Ok(Part::PushPromise),
+        FrameType::Ping => Ok(Part::Ping(octets_of_length(frame.payload, 8)?)),
         FrameType::Goaway => {
             let (last, code) = goaway_of(frame)?;
-            Part::Goaway(last, code)
+            Ok(Part::Goaway(last, code))
         }
-        FrameType::WindowUpdate => Part::WindowUpdate(window_of(frame)?),
-        FrameType::Continuation => Part::Continuation(frame.payload),
-        FrameType::Unknown(_) => Part::Unknown,
-    };
-    Ok(part)
+        FrameType::WindowUpdate => Ok(Part::WindowUpdate(window_of(frame)?)),
+        FrameType::Continuation => Ok(Part::Continuation(frame.payload)),
+        FrameType::Unknown(_) => Ok(Part::Unknown),
+    }
 }
 
 /// The octets, where they are this many.

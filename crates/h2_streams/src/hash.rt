@@ -6,7 +6,7 @@
 use std::hash::{BuildHasher, Hasher};
 
 /// Hashes the last four octets that are written.
-#[derive(Clone, Copy, Debug)]
+#[derive(Clone, Copy)]
 pub struct IdHasher {
     id: u32,
 }
@@ -35,7 +35,7 @@ impl Hasher for IdHasher {
 }
 
 /// Makes a hasher for each identifier, always the same.
-#[derive(Clone, Copy, Debug)]
+#[derive(Clone, Copy)]
 pub struct IdHash;
 
 impl BuildHasher for IdHash {

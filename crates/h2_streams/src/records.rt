@@ -67,8 +67,8 @@ impl<A: Allocator + Copy> Streams<A> {
     pub fn try_clone(&self) -> Result<Self, AllocError>
         ensures { IfOk result (λ copy. copy ≡ self.now) }
     {
-        let records = copy_of(&self.records)?;
         let live = self.live.clone()?;
+        let records = copy_of(&self.records)?;
         Ok(Streams {
             records,
             live,
@@ -261,11 +261,9 @@ impl<A: Allocator> Streams<A> {
         ensures ok { OnOk result (self.new ≡ spec.added stream self.old) }
         ensures err { OnErr result (self.new ≡ self.old) }
     {
-        let id = stream.id;
-        let waiting = self.waiting + counted(&stream);
         append(&mut self.records, &mut self.live, stream)?;
-        self.last = id;
-        self.waiting = waiting;
+        self.last = stream.id;
+        self.waiting += counted(&stream);
         Ok(())
     }
 
@@ -308,12 +306,11 @@ fn append<A: Allocator>(
     ensures err { OnErr result ((records.new.entries ≡ records.old.entries) × (live.new.items ≡ live.old.items)) }
 {
     let id = stream.id;
-    if is_live(stream.kind) {
-        live.reserve(1)?;
-        records.insert(id, stream)?;
+    let listed = is_live(stream.kind);
+    live.reserve(usize::from(listed))?;
+    records.insert(id, stream)?;
+    if listed {
         live.push_reserved(id);
-    } else {
-        records.insert(id, stream)?;
     }
     Ok(())
 }

@@ -20,8 +20,8 @@ returns-clause-ok g c =
     let streams = ap records_of c.in_ok-append.ensures.entries ∙ records_of-added s.records.entries s.live.items s.last s.waiting c.self.invariant st above in
     ap (λ (xs : List Stream). let r : Records = record { streams = xs; last = st.id } in r) streams ∙ ap (added st) c.self.view_is
 
-pub overflow_add-waiting : goal.overflow_add-waiting
-overflow_add-waiting g c =
+pub overflow_add-self : goal.overflow_add-self
+overflow_add-self g c =
     let s = c.self.inside in
     let most = waiting-last s.records.entries s.live.items s.last s.waiting c.self.invariant in
     let more = counted-one c.args.stream in

@@ -12,3 +12,10 @@ returns g c =
     ap (option_map second) c.in_ok-stream.ensures.entry
     ∙ sym (slice_get-map second c.self.inside.records.entries c.args.i)
     ∙ ap (λ (v : Records). slice_get v.streams c.args.i) c.self.view_is
+
+pub returns-in_err-stream : goal.returns-in_err-stream
+returns-in_err-stream g c =
+    let second = λ (e : ℕ × Stream). e.1 in
+    rw c.from_residual.ensures (ap (option_map second) c.in_err-stream.ensures.entry
+    ∙ sym (slice_get-map second c.self.inside.records.entries c.args.i)
+    ∙ ap (λ (v : Records). slice_get v.streams c.args.i) c.self.view_is)
