@@ -1,3 +1,4 @@
+mod Appending
 mod Applying
 mod Lengths
 mod Reading

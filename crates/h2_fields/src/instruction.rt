@@ -137,22 +137,33 @@ fn with_texts<A: Allocator + Copy>(alloc: A, shape: Shape<'_>) -> Result<Instr<A
     match shape {
         Shape::Indexed(index) => Ok(Instr::Indexed(index)),
         Shape::Update(max) => Ok(Instr::Update(max)),
-        Shape::Literal(mode, name, value) => {
-            // a bad value comes before want of memory for the name
-            let name = name_with_text(alloc, name);
-            match with_text(alloc, value) {
-                Ok(value) => Ok(Instr::Literal {
-                    mode,
-                    name: name?,
-                    value,
-                }),
-                Err(BlockFault::NoMemory) => {
-                    let _ = name?;
-                    Err(BlockFault::NoMemory)
-                }
-                Err(fault) => Err(fault),
-            }
+        Shape::Literal(mode, name, value) => literal_with_texts(alloc, mode, name, value),
+    }
+}
+
+/// A literal with the texts of its strings.
+fn literal_with_texts<A: Allocator + Copy>(
+    alloc: A,
+    mode: Mode,
+    name: RawName<'_>,
+    value: RawString<'_>,
+) -> Result<Instr<A>, BlockFault>
+    ensures texts { IfOk result (λ instr. spec.instruction_of (spec.Literal (mode_of mode) (name_of name.entry) (string_of value.entry)) ≡ Some (instr_of instr)) }
+    ensures fault { IfErr result (λ fault. fault ≢ faults.NoMemory → (fault ≡ faults.Huffman) × (spec.instruction_of (spec.Literal (mode_of mode) (name_of name.entry) (string_of value.entry)) ≡ None)) }
+    ensures no_memory { IsErrOf result faults.NoMemory → IsSome (spec.instruction_of (spec.Literal (mode_of mode) (name_of name.entry) (string_of value.entry))) }
+{
+    match name_with_text(alloc, name) {
+        Ok(name) => Ok(Instr::Literal {
+            mode,
+            name,
+            value: with_text(alloc, value)?,
+        }),
+        // a bad value comes before want of memory for the name
+        Err(BlockFault::NoMemory) => {
+            with_text(alloc, value)?;
+            Err(BlockFault::NoMemory)
         }
+        Err(fault) => Err(fault),
     }
 }
 
@@ -300,6 +311,5 @@ pub(crate) fn write_plain<A: Allocator>(
     ensures kept { take (vec_len out.old) out.new.items ≡ out.old.items }
 {
     write_int(7, 0, octets.len() as u32, out)?;
-    out.extend_from_slice(octets)?;
-    Ok(())
+    out.extend_from_slice(octets)
 }
