@@ -1,6 +1,7 @@
 pub mod AnswerTexts
 pub mod Assembled
 pub mod Books
+pub mod Built
 pub mod Grammar
 pub mod HexTexts
 pub mod Numbers

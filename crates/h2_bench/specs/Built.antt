@@ -18,3 +18,7 @@ IsCommand app command = (app_of command ≡ app) × ((out-Command command).has_g
 -- the rule of a positional that takes a number, 0 to the most
 abbrev pub number_rule : Text → ℕ → Rule
 number_rule id most = record (new_rule id) { action = Some Set; parser = Some (parser.Unsigned 0 most) }
+
+-- the rule of an option that takes a number, 0 to the most
+abbrev pub option_rule : Text → ℕ → Rule
+option_rule name most = record (number_rule name most) { long = Some name }

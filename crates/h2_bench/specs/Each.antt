@@ -6,7 +6,9 @@ use Rattle.h2_spec.specs.Parse.{Stop, One}
 use Rattle.h2_spec.specs.State.{State}
 use Rattle.h2_spec.specs.Trace.{Event, next_event}
 use Rattle.h2_conn.specs.Connection.{Connection, going}
-use Rattle.h2_bench.specs.Tell.{Told, done, failed_after}
+use Rattle.h2_spec.specs.View.{view}
+use Rattle.h2_bench.specs.Tell.{OrCutShort, Told, done, failed_after}
+use Rattle.h2_bench.specs.Told.{item_text, places_from, sent_and_state}
 use Rattle.h2_bench.specs.declared.each.Taken.{Taken}
 use Rattle.h2_bench.specs.declared.each.Untold.{Untold}
 use Rattle.h2_bench.specs.declared.each.Untold.TheVariants.{Fault, NotWritten}
@@ -45,3 +47,13 @@ told_after text (Err NotWritten) = record { text = text; status = 3 }
 -- the output gained a text, and that it ended so leads to such an answer
 abbrev pub WritesSome : (Told → Type 0) → Result (Unit {0}) Untold → Option (List ℕ) → Option (List ℕ) → Type 0
 WritesSome is_such ended before after = (held : List ℕ) → before ≡ Some held → (text : List ℕ) × (after ≡ Some (held ++ text)) × is_such (told_after text ended)
+
+-- what is fed to a connection before it is told
+abbrev pub fed_first : Bool → List ℕ → List ℕ
+fed_first true octets = []
+fed_first false octets = octets
+
+-- what is told of a state, for which this was sent: the places of its run over the octets, or some first of them; or what was sent, and the state
+abbrev pub TellsRun : Bool → State → List ℕ → List ℕ → Told → Type 0
+TellsRun true s sent octets t = let places = places_from (item_text 0 sent (view s)) s octets in OrCutShort places (done (concat places)) t
+TellsRun false s sent octets t = t ≡ done (sent_and_state sent (view s))

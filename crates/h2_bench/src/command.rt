@@ -2,10 +2,10 @@
 //! Rests on `words` and on clap, whose definition of a command says which words are taken: `specs/Grammar.antt`.
 
 ghost use Rattle.std.specs.Prelude.{◌≡◌, IfOk, IfErr, Some, None, codes, map, option_map};
-ghost use Rattle.clap.specs.Words.{App, Rule, found_of, kind_of, rows_of, subcommand_rows_of, with_rule, with_subcommand};
+ghost use Rattle.clap.specs.Words.{App, found_of, kind_of, rows_of, subcommand_rows_of, with_subcommand};
 ghost use Rattle.clap.specs.declared.error.ErrorKind.TheVariants.{OutOfMemory};
 ghost use Rattle.h2_bench.specs.Grammar.{answer_rule, asked_at, asked_by, asked_of, asm_app, bench_app, config_at, credit_rule, cut_rule, dis_app, each_rule, is_set, limit_rule, number_at, play_app, streams_rule, table_app, texts_at, top_app};
-ghost use Rattle.h2_bench.specs.Built.{IsArg, IsCommand, number_rule};
+ghost use Rattle.h2_bench.specs.Built.{IsArg, IsCommand, number_rule, option_rule};
 ghost use Rattle.h2_bench.specs.Plans.{planned, Refuses};
 
 use crate::words::Words;
@@ -58,18 +58,31 @@ fn number_arg<'a>(alloc: Global, id: &'a str, most: u64) -> Arg<'a>
         .value_parser(ValueParser::Unsigned(0, most))
 }
 
+/// An option of this name that takes a number from 0 to the most.
+fn number_option<'a>(alloc: Global, name: &'a str, most: u64, help: &'a str) -> Arg<'a>
+    ensures { IsArg (option_rule name.entry.now most) result }
+{
+    number_arg(alloc, name, most).long(name).help(help)
+}
+
 fn streams_option<'a>(alloc: Global) -> Arg<'a>
     ensures { IsArg streams_rule result }
 {
-    number_arg(alloc, "streams", 4294967295)
-        .long("streams")
-        .help("The most streams at a time, 1 to 1000; 100 where none is given")
+    number_option(
+        alloc,
+        "streams",
+        4294967295,
+        "The most streams at a time, 1 to 1000; 100 where none is given",
+    )
 }
 
 fn credit_option<'a>(alloc: Global) -> Arg<'a>
     ensures { IsArg credit_rule result }
 {
-    number_arg(alloc, "credit", 4294967295).long("credit").help(
+    number_option(
+        alloc,
+        "credit",
+        4294967295,
         "The octets that are owed before they are given back, 1 to 65535; 32768 where none is given",
     )
 }
@@ -77,7 +90,10 @@ fn credit_option<'a>(alloc: Global) -> Arg<'a>
 fn cut_option<'a>(alloc: Global) -> Arg<'a>
     ensures { IsArg cut_rule result }
 {
-    number_arg(alloc, "cut", 65536).long("cut").help(
+    number_option(
+        alloc,
+        "cut",
+        65536,
         "The octets of a piece, 0 to 65536; 65536 where it is 0 or not given",
     )
 }
@@ -107,37 +123,26 @@ fn limit_word<'a>(alloc: Global) -> Arg<'a>
         .help("The table's limit in octets, 0 to 65536")
 }
 
-/// The command with one more argument.
-fn with_arg<'a>(
-    command: Result<Command<'a>, AllocError>,
-    arg: Arg<'a>,
-) -> Result<Command<'a>, AllocError>
-    ensures { (app : App) → (rule : Rule) → IfOk command.entry (IsCommand app) → IsArg rule arg.entry → IfOk result (IsCommand (with_rule app rule)) }
-{
-    command?.arg(arg)
-}
-
 /// The command with one more subcommand.
 fn with_subcommand<'a>(
-    command: Result<Command<'a>, AllocError>,
+    command: Command<'a>,
     subcommand: Result<Command<'a>, AllocError>,
 ) -> Result<Command<'a>, AllocError>
-    ensures { (app sub : App) → IfOk command.entry (IsCommand app) → IfOk subcommand.entry (IsCommand sub) → IfOk result (IsCommand (with_subcommand app sub.top)) }
+    ensures { (app sub : App) → IsCommand app command.entry → IfOk subcommand.entry (IsCommand sub) → IfOk result (IsCommand (with_subcommand app sub.top)) }
 {
-    command?.subcommand(subcommand?)
+    command.subcommand(subcommand?)
 }
 
 fn play_command<'a>(alloc: Global) -> Result<Command<'a>, AllocError>
     ensures { IfOk result (IsCommand play_app) }
 {
-    let command = Command::new(alloc, "play").about(
-        "Plays one connection over the octets that standard input has as hex",
-    );
-    let command = with_arg(Ok(command), streams_option(alloc));
-    let command = with_arg(command, credit_option(alloc));
-    let command = with_arg(command, cut_option(alloc));
-    let command = with_arg(command, each_option(alloc));
-    with_arg(command, answer_words(alloc))
+    Command::new(alloc, "play")
+        .about("Plays one connection over the octets that standard input has as hex")
+        .arg(streams_option(alloc))?
+        .arg(credit_option(alloc))?
+        .arg(cut_option(alloc))?
+        .arg(each_option(alloc))?
+        .arg(answer_words(alloc))
 }
 
 fn asm_command<'a>(alloc: Global) -> Command<'a>
@@ -177,9 +182,9 @@ fn top_command<'a>(alloc: Global) -> Command<'a>
 fn bench_command<'a>(alloc: Global) -> Result<Command<'a>, AllocError>
     ensures { IfOk result (IsCommand bench_app) }
 {
-    let command = with_subcommand(Ok(top_command(alloc)), play_command(alloc));
-    let command = with_subcommand(command, Ok(asm_command(alloc)));
-    let command = with_subcommand(command, Ok(dis_command(alloc)));
+    let command = with_subcommand(top_command(alloc), play_command(alloc))?;
+    let command = with_subcommand(command, Ok(asm_command(alloc)))?;
+    let command = with_subcommand(command, Ok(dis_command(alloc)))?;
     with_subcommand(command, table_command(alloc))
 }
 

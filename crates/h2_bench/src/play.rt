@@ -5,10 +5,10 @@ ghost use Rattle.std.specs.Prelude.{◌≡◌, ◌⊎◌, ◌<◌, ◌^◌, [], 
 ghost use Rattle.h2_request.specs.Fault as book;
 ghost use Rattle.h2_request.specs.declared.fault.BookFault.TheVariants as books;
 ghost use Rattle.h2_spec.specs.View.{view};
-ghost use Rattle.h2_conn.specs.Connection.{is_allowed};
+ghost use Rattle.h2_conn.specs.Connection.{going, is_allowed};
 ghost use Rattle.h2_conn.specs.Runs.{Opens};
 ghost use Rattle.h2_bench.specs.Books.{book_of, with_answer};
-ghost use Rattle.h2_bench.specs.Each.{WritesSome, not_written};
+ghost use Rattle.h2_bench.specs.Each.{TellsRun, WritesSome, fed_first, not_written};
 ghost use Rattle.h2_bench.specs.Faults.{fault_number};
 ghost use Rattle.h2_bench.specs.Input.{IsNoHex, octets_spelled};
 ghost use Rattle.h2_bench.specs.Plans.{piece_lengths};
@@ -107,6 +107,13 @@ fn piece_lengths(alloc: Global, cut: u32, total: usize) -> Result<Vec<usize>, Al
     vec![in alloc; length; total / length]
 }
 
+/// What is fed to a connection before it is told: nothing where each of its places is.
+fn fed_first(each: bool, octets: &[u8]) -> &[u8]
+    ensures { result.now ≡ fed_first each octets.now }
+{
+    if each { &[] } else { octets }
+}
+
 /// A new connection that the octets were fed to, in pieces of this length, and what was sent.
 fn played<'b>(
     alloc: Global,
@@ -146,58 +153,30 @@ fn write_sent<W: io::Write>(
     }
 }
 
-/// Writes what `play` prints of octets: those sent, and the state after all of them. No memory is wanted once anything is written.
-fn write_whole<W: io::Write>(
+/// Writes what `play` prints of a connection: each place of its run over the octets; or what was sent, and its state, for which no memory is wanted.
+fn write_conn<W: io::Write>(
     alloc: Global,
-    play: &Play<'_>,
-    book: &Book<Global>,
+    each: bool,
+    conn: &mut Conn<'_, Global>,
+    sent: &[u8],
     octets: &[u8],
     output: &mut W,
     output_failed: &mut bool,
 ) -> Result<(), Untold>
-    requires { output_failed.old ≡ false }
-    ensures told { output_failed.new ≡ false → WritesSome (OrCutShort [] (told_played false book.now play.now.config octets.now))
-        result (W.contents output.old) (W.contents output.new) }
-    ensures flag { output_failed.new ≡ not_written result }
-{
-    let mut sent = Vec::new(alloc);
-    match played(alloc, book, play.config, play.cut, octets, &mut sent) {
-        Ok(conn) => write_sent(&conn, sent.as_slice(), output, output_failed),
-        Err(fault) => Err(Untold::Fault(fault)),
-    }
-}
-
-/// Writes what `play` prints of octets place by place. Items are taken one by one, so pieces don't matter.
-fn write_each<W: io::Write>(
-    alloc: Global,
-    config: Config,
-    book: &Book<Global>,
-    octets: &[u8],
-    output: &mut W,
-    output_failed: &mut bool,
-) -> Result<(), Untold>
+    requires new { each ≡ true → conn.old ≡ going conn.old.state [] }
     requires few { length octets.now < 2 ^ 63 }
     requires writer { output_failed.old ≡ false }
-    ensures told { output_failed.new ≡ false → WritesSome (OrCutShort (places_played true book.now config octets.now) (told_played true book.now config octets.now))
-        result (W.contents output.old) (W.contents output.new) }
+    ensures told { output_failed.new ≡ false → WritesSome (TellsRun each conn.old.state sent.now octets.now) result (W.contents output.old) (W.contents output.new) }
     ensures flag { output_failed.new ≡ not_written result }
 {
-    let mut sent = Vec::new(alloc);
-    match Conn::new(book, config, &mut sent) {
-        Ok(mut conn) => write_places(
-            alloc,
-            &mut conn,
-            sent.as_slice(),
-            octets,
-            output,
-            output_failed,
-        ),
-        Err(ConnFault::BadConfig) => Err(Untold::Fault(BenchFault::BadConfig)),
-        Err(_) => Err(Untold::Fault(BenchFault::NoMemory)),
+    if each {
+        write_places(alloc, conn, sent, octets, output, output_failed)
+    } else {
+        write_sent(conn, sent, output, output_failed)
     }
 }
 
-/// Writes what `play` prints of octets: of each place of their run, or of the whole.
+/// Writes what `play` prints of octets: of each place of their run, for which items are taken one by one, or of the whole.
 fn write_played<W: io::Write>(
     alloc: Global,
     play: &Play<'_>,
@@ -212,10 +191,22 @@ fn write_played<W: io::Write>(
         result (W.contents output.old) (W.contents output.new) }
     ensures flag { output_failed.new ≡ not_written result }
 {
-    if play.each {
-        write_each(alloc, play.config, book, octets, output, output_failed)
-    } else {
-        write_whole(alloc, play, book, octets, output, output_failed)
+    let mut sent = Vec::new(alloc);
+    let first = fed_first(play.each, octets);
+    match played(alloc, book, play.config, play.cut, first, &mut sent) {
+        Ok(mut conn) => {
+            let sent = sent.as_slice();
+            write_conn(
+                alloc,
+                play.each,
+                &mut conn,
+                sent,
+                octets,
+                output,
+                output_failed,
+            )
+        }
+        Err(fault) => Err(Untold::Fault(fault)),
     }
 }
 

@@ -4,7 +4,7 @@ use Rattle.h2_bench.proofs.command.bench_command.Goals as goal
 pub returns : goal.returns
 unfolding bench_app
 returns c =
-    let one = c.with_subcommand-command.ensures _ _ c.top_command.ensures c.play_command.ensures in
-    let two = c.with_subcommand-command-2.ensures _ _ one c.asm_command.ensures in
-    let three = c.with_subcommand-command-3.ensures _ _ two c.dis_command.ensures in
-    c.with_subcommand.ensures _ _ three c.table_command.ensures
+    let one = c.in_ok-command.ensures _ _ c.top_command.ensures c.play_command.ensures in
+    let two = c.in_ok-command-2.ensures _ _ one c.asm_command.ensures in
+    let three = c.in_ok-command-3.ensures _ _ two c.dis_command.ensures in
+    c.with_subcommand-4.ensures _ _ three c.table_command.ensures
