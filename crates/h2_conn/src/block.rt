@@ -1,7 +1,7 @@
 //! Fragments of field blocks, from HEADERS and CONTINUATION (RFC 9113, 4.3, 6.2 and 6.10).
 //! Rests on `block_end` and on h2_fields; definition: `fragment` of h2_spec's `specs/Headers.antt`.
 
-ghost use Rattle.std.specs.Prelude.{◌≡◌, ◌≢◌, ℕ, List, ◌++◌, Option, IfOk, IfErr, OnOk};
+ghost use Rattle.std.specs.Prelude.{◌≡◌, ◌≢◌, ◌==◌, ℕ, List, ◌++◌, Option, IfOk, IfErr, OnOk};
 ghost use Rattle.h2_spec.specs.Answer.{Entry};
 ghost use Rattle.h2_spec.specs.Block as block;
 ghost use Rattle.h2_spec.specs.DynamicTable.{Table};
@@ -68,6 +68,13 @@ pub enum FragmentEffect<A: Allocator> {
     Makes(Option<OpenBlock<A>>, TableAfter<A>, Change),
 }
 
+/// Whether a fragment was decoded to its end.
+fn is_all(used: usize, count: usize) -> bool
+    ensures { result ≡ (used == count) }
+{
+    used == count
+}
+
 /// Decodes a fragment behind those before it. From the first instruction that alters the table it goes on with a copy of it,
 /// which is the table after the fragment.
 ///
@@ -85,7 +92,7 @@ fn decoded<A: Allocator + Copy>(
     ensures going { IfOk result (λ after. IsGoing decoder.new × HasLimit table.now.limit after) }
 {
     let used = decoder.push_still(table, octets)?;
-    if used == octets.len() {
+    if is_all(used, octets.len()) {
         return Ok(TableAfter::Same);
     }
     let mut copy = table.try_clone()?;

@@ -3,11 +3,13 @@
 
 ghost use Rattle.std.specs.Prelude.{◌≡◌, ◌<◌, ◌^◌, length, IfOk, IfSome, OnOk, OnErr};
 ghost use Rattle.h2_frame.specs.Parts.{headers_seen};
+ghost use Rattle.h2_spec.specs.Change.{broken};
 ghost use Rattle.h2_spec.specs.Effect as rule;
 ghost use Rattle.h2_spec.specs.FrameType as frames;
 ghost use Rattle.h2_spec.specs.Headers as headers;
 ghost use Rattle.h2_spec.specs.Stream.{stream_at};
 ghost use Rattle.h2_spec.specs.Table.{headers_cell};
+ghost use Rattle.h2_spec.specs.declared.errors.ErrorCode.TheVariants.{ProtocolError};
 ghost use Rattle.h2_conn.specs.Blocks.{IsOpenAt, IsSoundEffect, IsStopped, cell_of, decoding_of, effect_seen};
 ghost use Rattle.h2_conn.specs.Does.{Does, stepped, stopped};
 ghost use Rattle.h2_conn.specs.Sending.{records};
@@ -101,6 +103,14 @@ impl<'b, A: Allocator + Copy> State<'b, A> {
         self.finish(effect, payload, out)
     }
 
+    /// CONTINUATION where no block is open (RFC 9113, 6.10).
+    fn not_open(&mut self, out: &mut Vec<u8, A>) -> Result<(), AllocError>
+        ensures ok { OnOk result (Does (broken self.old ProtocolError) out.old.items self.new out.new.items) }
+        ensures err { OnErr result ((self.new ≡ self.old) × (out.new.items ≡ out.old.items)) }
+    {
+        self.fail(ErrorCode::ProtocolError, out)
+    }
+
     /// CONTINUATION: the open block goes on; an error where there is none.
     pub fn on_continuation(
         &mut self,
@@ -114,7 +124,7 @@ impl<'b, A: Allocator + Copy> State<'b, A> {
         ensures err { OnErr result ((stopped self.new ≡ stopped self.old) × (out.new.items ≡ out.old.items)) }
     {
         match self.take_decoding() {
-            None => self.fail(ErrorCode::ProtocolError, out),
+            None => self.not_open(out),
             Some((shown, decoding)) => {
                 let end_headers = has(head.flags, END_HEADERS);
                 self.on_fragment(shown, decoding, octets, end_headers, payload, out)

@@ -16,6 +16,8 @@ ghost use Rattle.h2_spec.specs.Stream.{stream_at};
 ghost use Rattle.h2_spec.specs.WindowUpdate as window;
 ghost use Rattle.h2_spec.specs.Trace.{step};
 ghost use Rattle.h2_spec.specs.declared.connection.Phase.TheVariants as phase;
+ghost use Rattle.h2_spec.specs.declared.errors.ErrorCode.TheVariants.{ProtocolError};
+ghost use Rattle.h2_spec.specs.declared.reactions.Reaction.TheVariants.{ConnectionError};
 ghost use Rattle.h2_conn.specs.Blocks.{IsStopped};
 ghost use Rattle.h2_conn.specs.Does.{Does, IsShort, stepped, stopped};
 ghost use Rattle.h2_conn.specs.Parted.{IsPlain};
@@ -131,6 +133,13 @@ impl<'b, A: Allocator + Copy> State<'b, A> {
         self.on_stream_window(id, increment)
     }
 
+    /// PUSH_PROMISE, which a client may not send (RFC 9113, 8.4).
+    fn on_push_promise(&self) -> Reaction
+        ensures { result ≡ ConnectionError ProtocolError }
+    {
+        Reaction::ConnectionError(ErrorCode::ProtocolError)
+    }
+
     /// What a frame comes to that is no HEADERS and no CONTINUATION.
     fn react(&self, head: &Head, payload: &[u8], part: Part<'_>) -> Reaction
         requires fits { length payload.now < 2 ^ 24 }
@@ -148,7 +157,7 @@ impl<'b, A: Allocator + Copy> State<'b, A> {
             Part::Goaway(last, code) => on_goaway(self.core(), last, code),
             Part::WindowUpdate(increment) => self.on_window_update(head.stream, increment),
             Part::Priority | Part::Unknown => nothing(self.core()),
-            Part::PushPromise => Reaction::ConnectionError(ErrorCode::ProtocolError),
+            Part::PushPromise => self.on_push_promise(),
             Part::Headers(_) | Part::Continuation(_) => unreachable!(),
         }
     }

@@ -1,4 +1,4 @@
-use Rattle.std.proofs.Common.{◌≡◌, ◌≢◌, ◌++◌, ℕ, List, None, take, ap, sym, subst, ◌∙◌, arith}
+use Rattle.std.proofs.Common.{◌≡◌, ◌≢◌, ◌++◌, ℕ, List, None, take, length, ap, sym, subst, ◌∙◌, arith, eqb-true}
 use Rattle.std.proofs.lemmas.List.{take_all}
 use Rattle.std.proofs.lemmas.Result.{err_from_is_err_and}
 use Rattle.std.specs.Option.{option_map}
@@ -16,18 +16,19 @@ returns-in_err-used-clause-faulty g c =
     let table = a.table.now.table in
     rw (r.1, r.2) (λ other. faulted a.table.now.limit table table a.decoder.now c.push_still.new.self a.octets.now c.in_err-used.field-0.0 c.requires c.in_err-used.ensures.answer other c.in_err-used.ensures.carried)
 
-pub returns-then-used-octets-clause-decoded : goal.returns-then-used-octets-clause-decoded
-returns-then-used-octets-clause-decoded g c =
+pub returns-then-is_all-clause-decoded : goal.returns-then-is_all-clause-decoded
+returns-then-is_all-clause-decoded g c =
     let a = c.args in
     let used = c.in_ok-used.used in
     let table = a.table.now.table in
     let before = a.decoder.now in
     let now = c.push_still.new.self in
     let went = went-on a.table.now.limit table table before now (take used a.octets.now) c.requires c.in_ok-used.ensures.answer c.in_ok-used.ensures.carried in
-    subst (λ o. decoded a.table.now.limit (before_fragment table before) (unfinished before.outcome ++ o) ≡ after_fragment table now) (take_all used a.octets.now (omega arith)) went.0
+    let all : used ≡ length a.octets.now = eqb-true _ _ (sym c.is_all.ensures ∙ c.if-is_all.true) in
+    subst (λ o. decoded a.table.now.limit (before_fragment table before) (unfinished before.outcome ++ o) ≡ after_fragment table now) (take_all used a.octets.now (omega (arith, all))) went.0
 
-pub returns-then-used-octets-clause-going : goal.returns-then-used-octets-clause-going
-returns-then-used-octets-clause-going g c =
+pub returns-then-is_all-clause-going : goal.returns-then-is_all-clause-going
+returns-then-is_all-clause-going g c =
     let a = c.args in
     let table = a.table.now.table in
     let went = went-on a.table.now.limit table table a.decoder.now c.push_still.new.self (take c.in_ok-used.used a.octets.now) c.requires c.in_ok-used.ensures.answer c.in_ok-used.ensures.carried in
