@@ -1,10 +1,11 @@
 -- What is written, one after another.
-use Rattle.std.proofs.Common.{◌≡◌, ◌∙◌, ◌+◌, ◌%◌, ◌<◌, ◌≤◌, ◌++◌, ◌&&◌, ℕ, Bool, true, false, suc, List, [], ◌∷◌, Some, None, length, drop, take, refl, sym, ap, arith, cond, nat_lt, nat_eq, ltb-false, flat_map, append_assoc, le-ltb, subst}
+use Rattle.std.proofs.Common.{◌≡◌, ◌∙◌, ◌+◌, ◌%◌, ◌^◌, ◌<◌, ◌≤◌, ◌++◌, ◌&&◌, ℕ, Bool, true, false, suc, List, [], ◌∷◌, Some, None, length, drop, take, refl, sym, ap, arith, cond, nat_lt, nat_eq, ltb-false, flat_map, append_assoc, le-ltb, lt-ltb, subst}
 use Rattle.std.specs.List.{starts_with}
-use Rattle.std.proofs.lemmas.List.{length-drop}
+use Rattle.std.proofs.lemmas.List.{length-drop, length-take-le}
+use Rattle.hex.specs.Hex.{IsBytes}
 use Rattle.h2_spec.specs.Frame.{head_at, head_of, preface}
 use Rattle.h2_spec.specs.Octets.{four_octets, two_octets}
-use Rattle.h2_spec.specs.Parse.{One, parse_upto}
+use Rattle.h2_spec.specs.Parse.{One, Stop, parse_upto}
 use Rattle.h2_spec.specs.Payload.{setting_pairs}
 use Rattle.h2_spec.specs.Script.{Statement, Preface}
 use Rattle.h2_spec.specs.Written.{each_text, frame_said, line_text, next_said, rest_text, setting_text}
@@ -44,6 +45,10 @@ pub comma : (old mid new more text : List ℕ) → mid ≡ old ++ text → new �
 comma old mid new more text a b =
     ap (λ (x : List ℕ). x ++ more) (b ∙ ap (λ (x : List ℕ). x ++ 44 ∷ []) a ∙ append_assoc old text (44 ∷ [])) ∙ append_assoc old (text ++ 44 ∷ []) more ∙ ap (λ (x : List ℕ). old ++ x) (append_assoc text (44 ∷ []) more)
 
+-- a text and what stands behind it
+pub step : (old mid new text more : List ℕ) → mid ≡ old ++ text → new ≡ mid ++ more → new ≡ old ++ (text ++ more)
+step old mid new text more a b = b ∙ ap (λ (x : List ℕ). x ++ more) a ∙ append_assoc old text more
+
 -- ---- statements
 
 pub said_one : (n : ℕ) (first : Bool) (b : List ℕ) (s : Statement) (used : ℕ) → next_said first b ≡ One s false used → said_text (suc n) first b ≡ line_text s ++ said_text n false (drop used b)
@@ -65,11 +70,48 @@ pub next_preface : (first : Bool) (b : List ℕ) → (first && starts_with nat_e
 unfolding next_said
 next_preface first b e = rw e refl
 
+-- octets have one head
+pub head_same : (b : List ℕ) (h k : Head) → Some h ≡ head_at b → Some k ≡ head_at b → h ≡ k
+head_same b h k at again = cc
+
+-- the length of a frame has 24 bits
+pub frame_short : (b : List ℕ) (h : Head) → IsBytes b → Some h ≡ head_at b → h.length < 2 ^ 24
+unfolding head_at head_of
+frame_short b h octets head = go (nat_lt (length b) 9) head
+  where
+    go : (t : Bool) → Some h ≡ cond t None (Some (head_of b)) → h.length < 2 ^ 24
+    go true k = absurd (cc)
+    go false k =
+        let same : h ≡ head_of b = cc in
+        let len : h.length ≡ (head_of b).length = ap (λ (x : Head). x.length) same in
+        let b0 = octets 0 in
+        let b1 = octets 1 in
+        let b2 = octets 2 in
+        omega (arith, len, b0, b1, b2)
+
+-- a payload is as long as its head says
+pub payload_long : (b : List ℕ) (h : Head) (p : List ℕ) → h.length ≤ length (drop 9 b) → p ≡ take h.length (drop 9 b) → length p ≡ h.length
+payload_long b h p fits e = ap length e ∙ length-take-le h.length (drop 9 b) fits
+
+-- no whole frame at the front
+pub next_none : (first : Bool) (b : List ℕ) → (first && starts_with nat_eq b preface) ≡ false → ((h : Head) → Some h ≡ head_at b → length (drop 9 b) < h.length) → next_said first b ≡ Stop
+unfolding next_said head_at
+next_none first b no_preface short = go (nat_lt (length b) 9) refl short
+  where
+    go : (t : Bool) → nat_lt (length b) 9 ≡ t → ((h : Head) → Some h ≡ cond t None (Some (head_of b)) → length (drop 9 b) < h.length) → next_said first b ≡ Stop
+    go true e k = rw (no_preface, e) refl
+    go false e k =
+        let near : length (drop 9 b) < (head_of b).length = k (head_of b) refl in
+        let nine : 9 ≤ length b = ltb-false _ _ e in
+        let size = length-drop 9 b in
+        let less : length b < 9 + (head_of b).length = omega (arith, near, nine, size) in
+        rw (no_preface, e, lt-ltb (length b) (9 + (head_of b).length) less) refl
+
 -- the frame of a head, where its payload is there
-pub next_frame : (first : Bool) (b : List ℕ) (h : Head) → (first && starts_with nat_eq b preface) ≡ false → Some h ≡ head_at b → h.length ≤ length (drop 9 b)
+next_headed : (first : Bool) (b : List ℕ) (h : Head) → (first && starts_with nat_eq b preface) ≡ false → Some h ≡ head_at b → h.length ≤ length (drop 9 b)
     → next_said first b ≡ One (frame_said h (take h.length (drop 9 b))) false (9 + h.length)
 unfolding next_said head_at
-next_frame first b h no_preface head fits = go (nat_lt (length b) 9) refl head
+next_headed first b h no_preface head fits = go (nat_lt (length b) 9) refl head
   where
     go : (t : Bool) → nat_lt (length b) 9 ≡ t → Some h ≡ cond t None (Some (head_of b)) → next_said first b ≡ One (frame_said h (take h.length (drop 9 b))) false (9 + h.length)
     go true e k = absurd (cc)
@@ -82,3 +124,9 @@ next_frame first b h no_preface head fits = go (nat_lt (length b) 9) refl head
         let main : next_said first b ≡ One (frame_said (head_of b) (take (head_of b).length (drop 9 b))) false (9 + (head_of b).length) =
         rw (no_preface, e, le-ltb (length b) (9 + (head_of b).length) room) refl in
         subst (λ (x : Head). next_said first b ≡ One (frame_said x (take x.length (drop 9 b))) false (9 + x.length)) (sym same) main
+
+-- the whole frame at the front
+pub next_frame : (first : Bool) (b : List ℕ) (h : Head) (p : List ℕ) → (first && starts_with nat_eq b preface) ≡ false → Some h ≡ head_at b → h.length ≤ length (drop 9 b)
+    → p ≡ take h.length (drop 9 b) → next_said first b ≡ One (frame_said h p) false (9 + length p)
+next_frame first b h p no_preface head fits e =
+    rw (payload_long b h p fits e, e) (next_headed first b h no_preface head fits)

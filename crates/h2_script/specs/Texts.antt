@@ -1,14 +1,17 @@
 -- Lines and instructions that are written one after another.
-use Rattle.std.specs.Prelude.{◌≡◌, ◌^◌, ◌++◌, ◌∷◌, [], ◌&&◌, ℕ, Bool, true, false, List, nat_lt, flat_map, Option, Some, None}
+use Rattle.std.specs.Prelude.{◌≡◌, ◌<◌, ◌≤◌, ◌^◌, ◌++◌, ◌∷◌, [], ◌&&◌, ℕ, Bool, true, false, List, nat_lt, drop, length, take, flat_map, Option, Some, None}
 use Rattle.std.specs.declared.string.String.{String}
 use Rattle.std.specs.String.{string_bytes}
 use Rattle.h2_fields.specs.Instructions.{instr_of}
 use Rattle.h2_fields.specs.declared.instruction.Instr.{Instr}
+use Rattle.hex.specs.Hex.{encode_lower}
+use Rattle.h2_spec.specs.Frame.{head_at}
 use Rattle.h2_spec.specs.Instruction.{Instruction, NameRef, Ref, Named, TextStr}
 use Rattle.h2_spec.specs.Parse.{Front, Stop, One, parse_upto}
 use Rattle.h2_spec.specs.Read.{Read, Whole}
 use Rattle.h2_spec.specs.Script.{Payload, Octets, Instructions, Statement, instruction_octets}
-use Rattle.h2_spec.specs.Written.{each_text, first_said, instruction_text, is_writable, line_text, next_said, rest_text}
+use Rattle.h2_spec.specs.Written.{each_text, first_said, instruction_text, is_writable, line_text, next_said, rest_text, stream_text, type_text}
+use Rattle.h2_spec.specs.declared.frames.Head.{Head}
 
 -- the lines of at most this many statements, and of what is left
 abbrev pub said_text : ℕ → Bool → List ℕ → List ℕ
@@ -18,6 +21,15 @@ said_text most first b = let t = parse_upto next_said most first b in flat_map l
 abbrev pub IsNext : List ℕ → List ℕ → Option ℕ → Front Bool Statement → Type 0
 IsNext old new None front = (front ≡ Stop) × (new ≡ old)
 IsNext old new (Some used) front = (s : Statement) × (front ≡ One s false used) × (new ≡ old ++ line_text s)
+
+-- the head and the payload of the frame at the front, or no whole frame stands there
+abbrev pub IsFrame : Option (Head × List ℕ) → List ℕ → Type 0
+IsFrame None b = (h : Head) → Some h ≡ head_at b → length (drop 9 b) < h.length
+IsFrame (Some f) b = (Some f.0 ≡ head_at b) × (f.0.length ≤ length (drop 9 b)) × (f.1 ≡ take f.0.length (drop 9 b))
+
+-- the text of a frame before its payload
+abbrev pub head_text : Head → List ℕ
+head_text h = type_text h.kind ++ 32 ∷ (encode_lower (h.flags ∷ []) ++ 32 ∷ (stream_text h.stream h.reserved ++ 32 ∷ []))
 
 -- ---- field blocks
 

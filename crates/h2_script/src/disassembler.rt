@@ -2,13 +2,13 @@
 //! It rests on `said` for payloads and on `h2_frame` for heads; the definition is `written` of `h2_spec`, specs/Written.antt,
 //! and the law that this is a script of the octets is `h2_laws::script_laws::what_is_written_stands_for_its_octets`.
 
-ghost use Rattle.std.specs.Prelude.{◌≡◌, ◌<◌, ◌≤◌, ◌^◌, ◌++◌, ◌&&◌, true, nat_eq, length, IfOk, IfSome, OnOk};
+ghost use Rattle.std.specs.Prelude.{◌≡◌, ◌<◌, ◌≤◌, ◌^◌, ◌++◌, ◌&&◌, true, nat_eq, length, option_map, IfOk, IfSome, OnOk};
 ghost use Rattle.std.specs.List.{starts_with};
 ghost use Rattle.std.specs.String.{string_bytes};
 ghost use Rattle.h2_spec.specs.Frame.{preface};
 ghost use Rattle.h2_spec.specs.Script.{Script};
 ghost use Rattle.h2_spec.specs.Written.{frame_said, line_text, next_said, rest_text, written};
-ghost use Rattle.h2_script.specs.Texts.{IsNext, said_text};
+ghost use Rattle.h2_script.specs.Texts.{IsFrame, IsNext, head_text, said_text};
 
 use crate::line::PREFACE;
 use crate::said::push_payload;
@@ -53,7 +53,7 @@ fn push_all<A: Allocator + Copy>(
 }
 
 /// Appends the line of what stands at the front of octets, if it is whole; answers how many octets it takes.
-#[tactic(auto, unfolding(h2_spec::specs::Written::next_said, h2_spec::specs::Frame::head_at, h2_spec::specs::Frame::preface))]
+#[tactic(auto, unfolding(h2_spec::specs::Frame::preface))]
 fn push_next<A: Allocator + Copy>(
     alloc: A,
     first: bool,
@@ -67,15 +67,25 @@ fn push_next<A: Allocator + Copy>(
         out.push_str("PREFACE\n")?;
         return Ok(Some(24));
     }
-    let Some(head) = read_head(octets) else {
+    let Some((head, payload)) = first_frame(octets) else {
         return Ok(None);
+    };
+    push_frame(alloc, &head, payload, out)?;
+    Ok(Some(9 + payload.len()))
+}
+
+/// The head and the payload of the frame at the front of octets, if it is whole.
+fn first_frame(octets: &[u8]) -> Option<(Head, &[u8])>
+    ensures { IsFrame (option_map (λ f. (f.0, f.1.now)) result) octets.now }
+{
+    let Some(head) = read_head(octets) else {
+        return None;
     };
     let rest = octets_from(octets, 9);
     if rest.len() < head.length as usize {
-        return Ok(None);
+        return None;
     }
-    push_frame(alloc, &head, octets_up_to(rest, head.length as usize), out)?;
-    Ok(Some(9 + head.length as usize))
+    Some((head, octets_up_to(rest, head.length as usize)))
 }
 
 /// Whether octets begin with the client's preface, where it may stand (RFC 9113, 3.4).
@@ -96,14 +106,22 @@ fn push_frame<A: Allocator + Copy>(
     requires { length payload.now < 2 ^ 24 }
     ensures { OnOk result (string_bytes out.new ≡ string_bytes out.old ++ line_text (frame_said head.now payload.now)) }
 {
+    push_head(head, out)?;
+    push_payload(alloc, head.kind, head.flags, payload, out)?;
+    out.push_str("\n")
+}
+
+/// Appends the type, the flags and the stream of a frame, a space behind each.
+fn push_head<A: Allocator>(head: &Head, out: &mut String<A>) -> Result<(), AllocError>
+    ensures { OnOk result (string_bytes out.new ≡ string_bytes out.old ++ head_text head.now) }
+{
     push_type(head.kind, out)?;
     out.push_str(" ")?;
     push_octet(head.flags, out)?;
     out.push_str(" ")?;
     push_stream(head.stream, head.reserved, out)?;
     out.push_str(" ")?;
-    push_payload(alloc, head.kind, head.flags, payload, out)?;
-    out.push_str("\n")
+    Ok(())
 }
 
 /// Appends the line of what is left behind the last whole frame, if anything is.

@@ -4,10 +4,10 @@
 
 ghost use Rattle.std.specs.Prelude.{◌≡◌, ◌<◌, ◌^◌, ◌++◌, ◌∷◌, [], length, IfOk, OnOk, true, bytes_eq, if◌then◌else◌, Some, None};
 ghost use Rattle.std.specs.String.{string_bytes};
-ghost use Rattle.h2_fields.specs.Instructions.{instr_of, name_text_of};
+ghost use Rattle.h2_fields.specs.Instructions.{instr_of, name_text_of, IsWritable};
 ghost use Rattle.h2_fields.specs.Shapes.{mode_of};
 ghost use Rattle.h2_spec.specs.Instruction as spec;
-ghost use Rattle.h2_spec.specs.Script.{mode_letter};
+ghost use Rattle.h2_spec.specs.Script.{instruction_octets, mode_letter};
 ghost use Rattle.h2_spec.specs.Written.{block_said, instruction_text, is_writable, name_text, payload_text, string_text};
 ghost use Rattle.h2_script.specs.Texts.{AddsText, IsBlockText, IsFirstSaid, SaysFirst, is_writable_name};
 
@@ -76,9 +76,23 @@ fn push_first<A: Allocator + Copy>(
     let Some((instr, used)) = first_said(alloc, rest)? else {
         return Ok(None);
     };
-    push_behind(&instr, text)?;
-    write_instr(&instr, octets)?;
+    push_said(&instr, text, octets)?;
     Ok(Some(used))
+}
+
+/// Appends the text of an instruction, and the octets that a script spells for it.
+fn push_said<A: Allocator, B: Allocator>(
+    instr: &Instr<B>,
+    text: &mut String<A>,
+    octets: &mut Vec<u8, A>,
+) -> Result<(), AllocError>
+    requires { IsWritable (instr_of instr.now) }
+    ensures text { OnOk result (AddsText (string_bytes text.old) (string_bytes text.new) (instr_of instr.now)) }
+    ensures octets { OnOk result (octets.new.items ≡ octets.old.items ++ instruction_octets (instr_of instr.now)) }
+{
+    push_behind(instr, text)?;
+    write_instr(instr, octets)?;
+    Ok(())
 }
 
 /// The instruction at the front of octets, if it is whole and a script can say it, and how many octets it takes.

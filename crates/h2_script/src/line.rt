@@ -13,7 +13,7 @@ use crate::built::Built;
 use crate::fault::LineFault;
 use crate::number::number_at;
 use crate::payload::payload_at;
-use crate::words::{after, cut, octet_at, octets_at};
+use crate::words::{after, cut, is_word, octet_at, octets_at};
 use h2_frame::append_frame;
 use h2_spec::scripts::SyntaxKind;
 use std::alloc::Allocator;
@@ -50,7 +50,7 @@ fn says_nothing(line: &[u8]) -> bool
 fn add_word<A: Allocator>(line: &[u8], out: &mut Vec<u8, A>) -> Result<(), LineFault>
     ensures { Adds out.old.items out.new.items result (words_at line.now None) }
 {
-    if line != b"PREFACE".as_slice() {
+    if !is_word(line, b"PREFACE") {
         return Err(LineFault::Bad(SyntaxKind::Parts));
     }
     out.extend_from_slice(PREFACE.as_slice())?;
@@ -66,10 +66,10 @@ fn add_words<A: Allocator + Copy>(
 ) -> Result<(), LineFault>
     ensures { (line : List ℕ) → Adds out.old.items out.new.items result (words_at line (Some (word.now, rest.now))) }
 {
-    if word == b"PREFACE".as_slice() {
+    if is_word(word, b"PREFACE") {
         return Err(LineFault::Bad(SyntaxKind::Parts));
     }
-    if word == b"RAW".as_slice() {
+    if is_word(word, b"RAW") {
         return add_raw(alloc, rest, out);
     }
     add_frame(alloc, word, rest, out)
@@ -82,9 +82,10 @@ fn add_raw<A: Allocator>(alloc: A, digits: &[u8], out: &mut Vec<u8, A>) -> Resul
     if digits.is_empty() {
         return Err(LineFault::Bad(SyntaxKind::Parts));
     }
-    let octets = octets_at(alloc, digits)?.ok_or(LineFault::Bad(SyntaxKind::Payload))?;
-    out.extend_from_slice(octets.as_slice())?;
-    Ok(())
+    match octets_at(alloc, digits)? {
+        Some(octets) => Ok(out.extend_from_slice(octets.as_slice())?),
+        None => Err(LineFault::Bad(SyntaxKind::Payload)),
+    }
 }
 
 /// Appends the frame of a name and the parts behind it; the faults of the parts are found in the order of their kinds.
@@ -125,10 +126,12 @@ fn add_parts<A: Allocator + Copy>(
     let Some((stream, reserved)) = stream_at(stream) else {
         return Err(LineFault::Bad(SyntaxKind::Stream));
     };
-    let built = payload_at(alloc, text)?.ok_or(LineFault::Bad(SyntaxKind::Payload))?;
-    match built {
-        Built::Whole(octets) => push_frame(kind, flags, stream, reserved, octets.as_slice(), out),
-        Built::Long => Err(LineFault::Bad(SyntaxKind::Size)),
+    match payload_at(alloc, text)? {
+        Some(Built::Whole(octets)) => {
+            push_frame(kind, flags, stream, reserved, octets.as_slice(), out)
+        }
+        Some(Built::Long) => Err(LineFault::Bad(SyntaxKind::Size)),
+        None => Err(LineFault::Bad(SyntaxKind::Payload)),
     }
 }
 
@@ -183,34 +186,34 @@ fn stream_number(stream: u32, reserved: bool) -> u32
 fn type_at(text: &[u8]) -> Option<u8>
     ensures { result ≡ type_at text.now }
 {
-    if text == b"DATA".as_slice() {
+    if is_word(text, b"DATA") {
         return Some(0);
     }
-    if text == b"HEADERS".as_slice() {
+    if is_word(text, b"HEADERS") {
         return Some(1);
     }
-    if text == b"PRIORITY".as_slice() {
+    if is_word(text, b"PRIORITY") {
         return Some(2);
     }
-    if text == b"RST_STREAM".as_slice() {
+    if is_word(text, b"RST_STREAM") {
         return Some(3);
     }
-    if text == b"SETTINGS".as_slice() {
+    if is_word(text, b"SETTINGS") {
         return Some(4);
     }
-    if text == b"PUSH_PROMISE".as_slice() {
+    if is_word(text, b"PUSH_PROMISE") {
         return Some(5);
     }
-    if text == b"PING".as_slice() {
+    if is_word(text, b"PING") {
         return Some(6);
     }
-    if text == b"GOAWAY".as_slice() {
+    if is_word(text, b"GOAWAY") {
         return Some(7);
     }
-    if text == b"WINDOW_UPDATE".as_slice() {
+    if is_word(text, b"WINDOW_UPDATE") {
         return Some(8);
     }
-    if text == b"CONTINUATION".as_slice() {
+    if is_word(text, b"CONTINUATION") {
         return Some(9);
     }
     match after(text, b'T') {
