@@ -1,7 +1,7 @@
 //! Field blocks: HEADERS and CONTINUATION, and the end of a block (RFC 9113, 4.3, 6.2, 6.10 and 8.1).
 //! Rests on `change` and `ends`; definition: h2_spec's `specs/Headers.antt`.
 
-ghost use Rattle.std.specs.Prelude.{◌≡◌, ℕ, ◌≤◌, true, List, length};
+ghost use Rattle.std.specs.Prelude.{◌≡◌, ℕ, ◌≤◌, true, ◌&&◌, ◌||◌, List, length, nat_le, nat_lt};
 ghost use Rattle.h2_spec.specs.Headers as rule;
 ghost use Rattle.h2_spec.specs.Answer.{Entry, picked};
 ghost use Rattle.h2_request.specs.Lent.{IsPickOf};
@@ -44,6 +44,20 @@ fn new_stream(core: Core, id: u32, facts: Facts) -> Stream
     }
 }
 
+/// Whether as many streams are live as may be.
+fn is_full(config: Config, live: usize) -> bool
+    ensures { result ≡ nat_le config.streams live }
+{
+    config.streams as usize <= live
+}
+
+/// Whether a list of fields of this size is too large.
+fn is_too_large(size: u64) -> bool
+    ensures { result ≡ nat_lt rule.max_list size }
+{
+    MAX_LIST < size
+}
+
 /// Whether a content-length other than 0 is declared.
 fn declares_content(declared: Option<u64>) -> bool
     ensures { result ≡ rule.declares_content declared }
@@ -52,6 +66,13 @@ fn declares_content(declared: Option<u64>) -> bool
         None => false,
         Some(count) => count != 0,
     }
+}
+
+/// Whether a request is malformed: by its fields, or since it ends without the content that it declares.
+fn is_malformed(ends: bool, facts: Facts) -> bool
+    ensures { result ≡ (facts.malformed || (ends && rule.declares_content facts.declared)) }
+{
+    facts.malformed || (ends && declares_content(facts.declared))
 }
 
 /// What becomes of the stream that a request opens, with the number of live streams and the length of its answer's body.
@@ -73,13 +94,13 @@ pub fn request_turn(
     ensures recorded { is_recorded result.stream.kind ≡ true }
 {
     let signal = core.peer.signal;
-    if config.streams as usize <= live {
+    if is_full(config, live) {
         return stream_error(signal, id, ErrorCode::RefusedStream);
     }
-    if MAX_LIST < facts.size {
+    if is_too_large(facts.size) {
         return stream_error(signal, id, ErrorCode::EnhanceYourCalm);
     }
-    if facts.malformed || (ends && declares_content(facts.declared)) {
+    if is_malformed(ends, facts) {
         return stream_error(signal, id, ErrorCode::ProtocolError);
     }
     let stream = new_stream(core, id, facts);
@@ -106,7 +127,7 @@ pub fn trailers_turn(
     ensures waits { (book : List Entry) → body ≡ length (picked book stream.pick).body → HasBody book stream → HasBody book result.stream }
     ensures recorded { is_recorded stream.kind ≡ true → is_recorded result.stream.kind ≡ true }
 {
-    if MAX_LIST < size {
+    if is_too_large(size) {
         return stream_error(signal, stream.id, ErrorCode::EnhanceYourCalm);
     }
     let numbers = stream.numbers;

@@ -1,7 +1,9 @@
-use Rattle.std.proofs.Common.{ap, sym, ◌∙◌}
+use Rattle.std.proofs.Common.{refl, sym, ap, subst, ◌∙◌}
 use Rattle.h2_spec.specs.declared.connection.Purpose.{Purpose}
+use Rattle.h2_spec.specs.declared.reactions.Change.{Change}
 use Rattle.h2_spec.specs.Headers as rule
 use Rattle.h2_rules.specs.Open.{state_of}
+use Rattle.h2_rules.specs.Sound.{IsSoundChange}
 use Rattle.h2_rules.proofs.block_end.block_ends.Goals as goal
 
 pub returns-in-Request-clause-rule : goal.returns-in-Request-clause-rule
@@ -27,3 +29,12 @@ returns-in-TableOnly-clause-rule g c = λ b table.
     let a = c.args in
     let s = state_of a.book.now a.config a.core b table a.streams.now.streams in
     c.stay.ensures ∙ ap (λ (p : Purpose). rule.block_ends s a.shown.now.stream a.shown.now.ends a.decoder.now.fields p) (sym c.in-TableOnly.is)
+
+pub returns-in-Closed-clause-sound : goal.returns-in-Closed-clause-sound
+returns-in-Closed-clause-sound g c = c.closed_end.ensures.sound
+
+pub returns-in-TableOnly-clause-sound : goal.returns-in-TableOnly-clause-sound
+returns-in-TableOnly-clause-sound g c =
+    let a = c.args in
+    let P : Change → Type 0 = λ x. IsSoundChange a.book.now a.streams.now a.core.peer.window x in
+    subst P (sym c.stay.ensures) (c.requires.sound.counts, (refl, sym c.requires.sound.last))

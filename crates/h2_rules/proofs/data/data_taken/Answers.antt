@@ -12,3 +12,6 @@ returns-clause-sound c = λ book r same has found live last.
 pub returns-then-is_below-clause-rule : goal.returns-then-is_below-clause-rule
 unfolding data_taken
 returns-then-is_below-clause-rule c = rw (← c.is_below.ensures, c.if-is_below.true) refl
+
+pub returns-then-is_below-clause-sound : goal.returns-then-is_below-clause-sound
+returns-then-is_below-clause-sound c = λ book r same has found live last. tt

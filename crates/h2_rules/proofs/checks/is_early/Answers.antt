@@ -1,0 +1,7 @@
+use Rattle.std.proofs.Common.{rules}
+use Rattle.h2_spec.specs.Checks.{is_early}
+use Rattle.h2_rules.proofs.checks.is_early.Goals as goal
+
+pub returns-after-head-eq4 : goal.returns-after-head-eq4
+unfolding is_early
+returns-after-head-eq4 c = search rules
