@@ -265,7 +265,7 @@ fn is_entry_for<A: Allocator>(stored: &Stored<A>, method: &[u8], path: &[u8]) ->
     ensures { result ≡ (bytes_eq stored.now.method method.now && bytes_eq stored.now.path path.now) }
 {
     let entry = &stored.entry;
-    entry.method.as_slice() == method && entry.path.as_slice() == path
+    octets::same(entry.method.as_slice(), method) && octets::same(entry.path.as_slice(), path)
 }
 
 fn answer_of<A: Allocator>(stored: &Stored<A>) -> Answer<'_, A>
@@ -321,7 +321,7 @@ fn is_bad_field<A: Allocator>(field: &Field<A>) -> bool
         || octets::is_bad_value(value)
         || octets::is_connection_name(name)
         || octets::is_pseudo_name(name)
-        || name == b"content-length".as_slice()
+        || octets::same(name, b"content-length")
 }
 
 fn has_bad_field<A: Allocator>(fields: &[Field<A>]) -> bool
@@ -348,5 +348,5 @@ fn has_body_not_allowed<A: Allocator>(entry: &Entry<A>) -> bool
 fn is_without_content(status: u16, method: &[u8]) -> bool
     ensures { result ≡ (status == 204 || status == 205 || status == 304 || bytes_eq method.now (codes "HEAD")) }
 {
-    status == 204 || status == 205 || status == 304 || method == b"HEAD".as_slice()
+    status == 204 || status == 205 || status == 304 || octets::same(method, b"HEAD")
 }

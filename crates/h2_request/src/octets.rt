@@ -91,15 +91,22 @@ pub fn is_pseudo_name(name: &[u8]) -> bool
     }
 }
 
+/// Whether these are the same octets.
+pub fn same(octets: &[u8], others: &[u8]) -> bool
+    ensures { result ≡ bytes_eq octets.now others.now }
+{
+    octets == others
+}
+
 /// Whether a name is one of an HTTP/1.1 connection's fields.
 pub fn is_connection_name(name: &[u8]) -> bool
     ensures { result ≡ list_any (λ other. bytes_eq name.now other) connection_names }
 {
-    name == b"connection".as_slice()
-        || name == b"proxy-connection".as_slice()
-        || name == b"keep-alive".as_slice()
-        || name == b"transfer-encoding".as_slice()
-        || name == b"upgrade".as_slice()
+    same(name, b"connection")
+        || same(name, b"proxy-connection")
+        || same(name, b"keep-alive")
+        || same(name, b"transfer-encoding")
+        || same(name, b"upgrade")
 }
 
 /// Whether a value is `trailers`, in any case of its letters.

@@ -45,7 +45,7 @@ impl Marks {
             bad_value: self.bad_value || octets::is_bad_value(value),
             pseudo: self.pseudo || octets::is_pseudo_name(name),
             of_connection: self.of_connection || octets::is_connection_name(name),
-            bad_te: self.bad_te || (name == b"te".as_slice() && !octets::is_trailers(value)),
+            bad_te: self.bad_te || (octets::same(name, b"te") && !octets::is_trailers(value)),
         }
     }
 }
@@ -99,28 +99,28 @@ impl<'a> PseudoFields<'a> {
     fn with_pseudo(self, name: &[u8], value: &'a [u8]) -> Self
         ensures { pseudo_of result ≡ with_pseudo (pseudo_of self.entry) (field name.now value.now) }
     {
-        if name == b":method".as_slice() {
+        if octets::same(name, b":method") {
             let (double, method) = once_more(self.double, self.method, value);
             PseudoFields {
                 double,
                 method,
                 ..self
             }
-        } else if name == b":scheme".as_slice() {
+        } else if octets::same(name, b":scheme") {
             let (double, scheme) = once_more(self.double, self.scheme, value);
             PseudoFields {
                 double,
                 scheme,
                 ..self
             }
-        } else if name == b":path".as_slice() {
+        } else if octets::same(name, b":path") {
             let (double, path) = once_more(self.double, self.path, value);
             PseudoFields {
                 double,
                 path,
                 ..self
             }
-        } else if name == b":authority".as_slice() {
+        } else if octets::same(name, b":authority") {
             let (double, authority) = once_more(self.double, self.authority, value);
             PseudoFields {
                 double,
@@ -170,7 +170,7 @@ impl ContentLength {
     pub fn with(self, name: &[u8], value: &[u8]) -> Self
         ensures { result ≡ measured self (field name.now value.now) }
     {
-        if name != b"content-length".as_slice() {
+        if !octets::same(name, b"content-length") {
             return self;
         }
         match (octets::number_of(value), self.declared) {

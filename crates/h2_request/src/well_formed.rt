@@ -10,6 +10,7 @@ ghost use Rattle.h2_request.specs.ReasonNumber.{reason_number};
 ghost use Rattle.h2_request.specs.Seen.{seen_reason, seen_trailers_reason, is_lacking};
 ghost use Rattle.h2_request.specs.Walk.{pseudo_of};
 
+use crate::octets;
 use crate::reason::{Malformed, Reason};
 use crate::walk::{Marks, PseudoFields, Seen};
 use h2_fields::field::Field;
@@ -119,7 +120,7 @@ fn lacks(pseudo: PseudoFields<'_>) -> bool
     match pseudo.method {
         None => true,
         Some(method) => {
-            if method == b"CONNECT".as_slice() {
+            if octets::same(method, b"CONNECT") {
                 pseudo.authority.is_none() || pseudo.scheme.is_some() || pseudo.path.is_some()
             } else {
                 pseudo.scheme.is_none() || is_missing_or_empty(pseudo.path)
@@ -142,7 +143,7 @@ fn requested(seen: Seen<'_>) -> Request<'_>
     ensures { asked result ≡ request_seen (pseudo_of seen.entry.pseudo) seen.entry.length }
 {
     let method = octets_or_none(seen.pseudo.method);
-    let connect = method == b"CONNECT".as_slice();
+    let connect = octets::same(method, b"CONNECT");
     Request {
         connect,
         method,
