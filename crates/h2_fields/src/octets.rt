@@ -53,8 +53,7 @@ impl<A: Allocator + Copy> Octets<A> {
     pub fn try_clone(&self) -> Result<Octets<A>, AllocError>
         ensures same { IfOk result (λ copy. copy ≡ self.now) }
     {
-        Ok(Octets {
-            items: self.items.clone()?,
-        })
+        let items = self.items.clone()?;
+        Ok(Octets { items })
     }
 }
