@@ -1,4 +1,4 @@
-use Rattle.std.proofs.Common.{ap, ◌∙◌, sym, subst, List}
+use Rattle.std.proofs.Common.{rules, ap, ◌∙◌, sym, subst, List}
 use Rattle.std.proofs.Math.Facts.{to_z-of_z}
 use Rattle.std.specs.List.{AllByRecursion}
 use Rattle.h2_spec.specs.declared.streams.Stream.{Stream}
@@ -8,6 +8,9 @@ use Rattle.h2_streams.specs.Kept.{records_of}
 use Rattle.h2_streams.specs.Shift.{CanShift}
 use Rattle.h2_streams.proofs.ShiftLaws.{kept-moved, records_of-moved, overflow-listed}
 use Rattle.h2_streams.proofs.records.Streams.shift_send.Goals as goal
+
+pub returns-then-any_is_stuck-clause-refused : goal.returns-then-any_is_stuck-clause-refused
+returns-then-any_is_stuck-clause-refused g c = search rules
 
 pub returns-then-any_is_stuck-clause-overflow : goal.returns-then-any_is_stuck-clause-overflow
 returns-then-any_is_stuck-clause-overflow g c =
