@@ -1,5 +1,6 @@
 -- Field blocks as text: what is read of octets can be written, and one instruction after another makes the whole.
-use Rattle.std.proofs.Common.{◌≡◌, ◌∙◌, ◌-◌, ◌<◌, ◌≤◌, ◌^◌, ◌++◌, ◌&&◌, ℕ, Bool, true, false, cond, zero, suc, List, [], ◌∷◌, Option, Some, None, length, take, drop, refl, sym, ap, subst, arith, nat_lt, ltb-true, true≢false, bytes_eq, flat_map, option_map, append_assoc, append-nil, length-append}
+use Rattle.std.proofs.Common.{◌≡◌, ◌∙◌, ◌-◌, ◌<◌, ◌≤◌, ◌^◌, ◌++◌, ◌&&◌, ℕ, Bool, true, false, cond, zero, suc, List, [], ◌∷◌, Option, Some, None, Result, Ok, Err, IfOk, OnOk, length, take, drop, refl, sym, ap, subst, arith, nat_lt, ltb-true, true≢false, bytes_eq, flat_map, option_map, append_assoc, append-nil, length-append}
+use Rattle.std.specs.Result.{result_and}
 use Rattle.std.specs.String.{string_bytes}
 use Rattle.std.specs.declared.string.String.{String}
 use Rattle.std.proofs.lemmas.Grind.{flat_map-append}
@@ -7,7 +8,7 @@ use Rattle.std.proofs.lemmas.List.{length-drop, length-take}
 use Rattle.h2_fields.specs.Instructions.{IsWritable, IsWritableName, IsWritableText}
 use Rattle.h2_spec.specs.Huffman.{HuffRead, Text, Eos, Padding, IsDecodingOf, codes, huffman_text, ones}
 use Rattle.h2_spec.specs.Instruction.{Shape, Instruction, Indexed, Update, Literal, Mode, NameRef, Ref, Named, Str, TextStr, instr_at, instruction_at, instruction_of, literal_text, name_text, named_text, text_of, text_str, with_text}
-use Rattle.h2_spec.specs.Read.{Whole}
+use Rattle.h2_spec.specs.Read.{Read, Whole}
 use Rattle.h2_spec.specs.Script.{Instructions, Octets, instruction_octets}
 use Rattle.h2_spec.specs.Written.{block_said, each_text, first_said, instruction_text, instructions_in, is_writable, or_octets}
 use Rattle.h2_spec.proofs.HuffmanLaws.{text_read}
@@ -15,7 +16,7 @@ use Rattle.h2_spec.proofs.InstructionLaws.{mapped, whole-takes}
 use Rattle.h2_spec.proofs.ReadShapes.{IsWholeName, IsWholeShape, OnRead, first_whole}
 use Rattle.h2_spec.proofs.SpellingLaws.{length-bits}
 use Rattle.h2_spec.proofs.WrittenLaws.{bytes_of}
-use Rattle.h2_script.specs.Texts.{AddsText, IsBlockText}
+use Rattle.h2_script.specs.Texts.{AddsText, IsBlockText, SaysFirst}
 use Rattle.h2_script.proofs.Long.{codes_long}
 
 -- ---- what is read can be written out
@@ -207,3 +208,15 @@ reaches_end {Z} t r p octets rest h none e = go (bytes_eq octets p) refl e
     go : (same : Bool) → bytes_eq octets p ≡ same → r ≡ cond same (Some t) None → IsBlockText r (block_said p) p
     go true same is = subst (λ (x : Option (String Z)). IsBlockText x (block_said p) p) (sym is) (h.is, reaches_same p (string_bytes t) octets rest h none same, h.written)
     go false same is = subst (λ (x : Option (String Z)). IsBlockText x (block_said p) p) (sym is) (reaches_other p (string_bytes t) octets rest h none same)
+
+-- an instruction was written behind others, if it was written
+pub adds_on : {T E : Type 0} (r : Result T E) (old mid new : List ℕ) (i : Instruction) → (new ≡ mid ++ instruction_text i → AddsText old new i) → OnOk r (new ≡ mid ++ instruction_text i) → OnOk r (AddsText old new i)
+adds_on (Ok t) old mid new i f e = f e
+adds_on (Err x) old mid new i f e = tt
+
+-- the answer where the instruction at the front was written, if it was
+pub says_first : {T E : Type 0} (r : Result T E) (answer : Result (Option ℕ) E) (old new octets octets' : List ℕ) (i : Instruction) (used : ℕ) (read : Read (Option Instruction))
+    → answer ≡ result_and r (Ok (Some used)) → read ≡ Whole (Some i) used → is_writable i ≡ true → OnOk r (AddsText old new i) → OnOk r (octets' ≡ octets ++ instruction_octets i)
+    → IfOk answer (λ u. SaysFirst old new octets octets' u read)
+says_first (Ok t) answer old new octets octets' i used read e at w a b = rw e (i, at, w, a, b)
+says_first (Err x) answer old new octets octets' i used read e at w a b = rw e tt

@@ -1,11 +1,12 @@
 -- Instructions one after another: the octets so far, or that they are too many.
-use Rattle.std.proofs.Common.{◌≡◌, ◌∙◌, ◌++◌, ◌<◌, ℕ, Bool, suc, refl, List, Option, Some, None, length, sym, ap, subst, option_map, flat_map}
+use Rattle.std.proofs.Common.{◌≡◌, ◌∙◌, ◌++◌, ◌<◌, ℕ, Bool, suc, refl, List, Option, Some, None, Result, Ok, Err, IfOk, OnOk, length, sym, ap, subst, option_map, flat_map}
+use Rattle.std.specs.Result.{result_and}
 use Rattle.h2_spec.specs.Assemble.{all_at, behind, instruction_at}
 use Rattle.h2_spec.specs.Instruction.{Instruction}
 use Rattle.h2_spec.specs.Script.{Instructions, instruction_octets}
 use Rattle.h2_spec.proofs.ReadingWords.{map_some}
 use Rattle.h2_script.specs.Each.{behind_each}
-use Rattle.h2_script.specs.Readings.{Stands}
+use Rattle.h2_script.specs.Readings.{AddsFirst, Stands}
 use Rattle.h2_script.proofs.Eachs.{each_last, each_more, each_none, each_other}
 
 -- what is to be read stands behind the octets so far
@@ -47,3 +48,10 @@ reaches_last long long' items items' n most rest text i left fuel e none writes 
     let whole = sym h.2 ∙ ap (λ (k : ℕ). behind_each instruction_at instruction_octets h.0 k rest) fuel ∙ each_last instruction_at instruction_octets h.0 n rest i left e none in
     let step = map_some (flat_map instruction_octets) (all_at instruction_at text) (h.0 ++ instruction_octets i) whole in
     (step.0, ap (option_map Instructions) step.1, subst (Stands long' items') (sym step.2) (writes h.0 h.1))
+
+-- the answer where the instruction at the front was added, if it was
+pub adds_one : {T U E : Type 0} (r : Result T E) (answer : Result (Option U) E) (text : U → List ℕ) (behind : U) (long long' : Bool) (old new : List ℕ) (i : Instruction) (read : Option (Instruction × List ℕ))
+    → answer ≡ result_and r (Ok (Some behind)) → Some (i, text behind) ≡ read → OnOk r ((o : List ℕ) → Stands long old o → Stands long' new (o ++ instruction_octets i))
+    → IfOk answer (λ left. AddsFirst long old long' new (option_map text left) read)
+adds_one (Ok t) answer text behind long long' old new i read e at a = rw e (i, at, a)
+adds_one (Err x) answer text behind long long' old new i read e at a = rw e tt

@@ -73,11 +73,10 @@ fn push_first<A: Allocator + Copy>(
     requires { length rest.now < 2 ^ 24 }
     ensures { IfOk result (λ used. SaysFirst (string_bytes text.old) (string_bytes text.new) octets.old.items octets.new.items used (spec.instruction_at rest.now)) }
 {
-    let Some((instr, used)) = first_said(alloc, rest)? else {
-        return Ok(None);
-    };
-    push_said(&instr, text, octets)?;
-    Ok(Some(used))
+    match first_said(alloc, rest)? {
+        Some((instr, used)) => push_said(&instr, text, octets).and(Ok(Some(used))),
+        None => Ok(None),
+    }
 }
 
 /// Appends the text of an instruction, and the octets that a script spells for it.
@@ -144,13 +143,10 @@ fn push_behind<A: Allocator, B: Allocator>(
 ) -> Result<(), AllocError>
     ensures { OnOk result (AddsText (string_bytes out.old) (string_bytes out.new) (instr_of instr.now)) }
 {
-    if out.is_empty() {
-        push_instruction(instr, out)?;
-        return Ok(());
+    if !out.is_empty() {
+        out.push_str(",")?;
     }
-    out.push_str(",")?;
-    push_instruction(instr, out)?;
-    Ok(())
+    push_instruction(instr, out)
 }
 
 /// Appends an instruction: `i` and an index, `u` and a size, or a literal.

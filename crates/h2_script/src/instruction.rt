@@ -62,11 +62,10 @@ fn push_first<'a, A: Allocator + Copy>(
 ) -> Result<Option<&'a [u8]>, AllocError>
     ensures { IfOk result (λ left. AddsFirst long.old octets.old.items long.new octets.new.items (option_map (λ t. t.now) left) (instruction_at text.now)) }
 {
-    let Some((instr, behind)) = instruction_at(alloc, text)? else {
-        return Ok(None);
-    };
-    push_instr(&instr, octets, long)?;
-    Ok(Some(behind))
+    match instruction_at(alloc, text)? {
+        Some((instr, behind)) => push_instr(&instr, octets, long).and(Ok(Some(behind))),
+        None => Ok(None),
+    }
 }
 
 /// Appends an instruction, or notes that it alone is more than a frame holds.

@@ -11,9 +11,10 @@ ghost use Rattle.h2_spec.specs.Script.{Octets};
 ghost use Rattle.h2_spec.specs.Written.{each_text, is_fragment, payload_said, payload_text, setting_text};
 
 use crate::fragment::push_fragment;
-use crate::text::{push_number, push_numbered, push_octets};
+use crate::text::{push_numbered, push_octets};
 use crate::words::octets_from;
 use std::alloc::{AllocError, Allocator};
+use std::fmt::Write;
 
 /// Appends the text of a frame's payload.
 #[tactic(auto, unfolding(h2_spec::specs::Written::payload_said))]
@@ -121,7 +122,5 @@ fn pair_of(octets: &[u8]) -> (u64, u64)
 fn push_setting<A: Allocator>(setting: (u64, u64), out: &mut String<A>) -> Result<(), AllocError>
     ensures { OnOk result (string_bytes out.new ≡ string_bytes out.old ++ setting_text setting) }
 {
-    push_number(setting.0, out)?;
-    out.push_str("=")?;
-    push_number(setting.1, out)
+    write!(out, "{}={}", setting.0, setting.1)
 }

@@ -61,8 +61,7 @@ pub(crate) fn push_numbered<A: Allocator>(
 ) -> Result<(), AllocError>
     ensures { OnOk result (string_bytes out.new ≡ string_bytes out.old ++ (letter.now ++ decimal number)) }
 {
-    out.push_str(letter)?;
-    push_number(number, out)
+    write!(out, "{letter}{number}")
 }
 
 /// Appends an octet of a string: itself, or a backslash and two hex digits.
