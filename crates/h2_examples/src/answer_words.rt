@@ -28,14 +28,16 @@ fn write_fields(lines: &mut Vec<u8>, entry: &Entry<Global>) -> Result<(), AllocE
     Ok(())
 }
 
-/// The status of the answer that the words say, and its other parts line by line; or the number of the fault.
-type Said = Result<(u16, Vec<u8>), u8>;
+/// The status of the answer that the words say, and its other parts line by line.
+fn said(alloc: Global, text: &str) -> Result<(u16, Vec<u8>), Fail> {
+    let entry = parse_answer(alloc, text)?;
+    Ok((entry.status, lines(alloc, &entry)?))
+}
 
-fn said(alloc: Global, text: &str) -> Result<Said, AllocError> {
-    match parse_answer(alloc, text) {
-        Ok(entry) => Ok(Ok((entry.status, lines(alloc, &entry)?))),
-        Err(fault) => Ok(Err(fault.number())),
-    }
+/// The number of the fault where the words say no answer.
+fn refused(alloc: Global, text: &str) -> Option<u8> {
+    let fault = parse_answer(alloc, text).err()?;
+    Some(fault.number())
 }
 
 /// Words that say no answer, and why.
@@ -54,12 +56,10 @@ static REFUSED: [(&str, &str); 11] = [
 ];
 
 #[test]
-fn words_that_say_no_answer_are_refused(rt: HostRuntime) -> Result<(), Fail> {
+fn words_that_say_no_answer_are_refused(rt: HostRuntime) {
     for (text, message) in &REFUSED {
-        let fault = said(rt.alloc(), text)?.err();
-        same(&rt, &fault, &Some(26), message);
+        same(&rt, &refused(rt.alloc(), text), &Some(26), message);
     }
-    Ok(())
 }
 
 /// Words, the status that they say, the other parts line by line, and a name.
@@ -76,8 +76,8 @@ static SAID: [(&str, u16, &[u8], &str); 2] = [
 #[test]
 fn words_say_answers_whose_parts_may_be_empty(rt: HostRuntime) -> Result<(), Fail> {
     for (text, status, lines, name) in &SAID {
-        let (said, parts) = said(rt.alloc(), text)?.ok().ok_or("an answer")?;
-        same(&rt, &(said, parts.as_slice()), &(*status, *lines), name);
+        let said = said(rt.alloc(), text)?;
+        same(&rt, &(said.0, said.1.as_slice()), &(*status, *lines), name);
     }
     Ok(())
 }

@@ -122,7 +122,7 @@ fn places_are_written_until_a_write_fails(rt: HostRuntime) -> Result<(), Fail> {
         let (status, taken) = narrowed(rt.alloc(), input.as_slice(), room)?;
         let wanted = if room == length { 0 } else { 3 };
         same(&rt, &(status, taken.len()), &(wanted, room), &room);
-        assert!(rt; whole.starts_with(taken.as_slice()), "at {room}");
+        same(&rt, &whole.starts_with(taken.as_slice()), &true, &room);
     }
     Ok(())
 }

@@ -2,8 +2,9 @@
 
 use crate::program::Exchange;
 
-/// WINDOW_UPDATE and SETTINGS that open windows.
-pub(crate) static OPENED: [Exchange; 5] = [
+/// Windows that are opened, and octets that are counted.
+pub(crate) static WINDOWS: [Exchange; 13] = [
+    // WINDOW_UPDATE and SETTINGS that open windows.
     (
         "the connection's window passes its limit",
         &["play"],
@@ -67,10 +68,7 @@ pub(crate) static OPENED: [Exchange; 5] = [
          block -\n\
          table 0 0 4096\n",
     ),
-];
-
-/// DATA.
-pub(crate) static COUNTED: [Exchange; 8] = [
+    // DATA.
     (
         "DATA for a stream that was reset is counted",
         &["play", "GET|/|200|6869"],

@@ -81,13 +81,23 @@ fn entry_at(table: &DynTable<Global>, place: usize) -> Option<(&[u8], &[u8])> {
     table.get(place)
 }
 
+/// Places, and the entries there.
+static COPIED: [(usize, Option<(&[u8], &[u8])>); 3] = [
+    (0, None),
+    (1, Some((b"e", b"f"))),
+    (2, None),
+];
+
+fn compare_entries(rt: &impl Abort, copy: &DynTable<Global>) {
+    for (place, entry) in &COPIED {
+        same(rt, &entry_at(copy, *place), entry, place);
+    }
+}
+
 #[test]
 fn copies_have_the_same_entries(rt: HostRuntime) -> Result<(), Fail> {
     let copy = copied(rt.alloc())?;
-    let newest = Some((b"e".as_slice(), b"f".as_slice()));
-    for (place, entry) in [(0, None), (1, newest), (2, None)] {
-        same(&rt, &entry_at(&copy, place), &entry, &place);
-    }
+    compare_entries(&rt, &copy);
     Ok(())
 }
 
@@ -109,20 +119,23 @@ fn with_long(
     Ok(counts(table))
 }
 
+/// The octets of a value, the number of entries with it, what they count, and a name.
+static LONG: [(usize, usize, usize, &str); 2] = [
+    (
+        4064,
+        1,
+        4096,
+        "4,064 octets and 32 more are the whole table",
+    ),
+    (4065, 0, 0, "one octet more is too large"),
+];
+
 #[test]
 fn an_entry_larger_than_the_maximum_empties_the_table(rt: HostRuntime) -> Result<(), Fail> {
     let mut table = small(rt.alloc())?;
-    for (count, len, size, name) in [
-        (
-            4064,
-            1,
-            4096,
-            "4,064 octets and 32 more are the whole table",
-        ),
-        (4065, 0, 0, "one octet more is too large"),
-    ] {
-        let counted = with_long(&mut table, rt.alloc(), count)?;
-        same(&rt, &counted, &(len, size, 4096), &name);
+    for (count, len, size, name) in &LONG {
+        let counted = with_long(&mut table, rt.alloc(), *count)?;
+        same(&rt, &counted, &(*len, *size, 4096), name);
     }
     Ok(())
 }

@@ -11,8 +11,8 @@ const RUNNING: &[u8] = b"phase running last 0\n\
     block -\n\
     table 0 0 4096\n";
 
-/// Openings.
-pub(crate) static OPENED: [Run; 6] = [
+/// Openings, also those that end the connection, and one that is not whole.
+pub(crate) static OPENINGS: [Run; 13] = [
     (
         "no octets",
         &["play"],
@@ -91,10 +91,7 @@ pub(crate) static OPENED: [Run; 6] = [
          table 0 0 4096\n",
         0,
     ),
-];
-
-/// Openings that end the connection, and one that is not whole.
-pub(crate) static BAD_OPENINGS: [Run; 7] = [
+    // Openings that end the connection, and one that is not whole.
     (
         "preface without its last octet",
         &["play"],

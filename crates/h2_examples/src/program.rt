@@ -4,6 +4,7 @@
 use crate::same::same;
 use crate::{blocks, faults, flow, items, opening, order, requests, tables};
 use h2_bench::{Words, run};
+use hex::FromHexError;
 use std::alloc::{AllocError, Global};
 use std::process::Abort;
 use std::test::Fail;
@@ -54,21 +55,31 @@ pub(crate) fn words_of(alloc: Global, texts: &[&str]) -> Result<Words, AllocErro
 
 /// The octets that digits spell.
 // These two have no clause, so that the proof of a test does not carry the digits.
-pub(crate) fn octets_of(alloc: Global, digits: &str) -> Result<Vec<u8>, Fail> {
-    Ok(hex::decode(alloc, digits)?)
+pub(crate) fn octets_of(alloc: Global, digits: &str) -> Result<Vec<u8>, FromHexError> {
+    hex::decode(alloc, digits)
 }
 
 /// The digits that spell octets.
-pub(crate) fn digits_of(alloc: Global, octets: &[u8]) -> Result<String, Fail> {
-    Ok(hex::encode(alloc, octets)?)
+pub(crate) fn digits_of(alloc: Global, octets: &[u8]) -> Result<String, AllocError> {
+    hex::encode(alloc, octets)
+}
+
+/// The exit status of a run of the program, whose output stands behind `text`.
+pub(crate) fn status_of(
+    alloc: Global,
+    texts: &[&str],
+    input: &[u8],
+    text: &mut Vec<u8>,
+) -> Result<u8, AllocError> {
+    let words = words_of(alloc, texts)?;
+    let mut reader = input;
+    Ok(run(alloc, &words, &mut reader, text))
 }
 
 /// The exit status of a run of the program, and what it prints.
 pub(crate) fn ran(alloc: Global, texts: &[&str], input: &[u8]) -> Result<(u8, Vec<u8>), Fail> {
-    let words = words_of(alloc, texts)?;
-    let mut reader = input;
     let mut text = Vec::new(alloc);
-    let status = run(alloc, &words, &mut reader, &mut text);
+    let status = status_of(alloc, texts, input, &mut text)?;
     Ok((status, text))
 }
 
@@ -139,19 +150,18 @@ pub(crate) fn compare(
     name: &str,
     words: &[&str],
     input: &[u8],
-    wanted: (u8, &[u8]),
-) -> Result<(), Fail> {
-    let (status, text) = ran(alloc, words, input)?;
-    same(rt, &(status, text.as_slice()), &wanted, &name);
-    Ok(())
+    (status, printed): (u8, &[u8]),
+) {
+    let mut text = Vec::new(alloc);
+    let ended = status_of(alloc, words, input, &mut text);
+    same(rt, &(ended, text.as_slice()), &(Ok(status), printed), &name);
 }
 
 /// Runs the program for each case, and compares what is printed and the exit status.
-pub(crate) fn compare_runs(rt: &impl Abort, alloc: Global, cases: &[Run]) -> Result<(), Fail> {
+pub(crate) fn compare_runs(rt: &impl Abort, alloc: Global, cases: &[Run]) {
     for (name, words, input, text, status) in cases {
-        compare(rt, alloc, name, words, input, (*status, *text))?;
+        compare(rt, alloc, name, words, input, (*status, *text));
     }
-    Ok(())
 }
 
 /// Runs the program for frames behind the preface and SETTINGS of no setting, and compares the frames that are sent and the state; the exit status is 0.
@@ -173,7 +183,8 @@ pub(crate) fn compare_exchange(
         words,
         input.as_slice(),
         (0, text.as_slice()),
-    )
+    );
+    Ok(())
 }
 
 /// The same for each exchange.
@@ -189,31 +200,26 @@ pub(crate) fn compare_exchanges(
 }
 
 #[test]
-fn runs_print_what_the_tables_say(rt: HostRuntime) -> Result<(), Fail> {
-    let tables: [&[Run]; 6] = [
-        &opening::OPENED,
-        &opening::BAD_OPENINGS,
+fn runs_print_what_the_tables_say(rt: HostRuntime) {
+    let tables: [&[Run]; 5] = [
+        &opening::OPENINGS,
         &order::ABOVE_THE_LIMIT,
         &items::TOLD,
         &faults::REFUSED,
         &tables::LINES,
     ];
     for cases in tables {
-        compare_runs(&rt, rt.alloc(), cases)?;
+        compare_runs(&rt, rt.alloc(), cases);
     }
-    Ok(())
 }
 
 #[test]
 fn exchanges_are_as_the_tables_say(rt: HostRuntime) -> Result<(), Fail> {
-    let tables: [&[Exchange]; 8] = [
+    let tables: [&[Exchange]; 5] = [
         &opening::HEADS,
-        &requests::ANSWERED,
-        &requests::MALFORMED,
-        &requests::TRAILERS,
+        &requests::REQUESTS,
         &blocks::DECODED,
-        &flow::OPENED,
-        &flow::COUNTED,
+        &flow::WINDOWS,
         &order::IN_ORDER,
     ];
     for cases in tables {

@@ -4,7 +4,6 @@ use crate::fields::fields_of;
 use crate::same::same;
 use h2_request::well_formed::{check, check_trailers};
 use std::alloc::{AllocError, Global};
-use std::test::Fail;
 
 /// The number of the reason against a request of these fields, or 0.
 fn request(alloc: Global, pairs: &[(&str, &str)]) -> Result<u8, AllocError> {
@@ -73,11 +72,10 @@ static ALONE: [(&str, &str, u8, &str); 26] = [
 ];
 
 #[test]
-fn fields_alone(rt: HostRuntime) -> Result<(), Fail> {
+fn fields_alone(rt: HostRuntime) {
     for (name, value, reason, message) in &ALONE {
-        same(&rt, &get(rt.alloc(), name, value)?, reason, message);
+        same(&rt, &get(rt.alloc(), name, value), &Ok(*reason), message);
     }
-    Ok(())
 }
 
 /// The fields of a request, the number of the reason, and its section.
@@ -163,11 +161,10 @@ static TOGETHER: [Row; 11] = [
 ];
 
 #[test]
-fn pseudo_fields_and_lengths(rt: HostRuntime) -> Result<(), Fail> {
+fn pseudo_fields_and_lengths(rt: HostRuntime) {
     for (pairs, reason, message) in &TOGETHER {
-        same(&rt, &request(rt.alloc(), pairs)?, reason, message);
+        same(&rt, &request(rt.alloc(), pairs), &Ok(*reason), message);
     }
-    Ok(())
 }
 
 /// A field of trailers, the number of the reason, and its section.
@@ -187,9 +184,9 @@ static TRAILERS: [(&str, &str, u8, &str); 7] = [
 ];
 
 #[test]
-fn fields_of_trailers(rt: HostRuntime) -> Result<(), Fail> {
+fn fields_of_trailers(rt: HostRuntime) {
     for (name, value, reason, message) in &TRAILERS {
-        same(&rt, &trailers(rt.alloc(), name, value)?, reason, message);
+        let found = trailers(rt.alloc(), name, value);
+        same(&rt, &found, &Ok(*reason), message);
     }
-    Ok(())
 }

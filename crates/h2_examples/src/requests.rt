@@ -2,8 +2,8 @@
 
 use crate::program::Exchange;
 
-/// Requests and their answers.
-pub(crate) static ANSWERED: [Exchange; 6] = [
+/// Requests and their answers, malformed requests, and trailers.
+pub(crate) static REQUESTS: [Exchange; 17] = [
     (
         "a whole block",
         &["play", "GET|/|200|6869"],
@@ -84,10 +84,7 @@ pub(crate) static ANSWERED: [Exchange; 6] = [
          table 0 0 4096\n\
          stream 1 ended\n",
     ),
-];
-
-/// Malformed requests.
-pub(crate) static MALFORMED: [Exchange; 9] = [
+    // Malformed requests.
     (
         "an upper-case letter in a name",
         &["play"],
@@ -205,10 +202,7 @@ pub(crate) static MALFORMED: [Exchange; 9] = [
          table 0 0 4096\n\
          stream 1 we-reset\n",
     ),
-];
-
-/// Trailers.
-pub(crate) static TRAILERS: [Exchange; 2] = [
+    // Trailers.
     (
         "trailers that don't end the stream",
         &["play"],

@@ -133,20 +133,23 @@ fn data_is_counted_with_its_padding(rt: HostRuntime) {
     }
 }
 
+/// What is sent, the connection's counts, and the state of the stream.
+fn data_refused(reaction: Reaction) -> Option<(Sent, Counts, Kind)> {
+    let (sent, counts, _, _, kind) = data_counted(reaction)?;
+    Some((sent, counts, kind))
+}
+
 #[test]
-fn data_after_the_end_of_the_peer_is_counted_and_refused(rt: HostRuntime) -> Result<(), Fail> {
+fn data_after_the_end_of_the_peer_is_counted_and_refused(rt: HostRuntime) {
     // DATA is a stream error of type STREAM_CLOSED (5.1, half-closed (remote)).
-    let counted = data_counted(data(65_535, 5, 5, Kind::HalfRemote));
-    let (sent, counts, _, _, kind) = counted.ok_or("a change")?;
     let reset = StreamFrame::Reset(1, ErrorCode::StreamClosed);
     let wanted = ((ConnectionFrame::Quiet, reset), (65_530, 5), Kind::WeReset);
     same(
         &rt,
-        &(sent, counts, kind),
-        &wanted,
+        &data_refused(data(65_535, 5, 5, Kind::HalfRemote)),
+        &Some(wanted),
         &"DATA on a stream that is half-closed (remote)",
     );
-    Ok(())
 }
 
 #[test]
@@ -253,23 +256,22 @@ fn settled(has_full: bool, payload: &[u8]) -> Option<Reaction> {
     Some(settings_rule(&greatest, running(), part))
 }
 
-/// What SETTINGS change: the peer's initial window, whether it takes pushes, what is sent, what becomes of the streams, and the connection's send window.
-fn settings_changed(reaction: Reaction) -> Option<(u32, u32, ConnectionFrame, Touch, i32)> {
+/// What SETTINGS with this payload change: the peer's initial window, whether it takes pushes, what is sent, what becomes of the streams, and the connection's send window.
+fn settings_changed(payload: &[u8]) -> Option<(u32, u32, ConnectionFrame, Touch, i32)> {
     let Change {
         core,
         touch,
         first,
         ..
-    } = change_of(reaction)?;
+    } = change_of(settled(false, payload)?)?;
     let peer = core.peer;
     Some((peer.window, peer.push, first, touch, core.send.value()))
 }
 
 #[test]
-fn settings_are_taken_whole(rt: HostRuntime) -> Result<(), Fail> {
+fn settings_are_taken_whole(rt: HostRuntime) {
     // SETTINGS_INITIAL_WINDOW_SIZE 1000, and then SETTINGS_ENABLE_PUSH 0.
-    let reaction = settled(false, b"\x00\x04\x00\x00\x03\xe8\x00\x02\x00\x00\x00\x00");
-    let changed = settings_changed(reaction.ok_or("settings")?);
+    let changed = settings_changed(b"\x00\x04\x00\x00\x03\xe8\x00\x02\x00\x00\x00\x00");
     let acknowledged = ConnectionFrame::SettingsAck;
     let moved = Touch::Shift(65_535, 1_000);
     // The flow-control window of the connection is not moved (6.9.2).
@@ -279,7 +281,6 @@ fn settings_are_taken_whole(rt: HostRuntime) -> Result<(), Fail> {
         &Some((1_000, 0, acknowledged, moved, 65_535)),
         &"two settings",
     );
-    Ok(())
 }
 
 /// Whether SETTINGS move a window of 2^31 - 1 octets, their payload, and the error that they come to.

@@ -4,14 +4,13 @@ use crate::program::{digits_of, octets_of};
 use crate::same::same;
 use h2_script::{ScriptFault, SyntaxKind, assemble, disassemble};
 use std::alloc::Global;
-use std::test::Fail;
 
 // These have no clause, so that the proof of a test does not carry the definition of each call.
 
 /// The octets that a script stands for, as hex.
-fn assembled(alloc: Global, text: &str) -> Result<String, Fail> {
-    let octets = assemble(alloc, text).ok().ok_or("a script")?;
-    digits_of(alloc, octets.as_slice())
+fn assembled(alloc: Global, text: &str) -> Option<String> {
+    let octets = assemble(alloc, text).ok()?;
+    digits_of(alloc, octets.as_slice()).ok()
 }
 
 /// Why a text is no script.
@@ -20,9 +19,9 @@ fn refused(alloc: Global, text: &str) -> Option<ScriptFault> {
 }
 
 /// The script that is written for octets.
-fn written(alloc: Global, digits: &str) -> Result<String, Fail> {
-    let octets = octets_of(alloc, digits)?;
-    Ok(disassemble(alloc, octets.as_slice())?)
+fn written(alloc: Global, digits: &str) -> Option<String> {
+    let octets = octets_of(alloc, digits).ok()?;
+    disassemble(alloc, octets.as_slice()).ok()
 }
 
 /// Lines of each form, their octets in hex, and a name.
@@ -65,38 +64,33 @@ static FORMS: [(&str, &str, &str); 11] = [
 ];
 
 #[test]
-fn assembles_each_form(rt: HostRuntime) -> Result<(), Fail> {
+fn assembles_each_form(rt: HostRuntime) {
     for (text, wanted, name) in &FORMS {
-        let digits = assembled(rt.alloc(), text)?;
-        same(&rt, &digits.as_str(), wanted, name);
+        let digits = assembled(rt.alloc(), text);
+        same(&rt, &digits.as_deref(), &Some(*wanted), name);
     }
-    Ok(())
 }
 
-/// The first bad line, and the least kind of fault in it.
+/// Texts, the first bad line, and the least kind of fault in it.
+static BAD_LINES: [(&str, usize, SyntaxKind); 10] = [
+    ("SETTINGS 00 0", 1, SyntaxKind::Parts),
+    ("PREFACE ", 1, SyntaxKind::Parts),
+    ("RAW ", 1, SyntaxKind::Parts),
+    ("; a comment\nFOO 00 0 -", 2, SyntaxKind::Name),
+    ("PING 0g 0 -", 1, SyntaxKind::Flags),
+    ("DATA 0g x x0", 1, SyntaxKind::Flags),
+    ("PING 00 2147483648 -", 1, SyntaxKind::Stream),
+    ("PING 00 0 q", 1, SyntaxKind::Payload),
+    ("RAW 0", 1, SyntaxKind::Payload),
+    ("HEADERS 00 1 hi1,", 1, SyntaxKind::Payload),
+];
+
 #[test]
-fn tells_the_first_bad_line(rt: HostRuntime) -> Result<(), Fail> {
-    let cases: [(&str, usize, SyntaxKind); 10] = [
-        ("SETTINGS 00 0", 1, SyntaxKind::Parts),
-        ("PREFACE ", 1, SyntaxKind::Parts),
-        ("RAW ", 1, SyntaxKind::Parts),
-        ("; a comment\nFOO 00 0 -", 2, SyntaxKind::Name),
-        ("PING 0g 0 -", 1, SyntaxKind::Flags),
-        ("DATA 0g x x0", 1, SyntaxKind::Flags),
-        ("PING 00 2147483648 -", 1, SyntaxKind::Stream),
-        ("PING 00 0 q", 1, SyntaxKind::Payload),
-        ("RAW 0", 1, SyntaxKind::Payload),
-        ("HEADERS 00 1 hi1,", 1, SyntaxKind::Payload),
-    ];
-    for (text, line, kind) in cases {
-        same(
-            &rt,
-            &refused(rt.alloc(), text),
-            &Some(ScriptFault::Syntax(line, kind)),
-            &text,
-        );
+fn tells_the_first_bad_line(rt: HostRuntime) {
+    for (text, line, kind) in &BAD_LINES {
+        let wanted = Some(ScriptFault::Syntax(*line, *kind));
+        same(&rt, &refused(rt.alloc(), text), &wanted, text);
     }
-    Ok(())
 }
 
 /// Octets in hex, the one script that is written for them, which assembles to them again, and a name.
@@ -168,12 +162,11 @@ static WRITTEN: [(&str, &str, &str); 16] = [
 ];
 
 #[test]
-fn writes_the_one_script(rt: HostRuntime) -> Result<(), Fail> {
+fn writes_the_one_script(rt: HostRuntime) {
     for (digits, wanted, name) in &WRITTEN {
-        let text = written(rt.alloc(), digits)?;
-        same(&rt, &text.as_str(), wanted, name);
-        let again = assembled(rt.alloc(), text.as_str())?;
-        same(&rt, &again.as_str(), digits, name);
+        let text = written(rt.alloc(), digits);
+        same(&rt, &text.as_deref(), &Some(*wanted), name);
+        let again = assembled(rt.alloc(), wanted);
+        same(&rt, &again.as_deref(), &Some(*digits), name);
     }
-    Ok(())
 }

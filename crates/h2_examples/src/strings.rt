@@ -7,14 +7,13 @@ use std::test::Fail;
 
 // These have no clause, so that the proof of a test does not carry what strings are.
 
-/// The length that is told of a text's Huffman string, and that string.
-fn coded(alloc: Global, text: &[u8]) -> Result<(usize, Vec<u8>), Fail> {
+/// Appends a text's Huffman string: the length that is told of it, or none where the text is too long or memory is refused.
+fn coded(text: &[u8], out: &mut Vec<u8>) -> Option<usize> {
     if text.len() > 33_554_432 {
-        return Err(Fail::from("a short text"));
+        return None;
     }
-    let mut out = Vec::new(alloc);
-    huff_write(text, &mut out)?;
-    Ok((huff_len(text), out))
+    huff_write(text, out).ok()?;
+    Some(huff_len(text))
 }
 
 fn read(alloc: Global, octets: &[u8]) -> Result<Vec<u8>, HuffFault> {
@@ -43,14 +42,15 @@ static CODES: [(&[u8], &[u8]); 11] = [
 ];
 
 #[test]
-fn codes_texts(rt: HostRuntime) -> Result<(), Fail> {
+fn codes_texts(rt: HostRuntime) {
     for (text, octets) in &CODES {
-        let (length, out) = coded(rt.alloc(), text)?;
-        let back = read(rt.alloc(), octets)?;
-        let found = (length, out.as_slice(), back.as_slice());
-        same(&rt, &found, &(octets.len(), *octets, *text), text);
+        let mut out = Vec::new(rt.alloc());
+        let length = coded(text, &mut out);
+        let wanted = (Some(octets.len()), *octets);
+        same(&rt, &(length, out.as_slice()), &wanted, text);
+        let back = read(rt.alloc(), octets).ok();
+        same(&rt, &back.as_deref(), &Some(*text), text);
     }
-    Ok(())
 }
 
 /// Octets that are no Huffman string, and why (5.2).
@@ -94,33 +94,41 @@ static STRINGS: [(&[u8], &[u8], bool, usize); 3] = [
 #[test]
 fn reads_strings(rt: HostRuntime) -> Result<(), Fail> {
     for (octets, wanted, huffman, used) in &STRINGS {
-        let (text, flag, taken) = whole(rt.alloc(), octets)?;
-        let found = (text.as_slice(), flag, taken);
+        let whole = whole(rt.alloc(), octets)?;
+        let found = (whole.0.as_slice(), whole.1, whole.2);
         same(&rt, &found, &(*wanted, *huffman, *used), octets);
     }
     Ok(())
 }
 
-/// Whether more octets are missing; if not, the length is too long.
-fn lacks_octets(alloc: Global, octets: &[u8]) -> Result<bool, Fail> {
-    match read_str(alloc, octets)? {
-        StrRead::Whole(..) => Err(Fail::from("no whole string")),
-        StrRead::More => Ok(true),
-        StrRead::TooLong => Ok(false),
+/// Whether more octets are missing; if not, the length is too long. None for a whole string.
+fn lacks_octets(alloc: Global, octets: &[u8]) -> Option<bool> {
+    match read_str(alloc, octets).ok()? {
+        StrRead::Whole(..) => None,
+        StrRead::More => Some(true),
+        StrRead::TooLong => Some(false),
     }
 }
 
+/// Octets of no whole string, and whether more of them are missing.
+static NOT_WHOLE: [(&[u8], bool); 2] = [(b"\x82\x64", true), (b"\x7f\x80\x80\x80\x80\x80", false)];
+
 #[test]
-fn finds_strings_and_what_is_missing_of_them(rt: HostRuntime) -> Result<(), Fail> {
-    assert!(rt; lacks_octets(rt.alloc(), b"\x82\x64")?);
-    assert!(rt; !lacks_octets(rt.alloc(), b"\x7f\x80\x80\x80\x80\x80")?);
+fn finds_strings_and_what_is_missing_of_them(rt: HostRuntime) {
+    for (octets, lacks) in &NOT_WHOLE {
+        same(
+            &rt,
+            &lacks_octets(rt.alloc(), octets),
+            &Some(*lacks),
+            octets,
+        );
+    }
     same(
         &rt,
         &find_str(b"\x82\x64\x02"),
         &StrAt::Whole(true, b"\x64\x02", 3),
         &"a Huffman string",
     );
-    Ok(())
 }
 
 #[test]

@@ -72,5 +72,6 @@ fn entries_above_the_maximum_empty_the_table(rt: HostRuntime) -> Result<(), Fail
         &words,
         input.as_slice(),
         wanted,
-    )
+    );
+    Ok(())
 }
