@@ -8,7 +8,7 @@ use h2_conn::{Conn, ConnFault};
 use h2_request::book::Book;
 use h2_spec::connection::{Config, Phase};
 use h2_spec::streams::Kind;
-use std::alloc::Global;
+use std::alloc::{AllocError, Global};
 use std::test::Fail;
 
 /// The usual limits.
@@ -83,12 +83,9 @@ fn limits_out_of_range_are_refused_and_settings_sent_first(rt: HostRuntime) {
     }
 }
 
-/// After each piece the number of items in it and of the octets sent; the octets sent behind the opening SETTINGS; and the end.
-type Progress = (Vec<(usize, usize)>, Vec<u8>, End);
-
 /// A new connection over this book.
-fn opened_over(alloc: Global, book: &Book<Global>) -> Result<Conn<'_, Global>, Fail> {
-    Ok(opened(book, usual(), &mut Vec::new(alloc))?)
+fn opened_over(alloc: Global, book: &Book<Global>) -> Option<Conn<'_, Global>> {
+    opened(book, usual(), &mut Vec::new(alloc)).ok()
 }
 
 /// The number of items in a piece.
@@ -96,39 +93,34 @@ pub(crate) fn taken(
     conn: &mut Conn<'_, Global>,
     piece: &[u8],
     sent: &mut Vec<u8>,
-) -> Result<usize, Fail> {
-    Ok(conn.feed(piece, sent)?)
+) -> Result<usize, ConnFault> {
+    conn.feed(piece, sent)
 }
 
-/// After each piece the number of items in it and of the octets sent.
+/// The end after these pieces; `counts` has the number of items in each and of the octets sent after it.
 fn counted(
-    alloc: Global,
     conn: &mut Conn<'_, Global>,
     pieces: &[&[u8]],
+    counts: &mut Vec<(usize, usize)>,
     sent: &mut Vec<u8>,
-) -> Result<Vec<(usize, usize)>, Fail> {
-    let mut counts = Vec::new(alloc);
+) -> Option<End> {
     for piece in pieces {
-        let items = taken(conn, piece, sent)?;
-        counts.push((items, sent.len()))?;
+        let items = taken(conn, piece, sent).ok()?;
+        counts.push((items, sent.len())).ok()?;
     }
-    Ok(counts)
+    Some(end_of(conn))
 }
 
-fn progress(
+/// The same of a new connection; the octets sent are those behind the opening SETTINGS.
+fn fed(
     alloc: Global,
-    conn: &mut Conn<'_, Global>,
     pieces: &[&[u8]],
-) -> Result<Progress, Fail> {
-    let mut sent = Vec::new(alloc);
-    let counts = counted(alloc, conn, pieces, &mut sent)?;
-    Ok((counts, sent, end_of(conn)))
-}
-
-fn fed(alloc: Global, pieces: &[&[u8]]) -> Result<Progress, Fail> {
+    counts: &mut Vec<(usize, usize)>,
+    sent: &mut Vec<u8>,
+) -> Option<End> {
     let book = no_answers(alloc);
     let mut conn = opened_over(alloc, &book)?;
-    progress(alloc, &mut conn, pieces)
+    counted(&mut conn, pieces, counts, sent)
 }
 
 /// Pieces; the number of items in each and of the octets sent after it; the octets sent; and the code that ended the connection.
@@ -161,13 +153,15 @@ static FED: [Fed; 2] = [
 ];
 
 #[test]
-fn items_are_counted_and_answered(rt: HostRuntime) -> Result<(), Fail> {
+fn items_are_counted_and_answered(rt: HostRuntime) {
     for (pieces, wanted, answers, ended) in &FED {
-        let (counts, sent, end) = fed(rt.alloc(), pieces)?;
+        let mut counts = Vec::new(rt.alloc());
+        let mut sent = Vec::new(rt.alloc());
+        let end = fed(rt.alloc(), pieces, &mut counts, &mut sent);
         let found = (counts.as_slice(), sent.as_slice(), end);
-        same(&rt, &found, &(*wanted, *answers, (*ended, false)), answers);
+        let wanted = (*wanted, *answers, Some((*ended, false)));
+        same(&rt, &found, &wanted, answers);
     }
-    Ok(())
 }
 
 /// What comes of a piece that is given for one item: the octets used of it, whether there was an item, and the number of the octets sent.
@@ -175,26 +169,27 @@ fn step(
     conn: &mut Conn<'_, Global>,
     piece: &[u8],
     sent: &mut Vec<u8>,
-) -> Result<(usize, bool, usize), Fail> {
-    let one = conn.feed_one(piece, sent)?;
-    Ok((one.used, one.item, sent.len()))
+) -> Option<(usize, bool, usize)> {
+    let one = conn.feed_one(piece, sent).ok()?;
+    Some((one.used, one.item, sent.len()))
 }
 
 fn steps(
     alloc: Global,
     conn: &mut Conn<'_, Global>,
     pieces: &[&[u8]],
-) -> Result<Vec<(usize, bool, usize)>, Fail> {
+) -> Option<Vec<(usize, bool, usize)>> {
     let mut steps = Vec::new(alloc);
     let mut sent = Vec::new(alloc);
     for piece in pieces {
-        steps.push(step(conn, piece, &mut sent)?)?;
+        let step = step(conn, piece, &mut sent)?;
+        steps.push(step).ok()?;
     }
-    Ok(steps)
+    Some(steps)
 }
 
 /// What comes of each piece that is given to a new connection.
-fn fed_one(alloc: Global, pieces: &[&[u8]]) -> Result<Vec<(usize, bool, usize)>, Fail> {
+fn fed_one(alloc: Global, pieces: &[&[u8]]) -> Option<Vec<(usize, bool, usize)>> {
     let book = no_answers(alloc);
     let mut conn = opened_over(alloc, &book)?;
     steps(alloc, &mut conn, pieces)
@@ -226,21 +221,20 @@ static FED_ONE: [FedOne; 3] = [
 ];
 
 #[test]
-fn one_item_is_taken_at_a_time(rt: HostRuntime) -> Result<(), Fail> {
+fn one_item_is_taken_at_a_time(rt: HostRuntime) {
     for (pieces, wanted) in &FED_ONE {
-        let steps = fed_one(rt.alloc(), pieces)?;
-        same(&rt, &steps.as_slice(), wanted, pieces);
+        let steps = fed_one(rt.alloc(), pieces);
+        same(&rt, &steps.as_deref(), &Some(*wanted), pieces);
     }
-    Ok(())
 }
 
 /// The text of a connection's state, and the same as the connection writes it between two words.
-fn texts(alloc: Global, conn: &Conn<'_, Global>) -> Result<(String, String), Fail> {
+fn texts(alloc: Global, conn: &Conn<'_, Global>) -> Result<(String, String), AllocError> {
     let text = conn.show(alloc)?;
     Ok((text, format!(in alloc; "state\n{conn}end")?))
 }
 
-fn phase_of(alloc: Global, conn: &Conn<'_, Global>) -> Result<Phase, Fail> {
+fn phase_of(alloc: Global, conn: &Conn<'_, Global>) -> Result<Phase, AllocError> {
     Ok(conn.state(alloc)?.phase)
 }
 
@@ -248,21 +242,21 @@ fn phase_of(alloc: Global, conn: &Conn<'_, Global>) -> Result<Phase, Fail> {
 fn phase_and_texts(
     alloc: Global,
     conn: &Conn<'_, Global>,
-) -> Result<(Phase, (String, String)), Fail> {
+) -> Result<(Phase, (String, String)), AllocError> {
     let phase = phase_of(alloc, conn)?;
     Ok((phase, texts(alloc, conn)?))
 }
 
 /// The same of a new connection.
-fn shown(alloc: Global) -> Result<(Phase, (String, String)), Fail> {
+fn shown(alloc: Global) -> Option<(Phase, (String, String))> {
     let book = no_answers(alloc);
     let conn = opened_over(alloc, &book)?;
-    phase_and_texts(alloc, &conn)
+    phase_and_texts(alloc, &conn).ok()
 }
 
 #[test]
 fn the_state_is_shown(rt: HostRuntime) -> Result<(), Fail> {
-    let (phase, (text, written)) = shown(rt.alloc())?;
+    let (phase, (text, written)) = shown(rt.alloc()).ok_or("a connection")?;
     let state = "phase preface last 0\n\
                  window recv 65535 owed 0 send 65535\n\
                  peer table 4096 push 1 streams - window 65535 frame 16384 list - signal 0\n\

@@ -4,8 +4,8 @@ use crate::connection::{no_answers, opened, taken};
 use crate::program::{compare, digits_of, octets_of, ran};
 use crate::same::same;
 use h2_bench::parse_answer;
-use h2_conn::Conn;
 use h2_conn::play::open_and_feed;
+use h2_conn::{Conn, ConnFault};
 use h2_request::book::Book;
 use h2_spec::connection::Config;
 use std::alloc::{AllocError, Global};
@@ -56,8 +56,8 @@ fn fed<'a>(
     octets: &[u8],
     lengths: &[usize],
     sent: &mut Vec<u8>,
-) -> Result<Conn<'a, Global>, Fail> {
-    Ok(open_and_feed(book, one_stream(), octets, lengths, sent)?)
+) -> Result<Conn<'a, Global>, ConnFault> {
+    open_and_feed(book, one_stream(), octets, lengths, sent)
 }
 
 fn shown(alloc: Global, conn: &Conn<'_, Global>) -> Result<String, Fail> {

@@ -254,5 +254,6 @@ fn unknown_types_of_the_greatest_length_are_ignored(rt: HostRuntime) -> Result<(
     let frames = filled(rt.alloc(), "ff", &[("0040000a0000000001", 16384)])?;
     let name = "the greatest length";
     let frames = frames.as_slice();
-    compare_exchange(&rt, rt.alloc(), name, &["play"], frames, b"", RUNNING)
+    compare_exchange(&rt, rt.alloc(), name, &["play"], frames, b"", RUNNING);
+    Ok(())
 }

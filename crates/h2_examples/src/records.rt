@@ -8,7 +8,6 @@ use h2_spec::flow::{Credit, Window};
 use h2_streams::{FlowFault, Kind, Numbers, Pick, Stream, Streams, not_live, octets_waiting};
 use std::alloc::{AllocError, Global};
 use std::process::Abort;
-use std::test::Fail;
 
 fn numbers(send: u32, left: Option<u64>) -> Numbers
     requires { send ≤ 2147483647 }
@@ -69,7 +68,10 @@ fn end_both(rt: &impl Abort, streams: &mut Streams<Global>, id: u32) {
     streams.end_local(id);
 }
 
-fn compare_opened_and_ended(rt: &impl Abort, streams: &mut Streams<Global>) -> Result<(), Fail> {
+fn compare_opened_and_ended(
+    rt: &impl Abort,
+    streams: &mut Streams<Global>,
+) -> Result<(), AllocError> {
     compare_kinds(rt, streams, &[(1, Kind::Idle)], "at first");
     open(rt, streams, 5, None, false)?;
     let kinds = [
@@ -86,9 +88,10 @@ fn compare_opened_and_ended(rt: &impl Abort, streams: &mut Streams<Global>) -> R
 }
 
 #[test]
-fn a_stream_opens_and_ends(rt: HostRuntime) -> Result<(), Fail> {
+fn a_stream_opens_and_ends(rt: HostRuntime) {
     let mut streams = Streams::new(rt.alloc());
-    compare_opened_and_ended(&rt, &mut streams)
+    let compared = compare_opened_and_ended(&rt, &mut streams);
+    same(&rt, &compared, &Ok(()), &"memory for the records");
 }
 
 /// A stream 5 is opened, and a stream 7 that the server resets.
@@ -107,7 +110,7 @@ fn has_record(streams: &Streams<Global>, id: u32) -> bool {
     streams.get(id).is_some()
 }
 
-fn compare_order(rt: &impl Abort, streams: &mut Streams<Global>) -> Result<(), Fail> {
+fn compare_order(rt: &impl Abort, streams: &mut Streams<Global>) -> Result<(), AllocError> {
     open_and_reset(rt, streams)?;
     compare_counts(rt, streams, (7, 1), "the last stream and the live ones");
     compare_kinds(rt, streams, &[(7, Kind::WeReset)], "stream 7");
@@ -120,9 +123,10 @@ fn compare_order(rt: &impl Abort, streams: &mut Streams<Global>) -> Result<(), F
 }
 
 #[test]
-fn records_stand_in_the_order_of_opening(rt: HostRuntime) -> Result<(), Fail> {
+fn records_stand_in_the_order_of_opening(rt: HostRuntime) {
     let mut streams = Streams::new(rt.alloc());
-    compare_order(&rt, &mut streams)
+    let compared = compare_order(&rt, &mut streams);
+    same(&rt, &compared, &Ok(()), &"memory for the records");
 }
 
 /// The send window of a stream, if it has a record.
@@ -268,7 +272,7 @@ fn put_1_and_13(rt: &impl Abort, streams: &mut Streams<Global>) -> Result<(), Al
     streams.put(not_live(13, Kind::WeReset))
 }
 
-fn compare_puts(rt: &impl Abort, streams: &mut Streams<Global>) -> Result<(), Fail> {
+fn compare_puts(rt: &impl Abort, streams: &mut Streams<Global>) -> Result<(), AllocError> {
     open_five(rt, streams)?;
     let waiting = octets_waiting(&stream_at(streams, 11));
     same(rt, &waiting, &2, &"what waits on stream 11");
@@ -281,9 +285,10 @@ fn compare_puts(rt: &impl Abort, streams: &mut Streams<Global>) -> Result<(), Fa
 }
 
 #[test]
-fn streams_are_put_in_their_places(rt: HostRuntime) -> Result<(), Fail> {
+fn streams_are_put_in_their_places(rt: HostRuntime) {
     let mut streams = Streams::new(rt.alloc());
-    compare_puts(&rt, &mut streams)
+    let compared = compare_puts(&rt, &mut streams);
+    same(&rt, &compared, &Ok(()), &"memory for the records");
 }
 
 fn copied(streams: &Streams<Global>) -> Result<Streams<Global>, AllocError> {
@@ -322,14 +327,18 @@ fn compare_waiting(rt: &impl Abort, streams: &Streams<Global>, copy: &Streams<Gl
     }
 }
 
-fn compare_before_and_after(rt: &impl Abort, streams: &mut Streams<Global>) -> Result<(), Fail> {
+fn compare_before_and_after(
+    rt: &impl Abort,
+    streams: &mut Streams<Global>,
+) -> Result<(), AllocError> {
     let copy = copied_and_changed(rt, streams)?;
     compare_waiting(rt, streams, &copy);
     Ok(())
 }
 
 #[test]
-fn streams_wait_to_send_by_rising_identifier(rt: HostRuntime) -> Result<(), Fail> {
+fn streams_wait_to_send_by_rising_identifier(rt: HostRuntime) {
     let mut streams = Streams::new(rt.alloc());
-    compare_before_and_after(&rt, &mut streams)
+    let compared = compare_before_and_after(&rt, &mut streams);
+    same(&rt, &compared, &Ok(()), &"memory for the records");
 }
