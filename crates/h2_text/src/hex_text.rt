@@ -1,7 +1,7 @@
 //! Octets as text: two hex digits each, in lower case. No memory is taken.
 //! Rests on the crate `hex`; definition: h2_spec's `specs/Show.antt`.
 
-ghost use Rattle.std.specs.Prelude.{Some};
+ghost use Rattle.std.specs.Prelude.{◌≡◌, ◌*◌, length, Some};
 ghost use Rattle.hex.specs.Hex.{encode_lower};
 ghost use Rattle.h2_spec.specs.Show.{octets_text};
 
@@ -20,17 +20,25 @@ impl fmt::Display for HexText<'_> {
     fn fmt<W: fmt::Write>(&self, f: &mut fmt::Formatter<W>) -> fmt::Result {
         let mut digits = [0u8; 2 * CHUNK];
         for chunk in self.0.chunks(CHUNK) {
-            let room = &mut digits[..2 * chunk.len()];
-            let Ok(()) = hex::encode_to_slice(chunk, room) else {
-                unreachable!();
-            };
-            let Ok(text) = str::from_utf8(room) else {
-                unreachable!();
-            };
+            let text = spelled(chunk, &mut digits[..2 * chunk.len()]);
             f.write_str(text)?;
         }
         Ok(())
     }
+}
+
+/// The digits of octets in lower-case hex, written into room for just these.
+fn spelled<'r>(octets: &[u8], room: &'r mut [u8]) -> &'r str
+    requires { length room.old ≡ 2 * length octets.now }
+    ensures { result.now ≡ encode_lower octets.now }
+{
+    let Ok(()) = hex::encode_to_slice(octets, room) else {
+        unreachable!();
+    };
+    let Ok(text) = str::from_utf8(room) else {
+        unreachable!();
+    };
+    text
 }
 
 /// Octets in lower-case hex, a dash where there are none.

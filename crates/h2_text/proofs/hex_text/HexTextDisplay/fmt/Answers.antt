@@ -1,29 +1,21 @@
-use Rattle.std.proofs.Common.{◌≡◌, ◌++◌, rules}
+use Rattle.std.proofs.Common.{◌++◌, rules}
 use Rattle.std.proofs.Output.{has_written_append, has_written_of_eq}
 use Rattle.std.proofs.lemmas.List.{nil_from_length}
-use Rattle.std.proofs.lemmas.Str.{IsUtf8-from_ascii}
 use Rattle.std.specs.Slice.Iter.{chunks_rest}
-use Rattle.hex.specs.Hex.{encode_lower}
-use Rattle.h2_text.proofs.Texts.{hex-ascii, hex-append, hex-none, text-end, text-next}
+use Rattle.h2_text.proofs.Texts.{hex-append, hex-none, text-end, text-next}
 use Rattle.h2_text.proofs.hex_text.HexTextDisplay.fmt.Goals as goal
-
-pub unreachable-requires-in_default-from_utf8 : goal.unreachable-requires-in_default-from_utf8
-unreachable-requires-in_default-from_utf8 g c =
-    let text : c.encode_to_slice.new.output ≡ encode_lower c.in-Some.chunk.now = search rules in
-    c.in_default-from_utf8.ensures.cases.0 (rw text (IsUtf8-from_ascii (encode_lower c.in-Some.chunk.now) (hex-ascii c.in-Some.chunk.now)))
 
 pub loop-chunk-preserved : goal.loop-chunk-preserved
 loop-chunk-preserved g c =
-    let steps = c.in-Some.ensures.steps in
-    let text : c.in-Ok-from_utf8.text.now ≡ encode_lower c.in-Some.chunk.now = search rules in (
+    let steps = c.in-Some.ensures.steps in (
       search rules,
       tt,
       search rules,
       λ plain.
           let so_far = c.loop-chunk.invariant.3 plain in (
-            so_far.0 ++ c.in-Ok-from_utf8.text.now,
+            so_far.0 ++ c.spelled-text.result.now,
             has_written_append _ _ _ _ _ _ so_far.1 (search rules),
-            text-next so_far.0 _ _ _ _ (rw (text, steps.1.0) (hex-append c.in-Some.chunk.now (chunks_rest c.next.new.self))) so_far.2,
+            text-next so_far.0 _ _ _ _ (rw (c.spelled-text.ensures, steps.1.0) (hex-append c.in-Some.chunk.now (chunks_rest c.next.new.self))) so_far.2,
           ),
     )
 
