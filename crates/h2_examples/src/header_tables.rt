@@ -41,16 +41,12 @@ static ADDED: [(&str, &str, usize, usize); 3] = [
     ("e", "f", 2, 68),
 ];
 
-fn compare_added(
-    rt: &impl Abort,
-    alloc: Global,
-    table: &mut DynTable<Global>,
-) -> Result<(), AllocError> {
+fn compare_added(rt: &impl Abort, alloc: Global, table: &mut DynTable<Global>) {
     for (name, value, len, size) in &ADDED {
-        add(table, alloc, name, value)?;
-        same(rt, &counts(table), &(*len, *size, 100), name);
+        let added = add(table, alloc, name, value);
+        let wanted = (Ok(()), (*len, *size, 100));
+        same(rt, &(added, counts(table)), &wanted, name);
     }
-    Ok(())
 }
 
 fn compare_maxima(rt: &impl Abort, table: &mut DynTable<Global>) {
@@ -64,7 +60,7 @@ fn compare_maxima(rt: &impl Abort, table: &mut DynTable<Global>) {
 fn entries_come_and_go(rt: HostRuntime) -> Result<(), Fail> {
     let mut table = empty_table(rt.alloc(), 100)?;
     assert!(rt; table.is_empty() && table.limit() == 100);
-    compare_added(&rt, rt.alloc(), &mut table)?;
+    compare_added(&rt, rt.alloc(), &mut table);
     compare_maxima(&rt, &mut table);
     Ok(())
 }
@@ -134,8 +130,8 @@ static LONG: [(usize, usize, usize, &str); 2] = [
 fn an_entry_larger_than_the_maximum_empties_the_table(rt: HostRuntime) -> Result<(), Fail> {
     let mut table = small(rt.alloc())?;
     for (count, len, size, name) in &LONG {
-        let counted = with_long(&mut table, rt.alloc(), *count)?;
-        same(&rt, &counted, &(*len, *size, 4096), name);
+        let counted = with_long(&mut table, rt.alloc(), *count);
+        same(&rt, &counted, &Ok((*len, *size, 4096)), name);
     }
     Ok(())
 }

@@ -107,13 +107,12 @@ pub(crate) fn long_answer(alloc: Global, count: u32) -> Result<String, Fail> {
     Ok(String::from_utf8(words)?)
 }
 
-/// Texts one behind another.
-pub(crate) fn joined(alloc: Global, texts: &[&[u8]]) -> Result<Vec<u8>, AllocError> {
-    let mut all = Vec::new(alloc);
+/// Appends texts, one behind another.
+pub(crate) fn join(all: &mut Vec<u8>, texts: &[&[u8]]) -> Result<(), AllocError> {
     for text in texts {
         all.extend_from_slice(text)?;
     }
-    Ok(all)
+    Ok(())
 }
 
 /// Appends a text without its spaces.
@@ -128,12 +127,10 @@ fn close_up(text: &[u8], closed: &mut Vec<u8>) -> Result<(), AllocError> {
 
 /// Appends what `play` prints where these frames are sent behind the opening SETTINGS and the acknowledgement, and this state is shown.
 fn print(sent: &[u8], state: &[u8], text: &mut Vec<u8>) -> Result<(), AllocError> {
-    text.extend_from_slice(b"sent ")?;
-    text.extend_from_slice(OPENING.as_bytes())?;
-    text.extend_from_slice(ACKNOWLEDGEMENT.as_bytes())?;
+    let front = [b"sent ", OPENING.as_bytes(), ACKNOWLEDGEMENT.as_bytes()];
+    join(text, &front)?;
     close_up(sent, text)?;
-    text.extend_from_slice(b"\n")?;
-    text.extend_from_slice(state)
+    join(text, &[b"\n", state])
 }
 
 /// Runs the program, and compares the exit status and what is printed.
@@ -164,7 +161,11 @@ fn status_of_play(
     frames: &[u8],
     text: &mut Vec<u8>,
 ) -> Result<u8, AllocError> {
-    let input = joined(alloc, &[PREFACE.as_bytes(), SETTINGS.as_bytes(), frames])?;
+    let mut input = Vec::new(alloc);
+    join(
+        &mut input,
+        &[PREFACE.as_bytes(), SETTINGS.as_bytes(), frames],
+    )?;
     status_of(alloc, words, input.as_slice(), text)
 }
 
