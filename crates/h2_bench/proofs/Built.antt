@@ -1,6 +1,6 @@
 -- A command with one more argument.
-use Rattle.std.proofs.Common.{◌≡◌, ◌∙◌, false, ap, rules}
-use Rattle.clap.specs.Words.{AddsArg, App, Rule, app_of, with_rule}
+use Rattle.std.proofs.Common.{rules}
+use Rattle.clap.specs.Words.{AddsArg, App, Rule, with_rule}
 use Rattle.clap.specs.declared.builder.Arg.{Arg}
 use Rattle.clap.specs.declared.builder.Command.{Command}
 use Rattle.h2_bench.specs.Built.{IsArg, IsCommand}

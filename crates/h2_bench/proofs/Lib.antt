@@ -4,6 +4,7 @@ pub mod Books
 pub mod Built
 pub mod Grammar
 pub mod HexTexts
+pub mod Inputs
 pub mod Numbers
 pub mod Places
 pub mod Played
