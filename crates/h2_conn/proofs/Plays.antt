@@ -5,12 +5,15 @@ use Rattle.std.proofs.lemmas.List.{append-nil, take-append-drop, take-append-le,
 use Rattle.h2_spec.specs.declared.connection.Phase.{Phase}
 use Rattle.h2_spec.specs.declared.connection.Phase.TheVariants as phase
 use Rattle.h2_spec.specs.Parse.{Front, Stop, One}
-use Rattle.h2_spec.specs.State.{State}
+use Rattle.h2_spec.specs.Answer.{Entry}
+use Rattle.h2_spec.specs.Opening.{opening_octets}
+use Rattle.h2_spec.specs.State.{State, opening}
+use Rattle.h2_spec.specs.declared.connection.Config.{Config}
 use Rattle.h2_spec.specs.Trace.{Event, Run, carried_on, left_by, next_event, sent_octets, trace}
 use Rattle.h2_spec.proofs.ParseLaws.{Uses}
 use Rattle.h2_spec.proofs.TraceLaws.{event-uses, trace-append}
 use Rattle.h2_conn.specs.Connection.{Connection, going}
-use Rattle.h2_conn.specs.Runs.{Fed, Halts, fed}
+use Rattle.h2_conn.specs.Runs.{Fed, Halts, Opens, fed}
 use Rattle.h2_conn.proofs.Runs.{sent-append, sent-none, trace-stop}
 
 -- of no octets nothing is an item
@@ -54,6 +57,16 @@ fed-more c c' c'' q q' out out' out'' x y =
         sent = y.1.sent ∙ rw (sum, sent-append (fed c q).events (fed c' q').events, x.1.sent) (append_assoc out (sent_octets (fed c q).events) (sent_octets (fed c' q').events));
       },
     )
+
+-- what a new connection comes to
+pub opened : (book : List Entry) (config : Config) (octets out first last : List ℕ) (c c' : Connection) → c ≡ going (opening book config) [] → first ≡ out ++ opening_octets config
+    → Fed c octets first c' last → Opens book config octets out c' last
+opened book config octets out first last c c' new begun x =
+    let run = ap (λ (d : Connection). fed d octets) new in
+    record {
+      sent = x.1.sent ∙ ap (λ (r : Run). first ++ sent_octets r.events) run ∙ ap (λ (o : List ℕ). o ++ sent_octets (fed (going (opening book config) []) octets).events) begun;
+      after = x.1.after ∙ ap (λ (r : Run). going r.state r.rest) run;
+    }
 
 -- ---- what is kept at the front
 

@@ -164,15 +164,12 @@ fn send_and_touch<A: Allocator>(
 }
 
 /// An open block that is decoded no more.
-fn stop<A: Allocator>(block: Option<OpenBlock<A>>) -> Option<OpenBlock<A>>
-    ensures { result ≡ changes.only_shown block }
+fn stop<A: Allocator>(block: &mut Option<OpenBlock<A>>)
+    ensures { block.new ≡ changes.only_shown block.old }
 {
     match block {
-        None => None,
-        Some(block) => Some(OpenBlock {
-            shown: block.shown,
-            decoding: None,
-        }),
+        None => {}
+        Some(block) => block.decoding = None,
     }
 }
 
@@ -216,8 +213,7 @@ impl<'b, A: Allocator> State<'b, A> {
     {
         write_goaway(self.core.last, code, out)?;
         self.core = ended_by(code, self.core);
-        let block = self.block.take();
-        self.block = stop(block);
+        stop(&mut self.block);
         Ok(())
     }
 }

@@ -1,5 +1,11 @@
 use Rattle.std.proofs.Math.Seq.{take-append_seam}
+use Rattle.h2_conn.proofs.Plays.{opened}
 use Rattle.h2_conn.proofs.play.open_and_feed.Goals as goal
+
+pub returns-in-Ok-clause-ok : goal.returns-in-Ok-clause-ok
+returns-in-Ok-clause-ok g c =
+    let a = c.args in
+    opened a.book.now a.config a.octets.now a.out.now.items c.new.new.out.items c.feed_or_cut.new.out.items c.in_ok-conn.conn c.feed_or_cut.new.conn c.in_ok-conn.ensures.opened c.in_ok-conn.ensures.sent c.in-Ok.ensures.ok
 
 pub returns-clause-unchanged : goal.returns-clause-unchanged
 returns-clause-unchanged g c = rw (c.as_slice-mark.ensures.value, c.in_ok-conn.ensures.sent, take-append_seam) at c.in-Err.ensures.cut
