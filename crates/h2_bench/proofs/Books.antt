@@ -2,12 +2,8 @@
 use Rattle.std.proofs.Common.{◌≡◌, ℕ, List, Option, Some, None, Err, inl, inr, ◌⊎◌, refl}
 use Rattle.h2_spec.specs.Answer.{Entry}
 use Rattle.h2_spec.specs.AnswerWords.{entry_of}
-use Rattle.h2_spec.specs.Book.{entry_fault}
-use Rattle.h2_request.specs.Fault as book
-use Rattle.h2_request.specs.declared.fault.BookFault.{BookFault}
-use Rattle.h2_request.specs.declared.fault.BookFault.TheVariants as code
 use Rattle.h2_bench.specs.AnswerParts.{refusal_of}
-use Rattle.h2_bench.specs.Books.{added, added_by, with_answer}
+use Rattle.h2_bench.specs.Books.{added_by, with_answer}
 use Rattle.h2_bench.specs.Faults.{fault_number}
 use Rattle.h2_bench.specs.declared.fault.BenchFault.{BenchFault}
 use Rattle.h2_bench.specs.declared.fault.BenchFault.TheVariants.{NoMemory}
@@ -20,11 +16,3 @@ by_entry b (Some e) fault h = inl h
 pub word_refused : (b : List Entry) (word : List ℕ) (fault : BenchFault) → fault ≡ refusal_of (entry_of word) → (fault ≡ NoMemory) ⊎ (with_answer b word ≡ Err (fault_number fault))
 unfolding with_answer
 word_refused b word fault h = by_entry b (entry_of word) fault h
-
-by_number : (n : Option ℕ) (b : List Entry) (e : Entry) (refusal : BookFault) (fault : BenchFault) → book.IsRefusal n refusal → fault_number fault ≡ book.fault_number refusal
-    → (refusal ≡ code.NoMemory → fault ≡ NoMemory) → (fault ≡ NoMemory) ⊎ (added b e n ≡ Err (fault_number fault))
-by_number n b e code.NoMemory fault h same memory = inl (memory refl)
-by_number n b e code.BadStatus fault h same memory = inr (rw (h, same) refl)
-by_number n b e code.BadField fault h same memory = inr (rw (h, same) refl)
-by_number n b e code.BodyNotAllowed fault h same memory = inr (rw (h, same) refl)
-by_number n b e code.TooLong fault h same memory = inr (rw (h, same) refl)

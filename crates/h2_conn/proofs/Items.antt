@@ -9,7 +9,7 @@ use Rattle.h2_spec.specs.declared.frames.Head.{Head}
 use Rattle.h2_spec.specs.Frame.{Item, Preface, BadPreface, WholeFrame, Oversize, Next, NoItem, Got, next, preface, frame_item, head_of}
 use Rattle.h2_spec.specs.State.{State}
 use Rattle.h2_spec.specs.Parse.{Stop, One}
-use Rattle.h2_spec.specs.Trace.{Event, event_on, next_event, next_item, step}
+use Rattle.h2_spec.specs.Trace.{event_on, next_event, next_item, step}
 use Rattle.h2_spec.specs.Trace as trace
 use Rattle.h2_frame.specs.Items.{found, item_in, rest_after, rest_behind}
 use Rattle.h2_frame.specs.Rest.{Rest}
@@ -29,13 +29,6 @@ found-is r (phase.Ended code) limit h e = absurd (true≢false e)
 event-is : (r : Rest) (s : State) → Fits r s.core.phase → is_ended s.core.phase ≡ false → next_event s r.octets ≡ event_on s (found s.core.own.frame r)
 unfolding next_event next_item
 event-is r s h e = ap (event_on s) (sym (found-is r s.core.phase s.core.own.frame h e))
-
--- no frame comes while the preface is awaited
-abbrev ComesIn : Phase → Item → Type 0
-ComesIn p Preface = awaits_preface p ≡ true
-ComesIn p BadPreface = Unit {0}
-ComesIn p (WholeFrame h b) = awaits_preface p ≡ false
-ComesIn p (Oversize h) = Unit {0}
 
 abbrev Opens : Bool → Next → Type 0
 Opens expected NoItem = Unit {0}

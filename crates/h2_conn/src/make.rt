@@ -163,7 +163,7 @@ fn send_and_touch<A: Allocator>(
     }
 }
 
-/// An open block that is decoded no more.
+/// Ends the decoding of the block that is open.
 fn stop<A: Allocator>(block: &mut Option<OpenBlock<A>>)
     ensures { block.new ≡ changes.only_shown block.old }
 {

@@ -1,6 +1,6 @@
 -- Numbers and octets by their bits: two numbers side by side, octets joined and taken apart.
-use Rattle.std.proofs.Common.{◌≡◌, ℕ, zero, suc, ◌+◌, ◌-◌, ◌*◌, ◌/◌, ◌%◌, ◌^◌, ◌<◌, ◌≤◌, Bool, true, List, [], ◌∷◌, ◌++◌, length, replicate, nat_eq, refl, ap, ◌∙◌, sym, arith, length-append, append_assoc, add-one, take, drop, get_or}
-use Rattle.std.proofs.lemmas.List.{append-nil, replicate_more, take_more, take-append-drop}
+use Rattle.std.proofs.Common.{◌≡◌, ℕ, zero, suc, ◌+◌, ◌-◌, ◌*◌, ◌/◌, ◌%◌, ◌^◌, ◌<◌, ◌≤◌, Bool, true, List, [], ◌∷◌, ◌++◌, length, replicate, nat_eq, refl, ap, ◌∙◌, sym, arith, length-append, append_assoc, add-one, take, get_or}
+use Rattle.std.proofs.lemmas.List.{append-nil, replicate_more, take_more}
 use Rattle.std.proofs.lemmas.Nat.{pow-add, div-add-mod'}
 use Rattle.std.proofs.Math.Nat.{div-lt_iff_lt-mul, mul-le-mul_right}
 use Rattle.h2_spec.specs.HuffmanCode.{bits_of}
@@ -62,14 +62,6 @@ pub bits-more : (os : List ℕ) (i o : ℕ) → i < length os → o ≡ get_or o
 unfolding bits
 bits-more os i o h at =
     ap bits (take_more os i o h) ∙ bits-append (take i os) (get_or os i o ∷ []) ∙ ap (λ b. bits (take i os) ++ b) (append-nil (bits_of 8 (get_or os i o)) ∙ ap (λ v. bits_of 8 v) (sym at) ∙ bits_of-halves o)
-
--- all the bits, by one octet
-pub bits-whole : (os : List ℕ) (i o : ℕ) → i < length os → o ≡ get_or os i o → bits os ≡ bits (take i os) ++ (bits_of 4 (o / 16) ++ (bits_of 4 (o % 16) ++ bits (drop (i + 1) os)))
-bits-whole os i o h at =
-    let high = bits_of 4 (o / 16) in
-    let low = bits_of 4 (o % 16) in
-    ap bits (sym (take-append-drop (i + 1) os)) ∙ bits-append (take (i + 1) os) (drop (i + 1) os) ∙ ap (λ b. b ++ bits (drop (i + 1) os)) (bits-more os i o h at)
-    ∙ append_assoc (bits (take i os)) (high ++ low) (bits (drop (i + 1) os)) ∙ ap (λ b. bits (take i os) ++ b) (append_assoc high low (bits (drop (i + 1) os)))
 
 pub octets_from : (xs : List ℕ) → ((i d : ℕ) → i < length xs → get_or xs i d < 256) → IsText xs
 octets_from [] h = tt

@@ -113,15 +113,6 @@ cut_none c xs e = go (nat_lt (position_or_len (λ x. x == c) xs) (length xs)) re
         all (y ∷ ys) zero h = absurd (omega arith)
         all (y ∷ ys) (suc n) h = ap (λ (zs : List ℕ). y ∷ zs) (all ys n (omega arith))
 
-pub uncut : (c : ℕ) (xs : List ℕ) → Lacks c xs → cut_at c xs ≡ None
-uncut c xs lacks = go (nat_lt (position_or_len (λ x. x == c) xs) (length xs)) refl
-  where
-    go : (t : Bool) → nat_lt (position_or_len (λ x. x == c) xs) (length xs) ≡ t → option_map {U = List ℕ × List ℕ} (λ i. (take i xs, drop (i + 1) xs)) (cond t (Some (position_or_len (λ x. x == c) xs)) None) ≡ None
-    go false is = refl
-    go true is =
-        let inside : position_or_len (λ x. x == c) xs < length xs = ltb-true _ _ is in
-        absurd (true≢false (sym (passes_at_first (λ x. x == c) xs 0 inside) ∙ lacks (position_or_len (λ x. x == c) xs) 0 inside))
-
 -- ---- numbers
 
 scan_value : (n : ℕ) (ds : List ℕ) → AllDigits 10 ds → scanned n ds ≡ Some (digits_value_after 10 n ds)

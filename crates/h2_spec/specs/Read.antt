@@ -1,5 +1,5 @@
 -- Reading one thing at the front of octets.
-use Rattle.std.specs.Prelude.{ℕ, ◌+◌}
+use Rattle.std.specs.Prelude.{ℕ}
 
 -- a thing and how many octets it takes, its beginning alone, or an integer in it that is too long
 pub data Read (A : Type 0) : Type 0 where
@@ -12,9 +12,3 @@ abbrev pub read_map : {A B : Type 0} → (A → B) → Read A → Read B
 read_map f (Whole a used) = Whole (f a) used
 read_map f More = More
 read_map f TooLong = TooLong
-
--- a second thing behind the first, which used some octets
-abbrev pub read_behind : {A B C : Type 0} → (A → B → C) → A → ℕ → Read B → Read C
-read_behind f a used (Whole b more) = Whole (f a b) (used + more)
-read_behind f a used More = More
-read_behind f a used TooLong = TooLong

@@ -1,4 +1,4 @@
-use Rattle.std.proofs.Common.{◌∙◌, ◌≡◌, ◌<◌, ◌++◌, List, ℕ, [], arith, ap, inl, inr, length, refl, sym, take}
+use Rattle.std.proofs.Common.{◌∙◌, ◌≡◌, ◌<◌, ◌++◌, List, ℕ, [], arith, ap, inr, length, refl, sym, take}
 use Rattle.std.proofs.lemmas.List.{append-nil, length-append, length-take-le}
 use Rattle.h2_bench.specs.Input.{most}
 use Rattle.h2_bench.proofs.Inputs.{read-long, read-more, read-whole}

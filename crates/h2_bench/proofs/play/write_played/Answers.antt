@@ -1,4 +1,3 @@
-use Rattle.std.proofs.Common.{◌∙◌}
 use Rattle.h2_bench.proofs.Played.{fresh-opened, told-opened}
 use Rattle.h2_bench.proofs.play.write_played.Goals as goal
 
