@@ -2,7 +2,7 @@
 //! Rests on h2_request's entries, on `table` for cutting texts, and on the crate `hex`.
 //! Definitions: `h2_spec/specs/AnswerWords.antt` (`entry_of`), and `specs/AnswerParts.antt`.
 
-ghost use Rattle.std.specs.Prelude.{◌≡◌, ◌<◌, ◌≤◌, ◌∷◌, [], Some, None, length, is_some, option_map, IfOk, IfErr, IfNone, IfSome, IsTrue, MatchOption};
+ghost use Rattle.std.specs.Prelude.{◌≡◌, ◌<◌, ◌≤◌, ◌∷◌, [], Some, None, length, is_some, option_map, IfOk, IfErr, IfNone, IfSome, IsTrue};
 ghost use Rattle.std.specs.List.{list_all};
 ghost use Rattle.hex.specs.Hex.{is_hex_digit};
 ghost use Rattle.h2_spec.specs.AnswerWords as words;

@@ -10,7 +10,7 @@ ghost use Rattle.h2_spec.specs.declared.connection.Phase.TheVariants as phase;
 ghost use Rattle.h2_conn.specs.Blocks.{IsOpenFor};
 ghost use Rattle.h2_conn.specs.Does.{Does};
 ghost use Rattle.h2_conn.specs.Preview.{CanSend};
-ghost use Rattle.h2_conn.specs.Sending.{all_frames, core_after, records, records_after, streams_after, waiting_frames, CanMake};
+ghost use Rattle.h2_conn.specs.Sending.{all_frames, core_after, records, records_after, waiting_frames, CanMake};
 ghost use Rattle.h2_rules.specs.Sound.{IsSoundChange, IsSoundState, touched_records};
 
 use crate::pump::{commit_shares, sendable, write_shares};

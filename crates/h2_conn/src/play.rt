@@ -1,8 +1,7 @@
 //! A whole run: a new connection, and octets in pieces of any lengths (RFC 9113, 3.4).
 //! Rests on `conn`; definitions: h2_spec's `specs/Trace.antt`, `specs/Runs.antt`.
 
-ghost use Rattle.std.specs.Prelude.{◌≡◌, true, ◌+◌, ◌≤◌, ◌++◌, [], drop, length, take, IfErr, IfOk, OnOk, OnErr};
-ghost use Rattle.h2_spec.specs.Opening.{opening_octets};
+ghost use Rattle.std.specs.Prelude.{◌≡◌, true, ◌+◌, ◌≤◌, [], length, take, IfErr, IfOk, OnOk, OnErr};
 ghost use Rattle.h2_spec.specs.State.{opening};
 ghost use Rattle.h2_spec.specs.View.{view};
 ghost use Rattle.h2_conn.specs.Connection.{going, is_allowed};

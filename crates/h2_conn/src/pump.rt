@@ -2,7 +2,7 @@
 //! First the frames are written, as the records will be after a touch, and then the shares are taken, which wants no memory.
 //! Rests on `pieces`, `preview` and `ends`; definition: h2_spec's `specs/Pump.antt`.
 
-ghost use Rattle.std.specs.Prelude.{◌≡◌, ℕ, List, ◌-◌, ◌<◌, ◌≤◌, ◌++◌, IfOk, OnOk, take, vec_len, ◌^◌, pos, ◌-ℤ◌, ◌≤ℤ◌};
+ghost use Rattle.std.specs.Prelude.{◌≡◌, List, ◌-◌, ◌<◌, ◌≤◌, ◌++◌, IfOk, OnOk, take, vec_len, ◌^◌, pos, ◌-ℤ◌, ◌≤ℤ◌};
 ghost use Rattle.h2_request.specs.Lent.{IsPickOf};
 ghost use Rattle.h2_spec.specs.Answer.{Entry, picked};
 ghost use Rattle.h2_spec.specs.Change as changes;

@@ -1,9 +1,8 @@
 //! The frames that are sent, as octets behind `out` (RFC 9113, 4.1 and 6).
 //! Rests on h2_frame; definitions: h2_spec's `specs/Change.antt` for what is sent, `specs/Frame.antt` for its octets.
 
-ghost use Rattle.std.specs.Prelude.{◌≡◌, ℕ, ◌+◌, ◌<◌, ◌≤◌, ◌^◌, ◌++◌, ◌∷◌, [], length, OnOk, OnErr, if◌then◌else◌};
+ghost use Rattle.std.specs.Prelude.{◌≡◌, ◌+◌, ◌<◌, ◌≤◌, ◌^◌, ◌++◌, ◌∷◌, [], length, OnOk, OnErr, if◌then◌else◌};
 ghost use Rattle.h2_spec.specs.Change as changes;
-ghost use Rattle.h2_spec.specs.Errors.{code_number};
 ghost use Rattle.h2_spec.specs.Frame.{frame, frame_octets, frames_octets};
 ghost use Rattle.h2_spec.specs.Octets.{big_endian};
 

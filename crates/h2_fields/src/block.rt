@@ -8,7 +8,6 @@ ghost use Rattle.h2_spec.specs.Block.{Unfinished, StandsWithin, carried_on, deco
 ghost use Rattle.h2_spec.specs.Instruction.{instr_at};
 ghost use Rattle.h2_spec.specs.Read.{More};
 ghost use Rattle.h2_fields.specs.Blocks.{IsAltering, IsFaulted, answer_of, finish_of, progress_of, progress_so_far, taken_by, told, unfinished};
-ghost use Rattle.h2_fields.specs.declared.fault.BlockFault.TheVariants as faults;
 
 use crate::apply::{apply, apply_still};
 use crate::fault::BlockFault;

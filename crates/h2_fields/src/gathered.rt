@@ -1,7 +1,7 @@
 //! The fields that a block has given so far, with what they count (RFC 9113, 6.5.2).
 //! It rests on `field`; contracts see it as the record `FieldsSoFar` of `h2_spec`, specs/Block.antt.
 
-ghost use Rattle.std.specs.Prelude.{◌≡◌, ◌-◌, ◌^◌, [], ◌∷◌, ◌++◌, true, false, not, min, IfOk, OnOk, OnErr};
+ghost use Rattle.std.specs.Prelude.{◌≡◌, ◌-◌, ◌^◌, [], ◌∷◌, ◌++◌, false, not, min, IfOk, OnOk, OnErr};
 ghost use Rattle.h2_spec.specs.Block.{has_fields, list_size};
 ghost use Rattle.h2_spec.specs.Field.{size};
 

@@ -6,7 +6,6 @@ ghost use Rattle.std.specs.Prelude.{◌≡◌, ◌≤◌, length, drop, IfOk};
 ghost use Rattle.h2_spec.specs.Integer.{int_at};
 ghost use Rattle.h2_spec.specs.Instruction as spec;
 ghost use Rattle.h2_spec.specs.Instruction.{mode_prefix};
-ghost use Rattle.h2_spec.specs.Read.{read_map};
 ghost use Rattle.h2_fields.specs.Shapes.{mode_of, string_of, name_of, shape_of, read_of, same_number};
 
 use crate::instruction::Mode;

@@ -1,13 +1,13 @@
 //! The splitter: octets come in pieces of any length, and items are taken from their front (RFC 9113, 3.4, 4.1 and 4.2).
 //! Rests on `head`; definitions: `next` of `h2_spec/specs/Frame.antt`, and `specs/Items.antt` for what a splitter holds.
 
-ghost use Rattle.std.specs.Prelude.{◌≡◌, ℕ, ◌+◌, ◌-◌, ◌≤◌, ◌++◌, [], length, take, drop, vec_len, true, false, nat_eq, IfSome, OnOk, OnErr};
+ghost use Rattle.std.specs.Prelude.{◌≡◌, ℕ, ◌+◌, ◌-◌, ◌≤◌, ◌++◌, [], length, drop, vec_len, true, false, nat_eq, IfSome, OnOk, OnErr};
 ghost use Rattle.std.specs.List.{common_prefix_len};
 ghost use Rattle.std.specs.Option.{option_map};
 ghost use Rattle.std.specs.Borrow.{sem};
 ghost use Rattle.std.specs.Io.BufRead.{Rests};
 ghost use Rattle.h2_spec.specs.Frame.{next, preface, frame_item};
-ghost use Rattle.h2_frame.specs.Items.{item_of, ends_items, found_in, found, item_in, next_in, rest_after};
+ghost use Rattle.h2_frame.specs.Items.{item_of, ends_items, found_in, next_in, rest_after};
 ghost use Rattle.h2_frame.specs.contracts.splitter.Splitter.{the_row};
 
 use crate::cuts::{octets_from, octets_up_to};

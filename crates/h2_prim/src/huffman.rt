@@ -6,7 +6,7 @@ ghost use Rattle.std.specs.Prelude.{◌≡◌, ℕ, ◌+◌, ◌*◌, ◌^◌, �
 ghost use Rattle.std.specs.Vec.{vec_len, vec_capacity};
 ghost use Rattle.h2_spec.specs.HuffmanCode.{bits_of, code};
 ghost use Rattle.h2_spec.specs.Huffman.{bits, huffman_text, spell_huffman, Text, Eos, Padding};
-ghost use Rattle.h2_prim.specs.States.{path_of, Leads, Stands, Tells};
+ghost use Rattle.h2_prim.specs.States.{Leads, Stands, Tells};
 ghost use Rattle.h2_prim.specs.Written.{Written};
 ghost use Rattle.h2_prim.specs.declared.fault.HuffFault.TheVariants as fault;
 

@@ -2,7 +2,7 @@
 //! It rests on nothing; its definitions are `int_at` and `spell_int` of `h2_spec`, specs/Integer.antt, and the law that
 //! these are what the RFC says is `h2_laws::integer_laws`.
 
-ghost use Rattle.std.specs.Prelude.{◌≡◌, ℕ, ◌+◌, ◌-◌, ◌%◌, ◌^◌, ◌<◌, ◌≤◌, ◌++◌, OnOk, OnErr};
+ghost use Rattle.std.specs.Prelude.{◌≡◌, ◌+◌, ◌-◌, ◌%◌, ◌^◌, ◌<◌, ◌≤◌, ◌++◌, OnOk, OnErr};
 ghost use Rattle.std.specs.Vec.{vec_len, vec_capacity};
 ghost use Rattle.h2_spec.specs.Integer.{groups_at, groups_of, int_at, spell_int};
 ghost use Rattle.h2_prim.specs.Answers.{int_read, IsSmall};

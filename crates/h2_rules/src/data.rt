@@ -1,7 +1,7 @@
 //! The rule for DATA (RFC 9113, 6.1 and 6.9).
 //! Rests on `change` and `ends`; definitions: h2_spec's `specs/Data.antt`, and `on_data` of `specs/Effect.antt`.
 
-ghost use Rattle.std.specs.Prelude.{◌≡◌, ℕ, ◌+◌, ◌<◌, ◌≤◌, ◌^◌, true, List, length, pos, ◌≤ℤ◌};
+ghost use Rattle.std.specs.Prelude.{◌≡◌, ℕ, ◌<◌, ◌≤◌, true, List, length, pos, ◌≤ℤ◌};
 ghost use Rattle.h2_spec.specs.Answer.{Entry, picked};
 ghost use Rattle.h2_spec.specs.Data as rule;
 ghost use Rattle.h2_spec.specs.Effect as effect;

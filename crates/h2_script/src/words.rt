@@ -1,7 +1,7 @@
 //! The words of a line: parts between octets, octets in hex, the text of a string.
 //! It rests on `hex`; the definitions are in `h2_spec`, specs/Assemble.antt, under the same names.
 
-ghost use Rattle.std.specs.Prelude.{◌≡◌, ◌≤◌, ◌==◌, ◌<◌, ◌^◌, ◌+◌, length, bytes_eq, drop, take, option_map, position, IfOk, IfSome};
+ghost use Rattle.std.specs.Prelude.{◌≡◌, ◌≤◌, ◌==◌, ◌<◌, ◌+◌, length, bytes_eq, drop, take, option_map, position, IfOk, IfSome};
 ghost use Rattle.std.specs.List.{position_or_len};
 ghost use Rattle.h2_spec.specs.Assemble.{before, behind, octet_at, octets_at, onwards, unescaped};
 ghost use Rattle.h2_spec.specs.Script.{cut_at, is_plain};

@@ -1,7 +1,7 @@
 //! The lines of the text of a connection's state, as values that write themselves.
 //! Rests on `hex_text`; definition: h2_spec's `specs/Show.antt`.
 
-ghost use Rattle.std.specs.Prelude.{◌≡◌, ◌++◌, ◌∷◌, [], codes, decimal, true, Some};
+ghost use Rattle.std.specs.Prelude.{◌≡◌, ◌∷◌, [], codes, decimal, true, Some};
 ghost use Rattle.std.specs.Fmt.{signed_decimal};
 ghost use Rattle.h2_spec.specs.Field.{field};
 ghost use Rattle.h2_spec.specs.Show.{joined, phase_line, phase_text, peer_line, acked_line, goaway_text, block_line, table_line, entry_line, stream_line, stream_line_as, kind_text, option_text, flag_text};
