@@ -269,6 +269,8 @@ impl fmt::Display for StreamLine {
         if is_live(self.0.kind) {
             return f.write(LiveLine(self.0));
         }
-        writeln!(f, "stream {} {}", self.0.id, kind_name(self.0.kind))
+        let id = self.0.id;
+        let kind = kind_name(self.0.kind);
+        writeln!(f, "stream {id} {kind}")
     }
 }
