@@ -4,6 +4,7 @@ use Rattle.std.specs.Result.{OnOk, OnErr, is_ok}
 use Rattle.std.specs.Vec.{vec_len}
 use Rattle.std.proofs.Math.Seq.{take-append_seam}
 use Rattle.std.proofs.lemmas.List.{append-nil, take-append-drop}
+use Rattle.std.proofs.lemmas.Result.{on_ok_weaker}
 
 -- the octets before, where one thing is appended
 before-more : {Z : Type 0} (old : Vec ℕ Z) (a new : List ℕ) → new ≡ old.items ++ a → take (vec_len old) new ≡ old.items
@@ -22,8 +23,7 @@ before-call (Err x) old a new ok err = before-more old [] new (err ∙ sym (appe
 
 -- a call appends behind what was appended
 pub both : {X E : Type 0} (r : Result X E) (old a b mid new : List ℕ) → mid ≡ old ++ a → OnOk r (new ≡ mid ++ b) → OnOk r (new ≡ old ++ (a ++ b))
-both (Ok x) old a b mid new e ok = ok ∙ ap (λ (x : List ℕ). x ++ b) e ∙ append_assoc old a b
-both (Err x) old a b mid new e ok = tt
+both r old a b mid new e = on_ok_weaker r (λ ok. ok ∙ ap (λ (x : List ℕ). x ++ b) e ∙ append_assoc old a b)
 
 -- a slice is appended, or the octets are as they were
 pub extended : {X E : Type 0} (r : Result X E) (mid b new : List ℕ) → new ≡ (if is_ok r then mid ++ b else mid) → OnOk r (new ≡ mid ++ b) × OnErr r (new ≡ mid)
