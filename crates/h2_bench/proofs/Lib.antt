@@ -1,12 +1,9 @@
 pub mod AnswerTexts
 pub mod Assembled
-pub mod Books
-pub mod Built
-pub mod Grammar
 pub mod HexTexts
 pub mod Inputs
-pub mod Numbers
 pub mod Places
 pub mod Played
+pub mod RefusedWords
 pub mod Tables
 pub mod Written

@@ -1,4 +1,4 @@
--- What is told of each place of a new connection is what `play` tells of it.
+-- What is reported of each place of a new connection is what `play` reports of it.
 use Rattle.std.proofs.Common.{◌≡◌, ℕ, List, [], Bool, true, false, ◌∙◌, if◌then◌else◌, inl, sym, ap, ap₂, subst}
 use Rattle.std.proofs.lemmas.List.{append-nil}
 use Rattle.std.specs.List.{concat}
@@ -25,7 +25,7 @@ of-opened book config octets sent c t allowed opened is x =
     subst (λ (b : Bool). OrCutShort (if b then places_run book config octets else []) (if b then done (concat (places_run book config octets)) else failed BadConfig) t) (sym allowed)
     (subst (λ (ps : List (List ℕ)). OrCutShort ps (done (concat ps)) t) same x)
 
--- what is told of a connection that the octets were fed to
+-- what is reported of a connection that the octets were fed to
 whole-played : (book : List Entry) (config : Config) (octets sent : List ℕ) (c : Connection) → is_allowed config ≡ true → Opens book config octets [] c sent
     → done (sent_and_state sent (view c.state)) ≡ told_played false book config octets
 whole-played book config octets sent c allowed x =
@@ -42,7 +42,7 @@ pub told-opened : (each : Bool) (book : List Entry) (config : Config) (octets se
 told-opened true book config octets sent c t allowed opened x =
     let new = new-opened book config sent c opened in
     of-opened book config octets sent c t allowed new.0 new.1 x
-told-opened false book config octets sent c t allowed opened x = inl (x ∙ whole-played book config octets sent c allowed opened)
+told-opened false book config octets sent c t allowed opened x = subst (λ (u : Told). OrCutShort [] u t) (whole-played book config octets sent c allowed opened) x
 
 pub fresh-opened : (each : Bool) (book : List Entry) (config : Config) (octets sent : List ℕ) (c : Connection) → Opens book config (fed_first each octets) [] c sent → each ≡ true → c ≡ going c.state []
 fresh-opened true book config octets sent c opened e =

@@ -46,7 +46,7 @@ told-none : (t : LimitedTable) → told_lines t [] ≡ entry_lines 62 t.table.en
 unfolding told_lines
 told-none t = refl
 
--- a text with what is told of one line more
+-- a text with what is reported of one line more
 pub line-told : (t u : LimitedTable) (text line more a b all : List ℕ) → 0 < length text → line ≡ first_line text → more ≡ behind_line text
     → u ≡ obeyed t (command_of line) → b ≡ a ++ told_of t (command_of line) → a ++ told_lines t (lines_of text) ≡ all → b ++ told_lines u (lines_of more) ≡ all
 line-told t u text line more a b all some l m o p q =

@@ -1,5 +1,5 @@
--- What an output holds after texts were written, and what is told then.
-use Rattle.std.proofs.Common.{◌≡◌, ◌∙◌, ℕ, suc, List, [], ◌∷◌, ◌++◌, false, Option, Some, None, Result, Ok, Err, IfErr, OnOk, take, refl, sym, ap, subst, inl, inr, append_assoc}
+-- What an output holds after texts were written, and what is reported then.
+use Rattle.std.proofs.Common.{◌≡◌, ◌∙◌, ℕ, suc, List, [], ◌∷◌, ◌++◌, false, Option, Some, None, Result, Ok, Err, IfErr, OnOk, Bool, is_err, take, refl, sym, ap, subst, inl, inr, append_assoc}
 use Rattle.std.specs.List.{concat}
 use Rattle.std.specs.Io.KnownBytes.{Appends}
 use Rattle.std.proofs.lemmas.List.{append-nil}
@@ -45,3 +45,9 @@ with-start start items held before after (Err why) well is o e = stopped (start 
     starts : (why : Untold) → Stops items (held ++ start) after why → Stops (start ∷ items) held after why
     starts (Fault fault) x = (x.0, (suc x.1.0, x.1.1 ∙ ap (λ (t : List ℕ). Some t) (append_assoc held start (concat (take x.1.0 items)))))
     starts NotWritten x = tt
+
+-- a text was written whole where no write failed
+pub written-whole : (r : Result (Unit {0}) Untold) (text held : List ℕ) (before after : Option (List ℕ)) (broken : Bool) → broken ≡ is_err r → broken ≡ false → OnOk r (Appends before after text) → before ≡ Some held
+    → (t : List ℕ) × (after ≡ Some (held ++ t)) × OrCutShort [] (done text) (told_after t r)
+written-whole (Ok u) text held before after broken flag well o is = (text, appended held text before after is o, inl refl)
+written-whole (Err why) text held before after broken flag well o is = cc

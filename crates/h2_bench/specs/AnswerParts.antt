@@ -19,7 +19,7 @@ entry_from status parts = entry_with parts.method.now parts.path.now status (bod
 abbrev pub entry_in : Parts → Option Entry
 entry_in parts = entry_from (status_of parts.status.now) parts
 
--- the one refusal: words that say no entry are refused before memory is wanted
+-- the one refusal: words that say no entry are refused before memory is needed
 abbrev pub refusal_of : Option Entry → BenchFault
 refusal_of None = BadAnswer
 refusal_of (Some entry) = NoMemory

@@ -6,11 +6,11 @@ use Rattle.h2_bench.specs.declared.fault.BenchFault.{BenchFault}
 use Rattle.h2_bench.specs.declared.fault.BenchFault.TheVariants.{NoMemory}
 use Rattle.h2_bench.specs.declared.report.Report.{Report}
 
--- what is told by a report
+-- what a report says
 abbrev pub told_by : Report → Told
 told_by r = record { text = string_bytes r.text; status = r.status }
 
--- the same where a fault may stand in its place
+-- the same where a fault may take its place
 abbrev pub seen : Result Report BenchFault → Told
 seen (Ok report) = told_by report
 seen (Err fault) = failed fault

@@ -1,8 +1,10 @@
--- The book of answers that the words of a command line make.
+-- The book of answers of a command: the entries of a file, and behind them those of the words.
 use Rattle.std.specs.Prelude.{ℕ, List, [], ◌∷◌, ◌++◌, Option, Some, None, Result, Ok, Err}
 use Rattle.h2_spec.specs.Answer.{Entry}
 use Rattle.h2_spec.specs.AnswerWords.{entry_of}
 use Rattle.h2_spec.specs.Book.{entry_fault}
+use Rattle.h2_book.specs.Entries.{Directory, book_of_file}
+use Rattle.h2_words.specs.Grammar.{BatchAsked, BookAsked, play, asm, dis, table}
 use Rattle.h2_bench.specs.Faults.{fault_number}
 use Rattle.h2_bench.specs.declared.fault.BenchFault.TheVariants.{BadAnswer}
 
@@ -32,12 +34,18 @@ unfolding with_answer
 book_of book [] = Ok book
 book_of book (word ∷ words) = unless_refused (with_answer book word) (λ more. book_of more words)
 
--- the number of the fault, if there is one
-abbrev pub fault_of : Result (List Entry) ℕ → Option ℕ
-fault_of (Ok book) = None
-fault_of (Err fault) = Some fault
+-- the entries of a file; none where its path is empty
+unfoldable pub book_filed : Directory → List ℕ → Result (List Entry) ℕ
+book_filed files [] = Ok []
+book_filed files (octet ∷ octets) = book_of_file files (octet ∷ octets) []
 
--- the book, if there is one
-abbrev pub entries_of : Result (List Entry) ℕ → List Entry
-entries_of (Ok book) = book
-entries_of (Err fault) = []
+-- the entries of the file come first, then those of the words
+abbrev pub book_said : Directory → BookAsked → Result (List Entry) ℕ
+book_said files book = unless_refused (book_filed files book.file) (λ entries. book_of entries book.answers)
+
+-- the book of a command
+abbrev pub book_in : Directory → BatchAsked → Result (List Entry) ℕ
+book_in files (play config cut each book) = book_said files book
+book_in files asm = Ok []
+book_in files dis = Ok []
+book_in files (table limit) = Ok []

@@ -1,4 +1,4 @@
--- What a command of `table` stands for.
+-- What a command of `table` represents.
 use Rattle.h2_bench.specs.TableProgram.{Command, Add, Max}
 use Rattle.h2_bench.specs.declared.table.TableCommand.{TableCommand}
 use Rattle.h2_bench.specs.declared.table.TableCommand.TheVariants as code

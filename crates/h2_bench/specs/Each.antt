@@ -1,4 +1,4 @@
--- A run that is told place by place, and written as it is made.
+-- A run that is reported place by place, and written as it is made.
 use Rattle.std.specs.Prelude.{◌≡◌, ℕ, ◌++◌, Bool, true, false, List, [], Option, Some, None, Result, Ok, Err, take}
 use Rattle.std.specs.List.{concat}
 use Rattle.h2_spec.specs.Frame.{frames_octets}
@@ -38,7 +38,7 @@ not_written (Ok u) = false
 not_written (Err (Fault fault)) = false
 not_written (Err NotWritten) = true
 
--- what is told in all, where a text was written and then it ended so
+-- what is reported in all, where a text was written and then it ended so
 abbrev pub told_after : List ℕ → Result (Unit {0}) Untold → Told
 told_after text (Ok u) = done text
 told_after text (Err (Fault fault)) = failed_after text fault
@@ -48,12 +48,12 @@ told_after text (Err NotWritten) = record { text = text; status = 3 }
 abbrev pub WritesSome : (Told → Type 0) → Result (Unit {0}) Untold → Option (List ℕ) → Option (List ℕ) → Type 0
 WritesSome is_such ended before after = (held : List ℕ) → before ≡ Some held → (text : List ℕ) × (after ≡ Some (held ++ text)) × is_such (told_after text ended)
 
--- what is fed to a connection before it is told
+-- what is fed to a connection before it is reported
 abbrev pub fed_first : Bool → List ℕ → List ℕ
 fed_first true octets = []
 fed_first false octets = octets
 
--- what is told of a state, for which this was sent: the places of its run over the octets, or some first of them; or what was sent, and the state
+-- what is reported of a state, for which this was sent: the places of its run over the octets, or some first of them; or what was sent, and the state
 abbrev pub TellsRun : Bool → State → List ℕ → List ℕ → Told → Type 0
 TellsRun true s sent octets t = let places = places_from (item_text 0 sent (view s)) s octets in OrCutShort places (done (concat places)) t
-TellsRun false s sent octets t = t ≡ done (sent_and_state sent (view s))
+TellsRun false s sent octets t = OrCutShort [] (done (sent_and_state sent (view s))) t

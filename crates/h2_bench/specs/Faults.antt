@@ -1,8 +1,8 @@
--- The faults of programs: their numbers, and the line that tells one.
+-- The faults of programs: their numbers, and the line that reports one.
 use Rattle.std.specs.Prelude.{ℕ, List, [], ◌∷◌, codes, decimal}
 use Rattle.h2_spec.specs.Show.{joined}
 use Rattle.h2_bench.specs.declared.fault.BenchFault.{BenchFault}
-use Rattle.h2_bench.specs.declared.fault.BenchFault.TheVariants.{NoMemory, BadStatus, BadField, BodyNotAllowed, TooLong, BadConfig, Read, BadHex, BadAnswer, BadCommand}
+use Rattle.h2_bench.specs.declared.fault.BenchFault.TheVariants.{NoMemory, BadStatus, BadField, BodyNotAllowed, TooLong, BadConfig, Read, BadHex, BadAnswer, BadCommand, Socket}
 
 abbrev pub fault_number : BenchFault → ℕ
 fault_number NoMemory = 0
@@ -15,6 +15,7 @@ fault_number Read = 22
 fault_number BadHex = 25
 fault_number BadAnswer = 26
 fault_number BadCommand = 27
+fault_number Socket = 28
 
 -- the line of the fault with this number
 unfoldable pub fault_line : ℕ → List ℕ

@@ -26,6 +26,6 @@ octets_in (Err fault) = None
 abbrev pub octets_spelled : List ℕ → Option (List ℕ)
 octets_spelled text = octets_in (decode_of (filter is_digit text))
 
--- text that is no hex is refused for that, and other text for want of memory alone
+-- text that is no hex is refused for that, and other text only where it runs out of memory
 abbrev pub IsNoHex : Option (List ℕ) → BenchFault → Type 0
 IsNoHex spelled fault = ((fault ≡ NoMemory) × (is_some spelled ≡ true)) ⊎ ((fault ≡ BadHex) × (spelled ≡ None))

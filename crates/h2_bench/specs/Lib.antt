@@ -1,14 +1,13 @@
 pub mod AnswerParts
 pub mod Answers
 pub mod Books
-pub mod Built
 pub mod Commands
 pub mod Each
 pub mod Ends
 pub mod Faults
-pub mod Grammar
 pub mod Input
-pub mod Plans
+pub mod Limits
+pub mod Pieces
 pub mod ScriptPrograms
 pub mod TableProgram
 pub mod Tell

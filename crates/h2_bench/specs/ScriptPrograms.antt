@@ -10,7 +10,7 @@ use Rattle.h2_spec.specs.declared.scripts.SyntaxKind.{SyntaxKind}
 use Rattle.h2_bench.specs.Tell.{Told, done, failed}
 use Rattle.h2_bench.specs.declared.fault.BenchFault.TheVariants.{Read, BadHex}
 
--- the line that tells the first bad line of a script, counted from 1, and the least kind of fault in it
+-- the line that reports the first bad line of a script, counted from 1, and the least kind of fault in it
 unfoldable pub syntax_line : ℕ → SyntaxKind → List ℕ
 syntax_line line kind = joined (codes "fault 18 " ∷ decimal line ∷ codes " " ∷ decimal (kind_number kind) ∷ codes "\n" ∷ [])
 

@@ -20,7 +20,7 @@ pub data Command : Type 0 where
 abbrev pub behind : List ℕ → List ℕ → Option (List ℕ)
 behind word text = if bytes_eq (take (length word) text) word then Some (drop (length word) text) else None
 
--- what stands before the first space, and what behind it
+-- what precedes the first space, and what follows it
 abbrev pub cut_at : Option ℕ → List ℕ → Option Command
 cut_at None text = None
 cut_at (Some at) text = Some (Add (take at text) (drop (at + 1) text))

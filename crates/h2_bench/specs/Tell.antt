@@ -1,4 +1,4 @@
--- What a program tells: a text and an exit status.
+-- What a program reports: a text and an exit status.
 use Rattle.std.specs.Prelude.{◌≡◌, ◌⊎◌, ◌++◌, ℕ, List, take}
 use Rattle.std.specs.List.{concat}
 use Rattle.h2_bench.specs.Faults.{fault_line, fault_number}
@@ -23,7 +23,7 @@ failed fault = refused (fault_number fault)
 abbrev pub failed_after : List ℕ → BenchFault → Told
 failed_after text fault = record { text = text ++ fault_line (fault_number fault); status = 1 }
 
--- so many first places of those that are told, each whole, and then memory was refused
+-- so many first places of those that are reported, each whole, and then memory was refused
 abbrev pub cut_short : ℕ → List (List ℕ) → Told
 cut_short count places = failed_after (concat (take count places)) NoMemory
 

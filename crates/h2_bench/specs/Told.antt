@@ -1,5 +1,5 @@
 -- What the programs tell of their input: a text and an exit status.
-use Rattle.std.specs.Prelude.{ℕ, ◌+◌, ◌++◌, Bool, true, false, List, [], ◌∷◌, length, codes, decimal, nat_lt, if◌then◌else◌, Option, Some, None}
+use Rattle.std.specs.Prelude.{ℕ, ◌+◌, ◌++◌, Bool, true, false, List, [], ◌∷◌, length, codes, decimal, nat_lt, if◌then◌else◌, Option, Some, None, Result, Ok, Err}
 use Rattle.std.specs.List.{concat}
 use Rattle.hex.specs.Hex.{encode_lower}
 use Rattle.h2_conn.specs.Connection.{is_allowed}
@@ -11,8 +11,9 @@ use Rattle.h2_spec.specs.Frame.{frames_octets}
 use Rattle.h2_spec.specs.Trace.{Event, sent_octets, trace}
 use Rattle.h2_spec.specs.View.{View, view}
 use Rattle.h2_spec.specs.Show.{joined, octets_text, show}
-use Rattle.h2_bench.specs.Books.{book_of, entries_of, fault_of}
-use Rattle.h2_bench.specs.Grammar.{Asked, play, asm, dis, table}
+use Rattle.h2_bench.specs.Books.{book_in}
+use Rattle.h2_book.specs.Entries.{Directory}
+use Rattle.h2_words.specs.Grammar.{BatchAsked, play, asm, dis, table}
 use Rattle.h2_bench.specs.Input.{most, octets_spelled}
 use Rattle.h2_bench.specs.ScriptPrograms.{told_asm, told_dis}
 use Rattle.h2_bench.specs.TableProgram.{table_text}
@@ -33,7 +34,7 @@ unfolding item_text
 item_texts place [] = []
 item_texts place (e ∷ es) = item_text place (frames_octets e.sent) (view e.state) ∷ item_texts (place + 1) es
 
--- each place of a run over octets: its start, of which this is told, and then its items
+-- each place of a run over octets: its start, of which this is reported, and then its items
 abbrev pub places_from : List ℕ → State → List ℕ → List (List ℕ)
 places_from start s octets = start ∷ item_texts 1 (trace s octets).events
 
@@ -56,7 +57,7 @@ abbrev pub told_play : Bool → List Entry → Config → Option (List ℕ) → 
 told_play each book config None = failed BadHex
 told_play each book config (Some octets) = told_played each book config octets
 
--- the places that are written one after another while they are made: those of a run of which each place is told
+-- the places that are written one after another while they are made: those of a run of which each place is reported
 abbrev pub places_played : Bool → List Entry → Config → List ℕ → List (List ℕ)
 places_played false book config octets = []
 places_played true book config octets = if is_allowed config then places_run book config octets else []
@@ -65,51 +66,37 @@ abbrev pub places_play : Bool → List Entry → Config → Option (List ℕ) �
 places_play each book config None = []
 places_play each book config (Some octets) = places_played each book config octets
 
--- the book of a command's answers
-abbrev pub book_for : Asked → List Entry
-book_for (play config cut each answers) = entries_of (book_of [] answers)
-book_for asm = []
-book_for dis = []
-book_for (table limit) = []
-
-abbrev pub told : Asked → List ℕ → Told
-told (play config cut each answers) input = told_play each (book_for (play config cut each answers)) config (octets_spelled input)
-told asm input = told_asm input
-told dis input = told_dis (octets_spelled input)
-told (table limit) input = done (table_text limit input)
+abbrev pub told : List Entry → BatchAsked → List ℕ → Told
+told book (play config cut each said) input = told_play each book config (octets_spelled input)
+told book asm input = told_asm input
+told book dis input = told_dis (octets_spelled input)
+told book (table limit) input = done (table_text limit input)
 
 -- the places of a command: those of `play` alone
-abbrev pub places : Asked → List ℕ → List (List ℕ)
-places (play config cut each answers) input = places_play each (book_for (play config cut each answers)) config (octets_spelled input)
-places asm input = []
-places dis input = []
-places (table limit) input = []
-
--- the fault that is found before anything is read: that of the first bad answer
-abbrev pub early_fault : Asked → Option ℕ
-early_fault (play config cut each answers) = fault_of (book_of [] answers)
-early_fault asm = None
-early_fault dis = None
-early_fault (table limit) = None
+abbrev pub places : List Entry → BatchAsked → List ℕ → List (List ℕ)
+places book (play config cut each said) input = places_play each book config (octets_spelled input)
+places book asm input = []
+places book dis input = []
+places book (table limit) input = []
 
 -- an input that is too long is not read
-abbrev pub told_read : Asked → List ℕ → Told
-told_read asked input = if nat_lt most (length input) then failed Read else told asked input
+abbrev pub told_read : List Entry → BatchAsked → List ℕ → Told
+told_read book asked input = if nat_lt most (length input) then failed Read else told book asked input
 
-abbrev pub places_read : Asked → List ℕ → List (List ℕ)
-places_read asked input = if nat_lt most (length input) then [] else places asked input
+abbrev pub places_read : List Entry → BatchAsked → List ℕ → List (List ℕ)
+places_read book asked input = if nat_lt most (length input) then [] else places book asked input
 
--- unless a fault was found before
-abbrev pub unless_found : Option ℕ → Told → Told
-unless_found (Some fault) t = refused fault
-unless_found None t = t
+-- the fault of the book is found before anything is read
+abbrev pub told_with : Result (List Entry) ℕ → BatchAsked → List ℕ → Told
+told_with (Err fault) asked input = refused fault
+told_with (Ok book) asked input = told_read book asked input
 
-abbrev pub told_within : Asked → List ℕ → Told
-told_within asked input = unless_found (early_fault asked) (told_read asked input)
+abbrev pub told_within : Directory → BatchAsked → List ℕ → Told
+told_within files asked input = told_with (book_in files asked) asked input
 
-abbrev pub places_unless_found : Option ℕ → List (List ℕ) → List (List ℕ)
-places_unless_found (Some fault) ps = []
-places_unless_found None ps = ps
+abbrev pub places_with : Result (List Entry) ℕ → BatchAsked → List ℕ → List (List ℕ)
+places_with (Err fault) asked input = []
+places_with (Ok book) asked input = places_read book asked input
 
-abbrev pub places_within : Asked → List ℕ → List (List ℕ)
-places_within asked input = places_unless_found (early_fault asked) (places_read asked input)
+abbrev pub places_within : Directory → BatchAsked → List ℕ → List (List ℕ)
+places_within files asked input = places_with (book_in files asked) asked input

@@ -29,11 +29,11 @@ struct Parts<'a> {
 /// The entry of the book that the words say: METHOD|PATH|STATUS|BODYHEX|NAME=VALUE|..
 ///
 /// METHOD and PATH are any octets but a bar, STATUS three decimal digits, BODYHEX pairs of hex digits in either case or nothing, and each further
-/// part a field, cut at its first `=`. Whether a book takes the entry is told by `Book::add` alone.
+/// part a field, cut at its first `=`. Whether a book takes the entry is reported by `Book::add` alone.
 ///
 /// # Errors
 ///
-/// `BadAnswer` where the words say no entry, which is found before memory is wanted; `NoMemory` where they say one and memory is refused.
+/// `BadAnswer` where the words say no entry, which is found before memory is needed; `NoMemory` where they say one and memory is refused.
 pub fn parse_answer(alloc: Global, text: &str) -> Result<Entry<Global>, BenchFault>
     ensures said { IfOk result (λ entry. words.entry_of text.now ≡ Some entry) }
     ensures refused { IfErr result (λ fault. fault ≡ refusal_of (words.entry_of text.now)) }
@@ -44,7 +44,7 @@ pub fn parse_answer(alloc: Global, text: &str) -> Result<Entry<Global>, BenchFau
     }
 }
 
-/// The entry of these parts; `BadAnswer` where they are not what they have to be, which is found before memory is wanted.
+/// The entry of these parts; `BadAnswer` where they are not what they have to be, which is found before memory is needed.
 fn entry_of(alloc: Global, parts: Parts<'_>) -> Result<Entry<Global>, BenchFault>
     ensures said { IfOk result (λ entry. entry_in parts.entry ≡ Some entry) }
     ensures refused { IfErr result (λ fault. fault ≡ refusal_of (entry_in parts.entry)) }
@@ -189,7 +189,7 @@ fn field_from(alloc: Global, name: &[u8], value: &[u8]) -> Result<Field<Global>,
     Ok(Field::new(name.to_vec(alloc)?, value.to_vec(alloc)?))
 }
 
-/// NAME=VALUE: what stands before the first `=`, and behind it.
+/// NAME=VALUE: what precedes the first `=`, and what follows it.
 fn field_in(part: &[u8]) -> Option<(&[u8], &[u8])>
     ensures { option_map (λ p. field p.0.now p.1.now) result ≡ words.field_of part.now }
 {

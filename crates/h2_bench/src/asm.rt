@@ -1,7 +1,7 @@
 //! The program `asm`: the octets of a script, as hex.
 //! Rests on h2_script and the crate `hex`; definitions: `specs/ScriptPrograms.antt`.
 
-ghost use Rattle.std.specs.Prelude.{◌≡◌, IfOk};
+ghost use Rattle.std.specs.Prelude.{◌≡◌, ◌<◌, IfOk};
 ghost use Rattle.std.specs.String.{string_bytes};
 ghost use Rattle.h2_bench.specs.Answers.{Gives};
 ghost use Rattle.h2_bench.specs.ScriptPrograms.{hex_line, syntax_line, told_asm};
@@ -21,7 +21,7 @@ fn hex_line(alloc: Global, octets: &[u8]) -> Result<String, AllocError>
     format!(in alloc; "{digits}\n")
 }
 
-/// The line that tells the first bad line of a script, and the least kind of fault in it.
+/// The line that reports the first bad line of a script, and the least kind of fault in it.
 #[tactic(auto, unfolding(crate::specs::ScriptPrograms::syntax_line))]
 fn syntax_line(alloc: Global, line: usize, kind: SyntaxKind) -> Result<String, AllocError>
     ensures { IfOk result (λ text. string_bytes text ≡ syntax_line line kind) }
@@ -34,7 +34,8 @@ fn syntax_line(alloc: Global, line: usize, kind: SyntaxKind) -> Result<String, A
 ///
 /// `Read` where the input is not UTF-8, `NoMemory` where memory is refused.
 pub fn asm_report(alloc: Global, input: &[u8]) -> Result<Report, BenchFault>
-    ensures { Gives result (told_asm input.now) }
+    ensures status { IfOk result (λ report. report.status < 3) }
+    ensures gives { Gives result (told_asm input.now) }
 {
     let Ok(text) = str::from_utf8(input) else {
         return Err(BenchFault::Read);

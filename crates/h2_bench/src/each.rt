@@ -1,7 +1,10 @@
-//! A connection that is told place by place: the start, and then each item. What is told is written as it is made, so that its text takes no memory.
-//! Rests on `device` and h2_conn; definitions: `specs/Told.antt`, `specs/Each.antt`.
+//! A connection that is reported place by place: the start, and then each item. What is reported is written as it is made, so that its text takes no memory.
+//! Rests on h2_device and h2_conn; definitions: `specs/Told.antt`, `specs/Each.antt`.
 
-ghost use Rattle.std.specs.Prelude.{◌≡◌, ◌≤◌, ◌<◌, ◌^◌, ◌++◌, ℕ, List, [], Some, false, drop, length, IfOk, IfErr, OnOk};
+ghost use Rattle.std.specs.Prelude.{◌≡◌, ◌⊎◌, ◌≤◌, ◌<◌, ◌^◌, ◌++◌, ℕ, List, [], Some, false, drop, length, IfOk, IfErr, OnOk, is_err, string_bytes};
+ghost use Rattle.std.specs.Io.KnownBytes.{Appends};
+ghost use Rattle.h2_bench.specs.declared.each.Untold.TheVariants.{Fault, NotWritten};
+ghost use Rattle.h2_bench.specs.declared.fault.BenchFault.TheVariants.{NoMemory};
 ghost use Rattle.std.specs.List.{concat};
 ghost use Rattle.h2_spec.specs.Trace.{trace};
 ghost use Rattle.h2_spec.specs.View.{view};
@@ -9,12 +12,12 @@ ghost use Rattle.h2_conn.specs.Connection.{going};
 ghost use Rattle.h2_bench.specs.Each.{Stops, TakesNext, WritesSome, not_written};
 ghost use Rattle.h2_bench.specs.Told.{OrCutShort, done, item_text, item_texts, places_from};
 
-use crate::device::write_text;
 use crate::fault::BenchFault;
 use h2_conn::Conn;
+use h2_device::Output;
 use h2_text::hex_text::OctetsText;
-use std::alloc::Global;
-use std::{fmt, io};
+use std::alloc::{AllocError, Global};
+use std::fmt;
 
 /// Why places were not all written.
 #[derive(Clone, Copy)]
@@ -59,6 +62,53 @@ fn octets_from(octets: &[u8], start: usize) -> &[u8]
     &octets[start..]
 }
 
+/// Writes a text, or says that it was not written.
+pub fn write_text<O: Output>(output: &mut O, text: &str) -> Result<(), Untold>
+    ensures octets { OnOk result (Appends (O.written output.old) (O.written output.new) text.now) }
+    ensures err { IfErr result (λ why. why ≡ NotWritten) }
+    ensures flag { O.has_failed output.new ≡ is_err result }
+    ensures name { O.name output.new ≡ O.name output.old }
+{
+    match output.write(text.as_bytes()) {
+        Ok(()) => Ok(()),
+        Err(_) => Err(Untold::NotWritten),
+    }
+}
+
+/// The text of a place, whole before any of it is written, so that running out of memory cuts no place.
+fn place_text(
+    alloc: Global,
+    place: usize,
+    sent: &[u8],
+    conn: &Conn<'_, Global>,
+) -> Result<String, AllocError>
+    ensures { IfOk result (λ text. string_bytes text ≡ item_text place sent.now (view conn.now.state)) }
+{
+    PlaceText { place, sent, conn }.to_string(alloc)
+}
+
+/// Writes the text of a place, which is made whole before any of it is written.
+///
+/// `Fault` where memory for the text is refused: nothing is written. `NotWritten` where the write failed.
+fn write_place<O: Output>(
+    alloc: Global,
+    output: &mut O,
+    place: usize,
+    sent: &[u8],
+    conn: &Conn<'_, Global>,
+) -> Result<(), Untold>
+    requires { O.has_failed output.old ≡ false }
+    ensures octets { OnOk result (Appends (O.written output.old) (O.written output.new) (item_text place sent.now (view conn.now.state))) }
+    ensures err { IfErr result (λ why. (why ≡ NotWritten) ⊎ ((why ≡ Fault NoMemory) × (O.written output.new ≡ O.written output.old))) }
+    ensures flag { O.has_failed output.new ≡ not_written result }
+    ensures name { O.name output.new ≡ O.name output.old }
+{
+    match place_text(alloc, place, sent, conn) {
+        Ok(text) => write_text(output, text.as_str()),
+        Err(_) => Err(Untold::Fault(BenchFault::NoMemory)),
+    }
+}
+
 /// Takes the next item of the octets; `None` where there is none.
 fn take_next(
     alloc: Global,
@@ -80,24 +130,24 @@ fn take_next(
     Ok(Some(Taken { used, sent }))
 }
 
-/// Takes and tells each item of a connection over the octets, from place 1 on.
+/// Takes and reports each item of a connection over the octets, from place 1 on.
 ///
 /// `Fault` where memory is refused: some first items were told. `NotWritten` where a write failed.
-fn write_items<W: io::Write>(
+fn write_items<O: Output>(
     alloc: Global,
     conn: &mut Conn<'_, Global>,
     octets: &[u8],
-    output: &mut W,
-    output_failed: &mut bool,
+    output: &mut O,
 ) -> Result<(), Untold>
     requires new { conn.old ≡ going conn.old.state [] }
     requires few { length octets.now < 2 ^ 63 }
-    requires writer { output_failed.old ≡ false }
+    requires writer { O.has_failed output.old ≡ false }
     ensures told { let items = item_texts 1 (trace conn.old.state octets.now).events in
-        OnOk result ((held : List ℕ) → W.contents output.old ≡ Some held → W.contents output.new ≡ Some (held ++ concat items)) }
+        OnOk result ((held : List ℕ) → O.written output.old ≡ Some held → O.written output.new ≡ Some (held ++ concat items)) }
     ensures cut { let items = item_texts 1 (trace conn.old.state octets.now).events in
-        IfErr result (λ why. (held : List ℕ) → W.contents output.old ≡ Some held → Stops items held (W.contents output.new) why) }
-    ensures flag { output_failed.new ≡ not_written result }
+        IfErr result (λ why. (held : List ℕ) → O.written output.old ≡ Some held → Stops items held (O.written output.new) why) }
+    ensures flag { O.has_failed output.new ≡ not_written result }
+    ensures name { O.name output.new ≡ O.name output.old }
 {
     let mut at = 0usize;
     let mut place = 0usize;
@@ -107,10 +157,10 @@ fn write_items<W: io::Write>(
                 at += taken.used;
                 place += 1;
                 let sent = taken.sent.as_slice();
-                let text = PlaceText { place, sent, conn };
-                let Ok(()) = write_text(output, output_failed, text) else {
-                    return Err(Untold::NotWritten);
-                };
+                match write_place(alloc, output, place, sent, conn) {
+                    Ok(()) => {}
+                    Err(why) => return Err(why),
+                }
             }
             Ok(None) => return Ok(()),
             Err(_) => return Err(Untold::Fault(BenchFault::NoMemory)),
@@ -121,25 +171,24 @@ fn write_items<W: io::Write>(
 /// Tells the start of a connection, for which these octets were sent, and each of its items.
 ///
 /// `Fault` where memory is refused: some first places were written. `NotWritten` where a write failed.
-pub fn write_places<W: io::Write>(
+pub fn write_places<O: Output>(
     alloc: Global,
     conn: &mut Conn<'_, Global>,
     sent: &[u8],
     octets: &[u8],
-    output: &mut W,
-    output_failed: &mut bool,
+    output: &mut O,
 ) -> Result<(), Untold>
     requires new { conn.old ≡ going conn.old.state [] }
     requires few { length octets.now < 2 ^ 63 }
-    requires writer { output_failed.old ≡ false }
-    ensures told { output_failed.new ≡ false → let places = places_from (item_text 0 sent.now (view conn.old.state)) conn.old.state octets.now in
-        WritesSome (OrCutShort places (done (concat places))) result (W.contents output.old) (W.contents output.new) }
-    ensures flag { output_failed.new ≡ not_written result }
+    requires writer { O.has_failed output.old ≡ false }
+    ensures told { O.has_failed output.new ≡ false → let places = places_from (item_text 0 sent.now (view conn.old.state)) conn.old.state octets.now in
+        WritesSome (OrCutShort places (done (concat places))) result (O.written output.old) (O.written output.new) }
+    ensures flag { O.has_failed output.new ≡ not_written result }
+    ensures name { O.name output.new ≡ O.name output.old }
 {
     let place = 0;
-    let start = PlaceText { place, sent, conn };
-    match write_text(output, output_failed, start) {
-        Ok(()) => write_items(alloc, conn, octets, output, output_failed),
-        Err(_) => Err(Untold::NotWritten),
+    match write_place(alloc, output, place, sent, conn) {
+        Ok(()) => write_items(alloc, conn, octets, output),
+        Err(why) => Err(why),
     }
 }

@@ -1,123 +1,143 @@
-//! A command, from its words and its input to its output and the exit status.
-//! Rests on `command`, `input`, `play`, `asm`, `dis`, `table` and `device`; definitions: `specs/Told.antt`, `specs/Ends.antt`.
+//! A command, from its words and its input to its output and the exit status. Rests on `books`, `input`, `play`,
+//! `asm`, `dis`, `table`, h2_session and h2_device; definitions: `specs/Told.antt`, `specs/Ends.antt`.
 
-ghost use Rattle.std.specs.Prelude.{◌≡◌, ◌⊎◌, ◌++◌, ℕ, List, Some, None, true, false, IfOk, IfErr};
+ghost use Rattle.std.specs.Prelude.{◌≡◌, ◌==◌, ◌<◌, ◌⊎◌, ◌++◌, ℕ, Bool, List, Some, None, Ok, Err, true, false, IfOk, IfErr, OnOk};
+ghost use Rattle.h2_spec.specs.declared.connection.Config.{Config};
+ghost use Rattle.h2_words.specs.Grammar.{BatchAsked, BookAsked, asked_of, batch, debug};
+ghost use Rattle.h2_words.specs.Plans.{batch_asked, book_asked};
 ghost use Rattle.h2_bench.specs.Answers.{Gives, seen};
+ghost use Rattle.h2_bench.specs.Books.{book_in};
 ghost use Rattle.h2_bench.specs.Each.{not_written, told_after};
-ghost use Rattle.h2_bench.specs.Ends.{Ends, EndsSomehow, Tells, TellsRefusal, TellsSome};
-ghost use Rattle.h2_bench.specs.Grammar.{Asked, asked_of};
-ghost use Rattle.h2_bench.specs.Plans.{planned};
+ghost use Rattle.h2_bench.specs.Ends.{Ends, EndsServe, EndsSession, EndsSomehow, KnowsFile, Tells, TellsRefusal, TellsSome, asks_why, asks_why_batch, file_of, is_reader, is_serve, no_files};
 ghost use Rattle.h2_bench.specs.Faults.{fault_number};
 ghost use Rattle.h2_bench.specs.Input.{octets_spelled};
 ghost use Rattle.h2_bench.specs.TableProgram.{table_text};
-ghost use Rattle.h2_bench.specs.Told.{OrCutShort, book_for, done, early_fault, failed, places, places_play, told, told_play};
+ghost use Rattle.h2_bench.specs.Told.{OrCutShort, done, failed, places, places_play, told, told_play};
 ghost use Rattle.h2_bench.specs.declared.fault.BenchFault.TheVariants.{NoMemory};
 
 use crate::asm::asm_report;
-use crate::command::{Plan, Play, Refusal, parse};
-use crate::device::write_text;
+use crate::books::book_for_words;
 use crate::dis::dis_text;
-use crate::each::Untold;
+use crate::each::{Untold, write_text};
 use crate::fault::BenchFault;
 use crate::input::read_all;
-use crate::play::{book_of, write_play};
+use crate::play::write_play;
 use crate::report::{Report, whole};
 use crate::table::table_text;
-use crate::words::Words;
+use h2_book::{Files, FilesInMemory};
+use h2_device::{FromRead, Input, IntoWrite, Output};
 use h2_request::book::Book;
+use h2_session::debug_session;
+use h2_words::Words;
+use h2_words::command::{Batch, Debug, Plan, Play, Refusal, parse};
 use std::alloc::Global;
+use std::io;
 use std::io::{Read, Write};
 
-/// The book of a command's answers.
-fn book_for(alloc: Global, plan: &Plan<'_>) -> Result<Book<Global>, BenchFault>
-    ensures ok { IfOk result (λ book. (book ≡ book_for (planned plan.now)) × (early_fault (planned plan.now) ≡ None)) }
-    ensures err { IfErr result (λ fault. (fault ≡ NoMemory) ⊎ (early_fault (planned plan.now) ≡ Some (fault_number fault))) }
+/// The book of a command; a sentence is written to `errors` where an entry is refused and the reason was asked for.
+fn book_for<F: Files, E: Output>(
+    alloc: Global,
+    batch: &Batch<'_>,
+    files: &mut F,
+    errors: &mut E,
+) -> Result<Book<Global>, BenchFault>
+    ensures ok { KnowsFile (file_of (batch_asked batch.now)) (F.is_told files.old)
+        → IfOk result (λ book. book_in (F.file files.old) (batch_asked batch.now) ≡ Ok book) }
+    ensures err { KnowsFile (file_of (batch_asked batch.now)) (F.is_told files.old)
+        → IfErr result (λ fault. (fault ≡ NoMemory)
+        ⊎ (book_in (F.file files.old) (batch_asked batch.now) ≡ Err (fault_number fault))) }
+    ensures calm { OnOk result (errors.new ≡ errors.old) }
+    ensures quiet { asks_why_batch (batch_asked batch.now) ≡ false → errors.new ≡ errors.old }
+    ensures name { E.name errors.new ≡ E.name errors.old }
 {
-    match plan {
-        Plan::Play(play) => book_of(alloc, play.answers.as_slice()),
-        Plan::Asm | Plan::Dis | Plan::Table(_) => Ok(Book::new(alloc)),
+    match batch {
+        Batch::Play(play) => book_for_words(alloc, &play.book, files, errors),
+        Batch::Asm | Batch::Dis | Batch::Table(_) => Ok(Book::new(alloc)),
     }
 }
 
 /// Writes a text, and gives its status, or 3 where that failed.
-fn tell<W: Write>(output: &mut W, output_failed: &mut bool, text: &str, status: u8) -> u8
-    requires { output_failed.old ≡ false }
-    ensures told { output_failed.new ≡ false → (held : List ℕ) → W.contents output.old ≡ Some held
-        → Tells (record { text = text.now; status = status }) held (W.contents output.new) result }
-    ensures failed { (output_failed.new ≡ false) ⊎ ((output_failed.new ≡ true) × (result ≡ 3)) }
+fn tell<O: Output>(output: &mut O, text: &str, status: u8) -> u8
+    requires writer { O.has_failed output.old ≡ false }
+    requires status { status < 3 }
+    ensures told { O.has_failed output.new ≡ false → (held : List ℕ) → O.written output.old ≡ Some held
+        → Tells (record { text = text.now; status = status }) held (O.written output.new) result }
+    ensures flag { O.has_failed output.new ≡ (result == 3) }
+    ensures name { O.name output.new ≡ O.name output.old }
 {
-    match write_text(output, output_failed, text) {
+    match write_text(output, text) {
         Ok(()) => status,
         Err(_) => 3,
     }
 }
 
 /// Writes the line of a fault, and gives status 1, or 3 where that failed.
-fn tell_fault<W: Write>(output: &mut W, output_failed: &mut bool, fault: BenchFault) -> u8
-    requires { output_failed.old ≡ false }
-    ensures told { output_failed.new ≡ false → (held : List ℕ) → W.contents output.old ≡ Some held
-        → Tells (failed fault) held (W.contents output.new) result }
-    ensures failed { (output_failed.new ≡ false) ⊎ ((output_failed.new ≡ true) × (result ≡ 3)) }
+fn tell_fault<O: Output>(output: &mut O, fault: BenchFault) -> u8
+    requires { O.has_failed output.old ≡ false }
+    ensures told { O.has_failed output.new ≡ false → (held : List ℕ) → O.written output.old ≡ Some held
+        → Tells (failed fault) held (O.written output.new) result }
+    ensures flag { O.has_failed output.new ≡ (result == 3) }
+    ensures name { O.name output.new ≡ O.name output.old }
 {
-    tell(output, output_failed, fault.line(), 1)
+    tell(output, fault.line(), 1)
 }
 
 /// Writes an answer: a text with its status, or the line of a fault with status 1.
-fn tell_answer<W: Write>(
-    output: &mut W,
-    output_failed: &mut bool,
-    answer: Result<Report, BenchFault>,
-) -> u8
-    requires { output_failed.old ≡ false }
-    ensures told { output_failed.new ≡ false → (held : List ℕ) → W.contents output.old ≡ Some held
-        → Tells (seen answer) held (W.contents output.new) result }
-    ensures failed { (output_failed.new ≡ false) ⊎ ((output_failed.new ≡ true) × (result ≡ 3)) }
+fn tell_answer<O: Output>(output: &mut O, answer: Result<Report, BenchFault>) -> u8
+    requires writer { O.has_failed output.old ≡ false }
+    requires status { IfOk answer (λ report. report.status < 3) }
+    ensures told { O.has_failed output.new ≡ false → (held : List ℕ) → O.written output.old ≡ Some held
+        → Tells (seen answer) held (O.written output.new) result }
+    ensures flag { O.has_failed output.new ≡ (result == 3) }
+    ensures name { O.name output.new ≡ O.name output.old }
 {
     match answer {
-        Ok(report) => tell(output, output_failed, report.text.as_str(), report.status),
-        Err(fault) => tell_fault(output, output_failed, fault),
+        Ok(report) => tell(output, report.text.as_str(), report.status),
+        Err(fault) => tell_fault(output, fault),
     }
 }
 
 /// Writes what is left to tell of places that were written: the line of a fault that ended them. Gives the status.
-fn tell_end<W: Write>(output: &mut W, output_failed: &mut bool, ended: Result<(), Untold>) -> u8
-    requires { output_failed.old ≡ not_written ended }
-    ensures told { output_failed.new ≡ false → (held text : List ℕ) → W.contents output.old ≡ Some (held ++ text)
-        → Tells (told_after text ended) held (W.contents output.new) result }
-    ensures kept { output_failed.new ≡ false → output_failed.old ≡ false }
-    ensures failed { (output_failed.new ≡ false) ⊎ ((output_failed.new ≡ true) × (result ≡ 3)) }
+fn tell_end<O: Output>(output: &mut O, ended: Result<(), Untold>) -> u8
+    requires { O.has_failed output.old ≡ not_written ended }
+    ensures told { O.has_failed output.new ≡ false → (held text : List ℕ) → O.written output.old ≡ Some (held ++ text)
+        → Tells (told_after text ended) held (O.written output.new) result }
+    ensures kept { O.has_failed output.new ≡ false → O.has_failed output.old ≡ false }
+    ensures flag { O.has_failed output.new ≡ (result == 3) }
+    ensures name { O.name output.new ≡ O.name output.old }
 {
     match ended {
         Ok(()) => 0,
         Err(why) => match why {
-            Untold::Fault(fault) => tell_fault(output, output_failed, fault),
+            Untold::Fault(fault) => tell_fault(output, fault),
             Untold::NotWritten => 3,
         },
     }
 }
 
-/// Plays a connection over a whole input, and tells it.
-fn tell_played<W: Write>(
+/// Plays a connection over a whole input, and reports it.
+fn tell_played<O: Output>(
     alloc: Global,
     play: &Play<'_>,
     book: &Book<Global>,
     input: Vec<u8>,
-    output: &mut W,
-    output_failed: &mut bool,
+    output: &mut O,
 ) -> u8
-    requires { output_failed.old ≡ false }
-    ensures told { output_failed.new ≡ false → let spelled = octets_spelled input.items in
+    requires { O.has_failed output.old ≡ false }
+    ensures told { O.has_failed output.new ≡ false → let spelled = octets_spelled input.items in
         TellsSome (OrCutShort (places_play play.now.each book.now play.now.config spelled) (told_play play.now.each book.now play.now.config spelled))
-        (W.contents output.old) (W.contents output.new) result }
-    ensures failed { (output_failed.new ≡ false) ⊎ ((output_failed.new ≡ true) × (result ≡ 3)) }
+        (O.written output.old) (O.written output.new) result }
+    ensures flag { O.has_failed output.new ≡ (result == 3) }
+    ensures name { O.name output.new ≡ O.name output.old }
 {
-    let ended = write_play(alloc, play, book, input, output, output_failed);
-    tell_end(output, output_failed, ended)
+    let ended = write_play(alloc, play, book, input, output);
+    tell_end(output, ended)
 }
 
 /// What `table` answers to a whole input.
 fn table_report(alloc: Global, limit: u32, input: &[u8]) -> Result<Report, BenchFault>
-    ensures { Gives result (done (table_text limit input.now)) }
+    ensures gives { Gives result (done (table_text limit input.now)) }
+    ensures status { IfOk result (λ report. report.status < 3) }
 {
     match table_text(alloc, limit, input) {
         Ok(text) => Ok(Report { text, status: 0 }),
@@ -125,104 +145,159 @@ fn table_report(alloc: Global, limit: u32, input: &[u8]) -> Result<Report, Bench
     }
 }
 
-/// Does a command over a whole input, with the book of its answers. The input is given back once it is read.
-fn tell_input<W: Write>(
+/// Does a command over a whole input, with its book. The input is given back once it is read.
+fn tell_input<O: Output>(
     alloc: Global,
-    plan: &Plan<'_>,
+    batch: &Batch<'_>,
     book: &Book<Global>,
     input: Vec<u8>,
-    output: &mut W,
-    output_failed: &mut bool,
+    output: &mut O,
 ) -> u8
-    requires book { book.now ≡ book_for (planned plan.now) }
-    requires writer { output_failed.old ≡ false }
-    ensures told { output_failed.new ≡ false → TellsSome (OrCutShort (places (planned plan.now) input.items) (told (planned plan.now) input.items))
-        (W.contents output.old) (W.contents output.new) result }
-    ensures failed { (output_failed.new ≡ false) ⊎ ((output_failed.new ≡ true) × (result ≡ 3)) }
+    requires { O.has_failed output.old ≡ false }
+    ensures told { O.has_failed output.new ≡ false
+        → TellsSome (OrCutShort (places book.now (batch_asked batch.now) input.items) (told book.now
+        (batch_asked batch.now) input.items))
+        (O.written output.old) (O.written output.new) result }
+    ensures flag { O.has_failed output.new ≡ (result == 3) }
+    ensures name { O.name output.new ≡ O.name output.old }
 {
-    match plan {
-        Plan::Play(play) => tell_played(alloc, play, book, input, output, output_failed),
-        Plan::Asm => tell_answer(output, output_failed, asm_report(alloc, input.as_slice())),
-        Plan::Dis => tell_answer(
-            output,
-            output_failed,
-            whole(dis_text(alloc, input.as_slice())),
-        ),
-        Plan::Table(limit) => tell_answer(
-            output,
-            output_failed,
-            table_report(alloc, *limit, input.as_slice()),
-        ),
+    match batch {
+        Batch::Play(play) => tell_played(alloc, play, book, input, output),
+        Batch::Asm => tell_answer(output, asm_report(alloc, input.as_slice())),
+        Batch::Dis => tell_answer(output, whole(dis_text(alloc, input.as_slice()))),
+        Batch::Table(limit) => tell_answer(output, table_report(alloc, *limit, input.as_slice())),
     }
 }
 
 /// Reads the input of a command, and does it.
-fn respond<R: Read, W: Write>(
+fn respond<F: Files, I: Input, O: Output, E: Output>(
     alloc: Global,
-    plan: &Plan<'_>,
-    input: &mut R,
-    input_failed: &mut bool,
-    output: &mut W,
-    output_failed: &mut bool,
+    batch: &Batch<'_>,
+    files: &mut F,
+    input: &mut I,
+    output: &mut O,
+    errors: &mut E,
 ) -> u8
-    requires reader { input_failed.old ≡ false }
-    requires writer { output_failed.old ≡ false }
-    ensures told { output_failed.new ≡ false → Ends (planned plan.now) (R.remaining input.old) input_failed.new (W.contents output.old) (W.contents output.new) result }
-    ensures failed { (output_failed.new ≡ false) ⊎ ((output_failed.new ≡ true) × (result ≡ 3)) }
+    requires reader { I.has_failed input.old ≡ false }
+    requires writer { O.has_failed output.old ≡ false }
+    ensures told { KnowsFile (file_of (batch_asked batch.now)) (F.is_told files.old) → O.has_failed output.new ≡ false
+        → Ends (F.file files.old) (batch_asked batch.now) (I.remaining input.old) (I.has_failed input.new)
+        (O.written output.old) (O.written output.new) result }
+    ensures flag { O.has_failed output.new ≡ (result == 3) }
+    ensures input { I.name input.new ≡ I.name input.old }
+    ensures name { O.name output.new ≡ O.name output.old }
+    ensures quiet { asks_why_batch (batch_asked batch.now) ≡ false → errors.new ≡ errors.old }
+    ensures errors { E.name errors.new ≡ E.name errors.old }
 {
-    let book = match book_for(alloc, plan) {
+    let book = match book_for(alloc, batch, files, errors) {
         Ok(book) => book,
-        Err(fault) => return tell_fault(output, output_failed, fault),
+        Err(fault) => return tell_fault(output, fault),
     };
-    match read_all(alloc, input, input_failed) {
-        Ok(octets) => tell_input(alloc, plan, &book, octets, output, output_failed),
-        Err(fault) => tell_fault(output, output_failed, fault),
+    match read_all(alloc, input) {
+        Ok(octets) => tell_input(alloc, batch, &book, octets, output),
+        Err(fault) => tell_fault(output, fault),
     }
 }
 
-/// Does what the words ask for; where they ask for nothing, nothing is read. A flag is set where a read of the input failed, another
-/// where a write of the output failed: no contract of a device says that its calls don't fail, and so these stand in for it.
-pub fn run_watched<R: Read, W: Write>(
+/// Makes the book of a session, and runs it.
+fn debug<F: Files, I: Input, O: Output, E: Output>(
+    alloc: Global,
+    debug: &Debug<'_>,
+    files: &mut F,
+    input: &mut I,
+    output: &mut O,
+    errors: &mut E,
+) -> u8
+    requires reader { I.has_failed input.old ≡ false }
+    requires writer { O.has_failed output.old ≡ false }
+    ensures told { KnowsFile debug.now.book.file.now (F.is_told files.old) → O.has_failed output.new ≡ false
+        → EndsSession (F.file files.old) debug.now.config (book_asked debug.now.book) (I.remaining input.old)
+        (I.remaining input.new) (I.has_failed input.new) (O.written output.old) (O.written output.new) result }
+    ensures flag { O.has_failed output.new ≡ (result == 3) }
+    ensures input { I.name input.new ≡ I.name input.old }
+    ensures name { O.name output.new ≡ O.name output.old }
+    ensures quiet { debug.now.book.why ≡ false → errors.new ≡ errors.old }
+    ensures errors { E.name errors.new ≡ E.name errors.old }
+{
+    match book_for_words(alloc, &debug.book, files, errors) {
+        Ok(book) => debug_session(alloc, &book, debug.config, input, output),
+        Err(fault) => tell_fault(output, fault),
+    }
+}
+
+/// Does what the words ask for, and gives the exit status. Where they ask for nothing, or for connections to be
+/// served, nothing is read.
+///
+/// 0: done. 1: a fault ended it, and its line was written. 2: the words were refused, or ask for help, and what there
+/// is to say of them was written; or they ask for connections to be served, and nothing was written (`serve` does
+/// that). 3: the output failed, and only then.
+///
+/// Where an entry of the book is refused and the words ask for the reason, a sentence is written to `errors`; nothing
+/// else is written there.
+pub fn run_on<F: Files, I: Input, O: Output, E: Output>(
     alloc: Global,
     words: &Words,
-    input: &mut R,
-    input_failed: &mut bool,
-    output: &mut W,
-    output_failed: &mut bool,
+    files: &mut F,
+    input: &mut I,
+    output: &mut O,
+    errors: &mut E,
 ) -> u8
-    requires reader { input_failed.old ≡ false }
-    requires writer { output_failed.old ≡ false }
-    ensures told { (asked : Asked) → asked_of words.now ≡ Some asked → output_failed.new ≡ false
-        → Ends asked (R.remaining input.old) input_failed.new (W.contents output.old) (W.contents output.new) result }
-    ensures refused { asked_of words.now ≡ None → output_failed.new ≡ false → TellsRefusal (W.contents output.old) (W.contents output.new) result }
-    ensures unread { asked_of words.now ≡ None → (R.remaining input.new ≡ R.remaining input.old) × (input_failed.new ≡ false) }
-    ensures failed { (output_failed.new ≡ false) ⊎ ((output_failed.new ≡ true) × (result ≡ 3)) }
+    requires reader { I.has_failed input.old ≡ false }
+    requires writer { O.has_failed output.old ≡ false }
+    ensures told { (asked : BatchAsked) → asked_of words.now ≡ Some (batch asked)
+        → KnowsFile (file_of asked) (F.is_told files.old) → O.has_failed output.new ≡ false
+        → Ends (F.file files.old) asked (I.remaining input.old) (I.has_failed input.new) (O.written output.old)
+        (O.written output.new) result }
+    ensures debugs { (config : Config) → (book : BookAsked) → asked_of words.now ≡ Some (debug config book)
+        → KnowsFile book.file (F.is_told files.old) → O.has_failed output.new ≡ false
+        → EndsSession (F.file files.old) config book (I.remaining input.old) (I.remaining input.new)
+        (I.has_failed input.new) (O.written output.old) (O.written output.new) result }
+    ensures serves { is_serve (asked_of words.now) ≡ true → O.has_failed output.new ≡ false
+        → EndsServe (O.written output.old) (O.written output.new) result }
+    ensures refused { asked_of words.now ≡ None → O.has_failed output.new ≡ false
+        → TellsRefusal (O.written output.old) (O.written output.new) result }
+    ensures unread { is_reader (asked_of words.now) ≡ false → (I.remaining input.new ≡ I.remaining input.old)
+        × (I.has_failed input.new ≡ false) }
+    ensures flag { O.has_failed output.new ≡ (result == 3) }
+    ensures input { I.name input.new ≡ I.name input.old }
+    ensures name { O.name output.new ≡ O.name output.old }
+    ensures quiet { asks_why (asked_of words.now) ≡ false → errors.new ≡ errors.old }
+    ensures errors { E.name errors.new ≡ E.name errors.old }
 {
     match parse(alloc, words) {
-        Ok(plan) => respond(alloc, &plan, input, input_failed, output, output_failed),
-        Err(Refusal::Words(text)) => tell(output, output_failed, text.as_str(), 2),
-        Err(Refusal::NoMemory) => tell_fault(output, output_failed, BenchFault::NoMemory),
+        Ok(Plan::Batch(batch)) => respond(alloc, &batch, files, input, output, errors),
+        Ok(Plan::Debug(plan)) => debug(alloc, &plan, files, input, output, errors),
+        Ok(Plan::Serve(_)) => 2,
+        Err(Refusal::Words(text)) => tell(output, text.as_str(), 2),
+        Err(Refusal::NoMemory) => tell_fault(output, BenchFault::NoMemory),
     }
 }
 
-/// Does what the words ask for, and gives the exit status. It writes in small pieces: the output had better be buffered, and flushed afterwards.
-///
-/// 0: done. 1: a fault ended it, and its line was written. 2: the words were refused, or ask for help, and what there is to say of them was written.
-/// 3: the output could not be written.
+/// The same over a reader and a writer of the standard library, which say of no call that it does not fail. There are
+/// no files, so that a book's file is refused, and reasons are not written anywhere. The output had better be
+/// buffered, and flushed afterwards.
 pub fn run<R: Read, W: Write>(alloc: Global, words: &Words, input: &mut R, output: &mut W) -> u8
-    ensures told { (asked : Asked) → asked_of words.now ≡ Some asked → EndsSomehow asked
+    ensures told { (asked : BatchAsked) → asked_of words.now ≡ Some (batch asked) → EndsSomehow no_files asked
         (R.remaining input.old) (W.contents output.old) (W.contents output.new) result }
-    ensures refused { asked_of words.now ≡ None → (result ≡ 3) ⊎ TellsRefusal (W.contents output.old) (W.contents output.new) result }
-    ensures unread { asked_of words.now ≡ None → R.remaining input.new ≡ R.remaining input.old }
+    ensures debugs { (config : Config) → (book : BookAsked) → asked_of words.now ≡ Some (debug config book)
+        → (result ≡ 3)
+        ⊎ ((failed : Bool) × EndsSession no_files config book (R.remaining input.old) (R.remaining input.new) failed (W.contents output.old) (W.contents output.new) result) }
+    ensures serves { is_serve (asked_of words.now) ≡ true → (result ≡ 3)
+        ⊎ EndsServe (W.contents output.old) (W.contents output.new) result }
+    ensures refused { asked_of words.now ≡ None → (result ≡ 3)
+        ⊎ TellsRefusal (W.contents output.old) (W.contents output.new) result }
+    ensures unread { is_reader (asked_of words.now) ≡ false → R.remaining input.new ≡ R.remaining input.old }
 {
-    let mut input_failed = false;
-    let mut output_failed = false;
-    run_watched(
-        alloc,
-        words,
-        input,
-        &mut input_failed,
-        output,
-        &mut output_failed,
-    )
+    let mut files = FilesInMemory { files: &[] };
+    let mut from = FromRead::new(input);
+    let mut into = IntoWrite::new(output);
+    let mut nowhere = io::sink();
+    let mut errors = IntoWrite::new(&mut nowhere);
+    let status = run_on(alloc, words, &mut files, &mut from, &mut into, &mut errors);
+    // The proof reads what the devices hold from this use of the references.
+    let reader = from.into_inner();
+    let writer = into.into_inner();
+    let _ = &*reader;
+    let _ = &*writer;
+    status
 }

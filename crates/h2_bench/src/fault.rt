@@ -1,4 +1,4 @@
-//! Why a program is refused, each cause with its number, and the line that tells it.
+//! Why a program is refused, each cause with its number, and the line that reports it.
 //! Rests on nothing; definitions: `specs/Faults.antt`.
 
 ghost use Rattle.std.specs.Prelude.{◌≡◌};
@@ -41,6 +41,9 @@ pub enum BenchFault {
     /// A line of the input is no command.
     #[error("the line is no command")]
     BadCommand,
+    /// A port can't be listened on, or a connection can't be accepted.
+    #[error("the socket failed")]
+    Socket,
 }
 
 impl BenchFault {
@@ -59,6 +62,7 @@ impl BenchFault {
             BenchFault::BadHex => 25,
             BenchFault::BadAnswer => 26,
             BenchFault::BadCommand => 27,
+            BenchFault::Socket => 28,
         }
     }
 
@@ -77,6 +81,7 @@ impl BenchFault {
             BenchFault::BadHex => "fault 25\n",
             BenchFault::BadAnswer => "fault 26\n",
             BenchFault::BadCommand => "fault 27\n",
+            BenchFault::Socket => "fault 28\n",
         }
     }
 }

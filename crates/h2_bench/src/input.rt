@@ -1,37 +1,32 @@
 //! The whole input of a program, and the octets that hex text spells.
-//! Rests on `device` and on the crate `hex`; definitions: `specs/Input.antt`.
+//! Rests on h2_device and on the crate `hex`; definitions: `specs/Input.antt`.
 
 ghost use Rattle.std.specs.Prelude.{◌≡◌, ◌≤◌, ℕ, List, Some, false, filter, length, not, is_some, IfOk, IfErr, OnOk};
 ghost use Rattle.std.specs.List.{list_all};
 ghost use Rattle.hex.specs.Hex.{is_hex_digit};
 ghost use Rattle.h2_bench.specs.Input.{IsNoHex, IsUnread, is_digit, octets_spelled};
 
-use crate::device::read;
 use crate::fault::BenchFault;
+use h2_device::Input;
 use std::alloc::{AllocError, Global};
-use std::io::Read;
 
 /// The most octets that an input may have.
 pub const LIMIT: usize = 16777216;
 
-/// All that a reader has left.
+/// All that an input has left.
 ///
-/// `Read` where a read failed, and then the flag is set, or where there is more than the limit. `NoMemory` may come before either.
-pub fn read_all<R: Read>(
-    alloc: Global,
-    input: &mut R,
-    failed: &mut bool,
-) -> Result<Vec<u8>, BenchFault>
-    requires { failed.old ≡ false }
-    ensures ok { IfOk result (λ octets. (known : List ℕ) → R.remaining input.old ≡ Some known → octets.items ≡ known) }
+/// `Read` where a read failed, or where there is more than the limit. `NoMemory` may come before either.
+pub fn read_all<I: Input>(alloc: Global, input: &mut I) -> Result<Vec<u8>, BenchFault>
+    ensures ok { IfOk result (λ octets. (known : List ℕ) → I.remaining input.old ≡ Some known → octets.items ≡ known) }
     ensures within { IfOk result (λ octets. length octets.items ≤ LIMIT) }
-    ensures well { OnOk result (failed.new ≡ false) }
-    ensures err { IfErr result (λ fault. IsUnread (R.remaining input.old) failed.new fault) }
+    ensures well { OnOk result (I.has_failed input.new ≡ false) }
+    ensures name { I.name input.new ≡ I.name input.old }
+    ensures err { IfErr result (λ fault. IsUnread (I.remaining input.old) (I.has_failed input.new) fault) }
 {
     let mut octets = Vec::new(alloc);
     let mut room = [0; 4096];
     loop {
-        let Ok(count) = read(input, failed, &mut room) else {
+        let Ok(count) = input.read(&mut room) else {
             return Err(BenchFault::Read);
         };
         if count == 0 {
@@ -84,7 +79,7 @@ fn are_hex_digits(text: &[u8]) -> bool
 }
 
 /// Whether a text without white space is pairs of hex digits. Takes no memory.
-fn is_hex_text(text: &[u8]) -> bool
+pub fn is_hex_text(text: &[u8]) -> bool
     ensures { result ≡ is_some (octets_spelled text.now) }
 {
     digit_count(text) % 2 == 0 && are_hex_digits(text)

@@ -3,8 +3,7 @@
 
 mod answer;
 mod asm;
-mod command;
-mod device;
+mod books;
 mod dis;
 mod each;
 mod execute;
@@ -12,10 +11,11 @@ mod fault;
 mod input;
 mod play;
 mod report;
+mod server;
 mod table;
-mod words;
 
 pub use answer::parse_answer;
-pub use execute::{run, run_watched};
+pub use execute::{run, run_on};
 pub use fault::BenchFault;
-pub use words::Words;
+pub use h2_words::Words;
+pub use server::serve;

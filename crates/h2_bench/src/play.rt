@@ -1,82 +1,30 @@
 //! The program `play`: a connection over the octets that hex text spells.
-//! Rests on `answer`, `each` and h2_conn; definitions: `specs/Books.antt`, `specs/Told.antt`.
+//! Rests on `each` and h2_conn; definitions: `specs/Told.antt`.
 
-ghost use Rattle.std.specs.Prelude.{◌≡◌, ◌⊎◌, ◌<◌, ◌^◌, [], Ok, Err, Some, true, false, length, map, IfErr, IfOk, OnOk};
-ghost use Rattle.h2_request.specs.Fault as book;
-ghost use Rattle.h2_request.specs.declared.fault.BookFault.TheVariants as books;
+ghost use Rattle.std.specs.Prelude.{◌≡◌, ◌⊎◌, ◌<◌, ◌^◌, [], Ok, Err, Some, true, false, length, map, is_some, string_bytes, IfErr, IfOk, OnOk};
 ghost use Rattle.h2_spec.specs.View.{view};
 ghost use Rattle.h2_conn.specs.Connection.{going, is_allowed};
 ghost use Rattle.h2_conn.specs.Runs.{Opens};
-ghost use Rattle.h2_bench.specs.Books.{book_of, with_answer};
 ghost use Rattle.h2_bench.specs.Each.{TellsRun, WritesSome, fed_first, not_written};
-ghost use Rattle.h2_bench.specs.Faults.{fault_number};
 ghost use Rattle.h2_bench.specs.Input.{IsNoHex, octets_spelled};
-ghost use Rattle.h2_bench.specs.Plans.{piece_lengths};
+ghost use Rattle.h2_bench.specs.Limits.{limits_fault};
+ghost use Rattle.h2_bench.specs.declared.each.Untold.TheVariants.{Fault};
+ghost use Rattle.h2_bench.specs.Pieces.{piece_lengths};
 ghost use Rattle.h2_bench.specs.Told.{OrCutShort, done, places_play, places_played, sent_and_state, told_play, told_played};
 ghost use Rattle.h2_bench.specs.declared.fault.BenchFault.TheVariants.{BadConfig, NoMemory};
 
-use crate::answer::parse_answer;
-use crate::command::Play;
-use crate::device::write_text;
-use crate::each::{Untold, write_places};
+use crate::each::{Untold, write_places, write_text};
 use crate::fault::BenchFault;
-use crate::input::read_hex;
+use crate::input::{is_hex_text, read_hex};
 use h2_conn::play::open_and_feed;
 use h2_conn::{Conn, ConnFault};
+use h2_device::Output;
 use h2_request::book::Book;
-use h2_request::fault::BookFault;
 use h2_spec::connection::Config;
 use h2_text::hex_text::HexText;
+use h2_words::command::Play;
 use std::alloc::{AllocError, Global};
-use std::{fmt, io};
-
-/// What a book refused, by the name that programs have for it.
-fn refused_by(fault: BookFault) -> BenchFault
-    ensures number { fault_number result ≡ book.fault_number fault }
-    ensures memory { fault ≡ books.NoMemory → result ≡ NoMemory }
-{
-    match fault {
-        BookFault::NoMemory => BenchFault::NoMemory,
-        BookFault::BadStatus => BenchFault::BadStatus,
-        BookFault::BadField => BenchFault::BadField,
-        BookFault::BodyNotAllowed => BenchFault::BodyNotAllowed,
-        BookFault::TooLong => BenchFault::TooLong,
-    }
-}
-
-/// Puts the entry that a word says last in the book.
-#[tactic(auto, unfolding(crate::specs::Books::with_answer))]
-fn add_answer(alloc: Global, book: &mut Book<Global>, word: &str) -> Result<(), BenchFault>
-    ensures ok { OnOk result (with_answer book.old word.now ≡ Ok book.new) }
-    ensures err { IfErr result (λ fault. (fault ≡ NoMemory) ⊎ (with_answer book.old word.now ≡ Err (fault_number fault))) }
-{
-    let entry = match parse_answer(alloc, word) {
-        Ok(entry) => entry,
-        Err(fault) => return Err(fault),
-    };
-    match book.add(entry) {
-        Ok(()) => Ok(()),
-        Err(fault) => Err(refused_by(fault)),
-    }
-}
-
-/// The book of the answers that these words say, from the left.
-///
-/// The first word that is refused decides: `BadAnswer` where it says no answer, else what the book refuses it for; `NoMemory` may come before.
-#[tactic(auto, unfolding(crate::specs::Books::book_of))]
-pub fn book_of(alloc: Global, words: &[&str]) -> Result<Book<Global>, BenchFault>
-    ensures ok { IfOk result (λ book. book_of [] (map (λ s. s.now) words.now) ≡ Ok book) }
-    ensures err { IfErr result (λ fault. (fault ≡ NoMemory) ⊎ (book_of [] (map (λ s. s.now) words.now) ≡ Err (fault_number fault))) }
-{
-    let mut book = Book::new(alloc);
-    for word in words {
-        match add_answer(alloc, &mut book, word) {
-            Ok(()) => {}
-            Err(fault) => return Err(fault),
-        }
-    }
-    Ok(book)
-}
+use std::fmt;
 
 /// The line of the octets sent, and the text of the state.
 #[derive(Drop)]
@@ -107,7 +55,7 @@ fn piece_lengths(alloc: Global, cut: u32, total: usize) -> Result<Vec<usize>, Al
     vec![in alloc; length; total / length]
 }
 
-/// What is fed to a connection before it is told: nothing where each of its places is.
+/// What is fed to a connection before it is reported: nothing where each of its places is.
 fn fed_first(each: bool, octets: &[u8]) -> &[u8]
     ensures { result.now ≡ fed_first each octets.now }
 {
@@ -135,76 +83,76 @@ fn played<'b>(
     }
 }
 
-/// Writes the line of the octets sent, and the text of the state.
-fn write_sent<W: io::Write>(
+/// The line of the octets sent, and the text of the state.
+fn played_text(alloc: Global, conn: &Conn<'_, Global>, sent: &[u8]) -> Result<String, AllocError>
+    ensures { IfOk result (λ text. string_bytes text ≡ sent_and_state sent.now (view conn.now.state)) }
+{
+    PlayedText { sent, conn }.to_string(alloc)
+}
+
+/// Writes the line of the octets sent, and the text of the state, which is made whole before any of it is written.
+fn write_sent<O: Output>(
+    alloc: Global,
     conn: &Conn<'_, Global>,
     sent: &[u8],
-    output: &mut W,
-    output_failed: &mut bool,
+    output: &mut O,
 ) -> Result<(), Untold>
-    requires { output_failed.old ≡ false }
-    ensures told { output_failed.new ≡ false → WritesSome (λ t. t ≡ done (sent_and_state sent.now (view conn.now.state)))
-        result (W.contents output.old) (W.contents output.new) }
-    ensures flag { output_failed.new ≡ not_written result }
+    requires { O.has_failed output.old ≡ false }
+    ensures told { O.has_failed output.new ≡ false → WritesSome (OrCutShort [] (done (sent_and_state sent.now (view conn.now.state))))
+        result (O.written output.old) (O.written output.new) }
+    ensures flag { O.has_failed output.new ≡ not_written result }
+    ensures name { O.name output.new ≡ O.name output.old }
 {
-    match write_text(output, output_failed, PlayedText { sent, conn }) {
-        Ok(()) => Ok(()),
-        Err(_) => Err(Untold::NotWritten),
+    match played_text(alloc, conn, sent) {
+        Ok(text) => write_text(output, text.as_str()),
+        Err(_) => Err(Untold::Fault(BenchFault::NoMemory)),
     }
 }
 
-/// Writes what `play` prints of a connection: each place of its run over the octets; or what was sent, and its state, for which no memory is wanted.
-fn write_conn<W: io::Write>(
+/// Writes what `play` prints of a connection: each place of its run over the octets; or what was sent, and its state, for which no memory is needed.
+fn write_conn<O: Output>(
     alloc: Global,
     each: bool,
     conn: &mut Conn<'_, Global>,
     sent: &[u8],
     octets: &[u8],
-    output: &mut W,
-    output_failed: &mut bool,
+    output: &mut O,
 ) -> Result<(), Untold>
     requires new { each ≡ true → conn.old ≡ going conn.old.state [] }
     requires few { length octets.now < 2 ^ 63 }
-    requires writer { output_failed.old ≡ false }
-    ensures told { output_failed.new ≡ false → WritesSome (TellsRun each conn.old.state sent.now octets.now) result (W.contents output.old) (W.contents output.new) }
-    ensures flag { output_failed.new ≡ not_written result }
+    requires writer { O.has_failed output.old ≡ false }
+    ensures told { O.has_failed output.new ≡ false → WritesSome (TellsRun each conn.old.state sent.now octets.now) result (O.written output.old) (O.written output.new) }
+    ensures flag { O.has_failed output.new ≡ not_written result }
+    ensures name { O.name output.new ≡ O.name output.old }
 {
     if each {
-        write_places(alloc, conn, sent, octets, output, output_failed)
+        write_places(alloc, conn, sent, octets, output)
     } else {
-        write_sent(conn, sent, output, output_failed)
+        write_sent(alloc, conn, sent, output)
     }
 }
 
 /// Writes what `play` prints of octets: of each place of their run, for which items are taken one by one, or of the whole.
-fn write_played<W: io::Write>(
+fn write_played<O: Output>(
     alloc: Global,
     play: &Play<'_>,
     book: &Book<Global>,
     octets: &[u8],
-    output: &mut W,
-    output_failed: &mut bool,
+    output: &mut O,
 ) -> Result<(), Untold>
     requires few { length octets.now < 2 ^ 63 }
-    requires writer { output_failed.old ≡ false }
-    ensures told { output_failed.new ≡ false → WritesSome (OrCutShort (places_played play.now.each book.now play.now.config octets.now) (told_played play.now.each book.now play.now.config octets.now))
-        result (W.contents output.old) (W.contents output.new) }
-    ensures flag { output_failed.new ≡ not_written result }
+    requires writer { O.has_failed output.old ≡ false }
+    ensures told { O.has_failed output.new ≡ false → WritesSome (OrCutShort (places_played play.now.each book.now play.now.config octets.now) (told_played play.now.each book.now play.now.config octets.now))
+        result (O.written output.old) (O.written output.new) }
+    ensures flag { O.has_failed output.new ≡ not_written result }
+    ensures name { O.name output.new ≡ O.name output.old }
 {
     let mut sent = Vec::new(alloc);
     let first = fed_first(play.each, octets);
     match played(alloc, book, play.config, play.cut, first, &mut sent) {
         Ok(mut conn) => {
             let sent = sent.as_slice();
-            write_conn(
-                alloc,
-                play.each,
-                &mut conn,
-                sent,
-                octets,
-                output,
-                output_failed,
-            )
+            write_conn(alloc, play.each, &mut conn, sent, octets, output)
         }
         Err(fault) => Err(Untold::Fault(fault)),
     }
@@ -218,26 +166,48 @@ fn octets_of(alloc: Global, input: Vec<u8>) -> Result<Vec<u8>, BenchFault>
     read_hex(alloc, input.as_slice())
 }
 
+/// Whether the limits of the streams and of the credit are in range.
+fn are_limits(config: Config) -> bool
+    ensures { result ≡ is_allowed config }
+{
+    1 <= config.streams && config.streams <= 1000 && 1 <= config.credit && config.credit <= 65535
+}
+
+/// Why an input is refused whose limits are out of range: it is no hex text, or it is for the limits. Takes no memory.
+fn refused_limits(input: &[u8]) -> BenchFault
+    ensures { result ≡ limits_fault (octets_spelled input.now) }
+{
+    if is_hex_text(input) {
+        BenchFault::BadConfig
+    } else {
+        BenchFault::BadHex
+    }
+}
+
 /// Writes what `play` prints of its input, however the octets are cut: the octets sent, and the state after all of them; or the same of each place.
 ///
-/// `BadHex` where the input is no hex text, then `BadConfig` where a limit is out of range; nothing is written then. `NoMemory` where memory is refused:
-/// nothing was written, or some first places. `NotWritten` where a write failed.
-pub fn write_play<W: io::Write>(
+/// `BadHex` where the input is no hex text, then `BadConfig` where a limit is out of range; nothing is written then, and no memory is needed. `NoMemory`
+/// where memory is refused: nothing was written, or some first places. `NotWritten` where a write failed.
+pub fn write_play<O: Output>(
     alloc: Global,
     play: &Play<'_>,
     book: &Book<Global>,
     input: Vec<u8>,
-    output: &mut W,
-    output_failed: &mut bool,
+    output: &mut O,
 ) -> Result<(), Untold>
-    requires { output_failed.old ≡ false }
-    ensures told { output_failed.new ≡ false → let spelled = octets_spelled input.items in
+    requires { O.has_failed output.old ≡ false }
+    ensures told { O.has_failed output.new ≡ false → let spelled = octets_spelled input.items in
         WritesSome (OrCutShort (places_play play.now.each book.now play.now.config spelled) (told_play play.now.each book.now play.now.config spelled))
-        result (W.contents output.old) (W.contents output.new) }
-    ensures flag { output_failed.new ≡ not_written result }
+        result (O.written output.old) (O.written output.new) }
+    ensures memory { result ≡ Err (Fault NoMemory) → (is_allowed play.now.config ≡ true) × (is_some (octets_spelled input.items) ≡ true) }
+    ensures flag { O.has_failed output.new ≡ not_written result }
+    ensures name { O.name output.new ≡ O.name output.old }
 {
+    if !are_limits(play.config) {
+        return Err(Untold::Fault(refused_limits(input.as_slice())));
+    }
     match octets_of(alloc, input) {
-        Ok(octets) => write_played(alloc, play, book, octets.as_slice(), output, output_failed),
+        Ok(octets) => write_played(alloc, play, book, octets.as_slice(), output),
         Err(fault) => Err(Untold::Fault(fault)),
     }
 }

@@ -1,6 +1,7 @@
-//! What a program comes to: a text and an exit status.
-//! Rests on nothing; what is told by a report: `specs/Answers.antt`.
+//! What a program results in: a text and an exit status.
+//! Rests on nothing; what a report says: `specs/Answers.antt`.
 
+ghost use Rattle.std.specs.Prelude.{◌<◌, IfOk};
 ghost use Rattle.h2_bench.specs.Answers.{Gives, Meets};
 ghost use Rattle.h2_bench.specs.Tell.{Told};
 
@@ -10,13 +11,14 @@ use crate::fault::BenchFault;
 #[derive(Drop)]
 pub struct Report {
     pub text: String,
-    /// 0: done. 1: the text tells of a fault.
+    /// 0: done. 1: the text reports a fault.
     pub status: u8,
 }
 
 /// A text that is all that was asked for, with status 0.
 pub fn whole(text: Result<String, BenchFault>) -> Result<Report, BenchFault>
-    ensures { (t : Told) → Meets text t → Gives result t }
+    ensures gives { (t : Told) → Meets text t → Gives result t }
+    ensures status { IfOk result (λ report. report.status < 3) }
 {
     match text {
         Ok(text) => Ok(Report { text, status: 0 }),

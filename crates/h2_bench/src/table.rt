@@ -96,7 +96,7 @@ fn add<A: Allocator + Copy>(
     Ok(())
 }
 
-/// Does what a line asks for, and tells it.
+/// Does what a line asks for, and reports it.
 fn obey<A: Allocator + Copy>(
     table: &mut DynTable<A>,
     line: &[u8],

@@ -16,7 +16,7 @@ use Rattle.h2_spec.specs.State.{OpenBlock, State}
 use Rattle.h2_spec.specs.Stream.{Records}
 use Rattle.h2_spec.specs.Trace.{then_sent}
 use Rattle.h2_conn.specs.Blocks.{IsOpenFor}
-use Rattle.h2_conn.specs.Does.{Does}
+use Rattle.h2_conn.specs.Does.{AreShort, Does}
 use Rattle.h2_conn.specs.Sending.{core_after, core_after_as, records, records_after, streams_after}
 use Rattle.h2_rules.specs.Sound.{IsSoundChange, IsSoundTouch, touched_records}
 use Rattle.h2_conn.proofs.MakeLaws.{made-then, open-after}
@@ -42,6 +42,7 @@ rebound s now p c b t out out' d =
     (record {
       state = ap (λ (x : State). record x { block = b; table = t }) (stands s now p c out out' d);
       sent = d.sent ∙ ap (λ (step : Step). out ++ frames_octets step.sent) (made-then s p c);
+      short = subst (λ (step : Step). AreShort step.sent) (made-then s p c) d.short;
     })
 
 -- the last stream that was opened is the one that the counts say

@@ -1,4 +1,4 @@
--- Fragments: what a decoder that goes on comes to, and how a block ends.
+-- Fragments: what a decoder that goes on results in, and how a block ends.
 use Rattle.std.proofs.Common.{◌≡◌, ◌≢◌, ℕ, zero, suc, Bool, true, false, ◌&&◌, not, cond, ◌+◌, ◌==◌, arith, nat_lt, List, [], ◌∷◌, ◌++◌, append_assoc, drop, take, length, nat_le, Option, Some, None, Result, Ok, Err, refl, sym, ap, subst, ◌∙◌}
 use Rattle.std.proofs.lemmas.Option.{none-some}
 use Rattle.std.proofs.lemmas.List.{take-append-drop}
@@ -97,7 +97,7 @@ some-same x y e = cc
 abbrev so_far : Table → BlockSoFar → Decoded
 so_far table b = record { progress = record { fields = b.fields; table = table; due = b.due }; outcome = Unfinished (unfinished b.outcome) }
 
--- before a fragment, the decoder stands for this
+-- before a fragment, the decoder represents this
 going-is : (table : Table) (b : BlockSoFar) → IsGoing b → decoded_with table b ≡ Some (record { progress = before_fragment table b; outcome = Unfinished (unfinished b.outcome) })
 going-is table b going =
     let whole : List Field → Table → Bool → Outcome → Decoded = λ fields t due o. record { progress = record { fields = fields; table = t; due = due }; outcome = o } in
@@ -133,7 +133,7 @@ went-on limit table table' before now piece going answer carried = at now.outcom
         let due : now.due ≡ false = ap (λ (x : Decoded). x.progress.due) before_due ∙ decoded-not-due limit (before_fragment table before) (unfinished before.outcome ++ piece) refl in
         (sym before_due ∙ ap (λ t. let y : Decoded = record { progress = record { fields = now.fields; table = table'; due = t }; outcome = Unfinished (unfinished now.outcome) } in y) due, (due, e ∙ ap (λ x. Some x) left))
 
--- a decoder that answers a fault other than want of memory has met it
+-- a decoder that answers a fault other than out of memory has met it
 pub faulted : (limit : ℕ) (table table' : Table) (before now : BlockSoFar) (piece : List ℕ) (f : BlockFault) → IsGoing before → Err f ≡ answer_of now.outcome → f ≢ fault.NoMemory →
     (now.outcome ≢ None → decoded_with table' now ≡ option_map (λ d. carried_on limit d piece) (decoded_with table before)) →
     IsFaulty (decoded limit (before_fragment table before) (unfinished before.outcome ++ piece))

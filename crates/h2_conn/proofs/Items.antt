@@ -9,7 +9,7 @@ use Rattle.h2_spec.specs.declared.frames.Head.{Head}
 use Rattle.h2_spec.specs.Frame.{Item, Preface, BadPreface, WholeFrame, Oversize, Next, NoItem, Got, next, preface, frame_item, head_of}
 use Rattle.h2_spec.specs.State.{State}
 use Rattle.h2_spec.specs.Parse.{Stop, One}
-use Rattle.h2_spec.specs.Trace.{event_on, next_event, next_item, step}
+use Rattle.h2_spec.specs.Trace.{Event, event_on, next_event, next_item, step}
 use Rattle.h2_spec.specs.Trace as trace
 use Rattle.h2_frame.specs.Items.{found, item_in, rest_after, rest_behind}
 use Rattle.h2_frame.specs.Rest.{Rest}
@@ -106,6 +106,7 @@ item-taken r s t x out out' h e i d =
       after = sym d.state;
       rest = ap (λ (next : Next). (rest_behind r next).octets) n.1;
       sent = d.sent;
+      short = d.short;
     }
 
 fits-past : (p : Phase) (rest : List ℕ) → awaits_preface p ≡ false → Fits (record { octets = rest; expects_preface = false; is_over = false }) p
@@ -156,3 +157,41 @@ none-after s b e = stop-at s.core.phase s b refl e
 
 pub none-left : (limit : ℕ) (r : Rest) → None ≡ item_in (found limit r) → rest_after limit r ≡ r
 none-left limit r i = ap (rest_behind r) (not-got (found limit r) i)
+
+-- ---- the phase after an item
+
+-- nothing is known of an item where the preface is not awaited
+opens-later : (n : Next) → Opens false n
+opens-later NoItem = tt
+opens-later (Got x used) = tt
+
+opens-in : (p : Phase) (limit : ℕ) (b : List ℕ) → Opens (awaits_preface p) (trace.next_in p limit b)
+opens-in phase.Preface limit b = opens b limit
+opens-in phase.Settings limit b = opens-later (next false limit b)
+opens-in phase.Running limit b = opens-later (next false limit b)
+opens-in (phase.Ended code) limit b = tt
+
+ended-past : (p : Phase) → is_ended p ≡ true → awaits_preface p ≡ false
+ended-past phase.Preface h = absurd (true≢false (sym h))
+ended-past phase.Settings h = refl
+ended-past phase.Running h = refl
+ended-past (phase.Ended code) h = refl
+
+frame-past : (expected : Bool) (h : Head) (b : List ℕ) (used : ℕ) → Opens expected (Got (WholeFrame h b) used) → expected ≡ false
+frame-past true h b used o = absurd o
+frame-past false h b used o = refl
+
+item-past : (s : State) (x : Item) (used : ℕ) → Opens (awaits_preface s.core.phase) (Got x used) → awaits_preface (step s x).state.core.phase ≡ false
+item-past s Preface used o = ap awaits_preface (preface-phase s)
+item-past s BadPreface used o = ended-past _ (bad-phase s)
+item-past s (WholeFrame h b) used o = frame-phase s h b (frame-past (awaits_preface s.core.phase) h b used o)
+item-past s (Oversize h) used o = ended-past _ (oversize-phase s h)
+
+event-past : (s t : State) (n : Next) (e : Event) (used : ℕ) → Opens (awaits_preface s.core.phase) n → event_on s n ≡ One e t used → awaits_preface t.core.phase ≡ false
+event-past s t NoItem e used o h = cc
+event-past s t (Got x used') e used o h = let same : (step s x).state ≡ t = cc in rw (← same) (item-past s x used' o)
+
+-- after an item the preface is awaited no more
+pub comes-past : (s t : State) (b : List ℕ) (e : Event) (used : ℕ) → next_event s b ≡ One e t used → awaits_preface t.core.phase ≡ false
+unfolding next_event next_item
+comes-past s t b e used h = event-past s t (trace.next_in s.core.phase s.core.own.frame b) e used (opens-in s.core.phase s.core.own.frame b) h

@@ -1,15 +1,16 @@
 mod AboveLaws
 mod FinishLaws
 mod FragmentLaws
-mod Items
+pub mod Items
 mod InsideLaws
 mod KindLaws
 mod MakeLaws
 mod PartLaws
-mod Phases
+pub mod Phases
 mod PiecesLaws
 mod Plays
 mod PreviewLaws
-mod Runs
-mod Shortest
+pub mod Runs
+pub mod Shortest
 mod SentLaws
+mod ShortLaws

@@ -1,4 +1,4 @@
--- A change is made: what the records have to be for it, and what its two passes come to.
+-- A change is made: what the records have to be for it, and what its two passes result in.
 use Rattle.std.proofs.Common.{◌≡◌, ℕ, ◌++◌, List, refl, sym, ap, subst, ◌∙◌, append-nil, append_assoc}
 use Rattle.std.proofs.lemmas.Grind.{flat_map-append}
 use Rattle.std.specs.Prelude.{Option}
@@ -18,7 +18,7 @@ use Rattle.h2_spec.specs.Stream.{Records}
 use Rattle.h2_spec.specs.Trace.{then_sent}
 use Rattle.h2_spec.specs.Window.{sendable}
 use Rattle.h2_conn.specs.Blocks.{IsOpenFor}
-use Rattle.h2_conn.specs.Does.{Does}
+use Rattle.h2_conn.specs.Does.{AreShort, Does}
 use Rattle.h2_conn.specs.Sending.{all_frames, core_after, core_after_as, records_after, streams_after, streams_after_as, waiting_frames_as, CanMake}
 use Rattle.h2_rules.specs.Sound.{IsSoundChange, IsSoundState, IsSoundTouch, touched_records}
 use Rattle.h2_conn.proofs.KindLaws.{open-after-sending}
@@ -71,9 +71,9 @@ made-then s p c = at c.core.phase
 
 -- what the passes leave is what the definitions say
 pub did : (s : State) (p : List ℕ) (c : Change) (r mid now : Records) (core : Core) (out out' : List ℕ) → s.streams ≡ r.streams → mid ≡ touched_records c.touch r → core ≡ core_after c.core mid.streams →
-    now ≡ records_after c.core mid → out' ≡ out ++ frames_octets (all_frames s.book p c s.streams) →
+    now ≡ records_after c.core mid → out' ≡ out ++ frames_octets (all_frames s.book p c s.streams) → AreShort (all_frames s.book p c s.streams) →
     Does (then_sent c.core.phase (made s p c)) out (record s { core = core; streams = now.streams }) out'
-did s p c r mid now core out out' held touching counts sending sent =
+did s p c r mid now core out out' held touching counts sending sent short =
     let streams : mid.streams ≡ touched c.touch s.streams = ap (λ (x : Records). x.streams) touching ∙ touched-streams c.touch r ∙ ap (touched c.touch) (sym held) in
     let after = ap (λ (x : Records). x.streams) sending ∙ ap (streams_after c.core) streams in
     let paid = counts ∙ ap (core_after c.core) streams in
@@ -81,4 +81,5 @@ did s p c r mid now core out out' held touching counts sending sent =
     (record {
       state = ap (λ (k : Core). record s { core = k; streams = now.streams }) paid ∙ ap (λ (ss : List Stream). record s { core = core_after c.core (touched c.touch s.streams); streams = ss }) after;
       sent = sent;
+      short = short;
     })

@@ -58,7 +58,7 @@ fed-more c c' c'' q q' out out' out'' x y =
       },
     )
 
--- what a new connection comes to
+-- what a new connection results in
 pub opened : (book : List Entry) (config : Config) (octets out first last : List ℕ) (c c' : Connection) → c ≡ going (opening book config) [] → first ≡ out ++ opening_octets config
     → Fed c octets first c' last → Opens book config octets out c' last
 opened book config octets out first last c c' new begun x =

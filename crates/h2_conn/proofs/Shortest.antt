@@ -193,6 +193,7 @@ octet-taken s t octets q b c out out' i octet h held at none x =
         used_is = omega (arith, used, long);
         after = ap (going t) (ap (left_by t.core.phase) empty ∙ left-none t.core.phase);
         sent = x.sent;
+        short = x.short;
       }),
       empty,
     )

@@ -19,7 +19,7 @@ use Rattle.h2_conn.specs.declared.block.FragmentEffect.TheVariants.{Breaks, Make
 use Rattle.h2_conn.specs.declared.block.TableAfter.{TableAfter}
 use Rattle.h2_conn.specs.declared.block.TableAfter.TheVariants.{Same, Changed}
 
--- a block whose decoder has met no fault and no want of memory, and need not begin with a size update
+-- a block whose decoder has met no fault and has not run out of memory, and need not begin with a size update
 abbrev pub IsGoing : BlockSoFar → Type 0
 IsGoing b = (b.due ≡ false) × (b.outcome ≡ Some (Unfinished (unfinished b.outcome)))
 
@@ -39,7 +39,7 @@ abbrev pub IsStopped : Option OpenBlock → Type 0
 IsStopped None = Unit {0}
 IsStopped (Some b) = b.decoding ≡ None
 
--- the cell of the table, by what HEADERS begins: the table has no cell in which HEADERS come to nothing
+-- the cell of the table, by what HEADERS begins: the table has no cell in which HEADERS result in nothing
 abbrev pub cell_of : Result Purpose ErrorCode → Cell Purpose
 cell_of (Ok purpose) = Rule purpose
 cell_of (Err code) = Error code
@@ -63,7 +63,7 @@ abbrev pub end_error : List ℕ → Option ErrorCode
 end_error [] = None
 end_error (octet ∷ rest) = Some CompressionError
 
--- ---- what a fragment comes to
+-- ---- what a fragment results in
 
 -- the header table after a fragment, by the one before it
 abbrev pub table_by : {A : Type 0} → Table → TableAfter A → Table

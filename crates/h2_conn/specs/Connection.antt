@@ -22,7 +22,7 @@ going s rest = record { state = s; rest = rest; failed = false }
 abbrev pub halted : State → Connection
 halted s = record { state = stopped s; rest = []; failed = true }
 
--- what a state and the octets that are held stand for
+-- what a state and the octets that are held represent
 abbrev pub connection : Bool → State → List ℕ → Connection
 connection false s octets = going s (left_by s.core.phase octets)
 connection true s octets = halted s

@@ -8,7 +8,7 @@ fault_number NoMemory = 0
 fault_number BadConfig = 16
 fault_number Failed = 17
 
--- limits out of range are refused before memory is wanted
+-- limits out of range are refused before memory is needed
 abbrev pub refusal_for : (allowed : Bool) → ConnFault
 refusal_for true = NoMemory
 refusal_for false = BadConfig

@@ -1,4 +1,4 @@
--- What feeding octets to a connection comes to (RFC 9113, 3.4).
+-- What feeding octets to a connection results in (RFC 9113, 3.4).
 use Rattle.std.specs.Prelude.{◌≡◌, ℕ, ◌≤◌, ◌++◌, ◌-◌, Bool, true, false, List, [], length, take, drop}
 use Rattle.h2_spec.specs.declared.connection.Config.{Config}
 use Rattle.h2_spec.specs.Answer.{Entry}
@@ -11,7 +11,7 @@ use Rattle.h2_spec.specs.Trace.{Event, Run, left_by, next_event, sent_octets, tr
 use Rattle.h2_spec.specs.View.{View, view}
 use Rattle.h2_conn.specs.declared.one.One as code
 use Rattle.h2_conn.specs.Connection.{Connection, going, halted}
-use Rattle.h2_conn.specs.Does.{stopped}
+use Rattle.h2_conn.specs.Does.{AreShort, stopped}
 
 -- the run over more octets
 abbrev pub fed : Connection → List ℕ → Run
@@ -39,6 +39,7 @@ pub record TakesOne (c : Connection) (more out : List ℕ) (c' : Connection) (ou
   pub used_is : used ≡ taken - length c.rest
   pub after : c' ≡ going next []
   pub sent : out' ≡ out ++ frames_octets event.sent
+  pub short : AreShort event.sent
 
 -- all octets wait: there is no item
 pub record Waits (c : Connection) (more out : List ℕ) (c' : Connection) (out' : List ℕ) (used : ℕ) : Type 0 where
@@ -65,6 +66,7 @@ pub record Takes (s : State) (b out : List ℕ) (t : State) (c out' : List ℕ) 
   pub after : event.state ≡ t
   pub rest : c ≡ drop used b
   pub sent : out' ≡ out ++ frames_octets event.sent
+  pub short : AreShort event.sent
 
 -- the next item is taken, or there is none
 abbrev pub Advances : State → List ℕ → List ℕ → State → List ℕ → List ℕ → Bool → Type 0

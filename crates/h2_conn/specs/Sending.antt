@@ -1,4 +1,4 @@
--- What a change and the sending behind it come to.
+-- What a change and the sending behind it result in.
 use Rattle.std.specs.Prelude.{◌≡◌, ℕ, false, List, [], ◌++◌, ◌-◌, pos, ◌-ℤ◌}
 use Rattle.std.specs.List.{AllByRecursion}
 use Rattle.h2_spec.specs.declared.connection.Core.{Core}

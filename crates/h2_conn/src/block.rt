@@ -61,7 +61,7 @@ impl<A: Allocator> TableAfter<A> {
     }
 }
 
-/// What a fragment comes to: a connection error, or the open block and the header table after it, and a change.
+/// What a fragment results in: a connection error, or the open block and the header table after it, and a change.
 #[derive(Drop)]
 pub enum FragmentEffect<A: Allocator> {
     Breaks(ErrorCode),
@@ -100,7 +100,7 @@ fn decoded<A: Allocator + Copy>(
     Ok(TableAfter::Changed(copy))
 }
 
-/// Whether a fault is one of the octets: `AllocError` where it is a want of memory.
+/// Whether a fault is one of the octets: `AllocError` where it is out of memory.
 fn no_want(fault: BlockFault) -> Result<(), AllocError>
     ensures { OnOk result (fault ≢ NoMemory) }
 {
@@ -166,7 +166,7 @@ fn end_error<A: Allocator + Copy>(decoder: &BlockDecoder<A>) -> Option<ErrorCode
     }
 }
 
-/// A fragment of a block whose stream is known by the block's purpose. Nothing is changed: what the block comes to is answered,
+/// A fragment of a block whose stream is known by the block's purpose. Nothing is changed: what the block results in is answered,
 /// with the table after it where that is another.
 ///
 /// # Errors

@@ -1,8 +1,8 @@
 //! A connection over octets: items off their front, each whole or not at all (RFC 9113, 3.4).
 //! Rests on h2_frame's splitter, on `item`, `opening` and `view`.
-//! Definitions: h2_spec's `specs/Trace.antt`; `specs/Connection.antt` for what a connection stands for, `specs/Runs.antt` for what feeding it comes to.
+//! Definitions: h2_spec's `specs/Trace.antt`; `specs/Connection.antt` for what a connection represents, `specs/Runs.antt` for what feeding it results in.
 
-ghost use Rattle.std.specs.Prelude.{◌≡◌, ◌++◌, ◌∷◌, ◌<◌, ◌^◌, [], true, false, IfOk, IfErr, OnOk, OnErr, Some, option_map};
+ghost use Rattle.std.specs.Prelude.{◌≡◌, ◌++◌, ◌∷◌, ◌<◌, ◌^◌, [], true, false, IfOk, IfErr, IsOk, OnOk, OnErr, Some, option_map};
 ghost use Rattle.std.specs.String.{string_bytes};
 ghost use Rattle.h2_spec.specs.Errors.{code_number};
 ghost use Rattle.h2_spec.specs.Opening.{opening_octets};
@@ -108,6 +108,7 @@ fn take_piece<'b, A: Allocator + Copy>(
     ensures ok { IfOk result (Feeds (going state.old (left_by state.old.core.phase splitter.old.octets)) piece.now out.old.items (going state.new (left_by state.new.core.phase splitter.new.octets)) out.new.items) }
     ensures rest { OnOk result (IsAtRest false state.new splitter.new) }
     ensures err { OnErr result (Halts (going state.old (left_by state.old.core.phase splitter.old.octets)) piece.now out.old.items (halted state.new) out.new.items) }
+    ensures over { is_ended state.old.core.phase ≡ true → IsOk result }
 {
     if is_ended(state.phase()) {
         return Ok(0);
@@ -143,6 +144,7 @@ fn take_one<'b, A: Allocator + Copy>(
     ensures ok { IfOk result (FeedsOne (going state.old (left_by state.old.core.phase splitter.old.octets)) piece.now out.old.items (going state.new (left_by state.new.core.phase splitter.new.octets)) out.new.items) }
     ensures rest { OnOk result (IsAtRest false state.new splitter.new) }
     ensures err { OnErr result ((stopped state.new ≡ stopped state.old) × (out.new.items ≡ out.old.items)) }
+    ensures over { is_ended state.old.core.phase ≡ true → IsOk result }
 {
     let all = piece.len();
     if is_ended(state.phase()) {
@@ -239,6 +241,7 @@ impl<'b, A: Allocator + Copy> Conn<'b, A> {
         ensures fault { IfErr result (λ fault. fault ≡ refusal_after self.old.failed) }
         ensures failed { self.old.failed ≡ true → (result ≡ Err Failed) × (self.new ≡ self.old) × (out.new.items ≡ out.old.items) }
         ensures no_memory { OnErr result (self.old.failed ≡ false → Halts self.old piece.now out.old.items self.new out.new.items) }
+        ensures over { self.old.failed ≡ false → is_ended self.old.state.core.phase ≡ true → IsOk result }
     {
         if self.failed {
             return Err(ConnFault::Failed);
@@ -261,6 +264,7 @@ impl<'b, A: Allocator + Copy> Conn<'b, A> {
         ensures fault { IfErr result (λ fault. fault ≡ refusal_after self.old.failed) }
         ensures failed { self.old.failed ≡ true → (result ≡ Err Failed) × (self.new ≡ self.old) × (out.new.items ≡ out.old.items) }
         ensures no_memory { OnErr result (self.old.failed ≡ false → (self.new ≡ halted self.old.state) × (out.new.items ≡ out.old.items)) }
+        ensures over { self.old.failed ≡ false → is_ended self.old.state.core.phase ≡ true → IsOk result }
     {
         if self.failed {
             return Err(ConnFault::Failed);
@@ -271,7 +275,22 @@ impl<'b, A: Allocator + Copy> Conn<'b, A> {
         }
     }
 
-    /// What is shown of the state; after want of memory that of the items before it.
+    /// The same connection once more, in memory of its own; the book is lent to both, and where one was refused memory, the copy was too.
+    ///
+    /// `AllocError` where the memory was refused; `self` is as it was.
+    pub fn try_clone(&self) -> Result<Self, AllocError>
+        ensures same { IfOk result (λ copy. copy ≡ self.now) }
+    {
+        let splitter = self.splitter.try_clone()?;
+        let state = self.state.try_clone()?;
+        Ok(Conn {
+            splitter,
+            state,
+            failed: self.failed,
+        })
+    }
+
+    /// What is shown of the state; after it ran out of memory that of the items before it.
     ///
     /// `AllocError` where memory for the view is refused.
     pub fn state(&self, alloc: A) -> Result<View<A>, AllocError>

@@ -1,4 +1,4 @@
-//! HEADERS and CONTINUATION on a connection: a block is opened or goes on, and what it comes to is made (RFC 9113, 6.2 and 6.10).
+//! HEADERS and CONTINUATION on a connection: a block is opened or goes on, and what it results in is made (RFC 9113, 6.2 and 6.10).
 //! Rests on `block` and on `make`; definitions: `on_headers` of h2_spec's `specs/Effect.antt`, `continuation` of `specs/Headers.antt`.
 
 ghost use Rattle.std.specs.Prelude.{◌≡◌, ◌<◌, ◌^◌, length, IfOk, IfSome, OnOk, OnErr};
@@ -27,7 +27,7 @@ use std::alloc::{AllocError, Allocator};
 const END_HEADERS: u8 = 4;
 
 impl<'b, A: Allocator + Copy> State<'b, A> {
-    /// What a fragment comes to is made: a connection error, or the change, and then block and table; or nothing.
+    /// What a fragment results in is made: a connection error, or the change, and then block and table; or nothing.
     fn finish(
         &mut self,
         effect: FragmentEffect<A>,
@@ -73,7 +73,7 @@ impl<'b, A: Allocator + Copy> State<'b, A> {
         }
     }
 
-    /// What a fragment of the open block comes to.
+    /// What a fragment of the open block results in.
     fn on_fragment(
         &mut self,
         shown: BlockView,

@@ -66,7 +66,7 @@ impl<'b, A: Allocator + Copy> State<'b, A> {
         self.core
     }
 
-    /// A stream's record, or what stands for it where it has none.
+    /// A stream's record, or what represents it where it has none.
     pub fn stream_at(&self, id: u32) -> Stream
         ensures value { result ≡ stream_at self.now.core.last self.now.streams id }
         ensures id { result.id ≡ id }
@@ -140,7 +140,7 @@ impl<'b, A: Allocator + Copy> State<'b, A> {
         Reaction::ConnectionError(ErrorCode::ProtocolError)
     }
 
-    /// What a frame comes to that is no HEADERS and no CONTINUATION.
+    /// What a frame results in that is no HEADERS and no CONTINUATION.
     fn react(&self, head: &Head, payload: &[u8], part: Part<'_>) -> Reaction
         requires fits { length payload.now < 2 ^ 24 }
         requires part { part_of head.now payload.now ≡ Ok (part_seen part) }

@@ -1,4 +1,4 @@
-//! A change is made: first all that may want memory, behind a mark in `out`, and then what changes the state (RFC 9113, 5.4).
+//! A change is made: first all that may need memory, behind a mark in `out`, and then what changes the state (RFC 9113, 5.4).
 //! Rests on `write` and `pump`; definitions: h2_spec's `specs/Change.antt`, `specs/Pump.antt`, and `specs/Sending.antt` here.
 
 ghost use Rattle.std.specs.Prelude.{◌≡◌, ◌<◌, ◌^◌, ◌++◌, List, length, OnOk, OnErr, take, vec_len};
@@ -8,7 +8,7 @@ ghost use Rattle.h2_spec.specs.Frame.{frames_octets};
 ghost use Rattle.h2_spec.specs.Trace.{then_sent};
 ghost use Rattle.h2_spec.specs.declared.connection.Phase.TheVariants as phase;
 ghost use Rattle.h2_conn.specs.Blocks.{IsOpenFor};
-ghost use Rattle.h2_conn.specs.Does.{Does};
+ghost use Rattle.h2_conn.specs.Does.{AreShort, Does};
 ghost use Rattle.h2_conn.specs.Preview.{CanSend};
 ghost use Rattle.h2_conn.specs.Sending.{all_frames, core_after, records, records_after, waiting_frames, CanMake};
 ghost use Rattle.h2_rules.specs.Sound.{IsSoundChange, IsSoundState, touched_records};
@@ -31,6 +31,7 @@ fn write_answer<A: Allocator>(
     out: &mut Vec<u8, A>,
 ) -> Result<(), AllocError>
     ensures ok { OnOk result (out.new.items ≡ out.old.items ++ frames_octets (changes.answer_frames book.now answer)) }
+    ensures short { OnOk result (AreShort (changes.answer_frames book.now answer)) }
     ensures err { OnErr result (out.new.items ≡ out.old.items) }
 {
     match answer {
@@ -58,6 +59,7 @@ fn write_change<A: Allocator>(
 ) -> Result<(), AllocError>
     requires fits { length payload.now < 2 ^ 24 }
     ensures ok { OnOk result (out.new.items ≡ out.old.items ++ frames_octets (changes.frames_of book.now payload.now change.now)) }
+    ensures short { OnOk result (AreShort (changes.frames_of book.now payload.now change.now)) }
     ensures kept { take (vec_len out.old) out.new.items ≡ out.old.items }
 {
     write_first(change.first, payload, out)?;
@@ -128,6 +130,7 @@ fn write_and_touch<A: Allocator>(
     requires sends { CanSend book.now streams.old change.now.touch }
     requires touches { CanMake streams.old change.now.touch }
     ensures sent { OnOk result (out.new.items ≡ out.old.items ++ frames_octets (all_frames book.now payload.now change.now streams.old.streams)) }
+    ensures short { OnOk result (AreShort (all_frames book.now payload.now change.now streams.old.streams)) }
     ensures touched { OnOk result (streams.new ≡ touched_records change.now.touch streams.old) }
     ensures err { OnErr result (streams.new ≡ streams.old) }
     ensures kept { take (vec_len out.old) out.new.items ≡ out.old.items }
@@ -150,6 +153,7 @@ fn send_and_touch<A: Allocator>(
     requires sends { CanSend book.now streams.old change.now.touch }
     requires touches { CanMake streams.old change.now.touch }
     ensures sent { OnOk result (out.new.items ≡ out.old.items ++ frames_octets (all_frames book.now payload.now change.now streams.old.streams)) }
+    ensures short { OnOk result (AreShort (all_frames book.now payload.now change.now streams.old.streams)) }
     ensures touched { OnOk result (streams.new ≡ touched_records change.now.touch streams.old) }
     ensures err { OnErr result ((streams.new ≡ streams.old) × (out.new.items ≡ out.old.items)) }
 {

@@ -1,4 +1,4 @@
-//! What taking at most one item comes to.
+//! What taking at most one item results in.
 //! Rests on nothing; definition: `FeedsOne` of `specs/Runs.antt`.
 
 /// How far one call went.

@@ -47,6 +47,47 @@ impl<A: Allocator> Model for OpenBlock<A> {
     ghost view = { λ b. record { shown = b.shown; decoding = b.decoding } };
 }
 
+impl<A: Allocator + Copy> Decoding<A> {
+    /// The same once more, in memory of its own.
+    fn try_clone(&self) -> Result<Decoding<A>, AllocError>
+        ensures { IfOk result (λ copy. copy ≡ self.now) }
+    {
+        let decoder = self.decoder.try_clone()?;
+        Ok(Decoding {
+            purpose: self.purpose,
+            decoder,
+        })
+    }
+}
+
+impl<A: Allocator + Copy> OpenBlock<A> {
+    /// The same block once more, in memory of its own.
+    fn try_clone(&self) -> Result<OpenBlock<A>, AllocError>
+        ensures { IfOk result (λ copy. copy ≡ self.now) }
+    {
+        let decoding = match &self.decoding {
+            None => None,
+            Some(decoding) => Some(decoding.try_clone()?),
+        };
+        Ok(OpenBlock {
+            shown: self.shown,
+            decoding,
+        })
+    }
+}
+
+/// The same open block once more, if there is one.
+fn copy_of<A: Allocator + Copy>(
+    block: &Option<OpenBlock<A>>,
+) -> Result<Option<OpenBlock<A>>, AllocError>
+    ensures { IfOk result (λ copy. copy ≡ block.now) }
+{
+    match block {
+        None => Ok(None),
+        Some(block) => Ok(Some(block.try_clone()?)),
+    }
+}
+
 impl<A: Allocator> OpenBlock<A> {
     /// The stream that the block is on.
     pub fn stream(&self) -> u32
@@ -112,6 +153,25 @@ impl<'b, A: Allocator + Copy> State<'b, A> {
             block: None,
             table,
             streams: Streams::new(alloc),
+        })
+    }
+
+    /// The same state once more, in memory of its own; the book is lent to both.
+    ///
+    /// `AllocError` where the memory was refused; `self` is as it was.
+    pub fn try_clone(&self) -> Result<Self, AllocError>
+        ensures { IfOk result (λ copy. copy ≡ self.now) }
+    {
+        let block = copy_of(&self.block)?;
+        let table = self.table.try_clone()?;
+        let streams = self.streams.try_clone()?;
+        Ok(State {
+            book: self.book,
+            config: self.config,
+            core: self.core,
+            block,
+            table,
+            streams,
         })
     }
 }

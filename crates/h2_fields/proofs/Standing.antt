@@ -1,4 +1,4 @@
--- Where a decoder stands after some of its octets, and what it stands for after a fragment.
+-- Where a decoder is after some of its octets, and what it represents after a fragment.
 use Rattle.std.proofs.Common.{◌≡◌, ◌≢◌, ℕ, ◌+◌, ◌-◌, ◌<◌, ◌≤◌, List, [], ◌++◌, length, drop, take, Some, None, option_map, Result, Err, refl, ap, ◌∙◌, sym, arith, length-drop}
 use Rattle.std.proofs.lemmas.List.{append-nil, take_all}
 use Rattle.h2_spec.specs.Block.{Fault, Index, Integer, Huffman, SizeUpdate, Outcome, Unfinished, Faulty, Progress, Decoded, BlockSoFar, StandsWithin, applied, decoded, decoded_with, carried_on}

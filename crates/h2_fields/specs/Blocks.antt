@@ -56,7 +56,7 @@ pub record IsFaulted (limit : ℕ) (before : Progress) (b : List ℕ) (now : Pro
   pub exact : f ≢ fault.NoMemory → ((decoded limit before b).progress ≡ now) × (faulted (decoded limit before b).outcome ≡ Some f)
   pub within : f ≡ fault.NoMemory → StandsWithin limit before b now
 
--- ---- what a decoder stands for
+-- ---- what a decoder represents
 
 -- how a block ends so far, by the octets that are left and the fault; nothing where memory was refused
 abbrev pub outcome_of : List ℕ → Option BlockFault → Option Outcome

@@ -41,6 +41,18 @@ HasInstruction (Whole None used) = ⊥
 HasInstruction More = ⊥
 HasInstruction TooLong = ⊥
 
+-- a literal: what is read of the other instructions takes no memory
+abbrev pub IsLiteral : spec.Shape → Type 0
+IsLiteral (spec.Indexed i) = ⊥
+IsLiteral (spec.Update n) = ⊥
+IsLiteral (spec.Literal mode n value) = Unit {0}
+
+-- a whole literal
+abbrev pub HasLiteral : Read spec.Shape → Type 0
+HasLiteral (Whole i used) = IsLiteral i
+HasLiteral More = ⊥
+HasLiteral TooLong = ⊥
+
 -- the octets are a text
 abbrev pub HasText : huffman.HuffRead → Type 0
 HasText (huffman.Text t) = Unit {0}

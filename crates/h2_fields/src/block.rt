@@ -2,7 +2,7 @@
 //! It rests on `shape` for what stands at the front of the octets, and on `apply` for what each instruction does.
 //! The definitions are `decoded` and `carried_on` of `h2_spec`, specs/Block.antt; contracts see a decoder as `BlockSoFar`.
 
-ghost use Rattle.std.specs.Prelude.{◌≡◌, ◌≢◌, ◌≤◌, ◌<◌, [], ◌++◌, false, drop, take, vec_len, length, Some, None, Ok, Err, option_map, IfOk, IfErr, OnOk};
+ghost use Rattle.std.specs.Prelude.{◌≡◌, ◌≢◌, ◌≤◌, ◌<◌, [], ◌++◌, false, drop, take, vec_len, length, Some, None, Ok, Err, option_map, IfOk, IfErr, IsErr, OnOk};
 ghost use Rattle.h2_spec.specs.Block as block;
 ghost use Rattle.h2_spec.specs.Block.{Unfinished, StandsWithin, carried_on, decoded_with};
 ghost use Rattle.h2_spec.specs.Instruction.{instr_at};
@@ -63,10 +63,11 @@ impl<A: Allocator + Copy> BlockDecoder<A> {
         ensures carried { self.new.outcome ≢ None → decoded_with table.new.table self.new ≡ option_map (λ before. carried_on table.old.limit before piece.now) (decoded_with table.old.table self.old) }
         ensures refused { self.new.outcome ≡ None → self.old.outcome ≢ None → StandsWithin table.old.limit (progress_so_far table.old.table self.old) (unfinished self.old.outcome ++ piece.now) (progress_so_far table.new.table self.new) }
         ensures spent { self.old.outcome ≡ None → (self.new ≡ self.old) × (table.new ≡ table.old) }
+        ensures stays { IsErr (answer_of self.old.outcome) → (result ≡ answer_of self.old.outcome) × (self.new ≡ self.old) × (table.new ≡ table.old) }
         ensures limit { table.new.limit ≡ table.old.limit }
     {
-        if let Some(fault) = self.fault {
-            return Err(fault);
+        if let Some(repeated) = self.fault {
+            return Err(repeated);
         }
         match decode_piece(&mut self.gathered, table, &mut self.rest, piece) {
             Ok(()) => Ok(()),
@@ -94,9 +95,10 @@ impl<A: Allocator + Copy> BlockDecoder<A> {
         ensures left { unfinished self.old.outcome ≢ [] → (result ≡ Ok 0) × (self.new ≡ self.old) }
         ensures refused { self.new.outcome ≡ None → self.old.outcome ≢ None → StandsWithin table.now.limit (progress_so_far table.now.table self.old) (unfinished self.old.outcome ++ piece.now) (progress_so_far table.now.table self.new) }
         ensures spent { self.old.outcome ≡ None → self.new ≡ self.old }
+        ensures stays { IsErr (answer_of self.old.outcome) → (told result ≡ answer_of self.old.outcome) × (self.new ≡ self.old) }
     {
-        if let Some(fault) = self.fault {
-            return Err(fault);
+        if let Some(earlier) = self.fault {
+            return Err(earlier);
         }
         if !self.rest.is_empty() {
             return Ok(0);

@@ -9,7 +9,7 @@ ghost use Rattle.h2_spec.specs.Huffman as huffman;
 ghost use Rattle.h2_spec.specs.Huffman.{spell_huffman};
 ghost use Rattle.h2_spec.specs.Instruction as spec;
 ghost use Rattle.h2_fields.specs.Faults.{refusal};
-ghost use Rattle.h2_fields.specs.Instructions.{instr_of, name_text_of, read_text, fault_at, HasInstruction, HasText, IsWritable, IsWritableName, IsWritableText};
+ghost use Rattle.h2_fields.specs.Instructions.{instr_of, name_text_of, read_text, fault_at, HasInstruction, HasLiteral, HasText, IsLiteral, IsWritable, IsWritableName, IsWritableText};
 ghost use Rattle.h2_fields.specs.Shapes.{mode_of, string_of, name_of, shape_of};
 ghost use Rattle.h2_fields.specs.declared.fault.BlockFault.TheVariants as faults;
 
@@ -113,13 +113,14 @@ impl Mode {
 ///
 /// # Errors
 ///
-/// `Integer` where an integer of it is too long, as soon as its fifth octet behind the prefix is there; `Huffman` where it is
-/// whole and a string of it is no Huffman string; `NoMemory` where it is whole, each of its strings has a text, and memory was
-/// refused.
+/// `Integer` where an integer of it is too long, as soon as its fifth octet behind the prefix is there; `Huffman`
+/// where it is whole and a string of it is no Huffman string; `NoMemory` where it is a whole literal, each of its
+/// strings has a text, and memory was refused. An indexed field and a size update take no memory.
 pub fn read_instr<A: Allocator + Copy>(alloc: A, octets: &[u8]) -> Result<InstrRead<A>, BlockFault>
     ensures read { IfOk result (λ read. read_text read ≡ spec.instruction_at octets.now) }
     ensures fault { IfErr result (λ fault. fault ≢ faults.NoMemory → fault_at (spec.instruction_at octets.now) ≡ Some fault) }
     ensures no_memory { IsErrOf result faults.NoMemory → HasInstruction (spec.instruction_at octets.now) }
+    ensures literal { IsErrOf result faults.NoMemory → HasLiteral (spec.instr_at octets.now) }
 {
     match shape_at(octets) {
         Ok((shape, used)) => Ok(InstrRead::Whole(with_texts(alloc, shape)?, used)),
@@ -133,6 +134,7 @@ fn with_texts<A: Allocator + Copy>(alloc: A, shape: Shape<'_>) -> Result<Instr<A
     ensures texts { IfOk result (λ instr. spec.instruction_of (shape_of shape.entry) ≡ Some (instr_of instr)) }
     ensures fault { IfErr result (λ fault. fault ≢ faults.NoMemory → (fault ≡ faults.Huffman) × (spec.instruction_of (shape_of shape.entry) ≡ None)) }
     ensures no_memory { IsErrOf result faults.NoMemory → IsSome (spec.instruction_of (shape_of shape.entry)) }
+    ensures literal { IsErrOf result faults.NoMemory → IsLiteral (shape_of shape.entry) }
 {
     match shape {
         Shape::Indexed(index) => Ok(Instr::Indexed(index)),
@@ -158,7 +160,7 @@ fn literal_with_texts<A: Allocator + Copy>(
             name,
             value: with_text(alloc, value)?,
         }),
-        // a bad value comes before want of memory for the name
+        // a bad value is found before memory for the name is needed
         Err(BlockFault::NoMemory) => {
             with_text(alloc, value)?;
             Err(BlockFault::NoMemory)
@@ -235,7 +237,7 @@ pub fn write_instr<A: Allocator, B: Allocator>(
     }
 }
 
-/// Appends the instruction; where memory was refused, some of its octets may stand behind those before.
+/// Appends the instruction; where memory was refused, some of its octets may be appended.
 #[tactic(auto, unfolding(h2_spec::specs::Instruction::spell))]
 fn write_parts<A: Allocator, B: Allocator>(
     instr: &Instr<B>,

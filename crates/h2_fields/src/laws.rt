@@ -1,5 +1,5 @@
 //! Laws of what is written here, each on a function with an empty body: it is read back as what it was written for.
-//! They rest on the lemmas from which `h2_laws::block_laws` is proved too, and which stand in `h2_spec` as the definitions do.
+//! They rest on the lemmas from which `h2_laws::block_laws` is proved too, and which are in `h2_spec` as the definitions do.
 
 ghost use Rattle.std.specs.Prelude.{◌≡◌, ℕ, Bool, false, if◌then◌else◌, List, ◌∷◌, ◌++◌, length, Some};
 ghost use Rattle.std.specs.List.{AllByRecursion};

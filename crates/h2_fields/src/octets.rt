@@ -1,5 +1,5 @@
 //! Octets that own their memory: a small type over a list that contracts see as the list itself.
-//! It rests on `Vec` alone; what fields and strings mean by their octets stands in the definitions (`h2_spec`, Field and
+//! It rests on `Vec` alone; what fields and strings mean by their octets is in the definitions (`h2_spec`, Field and
 //! Instruction).
 
 ghost use Rattle.std.specs.Prelude.{◌≡◌, IfOk};

@@ -1,7 +1,7 @@
 //! The splitter: octets come in pieces of any length, and items are taken from their front (RFC 9113, 3.4, 4.1 and 4.2).
 //! Rests on `head`; definitions: `next` of `h2_spec/specs/Frame.antt`, and `specs/Items.antt` for what a splitter holds.
 
-ghost use Rattle.std.specs.Prelude.{◌≡◌, ℕ, ◌+◌, ◌-◌, ◌≤◌, ◌++◌, [], length, drop, vec_len, true, false, nat_eq, IfSome, OnOk, OnErr};
+ghost use Rattle.std.specs.Prelude.{◌≡◌, ℕ, ◌+◌, ◌-◌, ◌≤◌, ◌++◌, [], length, drop, vec_len, true, false, nat_eq, IfOk, IfSome, OnOk, OnErr};
 ghost use Rattle.std.specs.List.{common_prefix_len};
 ghost use Rattle.std.specs.Option.{option_map};
 ghost use Rattle.std.specs.Borrow.{sem};
@@ -93,7 +93,7 @@ impl<A: Allocator> Splitter<A> {
 
     /// Takes the next item, if the octets held begin with a whole one; a frame is oversized when its length is above the limit.
     ///
-    /// The first item is the preface or a bad one. After a bad preface or an oversized head the answer is `None` for good.
+    /// The first item is the preface or a bad one. After a bad preface or an oversized head the answer is `None` permanently.
     /// The payload is lent from the splitter.
     pub fn next(&mut self, limit: u32) -> Option<Item<'_>>
         ensures* leaves { sem 𝓛 (Rests (the_row A.row A.Allocator) self.entry (λ rest. rest ≡ rest_after limit self.old)) }
@@ -116,6 +116,24 @@ impl<A: Allocator> Splitter<A> {
     {
         drop_front(&mut self.buffer, self.offset);
         self.offset = 0;
+    }
+}
+
+impl<A: Allocator + Copy> Splitter<A> {
+    /// The same splitter once more, in memory of its own; octets that were taken are not copied.
+    ///
+    /// `AllocError` where the memory was refused; `self` is as it was.
+    pub fn try_clone(&self) -> Result<Splitter<A>, AllocError>
+        ensures same { IfOk result (λ copy. copy ≡ self.now) }
+    {
+        let mut buffer = Vec::new(*self.buffer.allocator());
+        buffer.extend_from_slice(octets_from(self.buffer.as_slice(), self.offset))?;
+        Ok(Splitter {
+            buffer,
+            offset: 0,
+            expects_preface: self.expects_preface,
+            is_over: self.is_over,
+        })
     }
 }
 

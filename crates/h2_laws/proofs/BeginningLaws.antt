@@ -34,7 +34,7 @@ past-more used (Whole a more) e = absurd cc
 past-more used More e = refl
 past-more used TooLong e = absurd cc
 
--- what can stand behind another thing
+-- what can follow another thing
 record IsSecond {A B : Type 0} (f : A → List ℕ → Read B) : Type 0 where
   readers : (a : A) → IsReader (f a)
   endable : (a : A) → IsEndable (f a)
@@ -62,7 +62,7 @@ module _ {A B : Type 0} (f : A → List ℕ → Read B) (second : IsSecond f) (p
         whole = ap (λ y. read_then (b ++ x.more) y f) front ∙ ap (λ y. read_past used (f a y)) rest ∙ ap (read_past used) x.whole ∙ ap (Whole x.one) count;
       }
 
-  -- the first is ended, and nothing stands behind it yet
+  -- the first is ended, and nothing follows it yet
   first-ends : (b c : List ℕ) (a : A) → p (b ++ c) ≡ Whole a (length (b ++ c)) → (r : Read B) → f a [] ≡ r → Ends both b
   first-ends b c a k (Whole x n) e =
       let w = b ++ c in

@@ -1,8 +1,10 @@
 pub mod BadLines
 mod BeginningLaws
 mod BlockRows
+mod CuttingLaws
 mod DebugRows
 mod FlowLaws
+mod FormLaws
 mod FrameLaws
 mod FrameRows
 mod Hex
@@ -12,6 +14,7 @@ mod GrantsRows
 pub mod grants
 mod LongBodies
 mod LongLists
+mod OwnLaws
 mod PayloadLaws
 pub mod RequestLaws
 mod RequestRows

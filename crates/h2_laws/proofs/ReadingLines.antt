@@ -1,4 +1,4 @@
--- A line is read as what it says, or its least fault is told; so is a script.
+-- A line is read as what it says, or its least fault is reported; so is a script.
 use Rattle.std.proofs.Common.{◌≡◌, ◌≢◌, ◌∙◌, ◌+◌, ◌<◌, ◌≤◌, ◌^◌, ◌++◌, ◌==◌, ℕ, Bool, true, false, List, [], ◌∷◌, Option, Some, None, Result, Ok, Err, codes, length, refl, sym, ap, arith, inl, inr, cond, nat_lt, option_map, subst, eqb-true, ltb-true, ltb-false, bytes_eq, append_assoc, lt-ltb, lit≤}
 use Rattle.std.specs.List.{AllByRecursion}
 use Rattle.std.proofs.lemmas.List.{length-append}
@@ -69,7 +69,7 @@ line_read line (AFrame k f n r p) (a, b, c, d, is, ha, hb, hc, hd, small) =
     let three : cut_at 32 (c ++ 32 ∷ d) ≡ Some (c, d) = cut_here 32 c d (stream_lacks 32 (lit≤ tt) refl c n r hc) in
     head_of_line line begins.0 _ starts begins.3 ∙ ap (words_at line) one ∙ rw (differs.0, differs.1, two, three) (frame_read a b c d k f n r p ha hb hc hd small)
 
--- ---- what is read is said, and the least fault is told
+-- ---- what is read is said, and the least fault is reported
 
 abbrev IsStatementOf : List ℕ → Result Statement SyntaxKind → Type 0
 IsStatementOf line (Ok s) = Says line s
@@ -301,7 +301,7 @@ line_back (c ∷ cs) = go (c == 59) refl
 
 -- ---- scripts
 
--- lines that stand for octets above others, which count on
+-- lines that represent octets above others, which count on
 abbrev IsReadFrom : List ℕ → ℕ → List (List ℕ) → List (List ℕ) → Result (List ℕ) (ℕ × SyntaxKind) → Type 0
 IsReadFrom text n above lines (Ok octets) = AreLines lines octets
 IsReadFrom text n above lines (Err (m, kind)) = Bad text m kind

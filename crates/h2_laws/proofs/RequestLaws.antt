@@ -109,7 +109,7 @@ passed R m q free above reason = elim (eq-or-lt_of_le above) [
 false_is : false ≡ true → ⊥
 false_is e = cc
 
--- a row more: its test tells whether its reason holds, and no reason stands between
+-- a row more: its test decides whether its reason holds, and no reason stands between
 row : (R : ℕ → Type 0) (n m : ℕ) (t : Bool) (o : Option ℕ) → ((k : ℕ) → n ≤ k → k < m → ¬ (R k)) → (t ≡ true → R m) → (R m → t ≡ true) → IsLeastFrom R (suc m) o → IsLeastFrom R n (cond t (Some m) o)
 row R n m true o none holds tells rest = (holds refl, λ q above reason. reached R n m q none above reason)
 row R n m false None none holds tells rest = λ q above reason. rest q (passed R m q (λ r. false_is (tells r)) (reached R n m q none above reason) reason) reason
@@ -124,7 +124,7 @@ from_zero : (R : ℕ → Type 0) (o : Option ℕ) → IsLeastFrom R 0 o → IsLe
 from_zero R None h = λ q. h q (omega arith)
 from_zero R (Some r) h = (h.0, λ q. h.1 q (omega arith))
 
--- ---- the tests of a request's rows tell its reasons
+-- ---- the tests of a request's rows find its reasons
 
 not-equal : (a b : ℕ) → not (a == b) ≡ true → a ≢ b
 not-equal a b e = grind (arith, nat_tests)
@@ -301,7 +301,7 @@ value_named-is name (f ∷ fs) = by (is_named name f) refl (value_named-is name 
 
 -- ---- responses
 
--- a size update stands before the same block
+-- a size update precedes the same block
 pub response_block-signal : (status : ℕ) (fields : List Field) → response_block true status fields ≡ 0x20 ∷ response_block false status fields
 unfolding response_block
 response_block-signal status fields = refl

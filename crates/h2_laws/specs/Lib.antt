@@ -1,5 +1,8 @@
+pub mod Cutting
+pub mod Forms
 pub mod Grants
 pub mod GrantsTest
 pub mod Order
+pub mod Own
 pub mod Reasons
 pub mod Shares

@@ -11,7 +11,7 @@ pub record SomeField (P : Field → Type 0) (fields : List Field) : Type 0 where
   pub stands : slice_get fields place ≡ Some field
   pub holds : P field
 
--- two fields that are so related stand in the list, the one before the other
+-- two fields that are so related are in the list, the one before the other
 pub record SomeTwo (R : Field → Field → Type 0) (fields : List Field) : Type 0 where
   pub earlier : ℕ
   pub later : ℕ

@@ -1,12 +1,15 @@
 //! Laws of instructions and field blocks, each on a function with an empty body: its contract is the law.
-//! They speak of `h2_spec/specs/Instruction.antt` and `h2_spec/specs/Block.antt`; their lemmas stand in `InstructionLaws` and
-//! `BlockLaws` of `h2_spec/proofs`, and in `proofs/SplitLaws.antt` and `proofs/BeginningLaws.antt`.
+//! They speak of `h2_spec/specs/Instruction.antt` and `h2_spec/specs/Block.antt`; their lemmas are in
+//! `InstructionLaws` and `BlockLaws` of `h2_spec/proofs`, and in `proofs/SplitLaws.antt`, `proofs/BeginningLaws.antt`
+//! and `proofs/FormLaws.antt`.
 
 ghost use Rattle.std.specs.Prelude.{◌≡◌, ◌<◌, ◌≤◌, ℕ, List, ◌++◌, length, take, Some};
 ghost use Rattle.std.specs.List.{concat};
+ghost use Rattle.hex.specs.Hex.{IsBytes};
 ghost use Rattle.h2_spec.specs.Read.{Whole, More, TooLong};
 ghost use Rattle.h2_spec.specs.Instruction.{CanEnd, Instruction, HasTexts, IsSpellable, IsSpelling, Shape, Splits, instr_at, instruction_at, shape_of, spell, split};
 ghost use Rattle.h2_spec.specs.Block.{Progress, decoded, carried_on, carried_through};
+ghost use Rattle.h2_laws.specs.Forms.{IsForm, IsFormOf};
 
 /// An instruction at the front of octets takes some of them, and is there whatever follows: no spelling begins another.
 /// Nor does an integer that is too long become any shorter by more octets (RFC 7541, 5 and 6).
@@ -36,6 +39,16 @@ pub fn instructions_are_read()
 pub fn instructions_are_written()
     ensures whole { (shape : Shape) → IsSpellable shape → instr_at (spell shape) ≡ Whole shape (length (spell shape)) }
     ensures spelling { (instruction : Instruction) → IsSpellable (shape_of instruction) → HasTexts instruction → IsSpelling instruction (spell (shape_of instruction)) }
+{}
+
+/// An instruction has one of five forms, made of integers and strings: each form is read as its instruction, whatever
+/// follows, and what is read of octets is a form of it, by its strings as they are and by their texts (RFC 7541, 5
+/// and 6).
+pub fn instructions_have_five_forms()
+    ensures read { (shape : Shape) (octets more : List ℕ) → IsForm shape octets → instr_at (octets ++ more) ≡ Whole shape (length octets) }
+    ensures formed { (octets : List ℕ) (shape : Shape) (used : ℕ) → IsBytes octets → instr_at octets ≡ Whole shape used → IsForm shape (take used octets) }
+    ensures text_read { (instruction : Instruction) (octets more : List ℕ) → IsFormOf instruction octets → instruction_at (octets ++ more) ≡ Whole (Some instruction) (length octets) }
+    ensures text_formed { (octets : List ℕ) (instruction : Instruction) (used : ℕ) → IsBytes octets → instruction_at octets ≡ Whole (Some instruction) used → IsFormOf instruction (take used octets) }
 {}
 
 /// Octets that are the beginning of an instruction become one with some octets more, and these alone do; one with an integer

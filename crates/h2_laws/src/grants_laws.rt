@@ -1,11 +1,14 @@
 //! Flow control as the peer sees it, over whole runs: what is sent keeps to what was granted, and is held back no further (RFC 9113, 5.2, 6.9 and 8.1).
 //! Rests on the definitions alone: each function's contract is a law of them, and its body is empty.
-//! Definitions: `specs/Grants.antt`, `specs/Order.antt`, `specs/Shares.antt`.
+//! Definitions: `specs/Grants.antt`, `specs/Order.antt`, `specs/Shares.antt`, `specs/Cutting.antt`.
 
-ghost use Rattle.std.specs.Prelude.{ℕ, List};
+ghost use Rattle.std.specs.Prelude.{◌≡◌, ◌≤◌, ℕ, List, [], length};
 ghost use Rattle.h2_spec.specs.declared.connection.Config.{Config};
 ghost use Rattle.h2_spec.specs.declared.streams.Stream.{Stream};
-ghost use Rattle.h2_spec.specs.Answer.{Entry};
+ghost use Rattle.h2_spec.specs.Answer.{Entry, picked};
+ghost use Rattle.h2_spec.specs.Pump.{share_frames};
+ghost use Rattle.h2_spec.specs.Stream.{octets_waiting};
+ghost use Rattle.h2_laws.specs.Cutting.{CutsShare};
 ghost use Rattle.h2_laws.specs.Grants.{KeepsGrants};
 ghost use Rattle.h2_laws.specs.Order.{KeepsOrder};
 ghost use Rattle.h2_laws.specs.Shares.{ShareIsLeast, SendsShares};
@@ -30,4 +33,12 @@ pub fn shares_are_least()
 /// What is sent are those shares, in the order of the streams, and the connection's window falls by their sum.
 pub fn shares_are_sent()
     ensures { (book : List Entry) (size window : ℕ) (streams : List Stream) → SendsShares book size window streams }
+{}
+
+/// A stream's share is the next octets of its answer's body. It is cut into DATA of the peer's frame size and a last
+/// one, which has an octet or more and at most that size, and END_STREAM exactly where nothing of the body waits
+/// behind it; there is one way to do so. A share of 0 is no frame (RFC 9113, 4.2, 6.1 and 6.9).
+pub fn shares_are_cut_into_data()
+    ensures cut { (book : List Entry) (size n : ℕ) (stream : Stream) → 1 ≤ size → n ≤ octets_waiting stream → octets_waiting stream ≤ length (picked book stream.pick).body → CutsShare book size n stream }
+    ensures none { (book : List Entry) (size : ℕ) (stream : Stream) → share_frames book size 0 stream ≡ [] }
 {}

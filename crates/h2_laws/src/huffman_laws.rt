@@ -31,7 +31,7 @@ pub fn strings_are_read()
     ensures only { (o : List ℕ) (r : HuffRead) → IsDecodingOf o r → huffman_text o ≡ r }
 {}
 
-/// Octets are one text at most, and none where a whole end of a string stands in them.
+/// Octets are one text at most, and none where a whole end of a string is in them.
 pub fn strings_have_one_text()
     ensures one { (t u o : List ℕ) → IsHuffman t o → IsHuffman u o → t ≡ u }
     ensures none { (t o : List ℕ) → IsHuffman t o → HasEos o → ⊥ }

@@ -1,5 +1,5 @@
 //! Laws of requests, each on a function with an empty body: its contract is the law.
-//! They speak of `h2_spec/specs/Request.antt` and `specs/Reasons.antt`; their lemmas stand in `proofs/RequestLaws.antt`.
+//! They speak of `h2_spec/specs/Request.antt` and `specs/Reasons.antt`; their lemmas are in `proofs/RequestLaws.antt`.
 
 ghost use Rattle.std.specs.Prelude.{◌≡◌, ℕ, List, ◌∷◌, true, false};
 ghost use Rattle.h2_spec.specs.Field.{Field};

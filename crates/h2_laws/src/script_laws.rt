@@ -8,8 +8,8 @@ ghost use Rattle.h2_spec.specs.Script.{Bad, IsReadingOf, Script};
 ghost use Rattle.h2_spec.specs.Written.{written};
 ghost use Rattle.h2_spec.specs.declared.scripts.SyntaxKind.{SyntaxKind};
 
-/// What a text is read as is what it says: the octets that it stands for, or its first bad line with the line's least kind of fault.
-/// A text stands for one sequence of octets at most, and these are the ones that are read; the first bad line, where there is
+/// What a text is read as is what it says: the octets that it represents, or its first bad line with the line's least kind of fault.
+/// A text represents one sequence of octets at most, and these are the ones that are read; the first bad line, where there is
 /// one, is the one that is named.
 pub fn scripts_are_read()
     ensures reading { (text : List ℕ) → IsReadingOf text (assembled text) }
@@ -18,7 +18,7 @@ pub fn scripts_are_read()
     ensures determined { (text a b : List ℕ) → Script text a → Script text b → a ≡ b }
 {}
 
-/// The script that is written for octets stands for them, whatever they are, and is read so.
+/// The script that is written for octets represents them, whatever they are, and is read so.
 pub fn what_is_written_stands_for_its_octets()
     ensures stands { (octets : List ℕ) → IsBytes octets → Script (written octets) octets }
     ensures read { (octets : List ℕ) → IsBytes octets → assembled (written octets) ≡ Ok octets }

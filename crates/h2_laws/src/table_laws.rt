@@ -1,5 +1,5 @@
 //! Laws of the dynamic table, each on a function with an empty body: its contract is the law.
-//! They speak of `h2_spec/specs/DynamicTable.antt`; their lemmas stand in `h2_spec/proofs/TableLaws.antt`.
+//! They speak of `h2_spec/specs/DynamicTable.antt`; their lemmas are in `h2_spec/proofs/TableLaws.antt`.
 
 ghost use Rattle.std.specs.Prelude.{◌≡◌, ◌<◌, ◌≤◌, ℕ, List, [], ◌∷◌, ◌++◌};
 ghost use Rattle.h2_spec.specs.Field.{Field};

@@ -1,10 +1,14 @@
 //! Laws of items and of whole runs: octets may come in any pieces.
-//! Each law is the contract of a function with an empty body; definitions: `h2_spec/specs/Frame.antt`, `h2_spec/specs/Trace.antt`.
+//! Each law is the contract of a function with an empty body; definitions: `h2_spec/specs/Frame.antt`,
+//! `h2_spec/specs/Trace.antt`, `specs/Own.antt`.
 
 ghost use Rattle.std.specs.Prelude.{◌≡◌, ℕ, Bool, List, ◌++◌};
+ghost use Rattle.h2_spec.specs.declared.connection.Config.{Config};
+ghost use Rattle.h2_spec.specs.Answer.{Entry};
 ghost use Rattle.h2_spec.specs.Frame.{next};
 ghost use Rattle.h2_spec.specs.State.{State};
 ghost use Rattle.h2_spec.specs.Trace.{trace, carried_on, IsKept, IsWithin};
+ghost use Rattle.h2_laws.specs.Own.{KeepsOwn};
 
 /// An item takes at least one octet and no more than there are, and more octets behind it leave it as it is (RFC 9113, 3.4 and 4.1).
 pub fn items_are_cut_anywhere()
@@ -15,4 +19,11 @@ pub fn items_are_cut_anywhere()
 /// The run of a connection over octets in two pieces is the run over their sum.
 pub fn runs_are_cut_anywhere()
     ensures { (s : State) (b c : List ℕ) → trace s (b ++ c) ≡ carried_on (trace s b) c }
+{}
+
+/// Whatever octets a peer sends, after each of their items the server's own settings are the first ones, the header
+/// table is within the limit that these give it, and no block has to begin with a size update: the server sends no
+/// settings that would replace them (RFC 9113, 6.5.3; RFC 7541, 4.2).
+pub fn own_settings_stay_initial()
+    ensures { (book : List Entry) (config : Config) (octets : List ℕ) → KeepsOwn book config octets }
 {}

@@ -37,7 +37,7 @@ places =
     (6, 27) ∷ (8, 27) ∷ (12, 27) ∷ (15, 27) ∷ (17, 27) ∷ (19, 27) ∷ (21, 27) ∷ (24, 27) ∷ (26, 27) ∷ (28, 27) ∷
     (30, 27) ∷ (127, 27) ∷ (249, 27) ∷ (10, 28) ∷ (10, 29) ∷ (22, 29) ∷ (256, 30) ∷ []
 
--- the bits that a state stands for: the front of a code
+-- the bits that a state represents: the front of a code
 unfoldable pub path_of : ℕ → List Bool
 path_of s = let place = slice_index_or places s (0, 0) in take place.1 (code place.0)
 

@@ -13,7 +13,7 @@ pub enum HuffFault {
     /// Memory was refused.
     #[error("out of memory")]
     NoMemory,
-    /// The whole code of the end of a string stands in the octets.
+    /// The whole code of the end of a string is in the octets.
     #[error("the end of a Huffman string stands inside it")]
     Eos,
     /// What is left behind the last whole code is longer than seven bits, or has a zero in it.

@@ -45,7 +45,7 @@ pub fn huff_write<A: Allocator>(text: &[u8], out: &mut Vec<u8, A>) -> Result<(),
 ///
 /// # Errors
 ///
-/// `Eos` where the whole code of the end of a string stands in the octets, `Padding` where they are neither a text nor that;
+/// `Eos` where the whole code of the end of a string is in the octets, `Padding` where they are neither a text nor that;
 /// `NoMemory` where they are a text and memory was refused.
 pub fn huff_read<A: Allocator>(alloc: A, octets: &[u8]) -> Result<Vec<u8, A>, HuffFault>
     ensures text { IfOk result (λ text. huffman_text octets.now ≡ Text text.items) }

@@ -1,8 +1,10 @@
-//! The program: the words of its command line, its standard input and its standard output, as h2_bench runs them.
-//! Rests on h2_bench alone; what it tells of its input stands in `h2_bench/specs/Told.antt`.
+//! The program: the words of its command line, its files, its standard input, output and error, as h2_bench runs them.
+//! Rests on h2_bench, h2_book and h2_device; what it prints for its input is defined in `h2_bench/specs/Told.antt`.
 #![tactic(auto)]
 
-use h2_bench::{Words, run};
+use h2_bench::{Words, run_on, serve};
+use h2_book::StdFiles;
+use h2_device::{FromRead, IntoWrite, Output};
 use std::io;
 use std::io::{BufWriter, Write};
 use std::process::ExitCode;
@@ -31,17 +33,47 @@ fn refuse<W: Write>(output: &mut W, error: &io::Error) -> ExitCode {
     }
 }
 
-/// Does what the words ask for. The output is gathered into larger writes; where no memory is left for that, nothing is done.
-fn answer(rt: &HostRuntime, words: &Words) -> ExitCode {
-    let mut output = match BufWriter::with_capacity(rt.alloc(), GATHERED, rt.stdout()) {
-        Ok(output) => output,
-        Err(error) => return refuse(&mut rt.stdout(), &error),
-    };
-    let status = run(rt.alloc(), words, &mut rt.stdin(), &mut output);
+/// The exit status, once what was gathered is written.
+fn finish<O: Output>(output: &mut O, status: u8) -> ExitCode {
     match output.flush() {
         Ok(()) => ExitCode::from(status),
         Err(_) => ExitCode::from(3),
     }
+}
+
+/// Does what the words ask for. The output is gathered into larger writes; where there is no memory for that, nothing
+/// is done.
+fn answer(rt: &HostRuntime, words: &Words) -> ExitCode {
+    let mut gathered = match BufWriter::with_capacity(rt.alloc(), GATHERED, rt.stdout()) {
+        Ok(gathered) => gathered,
+        Err(error) => return refuse(&mut rt.stdout(), &error),
+    };
+    let mut files = StdFiles { runtime: rt };
+    let mut stderr = rt.stderr();
+    let mut errors = IntoWrite::new(&mut stderr);
+    let served = serve(
+        rt.alloc(),
+        rt,
+        words,
+        &mut files,
+        &mut gathered,
+        &mut errors,
+    );
+    let mut output = IntoWrite::new(&mut gathered);
+    if let Some(status) = served {
+        return finish(&mut output, status);
+    }
+    let mut stdin = rt.stdin();
+    let mut input = FromRead::new(&mut stdin);
+    let status = run_on(
+        rt.alloc(),
+        words,
+        &mut files,
+        &mut input,
+        &mut output,
+        &mut errors,
+    );
+    finish(&mut output, status)
 }
 
 fn main(rt: HostRuntime) -> ExitCode {

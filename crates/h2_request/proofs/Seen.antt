@@ -395,7 +395,7 @@ length-walked fields i f g l after within is same step h =
 
 -- ---- the reason at the end
 
--- what is seen of the fields tells the reason that the definitions tell
+-- what is seen of the fields reports the reason that the definitions give
 pub seen-reason : (fields : List Field) (m : Marks) (p : Pseudo) (l : ContentLength) → AreMarks fields m → ArePseudo fields p → IsLength fields l → seen_reason m p l ≡ malformed fields
 unfolding malformed
 seen-reason fields m p l marks pseudo length = at p.unknown refl
@@ -431,7 +431,7 @@ connect-same : (o : Option (List ℕ)) → bytes_eq (unwrap_or o []) (codes "CON
 connect-same None = refl
 connect-same (Some v) = refl
 
--- what is seen of well-formed fields tells what they ask for
+-- what is seen of well-formed fields reports what they ask for
 pub seen-request : (fields : List Field) (m : Marks) (p : Pseudo) (l : ContentLength) → ArePseudo fields p → IsLength fields l → seen_reason m p l ≡ None → request_seen p l ≡ request_of fields
 unfolding request_of
 seen-request fields m p l pseudo length none =

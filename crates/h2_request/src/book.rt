@@ -2,7 +2,7 @@
 //! It rests on `h2_fields` and `octets`; the definitions are `entry_fault` of `h2_spec`, specs/Book.antt, and `pick_of` and
 //! `picked` of specs/Answer.antt.
 
-ghost use Rattle.std.specs.Prelude.{None, ◌≡◌, ◌≢◌, ◌≤◌, ◌==◌, ◌&&◌, ◌||◌, [], ◌∷◌, ◌++◌, OnOk, OnErr, IfOk, IfErr, MatchOption, codes, length, nat_lt, position, bytes_eq};
+ghost use Rattle.std.specs.Prelude.{None, ◌≡◌, ◌≢◌, ◌≤◌, ◌==◌, ◌&&◌, ◌||◌, [], ◌∷◌, ◌++◌, OnOk, OnErr, IfOk, IfErr, MatchOption, codes, length, nat_lt, position, bytes_eq, take};
 ghost use Rattle.std.specs.List.{list_any};
 ghost use Rattle.h2_spec.specs.Answer.{bare as bare_answer, pick_of, picked};
 ghost use Rattle.h2_spec.specs.Book.{entry_fault};
@@ -151,6 +151,13 @@ impl<A: Allocator> Book<A> {
         ensures { result ≡ length self.now }
     {
         self.entries.len()
+    }
+
+    /// Keeps the first `count` entries, in their order, and drops the others; all are kept where there are no more. Takes no memory.
+    pub fn truncate(&mut self, count: usize)
+        ensures { self.new ≡ take count self.old }
+    {
+        self.entries.truncate(count);
     }
 
     /// Why the entry is refused, if it is for another cause than memory.
@@ -311,7 +318,7 @@ fn is_bad_status(status: u16) -> bool
     status < 200 || status > 599
 }
 
-/// Whether a field may not stand in an answer.
+/// Whether a field is not allowed in an answer.
 fn is_bad_field<A: Allocator>(field: &Field<A>) -> bool
     ensures { result ≡ spec.is_bad_field field.now }
 {

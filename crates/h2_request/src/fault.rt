@@ -1,5 +1,5 @@
 //! What a book of answers refuses, numbered as the faults of all crates are.
-//! It rests on nothing; which entries are refused stands in `h2_spec`, specs/Book.antt.
+//! It rests on nothing; which entries are refused is in `h2_spec`, specs/Book.antt.
 
 ghost use Rattle.std.specs.Prelude.{◌≡◌};
 ghost use Rattle.h2_request.specs.Fault.{fault_number};

@@ -25,7 +25,7 @@ fn has_colon(octets: &[u8]) -> bool
     octets.iter().any(|octet| *octet == b':')
 }
 
-/// What stands behind the first octet; no octets where there is none.
+/// What follows the first octet; no octets where there is none.
 fn behind_first(octets: &[u8]) -> &[u8]
     ensures { result.now ≡ drop 1 octets.now }
 {

@@ -1,4 +1,4 @@
-//! What a field block comes to at its end (RFC 9113, 4.3, 5.1 and 8.1).
+//! What a field block results in at its end (RFC 9113, 4.3, 5.1 and 8.1).
 //! Rests on `headers` and on h2_request; definition: `block_ends` of h2_spec's `specs/Headers.antt`.
 
 ghost use Rattle.std.specs.Prelude.{◌≡◌, true, length, is_some, Option, None};
@@ -29,7 +29,7 @@ use h2_spec::streams::Pick;
 use h2_streams::Streams;
 use std::alloc::Allocator;
 
-/// What the fields of a request come to, with the size of their list.
+/// What the fields of a request result in, with the size of their list.
 /// Of malformed fields nothing but the size is looked at, so they declare nothing and pick nothing here.
 fn request_facts<A: Allocator>(book: &Book<A>, fields: &[Field<A>], size: u64) -> Facts
     ensures size { result.size ≡ size }
@@ -60,7 +60,7 @@ fn body_length<A: Allocator>(book: &Book<A>, pick: Pick) -> u64
     book.answer(pick).body.len() as u64
 }
 
-/// What becomes of the stream that a request opens, by what its fields come to.
+/// What becomes of the stream that a request opens, by what its fields result in.
 fn opening_turn<A: Allocator>(
     book: &Book<A>,
     config: Config,
@@ -147,7 +147,7 @@ fn closed_end<A: Allocator>(book: &Book<A>, core: Core, streams: &Streams<A>, id
     turned(stay(core), turn)
 }
 
-/// What a block comes to at its end, by its purpose.
+/// What a block results in at its end, by its purpose.
 pub fn block_ends<A: Allocator + Copy>(
     book: &Book<A>,
     config: Config,

@@ -111,7 +111,7 @@ pub fn request_turn(
     }
 }
 
-/// What trailers do to their stream: the size of their list, whether a reason stands against them, and the length of the answer's body.
+/// What trailers do to their stream: the size of their list, whether a reason holds against them, and the length of the answer's body.
 #[tactic(auto, unfolding(h2_spec::specs::Headers::trailers_turn, h2_spec::specs::Stream::octets_waiting))]
 pub fn trailers_turn(
     size: u64,

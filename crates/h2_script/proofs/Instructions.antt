@@ -9,7 +9,7 @@ use Rattle.h2_script.specs.Each.{behind_each}
 use Rattle.h2_script.specs.Readings.{AddsFirst, Stands}
 use Rattle.h2_script.proofs.Eachs.{each_last, each_more, each_none, each_other}
 
--- what is to be read stands behind the octets so far
+-- what is to be read follows the octets so far
 abbrev pub Reaches : Bool → List ℕ → ℕ → List ℕ → List ℕ → Type 0
 Reaches long items most rest text =
     (o : List ℕ) × Stands long items o × (behind_each instruction_at instruction_octets o most rest ≡ option_map (flat_map instruction_octets) (all_at instruction_at text))

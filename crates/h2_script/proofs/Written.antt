@@ -45,7 +45,7 @@ pub comma : (old mid new more text : List ℕ) → mid ≡ old ++ text → new �
 comma old mid new more text a b =
     ap (λ (x : List ℕ). x ++ more) (b ∙ ap (λ (x : List ℕ). x ++ 44 ∷ []) a ∙ append_assoc old text (44 ∷ [])) ∙ append_assoc old (text ++ 44 ∷ []) more ∙ ap (λ (x : List ℕ). old ++ x) (append_assoc text (44 ∷ []) more)
 
--- a text and what stands behind it
+-- a text and what follows it
 pub step : (old mid new text more : List ℕ) → mid ≡ old ++ text → new ≡ mid ++ more → new ≡ old ++ (text ++ more)
 step old mid new text more a b = b ∙ ap (λ (x : List ℕ). x ++ more) a ∙ append_assoc old text more
 

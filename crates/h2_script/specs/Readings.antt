@@ -47,7 +47,7 @@ AddsAt n old new (Ok u) read = with_octets old read ≡ Ok new
 AddsAt n old new (Err script.NoMemory) read = Unit {0}
 AddsAt n old new (Err (script.Syntax at kind)) read = (at ≡ n) × (read ≡ Err kind)
 
--- the first bad line is told, unless memory was refused
+-- the first bad line is reported, unless memory was refused
 abbrev pub Refuses : ScriptFault → Result (List ℕ) (ℕ × SyntaxKind) → Type 0
 Refuses script.NoMemory read = Unit {0}
 Refuses (script.Syntax at kind) read = read ≡ Err (at, kind)

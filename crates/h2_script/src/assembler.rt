@@ -12,7 +12,7 @@ use crate::line::add_line;
 use crate::words::cut;
 use std::alloc::Allocator;
 
-/// The octets that a script stands for.
+/// The octets that a script represents.
 ///
 /// # Errors
 ///

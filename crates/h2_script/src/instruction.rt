@@ -53,7 +53,7 @@ fn built<A: Allocator>(octets: Vec<u8, A>, long: bool) -> Built<A>
     }
 }
 
-/// Appends the instruction at the front of a text, if there is one; answers what stands behind it.
+/// Appends the instruction at the front of a text, if there is one; answers what follows it.
 fn push_first<'a, A: Allocator + Copy>(
     alloc: A,
     text: &'a [u8],
@@ -85,7 +85,7 @@ fn push_instr<A: Allocator, B: Allocator>(
     Ok(())
 }
 
-/// The instruction at the front of a text, and what stands behind it.
+/// The instruction at the front of a text, and what follows it.
 #[tactic(auto, unfolding(h2_spec::specs::Assemble::instruction_at))]
 fn instruction_at<A: Allocator + Copy>(
     alloc: A,
@@ -191,7 +191,7 @@ fn begins_with_quote(text: &[u8]) -> bool
     !text.is_empty() && (text[0] == b'"' || text[0] == b'\'')
 }
 
-/// The string at the front of a text, and what stands behind it.
+/// The string at the front of a text, and what follows it.
 fn string_at<A: Allocator + Copy>(
     alloc: A,
     text: &[u8],
@@ -208,7 +208,7 @@ fn string_at<A: Allocator + Copy>(
     }
 }
 
-/// The string up to its second quote, and what stands behind that.
+/// The string up to its second quote, and what follows that.
 fn quoted_at<A: Allocator + Copy>(
     alloc: A,
     quote: u8,

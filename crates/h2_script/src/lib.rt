@@ -1,6 +1,6 @@
-//! Scripts of frames: the octets that a text stands for, and the text that is written for octets.
+//! Scripts of frames: the octets that a text represents, and the text that is written for octets.
 //! It rests on `h2_fields` for instructions, on `h2_frame` for heads, and on `hex`.
-//! The definitions are Script, Assemble and Written of `h2_spec`; their laws stand in `h2_laws::script_laws`.
+//! The definitions are Script, Assemble and Written of `h2_spec`; their laws are in `h2_laws::script_laws`.
 #![tactic(auto)]
 
 mod assembler;

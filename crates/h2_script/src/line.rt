@@ -21,7 +21,7 @@ use std::alloc::Allocator;
 /// The octets of the client's preface (RFC 9113, 3.4).
 pub(crate) const PREFACE: &[u8; 24] = b"PRI * HTTP/2.0\r\n\r\nSM\r\n\r\n";
 
-/// Appends the octets that a line stands for.
+/// Appends the octets that a line represents.
 pub(crate) fn add_line<A: Allocator + Copy>(
     alloc: A,
     line: &[u8],
@@ -57,7 +57,7 @@ fn add_word<A: Allocator>(line: &[u8], out: &mut Vec<u8, A>) -> Result<(), LineF
     Ok(())
 }
 
-/// Appends the octets of a line's first word and what stands behind it.
+/// Appends the octets of a line's first word and what follows it.
 fn add_words<A: Allocator + Copy>(
     alloc: A,
     word: &[u8],

@@ -105,7 +105,7 @@ fn settings_at<A: Allocator>(alloc: A, text: &[u8]) -> Result<Option<Vec<u8, A>>
     Ok(None)
 }
 
-/// The setting at the front of a text, and what stands behind it.
+/// The setting at the front of a text, and what follows it.
 #[tactic(auto, unfolding(h2_spec::specs::Assemble::setting_at))]
 fn setting_at(text: &[u8]) -> Option<((u16, u32), &[u8])>
     ensures { option_map (λ p. (p.0, p.1.now)) result ≡ setting_at text.now }

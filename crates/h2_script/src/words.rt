@@ -40,7 +40,7 @@ fn place_of(text: &[u8], octet: u8) -> Option<usize>
     text.iter().position(|b| *b == octet)
 }
 
-/// What stands before an octet's first place, and behind it.
+/// What precedes an octet's first place, and what follows it.
 pub(crate) fn cut(text: &[u8], octet: u8) -> Option<(&[u8], &[u8])>
     ensures { option_map (λ p. (p.0.now, p.1.now)) result ≡ cut_at octet text.now }
 {

@@ -32,12 +32,12 @@ with-rest c f = record { octet = f.octet; rest = f.rest ++ c; is = ap (λ x. x +
 
 -- ---- strings
 
-enough : (h : Bool) (octets c : List ℕ) → octets_at h (length octets) (octets ++ c) ≡ Whole (record { huffman = h; octets = octets }) (length octets)
+pub enough : (h : Bool) (octets c : List ℕ) → octets_at h (length octets) (octets ++ c) ≡ Whole (record { huffman = h; octets = octets }) (length octets)
 enough h octets c =
     let there : leb (length octets) (length (octets ++ c)) ≡ true = le-leb (length octets) (length (octets ++ c)) (omega (arith, length-append octets c)) in
     rw (there, take_at octets c (length octets) refl) refl
 
-string-first : (b rest : List ℕ) (o : ℕ) (t : Bool) → b ≡ o ∷ rest → leb 128 o ≡ t → string_at b ≡ read_then b (int_at 7 b) (octets_at t)
+pub string-first : (b rest : List ℕ) (o : ℕ) (t : Bool) → b ≡ o ∷ rest → leb 128 o ≡ t → string_at b ≡ read_then b (int_at 7 b) (octets_at t)
 unfolding string_at
 string-first b rest o t e k = rw (e, k) refl
 
@@ -66,17 +66,17 @@ string-written h octets c small =
 
 -- ---- instructions by their first octet
 
-first-of : (b rest : List ℕ) (o : ℕ) → b ≡ o ∷ rest → instr_at b ≡ instr_by o b
+pub first-of : (b rest : List ℕ) (o : ℕ) → b ≡ o ∷ rest → instr_at b ≡ instr_by o b
 unfolding instr_at
 first-of b rest o e = rw e refl
 
-by-indexed : (o : ℕ) (b : List ℕ) → 128 ≤ o → instr_by o b ≡ read_map Indexed (int_at 7 b)
+pub by-indexed : (o : ℕ) (b : List ℕ) → 128 ≤ o → instr_by o b ≡ read_map Indexed (int_at 7 b)
 by-indexed o b h = rw (le-leb 128 o h) refl
 
-by-update : (o : ℕ) (b : List ℕ) → 32 ≤ o → o < 64 → instr_by o b ≡ read_map Update (int_at 5 b)
+pub by-update : (o : ℕ) (b : List ℕ) → 32 ≤ o → o < 64 → instr_by o b ≡ read_map Update (int_at 5 b)
 by-update o b h k = rw (lt-leb 128 o (omega arith), lt-leb 64 o k, le-leb 32 o h) refl
 
-by-mode : (mode : Mode) (o : ℕ) (b : List ℕ) → mode_high mode ≤ o → o < mode_high mode + 2 ^ mode_prefix mode → instr_by o b ≡ literal_at mode b
+pub by-mode : (mode : Mode) (o : ℕ) (b : List ℕ) → mode_high mode ≤ o → o < mode_high mode + 2 ^ mode_prefix mode → instr_by o b ≡ literal_at mode b
 by-mode Add o b h k = rw (lt-leb 128 o k, le-leb 64 o h) refl
 by-mode Without o b h k = rw (lt-leb 128 o (omega arith), lt-leb 64 o (omega arith), lt-leb 32 o (omega arith), lt-leb 16 o k) refl
 by-mode Never o b h k = rw (lt-leb 128 o (omega arith), lt-leb 64 o (omega arith), lt-leb 32 o k, le-leb 16 o h) refl

@@ -1,4 +1,4 @@
--- What is written for octets stands for them.
+-- What is written for octets represents them.
 use Rattle.std.proofs.Common.{◌≡◌, ◌∙◌, ◌+◌, ◌*◌, ◌/◌, ◌%◌, ◌<◌, ◌≤◌, ◌^◌, ◌++◌, ◌==◌, ◌&&◌, ℕ, Bool, true, false, zero, suc, List, [], ◌∷◌, Option, Some, None, codes, drop, take, length, refl, sym, ap, arith, inl, inr, cond, nat_lt, nat_eq, nat_le, slice_index, slice_get, unwrap_or, lit<, append-nil, leb-true, eqb-true, true≢false, ltb-true, subst, ltb-false, flat_map, option_map, bytes_eq, append_assoc}
 use Rattle.std.specs.List.{AllByRecursion, starts_with}
 use Rattle.std.specs.Fmt.{decimal}
@@ -183,7 +183,7 @@ all_sayable (suc fewer) (o ∷ xs) is h e =
 
 -- ---- payloads
 
--- the payload can be said, and stands for the octets
+-- the payload can be said, and represents the octets
 abbrev IsSaid : List ℕ → Payload → Type 0
 IsSaid p payload = SaysPayload (payload_text payload) payload × (payload_octets payload ≡ p)
 
@@ -236,7 +236,7 @@ pair_again a b c d e f ha hb hc hd he hf =
     let ef : value / 1 % 256 ≡ f = omega arith in
     rw (ea, eb, ec, ed, ee, ef) refl
 
--- the settings stand for the octets, and each can be said
+-- the settings represent the octets, and each can be said
 pairs_again : (p : List ℕ) → IsBytes p → length p % 6 ≡ 0 → (flat_map setting_octets (setting_pairs p) ≡ p) × AllByRecursion IsPair (setting_pairs p)
 pairs_again (a ∷ b ∷ c ∷ d ∷ e ∷ f ∷ rest) h six =
     let ha : a < 256 = h 0 in
@@ -422,7 +422,7 @@ rest_again (x ∷ xs) h =
     subst (Script (rest_text b)) (append-nil b) (subst (λ (t : List ℕ). Script t (b ++ [])) (append-nil (rest_text b))
     (line_first (Raw b) [] [] lacks (encode_lower b, refl, (omega arith, spelled)) no_lines))
 
--- what a front says: it can be said without a line feed, and stands for the octets that it uses
+-- what a front says: it can be said without a line feed, and represents the octets that it uses
 abbrev IsFrontOf : List ℕ → Front Bool Statement → Type 0
 IsFrontOf b Stop = Unit {0}
 IsFrontOf b (One s first used) = Lacks 10 (statement_text s) × Says (statement_text s) s × (octets_of s ≡ take used b)

@@ -15,7 +15,7 @@ is_bar c = c == 124
 abbrev pub is_equals_sign : ℕ → Bool
 is_equals_sign c = c == 61
 
--- an octet before parts: a bar begins a part of its own, any other octet stands in the first part
+-- an octet before parts: a bar begins a part of its own, any other octet is in the first part
 abbrev pub with_octet : ℕ → List (List ℕ) → List (List ℕ)
 with_octet c [] = []
 with_octet c (part ∷ parts) = if is_bar c then [] ∷ part ∷ parts else (c ∷ part) ∷ parts

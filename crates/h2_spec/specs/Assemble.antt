@@ -1,4 +1,4 @@
--- How a script is read: the octets that it stands for, or its first bad line and the least kind of fault in it.
+-- How a script is read: the octets that it represents, or its first bad line and the least kind of fault in it.
 use Rattle.std.specs.Prelude.{◌+◌, ◌-◌, ◌*◌, ◌^◌, ◌==◌, ◌&&◌, ◌||◌, ℕ, zero, suc, Bool, true, false, List, [], ◌∷◌, ◌++◌, Option, Some, None, Result, Ok, Err, codes, drop, take, length, nat_lt, nat_le, option_map, option_and_then, slice_index, if◌then◌else◌}
 use Rattle.std.specs.List.{position_or_len}
 use Rattle.std.specs.Str.{bytes_eq}

@@ -163,7 +163,7 @@ broken s code = record { state = ended s code; sent = goaway s.core.last code �
 abbrev pub made : State → List ℕ → Change → Step
 made s p c = record { state = after s c; sent = frames_of s.book p c }
 
--- what an item's reaction comes to
+-- what an item's reaction results in
 abbrev pub settled : State → List ℕ → Reaction → Step
 settled s p (ConnectionError code) = broken s code
 settled s p (Continues c) = made s p c

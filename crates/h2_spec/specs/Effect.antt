@@ -134,7 +134,7 @@ payload_of BadPreface = []
 payload_of (Oversize h) = []
 payload_of (WholeFrame h p) = p
 
--- what an item comes to is done: a connection error, or a change
+-- what an item results in is done: a connection error, or a change
 abbrev pub concluded : State → List ℕ → FrameEffect → Step
 concluded s p (Breaks code) = broken s code
 concluded s p (Makes t c) = made t p c

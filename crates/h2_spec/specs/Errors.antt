@@ -5,7 +5,7 @@ use Rattle.h2_spec.specs.declared.errors.ErrorCode.TheVariants.{ProtocolError, F
 use Rattle.h2_spec.specs.declared.errors.FlowFault.{FlowFault}
 use Rattle.h2_spec.specs.declared.errors.FlowFault.TheVariants.{BadSetting, Overflow, Exceeded}
 
--- the number that stands for a code in RST_STREAM and GOAWAY
+-- the number that represents a code in RST_STREAM and GOAWAY
 abbrev pub code_number : ErrorCode → ℕ
 code_number ProtocolError = 1
 code_number FlowControlError = 3

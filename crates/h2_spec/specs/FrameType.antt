@@ -43,7 +43,7 @@ WINDOW_UPDATE = 8
 abbrev pub CONTINUATION : ℕ
 CONTINUATION = 9
 
--- the type that a number stands for
+-- the type that a number represents
 abbrev pub frame_type : ℕ → FrameType
 frame_type kind =
     if kind == DATA then Data

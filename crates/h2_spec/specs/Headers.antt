@@ -37,7 +37,7 @@ max_list = 65536
 
 -- ---- the end of a block
 
--- what the fields of a request come to
+-- what the fields of a request result in
 abbrev pub request_facts : List Entry → List Field → Facts
 request_facts book fields = record { size = list_size fields; malformed = is_some (malformed fields); declared = declared_length fields; pick = pick_of book (request_of fields) }
 
@@ -65,7 +65,7 @@ request_turn config live body core id ends f =
     else if ends then peer_ended core.peer.signal body (new_stream core id f)
     else quiet_turn core.peer.signal (new_stream core id f)
 
--- what trailers do to their stream: the size of their list, whether a reason stands against them, and the length of the answer's body
+-- what trailers do to their stream: the size of their list, whether a reason holds against them, and the length of the answer's body
 unfoldable pub trailers_turn : ℕ → Bool → ℕ → Bool → Bool → Stream → Turn
 unfolding peer_ended
 trailers_turn size malformed body signal ends st =
@@ -94,7 +94,7 @@ block_ends s id ends fields TableOnly = stay s.core
 
 -- ---- fragments
 
--- what a frame comes to: a connection error, or a state, with its block and table, in which the change is made
+-- what a frame results in: a connection error, or a state, with its block and table, in which the change is made
 pub data FrameEffect : Type 0 where
   Breaks : ErrorCode → FrameEffect
   Makes : State → Change → FrameEffect

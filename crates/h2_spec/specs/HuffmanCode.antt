@@ -66,7 +66,7 @@ unfoldable pub code_table : List (ℕ × List Bool)
 unfolding code_rows bits_of
 code_table = codes_of_rows code_rows
 
--- the code that stands beside a symbol
+-- the code that is beside a symbol
 abbrev pub code_among : List (ℕ × List Bool) → ℕ → List Bool
 code_among [] s = []
 code_among (c ∷ cs) s = elim (nat_eq c.0 s) [ true ↦ c.1 | false ↦ code_among cs s ]
@@ -76,7 +76,7 @@ unfoldable pub code : ℕ → List Bool
 unfolding code_table
 code s = code_among code_table s
 
--- symbols stand in rising order
+-- symbols are in rising order
 abbrev pub are_rising : List ℕ → Bool
 are_rising [] = true
 are_rising (s ∷ []) = true

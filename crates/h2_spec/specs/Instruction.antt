@@ -114,7 +114,7 @@ pub record CanEnd (b : List ℕ) : Type 0 where
 
 -- ---- texts
 
--- the octets that a string stands for
+-- the octets that a string represents
 abbrev pub text_of : Str → HuffRead
 text_of s = if s.huffman then huffman_text s.octets else Text s.octets
 
@@ -155,16 +155,16 @@ unfoldable pub instruction_at : List ℕ → Read (Option Instruction)
 unfolding instr_at huffman_text
 instruction_at xs = read_map instruction_of (instr_at xs)
 
--- the octets of a string stand for this text: as they are, or as a Huffman string of it (5.2)
+-- the octets of a string represent this text: as they are, or as a Huffman string of it (5.2)
 abbrev pub StandsFor : Bool → List ℕ → List ℕ → Type 0
 StandsFor true octets text = IsHuffman text octets
 StandsFor false octets text = octets ≡ text
 
--- a string stands for this text
+-- a string represents this text
 abbrev pub IsStringOf : Str → TextStr → Type 0
 IsStringOf s t = (s.huffman ≡ t.huffman) × StandsFor s.huffman s.octets t.text
 
--- a name stands for this one
+-- a name represents this one
 abbrev pub IsNameOf : NameRef Str → NameRef TextStr → Type 0
 IsNameOf name (Ref i) = name ≡ Ref i
 IsNameOf name (Named t) = (s : Str) × (name ≡ Named s) × IsStringOf s t

@@ -1,4 +1,4 @@
--- What a script says: a line says a statement, and a statement stands for octets.
+-- What a script says: a line says a statement, and a statement represents octets.
 use Rattle.std.specs.Prelude.{◌≡◌, ◌≢◌, ◌⊎◌, ℕ, ◌+◌, ◌-◌, ◌^◌, ◌<◌, ◌≤◌, ◌==◌, ◌&&◌, ◌||◌, not, nat_le, Bool, true, false, IsTrue, List, [], ◌∷◌, ◌++◌, length, codes, flat_map, if◌then◌else◌, Option, Some, None, Result, Ok, Err, slice_get, take, drop, option_map, position}
 use Rattle.std.specs.List.{AllByRecursion, before_first, slice_split}
 use Rattle.std.specs.Str.Parse.{IsNumeral, digits_value}
@@ -27,7 +27,7 @@ pub data Statement : Type 0 where
   Raw : List ℕ → Statement
   AFrame : (kind flags stream : ℕ) → (reserved : Bool) → Payload → Statement
 
--- ---- the octets that it stands for
+-- ---- the octets that it represents
 
 -- a setting's identifier and value (RFC 9113, 6.5.1)
 abbrev pub setting_octets : ℕ × ℕ → List ℕ
@@ -50,7 +50,7 @@ payload_octets (Instructions instructions) = flat_map instruction_octets instruc
 abbrev pub stream_octets : ℕ → Bool → List ℕ
 stream_octets stream reserved = big_endian 4 (if reserved then 2 ^ 31 + stream else stream)
 
--- the octets that a statement stands for
+-- the octets that a statement represents
 abbrev pub octets_of : Statement → List ℕ
 octets_of Nothing = []
 octets_of Preface = preface
@@ -166,7 +166,7 @@ Says text (Raw octets) = (digits : List ℕ) × (text ≡ codes "RAW " ++ digits
 Says text (AFrame kind flags stream reserved payload) = (a b c d : List ℕ) × (text ≡ a ++ 32 ∷ (b ++ 32 ∷ (c ++ 32 ∷ d))) ×
     SaysType a kind × SaysOctet b flags × SaysStream c stream reserved × SaysPayload d payload × (length (payload_octets payload) < 2 ^ 24)
 
--- the line stands for the octets
+-- the line represents the octets
 abbrev pub Line : List ℕ → List ℕ → Type 0
 Line text octets = (s : Statement) × Says text s × (octets ≡ octets_of s)
 
@@ -258,11 +258,11 @@ abbrev pub AreLines : List (List ℕ) → List ℕ → Type 0
 AreLines [] octets = octets ≡ []
 AreLines (line ∷ lines) octets = (first rest : List ℕ) × Line line first × AreLines lines rest × (octets ≡ first ++ rest)
 
--- the script stands for the octets
+-- the script represents the octets
 abbrev pub Script : List ℕ → List ℕ → Type 0
 Script text octets = AreLines (lines_of text) octets
 
--- the n-th line, counted from 1, is the first that stands for nothing, and this is its least fault
+-- the n-th line, counted from 1, is the first that represents nothing, and this is its least fault
 pub record Bad (text : List ℕ) (n : ℕ) (kind : SyntaxKind) : Type 0 where
   pub above : List (List ℕ)
   pub line : List ℕ

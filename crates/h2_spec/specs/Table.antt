@@ -71,7 +71,7 @@ window_cell Ended = Nothing
 window_cell PeerReset = Nothing
 window_cell WeReset = Nothing
 
--- what a cell comes to: at an error, at nothing, by the rule
+-- what a cell results in: at an error, at nothing, by the rule
 abbrev pub run_cell : {R X : Type 0} → (ErrorCode → X) → X → (R → X) → Cell R → X
 run_cell error nothing rule (Error code) = error code
 run_cell error nothing rule Nothing = nothing

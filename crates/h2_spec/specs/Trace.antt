@@ -32,7 +32,7 @@ then_sent Preface e = behind e (pump e.state)
 then_sent Settings e = behind e (pump e.state)
 then_sent Running e = behind e (pump e.state)
 
--- what one item comes to
+-- what one item results in
 unfoldable pub step : State → Item → Step
 unfolding effect pump
 step s item = let e = effect s item in then_sent e.state.core.phase e
@@ -54,7 +54,7 @@ abbrev pub event_on : State → Next → Front State Event
 event_on s NoItem = Stop
 event_on s (Got item used) = let st = step s item in One (record { item = item; state = st.state; sent = st.sent }) st.state used
 
--- the next item of a connection, and what it comes to
+-- the next item of a connection, and what it results in
 unfoldable pub next_event : State → List ℕ → Front State Event
 unfolding next_item step
 next_event s b = event_on s (next_item s b)

@@ -19,7 +19,7 @@ pub enum ErrorCode {
 }
 
 impl ErrorCode {
-    /// The number that stands for the code in RST_STREAM and GOAWAY.
+    /// The number that represents the code in RST_STREAM and GOAWAY.
     pub fn number(self) -> u32
         ensures { result ≡ code_number self }
     {

@@ -1,4 +1,4 @@
-//! What everything means: the words that definitions and code share, and the definitions (`specs/`). Their laws stand in `h2_laws`; in `proofs/` here stand the lemmas that code is proved with.
+//! What everything means: the words that definitions and code share, and the definitions (`specs/`). Their laws are in `h2_laws`; in `proofs/` here are the lemmas that code is proved with.
 #![tactic(auto)]
 
 pub mod connection;

@@ -64,7 +64,7 @@ pub struct Change {
     pub answer: Option<Answering>,
 }
 
-/// What an item comes to: a connection error, or a change (RFC 9113, 5.4).
+/// What an item results in: a connection error, or a change (RFC 9113, 5.4).
 #[derive(Clone, Copy)]
 pub enum Reaction {
     ConnectionError(ErrorCode),
@@ -79,7 +79,7 @@ pub struct Came {
     pub ends: bool,
 }
 
-/// What the fields of a block come to: their size, whether a reason stands against them, what they declare, and the answer that is picked.
+/// What the fields of a block result in: their size, whether a reason holds against them, what they declare, and the answer that is picked.
 #[derive(Clone, Copy)]
 pub struct Facts {
     pub size: u64,

@@ -1,7 +1,7 @@
 //! Why a line of a script is refused.
 //! Rests on nothing; definitions: `specs/Script.antt`, `specs/Assemble.antt`.
 
-/// What is wrong with a line of a script; where several are, the least is told.
+/// What is wrong with a line of a script; where several are, the least is reported.
 #[derive(Clone, Copy, Debug, PartialEq, Eq)]
 pub enum SyntaxKind {
     /// The parts of a line: fewer than four, `PREFACE` with a space behind it, or `RAW` without digits.

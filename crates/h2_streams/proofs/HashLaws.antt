@@ -1,4 +1,4 @@
--- A hash tells identifiers apart.
+-- A hash separates identifiers.
 use Rattle.std.proofs.Common.{arith, ◌≡◌, ℕ, ◌*◌, ◌%◌, ◌<◌}
 use Rattle.h2_streams.specs.Hash.{halves_exchanged, bit_turned, spread}
 

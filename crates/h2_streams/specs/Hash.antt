@@ -9,7 +9,7 @@ shifted_in state octet = state / 256 + octet * 2 ^ 24
 abbrev pub halves_exchanged : ℕ → ℕ
 halves_exchanged n = n % 65536 * 65536 + n / 65536
 
--- a number below 2^32 with its lowest bit made its highest: clients have odd identifiers, whose lowest bit tells nothing
+-- a number below 2^32 with its lowest bit made its highest: clients have odd identifiers, whose lowest bit says nothing
 abbrev pub bit_turned : ℕ → ℕ
 bit_turned n = n / 2 + n % 2 * 2147483648
 

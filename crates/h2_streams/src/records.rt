@@ -205,7 +205,7 @@ impl<A: Allocator> Streams<A> {
     }
 
     /// Puts a record: in the place of the one of the same stream, or behind all, of a stream above them.
-    /// A live stream comes to any state, one that is closed stays closed (RFC 9113, 5.1).
+    /// A live stream may move to any state, one that is closed stays closed (RFC 9113, 5.1).
     /// Only a new record takes memory; `Err` leaves the records as they were.
     pub fn put(&mut self, stream: Stream) -> Result<(), AllocError>
         requires { CanPut stream self.old }
@@ -231,7 +231,7 @@ impl<A: Allocator> Streams<A> {
         first_waiting(&self.records, ids_above(self.live.as_slice(), after))
     }
 
-    /// The greatest of the send windows that settings move, if there is one: it alone tells whether a move takes a window too far (RFC 9113, 6.9.2).
+    /// The greatest of the send windows that settings move, if there is one: it alone decides whether a move takes a window too far (RFC 9113, 6.9.2).
     pub fn greatest_send(&self) -> Option<Window>
         ensures { IsGreatest result self.now.streams }
     {

@@ -1,5 +1,5 @@
 //! The dynamic table of one decoder (RFC 7541, 2.3.2 and 4): what enters, what is evicted, and what is found.
-//! Its entries stand in a ring that is made with the table, the newest at the front; beside it runs what they count.
+//! Its entries are in a ring that is made with the table, the newest at the front; beside it runs what they count.
 //! The definitions are `Table`, `insert` and `resize` of `h2_spec`, specs/DynamicTable.antt.
 
 ghost use Rattle.std.specs.Prelude.{◌≡◌, ◌<◌, ◌≤◌, [], ◌∷◌, ◌++◌, ◌↔◌, length, option_map, true, OnOk, OnErr, IfOk, IfErr, IsErr};

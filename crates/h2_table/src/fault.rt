@@ -1,5 +1,5 @@
 //! What the dynamic table refuses, numbered as the faults of all crates are.
-//! Calls that can only want memory answer `AllocError`, as the crates of the kit do.
+//! Calls that can only run out of memory answer `AllocError`, as the crates of the kit do.
 
 ghost use Rattle.std.specs.Prelude.{◌≡◌};
 

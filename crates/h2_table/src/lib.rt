@@ -1,6 +1,6 @@
 //! The header tables of HPACK (RFC 7541, 2.3 and 4): the static table, and the dynamic table of one decoder.
 //! It rests on `circular_buffer`, which holds the dynamic table's entries, the newest at the front.
-//! The definitions stand in `h2_spec`: StaticTable and DynamicTable; what a table holds privately, in `specs/Held.antt`.
+//! The definitions are in `h2_spec`: StaticTable and DynamicTable; what a table holds privately, in `specs/Held.antt`.
 #![tactic(auto)]
 
 pub mod dynamic_table;

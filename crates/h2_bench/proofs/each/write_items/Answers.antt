@@ -1,7 +1,9 @@
-use Rattle.std.proofs.Common.{◌∙◌, ◌+◌, ◌++◌, List, ℕ, Some, ap, arith, refl, sym}
+use Rattle.std.proofs.Common.{◌∙◌, ◌+◌, ◌++◌, List, ℕ, Result, Some, ap, arith, refl, sym}
 use Rattle.std.proofs.lemmas.List.{append-nil}
 use Rattle.h2_spec.specs.Trace.{trace}
+use Rattle.h2_bench.specs.Each.{not_written}
 use Rattle.h2_bench.specs.Told.{item_texts}
+use Rattle.h2_bench.specs.declared.each.Untold.{Untold}
 use Rattle.h2_bench.proofs.Places.{concat-all, concat-next, drop-next, item-next, item-within, none-next, trace-events}
 use Rattle.h2_bench.proofs.Written.{more-written}
 use Rattle.h2_bench.proofs.each.write_items.Goals as goal
@@ -12,6 +14,7 @@ loop-taken-init g c = record {
   new = c.requires.new;
   counted = omega arith;
   writer = c.requires.writer;
+  name = refl;
   left = ap (item_texts 1) (trace-events c.args.conn.now.state c.args.octets.now);
   told = λ held is. is ∙ ap (λ (t : List ℕ). Some t) (sym (append-nil held));
 }
@@ -38,7 +41,8 @@ loop-taken-preserved g c =
       within = within.1;
       new = item.after;
       counted = omega (arith, within.0, c.loop-taken.invariant.counted);
-      writer = c.in-Ok.ensures.ok ∙ c.loop-taken.invariant.writer;
+      writer = c.write_place.ensures.flag ∙ ap (λ (r : Result (Unit {0}) Untold). not_written r) c.in-Ok.is;
+      name = c.write_place.ensures.name ∙ c.loop-taken.invariant.name;
       left = drop-next c.loop-taken.place items _ _ left;
       told = λ held is. more-written held _ _ _ _ _ (c.loop-taken.invariant.told held is) (rw c.as_slice-sent.ensures.value at c.in-Ok.ensures.octets) (concat-next c.loop-taken.place items _ _ left);
     }

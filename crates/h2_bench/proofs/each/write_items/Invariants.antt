@@ -13,9 +13,10 @@ invariant-loop-taken g l =
       within : l.at ≤ length l.octets;
       new : l.conn ≡ going l.conn.state [];
       counted : l.place ≤ l.at;
-      writer : l.output_failed ≡ false;
+      writer : g.O.Output.has_failed l.output ≡ false;
+      name : g.O.Output.name l.output ≡ g.O.Output.name l.fn.output;
       left : drop l.place items ≡ item_texts (l.place + 1) (events l.conn.state (drop l.at l.octets));
-      told : (held : List ℕ) → g.W.Write.contents l.fn.output ≡ Some held → g.W.Write.contents l.output ≡ Some (held ++ concat (take l.place items));
+      told : (held : List ℕ) → g.O.Output.written l.fn.output ≡ Some held → g.O.Output.written l.output ≡ Some (held ++ concat (take l.place items));
     }
 
 abbrev pub decreases-loop-taken : goal.decreases-loop-taken

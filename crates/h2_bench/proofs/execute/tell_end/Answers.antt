@@ -9,7 +9,7 @@ pub returns-in-Fault-clause-told : goal.returns-in-Fault-clause-told
 returns-in-Fault-clause-told g c = λ well held text known.
     let is : c.args.ended ≡ Err (Fault c.in-Fault.fault) = c.in-Err.is ∙ ap (λ (w : Untold). Err w) c.in-Fault.is in
     let line = c.tell_fault.ensures.told well (held ++ text) known in
-    subst (λ (r : Result (Unit {0}) Untold). Tells (told_after text r) held (g.W.Write.contents c.tell_fault.new.output) c.tell_fault.result) (sym is)
+    subst (λ (r : Result (Unit {0}) Untold). Tells (told_after text r) held (g.O.Output.written c.tell_fault.new.output) c.tell_fault.result) (sym is)
     (line.0 ∙ ap (λ (t : List ℕ). Some t) (append_assoc held text _), line.1)
 
 pub returns-in-Fault-clause-kept : goal.returns-in-Fault-clause-kept

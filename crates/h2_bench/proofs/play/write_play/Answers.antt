@@ -1,4 +1,9 @@
-use Rattle.std.proofs.Common.{◌∙◌, ℕ, List, [], Option, ap, inl, inr, sym}
+use Rattle.std.proofs.Common.{◌≡◌, ◌∙◌, ℕ, List, [], Bool, false, Option, Some, None, ap, inl, inr, refl, sym}
+use Rattle.h2_spec.specs.Answer.{Entry}
+use Rattle.h2_spec.specs.declared.connection.Config.{Config}
+use Rattle.h2_conn.specs.Connection.{is_allowed}
+use Rattle.h2_bench.specs.Input.{octets_spelled}
+use Rattle.h2_bench.specs.Limits.{limits_fault}
 use Rattle.h2_bench.specs.Tell.{failed_after}
 use Rattle.h2_bench.specs.Told.{told_play}
 use Rattle.h2_bench.proofs.Written.{unchanged}
@@ -15,4 +20,16 @@ returns-in-Err-clause-told g c = λ well held is. (
 )
 
 pub returns-in-Ok-clause-told : goal.returns-in-Ok-clause-told
-returns-in-Ok-clause-told g c = λ well. rw (c.in-Ok.ensures.ok, ← c.as_slice.ensures.value) (c.write_played.ensures.told well)
+returns-in-Ok-clause-told g c = λ well. rw (c.in-Ok.ensures.ok, ← c.as_slice-in-Ok.ensures.value) (c.write_played.ensures.told well)
+
+limits-told : (each : Bool) (book : List Entry) (config : Config) (spelled : Option (List ℕ)) → is_allowed config ≡ false → failed_after [] (limits_fault spelled) ≡ told_play each book config spelled
+limits-told each book config None bad = refl
+limits-told each book config (Some octets) bad = rw bad refl
+
+pub returns-then-not-are_limits-clause-told : goal.returns-then-not-are_limits-clause-told
+returns-then-not-are_limits-clause-told g c = λ well held is. (
+  [],
+  unchanged held _ is,
+  inl (ap (failed_after []) (rw c.as_slice.ensures.value at c.refused_limits.ensures)
+      ∙ limits-told c.args.play.now.each c.args.book.now c.args.play.now.config (octets_spelled c.args.input.items) (sym c.are_limits.ensures ∙ c.if-not-are_limits.true)),
+)

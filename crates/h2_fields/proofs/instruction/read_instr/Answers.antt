@@ -1,6 +1,6 @@
-use Rattle.std.proofs.Common.{◌≡◌, Some, None, Err, ap, sym, ◌∙◌, rules}
+use Rattle.std.proofs.Common.{◌≡◌, Some, None, Err, ap, subst, sym, ◌∙◌, rules}
 use Rattle.std.proofs.lemmas.Result.{err_from_is_err_and}
-use Rattle.h2_fields.specs.Instructions.{fault_at, instr_of}
+use Rattle.h2_fields.specs.Instructions.{HasLiteral, fault_at, instr_of}
 use Rattle.h2_fields.specs.Shapes.{shape_of, read_of}
 use Rattle.h2_fields.proofs.Reading.{texts-whole, texts-more, texts-too_long, has-texts}
 use Rattle.h2_fields.specs.declared.fault.BlockFault.TheVariants as faults
@@ -33,3 +33,10 @@ returns-in-Err-TooLong-clause-fault g c = λ h. ap fault_at (sym (texts-too_long
 
 pub returns-in-Err-TooLong-clause-read : goal.returns-in-Err-TooLong-clause-read
 returns-in-Err-TooLong-clause-read g c = search rules
+
+pub returns-in_err-with_texts-in-Ok-clause-literal : goal.returns-in_err-with_texts-in-Ok-clause-literal
+returns-in_err-with_texts-in-Ok-clause-literal g c =
+    let p = err_from_is_err_and c.from_residual.result c.from_residual.ensures.1 in
+    rw (p.1, p.2) (λ h.
+    let same : c.in_err-with_texts-in-Ok.field-0.0 ≡ faults.NoMemory = cc in
+    subst HasLiteral c.in-Ok.ensures.read (c.in_err-with_texts-in-Ok.ensures.literal (ap Err same)))

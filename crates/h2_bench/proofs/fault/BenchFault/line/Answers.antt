@@ -42,3 +42,7 @@ returns-in-TooLong c = rw c.in-TooLong.is refl
 pub returns-in-BadConfig : goal.returns-in-BadConfig
 unfolding fault_line digits
 returns-in-BadConfig c = rw c.in-BadConfig.is refl
+
+pub returns-in-Socket : goal.returns-in-Socket
+unfolding fault_line digits
+returns-in-Socket c = rw c.in-Socket.is refl

@@ -50,4 +50,4 @@ returns-in-Ok-clause-ok g c =
     subst (λ (s : State). Does (then_sent change.core.phase (made s c.args.payload.now change)) c.args.out.now.items
     (record held { core = c.take_waiting-self-inside.result; streams = c.take_waiting-self-inside.new.streams.streams }) c.send_and_touch.new.out.items) c.self.view_is
     (did held c.args.payload.now change inside.streams c.send_and_touch.new.streams c.take_waiting-self-inside.new.streams c.take_waiting-self-inside.result c.args.out.now.items c.send_and_touch.new.out.items
-    refl c.in-Ok.ensures.touched c.take_waiting-self-inside.ensures.core c.take_waiting-self-inside.ensures.streams c.in-Ok.ensures.sent)
+    refl c.in-Ok.ensures.touched c.take_waiting-self-inside.ensures.core c.take_waiting-self-inside.ensures.streams c.in-Ok.ensures.sent c.in-Ok.ensures.short)

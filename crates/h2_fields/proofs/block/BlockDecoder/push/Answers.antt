@@ -1,4 +1,4 @@
-use Rattle.std.proofs.Common.{◌≡◌, ◌≢◌, ◌++◌, Option, Some, None, option_map, refl, ap, ◌∙◌, subst, sym}
+use Rattle.std.proofs.Common.{◌≡◌, ◌≢◌, ◌++◌, Option, Some, None, option_map, refl, ap, ◌∙◌, subst, sym, rules}
 use Rattle.h2_spec.specs.Block.{BlockSoFar, Decoded, StandsWithin, Unfinished, carried_on, decoded, decoded_with}
 use Rattle.h2_fields.specs.Blocks.{CanStand, answer_of, outcome_of, progress_of, progress_so_far, unfinished}
 use Rattle.h2_fields.proofs.Standing.{answers-faulty, faulty_outcome, shows_nothing, carried-faulty, carried-open, shown-faulty}
@@ -9,9 +9,9 @@ use Rattle.h2_fields.proofs.block.BlockDecoder.push.Goals as goal
 pub returns-in-Some-clause-carried : goal.returns-in-Some-clause-carried
 returns-in-Some-clause-carried g c = λ h.
     let rest = c.self.inside.rest.items in
-    let shown : outcome_of rest (Some c.in-Some.fault) ≡ c.args.self.now.outcome = ap (outcome_of rest) (sym c.in-Some.is) ∙ ap (λ (s : BlockSoFar). s.outcome) c.self.view_is in
+    let shown : outcome_of rest (Some c.in-Some.repeated) ≡ c.args.self.now.outcome = ap (outcome_of rest) (sym c.in-Some.is) ∙ ap (λ (s : BlockSoFar). s.outcome) c.self.view_is in
     let stands = subst (CanStand rest) c.in-Some.is c.self.invariant in
-    let faulty = faulty_outcome rest c.in-Some.fault stands (λ e. h (sym shown ∙ e)) in
+    let faulty = faulty_outcome rest c.in-Some.repeated stands (λ e. h (sym shown ∙ e)) in
     carried-faulty c.args.table.now.limit c.args.table.now.table c.args.self.now c.args.piece.now faulty.0 (sym shown ∙ faulty.1)
 
 pub returns-in-Ok-clause-carried : goal.returns-in-Ok-clause-carried
@@ -62,3 +62,9 @@ returns-in-Err-clause-refused g c = λ h _.
     let within = c.in-Err.ensures.fault.within (shows_nothing new.rest.items c.in-Err.fault h) in
     let stands = λ (s : BlockSoFar). StandsWithin c.args.table.now.limit (progress_so_far c.args.table.now.table s) (unfinished s.outcome ++ c.args.piece.now) (progress_of new.gathered new.table) in
     subst stands c.self.view_is (rw c.in_default.is within)
+
+pub returns-in-Some-clause-stays : goal.returns-in-Some-clause-stays
+returns-in-Some-clause-stays g c = search rules
+
+pub returns-in-Some-clause-refused : goal.returns-in-Some-clause-refused
+returns-in-Some-clause-refused g c = search rules

@@ -1,0 +1,27 @@
+use Rattle.std.proofs.Common.{◌≡◌, ◌∙◌, Option, Some, true, false, codes, sym, ap, refl, option_and_then}
+use Rattle.toml.specs.Data.{Data, as_str}
+use Rattle.toml.specs.View.{items_view, table_view}
+use Rattle.h2_book.specs.Said.{has_other_key, is_key_of_answer, text_at, status_at, status_said, headers_in, headers_said}
+use Rattle.h2_book.proofs.Keys.{has_other_key-keys}
+use Rattle.h2_book.proofs.answer.said_in.Goals as goal
+
+pub returns-then-has_unknown_key-clause-refused : goal.returns-then-has_unknown_key-clause-refused
+returns-then-has_unknown_key-clause-refused c =
+    let table = c.args.table.now in
+    let other : has_other_key is_key_of_answer (table_view table) ≡ true =
+    sym (has_other_key-keys is_key_of_answer table.entries) ∙ sym c.has_unknown_key.ensures ∙ c.if-has_unknown_key.true in
+    (refl, rw other refl)
+
+pub returns-clause-said : goal.returns-clause-said
+returns-clause-said c =
+    let table = c.args.table.now in
+    let other : has_other_key is_key_of_answer (table_view table) ≡ false =
+    sym (has_other_key-keys is_key_of_answer table.entries) ∙ sym c.has_unknown_key.ensures ∙ c.if-has_unknown_key.false in
+    let method : text_at (codes "method") (table_view table) ≡ Some c.in_ok-method.method.now =
+    ap (λ (o : Option Data). option_and_then as_str o) (sym c.value_at.ensures) ∙ c.in_ok-method.ensures.said in
+    let path : text_at (codes "path") (table_view table) ≡ Some c.in_ok-path.path.now =
+    ap (λ (o : Option Data). option_and_then as_str o) (sym c.value_at-2.ensures) ∙ c.in_ok-path.ensures.said in
+    let status : status_at (table_view table) ≡ Some c.in_ok-status.status =
+    ap (λ (o : Option Data). option_and_then status_said o) (sym c.value_at-3.ensures) ∙ c.in_ok-status.ensures.said in
+    let headers = ap (λ (o : Option Data). headers_said o) (sym c.value_at-4.ensures) ∙ sym c.in-Some.ensures.said in
+    rw (other, method, path, status, headers, c.in_ok-body.ensures.said) refl

@@ -1,0 +1,22 @@
+-- The numbers of what makes a book's file refused.
+use Rattle.std.specs.Prelude.{ℕ}
+use Rattle.h2_request.specs.Fault.{fault_number}
+use Rattle.h2_book.specs.declared.fault.Cause.{Cause}
+use Rattle.h2_book.specs.declared.fault.Cause.TheVariants.{NoMemory, Unread, NoText, NoToml, UnknownTop, NoTable, UnknownKey, Missing, Malformed, ManyBodies, FileUnread, FileTooLong, FillTooLong, Refused}
+
+-- the number of a cause
+abbrev pub cause_number : Cause → ℕ
+cause_number NoMemory = 0
+cause_number Unread = 22
+cause_number NoText = 26
+cause_number (NoToml error) = 26
+cause_number (UnknownTop key) = 26
+cause_number NoTable = 26
+cause_number (UnknownKey key) = 26
+cause_number (Missing key) = 26
+cause_number (Malformed key) = 26
+cause_number ManyBodies = 26
+cause_number FileUnread = 22
+cause_number FileTooLong = 15
+cause_number FillTooLong = 15
+cause_number (Refused fault) = fault_number fault

@@ -1,0 +1,19 @@
+-- What a read of a file reports.
+use Rattle.std.specs.Prelude.{◌≡◌, ℕ, ◌<◌, ◌≤◌, List, [], ◌∷◌, length, bytes_eq, if◌then◌else◌, Option, Some, None, IsSomeAnd, Result, Ok, Err, Vec}
+use Rattle.std.specs.Borrow.{Bor}
+use Rattle.std.specs.declared.alloc.Global.{Global}
+use Rattle.h2_book.specs.declared.files.FilesFault.{FilesFault}
+use Rattle.h2_book.specs.declared.files.FilesFault.TheVariants.{Failed, TooLong, NoMemory}
+
+-- what a read of at most so many octets reports, by what is at the path: the octets, or the one refusal; memory is taken only for a file that is there and
+-- not too long
+abbrev pub Reads : ℕ → Option (List ℕ) → Result (Vec ℕ Global) FilesFault → Type 0
+Reads most file (Ok octets) = file ≡ Some octets.items
+Reads most file (Err Failed) = file ≡ None
+Reads most file (Err TooLong) = IsSomeAnd file (λ octets. most < length octets)
+Reads most file (Err NoMemory) = IsSomeAnd file (λ octets. length octets ≤ most)
+
+-- the octets of the first of some files that has this path
+abbrev pub file_in : List (Bor (List ℕ) × Bor (List ℕ)) → List ℕ → Option (List ℕ)
+file_in [] path = None
+file_in (f ∷ fs) path = if bytes_eq f.0.now path then Some f.1.now else file_in fs path

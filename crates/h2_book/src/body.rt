@@ -1,0 +1,306 @@
+//! The body of an answer: `body`, `body-hex`, `body-file` or `body-fill`, and its octets.
+//! Rests on `files` and on the crates `toml` and `hex`; definitions: specs/Contents.antt.
+
+ghost use Rattle.std.specs.Prelude.{◌≡◌, ◌+◌, ◌<◌, ◌==◌, ◌&&◌, true, option_map, option_and_then, IfOk};
+ghost use Rattle.std.specs.Prelude.{IfErr, IfNone, IfSome, IsTrue, is_some, length, unwrap_or, None, Some, []};
+ghost use Rattle.std.specs.List.{list_all};
+ghost use Rattle.std.specs.Option.{option_copied};
+ghost use Rattle.std.specs.Path.{path_bytes, path_parent};
+ghost use Rattle.hex.specs.Hex.{is_hex_digit};
+ghost use Rattle.toml.specs.Data.{as_str, as_array, as_integer};
+ghost use Rattle.toml.specs.View.{view, items_view, table_view};
+ghost use Rattle.h2_spec.specs.AnswerWords.{body_of as octets_in_hex};
+ghost use Rattle.h2_book.specs.Values.{data_at};
+ghost use Rattle.h2_book.specs.Contents as spec;
+ghost use Rattle.h2_book.specs.Entries.{Agrees};
+ghost use Rattle.h2_book.specs.Faults.{cause_number};
+
+use crate::fault::{Cause, Key};
+use crate::files::{Files, FilesFault};
+use crate::table::value_at;
+use h2_fields::octets::Octets;
+use h2_request::book::MAX_BODY;
+use std::alloc::{AllocError, Global};
+use std::path::Path;
+use toml::{Table, Value};
+
+/// What a body is said to be, lent by the document.
+#[derive(Clone, Copy)]
+pub enum Contents<'v> {
+    /// The octets of this text.
+    Text(&'v str),
+    /// The octets that these hex digits write, in pairs.
+    Hex(&'v str),
+    /// The octets of the file at this path, from the book's directory.
+    File(&'v str),
+    /// So many octets, the text over and over again.
+    Fill(usize, &'v str),
+}
+
+/// The body of an answer; without any of its keys it is empty.
+///
+/// # Errors
+///
+/// Fault 26: there are two bodies, or the one there is has another form than its key asks for.
+pub fn contents_in(table: &Table) -> Result<Contents<'_>, Cause>
+    ensures said { IfOk result (λ c. spec.contents_of (table_view table.now) ≡ spec.contents_seen c) }
+    ensures whole { IfOk result (λ c. IsTrue (is_some (spec.contents_seen c))) }
+    ensures refused { IfErr result (λ cause.
+        (cause_number cause ≡ 26) × (spec.contents_of (table_view table.now) ≡ None)) }
+{
+    contents_of_values(
+        value_at(table, "body"),
+        value_at(table, "body-hex"),
+        value_at(table, "body-file"),
+        value_at(table, "body-fill"),
+    )
+}
+
+/// The body that the values of the four keys say.
+fn contents_of_values<'v>(
+    text: Option<&'v Value>,
+    hex: Option<&'v Value>,
+    file: Option<&'v Value>,
+    fill: Option<&'v Value>,
+) -> Result<Contents<'v>, Cause>
+    ensures said { IfOk result (λ c.
+        spec.contents_of_values (data_at text.entry) (data_at hex.entry) (data_at file.entry) (data_at fill.entry)
+        ≡ spec.contents_seen c) }
+    ensures whole { IfOk result (λ c. IsTrue (is_some (spec.contents_seen c))) }
+    ensures refused { IfErr result (λ cause.
+        (cause_number cause ≡ 26)
+        × (spec.contents_of_values (data_at text.entry) (data_at hex.entry) (data_at file.entry) (data_at fill.entry) ≡ None)) }
+{
+    if count_of(text) + count_of(hex) + count_of(file) + count_of(fill) > 1 {
+        return Err(Cause::ManyBodies);
+    }
+    first_said(text, hex, file, fill)
+}
+
+/// The body that the first value says.
+fn first_said<'v>(
+    text: Option<&'v Value>,
+    hex: Option<&'v Value>,
+    file: Option<&'v Value>,
+    fill: Option<&'v Value>,
+) -> Result<Contents<'v>, Cause>
+    ensures said { IfOk result (λ c.
+        spec.first_said (data_at text.entry) (data_at hex.entry) (data_at file.entry) (data_at fill.entry)
+        ≡ spec.contents_seen c) }
+    ensures whole { IfOk result (λ c. IsTrue (is_some (spec.contents_seen c))) }
+    ensures refused { IfErr result (λ cause.
+        (cause_number cause ≡ 26)
+        × (spec.first_said (data_at text.entry) (data_at hex.entry) (data_at file.entry) (data_at fill.entry) ≡ None)) }
+{
+    match (text, hex, file, fill) {
+        (Some(text), _, _, _) => formed(text_said(text), Key::Body),
+        (None, Some(hex), _, _) => formed(hex_said(hex), Key::BodyHex),
+        (None, None, Some(file), _) => formed(file_said(file), Key::BodyFile),
+        (None, None, None, Some(fill)) => formed(fill_said(fill), Key::BodyFill),
+        (None, None, None, None) => Ok(Contents::Text("")),
+    }
+}
+
+/// What the value of a key says, or that the key's value is malformed.
+fn formed(said: Option<Contents<'_>>, key: Key) -> Result<Contents<'_>, Cause>
+    ensures ok { IfOk result (λ c. said.entry ≡ Some c) }
+    ensures err { IfErr result (λ cause. (cause_number cause ≡ 26) × (said.entry ≡ None)) }
+{
+    match said {
+        Some(contents) => Ok(contents),
+        None => Err(Cause::Malformed(key)),
+    }
+}
+
+/// 1 where there is a value, else 0.
+fn count_of(value: Option<&Value>) -> u8
+    ensures { result ≡ spec.count_of (data_at value.entry) }
+{
+    match value {
+        Some(_) => 1,
+        None => 0,
+    }
+}
+
+/// A text as a body.
+fn text_said(value: &Value) -> Option<Contents<'_>>
+    ensures said { option_and_then spec.contents_seen result ≡ spec.text_said (view value.now) }
+    ensures whole { IfSome result (λ c. IsTrue (is_some (spec.contents_seen c))) }
+{
+    match value.as_str() {
+        Some(text) => Some(Contents::Text(text)),
+        None => None,
+    }
+}
+
+/// Pairs of hex digits as a body.
+fn hex_said(value: &Value) -> Option<Contents<'_>>
+    ensures said { option_and_then spec.contents_seen result ≡ spec.hex_said (view value.now) }
+    ensures whole { IfSome result (λ c. IsTrue (is_some (spec.contents_seen c))) }
+{
+    match value.as_str() {
+        Some(digits) if is_hex(digits.as_bytes()) => Some(Contents::Hex(digits)),
+        _ => None,
+    }
+}
+
+/// Whether a text is pairs of hex digits.
+fn is_hex(digits: &[u8]) -> bool
+    ensures { result ≡ is_some (octets_in_hex digits.now) }
+{
+    digits.len() % 2 == 0 && are_hex_digits(digits)
+}
+
+fn are_hex_digits(digits: &[u8]) -> bool
+    ensures { result ≡ list_all is_hex_digit digits.now }
+{
+    digits.iter().all(|digit| digit.is_ascii_hexdigit())
+}
+
+/// A path as a body.
+fn file_said(value: &Value) -> Option<Contents<'_>>
+    ensures said { option_and_then spec.contents_seen result ≡ spec.file_said (view value.now) }
+    ensures whole { IfSome result (λ c. IsTrue (is_some (spec.contents_seen c))) }
+{
+    match value.as_str() {
+        Some(path) => Some(Contents::File(path)),
+        None => None,
+    }
+}
+
+/// A count and a text as a body.
+fn fill_said(value: &Value) -> Option<Contents<'_>>
+    ensures said { option_and_then spec.contents_seen result ≡ spec.fill_said (view value.now) }
+    ensures whole { IfSome result (λ c. IsTrue (is_some (spec.contents_seen c))) }
+{
+    match value.as_array() {
+        Some(pair) => fill_pair(pair.as_slice()),
+        None => None,
+    }
+}
+
+/// A count that is not negative, and a text that is not empty.
+fn fill_pair(pair: &[Value]) -> Option<Contents<'_>>
+    ensures said { option_and_then spec.contents_seen result ≡ spec.fill_pair (items_view pair.now) }
+    ensures whole { IfSome result (λ c. IsTrue (is_some (spec.contents_seen c))) }
+{
+    match pair {
+        [] | [_] => None,
+        [count, text] => repeat_said(count.as_integer(), text.as_str()),
+        [_, _, _, ..] => None,
+    }
+}
+
+fn repeat_said(count: Option<i64>, text: Option<&str>) -> Option<Contents<'_>>
+    ensures said { option_and_then spec.contents_seen result ≡ spec.repeat_said count (option_copied text.entry) }
+    ensures whole { IfSome result (λ c. IsTrue (is_some (spec.contents_seen c))) }
+{
+    let count = count?;
+    let text = text?;
+    if count < 0 || text.is_empty() {
+        None
+    } else {
+        Some(Contents::Fill(count as usize, text))
+    }
+}
+
+/// The octets of a body; a file is looked for from the directory of the book at `path`.
+///
+/// # Errors
+///
+/// 22: the file can't be read. 15: the file has more than 1,048,576 octets, or the count is above that; no memory is
+/// taken for them. 0: out of memory.
+pub fn read_contents<F: Files>(
+    alloc: Global,
+    files: &mut F,
+    path: &str,
+    contents: Contents<'_>,
+) -> Result<Octets<Global>, Cause>
+    requires { IsTrue (is_some (spec.contents_seen contents)) }
+    ensures told { F.is_told files.old ≡ true →
+        Agrees (λ o. o) result (spec.octets_said (F.file files.old) path.now (spec.contents_seen contents.entry)) }
+    ensures same_told { F.is_told files.new ≡ F.is_told files.old }
+    ensures same_files { F.file files.new ≡ F.file files.old }
+{
+    match contents {
+        Contents::Text(text) => Ok(copy_of(alloc, text)?),
+        Contents::Hex(digits) => Ok(Octets::new(read_hex(alloc, digits.as_bytes())?)),
+        Contents::File(name) => read_file(alloc, files, path, name),
+        Contents::Fill(count, text) => fill(alloc, count, text.as_bytes()),
+    }
+}
+
+/// The octets of a text.
+pub fn copy_of(alloc: Global, text: &str) -> Result<Octets<Global>, AllocError>
+    ensures { IfOk result (λ octets. octets ≡ text.now) }
+{
+    Ok(Octets::new(text.as_bytes().to_vec(alloc)?))
+}
+
+/// The octets that pairs of hex digits write.
+fn read_hex(alloc: Global, digits: &[u8]) -> Result<Vec<u8>, AllocError>
+    requires { IsTrue (is_some (octets_in_hex digits.now)) }
+    ensures { IfOk result (λ octets. octets_in_hex digits.now ≡ Some octets.items) }
+{
+    match hex::decode(alloc, digits) {
+        Ok(octets) => Ok(octets),
+        Err(_) => Err(AllocError),
+    }
+}
+
+/// The octets of a body's file.
+fn read_file<F: Files>(
+    alloc: Global,
+    files: &mut F,
+    path: &str,
+    name: &str,
+) -> Result<Octets<Global>, Cause>
+    ensures told { F.is_told files.old ≡ true →
+        Agrees (λ o. o) result (spec.octets_of_file (F.file files.old (spec.beside path.now name.now))) }
+    ensures same_told { F.is_told files.new ≡ F.is_told files.old }
+    ensures same_files { F.file files.new ≡ F.file files.old }
+{
+    let place = directory_of(path).join(alloc, name)?;
+    match files.read(alloc, place.as_str(), MAX_BODY) {
+        Ok(octets) => Ok(Octets::new(octets)),
+        Err(FilesFault::Failed) => Err(Cause::FileUnread),
+        Err(FilesFault::TooLong) => Err(Cause::FileTooLong),
+        Err(FilesFault::NoMemory) => Err(Cause::NoMemory),
+    }
+}
+
+/// The directory that a book's path names; empty where it names none.
+fn directory_of(path: &str) -> Path<'_>
+    ensures { path_bytes result ≡ unwrap_or (path_parent path.now) [] }
+{
+    match Path::new(path).parent() {
+        Some(directory) => directory,
+        None => Path::new(""),
+    }
+}
+
+/// So many octets of a text, over and over again.
+///
+/// # Errors
+///
+/// 15: the count is above 1,048,576; no memory is taken. 0: out of memory.
+fn fill(alloc: Global, count: usize, text: &[u8]) -> Result<Octets<Global>, Cause>
+    requires { 0 < length text.now }
+    ensures { Agrees (λ o. o) result (spec.octets_of_fill count text.now) }
+{
+    if count > MAX_BODY {
+        return Err(Cause::FillTooLong);
+    }
+    Ok(Octets::new(repeat(alloc, count, text)?))
+}
+
+fn repeat(alloc: Global, count: usize, text: &[u8]) -> Result<Vec<u8>, AllocError>
+    requires { 0 < length text.now }
+    ensures { IfOk result (λ octets. octets.items ≡ spec.filled count text.now) }
+{
+    let mut octets = Vec::with_capacity(alloc, count)?;
+    for place in 0..count {
+        octets.push(text[place % text.len()])?;
+    }
+    Ok(octets)
+}

@@ -1,0 +1,42 @@
+//! Files that a program reads whole.
+//! Rests on nothing; what a read reports: specs/Files.antt.
+
+ghost use Rattle.std.specs.Prelude.{◌≡◌, ◌≤◌, ℕ, List, Option, Bool, IfOk, true, vec_len};
+ghost use Rattle.h2_book.specs.Files.{Reads};
+
+use std::alloc::Global;
+use thiserror::Error;
+
+/// Why a file was not read.
+#[derive(Clone, Copy, Debug, PartialEq, Eq, Error)]
+pub enum FilesFault {
+    /// There is no file at the path, it may not be read, or a read of it failed.
+    #[error("the file can't be read")]
+    Failed,
+    /// The file has more octets than were asked for at most.
+    #[error("the file is too long")]
+    TooLong,
+    /// Memory was refused.
+    #[error("out of memory")]
+    NoMemory,
+}
+
+/// Files that a program reads whole. A contract sees what is at each path, where the device reports it: the octets of
+/// the file, or nothing where there is no file that can be read. No read changes that.
+pub trait Files {
+    ghost is_told: { Self → Bool };
+
+    ghost file: { Self → List ℕ → Option (List ℕ) };
+
+    /// The octets of the file at a path, at most `most` of them.
+    ///
+    /// # Errors
+    ///
+    /// `Failed`: there is no file that can be read. `TooLong`: it has more than `most` octets; no more than `most`
+    /// and one read's room are held for that. `NoMemory`: memory was refused.
+    fn read(&mut self, alloc: Global, path: &str, most: usize) -> Result<Vec<u8>, FilesFault>
+        ensures octets { is_told self.old ≡ true → Reads most (file self.old path.now) result }
+        ensures within { IfOk result (λ octets. vec_len octets ≤ most) }
+        ensures same_told { is_told self.new ≡ is_told self.old }
+        ensures same_files { file self.new ≡ file self.old };
+}

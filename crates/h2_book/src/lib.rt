@@ -1,0 +1,21 @@
+//! Books of answers in TOML files.
+//! It rests on `h2_request` (the book and its entries) and on the crate `toml`. The definitions are in specs/: `Said`
+//! (one answer), `Contents` (its body), `Entries` (the whole file), `Files` (what a read reports), `Faults` (numbers).
+#![tactic(auto)]
+
+mod answer;
+mod body;
+mod book_file;
+mod fault;
+mod files;
+mod header;
+mod line;
+mod memory;
+mod standard;
+mod table;
+
+pub use book_file::{MAX_BOOK_FILE, add_book};
+pub use fault::{BookFileFault, Cause, Key};
+pub use files::{Files, FilesFault};
+pub use memory::FilesInMemory;
+pub use standard::StdFiles;

@@ -1,0 +1,42 @@
+//! The lines of a text, for the sentence of a fault. Nothing is proved of them but that they are safe.
+
+/// The number of the line in which an octet is, from 1.
+pub fn line_at(text: &[u8], octet: usize) -> usize {
+    let mut line = 1usize;
+    for place in 0..octet.min(text.len()) {
+        if text[place] == b'\n' {
+            line = line.saturating_add(1);
+        }
+    }
+    line
+}
+
+/// The line of an answer's header, both counted from 1; 0 where the text has another number of headers than there are
+/// answers.
+pub fn line_of_answer(text: &str, answer: usize, answers: usize) -> usize {
+    let mut line = 0usize;
+    let mut headers = 0usize;
+    let mut found = 0usize;
+    for each in text.lines() {
+        line = line.saturating_add(1);
+        if is_header(each) {
+            headers = headers.saturating_add(1);
+            if headers == answer {
+                found = line;
+            }
+        }
+    }
+    if headers == answers { found } else { 0 }
+}
+
+/// Whether a line is `[[answer]]`, with blanks in it or not.
+fn is_header(line: &str) -> bool {
+    let line = line.trim_start();
+    match line.strip_prefix("[[") {
+        Some(rest) => match rest.trim_start().strip_prefix("answer") {
+            Some(rest) => rest.trim_start().starts_with("]]"),
+            None => false,
+        },
+        None => false,
+    }
+}

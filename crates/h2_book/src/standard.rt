@@ -1,0 +1,51 @@
+//! The system's files, of which contracts know nothing.
+//! Rests on `files` and `std::fs`.
+
+ghost use Rattle.std.specs.Prelude.{◌≤◌, IfOk, None, false, vec_len};
+
+use crate::files::{Files, FilesFault};
+use std::alloc::Global;
+use std::io::Read;
+use std::{fs, rt};
+
+/// The system's files, through the runtime that a program is given.
+#[derive_where(Clone, Copy)]
+pub struct StdFiles<'r, R> {
+    pub runtime: &'r R,
+}
+
+impl<R: rt::Files> Files for StdFiles<'_, R> {
+    ghost is_told = { λ _. false };
+
+    ghost file = { λ _ _. None };
+
+    fn read(&mut self, alloc: Global, path: &str, most: usize) -> Result<Vec<u8>, FilesFault> {
+        match fs::open(self.runtime, path) {
+            Ok(mut file) => read_whole(alloc, &mut file, most),
+            Err(_) => Err(FilesFault::Failed),
+        }
+    }
+}
+
+/// All that a reader has left, at most `most` octets.
+fn read_whole<R: Read>(alloc: Global, input: &mut R, most: usize) -> Result<Vec<u8>, FilesFault>
+    ensures { IfOk result (λ octets. vec_len octets ≤ most) }
+{
+    let mut octets = Vec::new(alloc);
+    let mut room = [0; 16384];
+    for _ in 0..u64::MAX {
+        let Ok(count) = input.read(&mut room) else {
+            return Err(FilesFault::Failed);
+        };
+        if count == 0 {
+            return Ok(octets);
+        }
+        if count > most - octets.len() {
+            return Err(FilesFault::TooLong);
+        }
+        let Ok(()) = octets.extend_from_slice(&room[..count]) else {
+            return Err(FilesFault::NoMemory);
+        };
+    }
+    Err(FilesFault::TooLong)
+}

@@ -1,0 +1,342 @@
+//! Single calls of a connection (RFC 9113, 3.4).
+
+use crate::frames::PREFACE;
+use crate::same::same;
+use h2_conn::play::play;
+use h2_conn::view::View;
+use h2_conn::{Conn, ConnFault};
+use h2_request::book::Book;
+use h2_spec::connection::{Config, Phase};
+use h2_spec::streams::Kind;
+use std::alloc::{AllocError, Global};
+use std::test::Fail;
+
+/// The usual limits.
+fn usual() -> Config {
+    Config {
+        streams: 100,
+        credit: 32768,
+    }
+}
+
+// These have no clause, so that the proof of a test does not carry the state of each call.
+
+pub(crate) fn no_answers(alloc: Global) -> Book<Global> {
+    Book::new(alloc)
+}
+
+/// A new connection of these limits; what it sends is appended to `sent`.
+pub(crate) fn opened<'a>(
+    book: &'a Book<Global>,
+    config: Config,
+    sent: &mut Vec<u8>,
+) -> Result<Conn<'a, Global>, ConnFault> {
+    Conn::new(book, config, sent)
+}
+
+/// The code that ended a connection, and whether memory was refused.
+type End = (Option<u32>, bool);
+
+fn end_of(conn: &Conn<'_, Global>) -> End {
+    (conn.ended(), conn.failed())
+}
+
+/// The end of a new connection.
+fn opened_end(
+    alloc: Global,
+    streams: u32,
+    credit: u32,
+    sent: &mut Vec<u8>,
+) -> Result<End, ConnFault> {
+    let book = no_answers(alloc);
+    let conn = opened(&book, Config { streams, credit }, sent)?;
+    Ok(end_of(&conn))
+}
+
+/// The same, and what the connection sends.
+fn opening(alloc: Global, streams: u32, credit: u32) -> (Result<End, ConnFault>, Vec<u8>) {
+    let mut sent = Vec::new(alloc);
+    (opened_end(alloc, streams, credit, &mut sent), sent)
+}
+
+/// Limits, the end of a new connection of them, what it sends, and a name.
+static LIMITS: [(u32, u32, Result<End, ConnFault>, &[u8], &str); 5] = [
+    (0, 1, Err(ConnFault::BadConfig), b"", "no stream"),
+    (1001, 1, Err(ConnFault::BadConfig), b"", "1001 streams"),
+    (1, 0, Err(ConnFault::BadConfig), b"", "no credit"),
+    (1, 65536, Err(ConnFault::BadConfig), b"", "65536 octets"),
+    // SETTINGS_MAX_CONCURRENT_STREAMS 1000 and SETTINGS_MAX_HEADER_LIST_SIZE 65536 (RFC 9113, 6.5.2).
+    (
+        1000,
+        65535,
+        Ok((None, false)),
+        b"\x00\x00\x0c\x04\x00\x00\x00\x00\x00\x00\x03\x00\x00\x03\xe8\x00\x06\x00\x01\x00\x00",
+        "the opening SETTINGS",
+    ),
+];
+
+#[test]
+fn limits_out_of_range_are_refused_and_settings_sent_first(rt: HostRuntime) {
+    for (streams, credit, end, octets, name) in &LIMITS {
+        let (found, sent) = opening(rt.alloc(), *streams, *credit);
+        same(&rt, &(found, sent.as_slice()), &(*end, *octets), name);
+    }
+}
+
+/// A new connection over this book.
+fn opened_over(alloc: Global, book: &Book<Global>) -> Option<Conn<'_, Global>> {
+    opened(book, usual(), &mut Vec::new(alloc)).ok()
+}
+
+/// The number of items in a piece.
+pub(crate) fn taken(
+    conn: &mut Conn<'_, Global>,
+    piece: &[u8],
+    sent: &mut Vec<u8>,
+) -> Result<usize, ConnFault> {
+    conn.feed(piece, sent)
+}
+
+/// The end after these pieces; `counts` has the number of items in each and of the octets sent after it.
+fn counted(
+    conn: &mut Conn<'_, Global>,
+    pieces: &[&[u8]],
+    counts: &mut Vec<(usize, usize)>,
+    sent: &mut Vec<u8>,
+) -> Option<End> {
+    for piece in pieces {
+        let items = taken(conn, piece, sent).ok()?;
+        counts.push((items, sent.len())).ok()?;
+    }
+    Some(end_of(conn))
+}
+
+/// The same of a new connection; the octets sent are those behind the opening SETTINGS.
+fn fed(
+    alloc: Global,
+    pieces: &[&[u8]],
+    counts: &mut Vec<(usize, usize)>,
+    sent: &mut Vec<u8>,
+) -> Option<End> {
+    let book = no_answers(alloc);
+    let mut conn = opened_over(alloc, &book)?;
+    counted(&mut conn, pieces, counts, sent)
+}
+
+/// Pieces; the number of items in each and of the octets sent after it; the octets sent; and the code that ended the connection.
+type Fed = (
+    &'static [&'static [u8]],
+    &'static [(usize, usize)],
+    &'static [u8],
+    Option<u32>,
+);
+
+static FED: [Fed; 2] = [
+    // The preface; SETTINGS, PING, and the beginning of a head; nothing. SETTINGS and PING are acknowledged.
+    (
+        &[
+            b"PRI * HTTP/2.0\r\n\r\nSM\r\n\r\n",
+            b"\x00\x00\x00\x04\x00\x00\x00\x00\x00\x00\x00\x08\x06\x00\x00\x00\x00\x00debugger\x00\x00",
+            b"",
+        ],
+        &[(1, 0), (2, 26), (0, 26)],
+        b"\x00\x00\x00\x04\x01\x00\x00\x00\x00\x00\x00\x08\x06\x01\x00\x00\x00\x00debugger",
+        None,
+    ),
+    // GOAWAY: last stream 0, PROTOCOL_ERROR (RFC 9113, 6.8). Behind it nothing is taken.
+    (
+        &[b"GET / HTTP/1.1\r\n", b"PRI * HTTP/2.0\r\n\r\nSM\r\n\r\n"],
+        &[(1, 17), (0, 17)],
+        b"\x00\x00\x08\x07\x00\x00\x00\x00\x00\x00\x00\x00\x00\x00\x00\x00\x01",
+        Some(1),
+    ),
+];
+
+#[test]
+fn items_are_counted_and_answered(rt: HostRuntime) {
+    for (pieces, wanted, answers, ended) in &FED {
+        let mut counts = Vec::new(rt.alloc());
+        let mut sent = Vec::new(rt.alloc());
+        let end = fed(rt.alloc(), pieces, &mut counts, &mut sent);
+        let found = (counts.as_slice(), sent.as_slice(), end);
+        let wanted = (*wanted, *answers, Some((*ended, false)));
+        same(&rt, &found, &wanted, answers);
+    }
+}
+
+/// What comes of a piece that is given for one item: the octets used of it, whether there was an item, and the number of the octets sent.
+fn step(
+    conn: &mut Conn<'_, Global>,
+    piece: &[u8],
+    sent: &mut Vec<u8>,
+) -> Option<(usize, bool, usize)> {
+    let one = conn.feed_one(piece, sent).ok()?;
+    Some((one.used, one.item, sent.len()))
+}
+
+fn steps(
+    alloc: Global,
+    conn: &mut Conn<'_, Global>,
+    pieces: &[&[u8]],
+) -> Option<Vec<(usize, bool, usize)>> {
+    let mut steps = Vec::new(alloc);
+    let mut sent = Vec::new(alloc);
+    for piece in pieces {
+        let step = step(conn, piece, &mut sent)?;
+        steps.push(step).ok()?;
+    }
+    Some(steps)
+}
+
+/// What comes of each piece that is given to a new connection.
+fn fed_one(alloc: Global, pieces: &[&[u8]]) -> Option<Vec<(usize, bool, usize)>> {
+    let book = no_answers(alloc);
+    let mut conn = opened_over(alloc, &book)?;
+    steps(alloc, &mut conn, pieces)
+}
+
+/// Pieces, and what comes of each.
+type FedOne = (&'static [&'static [u8]], &'static [(usize, bool, usize)]);
+
+static FED_ONE: [FedOne; 3] = [
+    // One item, and no more, is taken.
+    (
+        &[b"PRI * HTTP/2.0\r\n\r\nSM\r\n\r\n\x00\x00\x00\x04"],
+        &[(24, true, 0)],
+    ),
+    // Octets without an item are taken.
+    (
+        &[b"PRI", b" * HTTP/2.0\r\n\r\nSM\r\n\r\n"],
+        &[(3, false, 0), (21, true, 0)],
+    ),
+    // After the end nothing is: the preface and SETTINGS of no setting (RFC 9113, 6.5).
+    (
+        &[
+            b"G",
+            b"PRI * HTTP/2.0\r\n\r\nSM\r\n\r\n",
+            b"\x00\x00\x00\x04\x00\x00\x00\x00\x00",
+        ],
+        &[(1, true, 17), (24, false, 17), (9, false, 17)],
+    ),
+];
+
+#[test]
+fn one_item_is_taken_at_a_time(rt: HostRuntime) {
+    for (pieces, wanted) in &FED_ONE {
+        let steps = fed_one(rt.alloc(), pieces);
+        same(&rt, &steps.as_deref(), &Some(*wanted), pieces);
+    }
+}
+
+/// The text of a connection's state, and the same as the connection writes it between two words.
+fn texts(alloc: Global, conn: &Conn<'_, Global>) -> Result<(String, String), AllocError> {
+    let text = conn.show(alloc)?;
+    Ok((text, format!(in alloc; "state\n{conn}end")?))
+}
+
+fn phase_of(alloc: Global, conn: &Conn<'_, Global>) -> Result<Phase, AllocError> {
+    Ok(conn.state(alloc)?.phase)
+}
+
+/// The phase of a connection, and the texts of its state.
+fn phase_and_texts(
+    alloc: Global,
+    conn: &Conn<'_, Global>,
+) -> Result<(Phase, (String, String)), AllocError> {
+    let phase = phase_of(alloc, conn)?;
+    Ok((phase, texts(alloc, conn)?))
+}
+
+/// The same of a new connection.
+fn shown(alloc: Global) -> Option<(Phase, (String, String))> {
+    let book = no_answers(alloc);
+    let conn = opened_over(alloc, &book)?;
+    phase_and_texts(alloc, &conn).ok()
+}
+
+#[test]
+fn the_state_is_shown(rt: HostRuntime) -> Result<(), Fail> {
+    let (phase, (text, written)) = shown(rt.alloc()).ok_or("a connection")?;
+    let state = "phase preface last 0\n\
+                 window recv 65535 owed 0 send 65535\n\
+                 peer table 4096 push 1 streams - window 65535 frame 16384 list - signal 0\n\
+                 acked 0 goaway -\n\
+                 block -\n\
+                 table 0 0 4096\n";
+    let between = format!(in rt.alloc(); "state\n{state}end")?;
+    let found = (text.as_str(), written.as_str(), phase);
+    let wanted = (state, between.as_str(), Phase::Preface);
+    same(&rt, &found, &wanted, &"a new connection");
+    Ok(())
+}
+
+/// The phase and the last stream of a run over octets in pieces of these lengths, and its streams.
+type Seen = (Phase, u32, Vec<(u32, Kind)>);
+
+fn seen(alloc: Global, view: &View<Global>) -> Result<Seen, Fail> {
+    let mut streams = Vec::new(alloc);
+    for stream in view.streams.as_slice() {
+        streams.push((stream.id, stream.kind))?;
+    }
+    Ok((view.phase, view.last, streams))
+}
+
+fn played(
+    alloc: Global,
+    octets: &[u8],
+    lengths: &[usize],
+    sent: &mut Vec<u8>,
+) -> Result<Seen, Fail> {
+    let book = no_answers(alloc);
+    let view = play(&book, usual(), octets, lengths, sent)?;
+    seen(alloc, &view)
+}
+
+#[test]
+fn runs_are_played(rt: HostRuntime) -> Result<(), Fail> {
+    // SETTINGS, and a request on stream 1 of one field, `:method: GET`, which is malformed (RFC 9113, 8.3.1).
+    let octets =
+        b"PRI * HTTP/2.0\r\n\r\nSM\r\n\r\n\x00\x00\x00\x04\x00\x00\x00\x00\x00\x00\x00\x01\x01\x05\x00\x00\x00\x01\x82";
+    // SETTINGS of 100 streams and 65536 octets of fields, the acknowledgement, RST_STREAM with PROTOCOL_ERROR.
+    let answers =
+        b"\x00\x00\x0c\x04\x00\x00\x00\x00\x00\x00\x03\x00\x00\x00\x64\x00\x06\x00\x01\x00\x00\x00\x00\x00\x04\x01\x00\x00\x00\x00\x00\x00\x04\x03\x00\x00\x00\x00\x01\x00\x00\x00\x01";
+    for lengths in [[].as_slice(), [1, 24, 100].as_slice()] {
+        let mut sent = Vec::new(rt.alloc());
+        let (phase, last, streams) = played(rt.alloc(), octets, lengths, &mut sent)?;
+        let found = (phase, last, streams.as_slice(), sent.as_slice());
+        let streams = [(1, Kind::WeReset)];
+        let wanted = (Phase::Running, 1, streams.as_slice(), answers.as_slice());
+        same(&rt, &found, &wanted, &lengths);
+    }
+    Ok(())
+}
+
+/// The fault of a run of no stream.
+fn refused(alloc: Global, sent: &mut Vec<u8>) -> Option<ConnFault> {
+    let book = no_answers(alloc);
+    let config = Config {
+        streams: 0,
+        credit: 1,
+    };
+    play(&book, config, PREFACE, &[], sent).err()
+}
+
+#[test]
+fn runs_out_of_limits_are_refused(rt: HostRuntime) {
+    let mut sent = Vec::new(rt.alloc());
+    let kept = sent.extend_from_slice(b"kept");
+    let fault = refused(rt.alloc(), &mut sent);
+    let wanted = (Ok(()), Some(ConnFault::BadConfig), b"kept".as_slice());
+    same(&rt, &(kept, fault, sent.as_slice()), &wanted, &"no stream");
+}
+
+#[test]
+fn faults_have_their_numbers(rt: HostRuntime) {
+    for (fault, number) in [
+        (ConnFault::NoMemory, 0),
+        (ConnFault::BadConfig, 16),
+        (ConnFault::Failed, 17),
+    ] {
+        same(&rt, &fault.number(), &number, &fault);
+    }
+}

@@ -1,0 +1,456 @@
+//! The rules of a connection on worked numbers, from the text of RFC 9113.
+
+ghost use Rattle.std.specs.Prelude.{◌≡◌};
+ghost use Rattle.h2_rules.specs.Sound.{IsSoundCore, IsSoundStream};
+
+use crate::same::same;
+use h2_frame::{FrameRef, Head, settings_of};
+use h2_rules::checks::refusal;
+use h2_rules::control::{on_goaway, on_ping};
+use h2_rules::data::on_data;
+use h2_rules::headers::{request_turn, trailers_turn};
+use h2_rules::reset::on_reset;
+use h2_rules::settings::{acknowledged, settings_rule};
+use h2_rules::window_update::{connection_window, on_window};
+use h2_spec::connection::{Config, Core, Phase};
+use h2_spec::errors::ErrorCode;
+use h2_spec::flow::{Credit, Own, Settings, Window};
+use h2_spec::reactions::{Came, Change, ConnectionFrame, Facts, Reaction, StreamFrame, Touch};
+use h2_spec::streams::{Kind, Numbers, Pick, Stream};
+use std::test::Fail;
+
+/// A connection of which the settings are exchanged, and nothing else has come.
+fn running() -> Core
+    ensures sound { IsSoundCore result }
+    ensures window { result.peer.window ≡ 65535 }
+{
+    Core {
+        phase: Phase::Running,
+        last: 1,
+        recv: Window::start(65_535),
+        owed: Credit::none(),
+        send: Window::start(65_535),
+        peer: Settings::initial(),
+        own: Own::initial(),
+        acked: true,
+        goaway: None,
+    }
+}
+
+/// Stream 1 in a state, with the windows that it began with.
+fn stream(kind: Kind) -> Stream
+    ensures { IsSoundStream 65535 result }
+{
+    Stream {
+        id: 1,
+        kind,
+        numbers: Numbers {
+            recv: Window::start(65_535),
+            owed: Credit::none(),
+            send: Window::start(65_535),
+            got: 0,
+            declared: None,
+            left: None,
+        },
+        pick: Pick::NotFound,
+    }
+}
+
+// These have no clause, so that the proof of a test does not carry what a rule answers.
+
+fn change_of(reaction: Reaction) -> Option<Change> {
+    match reaction {
+        Reaction::ConnectionError(_) => None,
+        Reaction::Continues(change) => Some(change),
+    }
+}
+
+/// The error that ends the connection.
+fn error_of(reaction: Reaction) -> Option<ErrorCode> {
+    match reaction {
+        Reaction::ConnectionError(code) => Some(code),
+        Reaction::Continues(_) => None,
+    }
+}
+
+/// The stream that is put, if one is.
+fn put_of(touch: Touch) -> Option<Stream> {
+    match touch {
+        Touch::Put(stream) => Some(stream),
+        Touch::Same | Touch::Shift(..) => None,
+    }
+}
+
+/// DATA of a payload and a content of so many octets, on stream 1, where credit is given back from a threshold on.
+fn data(threshold: u32, octets: u32, content: u32, kind: Kind) -> Reaction {
+    let config = Config {
+        streams: 100,
+        credit: threshold,
+    };
+    let came = Came {
+        octets,
+        content,
+        ends: false,
+    };
+    on_data(config, running(), 0, came, stream(kind))
+}
+
+/// What is sent on the connection and on the stream.
+type Sent = (ConnectionFrame, StreamFrame);
+
+/// The receive window of the connection or of a stream, and what is owed on it.
+type Counts = (i32, u32);
+
+/// What is sent, the connection's counts, the stream's, the content received on it, and its state.
+fn data_counted(reaction: Reaction) -> Option<(Sent, Counts, Counts, u64, Kind)> {
+    let Change {
+        core,
+        touch,
+        first,
+        second,
+        answer: _,
+    } = change_of(reaction)?;
+    let stream = put_of(touch)?;
+    let numbers = stream.numbers;
+    Some((
+        (first, second),
+        (core.recv.value(), core.owed.owed()),
+        (numbers.recv.value(), numbers.owed.owed()),
+        numbers.got,
+        stream.kind,
+    ))
+}
+
+#[test]
+fn data_is_counted_by_its_payload_and_not_by_its_content(rt: HostRuntime) {
+    // A payload of three octets takes three from both windows, though one of them is content (6.9.1). That padding is part of
+    // the payload is a run of the program ("padding counts").
+    let given = (ConnectionFrame::Credit(3), StreamFrame::StreamCredit(1, 3));
+    let quiet = (ConnectionFrame::Quiet, StreamFrame::Still);
+    for (threshold, sent, counts) in [(3, given, (65_535, 0)), (4, quiet, (65_532, 3))] {
+        let counted = data_counted(data(threshold, 3, 1, Kind::BothOpen));
+        let wanted = (sent, counts, counts, 1, Kind::BothOpen);
+        same(&rt, &counted, &Some(wanted), &threshold);
+    }
+}
+
+/// What is sent, the connection's counts, and the state of the stream.
+fn data_refused(reaction: Reaction) -> Option<(Sent, Counts, Kind)> {
+    let (sent, counts, _, _, kind) = data_counted(reaction)?;
+    Some((sent, counts, kind))
+}
+
+#[test]
+fn data_after_the_end_of_the_peer_is_counted_and_refused(rt: HostRuntime) {
+    // DATA is a stream error of type STREAM_CLOSED (5.1, half-closed (remote)).
+    let reset = StreamFrame::Reset(1, ErrorCode::StreamClosed);
+    let wanted = ((ConnectionFrame::Quiet, reset), (65_530, 5), Kind::WeReset);
+    same(
+        &rt,
+        &data_refused(data(65_535, 5, 5, Kind::HalfRemote)),
+        &Some(wanted),
+        &"DATA on a stream that is half-closed (remote)",
+    );
+}
+
+#[test]
+fn data_fills_a_window_and_no_more(rt: HostRuntime) {
+    for (octets, error) in [(65_535, None), (65_536, Some(ErrorCode::FlowControlError))] {
+        let after = data(65_535, octets, octets, Kind::BothOpen);
+        same(&rt, &error_of(after), &error, &octets);
+    }
+}
+
+/// The errors that DATA, RST_STREAM and WINDOW_UPDATE result in on a stream in a state.
+fn errors(kind: Kind) -> (Option<ErrorCode>, Option<ErrorCode>, Option<ErrorCode>) {
+    (
+        error_of(data(65_535, 1, 1, kind)),
+        error_of(on_reset(running(), stream(kind))),
+        error_of(on_window(running(), 1, stream(kind))),
+    )
+}
+
+const IDLE: Option<ErrorCode> = Some(ErrorCode::ProtocolError);
+
+const CLOSED: Option<ErrorCode> = Some(ErrorCode::StreamClosed);
+
+/// The state of a stream, the error that DATA results in, and the one that RST_STREAM and WINDOW_UPDATE result in.
+static STATES: [(Kind, Option<ErrorCode>, Option<ErrorCode>); 8] = [
+    // Any frame but HEADERS and PRIORITY is a connection error of type PROTOCOL_ERROR (5.1, idle).
+    (Kind::Idle, IDLE, IDLE),
+    (Kind::BothOpen, None, None),
+    (Kind::HalfRemote, None, None),
+    (Kind::HalfLocal, None, None),
+    // WINDOW_UPDATE and RST_STREAM can still be under way when a stream is closed (5.1, closed).
+    (Kind::Skipped, CLOSED, None),
+    (Kind::Ended, CLOSED, None),
+    (Kind::PeerReset, CLOSED, None),
+    // What comes after RST_STREAM was sent is processed and then discarded (5.1, closed).
+    (Kind::WeReset, None, None),
+];
+
+#[test]
+fn frames_come_in_each_state_of_a_stream(rt: HostRuntime) {
+    for (kind, data, others) in &STATES {
+        same(&rt, &errors(*kind), &(*data, *others, *others), kind);
+    }
+}
+
+/// What WINDOW_UPDATE does to the connection's send window.
+fn connection_sends(increment: u32) -> Result<i32, ErrorCode> {
+    match connection_window(running(), increment) {
+        Reaction::ConnectionError(code) => Err(code),
+        Reaction::Continues(change) => Ok(change.core.send.value()),
+    }
+}
+
+#[test]
+fn window_update_on_the_connection(rt: HostRuntime) {
+    // An increment of 0 is a connection error (6.9); no window exceeds 2^31 - 1 octets (6.9.1).
+    for (increment, window) in [
+        (0, Err(ErrorCode::ProtocolError)),
+        (1, Ok(65_536)),
+        (2_147_418_112, Ok(2_147_483_647)),
+        (2_147_418_113, Err(ErrorCode::FlowControlError)),
+    ] {
+        same(&rt, &connection_sends(increment), &window, &increment);
+    }
+}
+
+/// What WINDOW_UPDATE does to a stream's send window, and what is sent for it.
+fn stream_sends(increment: u32) -> Option<(i32, StreamFrame)> {
+    let Change { touch, second, .. } = change_of(on_window(
+        running(),
+        increment,
+        stream(Kind::HalfRemote),
+    ))?;
+    let put = put_of(touch)?;
+    Some((put.numbers.send.value(), second))
+}
+
+#[test]
+fn window_update_of_0_and_to_the_largest_window(rt: HostRuntime) {
+    // An increment of 0 is a stream error (6.9); no window exceeds 2^31 - 1 octets (6.9.1).
+    let reset = |code| StreamFrame::Reset(1, code);
+    for (increment, window, frame) in [
+        (0, 0, reset(ErrorCode::ProtocolError)),
+        (1, 65_536, StreamFrame::Still),
+        (2_147_418_112, 2_147_483_647, StreamFrame::Still),
+        (2_147_418_113, 0, reset(ErrorCode::FlowControlError)),
+    ] {
+        let wanted = Some((window, frame));
+        same(&rt, &stream_sends(increment), &wanted, &increment);
+    }
+}
+
+/// What SETTINGS with this payload result in, where they move a window of 2^31 - 1 octets, or none.
+fn settled(has_full: bool, payload: &[u8]) -> Option<Reaction> {
+    let greatest = has_full.then_some(Window::start(2_147_483_647));
+    let head = Head {
+        length: 0,
+        kind: 4,
+        flags: 0,
+        reserved: false,
+        stream: 0,
+    };
+    let part = settings_of(FrameRef { head, payload }).ok()?;
+    Some(settings_rule(&greatest, running(), part))
+}
+
+/// What SETTINGS with this payload change: the peer's initial window, whether it takes pushes, what is sent, what becomes of the streams, and the connection's send window.
+fn settings_changed(payload: &[u8]) -> Option<(u32, u32, ConnectionFrame, Touch, i32)> {
+    let Change {
+        core,
+        touch,
+        first,
+        ..
+    } = change_of(settled(false, payload)?)?;
+    let peer = core.peer;
+    Some((peer.window, peer.push, first, touch, core.send.value()))
+}
+
+#[test]
+fn settings_are_taken_whole(rt: HostRuntime) {
+    // SETTINGS_INITIAL_WINDOW_SIZE 1000, and then SETTINGS_ENABLE_PUSH 0.
+    let changed = settings_changed(b"\x00\x04\x00\x00\x03\xe8\x00\x02\x00\x00\x00\x00");
+    let acknowledged = ConnectionFrame::SettingsAck;
+    let moved = Touch::Shift(65_535, 1_000);
+    // The flow-control window of the connection is not moved (6.9.2).
+    same(
+        &rt,
+        &changed,
+        &Some((1_000, 0, acknowledged, moved, 65_535)),
+        &"two settings",
+    );
+}
+
+/// Whether SETTINGS move a window of 2^31 - 1 octets, their payload, and the error that they result in.
+static REFUSED_SETTINGS: [(bool, &[u8], ErrorCode); 3] = [
+    // ENABLE_PUSH 2 behind a window of 1000: nothing of the frame stays (6.5.2).
+    (
+        false,
+        b"\x00\x04\x00\x00\x03\xe8\x00\x02\x00\x00\x00\x02",
+        ErrorCode::ProtocolError,
+    ),
+    // A window of 2^31 before ENABLE_PUSH 2: the first one that is refused decides.
+    (
+        false,
+        b"\x00\x04\x80\x00\x00\x00\x00\x02\x00\x00\x00\x02",
+        ErrorCode::FlowControlError,
+    ),
+    // A stream's window of 2^31 - 1 octets is moved up by 1 (6.9.2).
+    (
+        true,
+        b"\x00\x04\x00\x01\x00\x00",
+        ErrorCode::FlowControlError,
+    ),
+];
+
+#[test]
+fn settings_are_taken_whole_or_not_at_all(rt: HostRuntime) -> Result<(), Fail> {
+    for (has_full, payload, error) in &REFUSED_SETTINGS {
+        let reaction = settled(*has_full, payload).ok_or("settings")?;
+        same(&rt, &error_of(reaction), &Some(*error), payload);
+    }
+    Ok(())
+}
+
+/// What a request of a list of this size, that declares this much content and ends its side, is answered where at most two streams may live and so many do.
+fn requested(live: usize, size: u64, declared: Option<u64>) -> (Kind, StreamFrame, bool) {
+    let config = Config {
+        streams: 2,
+        credit: 1,
+    };
+    let facts = Facts {
+        size,
+        malformed: false,
+        declared,
+        pick: Pick::NotFound,
+    };
+    let turn = request_turn(config, live, 0, running(), 1, true, facts);
+    (turn.stream.kind, turn.frame, turn.answer.is_some())
+}
+
+#[test]
+fn requests_at_their_limits(rt: HostRuntime) {
+    let refused = |code| (Kind::WeReset, StreamFrame::Reset(1, code), false);
+    let answered = (Kind::Ended, StreamFrame::Still, true);
+    for (live, size, declared, wanted) in [
+        // Below the limit of streams, and at it (5.1.2).
+        (1, 42, None, answered),
+        (2, 42, None, refused(ErrorCode::RefusedStream)),
+        // A list of as many octets as are taken, and one more (10.5.1).
+        (0, 65_536, None, answered),
+        (0, 65_537, None, refused(ErrorCode::EnhanceYourCalm)),
+        // END_STREAM where content is declared (8.1.1).
+        (0, 42, Some(0), answered),
+        (0, 42, Some(1), refused(ErrorCode::ProtocolError)),
+    ] {
+        let answer = requested(live, size, declared);
+        same(&rt, &answer, &wanted, &(live, size, declared));
+    }
+}
+
+/// What trailers do to an open stream.
+fn trailed(size: u64, malformed: bool, ends: bool) -> (Kind, StreamFrame) {
+    let turn = trailers_turn(size, malformed, 0, false, ends, stream(Kind::BothOpen));
+    (turn.stream.kind, turn.frame)
+}
+
+#[test]
+fn trailers_end_the_side_of_the_peer(rt: HostRuntime) {
+    let refused = |code| (Kind::WeReset, StreamFrame::Reset(1, code));
+    for (size, malformed, ends, wanted) in [
+        (42, false, true, (Kind::Ended, StreamFrame::Still)),
+        // Trailers without END_STREAM, and with a pseudo-header field, are malformed (8.1).
+        (42, false, false, refused(ErrorCode::ProtocolError)),
+        (42, true, true, refused(ErrorCode::ProtocolError)),
+        (65_537, false, true, refused(ErrorCode::EnhanceYourCalm)),
+    ] {
+        let answer = trailed(size, malformed, ends);
+        same(&rt, &answer, &wanted, &(size, malformed, ends));
+    }
+}
+
+/// The same where the server's settings are not acknowledged yet.
+fn fresh() -> Core
+    ensures { IsSoundCore result }
+{
+    Core {
+        acked: false,
+        ..running()
+    }
+}
+
+/// What is sent on the connection, what becomes of the streams, the GOAWAY that is kept, and whether the settings are acknowledged.
+type Kept = (ConnectionFrame, Touch, Option<(u32, u32)>, bool);
+
+fn kept(reaction: Reaction) -> Option<Kept> {
+    let Change {
+        core,
+        touch,
+        first,
+        ..
+    } = change_of(reaction)?;
+    Some((first, touch, core.goaway, core.acked))
+}
+
+#[test]
+fn ping_is_answered_and_goaway_is_noted(rt: HostRuntime) {
+    let quiet = ConnectionFrame::Quiet;
+    let answered = Some((ConnectionFrame::PingAck, Touch::Same, None, false));
+    same(&rt, &kept(on_ping(fresh(), false)), &answered, &"PING");
+    let ignored = Some((quiet, Touch::Same, None, false));
+    same(&rt, &kept(on_ping(fresh(), true)), &ignored, &"an answer");
+    let noted = Some((quiet, Touch::Same, Some((7, 2)), false));
+    same(&rt, &kept(on_goaway(fresh(), 7, 2)), &noted, &"GOAWAY");
+    let taken = Some((quiet, Touch::Same, None, true));
+    same(&rt, &kept(acknowledged(fresh())), &taken, &"SETTINGS ACK");
+}
+
+/// Why the head of an empty frame is refused.
+fn refused(
+    block: Option<u32>,
+    phase: Phase,
+    kind: u8,
+    flags: u8,
+    stream: u32,
+) -> Option<ErrorCode> {
+    let head = Head {
+        length: 0,
+        kind,
+        flags,
+        reserved: false,
+        stream,
+    };
+    refusal(block, phase, &head)
+}
+
+/// The stream of an open block, the phase, the type, flags and stream of a frame, and whether it is refused.
+static HEADS: [(Option<u32>, Phase, u8, u8, u32, bool); 13] = [
+    // The first frame is SETTINGS (3.4).
+    (None, Phase::Settings, 4, 0, 0, false),
+    (None, Phase::Settings, 4, 1, 0, true),
+    (None, Phase::Settings, 6, 0, 0, true),
+    // Only CONTINUATION of the same stream stands inside a block (6.10).
+    (Some(1), Phase::Running, 9, 0, 1, false),
+    (Some(1), Phase::Running, 9, 0, 3, true),
+    (Some(1), Phase::Running, 0, 0, 1, true),
+    // DATA is on a stream (6.1), SETTINGS, PING and GOAWAY are on none (6.5, 6.7 and 6.8), WINDOW_UPDATE is on either (6.9).
+    (None, Phase::Running, 0, 0, 0, true),
+    (None, Phase::Running, 4, 0, 1, true),
+    (None, Phase::Running, 6, 0, 1, true),
+    (None, Phase::Running, 7, 0, 1, true),
+    (None, Phase::Running, 8, 0, 0, false),
+    (None, Phase::Running, 8, 0, 1, false),
+    (None, Phase::Running, 99, 0, 0, false),
+];
+
+#[test]
+fn heads_that_are_refused(rt: HostRuntime) {
+    for (block, phase, kind, flags, stream, is_refused) in &HEADS {
+        let answer = refused(*block, *phase, *kind, *flags, *stream);
+        let wanted = is_refused.then_some(ErrorCode::ProtocolError);
+        same(&rt, &answer, &wanted, &(kind, flags, stream));
+    }
+}

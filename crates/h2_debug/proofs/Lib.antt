@@ -1,0 +1,3 @@
+pub mod BreakLaws
+pub mod KeptLaws
+pub mod PlaceLaws

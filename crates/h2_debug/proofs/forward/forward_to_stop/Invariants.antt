@@ -1,0 +1,15 @@
+use Rattle.std.proofs.Common.{◌≡◌, ◌-◌}
+use Rattle.std.specs.Prelude.{map}
+use Rattle.h2_spec.specs.Debug.{stop}
+use Rattle.h2_debug.specs.Breakpoints.{break_of}
+use Rattle.h2_debug.specs.Places.{IsReached, end, events}
+use Rattle.h2_debug.proofs.forward.forward_to_stop.Given as goal
+
+abbrev pub invariant-loop-place : goal.invariant-loop-place
+invariant-loop-place g l = record {
+  reached : IsReached l.source l.count l.place l.fresh.items;
+  same : stop (map break_of l.breaks) (events l.source) l.fn.place.position ≡ stop (map break_of l.breaks) (events l.source) l.place.position;
+}
+
+abbrev pub decreases-loop-place : goal.decreases-loop-place
+decreases-loop-place g l = end l.source - l.place.position

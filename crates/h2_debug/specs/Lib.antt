@@ -1,0 +1,5 @@
+pub mod Breakpoints
+pub mod Debugging
+pub mod Faults
+pub mod Items
+pub mod Places

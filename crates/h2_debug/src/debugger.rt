@@ -1,0 +1,370 @@
+//! A debugger: a position in the run of a new connection over octets, moved forward and back.
+//! A copy of the place at each multiple of 64 is kept from when it is first reached, so that no move runs more than 63 items again.
+//! Rests on `forward`; definitions: h2_spec's `specs/Debug.antt` for positions and breakpoints, `specs/Debugging.antt` for what a debugger represents.
+
+ghost use Rattle.std.specs.Prelude.{◌≡◌, ◌⊎◌, ◌+◌, ◌-◌, ◌<◌, ◌≤◌, ◌==◌, [], ◌∷◌, ◌++◌, IfErr, IfOk, OnErr, OnOk, length, min, slice_get, nat_le, ◌&&◌, false, true, Some, if◌then◌else◌};
+ghost use Rattle.h2_spec.specs.Debug.{AtPosition, OnSent, OnStream, OnType, stop};
+ghost use Rattle.h2_spec.specs.Show.{show};
+ghost use Rattle.h2_spec.specs.View.{view};
+ghost use Rattle.std.specs.String.{string_bytes};
+ghost use Rattle.h2_conn.specs.Connection.{is_allowed};
+ghost use Rattle.h2_debug.specs.Debugging as spec;
+ghost use Rattle.h2_debug.specs.Debugging.{kept_count, moved, moved_counting, replay_start};
+ghost use Rattle.h2_debug.specs.Faults.{IsRefused, load_fault, start_fault};
+ghost use Rattle.h2_debug.specs.Places.{IsAt, IsReached, at, end, events, sent_octets_at};
+ghost use Rattle.h2_debug.specs.declared.fault.DebugFault.TheVariants.{AtEnd, NoMemory, OutOfRange};
+
+use crate::breakpoints::Break;
+use crate::fault::DebugFault;
+use crate::forward::{Forward, SPACING, forward_to, forward_to_stop};
+use crate::kept::Kept;
+use crate::place::Place;
+use crate::source::Source;
+use h2_conn::view::View;
+use h2_conn::{Conn, ConnFault};
+use h2_request::book::Book;
+use h2_spec::connection::Config;
+use std::alloc::{AllocError, Allocator};
+use std::marker::Model;
+
+/// A position in the run of a new connection over octets.
+///
+/// Position `p` is the state after `p` items; the end is the number of items in the octets.
+/// A contract sees the run, the breakpoints, the position, the greatest position that was reached, and how many items the last `back` or `go` ran again.
+/// Where a call is refused the debugger is as it was.
+#[derive(Drop)]
+pub struct Debugger<'b, A: Allocator> {
+    book: &'b Book<A>,
+    config: Config,
+    octets: Vec<u8, A>,
+    breaks: Vec<Break, A>,
+    present: Place<'b, A>,
+    kept: Vec<Kept<'b, A>, A>,
+    reached: usize,
+    replayed: usize,
+}
+
+impl<'b, A: Allocator> Model for Debugger<'b, A> {
+    ghost use Rattle.std.specs.Prelude.{map};
+    ghost use Rattle.h2_debug.specs.Breakpoints.{break_of};
+    ghost use Rattle.h2_debug.specs.Debugging.{Debugging, IsKept};
+
+    ghost Value = { Debugging };
+
+    ghost view = { λ d. record { run = record { book = d.book.now; config = d.config; octets = d.octets.items }; breaks = map break_of d.breaks.items; position = d.present.position; reached = d.reached; replayed = d.replayed } };
+
+    ghost invariant = { λ d. IsKept (record { book = d.book.now; config = d.config; octets = d.octets.items }) d.present d.kept.items d.reached d.replayed };
+}
+
+/// The copy that is kept at an index.
+fn kept_at<'k, 'b, A: Allocator>(kept: &'k [Kept<'b, A>], index: usize) -> &'k Kept<'b, A>
+    requires { index < length kept.now }
+    ensures { slice_get kept.now index ≡ Some result.now }
+{
+    &kept[index]
+}
+
+/// Whether a position is between two others, or is one of them.
+fn is_between(low: usize, position: usize, high: usize) -> bool
+    ensures { result ≡ (nat_le position high && nat_le low position) }
+{
+    position <= high && low <= position
+}
+
+impl<'b, A: Allocator + Copy> Debugger<'b, A> {
+    /// A debugger at position 0 of the run of a new connection over octets, with no breakpoint.
+    ///
+    /// # Errors
+    ///
+    /// `BadConfig` where the limit of concurrent streams is not 1 to 1000 or the credit is not 1 to 65535; otherwise `NoMemory`.
+    pub fn load(book: &'b Book<A>, config: Config, octets: Vec<u8, A>) -> Result<Self, DebugFault>
+        ensures ok { IfOk result (λ d. d ≡ record { run = record { book = book.now; config = config; octets = octets.items }; breaks = []; position = 0; reached = 0; replayed = 0 }) }
+        ensures allowed { OnOk result (is_allowed config ≡ true) }
+        ensures fault { IfErr result (λ fault. fault ≡ load_fault (is_allowed config)) }
+    {
+        let alloc = *octets.allocator();
+        let source = Source {
+            book,
+            config,
+            octets: octets.as_slice(),
+        };
+        let present = match Place::start(&source, alloc) {
+            Ok(place) => place,
+            Err(ConnFault::BadConfig) => return Err(DebugFault::BadConfig),
+            Err(_) => return Err(DebugFault::NoMemory),
+        };
+        let mut kept = Vec::new(alloc);
+        kept.push(Kept::of(&present)?)?;
+        Ok(Debugger {
+            book,
+            config,
+            octets,
+            breaks: Vec::new(alloc),
+            present,
+            kept,
+            reached: 0,
+            replayed: 0,
+        })
+    }
+
+    fn source(&self) -> Source<'_, 'b, A>
+        ensures { result ≡ self.now.run }
+    {
+        Source {
+            book: self.book,
+            config: self.config,
+            octets: self.octets.as_slice(),
+        }
+    }
+
+    /// A copy of the present place; `AllocError` if it is out of memory.
+    fn copy_present(&self) -> Result<Place<'b, A>, AllocError>
+        ensures { IfOk result (λ p. IsAt self.now.run p × (p.position ≡ self.now.position)) }
+    {
+        self.present.try_clone()
+    }
+
+    /// The place where a move to a position starts: the greatest kept one that is not after it, or the present one where that is between the two.
+    /// `AllocError` if it is out of memory.
+    fn start_for(&self, target: usize) -> Result<Place<'b, A>, AllocError>
+        ensures { IfOk result (λ p. IsAt self.now.run p × (p.position ≡ replay_start target self.now)) }
+    {
+        let index = target.min(self.reached) / SPACING;
+        let near = is_between(index * SPACING, self.present.position(), target);
+        if near {
+            return self.copy_present();
+        }
+        kept_at(self.kept.as_slice(), index).restore()
+    }
+
+    /// A move from a place to a position or the end; `AllocError` if it is out of memory.
+    fn reach(&self, mut place: Place<'b, A>, target: usize) -> Result<Forward<'b, A>, AllocError>
+        requires place { IsAt self.now.run place }
+        requires known { place.position ≤ self.now.reached }
+        requires ahead { place.position ≤ target }
+        ensures reached { IfOk result (λ f. IsReached self.now.run (kept_count self.now) f.place f.fresh) }
+        ensures position { IfOk result (λ f. f.place.position ≡ min target (end self.now.run)) }
+    {
+        let mut fresh = Vec::new(*self.octets.allocator());
+        forward_to(
+            &self.source(),
+            &mut place,
+            self.kept.len(),
+            target,
+            &mut fresh,
+        )?;
+        Ok(Forward { place, fresh })
+    }
+
+    /// A move from the present place to the next one that a breakpoint matches, or to the end; `AllocError` if it is out of memory.
+    fn reach_stop(&self) -> Result<Forward<'b, A>, AllocError>
+        ensures reached { IfOk result (λ f. IsReached self.now.run (kept_count self.now) f.place f.fresh) }
+        ensures position { IfOk result (λ f. f.place.position ≡ stop self.now.breaks (events self.now.run) self.now.position) }
+    {
+        let mut place = self.copy_present()?;
+        let mut fresh = Vec::new(*self.octets.allocator());
+        forward_to_stop(
+            &self.source(),
+            &mut place,
+            self.kept.len(),
+            self.breaks.as_slice(),
+            &mut fresh,
+        )?;
+        Ok(Forward { place, fresh })
+    }
+
+    /// Makes a move: its place becomes the present one, its copies are kept. Returns the new position; `AllocError` changes nothing.
+    fn commit(&mut self, forward: Forward<'b, A>) -> Result<usize, AllocError>
+        requires { IsReached self.old.run (kept_count self.old) forward.place forward.fresh }
+        ensures ok { IfOk result (λ p. (p ≡ forward.entry.place.position) × (self.new ≡ moved p self.old)) }
+        ensures err { OnErr result (self.new ≡ self.old) }
+    {
+        let Forward { place, mut fresh } = forward;
+        self.kept.append(&mut fresh)?;
+        let position = place.position();
+        self.reached = position.max(self.reached);
+        self.present = place;
+        Ok(position)
+    }
+
+    /// Moves forward by `count` items, or to the end if fewer follow, and returns the new position. A count of 0 is accepted anywhere and moves nothing.
+    ///
+    /// # Errors
+    ///
+    /// `AtEnd` where no item follows and the count is above 0; `NoMemory`. Both leave the debugger as it was.
+    pub fn step(&mut self, count: usize) -> Result<usize, DebugFault>
+        ensures ok { IfOk result (λ p. (p ≡ min (self.old.position + count) (end self.old.run)) × (self.new ≡ moved p self.old)) }
+        ensures more { OnOk result (0 < count → self.old.position < end self.old.run) }
+        ensures fault { IfErr result (λ fault. IsRefused AtEnd ((0 < count) × (self.old.position ≡ end self.old.run)) fault) }
+        ensures unchanged { OnErr result (self.new ≡ self.old) }
+    {
+        let start = self.present.position();
+        if count == 0 {
+            return Ok(start);
+        }
+        let place = self.copy_present()?;
+        let forward = self.reach(place, start.saturating_add(count))?;
+        if forward.place.position() == start {
+            return Err(DebugFault::AtEnd);
+        }
+        Ok(self.commit(forward)?)
+    }
+
+    /// Moves back by `count` items, or to position 0 if fewer came before, and returns the new position.
+    /// A count of 0 is accepted anywhere: it moves nothing, and sets `replayed` to 0.
+    ///
+    /// # Errors
+    ///
+    /// `AtStart` at position 0 where the count is above 0; elsewhere `NoMemory`. Both leave the debugger as it was.
+    pub fn back(&mut self, count: usize) -> Result<usize, DebugFault>
+        ensures ok { IfOk result (λ p. (p ≡ self.old.position - count) × (self.new ≡ moved_counting p self.old)) }
+        ensures more { OnOk result (0 < count → 0 < self.old.position) }
+        ensures fault { IfErr result (λ fault. fault ≡ start_fault self.old.position) }
+        ensures nonzero { OnErr result (0 < count) }
+        ensures unchanged { OnErr result (self.new ≡ self.old) }
+    {
+        let before = self.present.position();
+        if count == 0 {
+            self.replayed = 0;
+            return Ok(before);
+        }
+        if before == 0 {
+            return Err(DebugFault::AtStart);
+        }
+        self.go(before.saturating_sub(count))
+    }
+
+    /// Moves to a position, and returns it.
+    ///
+    /// # Errors
+    ///
+    /// `OutOfRange` where there are fewer items; `NoMemory`. Both leave the debugger as it was.
+    pub fn go(&mut self, target: usize) -> Result<usize, DebugFault>
+        ensures ok { IfOk result (λ p. (p ≡ target) × (self.new ≡ moved_counting p self.old)) }
+        ensures within { OnOk result (target ≤ end self.old.run) }
+        ensures fault { IfErr result (λ fault. IsRefused OutOfRange (end self.old.run < target) fault) }
+        ensures unchanged { OnErr result (self.new ≡ self.old) }
+    {
+        let place = self.start_for(target)?;
+        let replayed = target.min(self.reached) - place.position();
+        let forward = self.reach(place, target)?;
+        if forward.place.position() < target {
+            return Err(DebugFault::OutOfRange);
+        }
+        let position = self.commit(forward)?;
+        self.replayed = replayed;
+        Ok(position)
+    }
+
+    /// Moves forward to the next position that a breakpoint matches, or to the end, and returns the new position.
+    ///
+    /// # Errors
+    ///
+    /// `AtEnd` where no item follows; `NoMemory`. Both leave the debugger as it was.
+    pub fn run(&mut self) -> Result<usize, DebugFault>
+        ensures ok { IfOk result (λ p. (p ≡ stop self.old.breaks (events self.old.run) self.old.position) × (self.new ≡ moved p self.old)) }
+        ensures more { OnOk result (self.old.position < end self.old.run) }
+        ensures fault { IfErr result (λ fault. IsRefused AtEnd (self.old.position ≡ end self.old.run) fault) }
+        ensures unchanged { OnErr result (self.new ≡ self.old) }
+    {
+        let before = self.present.position();
+        let forward = self.reach_stop()?;
+        if forward.place.position() == before {
+            return Err(DebugFault::AtEnd);
+        }
+        Ok(self.commit(forward)?)
+    }
+
+    /// Adds a breakpoint at a position. `NoMemory` leaves the debugger as it was.
+    pub fn break_at(&mut self, position: usize) -> Result<(), DebugFault>
+        ensures ok { OnOk result (self.new ≡ record self.old { breaks = self.old.breaks ++ AtPosition position ∷ [] }) }
+        ensures fault { IfErr result (λ fault. fault ≡ NoMemory) }
+        ensures unchanged { OnErr result (self.new ≡ self.old) }
+    {
+        self.breaks.push(Break::Position(position))?;
+        Ok(())
+    }
+
+    /// Adds a breakpoint after each item whose head has this type; the preface has none. `NoMemory` leaves the debugger as it was.
+    pub fn break_type(&mut self, kind: u8) -> Result<(), DebugFault>
+        ensures ok { OnOk result (self.new ≡ record self.old { breaks = self.old.breaks ++ OnType kind ∷ [] }) }
+        ensures fault { IfErr result (λ fault. fault ≡ NoMemory) }
+        ensures unchanged { OnErr result (self.new ≡ self.old) }
+    {
+        self.breaks.push(Break::Type(kind))?;
+        Ok(())
+    }
+
+    /// Adds a breakpoint after each item whose head has this stream; the preface has none. `NoMemory` leaves the debugger as it was.
+    pub fn break_stream(&mut self, id: u32) -> Result<(), DebugFault>
+        ensures ok { OnOk result (self.new ≡ record self.old { breaks = self.old.breaks ++ OnStream id ∷ [] }) }
+        ensures fault { IfErr result (λ fault. fault ≡ NoMemory) }
+        ensures unchanged { OnErr result (self.new ≡ self.old) }
+    {
+        self.breaks.push(Break::Stream(id))?;
+        Ok(())
+    }
+
+    /// Adds a breakpoint after each item for which a frame of this type is sent. `NoMemory` leaves the debugger as it was.
+    pub fn break_sent(&mut self, kind: u8) -> Result<(), DebugFault>
+        ensures ok { OnOk result (self.new ≡ record self.old { breaks = self.old.breaks ++ OnSent kind ∷ [] }) }
+        ensures fault { IfErr result (λ fault. fault ≡ NoMemory) }
+        ensures unchanged { OnErr result (self.new ≡ self.old) }
+    {
+        self.breaks.push(Break::Sent(kind))?;
+        Ok(())
+    }
+
+    /// Removes all breakpoints. It takes no memory.
+    pub fn clear(&mut self)
+        ensures { self.new ≡ record self.old { breaks = [] } }
+    {
+        self.breaks.clear();
+    }
+
+    /// The view of the state at the present position; `AllocError` if it is out of memory.
+    pub fn view(&self, alloc: A) -> Result<View<A>, AllocError>
+        ensures { IfOk result (λ shown. shown ≡ view (at self.now.run self.now.position)) }
+    {
+        self.present.view(alloc)
+    }
+
+    /// The text of that view, line by line; `AllocError` if it is out of memory.
+    pub fn show(&self, alloc: A) -> Result<String<A>, AllocError>
+        ensures { IfOk result (λ text. string_bytes text ≡ show (view (at self.now.run self.now.position))) }
+    {
+        self.conn().show(alloc)
+    }
+
+    /// The connection at the present position, which can be written as text without memory.
+    pub fn conn(&self) -> &Conn<'b, A>
+        ensures state { result.now.state ≡ at self.now.run self.now.position }
+        ensures works { result.now.failed ≡ false }
+    {
+        self.present.conn()
+    }
+
+    /// The octets sent for the item that leads to the present position; at position 0 the opening SETTINGS. It takes no memory.
+    pub fn sent(&self) -> &[u8]
+        ensures { result.now ≡ sent_octets_at self.now.run self.now.position }
+    {
+        self.present.sent()
+    }
+
+    /// The present position: how many items came before it. It takes no memory.
+    pub fn pos(&self) -> usize
+        ensures is { result ≡ self.now.position }
+        ensures within { result ≤ end self.now.run }
+    {
+        self.present.position()
+    }
+
+    /// How many items the last accepted `back` or `go` ran again, at most 63; 0 before the first one.
+    /// An item counts where the position after it had been reached before that call. It takes no memory.
+    pub fn replayed(&self) -> usize
+        ensures is { result ≡ self.now.replayed }
+        ensures few { result ≤ 63 }
+    {
+        self.replayed
+    }
+}

@@ -1,0 +1,127 @@
+//! A place in a run: a connection, how many items it took, how many octets it was fed, and what was sent for the last item.
+//! Rests on h2_conn; definitions: `specs/Places.antt`.
+
+ghost use Rattle.std.specs.Prelude.{◌≡◌, ◌≤◌, true, IfErr, IfOk, OnErr, OnOk};
+ghost use Rattle.h2_spec.specs.Show.{show};
+ghost use Rattle.h2_spec.specs.View.{view};
+ghost use Rattle.h2_conn.specs.Connection.{is_allowed};
+ghost use Rattle.h2_conn.specs.Faults.{refusal_for};
+ghost use Rattle.h2_debug.specs.Places.{Advances, IsAt};
+
+use crate::source::Source;
+use h2_conn::view::View;
+use h2_conn::{Conn, ConnFault};
+use std::alloc::{AllocError, Allocator};
+use std::marker::Model;
+
+/// A place in a run.
+#[derive(Drop)]
+pub struct Place<'b, A: Allocator> {
+    conn: Conn<'b, A>,
+    position: usize,
+    used: usize,
+    sent: Vec<u8, A>,
+}
+
+impl<'b, A: Allocator> Model for Place<'b, A> {
+    ghost use Rattle.h2_debug.specs.Places.{Placed};
+
+    ghost Value = { Placed };
+
+    ghost view = { λ p. record { connection = p.conn; position = p.position; used = p.used; sent = p.sent.items } };
+}
+
+impl<'b, A: Allocator + Copy> Place<'b, A> {
+    /// The start of a run.
+    pub fn start(source: &Source<'_, 'b, A>, alloc: A) -> Result<Self, ConnFault>
+        ensures place { IfOk result (λ p. IsAt source.now p × (p.position ≡ 0)) }
+        ensures allowed { OnOk result (is_allowed source.now.config ≡ true) }
+        ensures fault { IfErr result (λ fault. fault ≡ refusal_for (is_allowed source.now.config)) }
+    {
+        let mut sent = Vec::new(alloc);
+        let conn = Conn::new(source.book, source.config, &mut sent)?;
+        Ok(Place {
+            conn,
+            position: 0,
+            used: 0,
+            sent,
+        })
+    }
+
+    /// The same place once more, in memory of its own.
+    pub fn try_clone(&self) -> Result<Self, AllocError>
+        ensures same { IfOk result (λ copy. copy ≡ self.now) }
+    {
+        let conn = self.conn.try_clone()?;
+        let sent = copy_of(&self.sent)?;
+        Ok(Place {
+            conn,
+            position: self.position,
+            used: self.used,
+            sent,
+        })
+    }
+
+    /// Takes the next item, if there is one, and says whether. After an `AllocError` the place can no longer be used.
+    pub fn advance(&mut self, source: &Source<'_, 'b, A>) -> Result<bool, AllocError>
+        requires { IsAt source.now self.old }
+        ensures { IfOk result (λ more. Advances source.now self.old self.new more) }
+    {
+        let mut sent = Vec::new(*self.sent.allocator());
+        let octets = source.octets_from(self.used);
+        let Ok(one) = self.conn.feed_one(octets, &mut sent) else {
+            return Err(AllocError);
+        };
+        self.used += one.used;
+        if !one.item {
+            return Ok(false);
+        }
+        self.position += 1;
+        self.sent = sent;
+        Ok(true)
+    }
+}
+
+impl<'b, A: Allocator + Copy> Place<'b, A> {
+    /// How many items came before it.
+    pub fn position(&self) -> usize
+        ensures { result ≡ self.now.position }
+    {
+        self.position
+    }
+
+    /// How many octets the connection was fed.
+    pub fn used(&self) -> usize
+        ensures { result ≡ self.now.used }
+    {
+        self.used
+    }
+
+    /// What the item at this position sent.
+    pub fn sent(&self) -> &[u8]
+        ensures { result.now ≡ self.now.sent }
+    {
+        self.sent.as_slice()
+    }
+
+    /// What is shown of the state.
+    pub fn view(&self, alloc: A) -> Result<View<A>, AllocError>
+        ensures { IfOk result (λ shown. shown ≡ view self.now.connection.state) }
+    {
+        self.conn.state(alloc)
+    }
+
+    /// The connection.
+    pub fn conn(&self) -> &Conn<'b, A>
+        ensures { result.now ≡ self.now.connection }
+    {
+        &self.conn
+    }
+}
+
+/// The same octets.
+fn copy_of<A: Allocator + Copy>(octets: &Vec<u8, A>) -> Result<Vec<u8, A>, AllocError>
+    ensures { IfOk result (λ copy. copy.items ≡ octets.now.items) }
+{
+    octets.clone()
+}

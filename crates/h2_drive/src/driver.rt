@@ -1,0 +1,117 @@
+//! A connection driven over a wire: what is read is fed to it, and the frames that it sends are written before the
+//! next read. Rests on `wire`, `outgoing` and h2_conn; definitions: `specs/Drives.antt`.
+
+ghost use Rattle.std.specs.Prelude.{◌≡◌, ◌<◌, ◌≤◌, [], take, length, false, vec_len, option_map};
+ghost use Rattle.h2_spec.specs.Errors.{code_number};
+ghost use Rattle.h2_spec.specs.State.{ended_code};
+ghost use Rattle.h2_drive.specs.Drives.{Drives, EndsAs, HasNoItem, TakesTurn, TurnEndsAs, drive_state, is_wire_fault};
+
+use crate::fault::{DriveEnd, DriveFault};
+use crate::outgoing::write_all;
+use crate::wire::Wire;
+use h2_conn::{Conn, ConnFault};
+use std::alloc::Allocator;
+
+/// The most octets of one read.
+const READ_SIZE: usize = 4096;
+
+fn octets_up_to(octets: &[u8], end: usize) -> &[u8]
+    requires { end ≤ length octets.now }
+    ensures { result.now ≡ take end octets.now }
+{
+    &octets[..end]
+}
+
+/// Reads once, feeds what was read to the connection, and writes the frames that it sends for that. Returns how many
+/// octets were read; 0 is the end of the input.
+fn take_turn<'b, A: Allocator + Copy, S: Wire>(
+    conn: &mut Conn<'b, A>,
+    out: &mut Vec<u8, A>,
+    wire: &mut S,
+) -> Result<usize, DriveFault>
+    requires open { S.has_failed wire.old ≡ false }
+    requires empty { out.old.items ≡ [] }
+    requires no_item { HasNoItem conn.old }
+    ensures turn { TakesTurn
+        (drive_state (S.octets_read wire.old) (S.octets_written wire.old) (S.read_lengths wire.old)
+        out.old.items conn.old)
+        (drive_state (S.octets_read wire.new) (S.octets_written wire.new) (S.read_lengths wire.new)
+        out.new.items conn.new)
+        result }
+    ensures ends { TurnEndsAs result conn.old conn.new out.new.items }
+    ensures flag { S.has_failed wire.new ≡ is_wire_fault result }
+{
+    let mut buffer = [0u8; READ_SIZE];
+    let count = match wire.read(&mut buffer) {
+        Ok(count) => count,
+        Err(_) => return Err(DriveFault::Read),
+    };
+    if count == 0 {
+        return Ok(0);
+    }
+    match conn.feed(octets_up_to(&buffer, count), out) {
+        Ok(_) => {}
+        Err(_) => return Err(DriveFault::NoMemory),
+    }
+    match write_all(wire, out) {
+        Ok(()) => Ok(count),
+        Err(_) => Err(DriveFault::Write),
+    }
+}
+
+/// Drives a connection over a wire whose last call did not fail: writes the pending output `out`, and then takes at
+/// most `turns` turns. In each turn it reads once, at most 4,096 octets, feeds them to the connection, and writes the
+/// frames that the connection sends for them.
+///
+/// It ends with `Input` where a read returns 0 octets, and with `Goaway` where a connection error has ended the
+/// connection (RFC 9113, 5.4.1). All output was written then.
+///
+/// # Errors
+///
+/// - `Failed` where the connection ran out of memory in an earlier call: nothing changes.
+/// - `NoMemory` where memory is refused now: the items before that are handled, and `out` has what is to be sent for
+///   them and was not written.
+/// - `Read` where a read failed: all output was written.
+/// - `Write` where a write failed: `out` keeps what was not written.
+/// - `TurnLimit` where all turns were used and nothing has ended: all output was written, and the connection can be
+///   driven further.
+pub fn drive<'b, A: Allocator + Copy, S: Wire>(
+    conn: &mut Conn<'b, A>,
+    out: &mut Vec<u8, A>,
+    wire: &mut S,
+    turns: u32,
+) -> Result<DriveEnd, DriveFault>
+    requires { S.has_failed wire.old ≡ false }
+    ensures drives { Drives turns
+        (drive_state (S.octets_read wire.old) (S.octets_written wire.old) (S.read_lengths wire.old)
+        out.old.items conn.old)
+        (drive_state (S.octets_read wire.new) (S.octets_written wire.new) (S.read_lengths wire.new)
+        out.new.items conn.new)
+        result }
+    ensures ends { EndsAs result (option_map code_number (ended_code conn.new.state.core.phase)) out.new.items }
+    ensures flag { S.has_failed wire.new ≡ is_wire_fault result }
+{
+    match conn.feed(&[], out) {
+        Ok(_) => {}
+        Err(ConnFault::Failed) => return Err(DriveFault::Failed),
+        Err(_) => return Err(DriveFault::NoMemory),
+    }
+    match write_all(wire, out) {
+        Ok(()) => {}
+        Err(_) => return Err(DriveFault::Write),
+    }
+    for _turn in 0..turns {
+        if let Some(code) = conn.ended() {
+            return Ok(DriveEnd::Goaway(code));
+        }
+        match take_turn(conn, out, wire) {
+            Ok(0) => return Ok(DriveEnd::Input),
+            Ok(_) => {}
+            Err(fault) => return Err(fault),
+        }
+    }
+    match conn.ended() {
+        Some(code) => Ok(DriveEnd::Goaway(code)),
+        None => Err(DriveFault::TurnLimit),
+    }
+}

@@ -1,0 +1,212 @@
+//! Runs of the program over memory, and the tables of them, which are in a file for each topic.
+//! Rests on h2_bench.
+
+use crate::same::same;
+use crate::{blocks, faults, flow, items, opening, order, requests, sessions, tables};
+use h2_bench::{Words, run};
+use std::alloc::{AllocError, Global};
+use std::process::Abort;
+use std::test::Fail;
+
+/// The client preface (RFC 9113, 3.4), as hex.
+pub(crate) const PREFACE: &str = "505249202a20485454502f322e300d0a0d0a534d0d0a0d0a";
+
+/// SETTINGS of no setting (RFC 9113, 6.5), as hex.
+pub(crate) const SETTINGS: &str = "000000040000000000";
+
+/// The opening SETTINGS of a server of 100 streams, as hex.
+pub(crate) const OPENING: &str = "00000c040000000000000300000064000600010000";
+
+/// The acknowledgement of SETTINGS, as hex.
+pub(crate) const ACKNOWLEDGEMENT: &str = "000000040100000000";
+
+/// A run: its name, the words behind the program's name, the input, what is printed, and the exit status.
+pub(crate) type Run = (
+    &'static str,
+    &'static [&'static str],
+    &'static [u8],
+    &'static [u8],
+    u8,
+);
+
+/// An exchange of `play`: its name, the words behind the program's name, the frames that come behind the preface and SETTINGS of no setting, those that
+/// are sent behind the opening SETTINGS and the acknowledgement, and the text of the state. Frames are hex, with spaces between them.
+pub(crate) type Exchange = (
+    &'static str,
+    &'static [&'static str],
+    &'static [u8],
+    &'static [u8],
+    &'static [u8],
+);
+
+/// A text, and behind it another one so many times.
+pub(crate) type Piece = (&'static str, u32);
+
+/// These words, the program's name first.
+pub(crate) fn words_of(alloc: Global, texts: &[&str]) -> Result<Words, AllocError> {
+    let mut words = Words::new(alloc);
+    words.add("h2_bench")?;
+    for text in texts {
+        words.add(text)?;
+    }
+    Ok(words)
+}
+
+/// The exit status of a run of the program, whose output is appended to `text`.
+pub(crate) fn status_of(
+    alloc: Global,
+    texts: &[&str],
+    input: &[u8],
+    text: &mut Vec<u8>,
+) -> Result<u8, AllocError> {
+    let words = words_of(alloc, texts)?;
+    let mut reader = input;
+    Ok(run(alloc, &words, &mut reader, text))
+}
+
+/// The exit status of a run of the program, and what it prints.
+pub(crate) fn ran(alloc: Global, texts: &[&str], input: &[u8]) -> Result<(u8, Vec<u8>), Fail> {
+    let mut text = Vec::new(alloc);
+    let status = status_of(alloc, texts, input, &mut text)?;
+    Ok((status, text))
+}
+
+/// Puts a text behind another, so many times.
+fn repeat(all: &mut Vec<u8>, text: &str, count: u32) -> Result<(), AllocError> {
+    for _ in 0..count {
+        all.extend_from_slice(text.as_bytes())?;
+    }
+    Ok(())
+}
+
+/// Pieces one behind another, with the text that they repeat.
+pub(crate) fn filled(alloc: Global, text: &str, pieces: &[Piece]) -> Result<Vec<u8>, AllocError> {
+    let mut all = Vec::new(alloc);
+    for (front, count) in pieces {
+        all.extend_from_slice(front.as_bytes())?;
+        repeat(&mut all, text, *count)?;
+    }
+    Ok(all)
+}
+
+/// The words of an answer to GET of the root, whose body has so many octets 61.
+pub(crate) fn long_answer(alloc: Global, count: u32) -> Result<String, Fail> {
+    let words = filled(alloc, "61", &[("GET|/|200|", count)])?;
+    Ok(String::from_utf8(words)?)
+}
+
+/// Appends texts, one behind another.
+pub(crate) fn join(all: &mut Vec<u8>, texts: &[&[u8]]) -> Result<(), AllocError> {
+    for text in texts {
+        all.extend_from_slice(text)?;
+    }
+    Ok(())
+}
+
+/// Appends a text without its spaces.
+fn close_up(text: &[u8], closed: &mut Vec<u8>) -> Result<(), AllocError> {
+    for octet in text {
+        if *octet != b' ' {
+            closed.push(*octet)?;
+        }
+    }
+    Ok(())
+}
+
+/// Appends what `play` prints where these frames are sent behind the opening SETTINGS and the acknowledgement, and this state is shown.
+fn print(sent: &[u8], state: &[u8], text: &mut Vec<u8>) -> Result<(), AllocError> {
+    let front = [b"sent ", OPENING.as_bytes(), ACKNOWLEDGEMENT.as_bytes()];
+    join(text, &front)?;
+    close_up(sent, text)?;
+    join(text, &[b"\n", state])
+}
+
+/// Runs the program, and compares the exit status and what is printed.
+pub(crate) fn compare(
+    rt: &impl Abort,
+    alloc: Global,
+    name: &str,
+    words: &[&str],
+    input: &[u8],
+    (status, printed): (u8, &[u8]),
+) {
+    let mut text = Vec::new(alloc);
+    let ended = status_of(alloc, words, input, &mut text);
+    same(rt, &(ended, text.as_slice()), &(Ok(status), printed), &name);
+}
+
+/// Runs the program for each case, and compares what is printed and the exit status.
+pub(crate) fn compare_runs(rt: &impl Abort, alloc: Global, cases: &[Run]) {
+    for (name, words, input, text, status) in cases {
+        compare(rt, alloc, name, words, input, (*status, *text));
+    }
+}
+
+/// The exit status of a run for frames behind the preface and SETTINGS of no setting, whose output is appended to `text`.
+fn status_of_play(
+    alloc: Global,
+    words: &[&str],
+    frames: &[u8],
+    text: &mut Vec<u8>,
+) -> Result<u8, AllocError> {
+    let mut input = Vec::new(alloc);
+    join(
+        &mut input,
+        &[PREFACE.as_bytes(), SETTINGS.as_bytes(), frames],
+    )?;
+    status_of(alloc, words, input.as_slice(), text)
+}
+
+/// Runs the program for frames behind the preface and SETTINGS of no setting, and compares the frames that are sent and the state; the exit status is 0.
+pub(crate) fn compare_exchange(
+    rt: &impl Abort,
+    alloc: Global,
+    name: &str,
+    words: &[&str],
+    frames: &[u8],
+    sent: &[u8],
+    state: &[u8],
+) {
+    let mut text = Vec::new(alloc);
+    let status = status_of_play(alloc, words, frames, &mut text);
+    let mut printed = Vec::new(alloc);
+    let is_printed = print(sent, state, &mut printed);
+    let wanted = (Ok(0), Ok(()), printed.as_slice());
+    same(rt, &(status, is_printed, text.as_slice()), &wanted, &name);
+}
+
+/// The same for each exchange.
+pub(crate) fn compare_exchanges(rt: &impl Abort, alloc: Global, cases: &[Exchange]) {
+    for (name, words, frames, sent, state) in cases {
+        compare_exchange(rt, alloc, name, words, frames, sent, state);
+    }
+}
+
+#[test]
+fn runs_print_what_the_tables_say(rt: HostRuntime) {
+    let tables: [&[Run]; 6] = [
+        &opening::OPENINGS,
+        &order::ABOVE_THE_LIMIT,
+        &items::TOLD,
+        &faults::REFUSED,
+        &tables::LINES,
+        &sessions::SESSIONS,
+    ];
+    for cases in tables {
+        compare_runs(&rt, rt.alloc(), cases);
+    }
+}
+
+#[test]
+fn exchanges_are_as_the_tables_say(rt: HostRuntime) {
+    let tables: [&[Exchange]; 5] = [
+        &opening::HEADS,
+        &requests::REQUESTS,
+        &blocks::DECODED,
+        &flow::WINDOWS,
+        &order::IN_ORDER,
+    ];
+    for cases in tables {
+        compare_exchanges(&rt, rt.alloc(), cases);
+    }
+}

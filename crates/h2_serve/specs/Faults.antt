@@ -1,0 +1,10 @@
+-- The numbers of the faults that stop a server.
+use Rattle.std.specs.Prelude.{ℕ}
+use Rattle.h2_serve.specs.declared.fault.ServeFault.{ServeFault}
+use Rattle.h2_serve.specs.declared.fault.ServeFault.TheVariants.{NoMemory, BadConfig, Write, Socket}
+
+abbrev pub fault_number : ServeFault → ℕ
+fault_number NoMemory = 0
+fault_number BadConfig = 16
+fault_number Write = 23
+fault_number Socket = 28

@@ -1,0 +1,38 @@
+//! Why a server stops, numbered as the faults of all crates are.
+//! Rests on nothing; definitions: `specs/Serves.antt`.
+
+ghost use Rattle.std.specs.Prelude.{◌≡◌};
+ghost use Rattle.h2_serve.specs.Faults.{fault_number};
+
+use thiserror::Error;
+
+/// Why a server stops before it has served all connections.
+#[derive(Clone, Copy, Debug, PartialEq, Eq, Error)]
+pub enum ServeFault {
+    /// 0: out of memory for a new connection.
+    #[error("out of memory")]
+    NoMemory,
+    /// 16: the limit of streams is outside 1 to 1000, or the credit outside 1 to 65535.
+    #[error("a limit is out of range")]
+    BadConfig,
+    /// 23: a line could not be written.
+    #[error("the output could not be written")]
+    Write,
+    /// 28: the port could not be listened on, or a connection could not be accepted.
+    #[error("the socket failed")]
+    Socket,
+}
+
+impl ServeFault {
+    /// The number of the fault, the same in all crates: 0, 16, 23 or 28.
+    pub fn number(self) -> u8
+        ensures { result ≡ fault_number self }
+    {
+        match self {
+            ServeFault::NoMemory => 0,
+            ServeFault::BadConfig => 16,
+            ServeFault::Write => 23,
+            ServeFault::Socket => 28,
+        }
+    }
+}

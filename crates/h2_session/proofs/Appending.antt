@@ -1,0 +1,28 @@
+-- What an output has after one text and then another.
+use Rattle.std.proofs.Common.{◌≡◌, ◌∙◌, ℕ, List, ◌++◌, Option, Some, None, ap, append_assoc}
+use Rattle.std.specs.Io.KnownBytes.{Appends, Keeps}
+
+pub both : (old mid new : Option (List ℕ)) (xs ys : List ℕ) → Appends old mid xs → Appends mid new ys → Appends old new (xs ++ ys)
+both None mid new xs ys x y = tt
+both (Some a) None new xs ys x y = absurd x
+both (Some a) (Some b) None xs ys x y = absurd y
+both (Some a) (Some b) (Some c) xs ys x y = y ∙ ap (λ (t : List ℕ). t ++ ys) x ∙ append_assoc a xs ys
+
+-- a text, and nothing behind it
+pub kept : (old mid new : Option (List ℕ)) (xs : List ℕ) → Appends old mid xs → Keeps mid new → Appends old new xs
+kept None mid new xs x y = tt
+kept (Some a) None new xs x y = absurd x
+kept (Some a) (Some b) None xs x y = absurd y
+kept (Some a) (Some b) (Some c) xs x y = y ∙ x
+
+-- what is known before is known behind
+pub appended : (before after : Option (List ℕ)) (held xs : List ℕ) → before ≡ Some held → Appends before after xs → after ≡ Some (held ++ xs)
+appended None after held xs e x = absurd (cc e)
+appended (Some a) None held xs e x = absurd x
+appended (Some a) (Some b) held xs e x =
+    let same : a ≡ held = cc in
+    ap (λ (t : List ℕ). Some t) (x ∙ ap (λ (t : List ℕ). t ++ xs) same)
+
+-- a text behind another
+pub appended-more : (before after : Option (List ℕ)) (held text xs : List ℕ) → before ≡ Some (held ++ text) → Appends before after xs → after ≡ Some (held ++ (text ++ xs))
+appended-more before after held text xs e x = appended before after (held ++ text) xs e x ∙ ap (λ (t : List ℕ). Some t) (append_assoc held text xs)

@@ -1,0 +1,94 @@
+-- The first line of a session.
+use Rattle.std.proofs.Common.{◌≡◌, ◌-◌, ◌≤◌, ◌⊎◌, ℕ, Bool, true, false, List, [], ◌∷◌, ◌++◌, Option, Some, length, take, filter, nat_le, cond, refl, ap, inl, inr, subst, arith}
+use Rattle.hex.specs.Hex.{decode_of}
+use Rattle.h2_spec.specs.declared.connection.Config.{Config}
+use Rattle.h2_spec.specs.Answer.{Entry}
+use Rattle.h2_debug.specs.Debugging.{Debugging}
+use Rattle.h2_session.specs.Faults.{fault_number}
+use Rattle.h2_session.specs.Lines.{ended_lines, is_digit, lines_of, octets_in, octets_spelled}
+use Rattle.h2_session.specs.Loading.{IsNotLoaded, Loads}
+use Rattle.h2_session.specs.Reading.{IsCut, most}
+use Rattle.h2_session.specs.Session.{IsAnswered, IsFollowed, IsGiven, IsLoaded, IsSession, Told, closed, failed}
+use Rattle.h2_session.specs.Takes.{TakesFirst}
+use Rattle.h2_session.specs.declared.fault.SessionFault.{SessionFault}
+use Rattle.h2_session.specs.declared.fault.SessionFault.TheVariants.{NoMemory}
+use Rattle.h2_session.specs.declared.line.End.{End}
+use Rattle.h2_session.specs.declared.line.End.TheVariants.{Input, LineFeed}
+use Rattle.h2_session.proofs.Giving.{cut-given, end-given, known, last-given, line-given}
+
+spelled-digits : (line digits : List ℕ) → digits ≡ filter is_digit line → octets_in (decode_of digits) ≡ octets_spelled line
+spelled-digits line digits e = ap (λ (x : List ℕ). octets_in (decode_of x)) e
+
+-- nothing more can be read
+pub session-cut : (book : List Entry) (config : Config) (octets : List ℕ) (input_failed : Bool) (first : ℕ) (before after : Option (List ℕ)) → before ≡ Some octets → first ≡ 0
+    → IsCut before after first input_failed → IsSession book config octets input_failed after (failed 22)
+session-cut book config octets input_failed first before after e zero cut =
+    let given = cut-given before after first octets input_failed e cut in
+    inr ([], false, rw zero at given, refl)
+
+-- the line that ends with the input
+pub session-last : (book : List Entry) (config : Config) (octets digits : List ℕ) (first last : ℕ) (before after rest : Option (List ℕ)) (t : Told) → before ≡ Some octets → first ≡ 0
+    → last ≤ most → TakesFirst before after first last digits Input → IsLoaded book config (octets_in (decode_of digits)) [] true t → IsSession book config octets false rest t
+session-last book config octets digits first last before after rest t e zero le ([], takes, is) loads =
+    let given = end-given before after first last most octets rest e takes in
+    inr ([], true, given, subst (λ (s : Option (List ℕ)). IsLoaded book config s [] true t) (spelled-digits [] digits is) loads)
+session-last book config octets digits first last before after rest t e zero le (x ∷ xs, takes, is) loads =
+    let given = last-given before after first last (x ∷ xs) octets rest e takes le (omega arith) in
+    inr ((x ∷ xs) ∷ [], true, rw zero at given, subst (λ (s : Option (List ℕ)). IsLoaded book config s [] true t) (spelled-digits (x ∷ xs) digits is) loads)
+
+-- the line that ends by a line feed
+pub session-line : (book : List Entry) (config : Config) (octets digits more : List ℕ) (input_failed : Bool) (first last : ℕ) (before after rest : Option (List ℕ)) (lines : List (List ℕ)) (whole : Bool) (t : Told)
+    → before ≡ Some octets → after ≡ Some more → first ≡ 0 → last ≤ most → TakesFirst before after first last digits LineFeed → IsGiven (most - last) more input_failed rest lines whole
+    → IsLoaded book config (octets_in (decode_of digits)) lines whole t → IsSession book config octets input_failed rest t
+session-line book config octets digits more input_failed first last before after rest lines whole t e f zero le (line, takes, is) given loads =
+    let all = line-given before after first last line octets more input_failed rest lines whole e f takes le given in
+    inr (line ∷ lines, whole, rw zero at all, subst (λ (s : Option (List ℕ)). IsLoaded book config s lines whole t) (spelled-digits line digits is) loads)
+
+-- what is ahead behind a first line
+pub line-known : (octets digits : List ℕ) (first last : ℕ) (before after : Option (List ℕ)) → before ≡ Some octets → TakesFirst before after first last digits LineFeed
+    → (more : List ℕ) × (after ≡ Some more)
+line-known octets digits first last before after e (line, takes, is) =
+    let k = known before after octets (line ++ 10 ∷ []) e takes.taken in
+    (k.0, k.1)
+
+-- no debugger
+not-loaded : (book : List Entry) (config : Config) (spelled : Option (List ℕ)) (fault : SessionFault) (lines : List (List ℕ)) (whole : Bool) → IsNotLoaded config spelled fault
+    → (fault ≡ NoMemory) ⊎ IsLoaded book config spelled lines whole (failed (fault_number fault))
+not-loaded book config spelled fault lines whole (inl none) = inl none
+not-loaded book config spelled fault lines whole (inr (inl (bad, none))) = inr (rw (bad, none) refl)
+not-loaded book config spelled fault lines whole (inr (inr (octets, bad, some, limits))) = inr (rw (bad, some, limits) refl)
+
+pub session-unloaded : (book : List Entry) (config : Config) (octets digits : List ℕ) (end : End) (first last : ℕ) (before after rest : Option (List ℕ)) (fault : SessionFault)
+    → before ≡ Some octets → first ≡ 0 → last ≤ most → TakesFirst before after first last digits end → IsNotLoaded config (octets_in (decode_of digits)) fault
+    → IsSession book config octets false rest (failed (fault_number fault))
+session-unloaded book config octets digits Input first last before after rest fault e zero le takes not =
+    elim (not-loaded book config (octets_in (decode_of digits)) fault [] true not) [
+      | inl none ↦ inl (ap (λ (f : SessionFault). failed (fault_number f)) none)
+      | inr loads ↦ session-last book config octets digits first last before after rest _ e zero le takes loads
+    ]
+session-unloaded book config octets digits LineFeed first last before after rest fault e zero le takes not =
+    let k = line-known octets digits first last before after e takes in
+    let whole = nat_le (length k.0) (most - last) in
+    let lines = cond whole (lines_of k.0) (ended_lines (take (most - last) k.0)) in
+    elim (not-loaded book config (octets_in (decode_of digits)) fault lines whole not) [
+      | inl none ↦ inl (ap (λ (f : SessionFault). failed (fault_number f)) none)
+      | inr loads ↦ session-line book config octets digits k.0 false first last before after rest lines whole _ e k.1 zero le takes (refl, refl) loads
+    ]
+
+-- a debugger
+answered-loads : (book : List Entry) (config : Config) (spelled : Option (List ℕ)) (d : Debugging) (lines : List (List ℕ)) (whole : Bool) (t : Told) → Loads book config spelled d
+    → IsAnswered d lines whole t → IsLoaded book config spelled lines whole t
+answered-loads book config spelled d lines whole t (octets, some, limits, is) answered = rw (some, limits) (rw is at answered)
+
+pub session-empty : (book : List Entry) (config : Config) (octets digits : List ℕ) (first last : ℕ) (before after rest : Option (List ℕ)) (d : Debugging) → before ≡ Some octets → first ≡ 0
+    → last ≤ most → TakesFirst before after first last digits Input → Loads book config (octets_in (decode_of digits)) d → IsSession book config octets false rest (closed true [])
+session-empty book config octets digits first last before after rest d e zero le takes loads =
+    session-last book config octets digits first last before after rest (closed true []) e zero le takes
+    (answered-loads book config (octets_in (decode_of digits)) d [] true (closed true []) loads ([], refl, refl))
+
+pub session-followed : (book : List Entry) (config : Config) (octets digits more : List ℕ) (input_failed : Bool) (first last : ℕ) (before after rest : Option (List ℕ)) (d : Debugging) (t : Told)
+    → before ≡ Some octets → after ≡ Some more → first ≡ 0 → last ≤ most → TakesFirst before after first last digits LineFeed → Loads book config (octets_in (decode_of digits)) d
+    → IsFollowed d (most - last) more input_failed rest t → IsSession book config octets input_failed rest t
+session-followed book config octets digits more input_failed first last before after rest d t e f zero le takes loads (lines, whole, given, answered) =
+    session-line book config octets digits more input_failed first last before after rest lines whole t e f zero le takes given
+    (answered-loads book config (octets_in (decode_of digits)) d lines whole t loads answered)

@@ -1,0 +1,8 @@
+pub mod Ahead
+pub mod Beginning
+pub mod Appending
+pub mod Following
+pub mod Giving
+pub mod Lines
+pub mod Short
+pub mod Taking

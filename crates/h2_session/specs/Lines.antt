@@ -1,0 +1,35 @@
+-- The lines of an input, and the octets that its first line spells in hex.
+use Rattle.std.specs.Prelude.{ℕ, ◌==◌, ◌||◌, Bool, not, List, [], ◌∷◌, if◌then◌else◌, filter, Option, Some, None, Result, Ok, Err}
+use Rattle.hex.specs.Hex.{decode_of}
+use Rattle.hex.specs.declared.FromHexError.{FromHexError}
+
+-- an octet at the front of the first of some lines
+abbrev pub onto_first : ℕ → List (List ℕ) → List (List ℕ)
+onto_first octet [] = (octet ∷ []) ∷ []
+onto_first octet (line ∷ lines) = (octet ∷ line) ∷ lines
+
+-- the lines of a text: a line feed ends each, and the last may lack it
+abbrev pub lines_of : List ℕ → List (List ℕ)
+lines_of [] = []
+lines_of (octet ∷ octets) = if octet == 10 then [] ∷ lines_of octets else onto_first octet (lines_of octets)
+
+-- the same where a line without a line feed is dropped
+abbrev pub onto_ended : ℕ → List (List ℕ) → List (List ℕ)
+onto_ended octet [] = []
+onto_ended octet (line ∷ lines) = (octet ∷ line) ∷ lines
+
+abbrev pub ended_lines : List ℕ → List (List ℕ)
+ended_lines [] = []
+ended_lines (octet ∷ octets) = if octet == 10 then [] ∷ ended_lines octets else onto_ended octet (ended_lines octets)
+
+-- what is no space, tab or carriage return
+abbrev pub is_digit : ℕ → Bool
+is_digit octet = not (octet == 32 || octet == 9 || octet == 13)
+
+abbrev pub octets_in : Result (List ℕ) FromHexError → Option (List ℕ)
+octets_in (Ok octets) = Some octets
+octets_in (Err fault) = None
+
+-- the octets that a line spells in hex, white space dropped
+abbrev pub octets_spelled : List ℕ → Option (List ℕ)
+octets_spelled line = octets_in (decode_of (filter is_digit line))

@@ -1,0 +1,28 @@
+-- What is taken of an input for a line, and why none is taken.
+use Rattle.std.specs.Prelude.{◌≡◌, ◌⊎◌, ◌<◌, ℕ, List, [], length, take, filter, Option, Some, None}
+use Rattle.h2_session.specs.Commands.{longest}
+use Rattle.h2_session.specs.Lines.{is_digit}
+use Rattle.h2_session.specs.Reading.{TakesLast, TakesLine}
+use Rattle.h2_session.specs.declared.fault.SessionFault.{SessionFault}
+use Rattle.h2_session.specs.declared.fault.SessionFault.TheVariants.{BadHex, NoMemory, Read}
+use Rattle.h2_session.specs.declared.line.End.{End}
+use Rattle.h2_session.specs.declared.line.End.TheVariants.{Input, LineFeed}
+
+-- the digits of a line that ends so
+abbrev pub TakesFirst : Option (List ℕ) → Option (List ℕ) → ℕ → ℕ → List ℕ → End → Type 0
+TakesFirst before after first last digits LineFeed = (line : List ℕ) × TakesLine before after first last line × (digits ≡ filter is_digit line)
+TakesFirst before after first last digits Input = (line : List ℕ) × TakesLast before after first last line × (digits ≡ filter is_digit line)
+
+-- the first octets of a line that ends so; none where the input ended before
+abbrev pub TakesNext : Option (List ℕ) → Option (List ℕ) → ℕ → ℕ → List ℕ → Option End → Type 0
+TakesNext before after first last octets None = TakesLast before after first last []
+TakesNext before after first last octets (Some LineFeed) = (line : List ℕ) × TakesLine before after first last line × (octets ≡ take longest line)
+TakesNext before after first last octets (Some Input) = (line : List ℕ) × TakesLast before after first last line × (octets ≡ take longest line) × (0 < length line)
+
+-- out of memory, or nothing more can be taken for this cause
+abbrev pub IsRefused : Type 0 → SessionFault → Type 0
+IsRefused cause fault = (fault ≡ NoMemory) ⊎ ((fault ≡ Read) × cause)
+
+-- out of memory, or no octets are spelled
+abbrev pub IsNoHex : Option (List ℕ) → SessionFault → Type 0
+IsNoHex spelled fault = (fault ≡ NoMemory) ⊎ ((fault ≡ BadHex) × (spelled ≡ None))

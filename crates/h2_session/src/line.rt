@@ -1,0 +1,143 @@
+//! Lines that are taken from an input: the first one as the octets that it spells in hex, each other one as far as a command goes.
+//! Rests on `reader` and on the crates `hex` and arrayvec; definitions: `specs/Lines.antt`, `specs/Reading.antt`.
+
+ghost use Rattle.std.specs.Prelude.{◌≡◌, ◌⊎◌, ◌<◌, ◌≤◌, false, [], ◌∷◌, ◌++◌, Some, None, filter, length, not, take, IfOk, IfErr, IfSome, OnOk, OnErr};
+ghost use Rattle.h2_session.specs.Commands.{longest};
+ghost use Rattle.hex.specs.Hex.{decode_of};
+ghost use Rattle.h2_session.specs.Lines.{is_digit, octets_in};
+ghost use Rattle.h2_session.specs.Reading.{IsCut, ahead, most};
+ghost use Rattle.h2_session.specs.declared.line.End.TheVariants.{Input};
+ghost use Rattle.h2_session.specs.Takes.{IsNoHex, IsRefused, TakesFirst, TakesNext};
+
+use crate::fault::SessionFault;
+use crate::reader::{Reader, Unread};
+use arrayvec::ArrayVec;
+use h2_device::Input;
+use hex::FromHexError;
+use std::alloc::{AllocError, Global};
+
+/// More octets than any command has.
+pub const LONGEST: usize = 24;
+
+/// The first octets of a line, more than any command has.
+pub type Line = ArrayVec<u8, LONGEST>;
+
+/// How a line ends.
+#[derive(Clone, Copy)]
+pub enum End {
+    /// By a line feed.
+    LineFeed,
+    /// With the input.
+    Input,
+}
+
+/// Whether an octet is a space, a tab or a carriage return.
+fn is_space(octet: u8) -> bool
+    ensures { result ≡ not (is_digit octet) }
+{
+    octet == b' ' || octet == b'\t' || octet == b'\r'
+}
+
+/// Puts an octet behind the others, unless it is a space, a tab or a carriage return.
+fn keep_digit(digits: &mut Vec<u8>, octet: u8) -> Result<(), AllocError>
+    ensures { OnOk result (digits.new.items ≡ digits.old.items ++ filter is_digit (octet ∷ [])) }
+{
+    if is_space(octet) {
+        return Ok(());
+    }
+    digits.push(octet)?;
+    Ok(())
+}
+
+/// Takes a line, and puts it behind what is in `digits`, without its spaces, tabs and carriage returns. Says how it ends; where the input has ended it
+/// is empty.
+///
+/// `Read` where nothing more can be taken, `NoMemory`.
+pub fn take_digits<I: Input>(
+    reader: &mut Reader,
+    input: &mut I,
+    digits: &mut Vec<u8>,
+) -> Result<End, SessionFault>
+    requires well { I.has_failed input.old ≡ false }
+    requires empty { digits.old.items ≡ [] }
+    ensures ok { IfOk result (λ end. TakesFirst (ahead reader.old (I.remaining input.old)) (ahead reader.new (I.remaining input.new)) reader.old.passed reader.new.passed digits.new.items end) }
+    ensures err { IfErr result (λ fault. IsRefused (IsCut (ahead reader.old (I.remaining input.old)) (I.remaining input.new) reader.old.passed (I.has_failed input.new)) fault) }
+    ensures within { OnOk result (reader.new.passed ≤ most) }
+    ensures well { OnOk result (I.has_failed input.new ≡ false) }
+    ensures name { I.name input.new ≡ I.name input.old }
+{
+    loop {
+        let Ok(next) = reader.next(input) else {
+            return Err(SessionFault::Read);
+        };
+        let Some(octet) = next else {
+            return Ok(End::Input);
+        };
+        if octet == b'\n' {
+            return Ok(End::LineFeed);
+        }
+        let Ok(()) = keep_digit(digits, octet) else {
+            return Err(SessionFault::NoMemory);
+        };
+    }
+}
+
+/// The octets that digits spell: `BadHex` where they spell none, `NoMemory`.
+pub fn spelled(alloc: Global, digits: &[u8]) -> Result<Vec<u8>, SessionFault>
+    ensures ok { IfOk result (λ octets. octets_in (decode_of digits.now) ≡ Some octets.items) }
+    ensures err { IfErr result (λ fault. IsNoHex (octets_in (decode_of digits.now)) fault) }
+{
+    match hex::decode(alloc, digits) {
+        Ok(octets) => Ok(octets),
+        Err(FromHexError::OutOfMemory) => Err(SessionFault::NoMemory),
+        Err(_) => Err(SessionFault::BadHex),
+    }
+}
+
+/// Puts an octet behind the others, where there is room.
+#[tactic(auto, using(crate::proofs::Taking::takes_short))]
+fn keep(line: &mut Line, octet: u8)
+    ensures { line.new.items ≡ take longest (line.old.items ++ octet ∷ []) }
+{
+    if !line.is_full() {
+        line.push(octet);
+    }
+}
+
+/// How a line ends that the end of the input follows; `None` where there is no octet of it.
+fn last_end(line: &Line) -> Option<End>
+    ensures none { result ≡ None → line.now.items ≡ [] }
+    ensures some { IfSome result (λ end. (end ≡ Input) × (0 < length line.now.items)) }
+{
+    if line.is_empty() {
+        return None;
+    }
+    Some(End::Input)
+}
+
+/// Takes the next line, as far as a command goes, and says how it ends; `None` at the end of the input. Takes no memory.
+///
+/// `Unread` where nothing more can be taken.
+pub fn next_line<I: Input>(
+    reader: &mut Reader,
+    input: &mut I,
+    line: &mut Line,
+) -> Result<Option<End>, Unread>
+    requires well { I.has_failed input.old ≡ false }
+    requires empty { line.old.items ≡ [] }
+    ensures ok { IfOk result (λ end. TakesNext (ahead reader.old (I.remaining input.old)) (ahead reader.new (I.remaining input.new)) reader.old.passed reader.new.passed line.new.items end) }
+    ensures err { OnErr result (IsCut (ahead reader.old (I.remaining input.old)) (I.remaining input.new) reader.old.passed (I.has_failed input.new)) }
+    ensures within { OnOk result (reader.new.passed ≤ most) }
+    ensures well { OnOk result (I.has_failed input.new ≡ false) }
+    ensures name { I.name input.new ≡ I.name input.old }
+{
+    loop {
+        let Some(octet) = reader.next(input)? else {
+            return Ok(last_end(line));
+        };
+        if octet == b'\n' {
+            return Ok(Some(End::LineFeed));
+        }
+        keep(line, octet);
+    }
+}

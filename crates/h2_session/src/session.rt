@@ -1,0 +1,146 @@
+//! A session with a debugger: the octets of a peer in hex, and then commands, each answered before the next is read.
+//! Rests on `line`, `obey` and `reply`; definition: `specs/Session.antt`.
+
+ghost use Rattle.std.specs.Prelude.{◌≡◌, ◌==◌, ◌-◌, ◌≤◌, ℕ, List, Some, false, IfErr, IfOk, OnOk, is_err};
+ghost use Rattle.hex.specs.Hex.{decode_of};
+ghost use Rattle.h2_session.specs.Faults.{fault_number};
+ghost use Rattle.h2_session.specs.Commands.{command_of};
+ghost use Rattle.h2_session.specs.Lines.{octets_in};
+ghost use Rattle.h2_session.specs.Reading.{ahead, most};
+ghost use Rattle.h2_session.specs.Replies.{Obeys, reply_text};
+ghost use Rattle.h2_session.specs.Session.{AnswersLine, IsFollowed, IsSession, Tells, Told, failed};
+ghost use Rattle.h2_session.specs.Loading.{IsNotLoaded, Loads};
+
+use crate::command::command_of;
+use crate::fault::SessionFault;
+use crate::line::{End, Line, next_line, spelled, take_digits};
+use crate::obey::obey;
+use crate::reader::Reader;
+use crate::reply::{Reply, write_reply};
+use h2_debug::{DebugFault, Debugger};
+use h2_device::{DeviceFault, Input, Output};
+use h2_request::book::Book;
+use h2_spec::connection::Config;
+use std::alloc::Global;
+
+/// Writes the line of a fault, and gives status 1, or 3 where that failed.
+fn refuse<O: Output>(output: &mut O, fault: SessionFault) -> u8
+    ensures told { O.has_failed output.new ≡ false → (held : List ℕ) → O.written output.old ≡ Some held → Tells (failed (fault_number fault)) held (O.written output.new) result }
+    ensures flag { O.has_failed output.new ≡ (result == 3) }
+    ensures name { O.name output.new ≡ O.name output.old }
+{
+    match write_reply(output, &Reply::Refused(fault.number())) {
+        Ok(()) => 1,
+        Err(_) => 3,
+    }
+}
+
+/// Does what a line asks for.
+fn obey_line(alloc: Global, debugger: &mut Debugger<'_, Global>, line: &[u8]) -> Reply
+    ensures { Obeys debugger.old (command_of line.now) (reply_text result) debugger.new }
+{
+    obey(alloc, debugger, command_of(line))
+}
+
+/// Does what a line asks for, writes the reply, and flushes the output.
+fn answer<O: Output>(
+    alloc: Global,
+    debugger: &mut Debugger<'_, Global>,
+    line: &[u8],
+    output: &mut O,
+) -> Result<(), DeviceFault>
+    ensures told { OnOk result (AnswersLine debugger.old (command_of line.now) debugger.new (O.written output.old) (O.written output.new)) }
+    ensures flag { O.has_failed output.new ≡ is_err result }
+    ensures name { O.name output.new ≡ O.name output.old }
+{
+    let reply = obey_line(alloc, debugger, line);
+    write_reply(output, &reply)
+}
+
+/// Answers each line until the input ends, and gives the exit status.
+fn follow<I: Input, O: Output>(
+    alloc: Global,
+    debugger: &mut Debugger<'_, Global>,
+    reader: &mut Reader,
+    input: &mut I,
+    output: &mut O,
+) -> u8
+    requires input { I.has_failed input.old ≡ false }
+    requires output { O.has_failed output.old ≡ false }
+    ensures told { O.has_failed output.new ≡ false → (octets held : List ℕ) → ahead reader.old (I.remaining input.old) ≡ Some octets → O.written output.old ≡ Some held
+        → (t : Told) × IsFollowed debugger.old (most - reader.old.passed) octets (I.has_failed input.new) (I.remaining input.new) t × Tells t held (O.written output.new) result }
+    ensures flag { O.has_failed output.new ≡ (result == 3) }
+    ensures input { I.name input.new ≡ I.name input.old }
+    ensures name { O.name output.new ≡ O.name output.old }
+{
+    loop {
+        let mut line = Line::new();
+        let end = match next_line(reader, input, &mut line) {
+            Ok(Some(end)) => end,
+            Ok(None) => return 0,
+            Err(_) => return refuse(output, SessionFault::Read),
+        };
+        let Ok(()) = answer(alloc, debugger, line.as_slice(), output) else {
+            return 3;
+        };
+        if let End::Input = end {
+            return 0;
+        }
+    }
+}
+
+/// A debugger over the octets that digits spell.
+///
+/// `BadHex` where they spell none, then `BadConfig` where a limit is out of range; `NoMemory` may come before either.
+fn load<'b>(
+    alloc: Global,
+    book: &'b Book<Global>,
+    config: Config,
+    digits: Vec<u8>,
+) -> Result<Debugger<'b, Global>, SessionFault>
+    ensures ok { IfOk result (λ debugger. Loads book.now config (octets_in (decode_of digits.items)) debugger) }
+    ensures err { IfErr result (λ fault. IsNotLoaded config (octets_in (decode_of digits.items)) fault) }
+{
+    let octets = spelled(alloc, digits.as_slice())?;
+    match Debugger::load(book, config, octets) {
+        Ok(debugger) => Ok(debugger),
+        Err(DebugFault::BadConfig) => Err(SessionFault::BadConfig),
+        Err(_) => Err(SessionFault::NoMemory),
+    }
+}
+
+/// The program `debug`: loads the octets that the first line spells in hex, answers each further line, and gives the exit status. Each answer is written
+/// and flushed before the next line is read.
+///
+/// 0: the input ended. 1: a fault ended the session, and its line was written: 22 where a read failed or the input has more than 16,777,216 octets, 25
+/// where the first line is not hex, 16 where a limit is out of range, 0 where memory for the first line was refused. 3: the output could not be written.
+pub fn debug_session<I: Input, O: Output>(
+    alloc: Global,
+    book: &Book<Global>,
+    config: Config,
+    input: &mut I,
+    output: &mut O,
+) -> u8
+    requires reader { I.has_failed input.old ≡ false }
+    requires writer { O.has_failed output.old ≡ false }
+    ensures told { O.has_failed output.new ≡ false → (octets held : List ℕ) → I.remaining input.old ≡ Some octets → O.written output.old ≡ Some held
+        → (t : Told) × IsSession book.now config octets (I.has_failed input.new) (I.remaining input.new) t × Tells t held (O.written output.new) result }
+    ensures flag { O.has_failed output.new ≡ (result == 3) }
+    ensures input { I.name input.new ≡ I.name input.old }
+    ensures name { O.name output.new ≡ O.name output.old }
+{
+    let mut reader = Reader::new();
+    let mut digits = Vec::new(alloc);
+    let end = match take_digits(&mut reader, input, &mut digits) {
+        Ok(end) => end,
+        Err(fault) => return refuse(output, fault),
+    };
+    let mut debugger = match load(alloc, book, config, digits) {
+        Ok(debugger) => debugger,
+        Err(fault) => return refuse(output, fault),
+    };
+    match end {
+        End::Input => 0,
+        End::LineFeed => follow(alloc, &mut debugger, &mut reader, input, output),
+    }
+}

@@ -1,0 +1,24 @@
+-- What a built command and its arguments are to clap.
+use Rattle.std.specs.Prelude.{◌≡◌, ℕ, false, Some}
+use Rattle.clap.specs.Words.{App, Rule, Text, app_of, new_rule, rule_of}
+use Rattle.clap.specs.declared.builder.Arg.{Arg}
+use Rattle.clap.specs.declared.builder.ArgAction.TheVariants.{Set}
+use Rattle.clap.specs.declared.builder.Command.{Command}
+use Rattle.clap.specs.declared.builder.Command.TheViews.{out-Command}
+use Rattle.clap.specs.declared.builder.ValueParser.TheVariants as parser
+
+-- an argument that is read by this rule, in its own command alone
+abbrev pub IsArg : Rule → Arg → Type 0
+IsArg rule arg = (rule_of arg ≡ rule) × (arg.global ≡ false)
+
+-- a command that is read as this one, with no argument that is in its subcommands too
+abbrev pub IsCommand : App → Command → Type 0
+IsCommand app command = (app_of command ≡ app) × ((out-Command command).has_globals ≡ false)
+
+-- the rule of a positional that takes a number, 0 to the most
+abbrev pub number_rule : Text → ℕ → Rule
+number_rule id most = record (new_rule id) { action = Some Set; parser = Some (parser.Unsigned 0 most) }
+
+-- the rule of an option that takes a number, 0 to the most
+abbrev pub option_rule : Text → ℕ → Rule
+option_rule name most = record (number_rule name most) { long = Some name }

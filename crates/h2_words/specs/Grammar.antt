@@ -1,0 +1,157 @@
+-- The words of a command line: the commands as clap reads them, and what words ask for.
+use Rattle.std.specs.Prelude.{◌&&◌, ◌^◌, ℕ, Bool, true, false, List, [], ◌∷◌, Option, Some, None, codes, length, nat_lt, if◌then◌else◌, unwrap_or, option_and_then}
+use Rattle.std.specs.List.{list_all}
+use Rattle.std.specs.Option.{option_map_or}
+use Rattle.std.specs.Str.{bytes_eq}
+use Rattle.std.specs.Str.Parse.{digits_value, without_leading_plus}
+use Rattle.std.specs.Char.{digit_value}
+use Rattle.h2_spec.specs.declared.connection.Config.{Config}
+use Rattle.clap.specs.Words.{App, Kinds, Row, Rule, Text, all_of, fault_of, first_of, new_app, new_rule, one_of, subcommand_of, with_rule, with_subcommand}
+use Rattle.clap.specs.declared.builder.ArgAction.TheVariants.{Append, Set, SetTrue}
+use Rattle.clap.specs.declared.builder.ValueParser.TheVariants as parser
+
+-- ---- the commands
+
+-- the most streams, any number of 32 bits
+abbrev pub streams_rule : Rule
+streams_rule = record (new_rule (codes "streams")) { long = Some (codes "streams"); action = Some Set; parser = Some (parser.Unsigned 0 4294967295) }
+
+-- the credit, any number of 32 bits
+abbrev pub credit_rule : Rule
+credit_rule = record (new_rule (codes "credit")) { long = Some (codes "credit"); action = Some Set; parser = Some (parser.Unsigned 0 4294967295) }
+
+-- how many octets a piece of `play` has, 0 to 65536; 0 for one piece
+abbrev pub cut_rule : Rule
+cut_rule = record (new_rule (codes "cut")) { long = Some (codes "cut"); action = Some Set; parser = Some (parser.Unsigned 0 65536) }
+
+-- whether each item is reported
+abbrev pub each_rule : Rule
+each_rule = record (new_rule (codes "each")) { long = Some (codes "each"); action = Some SetTrue }
+
+-- the answers, any number of them
+abbrev pub answer_rule : Rule
+answer_rule = record (new_rule (codes "ANSWER")) { action = Some Append }
+
+-- the file of a book, one text
+abbrev pub book_rule : Rule
+book_rule = record (new_rule (codes "book")) { long = Some (codes "book"); action = Some Set }
+
+-- whether the reason of a refused entry is written
+abbrev pub why_rule : Rule
+why_rule = record (new_rule (codes "why")) { long = Some (codes "why"); action = Some SetTrue }
+
+-- a command with the rules of a book
+abbrev pub with_book : App → App
+with_book app = with_rule (with_rule app book_rule) why_rule
+
+-- a command with the limits of a connection
+abbrev pub with_limits : App → App
+with_limits app = with_rule (with_rule app streams_rule) credit_rule
+
+abbrev pub play_app : App
+play_app = with_rule (with_book (with_rule (with_rule (with_limits (new_app (codes "play"))) cut_rule) each_rule)) answer_rule
+
+abbrev pub asm_app : App
+asm_app = new_app (codes "asm")
+
+abbrev pub dis_app : App
+dis_app = new_app (codes "dis")
+
+-- LIMIT of `table`, 0 to 65536
+abbrev pub limit_rule : Rule
+limit_rule = record (new_rule (codes "LIMIT")) { required = true; action = Some Set; parser = Some (parser.Unsigned 0 65536) }
+
+abbrev pub table_app : App
+table_app = with_rule (new_app (codes "table")) limit_rule
+
+abbrev pub debug_app : App
+debug_app = with_rule (with_book (with_limits (new_app (codes "debug")))) answer_rule
+
+-- PORT of `serve`, 1 to 65535
+abbrev pub port_rule : Rule
+port_rule = record (new_rule (codes "PORT")) { required = true; action = Some Set; parser = Some (parser.Unsigned 1 65535) }
+
+-- its COUNT, any number of 32 bits
+abbrev pub count_rule : Rule
+count_rule = record (new_rule (codes "COUNT")) { required = true; action = Some Set; parser = Some (parser.Unsigned 0 4294967295) }
+
+abbrev pub serve_app : App
+serve_app = with_rule (with_rule (with_rule (with_book (with_limits (new_app (codes "serve")))) port_rule) count_rule) answer_rule
+
+abbrev pub top_app : App
+top_app = record (new_app (codes "h2_bench")) { top = record (new_app (codes "h2_bench")).top { subcommand_required = true } }
+
+unfoldable pub bench_app : App
+bench_app =
+    let offline = with_subcommand (with_subcommand (with_subcommand (with_subcommand top_app play_app.top) asm_app.top) dis_app.top) table_app.top in
+    with_subcommand (with_subcommand offline debug_app.top) serve_app.top
+
+-- ---- what words ask for
+
+-- a book of answers: the path of its file, empty where there is none; whether the reason of a refused entry is written; the words of further answers
+pub record BookAsked : Type 0 where
+  pub file : Text
+  pub why : Bool
+  pub answers : List Text
+
+-- a command that reads its whole input and then answers it
+pub data BatchAsked : Type 0 where
+  play : (config : Config) → (cut : ℕ) → (each : Bool) → (book : BookAsked) → BatchAsked
+  asm : BatchAsked
+  dis : BatchAsked
+  table : (limit : ℕ) → BatchAsked
+
+pub data Asked : Type 0 where
+  batch : BatchAsked → Asked
+  debug : (config : Config) → (book : BookAsked) → Asked
+  serve : (config : Config) → (port : ℕ) → (count : ℕ) → (book : BookAsked) → Asked
+
+-- the number that a text spells in decimal digits, if it is below 2 ^ 32
+abbrev pub number_of : Text → Option ℕ
+number_of text =
+    let ds = without_leading_plus text in
+    if nat_lt 0 (length ds) && list_all (λ d. nat_lt (digit_value d) 10) ds && nat_lt (digits_value 10 ds) (2 ^ 32) then Some (digits_value 10 ds) else None
+
+-- the number that an option or a positional was given, or another
+abbrev pub number_at : Text → ℕ → List Row → ℕ
+number_at id default rows = unwrap_or (option_and_then number_of (one_of id rows)) default
+
+-- whether a flag was given
+abbrev pub is_set : Text → List Row → Bool
+is_set id rows = option_map_or (λ t. bytes_eq t (codes "true")) (first_of id rows) false
+
+-- the text that an option was given, or none
+abbrev pub text_at : Text → List Row → Text
+text_at id rows = unwrap_or (first_of id rows) []
+
+-- the values of a positional that takes any number of them
+abbrev pub texts_at : Text → List Row → List Text
+texts_at id rows = unwrap_or (all_of id rows) []
+
+-- the limits, 100 streams and 32768 octets where none are given
+abbrev pub config_at : List Row → Config
+config_at rows = record { streams = number_at (codes "streams") 100 rows; credit = number_at (codes "credit") 32768 rows }
+
+abbrev pub book_at : List Row → BookAsked
+book_at rows = record { file = text_at (codes "book") rows; why = is_set (codes "why") rows; answers = texts_at (codes "ANSWER") rows }
+
+abbrev pub asked_by : Text → List Row → Option Asked
+asked_by name rows =
+    if bytes_eq name (codes "play") then Some (batch (play (config_at rows) (number_at (codes "cut") 0 rows) (is_set (codes "each") rows) (book_at rows)))
+    else if bytes_eq name (codes "asm") then Some (batch asm)
+    else if bytes_eq name (codes "dis") then Some (batch dis)
+    else if bytes_eq name (codes "table") then Some (batch (table (number_at (codes "LIMIT") 0 rows)))
+    else if bytes_eq name (codes "debug") then Some (debug (config_at rows) (book_at rows))
+    else (if bytes_eq name (codes "serve") then Some (serve (config_at rows) (number_at (codes "PORT") 0 rows) (number_at (codes "COUNT") 0 rows) (book_at rows)) else None)
+
+-- what is asked, if no kind of error comes
+abbrev pub unless_refused : Kinds → Option Asked → Option Asked
+unless_refused [] asked = asked
+unless_refused (kind ∷ kinds) asked = None
+
+abbrev pub asked_at : Option (Text × List Row) → Option Asked
+asked_at entered = option_and_then (λ p. asked_by p.0 p.1) entered
+
+-- what words ask for, if clap takes them
+unfoldable pub asked_of : List Text → Option Asked
+asked_of words = unless_refused (fault_of bench_app words) (asked_at (subcommand_of bench_app words))

@@ -1,0 +1,29 @@
+-- What a plan represents, and what a refusal says of words.
+use Rattle.std.specs.Prelude.{◌≡◌, Option, None, map}
+use Rattle.h2_words.specs.Grammar.{Asked, BatchAsked, BookAsked, batch, play, asm, dis, table, debug, serve}
+use Rattle.h2_words.specs.declared.command.Batch.{Batch}
+use Rattle.h2_words.specs.declared.command.Batch.TheVariants.{Play, Asm, Dis, Table}
+use Rattle.h2_words.specs.declared.command.BookWords.{BookWords}
+use Rattle.h2_words.specs.declared.command.Plan.{Plan}
+use Rattle.h2_words.specs.declared.command.Plan.TheVariants as plan
+use Rattle.h2_words.specs.declared.command.Refusal.{Refusal}
+use Rattle.h2_words.specs.declared.command.Refusal.TheVariants.{Words, NoMemory}
+
+abbrev pub book_asked : BookWords → BookAsked
+book_asked b = record { file = b.file.now; why = b.why; answers = map (λ s. s.now) b.answers.items }
+
+abbrev pub batch_asked : Batch → BatchAsked
+batch_asked (Play p) = play p.config p.cut p.each (book_asked p.book)
+batch_asked Asm = asm
+batch_asked Dis = dis
+batch_asked (Table limit) = table limit
+
+abbrev pub planned : Plan → Asked
+planned (plan.Batch b) = batch (batch_asked b)
+planned (plan.Debug d) = debug d.config (book_asked d.book)
+planned (plan.Serve s) = serve s.config s.port s.count (book_asked s.book)
+
+-- words that are refused ask for nothing, unless the cause is that memory ran out
+abbrev pub Refuses : Option Asked → Refusal → Type 0
+Refuses asked (Words text) = asked ≡ None
+Refuses asked NoMemory = Unit {0}

@@ -1,0 +1,483 @@
+//! What the words of a command line ask for.
+//! Rests on `words` and on clap, whose definition of a command says which words are taken: `specs/Grammar.antt`.
+
+ghost use Rattle.std.specs.Prelude.{◌≡◌, IfOk, IfErr, Some, None, codes, map, option_map};
+ghost use Rattle.clap.specs.Words.{App, found_of, kind_of, rows_of, subcommand_rows_of, with_subcommand};
+ghost use Rattle.clap.specs.declared.error.ErrorKind.TheVariants.{OutOfMemory};
+ghost use Rattle.h2_words.specs.Grammar.{answer_rule, asked_at, asked_by, asked_of, asm_app, bench_app, book_at, book_rule, config_at, count_rule, credit_rule, cut_rule, debug_app, dis_app, each_rule, is_set, limit_rule, number_at, play_app, port_rule, serve_app, streams_rule, table_app, text_at, texts_at, top_app, why_rule, with_book, with_limits};
+ghost use Rattle.h2_words.specs.Built.{IsArg, IsCommand, number_rule, option_rule};
+ghost use Rattle.h2_words.specs.Plans.{book_asked, planned, Refuses};
+
+use crate::words::Words;
+use clap::builder::ValueParser;
+use clap::error::ErrorKind;
+use clap::{Arg, ArgAction, ArgMatches, Command};
+use h2_spec::connection::Config;
+use std::alloc::{AllocError, Global};
+
+/// The book of answers that a command is given.
+#[derive(Drop)]
+pub struct BookWords<'a> {
+    /// The path of the book's file; empty where there is none.
+    pub file: &'a str,
+    /// Whether the reason is written where an entry is refused.
+    pub why: bool,
+    /// The words of further answers, which come after the entries of the file.
+    pub answers: Vec<&'a str>,
+}
+
+/// How a connection is played.
+#[derive(Drop)]
+pub struct Play<'a> {
+    pub config: Config,
+    /// How many octets a piece has, 0 to 65536; 0 for 65536.
+    pub cut: u32,
+    /// Whether the state is printed after each item.
+    pub each: bool,
+    pub book: BookWords<'a>,
+}
+
+/// How a connection is debugged.
+#[derive(Drop)]
+pub struct Debug<'a> {
+    pub config: Config,
+    pub book: BookWords<'a>,
+}
+
+/// How connections are served.
+#[derive(Drop)]
+pub struct Serve<'a> {
+    pub config: Config,
+    /// The port of 127.0.0.1, 1 to 65535.
+    pub port: u32,
+    /// How many connections are served.
+    pub count: u32,
+    pub book: BookWords<'a>,
+}
+
+/// A command that reads its whole input before it answers.
+#[derive(Drop)]
+pub enum Batch<'a> {
+    /// Plays a connection over the octets of the input.
+    Play(Play<'a>),
+    /// Writes the octets of the script that the input is, as hex.
+    Asm,
+    /// Writes the script of the octets that the input has as hex.
+    Dis,
+    /// Changes a dynamic table of this limit, 0 to 65536, by the lines of the input.
+    Table(u32),
+}
+
+/// What is to be done.
+#[derive(Drop)]
+pub enum Plan<'a> {
+    Batch(Batch<'a>),
+    /// Debugs a connection by the lines of the input.
+    Debug(Debug<'a>),
+    /// Serves connections of a port.
+    Serve(Serve<'a>),
+}
+
+/// Why words were refused.
+#[derive(Drop)]
+pub enum Refusal {
+    /// The words are no command, or ask for help: the text to print for them.
+    Words(String),
+    /// Out of memory.
+    NoMemory,
+}
+
+/// An argument that takes a number from 0 to the most.
+fn number_arg<'a>(alloc: Global, id: &'a str, most: u64) -> Arg<'a>
+    ensures { IsArg (number_rule id.entry.now most) result }
+{
+    Arg::new(alloc, id)
+        .action(ArgAction::Set)
+        .value_parser(ValueParser::Unsigned(0, most))
+}
+
+/// An option of this name that takes a number from 0 to the most.
+fn number_option<'a>(alloc: Global, name: &'a str, most: u64, help: &'a str) -> Arg<'a>
+    ensures { IsArg (option_rule name.entry.now most) result }
+{
+    number_arg(alloc, name, most).long(name).help(help)
+}
+
+fn streams_option<'a>(alloc: Global) -> Arg<'a>
+    ensures { IsArg streams_rule result }
+{
+    number_option(
+        alloc,
+        "streams",
+        4294967295,
+        "The most streams at a time, 1 to 1000; 100 where none is given",
+    )
+}
+
+fn credit_option<'a>(alloc: Global) -> Arg<'a>
+    ensures { IsArg credit_rule result }
+{
+    number_option(
+        alloc,
+        "credit",
+        4294967295,
+        "The octets that are owed before they are given back, 1 to 65535; 32768 where none is given",
+    )
+}
+
+fn cut_option<'a>(alloc: Global) -> Arg<'a>
+    ensures { IsArg cut_rule result }
+{
+    number_option(
+        alloc,
+        "cut",
+        65536,
+        "The octets of a piece, 0 to 65536; 65536 where it is 0 or not given",
+    )
+}
+
+fn each_option<'a>(alloc: Global) -> Arg<'a>
+    ensures { IsArg each_rule result }
+{
+    Arg::new(alloc, "each")
+        .help("Tells the state at the start and after each item")
+        .long("each")
+        .action(ArgAction::SetTrue)
+}
+
+fn book_option<'a>(alloc: Global) -> Arg<'a>
+    ensures { IsArg book_rule result }
+{
+    Arg::new(alloc, "book")
+        .help("A TOML file of answers, which come before those of the command line")
+        .long("book")
+        .action(ArgAction::Set)
+}
+
+fn why_option<'a>(alloc: Global) -> Arg<'a>
+    ensures { IsArg why_rule result }
+{
+    Arg::new(alloc, "why")
+        .help("Writes the reason to standard error where an answer or the book is refused")
+        .long("why")
+        .action(ArgAction::SetTrue)
+}
+
+fn answer_words<'a>(alloc: Global) -> Arg<'a>
+    ensures { IsArg answer_rule result }
+{
+    Arg::new(alloc, "ANSWER")
+        .help("METHOD|PATH|STATUS|BODYHEX, and any number of |NAME=VALUE")
+        .action(ArgAction::Append)
+}
+
+fn limit_word<'a>(alloc: Global) -> Arg<'a>
+    ensures { IsArg limit_rule result }
+{
+    number_arg(alloc, "LIMIT", 65536)
+        .required(true)
+        .help("The table's limit in octets, 0 to 65536")
+}
+
+fn port_word<'a>(alloc: Global) -> Arg<'a>
+    ensures { IsArg port_rule result }
+{
+    Arg::new(alloc, "PORT")
+        .action(ArgAction::Set)
+        .value_parser(ValueParser::Unsigned(1, 65535))
+        .required(true)
+        .help("The port of 127.0.0.1, 1 to 65535")
+}
+
+fn count_word<'a>(alloc: Global) -> Arg<'a>
+    ensures { IsArg count_rule result }
+{
+    number_arg(alloc, "COUNT", 4294967295)
+        .required(true)
+        .help("How many connections are served, one after another")
+}
+
+/// The command with the limits of a connection.
+fn with_limits<'a>(alloc: Global, command: Command<'a>) -> Result<Command<'a>, AllocError>
+    ensures { (app : App) → IsCommand app command.entry → IfOk result (IsCommand (with_limits app)) }
+{
+    command
+        .arg(streams_option(alloc))?
+        .arg(credit_option(alloc))
+}
+
+/// The command with the file of a book, and whether reasons are written.
+fn with_book<'a>(alloc: Global, command: Command<'a>) -> Result<Command<'a>, AllocError>
+    ensures { (app : App) → IsCommand app command.entry → IfOk result (IsCommand (with_book app)) }
+{
+    command.arg(book_option(alloc))?.arg(why_option(alloc))
+}
+
+/// The command with one more subcommand.
+fn with_subcommand<'a>(
+    command: Command<'a>,
+    subcommand: Result<Command<'a>, AllocError>,
+) -> Result<Command<'a>, AllocError>
+    ensures { (app sub : App) → IsCommand app command.entry → IfOk subcommand.entry (IsCommand sub)
+        → IfOk result (IsCommand (with_subcommand app sub.top)) }
+{
+    command.subcommand(subcommand?)
+}
+
+fn play_command<'a>(alloc: Global) -> Result<Command<'a>, AllocError>
+    ensures { IfOk result (IsCommand play_app) }
+{
+    let command = Command::new(alloc, "play").about(
+        "Plays one connection over the octets that standard input has as hex",
+    );
+    let command = with_limits(alloc, command)?
+        .arg(cut_option(alloc))?
+        .arg(each_option(alloc))?;
+    with_book(alloc, command)?.arg(answer_words(alloc))
+}
+
+fn asm_command<'a>(alloc: Global) -> Command<'a>
+    ensures { IsCommand asm_app result }
+{
+    Command::new(alloc, "asm").about(
+        "Writes the octets of the script that standard input is, as hex",
+    )
+}
+
+fn dis_command<'a>(alloc: Global) -> Command<'a>
+    ensures { IsCommand dis_app result }
+{
+    Command::new(alloc, "dis").about(
+        "Writes the script of the octets that standard input has as hex",
+    )
+}
+
+fn table_command<'a>(alloc: Global) -> Result<Command<'a>, AllocError>
+    ensures { IfOk result (IsCommand table_app) }
+{
+    Command::new(alloc, "table")
+        .about(
+            "Changes a dynamic header table by the lines of standard input: add NAME VALUE, max N",
+        )
+        .arg(limit_word(alloc))
+}
+
+fn debug_command<'a>(alloc: Global) -> Result<Command<'a>, AllocError>
+    ensures { IfOk result (IsCommand debug_app) }
+{
+    let command = Command::new(alloc, "debug").about(
+        "Debugs one connection: the first line of standard input is hex, each further line a command",
+    );
+    let command = with_limits(alloc, command)?;
+    with_book(alloc, command)?.arg(answer_words(alloc))
+}
+
+fn serve_command<'a>(alloc: Global) -> Result<Command<'a>, AllocError>
+    ensures { IfOk result (IsCommand serve_app) }
+{
+    let command = Command::new(alloc, "serve").about(
+        "Serves connections of a port, one after another",
+    );
+    let command = with_limits(alloc, command)?;
+    with_book(alloc, command)?
+        .arg(port_word(alloc))?
+        .arg(count_word(alloc))?
+        .arg(answer_words(alloc))
+}
+
+fn top_command<'a>(alloc: Global) -> Command<'a>
+    ensures { IsCommand top_app result }
+{
+    Command::new(alloc, "h2_bench")
+        .about("An HTTP/2 server emulator and frame debugger")
+        .subcommand_required(true)
+}
+
+fn bench_command<'a>(alloc: Global) -> Result<Command<'a>, AllocError>
+    ensures { IfOk result (IsCommand bench_app) }
+{
+    let command = with_subcommand(top_command(alloc), play_command(alloc))?;
+    let command = with_subcommand(command, Ok(asm_command(alloc)))?;
+    let command = with_subcommand(command, Ok(dis_command(alloc)))?;
+    let command = with_subcommand(command, table_command(alloc))?;
+    let command = with_subcommand(command, debug_command(alloc))?;
+    with_subcommand(command, serve_command(alloc))
+}
+
+/// The number that an option or a positional was given, or another.
+fn number_at(matches: &ArgMatches<'_>, id: &str, default: u32) -> u32
+    ensures { result ≡ number_at id.now default (rows_of (found_of matches.now)) }
+{
+    matches.get_one::<u32>(id).unwrap_or(default)
+}
+
+/// Whether a flag was given.
+fn is_set(matches: &ArgMatches<'_>, id: &str) -> bool
+    ensures { result ≡ is_set id.now (rows_of (found_of matches.now)) }
+{
+    match matches.get_str(id) {
+        Some(text) => text == "true",
+        None => false,
+    }
+}
+
+/// The text that an option was given; empty where it was not.
+fn text_at<'a>(matches: &ArgMatches<'a>, id: &str) -> &'a str
+    ensures { result.now ≡ text_at id.now (rows_of (found_of matches.now)) }
+{
+    match matches.get_str(id) {
+        Some(text) => text,
+        None => "",
+    }
+}
+
+/// The values of a positional that takes any number of them.
+fn texts_at<'a>(
+    alloc: Global,
+    matches: &ArgMatches<'a>,
+    id: &str,
+) -> Result<Vec<&'a str>, AllocError>
+    ensures { IfOk result (λ texts. map (λ s. s.now) texts.items ≡ texts_at id.now (rows_of (found_of matches.now))) }
+{
+    match matches.get_raw(id) {
+        Some(texts) => Vec::from_slice(alloc, texts),
+        None => Ok(Vec::new(alloc)),
+    }
+}
+
+/// The limits of a connection.
+fn config_at(matches: &ArgMatches<'_>) -> Config
+    ensures { result ≡ config_at (rows_of (found_of matches.now)) }
+{
+    Config {
+        streams: number_at(matches, "streams", 100),
+        credit: number_at(matches, "credit", 32768),
+    }
+}
+
+/// The book of answers that a command is given.
+fn book_from<'a>(alloc: Global, matches: &ArgMatches<'a>) -> Result<BookWords<'a>, AllocError>
+    ensures { IfOk result (λ book. book_asked book ≡ book_at (rows_of (found_of matches.now))) }
+{
+    let answers = texts_at(alloc, matches, "ANSWER")?;
+    Ok(BookWords {
+        file: text_at(matches, "book"),
+        why: is_set(matches, "why"),
+        answers,
+    })
+}
+
+/// How a connection is to be played.
+fn play_from<'a>(alloc: Global, matches: &ArgMatches<'a>) -> Result<Play<'a>, AllocError>
+    ensures { IfOk result (λ play. Some (planned (Plan.Batch (Batch.Play play))) ≡ asked_by (codes "play") (rows_of
+        (found_of matches.now))) }
+{
+    let book = book_from(alloc, matches)?;
+    Ok(Play {
+        config: config_at(matches),
+        cut: number_at(matches, "cut", 0),
+        each: is_set(matches, "each"),
+        book,
+    })
+}
+
+/// How a connection is to be debugged.
+fn debug_from<'a>(alloc: Global, matches: &ArgMatches<'a>) -> Result<Debug<'a>, AllocError>
+    ensures { IfOk result (λ debug. Some (planned (Plan.Debug debug)) ≡ asked_by (codes "debug") (rows_of
+        (found_of matches.now))) }
+{
+    let book = book_from(alloc, matches)?;
+    Ok(Debug {
+        config: config_at(matches),
+        book,
+    })
+}
+
+/// How connections are to be served.
+fn serve_from<'a>(alloc: Global, matches: &ArgMatches<'a>) -> Result<Serve<'a>, AllocError>
+    ensures { IfOk result (λ serve. Some (planned (Plan.Serve serve)) ≡ asked_by (codes "serve") (rows_of
+        (found_of matches.now))) }
+{
+    let book = book_from(alloc, matches)?;
+    Ok(Serve {
+        config: config_at(matches),
+        port: number_at(matches, "PORT", 0),
+        count: number_at(matches, "COUNT", 0),
+        book,
+    })
+}
+
+fn plan_from<'a>(
+    alloc: Global,
+    name: &str,
+    matches: &ArgMatches<'a>,
+) -> Result<Option<Plan<'a>>, AllocError>
+    ensures { IfOk result (λ plan. option_map planned plan ≡ asked_by name.now (rows_of (found_of matches.now))) }
+{
+    if name == "play" {
+        return Ok(Some(Plan::Batch(Batch::Play(play_from(alloc, matches)?))));
+    }
+    if name == "asm" {
+        return Ok(Some(Plan::Batch(Batch::Asm)));
+    }
+    if name == "dis" {
+        return Ok(Some(Plan::Batch(Batch::Dis)));
+    }
+    if name == "table" {
+        let limit = number_at(matches, "LIMIT", 0);
+        return Ok(Some(Plan::Batch(Batch::Table(limit))));
+    }
+    if name == "debug" {
+        return Ok(Some(Plan::Debug(debug_from(alloc, matches)?)));
+    }
+    if name == "serve" {
+        return Ok(Some(Plan::Serve(serve_from(alloc, matches)?)));
+    }
+    Ok(None)
+}
+
+/// What clap says of words that it refuses; `NoMemory` where that is its reason.
+fn told_of(alloc: Global, error: &clap::Error) -> Refusal
+    ensures { kind_of error.now ≡ OutOfMemory → result ≡ Refusal.NoMemory }
+{
+    if error.kind() == ErrorKind::OutOfMemory {
+        return Refusal::NoMemory;
+    }
+    match format!(in alloc; "{error}") {
+        Ok(text) => Refusal::Words(text),
+        Err(_) => Refusal::NoMemory,
+    }
+}
+
+/// What clap finds in the words, where it takes them.
+fn matches_of<'a>(alloc: Global, words: &'a Words) -> Result<ArgMatches<'a>, Refusal>
+    ensures ok { IfOk result (λ matches. asked_of words.entry.now ≡ asked_at (subcommand_rows_of matches)) }
+    ensures refused { IfErr result (Refuses (asked_of words.entry.now)) }
+{
+    let Ok(command) = bench_command(alloc) else {
+        return Err(Refusal::NoMemory);
+    };
+    match command.try_get_matches_from(words.as_slice()) {
+        Ok(matches) => Ok(matches),
+        Err(error) => Err(told_of(alloc, &error)),
+    }
+}
+
+/// What the words ask for. They are refused where they are no command, or ask for help, and where memory is.
+pub fn parse<'a>(alloc: Global, words: &'a Words) -> Result<Plan<'a>, Refusal>
+    ensures ok { IfOk result (λ plan. asked_of words.entry.now ≡ Some (planned plan)) }
+    ensures refused { IfErr result (Refuses (asked_of words.entry.now)) }
+{
+    let matches = match matches_of(alloc, words) {
+        Ok(matches) => matches,
+        Err(refusal) => return Err(refusal),
+    };
+    let Some((name, inner)) = matches.subcommand() else {
+        return Err(Refusal::Words(String::new(alloc)));
+    };
+    match plan_from(alloc, name, inner) {
+        Ok(Some(plan)) => Ok(plan),
+        Ok(None) => Err(Refusal::Words(String::new(alloc))),
+        Err(_) => Err(Refusal::NoMemory),
+    }
+}

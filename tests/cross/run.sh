@@ -1,0 +1,12 @@
+#!/usr/bin/env bash
+# Compares the program with other implementations: the examples of RFC 7541, Appendix C, python3-hpack, python3-hyperframe and python3-h2 of Debian.
+# It is no part of the gate, and takes some minutes.
+#
+#   apt-get install python3-hpack python3-h2
+#   tests/cross/run.sh [--seed N] [--count N] [--stories FOLDER]
+#
+# --count is the number of connections in each topic. --stories takes a checkout of http2jp/hpack-test-case, whose story_*.json are then decoded too.
+set -eu
+top=$(cd "$(dirname "$0")/../.." && pwd)
+"$top/h2_bench" play < "$top/examples/ping.hex" > /dev/null
+exec /usr/bin/python3 -B "$top/tests/cross/cross.py" --program "$top/crates/h2_program/out/h2_program" "$@"
