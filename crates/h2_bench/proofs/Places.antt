@@ -15,7 +15,7 @@ use Rattle.h2_conn.specs.Connection.{Connection, going}
 use Rattle.h2_conn.specs.Runs.{TakesOne, Waits}
 use Rattle.h2_bench.specs.declared.each.Taken.{Taken}
 use Rattle.h2_bench.specs.Each.{TakesItem}
-use Rattle.h2_bench.specs.Told.{item_text, item_texts}
+use Rattle.h2_bench.specs.Printed.{item_text, item_texts}
 
 -- the events of a run
 abbrev pub events : State → List ℕ → List Event

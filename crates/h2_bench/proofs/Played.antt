@@ -11,14 +11,14 @@ use Rattle.h2_conn.specs.Connection.{Connection, going, is_allowed}
 use Rattle.h2_conn.specs.Runs.{Opens}
 use Rattle.h2_spec.specs.Parse.{parse_all}
 use Rattle.h2_spec.specs.Trace.{sent_octets, trace}
-use Rattle.h2_bench.specs.Each.{TellsRun, fed_first}
-use Rattle.h2_bench.specs.Tell.{OrCutShort, Told, done, failed}
-use Rattle.h2_bench.specs.Told.{item_text, places_from, places_played, places_run, sent_and_state, told_played, told_run}
+use Rattle.h2_bench.specs.Each.{PrintsRun, fed_first}
+use Rattle.h2_bench.specs.Printing.{OrCutShort, Printed, done, failed}
+use Rattle.h2_bench.specs.Printed.{item_text, places_from, places_played, places_run, sent_and_state, printed_played, printed_run}
 use Rattle.h2_bench.specs.declared.fault.BenchFault.TheVariants.{BadConfig}
 
-of-opened : (book : List Entry) (config : Config) (octets sent : List ℕ) (c : Connection) (t : Told) → is_allowed config ≡ true → c ≡ going (opening book config) [] → sent ≡ opening_octets config
+of-opened : (book : List Entry) (config : Config) (octets sent : List ℕ) (c : Connection) (t : Printed) → is_allowed config ≡ true → c ≡ going (opening book config) [] → sent ≡ opening_octets config
     → OrCutShort (places_from (item_text 0 sent (view c.state)) c.state octets) (done (concat (places_from (item_text 0 sent (view c.state)) c.state octets))) t
-    → OrCutShort (places_played true book config octets) (told_played true book config octets) t
+    → OrCutShort (places_played true book config octets) (printed_played true book config octets) t
 of-opened book config octets sent c t allowed opened is x =
     let same : places_from (item_text 0 sent (view c.state)) c.state octets ≡ places_run book config octets =
     ap₂ (λ (o : List ℕ) (s : State). places_from (item_text 0 o (view s)) s octets) is (ap (λ (d : Connection). d.state) opened) in
@@ -27,22 +27,22 @@ of-opened book config octets sent c t allowed opened is x =
 
 -- what is reported of a connection that the octets were fed to
 whole-played : (book : List Entry) (config : Config) (octets sent : List ℕ) (c : Connection) → is_allowed config ≡ true → Opens book config octets [] c sent
-    → done (sent_and_state sent (view c.state)) ≡ told_played false book config octets
+    → done (sent_and_state sent (view c.state)) ≡ printed_played false book config octets
 whole-played book config octets sent c allowed x =
     ap₂ (λ (o : List ℕ) (s : State). done (sent_and_state o (view s))) x.sent (ap (λ (d : Connection). d.state) x.after)
-    ∙ ap (λ (b : Bool). if b then told_run false book config octets else failed BadConfig) (sym allowed)
+    ∙ ap (λ (b : Bool). if b then printed_run false book config octets else failed BadConfig) (sym allowed)
 
 -- a new connection has no octets where nothing was fed
 pub new-opened : (book : List Entry) (config : Config) (sent : List ℕ) (c : Connection) → Opens book config [] [] c sent → (c ≡ going (opening book config) []) × (sent ≡ opening_octets config)
 unfolding trace parse_all sent_octets
 new-opened book config sent c x = (x.after, x.sent ∙ append-nil (opening_octets config))
 
-pub told-opened : (each : Bool) (book : List Entry) (config : Config) (octets sent : List ℕ) (c : Connection) (t : Told) → is_allowed config ≡ true → Opens book config (fed_first each octets) [] c sent
-    → TellsRun each c.state sent octets t → OrCutShort (places_played each book config octets) (told_played each book config octets) t
-told-opened true book config octets sent c t allowed opened x =
+pub printed-opened : (each : Bool) (book : List Entry) (config : Config) (octets sent : List ℕ) (c : Connection) (t : Printed) → is_allowed config ≡ true → Opens book config (fed_first each octets) [] c sent
+    → PrintsRun each c.state sent octets t → OrCutShort (places_played each book config octets) (printed_played each book config octets) t
+printed-opened true book config octets sent c t allowed opened x =
     let new = new-opened book config sent c opened in
     of-opened book config octets sent c t allowed new.0 new.1 x
-told-opened false book config octets sent c t allowed opened x = subst (λ (u : Told). OrCutShort [] u t) (whole-played book config octets sent c allowed opened) x
+printed-opened false book config octets sent c t allowed opened x = subst (λ (u : Printed). OrCutShort [] u t) (whole-played book config octets sent c allowed opened) x
 
 pub fresh-opened : (each : Bool) (book : List Entry) (config : Config) (octets sent : List ℕ) (c : Connection) → Opens book config (fed_first each octets) [] c sent → each ≡ true → c ≡ going c.state []
 fresh-opened true book config octets sent c opened e =

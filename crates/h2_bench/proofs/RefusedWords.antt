@@ -6,7 +6,7 @@ use Rattle.h2_bench.specs.AnswerParts.{refusal_of}
 use Rattle.h2_book.specs.Entries.{Directory, book_of_file}
 use Rattle.h2_words.specs.Grammar.{BookAsked}
 use Rattle.h2_bench.specs.Books.{added_by, book_filed, book_of, book_said, unless_refused, with_answer}
-use Rattle.h2_bench.specs.Ends.{KnowsFile}
+use Rattle.h2_bench.specs.ProgramEnd.{KnowsFile}
 use Rattle.h2_bench.specs.Faults.{fault_number}
 use Rattle.h2_bench.specs.declared.fault.BenchFault.{BenchFault}
 use Rattle.h2_bench.specs.declared.fault.BenchFault.TheVariants.{NoMemory, BadStatus, BadField, BodyNotAllowed, TooLong, BadConfig, Read, BadHex, BadAnswer, BadCommand, Socket}
@@ -36,20 +36,20 @@ unfolding book_filed
 some-file files [] e = absurd (true≢false e)
 some-file files (octet ∷ octets) e = refl
 
-pub known-file : (path : List ℕ) (is_told : Bool) → KnowsFile path is_told → (length path == 0) ≡ false → is_told ≡ true
-known-file path is_told (inl none) e = absurd (true≢false (subst (λ (p : List ℕ). (length p == 0) ≡ false) none e))
-known-file path is_told (inr told) e = told
+pub known-file : (path : List ℕ) (is_printed : Bool) → KnowsFile path is_printed → (length path == 0) ≡ false → is_printed ≡ true
+known-file path is_printed (inl none) e = absurd (true≢false (subst (λ (p : List ℕ). (length p == 0) ≡ false) none e))
+known-file path is_printed (inr printed) e = printed
 
 -- a file is added to no entries, or refused
-pub file-added : (files : Directory) (path : List ℕ) (is_told : Bool) (book after : List Entry) → (length path == 0) ≡ false → book ≡ [] → KnowsFile path is_told
-    → (is_told ≡ true → book_of_file files path book ≡ Ok after) → book_filed files path ≡ Ok after
-file-added files path is_told book after e none known added =
-    some-file files path e ∙ subst (λ (b : List Entry). book_of_file files path b ≡ Ok after) none (added (known-file path is_told known e))
+pub file-added : (files : Directory) (path : List ℕ) (is_printed : Bool) (book after : List Entry) → (length path == 0) ≡ false → book ≡ [] → KnowsFile path is_printed
+    → (is_printed ≡ true → book_of_file files path book ≡ Ok after) → book_filed files path ≡ Ok after
+file-added files path is_printed book after e none known added =
+    some-file files path e ∙ subst (λ (b : List Entry). book_of_file files path b ≡ Ok after) none (added (known-file path is_printed known e))
 
-pub file-not-added : (files : Directory) (path : List ℕ) (is_told : Bool) (book : List Entry) (fault : ℕ) → (length path == 0) ≡ false → book ≡ [] → KnowsFile path is_told
-    → (is_told ≡ true → 0 < fault → book_of_file files path book ≡ Err fault) → 0 < fault → book_filed files path ≡ Err fault
-file-not-added files path is_told book fault e none known refused above =
-    some-file files path e ∙ subst (λ (b : List Entry). book_of_file files path b ≡ Err fault) none (refused (known-file path is_told known e) above)
+pub file-not-added : (files : Directory) (path : List ℕ) (is_printed : Bool) (book : List Entry) (fault : ℕ) → (length path == 0) ≡ false → book ≡ [] → KnowsFile path is_printed
+    → (is_printed ≡ true → 0 < fault → book_of_file files path book ≡ Err fault) → 0 < fault → book_filed files path ≡ Err fault
+file-not-added files path is_printed book fault e none known refused above =
+    some-file files path e ∙ subst (λ (b : List Entry). book_of_file files path b ≡ Err fault) none (refused (known-file path is_printed known e) above)
 
 -- a fault that is not 0 is not for memory
 pub memory-or-number : (fault : BenchFault) → (fault ≡ NoMemory) ⊎ (0 < fault_number fault)

@@ -5,7 +5,7 @@ use Rattle.h2_spec.specs.Parse.{Front, One, Parsed, parse_all, parse_first}
 use Rattle.h2_spec.specs.DynamicTable.{LimitedTable}
 use Rattle.h2_spec.specs.Show.{entry_lines}
 use Rattle.h2_spec.proofs.ParseLaws.{Uses, parse_all-step}
-use Rattle.h2_bench.specs.TableProgram.{behind_line, command_of, first_line, line_at, line_end, lines_of, obeyed, told_lines, told_of, used_to}
+use Rattle.h2_bench.specs.TableProgram.{behind_line, command_of, first_line, line_at, line_end, lines_of, obeyed, printed_lines, printed_of, used_to}
 
 -- ---- lines
 
@@ -38,21 +38,21 @@ unfolding lines_of parse_all
 lines-none [] none = refl
 lines-none (octet ∷ octets) none = absurd (omega arith)
 
-told-first : (t : LimitedTable) (line : List ℕ) (lines : List (List ℕ)) → told_lines t (line ∷ lines) ≡ told_of t (command_of line) ++ told_lines (obeyed t (command_of line)) lines
-unfolding told_lines
-told-first t line lines = refl
+printed-first : (t : LimitedTable) (line : List ℕ) (lines : List (List ℕ)) → printed_lines t (line ∷ lines) ≡ printed_of t (command_of line) ++ printed_lines (obeyed t (command_of line)) lines
+unfolding printed_lines
+printed-first t line lines = refl
 
-told-none : (t : LimitedTable) → told_lines t [] ≡ entry_lines 62 t.table.entries
-unfolding told_lines
-told-none t = refl
+printed-none : (t : LimitedTable) → printed_lines t [] ≡ entry_lines 62 t.table.entries
+unfolding printed_lines
+printed-none t = refl
 
 -- a text with what is reported of one line more
 pub line-told : (t u : LimitedTable) (text line more a b all : List ℕ) → 0 < length text → line ≡ first_line text → more ≡ behind_line text
-    → u ≡ obeyed t (command_of line) → b ≡ a ++ told_of t (command_of line) → a ++ told_lines t (lines_of text) ≡ all → b ++ told_lines u (lines_of more) ≡ all
+    → u ≡ obeyed t (command_of line) → b ≡ a ++ printed_of t (command_of line) → a ++ printed_lines t (lines_of text) ≡ all → b ++ printed_lines u (lines_of more) ≡ all
 line-told t u text line more a b all some l m o p q =
-    let next : told_lines t (lines_of text) ≡ told_of t (command_of line) ++ told_lines (obeyed t (command_of line)) (lines_of more)
-    = rw (lines-first text some, ← l, ← m) (told-first t line (lines_of more)) in
-    rw (p, o) (append_assoc a (told_of t (command_of line)) (told_lines (obeyed t (command_of line)) (lines_of more)) ∙ ap (λ (x : List ℕ). a ++ x) (sym next) ∙ q)
+    let next : printed_lines t (lines_of text) ≡ printed_of t (command_of line) ++ printed_lines (obeyed t (command_of line)) (lines_of more)
+    = rw (lines-first text some, ← l, ← m) (printed-first t line (lines_of more)) in
+    rw (p, o) (append_assoc a (printed_of t (command_of line)) (printed_lines (obeyed t (command_of line)) (lines_of more)) ∙ ap (λ (x : List ℕ). a ++ x) (sym next) ∙ q)
 
-pub lines-end : (t : LimitedTable) (text a all : List ℕ) → length text ≤ 0 → a ++ told_lines t (lines_of text) ≡ all → a ++ entry_lines 62 t.table.entries ≡ all
-lines-end t text a all none q = ap (λ (x : List ℕ). a ++ x) (sym (told-none t) ∙ ap (told_lines t) (sym (lines-none text none))) ∙ q
+pub lines-end : (t : LimitedTable) (text a all : List ℕ) → length text ≤ 0 → a ++ printed_lines t (lines_of text) ≡ all → a ++ entry_lines 62 t.table.entries ≡ all
+lines-end t text a all none q = ap (λ (x : List ℕ). a ++ x) (sym (printed-none t) ∙ ap (printed_lines t) (sym (lines-none text none))) ∙ q

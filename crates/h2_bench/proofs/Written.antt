@@ -3,11 +3,11 @@ use Rattle.std.proofs.Common.{◌≡◌, ◌∙◌, ℕ, suc, List, [], ◌∷�
 use Rattle.std.specs.List.{concat}
 use Rattle.std.specs.Io.KnownBytes.{Appends}
 use Rattle.std.proofs.lemmas.List.{append-nil}
-use Rattle.h2_bench.specs.Answers.{Gives, seen}
-use Rattle.h2_bench.specs.Each.{Stops, not_written, told_after}
-use Rattle.h2_bench.specs.Tell.{OrCutShort, Told, done, failed, failed_after}
-use Rattle.h2_bench.specs.declared.each.Untold.{Untold}
-use Rattle.h2_bench.specs.declared.each.Untold.TheVariants.{Fault, NotWritten}
+use Rattle.h2_bench.specs.Reports.{Gives, seen}
+use Rattle.h2_bench.specs.Each.{Stops, not_written, printed_after}
+use Rattle.h2_bench.specs.Printing.{OrCutShort, Printed, done, failed, failed_after}
+use Rattle.h2_bench.specs.declared.each.PlacesFault.{PlacesFault}
+use Rattle.h2_bench.specs.declared.each.PlacesFault.TheVariants.{Fault, NotWritten}
 use Rattle.h2_bench.specs.declared.fault.BenchFault.{BenchFault}
 use Rattle.h2_bench.specs.declared.report.Report.{Report}
 
@@ -21,33 +21,33 @@ more-written held done text later before after is a e =
     appended (held ++ done) text before after is a ∙ ap (λ (t : List ℕ). Some t) (append_assoc held done text ∙ ap (λ (t : List ℕ). held ++ t) (sym e))
 
 -- places that were cut off lead to such an answer
-pub stopped : (ps : List (List ℕ)) (told : Told) (held : List ℕ) (after : Option (List ℕ)) (why : Untold) → not_written (Err why) ≡ false → Stops ps held after why
-    → (text : List ℕ) × (after ≡ Some (held ++ text)) × OrCutShort ps told (told_after text (Err why))
-stopped ps told held after (Fault fault) well x = (concat (take x.1.0 ps), x.1.1, inr (x.1.0, ap (failed_after (concat (take x.1.0 ps))) x.0))
-stopped ps told held after NotWritten well x = cc
+pub stopped : (ps : List (List ℕ)) (printed : Printed) (held : List ℕ) (after : Option (List ℕ)) (why : PlacesFault) → not_written (Err why) ≡ false → Stops ps held after why
+    → (text : List ℕ) × (after ≡ Some (held ++ text)) × OrCutShort ps printed (printed_after text (Err why))
+stopped ps printed held after (Fault fault) well x = (concat (take x.1.0 ps), x.1.1, inr (x.1.0, ap (failed_after (concat (take x.1.0 ps))) x.0))
+stopped ps printed held after NotWritten well x = cc
 
 pub unchanged : (held : List ℕ) (after : Option (List ℕ)) → after ≡ Some held → after ≡ Some (held ++ [])
 unchanged held after e = e ∙ ap (λ (t : List ℕ). Some t) (sym (append-nil held))
 
 -- a report is what is to be told, or memory was refused before anything was written
-pub given : (r : Result Report BenchFault) (t : Told) (ps : List (List ℕ)) → Gives r t → OrCutShort ps t (seen r)
+pub given : (r : Result Report BenchFault) (t : Printed) (ps : List (List ℕ)) → Gives r t → OrCutShort ps t (seen r)
 given (Ok report) t ps x = inl (sym x)
 given (Err fault) t ps (inl memory) = inr (0, ap (λ (f : BenchFault). failed f) memory)
 given (Err fault) t ps (inr x) = inl (sym x)
 
 -- the start of a run was written, and then its items, or some first of them
-pub with-start : (start : List ℕ) (items : List (List ℕ)) (held : List ℕ) (before after : Option (List ℕ)) (r : Result (Unit {0}) Untold) → not_written r ≡ false → before ≡ Some (held ++ start)
+pub with-start : (start : List ℕ) (items : List (List ℕ)) (held : List ℕ) (before after : Option (List ℕ)) (r : Result (Unit {0}) PlacesFault) → not_written r ≡ false → before ≡ Some (held ++ start)
     → OnOk r ((now : List ℕ) → before ≡ Some now → after ≡ Some (now ++ concat items)) → IfErr r (λ why. (now : List ℕ) → before ≡ Some now → Stops items now after why)
-    → (text : List ℕ) × (after ≡ Some (held ++ text)) × OrCutShort (start ∷ items) (done (concat (start ∷ items))) (told_after text r)
+    → (text : List ℕ) × (after ≡ Some (held ++ text)) × OrCutShort (start ∷ items) (done (concat (start ∷ items))) (printed_after text r)
 with-start start items held before after (Ok u) well is o e = (concat (start ∷ items), o (held ++ start) is ∙ ap (λ (t : List ℕ). Some t) (append_assoc held start (concat items)), inl refl)
 with-start start items held before after (Err why) well is o e = stopped (start ∷ items) (done (concat (start ∷ items))) held after why well (starts why (e (held ++ start) is))
   where
-    starts : (why : Untold) → Stops items (held ++ start) after why → Stops (start ∷ items) held after why
+    starts : (why : PlacesFault) → Stops items (held ++ start) after why → Stops (start ∷ items) held after why
     starts (Fault fault) x = (x.0, (suc x.1.0, x.1.1 ∙ ap (λ (t : List ℕ). Some t) (append_assoc held start (concat (take x.1.0 items)))))
     starts NotWritten x = tt
 
 -- a text was written whole where no write failed
-pub written-whole : (r : Result (Unit {0}) Untold) (text held : List ℕ) (before after : Option (List ℕ)) (broken : Bool) → broken ≡ is_err r → broken ≡ false → OnOk r (Appends before after text) → before ≡ Some held
-    → (t : List ℕ) × (after ≡ Some (held ++ t)) × OrCutShort [] (done text) (told_after t r)
+pub written-whole : (r : Result (Unit {0}) PlacesFault) (text held : List ℕ) (before after : Option (List ℕ)) (broken : Bool) → broken ≡ is_err r → broken ≡ false → OnOk r (Appends before after text) → before ≡ Some held
+    → (t : List ℕ) × (after ≡ Some (held ++ t)) × OrCutShort [] (done text) (printed_after t r)
 written-whole (Ok u) text held before after broken flag well o is = (text, appended held text before after is o, inl refl)
 written-whole (Err why) text held before after broken flag well o is = cc

@@ -7,11 +7,11 @@ use Rattle.h2_spec.specs.State.{State}
 use Rattle.h2_spec.specs.Trace.{Event, next_event}
 use Rattle.h2_conn.specs.Connection.{Connection, going}
 use Rattle.h2_spec.specs.View.{view}
-use Rattle.h2_bench.specs.Tell.{OrCutShort, Told, done, failed_after}
-use Rattle.h2_bench.specs.Told.{item_text, places_from, sent_and_state}
+use Rattle.h2_bench.specs.Printing.{OrCutShort, Printed, done, failed_after}
+use Rattle.h2_bench.specs.Printed.{item_text, places_from, sent_and_state}
 use Rattle.h2_bench.specs.declared.each.Taken.{Taken}
-use Rattle.h2_bench.specs.declared.each.Untold.{Untold}
-use Rattle.h2_bench.specs.declared.each.Untold.TheVariants.{Fault, NotWritten}
+use Rattle.h2_bench.specs.declared.each.PlacesFault.{PlacesFault}
+use Rattle.h2_bench.specs.declared.each.PlacesFault.TheVariants.{Fault, NotWritten}
 use Rattle.h2_bench.specs.declared.fault.BenchFault.TheVariants.{NoMemory}
 
 -- the next item was taken: so many octets, and those that are sent for it
@@ -28,25 +28,25 @@ TakesNext s b c None = next_event s b ≡ Stop
 TakesNext s b c (Some t) = TakesItem s b c t
 
 -- some first places were written, and then memory was refused; or a write failed
-abbrev pub Stops : List (List ℕ) → List ℕ → Option (List ℕ) → Untold → Type 0
+abbrev pub Stops : List (List ℕ) → List ℕ → Option (List ℕ) → PlacesFault → Type 0
 Stops places held after (Fault fault) = (fault ≡ NoMemory) × ((count : ℕ) × (after ≡ Some (held ++ concat (take count places))))
 Stops places held after NotWritten = Unit {0}
 
 -- whether a write failed
-abbrev pub not_written : Result (Unit {0}) Untold → Bool
+abbrev pub not_written : Result (Unit {0}) PlacesFault → Bool
 not_written (Ok u) = false
 not_written (Err (Fault fault)) = false
 not_written (Err NotWritten) = true
 
 -- what is reported in all, where a text was written and then it ended so
-abbrev pub told_after : List ℕ → Result (Unit {0}) Untold → Told
-told_after text (Ok u) = done text
-told_after text (Err (Fault fault)) = failed_after text fault
-told_after text (Err NotWritten) = record { text = text; status = 3 }
+abbrev pub printed_after : List ℕ → Result (Unit {0}) PlacesFault → Printed
+printed_after text (Ok u) = done text
+printed_after text (Err (Fault fault)) = failed_after text fault
+printed_after text (Err NotWritten) = record { text = text; status = 3 }
 
 -- the output gained a text, and that it ended so leads to such an answer
-abbrev pub WritesSome : (Told → Type 0) → Result (Unit {0}) Untold → Option (List ℕ) → Option (List ℕ) → Type 0
-WritesSome is_such ended before after = (held : List ℕ) → before ≡ Some held → (text : List ℕ) × (after ≡ Some (held ++ text)) × is_such (told_after text ended)
+abbrev pub WritesSome : (Printed → Type 0) → Result (Unit {0}) PlacesFault → Option (List ℕ) → Option (List ℕ) → Type 0
+WritesSome is_such ended before after = (held : List ℕ) → before ≡ Some held → (text : List ℕ) × (after ≡ Some (held ++ text)) × is_such (printed_after text ended)
 
 -- what is fed to a connection before it is reported
 abbrev pub fed_first : Bool → List ℕ → List ℕ
@@ -54,6 +54,6 @@ fed_first true octets = []
 fed_first false octets = octets
 
 -- what is reported of a state, for which this was sent: the places of its run over the octets, or some first of them; or what was sent, and the state
-abbrev pub TellsRun : Bool → State → List ℕ → List ℕ → Told → Type 0
-TellsRun true s sent octets t = let places = places_from (item_text 0 sent (view s)) s octets in OrCutShort places (done (concat places)) t
-TellsRun false s sent octets t = OrCutShort [] (done (sent_and_state sent (view s))) t
+abbrev pub PrintsRun : Bool → State → List ℕ → List ℕ → Printed → Type 0
+PrintsRun true s sent octets t = let places = places_from (item_text 0 sent (view s)) s octets in OrCutShort places (done (concat places)) t
+PrintsRun false s sent octets t = OrCutShort [] (done (sent_and_state sent (view s))) t

@@ -7,7 +7,7 @@ use Rattle.h2_spec.specs.Script.{kind_number}
 use Rattle.h2_spec.specs.Show.{joined}
 use Rattle.h2_spec.specs.Written.{written}
 use Rattle.h2_spec.specs.declared.scripts.SyntaxKind.{SyntaxKind}
-use Rattle.h2_bench.specs.Tell.{Told, done, failed}
+use Rattle.h2_bench.specs.Printing.{Printed, done, failed}
 use Rattle.h2_bench.specs.declared.fault.BenchFault.TheVariants.{Read, BadHex}
 
 -- the line that reports the first bad line of a script, counted from 1, and the least kind of fault in it
@@ -19,15 +19,15 @@ unfoldable pub hex_line : List ℕ → List ℕ
 hex_line octets = joined (encode_lower octets ∷ codes "\n" ∷ [])
 
 -- the octets of a script, or its first bad line
-abbrev pub told_assembled : Result (List ℕ) (ℕ × SyntaxKind) → Told
-told_assembled (Ok octets) = done (hex_line octets)
-told_assembled (Err (line, kind)) = record { text = syntax_line line kind; status = 1 }
+abbrev pub printed_assembled : Result (List ℕ) (ℕ × SyntaxKind) → Printed
+printed_assembled (Ok octets) = done (hex_line octets)
+printed_assembled (Err (line, kind)) = record { text = syntax_line line kind; status = 1 }
 
 -- `asm` of a text; what is not UTF-8 is not read
-abbrev pub told_asm : List ℕ → Told
-told_asm input = if is_utf8 input then told_assembled (assembled input) else failed Read
+abbrev pub printed_asm : List ℕ → Printed
+printed_asm input = if is_utf8 input then printed_assembled (assembled input) else failed Read
 
 -- `dis` of the octets that hex text spells
-abbrev pub told_dis : Option (List ℕ) → Told
-told_dis None = failed BadHex
-told_dis (Some octets) = done (written octets)
+abbrev pub printed_dis : Option (List ℕ) → Printed
+printed_dis None = failed BadHex
+printed_dis (Some octets) = done (written octets)

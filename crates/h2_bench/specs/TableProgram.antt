@@ -54,10 +54,10 @@ obeyed t (Some (Add name value)) = record t { table = insert t.table (field name
 obeyed t (Some (Max n)) = if nat_lt t.limit n then t else record t { table = resize t.table n }
 
 -- what is printed for it
-abbrev pub told_of : LimitedTable → Option Command → List ℕ
-told_of t None = fault_line 27
-told_of t (Some (Add name value)) = counts_line (insert t.table (field name value))
-told_of t (Some (Max n)) = if nat_lt t.limit n then fault_line 3 else counts_line (resize t.table n)
+abbrev pub printed_of : LimitedTable → Option Command → List ℕ
+printed_of t None = fault_line 27
+printed_of t (Some (Add name value)) = counts_line (insert t.table (field name value))
+printed_of t (Some (Max n)) = if nat_lt t.limit n then fault_line 3 else counts_line (resize t.table n)
 
 -- ---- the whole input
 
@@ -88,10 +88,10 @@ unfolding line_at parse_all
 lines_of text = (parse_all line_at tt text).elements
 
 -- what is printed for the lines, and then the entries
-unfoldable pub told_lines : LimitedTable → List (List ℕ) → List ℕ
-told_lines t [] = entry_lines 62 t.table.entries
-told_lines t (line ∷ lines) = told_of t (command_of line) ++ told_lines (obeyed t (command_of line)) lines
+unfoldable pub printed_lines : LimitedTable → List (List ℕ) → List ℕ
+printed_lines t [] = entry_lines 62 t.table.entries
+printed_lines t (line ∷ lines) = printed_of t (command_of line) ++ printed_lines (obeyed t (command_of line)) lines
 
 unfoldable pub table_text : ℕ → List ℕ → List ℕ
-unfolding lines_of told_lines
-table_text limit input = told_lines (record { table = record { entries = []; max = limit }; limit = limit }) (lines_of input)
+unfolding lines_of printed_lines
+table_text limit input = printed_lines (record { table = record { entries = []; max = limit }; limit = limit }) (lines_of input)

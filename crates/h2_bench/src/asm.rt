@@ -3,8 +3,8 @@
 
 ghost use Rattle.std.specs.Prelude.{◌≡◌, ◌<◌, IfOk};
 ghost use Rattle.std.specs.String.{string_bytes};
-ghost use Rattle.h2_bench.specs.Answers.{Gives};
-ghost use Rattle.h2_bench.specs.ScriptPrograms.{hex_line, syntax_line, told_asm};
+ghost use Rattle.h2_bench.specs.Reports.{Gives};
+ghost use Rattle.h2_bench.specs.ScriptPrograms.{hex_line, syntax_line, printed_asm};
 
 use crate::fault::BenchFault;
 use crate::report::Report;
@@ -35,7 +35,7 @@ fn syntax_line(alloc: Global, line: usize, kind: SyntaxKind) -> Result<String, A
 /// `Read` where the input is not UTF-8, `NoMemory` where memory is refused.
 pub fn asm_report(alloc: Global, input: &[u8]) -> Result<Report, BenchFault>
     ensures status { IfOk result (λ report. report.status < 3) }
-    ensures gives { Gives result (told_asm input.now) }
+    ensures gives { Gives result (printed_asm input.now) }
 {
     let Ok(text) = str::from_utf8(input) else {
         return Err(BenchFault::Read);

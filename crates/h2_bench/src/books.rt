@@ -6,7 +6,7 @@ ghost use Rattle.h2_request.specs.Fault as book;
 ghost use Rattle.h2_request.specs.declared.fault.BookFault.TheVariants as books;
 ghost use Rattle.h2_words.specs.Plans.{book_asked};
 ghost use Rattle.h2_bench.specs.Books.{book_filed, book_of, book_said, with_answer};
-ghost use Rattle.h2_bench.specs.Ends.{KnowsFile};
+ghost use Rattle.h2_bench.specs.ProgramEnd.{KnowsFile};
 ghost use Rattle.h2_bench.specs.Faults.{fault_number};
 ghost use Rattle.h2_bench.specs.declared.fault.BenchFault.TheVariants.{NoMemory};
 
@@ -104,9 +104,9 @@ fn add_file<F: Files>(
     book: &mut Book<Global>,
 ) -> Result<(), BookFileFault>
     requires { book.old ≡ [] }
-    ensures ok { KnowsFile path.now (F.is_told files.old)
+    ensures ok { KnowsFile path.now (F.is_printed files.old)
         → OnOk result (book_filed (F.file files.old) path.now ≡ Ok book.new) }
-    ensures err { KnowsFile path.now (F.is_told files.old) → IfErr result (λ fault. 0 < fault
+    ensures err { KnowsFile path.now (F.is_printed files.old) → IfErr result (λ fault. 0 < fault
         → book_filed (F.file files.old) path.now ≡ Err fault) }
 {
     if path.is_empty() {
@@ -152,9 +152,9 @@ pub fn book_for_words<F: Files, E: Output>(
     files: &mut F,
     errors: &mut E,
 ) -> Result<Book<Global>, BenchFault>
-    ensures ok { KnowsFile words.now.file.now (F.is_told files.old)
+    ensures ok { KnowsFile words.now.file.now (F.is_printed files.old)
         → IfOk result (λ book. book_said (F.file files.old) (book_asked words.now) ≡ Ok book) }
-    ensures err { KnowsFile words.now.file.now (F.is_told files.old)
+    ensures err { KnowsFile words.now.file.now (F.is_printed files.old)
         → IfErr result (λ fault. (fault ≡ NoMemory)
         ⊎ (book_said (F.file files.old) (book_asked words.now) ≡ Err (fault_number fault))) }
     ensures calm { OnOk result (errors.new ≡ errors.old) }

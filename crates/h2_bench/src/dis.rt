@@ -1,9 +1,9 @@
 //! The program `dis`: the script of the octets that hex text spells.
 //! Rests on h2_script and `input`; definitions: `specs/ScriptPrograms.antt`.
 
-ghost use Rattle.h2_bench.specs.Answers.{Meets};
+ghost use Rattle.h2_bench.specs.Reports.{Meets};
 ghost use Rattle.h2_bench.specs.Input.{octets_spelled};
-ghost use Rattle.h2_bench.specs.ScriptPrograms.{told_dis};
+ghost use Rattle.h2_bench.specs.ScriptPrograms.{printed_dis};
 
 use crate::fault::BenchFault;
 use crate::input::read_hex;
@@ -14,7 +14,7 @@ use std::alloc::Global;
 ///
 /// `BadHex` where the input is no hex text, `NoMemory` where memory is refused.
 pub fn dis_text(alloc: Global, input: &[u8]) -> Result<String, BenchFault>
-    ensures { Meets result (told_dis (octets_spelled input.now)) }
+    ensures { Meets result (printed_dis (octets_spelled input.now)) }
 {
     let octets = match read_hex(alloc, input) {
         Ok(octets) => octets,

@@ -1,16 +1,16 @@
 //! A connection that is reported place by place: the start, and then each item. What is reported is written as it is made, so that its text takes no memory.
-//! Rests on h2_device and h2_conn; definitions: `specs/Told.antt`, `specs/Each.antt`.
+//! Rests on h2_device and h2_conn; definitions: `specs/Printed.antt`, `specs/Each.antt`.
 
 ghost use Rattle.std.specs.Prelude.{◌≡◌, ◌⊎◌, ◌≤◌, ◌<◌, ◌^◌, ◌++◌, ℕ, List, [], Some, false, drop, length, IfOk, IfErr, OnOk, is_err, string_bytes};
 ghost use Rattle.std.specs.Io.KnownBytes.{Appends};
-ghost use Rattle.h2_bench.specs.declared.each.Untold.TheVariants.{Fault, NotWritten};
+ghost use Rattle.h2_bench.specs.declared.each.PlacesFault.TheVariants.{Fault, NotWritten};
 ghost use Rattle.h2_bench.specs.declared.fault.BenchFault.TheVariants.{NoMemory};
 ghost use Rattle.std.specs.List.{concat};
 ghost use Rattle.h2_spec.specs.Trace.{trace};
 ghost use Rattle.h2_spec.specs.View.{view};
 ghost use Rattle.h2_conn.specs.Connection.{going};
 ghost use Rattle.h2_bench.specs.Each.{Stops, TakesNext, WritesSome, not_written};
-ghost use Rattle.h2_bench.specs.Told.{OrCutShort, done, item_text, item_texts, places_from};
+ghost use Rattle.h2_bench.specs.Printed.{OrCutShort, done, item_text, item_texts, places_from};
 
 use crate::fault::BenchFault;
 use h2_conn::Conn;
@@ -21,7 +21,7 @@ use std::fmt;
 
 /// Why places were not all written.
 #[derive(Clone, Copy)]
-pub enum Untold {
+pub enum PlacesFault {
     /// A fault, whose line is still to be written.
     Fault(BenchFault),
     /// A write of the output failed.
@@ -43,7 +43,7 @@ struct PlaceText<'p, 'b> {
     conn: &'p Conn<'b, Global>,
 }
 
-#[tactic(auto, unfolding(crate::specs::Told::item_text))]
+#[tactic(auto, unfolding(crate::specs::Printed::item_text))]
 impl fmt::Display for PlaceText<'_, '_> {
     ghost output = { λ x. Some (item_text x.place x.sent.now (view x.conn.now.state)) };
 
@@ -63,7 +63,7 @@ fn octets_from(octets: &[u8], start: usize) -> &[u8]
 }
 
 /// Writes a text, or says that it was not written.
-pub fn write_text<O: Output>(output: &mut O, text: &str) -> Result<(), Untold>
+pub fn write_text<O: Output>(output: &mut O, text: &str) -> Result<(), PlacesFault>
     ensures octets { OnOk result (Appends (O.written output.old) (O.written output.new) text.now) }
     ensures err { IfErr result (λ why. why ≡ NotWritten) }
     ensures flag { O.has_failed output.new ≡ is_err result }
@@ -71,7 +71,7 @@ pub fn write_text<O: Output>(output: &mut O, text: &str) -> Result<(), Untold>
 {
     match output.write(text.as_bytes()) {
         Ok(()) => Ok(()),
-        Err(_) => Err(Untold::NotWritten),
+        Err(_) => Err(PlacesFault::NotWritten),
     }
 }
 
@@ -96,7 +96,7 @@ fn write_place<O: Output>(
     place: usize,
     sent: &[u8],
     conn: &Conn<'_, Global>,
-) -> Result<(), Untold>
+) -> Result<(), PlacesFault>
     requires { O.has_failed output.old ≡ false }
     ensures octets { OnOk result (Appends (O.written output.old) (O.written output.new) (item_text place sent.now (view conn.now.state))) }
     ensures err { IfErr result (λ why. (why ≡ NotWritten) ⊎ ((why ≡ Fault NoMemory) × (O.written output.new ≡ O.written output.old))) }
@@ -105,7 +105,7 @@ fn write_place<O: Output>(
 {
     match place_text(alloc, place, sent, conn) {
         Ok(text) => write_text(output, text.as_str()),
-        Err(_) => Err(Untold::Fault(BenchFault::NoMemory)),
+        Err(_) => Err(PlacesFault::Fault(BenchFault::NoMemory)),
     }
 }
 
@@ -138,11 +138,11 @@ fn write_items<O: Output>(
     conn: &mut Conn<'_, Global>,
     octets: &[u8],
     output: &mut O,
-) -> Result<(), Untold>
+) -> Result<(), PlacesFault>
     requires new { conn.old ≡ going conn.old.state [] }
     requires few { length octets.now < 2 ^ 63 }
     requires writer { O.has_failed output.old ≡ false }
-    ensures told { let items = item_texts 1 (trace conn.old.state octets.now).events in
+    ensures printed { let items = item_texts 1 (trace conn.old.state octets.now).events in
         OnOk result ((held : List ℕ) → O.written output.old ≡ Some held → O.written output.new ≡ Some (held ++ concat items)) }
     ensures cut { let items = item_texts 1 (trace conn.old.state octets.now).events in
         IfErr result (λ why. (held : List ℕ) → O.written output.old ≡ Some held → Stops items held (O.written output.new) why) }
@@ -163,7 +163,7 @@ fn write_items<O: Output>(
                 }
             }
             Ok(None) => return Ok(()),
-            Err(_) => return Err(Untold::Fault(BenchFault::NoMemory)),
+            Err(_) => return Err(PlacesFault::Fault(BenchFault::NoMemory)),
         }
     }
 }
@@ -177,11 +177,11 @@ pub fn write_places<O: Output>(
     sent: &[u8],
     octets: &[u8],
     output: &mut O,
-) -> Result<(), Untold>
+) -> Result<(), PlacesFault>
     requires new { conn.old ≡ going conn.old.state [] }
     requires few { length octets.now < 2 ^ 63 }
     requires writer { O.has_failed output.old ≡ false }
-    ensures told { O.has_failed output.new ≡ false → let places = places_from (item_text 0 sent.now (view conn.old.state)) conn.old.state octets.now in
+    ensures printed { O.has_failed output.new ≡ false → let places = places_from (item_text 0 sent.now (view conn.old.state)) conn.old.state octets.now in
         WritesSome (OrCutShort places (done (concat places))) result (O.written output.old) (O.written output.new) }
     ensures flag { O.has_failed output.new ≡ not_written result }
     ensures name { O.name output.new ≡ O.name output.old }

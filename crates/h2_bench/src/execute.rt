@@ -1,24 +1,24 @@
 //! A command, from its words and its input to its output and the exit status. Rests on `books`, `input`, `play`,
-//! `asm`, `dis`, `table`, h2_session and h2_device; definitions: `specs/Told.antt`, `specs/Ends.antt`.
+//! `asm`, `dis`, `table`, h2_session and h2_device; definitions: `specs/Printed.antt`, `specs/ProgramEnd.antt`.
 
 ghost use Rattle.std.specs.Prelude.{◌≡◌, ◌==◌, ◌<◌, ◌⊎◌, ◌++◌, ℕ, Bool, List, Some, None, Ok, Err, true, false, IfOk, IfErr, OnOk};
 ghost use Rattle.h2_spec.specs.declared.connection.Config.{Config};
 ghost use Rattle.h2_words.specs.Grammar.{BatchAsked, BookAsked, asked_of, batch, debug};
 ghost use Rattle.h2_words.specs.Plans.{batch_asked, book_asked};
-ghost use Rattle.h2_bench.specs.Answers.{Gives, seen};
+ghost use Rattle.h2_bench.specs.Reports.{Gives, seen};
 ghost use Rattle.h2_bench.specs.Books.{book_in};
-ghost use Rattle.h2_bench.specs.Each.{not_written, told_after};
-ghost use Rattle.h2_bench.specs.Ends.{Ends, EndsServe, EndsSession, EndsSomehow, KnowsFile, Tells, TellsRefusal, TellsSome, asks_why, asks_why_batch, file_of, is_reader, is_serve, no_files};
+ghost use Rattle.h2_bench.specs.Each.{not_written, printed_after};
+ghost use Rattle.h2_bench.specs.ProgramEnd.{EndsBatch, EndsServe, EndsSession, EndsSomehow, KnowsFile, Prints, PrintsRefusal, PrintsSome, asks_why, asks_why_batch, file_of, is_reader, is_serve, no_files};
 ghost use Rattle.h2_bench.specs.Faults.{fault_number};
 ghost use Rattle.h2_bench.specs.Input.{octets_spelled};
 ghost use Rattle.h2_bench.specs.TableProgram.{table_text};
-ghost use Rattle.h2_bench.specs.Told.{OrCutShort, done, failed, places, places_play, told, told_play};
+ghost use Rattle.h2_bench.specs.Printed.{OrCutShort, done, failed, places, places_play, printed, printed_play};
 ghost use Rattle.h2_bench.specs.declared.fault.BenchFault.TheVariants.{NoMemory};
 
 use crate::asm::asm_report;
 use crate::books::book_for_words;
 use crate::dis::dis_text;
-use crate::each::{Untold, write_text};
+use crate::each::{PlacesFault, write_text};
 use crate::fault::BenchFault;
 use crate::input::read_all;
 use crate::play::write_play;
@@ -41,9 +41,9 @@ fn book_for<F: Files, E: Output>(
     files: &mut F,
     errors: &mut E,
 ) -> Result<Book<Global>, BenchFault>
-    ensures ok { KnowsFile (file_of (batch_asked batch.now)) (F.is_told files.old)
+    ensures ok { KnowsFile (file_of (batch_asked batch.now)) (F.is_printed files.old)
         → IfOk result (λ book. book_in (F.file files.old) (batch_asked batch.now) ≡ Ok book) }
-    ensures err { KnowsFile (file_of (batch_asked batch.now)) (F.is_told files.old)
+    ensures err { KnowsFile (file_of (batch_asked batch.now)) (F.is_printed files.old)
         → IfErr result (λ fault. (fault ≡ NoMemory)
         ⊎ (book_in (F.file files.old) (batch_asked batch.now) ≡ Err (fault_number fault))) }
     ensures calm { OnOk result (errors.new ≡ errors.old) }
@@ -57,11 +57,11 @@ fn book_for<F: Files, E: Output>(
 }
 
 /// Writes a text, and gives its status, or 3 where that failed.
-fn tell<O: Output>(output: &mut O, text: &str, status: u8) -> u8
+fn print<O: Output>(output: &mut O, text: &str, status: u8) -> u8
     requires writer { O.has_failed output.old ≡ false }
     requires status { status < 3 }
-    ensures told { O.has_failed output.new ≡ false → (held : List ℕ) → O.written output.old ≡ Some held
-        → Tells (record { text = text.now; status = status }) held (O.written output.new) result }
+    ensures printed { O.has_failed output.new ≡ false → (held : List ℕ) → O.written output.old ≡ Some held
+        → Prints (record { text = text.now; status = status }) held (O.written output.new) result }
     ensures flag { O.has_failed output.new ≡ (result == 3) }
     ensures name { O.name output.new ≡ O.name output.old }
 {
@@ -72,36 +72,36 @@ fn tell<O: Output>(output: &mut O, text: &str, status: u8) -> u8
 }
 
 /// Writes the line of a fault, and gives status 1, or 3 where that failed.
-fn tell_fault<O: Output>(output: &mut O, fault: BenchFault) -> u8
+fn print_fault<O: Output>(output: &mut O, fault: BenchFault) -> u8
     requires { O.has_failed output.old ≡ false }
-    ensures told { O.has_failed output.new ≡ false → (held : List ℕ) → O.written output.old ≡ Some held
-        → Tells (failed fault) held (O.written output.new) result }
+    ensures printed { O.has_failed output.new ≡ false → (held : List ℕ) → O.written output.old ≡ Some held
+        → Prints (failed fault) held (O.written output.new) result }
     ensures flag { O.has_failed output.new ≡ (result == 3) }
     ensures name { O.name output.new ≡ O.name output.old }
 {
-    tell(output, fault.line(), 1)
+    print(output, fault.line(), 1)
 }
 
 /// Writes an answer: a text with its status, or the line of a fault with status 1.
-fn tell_answer<O: Output>(output: &mut O, answer: Result<Report, BenchFault>) -> u8
+fn print_answer<O: Output>(output: &mut O, answer: Result<Report, BenchFault>) -> u8
     requires writer { O.has_failed output.old ≡ false }
     requires status { IfOk answer (λ report. report.status < 3) }
-    ensures told { O.has_failed output.new ≡ false → (held : List ℕ) → O.written output.old ≡ Some held
-        → Tells (seen answer) held (O.written output.new) result }
+    ensures printed { O.has_failed output.new ≡ false → (held : List ℕ) → O.written output.old ≡ Some held
+        → Prints (seen answer) held (O.written output.new) result }
     ensures flag { O.has_failed output.new ≡ (result == 3) }
     ensures name { O.name output.new ≡ O.name output.old }
 {
     match answer {
-        Ok(report) => tell(output, report.text.as_str(), report.status),
-        Err(fault) => tell_fault(output, fault),
+        Ok(report) => print(output, report.text.as_str(), report.status),
+        Err(fault) => print_fault(output, fault),
     }
 }
 
 /// Writes what is left to tell of places that were written: the line of a fault that ended them. Gives the status.
-fn tell_end<O: Output>(output: &mut O, ended: Result<(), Untold>) -> u8
+fn print_end<O: Output>(output: &mut O, ended: Result<(), PlacesFault>) -> u8
     requires { O.has_failed output.old ≡ not_written ended }
-    ensures told { O.has_failed output.new ≡ false → (held text : List ℕ) → O.written output.old ≡ Some (held ++ text)
-        → Tells (told_after text ended) held (O.written output.new) result }
+    ensures printed { O.has_failed output.new ≡ false → (held text : List ℕ) → O.written output.old ≡ Some (held ++ text)
+        → Prints (printed_after text ended) held (O.written output.new) result }
     ensures kept { O.has_failed output.new ≡ false → O.has_failed output.old ≡ false }
     ensures flag { O.has_failed output.new ≡ (result == 3) }
     ensures name { O.name output.new ≡ O.name output.old }
@@ -109,14 +109,14 @@ fn tell_end<O: Output>(output: &mut O, ended: Result<(), Untold>) -> u8
     match ended {
         Ok(()) => 0,
         Err(why) => match why {
-            Untold::Fault(fault) => tell_fault(output, fault),
-            Untold::NotWritten => 3,
+            PlacesFault::Fault(fault) => print_fault(output, fault),
+            PlacesFault::NotWritten => 3,
         },
     }
 }
 
 /// Plays a connection over a whole input, and reports it.
-fn tell_played<O: Output>(
+fn print_played<O: Output>(
     alloc: Global,
     play: &Play<'_>,
     book: &Book<Global>,
@@ -124,14 +124,14 @@ fn tell_played<O: Output>(
     output: &mut O,
 ) -> u8
     requires { O.has_failed output.old ≡ false }
-    ensures told { O.has_failed output.new ≡ false → let spelled = octets_spelled input.items in
-        TellsSome (OrCutShort (places_play play.now.each book.now play.now.config spelled) (told_play play.now.each book.now play.now.config spelled))
+    ensures printed { O.has_failed output.new ≡ false → let spelled = octets_spelled input.items in
+        PrintsSome (OrCutShort (places_play play.now.each book.now play.now.config spelled) (printed_play play.now.each book.now play.now.config spelled))
         (O.written output.old) (O.written output.new) result }
     ensures flag { O.has_failed output.new ≡ (result == 3) }
     ensures name { O.name output.new ≡ O.name output.old }
 {
     let ended = write_play(alloc, play, book, input, output);
-    tell_end(output, ended)
+    print_end(output, ended)
 }
 
 /// What `table` answers to a whole input.
@@ -146,7 +146,7 @@ fn table_report(alloc: Global, limit: u32, input: &[u8]) -> Result<Report, Bench
 }
 
 /// Does a command over a whole input, with its book. The input is given back once it is read.
-fn tell_input<O: Output>(
+fn print_input<O: Output>(
     alloc: Global,
     batch: &Batch<'_>,
     book: &Book<Global>,
@@ -154,18 +154,18 @@ fn tell_input<O: Output>(
     output: &mut O,
 ) -> u8
     requires { O.has_failed output.old ≡ false }
-    ensures told { O.has_failed output.new ≡ false
-        → TellsSome (OrCutShort (places book.now (batch_asked batch.now) input.items) (told book.now
+    ensures printed { O.has_failed output.new ≡ false
+        → PrintsSome (OrCutShort (places book.now (batch_asked batch.now) input.items) (printed book.now
         (batch_asked batch.now) input.items))
         (O.written output.old) (O.written output.new) result }
     ensures flag { O.has_failed output.new ≡ (result == 3) }
     ensures name { O.name output.new ≡ O.name output.old }
 {
     match batch {
-        Batch::Play(play) => tell_played(alloc, play, book, input, output),
-        Batch::Asm => tell_answer(output, asm_report(alloc, input.as_slice())),
-        Batch::Dis => tell_answer(output, whole(dis_text(alloc, input.as_slice()))),
-        Batch::Table(limit) => tell_answer(output, table_report(alloc, *limit, input.as_slice())),
+        Batch::Play(play) => print_played(alloc, play, book, input, output),
+        Batch::Asm => print_answer(output, asm_report(alloc, input.as_slice())),
+        Batch::Dis => print_answer(output, whole(dis_text(alloc, input.as_slice()))),
+        Batch::Table(limit) => print_answer(output, table_report(alloc, *limit, input.as_slice())),
     }
 }
 
@@ -180,8 +180,8 @@ fn respond<F: Files, I: Input, O: Output, E: Output>(
 ) -> u8
     requires reader { I.has_failed input.old ≡ false }
     requires writer { O.has_failed output.old ≡ false }
-    ensures told { KnowsFile (file_of (batch_asked batch.now)) (F.is_told files.old) → O.has_failed output.new ≡ false
-        → Ends (F.file files.old) (batch_asked batch.now) (I.remaining input.old) (I.has_failed input.new)
+    ensures printed { KnowsFile (file_of (batch_asked batch.now)) (F.is_printed files.old) → O.has_failed output.new ≡ false
+        → EndsBatch (F.file files.old) (batch_asked batch.now) (I.remaining input.old) (I.has_failed input.new)
         (O.written output.old) (O.written output.new) result }
     ensures flag { O.has_failed output.new ≡ (result == 3) }
     ensures input { I.name input.new ≡ I.name input.old }
@@ -191,11 +191,11 @@ fn respond<F: Files, I: Input, O: Output, E: Output>(
 {
     let book = match book_for(alloc, batch, files, errors) {
         Ok(book) => book,
-        Err(fault) => return tell_fault(output, fault),
+        Err(fault) => return print_fault(output, fault),
     };
     match read_all(alloc, input) {
-        Ok(octets) => tell_input(alloc, batch, &book, octets, output),
-        Err(fault) => tell_fault(output, fault),
+        Ok(octets) => print_input(alloc, batch, &book, octets, output),
+        Err(fault) => print_fault(output, fault),
     }
 }
 
@@ -210,7 +210,7 @@ fn debug<F: Files, I: Input, O: Output, E: Output>(
 ) -> u8
     requires reader { I.has_failed input.old ≡ false }
     requires writer { O.has_failed output.old ≡ false }
-    ensures told { KnowsFile debug.now.book.file.now (F.is_told files.old) → O.has_failed output.new ≡ false
+    ensures printed { KnowsFile debug.now.book.file.now (F.is_printed files.old) → O.has_failed output.new ≡ false
         → EndsSession (F.file files.old) debug.now.config (book_asked debug.now.book) (I.remaining input.old)
         (I.remaining input.new) (I.has_failed input.new) (O.written output.old) (O.written output.new) result }
     ensures flag { O.has_failed output.new ≡ (result == 3) }
@@ -221,7 +221,7 @@ fn debug<F: Files, I: Input, O: Output, E: Output>(
 {
     match book_for_words(alloc, &debug.book, files, errors) {
         Ok(book) => debug_session(alloc, &book, debug.config, input, output),
-        Err(fault) => tell_fault(output, fault),
+        Err(fault) => print_fault(output, fault),
     }
 }
 
@@ -244,18 +244,18 @@ pub fn run_on<F: Files, I: Input, O: Output, E: Output>(
 ) -> u8
     requires reader { I.has_failed input.old ≡ false }
     requires writer { O.has_failed output.old ≡ false }
-    ensures told { (asked : BatchAsked) → asked_of words.now ≡ Some (batch asked)
-        → KnowsFile (file_of asked) (F.is_told files.old) → O.has_failed output.new ≡ false
-        → Ends (F.file files.old) asked (I.remaining input.old) (I.has_failed input.new) (O.written output.old)
+    ensures printed { (asked : BatchAsked) → asked_of words.now ≡ Some (batch asked)
+        → KnowsFile (file_of asked) (F.is_printed files.old) → O.has_failed output.new ≡ false
+        → EndsBatch (F.file files.old) asked (I.remaining input.old) (I.has_failed input.new) (O.written output.old)
         (O.written output.new) result }
     ensures debugs { (config : Config) → (book : BookAsked) → asked_of words.now ≡ Some (debug config book)
-        → KnowsFile book.file (F.is_told files.old) → O.has_failed output.new ≡ false
+        → KnowsFile book.file (F.is_printed files.old) → O.has_failed output.new ≡ false
         → EndsSession (F.file files.old) config book (I.remaining input.old) (I.remaining input.new)
         (I.has_failed input.new) (O.written output.old) (O.written output.new) result }
     ensures serves { is_serve (asked_of words.now) ≡ true → O.has_failed output.new ≡ false
         → EndsServe (O.written output.old) (O.written output.new) result }
     ensures refused { asked_of words.now ≡ None → O.has_failed output.new ≡ false
-        → TellsRefusal (O.written output.old) (O.written output.new) result }
+        → PrintsRefusal (O.written output.old) (O.written output.new) result }
     ensures unread { is_reader (asked_of words.now) ≡ false → (I.remaining input.new ≡ I.remaining input.old)
         × (I.has_failed input.new ≡ false) }
     ensures flag { O.has_failed output.new ≡ (result == 3) }
@@ -268,8 +268,8 @@ pub fn run_on<F: Files, I: Input, O: Output, E: Output>(
         Ok(Plan::Batch(batch)) => respond(alloc, &batch, files, input, output, errors),
         Ok(Plan::Debug(plan)) => debug(alloc, &plan, files, input, output, errors),
         Ok(Plan::Serve(_)) => 2,
-        Err(Refusal::Words(text)) => tell(output, text.as_str(), 2),
-        Err(Refusal::NoMemory) => tell_fault(output, BenchFault::NoMemory),
+        Err(Refusal::Words(text)) => print(output, text.as_str(), 2),
+        Err(Refusal::NoMemory) => print_fault(output, BenchFault::NoMemory),
     }
 }
 
@@ -277,7 +277,7 @@ pub fn run_on<F: Files, I: Input, O: Output, E: Output>(
 /// no files, so that a book's file is refused, and reasons are not written anywhere. The output had better be
 /// buffered, and flushed afterwards.
 pub fn run<R: Read, W: Write>(alloc: Global, words: &Words, input: &mut R, output: &mut W) -> u8
-    ensures told { (asked : BatchAsked) → asked_of words.now ≡ Some (batch asked) → EndsSomehow no_files asked
+    ensures printed { (asked : BatchAsked) → asked_of words.now ≡ Some (batch asked) → EndsSomehow no_files asked
         (R.remaining input.old) (W.contents output.old) (W.contents output.new) result }
     ensures debugs { (config : Config) → (book : BookAsked) → asked_of words.now ≡ Some (debug config book)
         → (result ≡ 3)
@@ -285,7 +285,7 @@ pub fn run<R: Read, W: Write>(alloc: Global, words: &Words, input: &mut R, outpu
     ensures serves { is_serve (asked_of words.now) ≡ true → (result ≡ 3)
         ⊎ EndsServe (W.contents output.old) (W.contents output.new) result }
     ensures refused { asked_of words.now ≡ None → (result ≡ 3)
-        ⊎ TellsRefusal (W.contents output.old) (W.contents output.new) result }
+        ⊎ PrintsRefusal (W.contents output.old) (W.contents output.new) result }
     ensures unread { is_reader (asked_of words.now) ≡ false → R.remaining input.new ≡ R.remaining input.old }
 {
     let mut files = FilesInMemory { files: &[] };

@@ -1,19 +1,19 @@
 //! The program `play`: a connection over the octets that hex text spells.
-//! Rests on `each` and h2_conn; definitions: `specs/Told.antt`.
+//! Rests on `each` and h2_conn; definitions: `specs/Printed.antt`.
 
 ghost use Rattle.std.specs.Prelude.{◌≡◌, ◌⊎◌, ◌<◌, ◌^◌, [], Ok, Err, Some, true, false, length, map, is_some, string_bytes, IfErr, IfOk, OnOk};
 ghost use Rattle.h2_spec.specs.View.{view};
 ghost use Rattle.h2_conn.specs.Connection.{going, is_allowed};
 ghost use Rattle.h2_conn.specs.Runs.{Opens};
-ghost use Rattle.h2_bench.specs.Each.{TellsRun, WritesSome, fed_first, not_written};
+ghost use Rattle.h2_bench.specs.Each.{PrintsRun, WritesSome, fed_first, not_written};
 ghost use Rattle.h2_bench.specs.Input.{IsNoHex, octets_spelled};
 ghost use Rattle.h2_bench.specs.Limits.{limits_fault};
-ghost use Rattle.h2_bench.specs.declared.each.Untold.TheVariants.{Fault};
+ghost use Rattle.h2_bench.specs.declared.each.PlacesFault.TheVariants.{Fault};
 ghost use Rattle.h2_bench.specs.Pieces.{piece_lengths};
-ghost use Rattle.h2_bench.specs.Told.{OrCutShort, done, places_play, places_played, sent_and_state, told_play, told_played};
+ghost use Rattle.h2_bench.specs.Printed.{OrCutShort, done, places_play, places_played, sent_and_state, printed_play, printed_played};
 ghost use Rattle.h2_bench.specs.declared.fault.BenchFault.TheVariants.{BadConfig, NoMemory};
 
-use crate::each::{Untold, write_places, write_text};
+use crate::each::{PlacesFault, write_places, write_text};
 use crate::fault::BenchFault;
 use crate::input::{is_hex_text, read_hex};
 use h2_conn::play::open_and_feed;
@@ -33,7 +33,7 @@ struct PlayedText<'p, 'b> {
     conn: &'p Conn<'b, Global>,
 }
 
-#[tactic(auto, unfolding(crate::specs::Told::sent_and_state))]
+#[tactic(auto, unfolding(crate::specs::Printed::sent_and_state))]
 impl fmt::Display for PlayedText<'_, '_> {
     ghost output = { λ x. Some (sent_and_state x.sent.now (view x.conn.now.state)) };
 
@@ -96,16 +96,16 @@ fn write_sent<O: Output>(
     conn: &Conn<'_, Global>,
     sent: &[u8],
     output: &mut O,
-) -> Result<(), Untold>
+) -> Result<(), PlacesFault>
     requires { O.has_failed output.old ≡ false }
-    ensures told { O.has_failed output.new ≡ false → WritesSome (OrCutShort [] (done (sent_and_state sent.now (view conn.now.state))))
+    ensures printed { O.has_failed output.new ≡ false → WritesSome (OrCutShort [] (done (sent_and_state sent.now (view conn.now.state))))
         result (O.written output.old) (O.written output.new) }
     ensures flag { O.has_failed output.new ≡ not_written result }
     ensures name { O.name output.new ≡ O.name output.old }
 {
     match played_text(alloc, conn, sent) {
         Ok(text) => write_text(output, text.as_str()),
-        Err(_) => Err(Untold::Fault(BenchFault::NoMemory)),
+        Err(_) => Err(PlacesFault::Fault(BenchFault::NoMemory)),
     }
 }
 
@@ -117,11 +117,11 @@ fn write_conn<O: Output>(
     sent: &[u8],
     octets: &[u8],
     output: &mut O,
-) -> Result<(), Untold>
+) -> Result<(), PlacesFault>
     requires new { each ≡ true → conn.old ≡ going conn.old.state [] }
     requires few { length octets.now < 2 ^ 63 }
     requires writer { O.has_failed output.old ≡ false }
-    ensures told { O.has_failed output.new ≡ false → WritesSome (TellsRun each conn.old.state sent.now octets.now) result (O.written output.old) (O.written output.new) }
+    ensures printed { O.has_failed output.new ≡ false → WritesSome (PrintsRun each conn.old.state sent.now octets.now) result (O.written output.old) (O.written output.new) }
     ensures flag { O.has_failed output.new ≡ not_written result }
     ensures name { O.name output.new ≡ O.name output.old }
 {
@@ -139,10 +139,10 @@ fn write_played<O: Output>(
     book: &Book<Global>,
     octets: &[u8],
     output: &mut O,
-) -> Result<(), Untold>
+) -> Result<(), PlacesFault>
     requires few { length octets.now < 2 ^ 63 }
     requires writer { O.has_failed output.old ≡ false }
-    ensures told { O.has_failed output.new ≡ false → WritesSome (OrCutShort (places_played play.now.each book.now play.now.config octets.now) (told_played play.now.each book.now play.now.config octets.now))
+    ensures printed { O.has_failed output.new ≡ false → WritesSome (OrCutShort (places_played play.now.each book.now play.now.config octets.now) (printed_played play.now.each book.now play.now.config octets.now))
         result (O.written output.old) (O.written output.new) }
     ensures flag { O.has_failed output.new ≡ not_written result }
     ensures name { O.name output.new ≡ O.name output.old }
@@ -154,7 +154,7 @@ fn write_played<O: Output>(
             let sent = sent.as_slice();
             write_conn(alloc, play.each, &mut conn, sent, octets, output)
         }
-        Err(fault) => Err(Untold::Fault(fault)),
+        Err(fault) => Err(PlacesFault::Fault(fault)),
     }
 }
 
@@ -194,20 +194,20 @@ pub fn write_play<O: Output>(
     book: &Book<Global>,
     input: Vec<u8>,
     output: &mut O,
-) -> Result<(), Untold>
+) -> Result<(), PlacesFault>
     requires { O.has_failed output.old ≡ false }
-    ensures told { O.has_failed output.new ≡ false → let spelled = octets_spelled input.items in
-        WritesSome (OrCutShort (places_play play.now.each book.now play.now.config spelled) (told_play play.now.each book.now play.now.config spelled))
+    ensures printed { O.has_failed output.new ≡ false → let spelled = octets_spelled input.items in
+        WritesSome (OrCutShort (places_play play.now.each book.now play.now.config spelled) (printed_play play.now.each book.now play.now.config spelled))
         result (O.written output.old) (O.written output.new) }
     ensures memory { result ≡ Err (Fault NoMemory) → (is_allowed play.now.config ≡ true) × (is_some (octets_spelled input.items) ≡ true) }
     ensures flag { O.has_failed output.new ≡ not_written result }
     ensures name { O.name output.new ≡ O.name output.old }
 {
     if !are_limits(play.config) {
-        return Err(Untold::Fault(refused_limits(input.as_slice())));
+        return Err(PlacesFault::Fault(refused_limits(input.as_slice())));
     }
     match octets_of(alloc, input) {
         Ok(octets) => write_played(alloc, play, book, octets.as_slice(), output),
-        Err(fault) => Err(Untold::Fault(fault)),
+        Err(fault) => Err(PlacesFault::Fault(fault)),
     }
 }

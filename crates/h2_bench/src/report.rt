@@ -1,9 +1,9 @@
 //! What a program results in: a text and an exit status.
-//! Rests on nothing; what a report says: `specs/Answers.antt`.
+//! Rests on nothing; what a report says: `specs/Reports.antt`.
 
 ghost use Rattle.std.specs.Prelude.{◌<◌, IfOk};
-ghost use Rattle.h2_bench.specs.Answers.{Gives, Meets};
-ghost use Rattle.h2_bench.specs.Tell.{Told};
+ghost use Rattle.h2_bench.specs.Reports.{Gives, Meets};
+ghost use Rattle.h2_bench.specs.Printing.{Printed};
 
 use crate::fault::BenchFault;
 
@@ -17,7 +17,7 @@ pub struct Report {
 
 /// A text that is all that was asked for, with status 0.
 pub fn whole(text: Result<String, BenchFault>) -> Result<Report, BenchFault>
-    ensures gives { (t : Told) → Meets text t → Gives result t }
+    ensures gives { (t : Printed) → Meets text t → Gives result t }
     ensures status { IfOk result (λ report. report.status < 3) }
 {
     match text {

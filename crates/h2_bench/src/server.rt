@@ -1,12 +1,12 @@
 //! The program `serve`: connections of a port, one after another.
-//! Rests on `books`, h2_words and h2_serve; definitions: `specs/Ends.antt`, and `Serves` of h2_serve.
+//! Rests on `books`, h2_words and h2_serve; definitions: `specs/ProgramEnd.antt`, and `Serves` of h2_serve.
 
 ghost use Rattle.std.specs.Prelude.{◌≡◌, ◌⊎◌, ℕ, Some, None, false, IsOk, OnOk, OnErr};
 ghost use Rattle.h2_spec.specs.declared.connection.Config.{Config};
 ghost use Rattle.h2_words.specs.Grammar.{BookAsked, asked_of, serve};
 ghost use Rattle.h2_words.specs.Plans.{book_asked};
 ghost use Rattle.h2_bench.specs.Books.{book_said};
-ghost use Rattle.h2_bench.specs.Ends.{IsServed, KnowsFile, asks_why, is_serve};
+ghost use Rattle.h2_bench.specs.ProgramEnd.{IsServed, KnowsFile, asks_why, is_serve};
 
 use crate::books::book_for_words;
 use crate::fault::BenchFault;
@@ -54,7 +54,7 @@ fn serve_plan<N: Net<Listener = TcpListener, Stream = TcpStream>, F: Files, W: W
 ) -> u8
     ensures served { result ≡ 0
         → IsServed plan.now.config plan.now.port plan.now.count (W.contents output.old) (W.contents output.new) }
-    ensures made { result ≡ 0 → KnowsFile plan.now.book.file.now (F.is_told files.old)
+    ensures made { result ≡ 0 → KnowsFile plan.now.book.file.now (F.is_printed files.old)
         → IsOk (book_said (F.file files.old) (book_asked plan.now.book)) }
     ensures quiet { plan.now.book.why ≡ false → errors.new ≡ errors.old }
 {
@@ -89,7 +89,7 @@ pub fn serve<N: Net<Listener = TcpListener, Stream = TcpStream>, F: Files, W: Wr
         → IsServed config port count (W.contents output.old) (W.contents output.new) }
     ensures made { (config : Config) → (port : ℕ) → (count : ℕ) → (book : BookAsked)
         → asked_of words.now ≡ Some (serve config port count book) → result ≡ Some 0
-        → KnowsFile book.file (F.is_told files.old) → IsOk (book_said (F.file files.old) book) }
+        → KnowsFile book.file (F.is_printed files.old) → IsOk (book_said (F.file files.old) book) }
     ensures nothing { is_serve (asked_of words.now) ≡ false → result ≡ Some 0 → ⊥ }
     ensures quiet { asks_why (asked_of words.now) ≡ false → errors.new ≡ errors.old }
 {

@@ -8,7 +8,7 @@ ghost use Rattle.h2_bench.specs.Commands.{asked_by};
 ghost use Rattle.h2_spec.specs.DynamicTable.{insert};
 ghost use Rattle.h2_spec.specs.Field.{field};
 ghost use Rattle.h2_bench.specs.Faults.{fault_line};
-ghost use Rattle.h2_bench.specs.TableProgram.{behind_line, command_of, counts_line, first_line, obeyed, table_text, told_of};
+ghost use Rattle.h2_bench.specs.TableProgram.{behind_line, command_of, counts_line, first_line, obeyed, table_text, printed_of};
 
 use crate::fault::BenchFault;
 use h2_script::number_at;
@@ -103,7 +103,7 @@ fn obey<A: Allocator + Copy>(
     text: &mut String<A>,
 ) -> Result<(), AllocError>
     ensures table { OnOk result (table.new ≡ obeyed table.old (command_of line.now)) }
-    ensures text { OnOk result (string_bytes text.new ≡ string_bytes text.old ++ told_of table.old (command_of line.now)) }
+    ensures text { OnOk result (string_bytes text.new ≡ string_bytes text.old ++ printed_of table.old (command_of line.now)) }
 {
     match command_of(line) {
         Some(TableCommand::Add(name, value)) => {

@@ -45,9 +45,9 @@ pub fn entry_in<F: Files>(
     path: &str,
     value: &Value,
 ) -> Result<Entry<Global>, Cause>
-    ensures told { F.is_told files.old ≡ true →
+    ensures printed { F.is_printed files.old ≡ true →
         Agrees (λ e. e) result (entry_of (F.file files.old) path.now (view value.now)) }
-    ensures same_told { F.is_told files.new ≡ F.is_told files.old }
+    ensures same_printed { F.is_printed files.new ≡ F.is_printed files.old }
     ensures same_files { F.file files.new ≡ F.file files.old }
 {
     let Some(table) = value.as_table() else {
@@ -66,9 +66,9 @@ fn entry_from<F: Files>(
 ) -> Result<Entry<Global>, Cause>
     requires headers { IsTrue (is_some (spec.headers_in (items_view said.headers.now))) }
     requires body { IsTrue (is_some (contents_seen said.body)) }
-    ensures told { F.is_told files.old ≡ true →
+    ensures printed { F.is_printed files.old ≡ true →
         Agrees (λ e. e) result (entry_said (F.file files.old) path.now (spec.seen said.entry)) }
-    ensures same_told { F.is_told files.new ≡ F.is_told files.old }
+    ensures same_printed { F.is_printed files.new ≡ F.is_printed files.old }
     ensures same_files { F.file files.new ≡ F.file files.old }
 {
     let body = read_contents(alloc, files, path, said.body)?;

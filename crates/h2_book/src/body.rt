@@ -217,9 +217,9 @@ pub fn read_contents<F: Files>(
     contents: Contents<'_>,
 ) -> Result<Octets<Global>, Cause>
     requires { IsTrue (is_some (spec.contents_seen contents)) }
-    ensures told { F.is_told files.old ≡ true →
+    ensures printed { F.is_printed files.old ≡ true →
         Agrees (λ o. o) result (spec.octets_said (F.file files.old) path.now (spec.contents_seen contents.entry)) }
-    ensures same_told { F.is_told files.new ≡ F.is_told files.old }
+    ensures same_printed { F.is_printed files.new ≡ F.is_printed files.old }
     ensures same_files { F.file files.new ≡ F.file files.old }
 {
     match contents {
@@ -255,9 +255,9 @@ fn read_file<F: Files>(
     path: &str,
     name: &str,
 ) -> Result<Octets<Global>, Cause>
-    ensures told { F.is_told files.old ≡ true →
+    ensures printed { F.is_printed files.old ≡ true →
         Agrees (λ o. o) result (spec.octets_of_file (F.file files.old (spec.beside path.now name.now))) }
-    ensures same_told { F.is_told files.new ≡ F.is_told files.old }
+    ensures same_printed { F.is_printed files.new ≡ F.is_printed files.old }
     ensures same_files { F.file files.new ≡ F.file files.old }
 {
     let place = directory_of(path).join(alloc, name)?;

@@ -37,14 +37,14 @@ pub fn add_book<F: Files>(
     path: &str,
     book: &mut Book<Global>,
 ) -> Result<(), BookFileFault>
-    ensures added { OnOk result (F.is_told files.old ≡ true →
+    ensures added { OnOk result (F.is_printed files.old ≡ true →
         spec.book_of_file (F.file files.old) path.now book.old ≡ Ok book.new) }
-    ensures appended { OnOk result (F.is_told files.old ≡ true →
+    ensures appended { OnOk result (F.is_printed files.old ≡ true →
         spec.Appended (F.file files.old) path.now book.old book.new) }
     ensures refused { IfErr result (λ fault.
-        F.is_told files.old ≡ true → 0 < fault → spec.book_of_file (F.file files.old) path.now book.old ≡ Err fault) }
+        F.is_printed files.old ≡ true → 0 < fault → spec.book_of_file (F.file files.old) path.now book.old ≡ Err fault) }
     ensures kept { OnErr result (book.new ≡ book.old) }
-    ensures same_told { F.is_told files.new ≡ F.is_told files.old }
+    ensures same_printed { F.is_printed files.new ≡ F.is_printed files.old }
     ensures same_files { F.file files.new ≡ F.file files.old }
 {
     let octets = match files.read(alloc, path, MAX_BOOK_FILE) {
@@ -70,13 +70,13 @@ fn add_text<F: Files>(
     text: &str,
     book: &mut Book<Global>,
 ) -> Result<(), BookFileFault>
-    ensures added { OnOk result (F.is_told files.old ≡ true →
+    ensures added { OnOk result (F.is_printed files.old ≡ true →
         spec.book_of_document (F.file files.old) path.now book.old (parse_document text.now) ≡ Ok book.new) }
     ensures refused { IfErr result (λ fault.
-        F.is_told files.old ≡ true → 0 < fault →
+        F.is_printed files.old ≡ true → 0 < fault →
         spec.book_of_document (F.file files.old) path.now book.old (parse_document text.now) ≡ Err fault) }
     ensures kept { OnErr result (book.new ≡ book.old) }
-    ensures same_told { F.is_told files.new ≡ F.is_told files.old }
+    ensures same_printed { F.is_printed files.new ≡ F.is_printed files.old }
     ensures same_files { F.file files.new ≡ F.file files.old }
 {
     let table = match toml::table_from_str(alloc, text) {
@@ -165,13 +165,13 @@ fn add_answers<F: Files>(
     answers: &[Value],
     book: &mut Book<Global>,
 ) -> Result<(), (usize, Cause)>
-    ensures added { OnOk result (F.is_told files.old ≡ true →
+    ensures added { OnOk result (F.is_printed files.old ≡ true →
         spec.book_with (F.file files.old) path.now book.old (items_view answers.now) ≡ Ok book.new) }
     ensures refused { IfErr result (λ r.
-        F.is_told files.old ≡ true → 0 < cause_number r.1 →
+        F.is_printed files.old ≡ true → 0 < cause_number r.1 →
         spec.book_with (F.file files.old) path.now book.old (items_view answers.now) ≡ Err (cause_number r.1)) }
     ensures grown { (entries : List AnEntry) × (book.new ≡ book.old ++ entries) }
-    ensures same_told { F.is_told files.new ≡ F.is_told files.old }
+    ensures same_printed { F.is_printed files.new ≡ F.is_printed files.old }
     ensures same_files { F.file files.new ≡ F.file files.old }
 {
     for (place, answer) in answers.iter().enumerate() {
@@ -190,12 +190,12 @@ fn add_answer<F: Files>(
     answer: &Value,
     book: &mut Book<Global>,
 ) -> Result<(), Cause>
-    ensures added { F.is_told files.old ≡ true →
+    ensures added { F.is_printed files.old ≡ true →
         spec.Agrees (λ _. book.new) result
         (spec.with_entry book.old (spec.entry_of (F.file files.old) path.now (view answer.now))) }
     ensures grown { OnOk result ((entry : AnEntry) × (book.new ≡ book.old ++ entry ∷ [])) }
     ensures kept { OnErr result (book.new ≡ book.old) }
-    ensures same_told { F.is_told files.new ≡ F.is_told files.old }
+    ensures same_printed { F.is_printed files.new ≡ F.is_printed files.old }
     ensures same_files { F.file files.new ≡ F.file files.old }
 {
     let entry = entry_in(alloc, files, path, answer)?;

@@ -24,7 +24,7 @@ pub enum FilesFault {
 /// Files that a program reads whole. A contract sees what is at each path, where the device reports it: the octets of
 /// the file, or nothing where there is no file that can be read. No read changes that.
 pub trait Files {
-    ghost is_told: { Self → Bool };
+    ghost is_printed: { Self → Bool };
 
     ghost file: { Self → List ℕ → Option (List ℕ) };
 
@@ -35,8 +35,8 @@ pub trait Files {
     /// `Failed`: there is no file that can be read. `TooLong`: it has more than `most` octets; no more than `most`
     /// and one read's room are held for that. `NoMemory`: memory was refused.
     fn read(&mut self, alloc: Global, path: &str, most: usize) -> Result<Vec<u8>, FilesFault>
-        ensures octets { is_told self.old ≡ true → Reads most (file self.old path.now) result }
+        ensures octets { is_printed self.old ≡ true → Reads most (file self.old path.now) result }
         ensures within { IfOk result (λ octets. vec_len octets ≤ most) }
-        ensures same_told { is_told self.new ≡ is_told self.old }
+        ensures same_printed { is_printed self.new ≡ is_printed self.old }
         ensures same_files { file self.new ≡ file self.old };
 }

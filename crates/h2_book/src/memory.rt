@@ -29,7 +29,7 @@ impl<'f> FilesInMemory<'f> {
 }
 
 impl Files for FilesInMemory<'_> {
-    ghost is_told = { λ _. true };
+    ghost is_printed = { λ _. true };
 
     ghost file = { λ d. file_in d.files.now };
 

@@ -15,7 +15,7 @@ pub struct StdFiles<'r, R> {
 }
 
 impl<R: rt::Files> Files for StdFiles<'_, R> {
-    ghost is_told = { λ _. false };
+    ghost is_printed = { λ _. false };
 
     ghost file = { λ _ _. None };
 

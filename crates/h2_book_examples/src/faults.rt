@@ -21,7 +21,7 @@ fn fault_of(alloc: Global, document: &[u8]) -> Option<BookFileFault> {
 }
 
 /// Its number and its sentence; 0 and nothing where there is none.
-fn told(alloc: Global, document: &[u8]) -> Result<(u8, String), AllocError> {
+fn printed(alloc: Global, document: &[u8]) -> Result<(u8, String), AllocError> {
     match fault_of(alloc, document) {
         Some(fault) => Ok((fault.number(), fault.to_string(alloc)?)),
         None => Ok((0, String::new(alloc))),
@@ -158,7 +158,7 @@ static DOCUMENTS: [(&str, u8, &str); 27] = [
 #[test]
 fn documents(rt: HostRuntime) -> Result<(), Fail> {
     for (document, number, sentence) in &DOCUMENTS {
-        let (found, text) = told(rt.alloc(), document.as_bytes())?;
+        let (found, text) = printed(rt.alloc(), document.as_bytes())?;
         assert_eq!(rt; found, *number, "{document}");
         assert_eq!(rt; text.as_str(), *sentence, "{document}");
     }
@@ -181,7 +181,7 @@ static OTHERS: [(&[u8], &str); 3] = [
 #[test]
 fn octets_that_are_no_document(rt: HostRuntime) -> Result<(), Fail> {
     for (octets, sentence) in &OTHERS {
-        let (found, text) = told(rt.alloc(), *octets)?;
+        let (found, text) = printed(rt.alloc(), *octets)?;
         assert_eq!(rt; found, 26, "{sentence}");
         assert!(rt; text.as_str().starts_with(*sentence), "{text}");
     }

@@ -6,48 +6,48 @@ use Rattle.std.specs.Prelude.{Result, Ok, Err, IsOk, OnOk, find, nat_lt, ◌&&�
 use Rattle.h2_spec.specs.declared.streams.Stream.{Stream}
 use Rattle.h2_spec.specs.declared.streams.Kind.{Kind}
 use Rattle.h2_spec.specs.declared.streams.Kind.TheVariants.{Idle, Skipped, BothOpen, HalfRemote, HalfLocal, Ended, PeerReset, WeReset}
-use Rattle.h2_spec.specs.Ends.{server_ended_as, with_left}
+use Rattle.h2_spec.specs.StreamEnds.{server_ended_as, with_body_remaining}
 use Rattle.h2_spec.specs.Answer.{Entry, picked}
 use Rattle.h2_spec.specs.Window.{sendable}
 use Rattle.h2_streams.specs.Put.{CanPut, is_closed}
 use Rattle.h2_spec.specs.Stream.{AreRising, Records, put, record_of, stream_at, waits_above, octets_waiting, octets_left, next_waiting, id_of, is_live}
-use Rattle.h2_spec.specs.Pump.{share, share_frames, data_frames, after_sending, sent_frames, all_after_sending, window_left, with_paid}
+use Rattle.h2_spec.specs.SendPending.{allowance, allowance_frames, data_frames, after_sending, sent_frames, all_after_sending, window_left, with_paid}
 use Rattle.std.specs.Option.{option_map}
-use Rattle.h2_conn.specs.Above.{IsWaiting, share_above, frames_above, streams_above, left_above}
+use Rattle.h2_conn.specs.Above.{IsWaiting, allowance_above, frames_above, streams_above, left_above}
 
 -- ---- a stream that sends nothing
 
-pub no_frames : (book : List Entry) (size : ℕ) (st : Stream) → share_frames book size 0 st ≡ []
-unfolding share_frames
+pub no_frames : (book : List Entry) (size : ℕ) (st : Stream) → allowance_frames book size 0 st ≡ []
+unfolding allowance_frames
 no_frames book size st = refl
 
 -- the frames of a share of its answer's body
 pub body_frames : (book : List Entry) (size n : ℕ) (st : Stream) (body : List ℕ) → body ≡ (picked book st.pick).body →
-    data_frames st.id (octets_waiting st == n) size (take n (drop (length body - octets_waiting st) body)) ≡ share_frames book size n st
-unfolding share_frames
+    data_frames st.id (octets_waiting st == n) size (take n (drop (length body - octets_waiting st) body)) ≡ allowance_frames book size n st
+unfolding allowance_frames
 body_frames book size n st body e = ap (λ b. data_frames st.id (octets_waiting st == n) size (take n (drop (length b - octets_waiting st) b))) e
 
 same_stream : (st : Stream) → after_sending 0 st ≡ st
 unfolding after_sending
 same_stream st = refl
 
-no_share : (window : ℕ) (st : Stream) → octets_waiting st ≡ 0 → share window st ≡ 0
-unfolding share
-no_share window st e = rw e (omega arith)
+no_allowance : (window : ℕ) (st : Stream) → octets_waiting st ≡ 0 → allowance window st ≡ 0
+unfolding allowance
+no_allowance window st e = rw e (omega arith)
 
 less_nothing : (n : ℕ) → n - 0 ≡ n
 less_nothing n = omega arith
 
-idle : (after window : ℕ) (st : Stream) → waits_above after st ≡ false → share_above after window st ≡ 0
+idle : (after window : ℕ) (st : Stream) → waits_above after st ≡ false → allowance_above after window st ≡ 0
 idle after window st e = at (nat_lt after st.id) e
   where
     none : (n : ℕ) → nat_lt 0 n ≡ false → n ≡ 0
     none zero e = refl
     none (suc n) e = absurd (let h = ltb-false 0 (suc n) e in omega (arith, h))
 
-    at : (t : Bool) → (t && nat_lt 0 (octets_waiting st)) ≡ false → cond t (share window st) 0 ≡ 0
+    at : (t : Bool) → (t && nat_lt 0 (octets_waiting st)) ≡ false → cond t (allowance window st) 0 ≡ 0
     at false e = refl
-    at true e = no_share window st (none (octets_waiting st) e)
+    at true e = no_allowance window st (none (octets_waiting st) e)
 
 -- ---- the order of the records
 
@@ -72,7 +72,7 @@ same_frames book size a b low last window (x ∷ xs) r h g =
     let over : nat_lt a x.id ≡ true = let l = r.0 in grind (arith, nat_tests, l, h) in
     let above : nat_lt b x.id ≡ true = let l = r.0 in grind (arith, nat_tests, l, g) in
     let l = r.0 in
-    rw (over, above) (ap (λ fs. share_frames book size (share window x) x ++ fs) (same_frames book size a b x.id last (window - share window x) xs r.3 (omega arith) (omega arith)))
+    rw (over, above) (ap (λ fs. allowance_frames book size (allowance window x) x ++ fs) (same_frames book size a b x.id last (window - allowance window x) xs r.3 (omega arith) (omega arith)))
 
 same_streams : (a b low last window : ℕ) (ss : List Stream) → AreRising low last ss → a ≤ low → b ≤ low → streams_above a window ss ≡ streams_above b window ss
 same_streams a b low last window [] r h g = refl
@@ -80,7 +80,7 @@ same_streams a b low last window (x ∷ xs) r h g =
     let over : nat_lt a x.id ≡ true = let l = r.0 in grind (arith, nat_tests, l, h) in
     let above : nat_lt b x.id ≡ true = let l = r.0 in grind (arith, nat_tests, l, g) in
     let l = r.0 in
-    rw (over, above) (ap (λ sts. after_sending (share window x) x ∷ sts) (same_streams a b x.id last (window - share window x) xs r.3 (omega arith) (omega arith)))
+    rw (over, above) (ap (λ sts. after_sending (allowance window x) x ∷ sts) (same_streams a b x.id last (window - allowance window x) xs r.3 (omega arith) (omega arith)))
 
 same_left : (a b low last window : ℕ) (ss : List Stream) → AreRising low last ss → a ≤ low → b ≤ low → left_above a window ss ≡ left_above b window ss
 same_left a b low last window [] r h g = refl
@@ -88,7 +88,7 @@ same_left a b low last window (x ∷ xs) r h g =
     let over : nat_lt a x.id ≡ true = let l = r.0 in grind (arith, nat_tests, l, h) in
     let above : nat_lt b x.id ≡ true = let l = r.0 in grind (arith, nat_tests, l, g) in
     let l = r.0 in
-    rw (over, above) (same_left a b x.id last (window - share window x) xs r.3 (omega arith) (omega arith))
+    rw (over, above) (same_left a b x.id last (window - allowance window x) xs r.3 (omega arith) (omega arith))
 
 -- ---- from the beginning, all send
 
@@ -98,8 +98,8 @@ all_frames book size low last window [] r = refl
 all_frames book size low last window (x ∷ xs) r =
     let over : nat_lt low x.id ≡ true = let l = r.0 in grind (arith, nat_tests, l) in
     let l = r.0 in
-    rw over (ap (λ fs. share_frames book size (share window x) x ++ fs)
-    (same_frames book size low x.id x.id last (window - share window x) xs r.3 (omega arith) (omega arith) ∙ all_frames book size x.id last (window - share window x) xs r.3))
+    rw over (ap (λ fs. allowance_frames book size (allowance window x) x ++ fs)
+    (same_frames book size low x.id x.id last (window - allowance window x) xs r.3 (omega arith) (omega arith) ∙ all_frames book size x.id last (window - allowance window x) xs r.3))
 
 pub all_streams : (low last window : ℕ) (ss : List Stream) → AreRising low last ss → streams_above low window ss ≡ all_after_sending window ss
 unfolding all_after_sending
@@ -107,8 +107,8 @@ all_streams low last window [] r = refl
 all_streams low last window (x ∷ xs) r =
     let over : nat_lt low x.id ≡ true = let l = r.0 in grind (arith, nat_tests, l) in
     let l = r.0 in
-    rw over (ap (λ sts. after_sending (share window x) x ∷ sts)
-    (same_streams low x.id x.id last (window - share window x) xs r.3 (omega arith) (omega arith) ∙ all_streams x.id last (window - share window x) xs r.3))
+    rw over (ap (λ sts. after_sending (allowance window x) x ∷ sts)
+    (same_streams low x.id x.id last (window - allowance window x) xs r.3 (omega arith) (omega arith) ∙ all_streams x.id last (window - allowance window x) xs r.3))
 
 pub all_left : (low last window : ℕ) (ss : List Stream) → AreRising low last ss → left_above low window ss ≡ window_left window ss
 unfolding window_left
@@ -116,7 +116,7 @@ all_left low last window [] r = refl
 all_left low last window (x ∷ xs) r =
     let over : nat_lt low x.id ≡ true = let l = r.0 in grind (arith, nat_tests, l) in
     let l = r.0 in
-    rw over (same_left low x.id x.id last (window - share window x) xs r.3 (omega arith) (omega arith) ∙ all_left x.id last (window - share window x) xs r.3)
+    rw over (same_left low x.id x.id last (window - allowance window x) xs r.3 (omega arith) (omega arith) ∙ all_left x.id last (window - allowance window x) xs r.3)
 
 -- ---- where none waits, nothing is sent
 
@@ -146,8 +146,8 @@ none_left after window (x ∷ xs) e = at (λ g. none_left after window xs g) (wa
 
 -- ---- where nothing is left of the window, nothing is sent
 
-no_window : (after : ℕ) (st : Stream) → share_above after 0 st ≡ 0
-unfolding share
+no_window : (after : ℕ) (st : Stream) → allowance_above after 0 st ≡ 0
+unfolding allowance
 no_window after st = at (nat_lt after st.id)
   where
     at : (t : Bool) → cond t (min (min (octets_waiting st) (sendable st.numbers.send)) 0) 0 ≡ 0
@@ -179,51 +179,51 @@ waits_is_above after st e = at (nat_lt after st.id) e
     at false e = absurd (false≢true e)
 
 pub next_frames : (book : List Entry) (size after low last window : ℕ) (ss : List Stream) (st : Stream) → AreRising low last ss → find (waits_above after) ss ≡ Some st →
-    frames_above book size after window ss ≡ share_frames book size (share window st) st ++ frames_above book size st.id (window - share window st) ss
+    frames_above book size after window ss ≡ allowance_frames book size (allowance window st) st ++ frames_above book size st.id (window - allowance window st) ss
 next_frames book size after low last window [] st r e = absurd (none_some st e)
 next_frames book size after low last window (x ∷ xs) st r e = at (λ g. next_frames book size after x.id last window xs st r.3 g) (waits_above after x) refl e
   where
     v : ℕ
-    v = window - share window x
+    v = window - allowance window x
 
-    here : nat_lt after x.id ≡ true → frames_above book size after window (x ∷ xs) ≡ share_frames book size (share window x) x ++ frames_above book size x.id v (x ∷ xs)
+    here : nat_lt after x.id ≡ true → frames_above book size after window (x ∷ xs) ≡ allowance_frames book size (allowance window x) x ++ frames_above book size x.id v (x ∷ xs)
     here over =
         let same = same_frames book size after x.id x.id last v xs r.3 (grind (arith, nat_tests, over)) (omega arith) in
-        rw (over, not_above_itself x.id, no_frames book size x, less_nothing v) (ap (λ fs. share_frames book size (share window x) x ++ fs) same)
+        rw (over, not_above_itself x.id, no_frames book size x, less_nothing v) (ap (λ fs. allowance_frames book size (allowance window x) x ++ fs) same)
 
-    at : (find (waits_above after) xs ≡ Some st → frames_above book size after window xs ≡ share_frames book size (share window st) st ++ frames_above book size st.id (window - share window st) xs) →
+    at : (find (waits_above after) xs ≡ Some st → frames_above book size after window xs ≡ allowance_frames book size (allowance window st) st ++ frames_above book size st.id (window - allowance window st) xs) →
         (t : Bool) → waits_above after x ≡ t → cond t (Some x) (find (waits_above after) xs) ≡ Some st →
-        frames_above book size after window (x ∷ xs) ≡ share_frames book size (share window st) st ++ frames_above book size st.id (window - share window st) (x ∷ xs)
+        frames_above book size after window (x ∷ xs) ≡ allowance_frames book size (allowance window st) st ++ frames_above book size st.id (window - allowance window st) (x ∷ xs)
     at more true w e =
-        let P : Stream → Type 0 = λ y. frames_above book size after window (x ∷ xs) ≡ share_frames book size (share window y) y ++ frames_above book size y.id (window - share window y) (x ∷ xs) in
+        let P : Stream → Type 0 = λ y. frames_above book size after window (x ∷ xs) ≡ allowance_frames book size (allowance window y) y ++ frames_above book size y.id (window - allowance window y) (x ∷ xs) in
         subst P (some_same x st e) (here (waits_is_above after x w))
     at more false w e =
         let behind = found_above (waits_above after) x.id last xs st r.3 e in
         let under : nat_lt st.id x.id ≡ false = grind (arith, nat_tests, behind) in
-        rw (idle after window x w, under, no_frames book size x, less_nothing window, less_nothing (window - share window st)) (more e)
+        rw (idle after window x w, under, no_frames book size x, less_nothing window, less_nothing (window - allowance window st)) (more e)
 
 pub next_left : (after low last window : ℕ) (ss : List Stream) (st : Stream) → AreRising low last ss → find (waits_above after) ss ≡ Some st →
-    left_above after window ss ≡ left_above st.id (window - share window st) ss
+    left_above after window ss ≡ left_above st.id (window - allowance window st) ss
 next_left after low last window [] st r e = absurd (none_some st e)
 next_left after low last window (x ∷ xs) st r e = at (λ g. next_left after x.id last window xs st r.3 g) (waits_above after x) refl e
   where
     v : ℕ
-    v = window - share window x
+    v = window - allowance window x
 
     here : nat_lt after x.id ≡ true → left_above after window (x ∷ xs) ≡ left_above x.id v (x ∷ xs)
     here over =
         let same = same_left after x.id x.id last v xs r.3 (grind (arith, nat_tests, over)) (omega arith) in
         rw (over, not_above_itself x.id, less_nothing v) same
 
-    at : (find (waits_above after) xs ≡ Some st → left_above after window xs ≡ left_above st.id (window - share window st) xs) →
-        (t : Bool) → waits_above after x ≡ t → cond t (Some x) (find (waits_above after) xs) ≡ Some st → left_above after window (x ∷ xs) ≡ left_above st.id (window - share window st) (x ∷ xs)
+    at : (find (waits_above after) xs ≡ Some st → left_above after window xs ≡ left_above st.id (window - allowance window st) xs) →
+        (t : Bool) → waits_above after x ≡ t → cond t (Some x) (find (waits_above after) xs) ≡ Some st → left_above after window (x ∷ xs) ≡ left_above st.id (window - allowance window st) (x ∷ xs)
     at more true w e =
-        let P : Stream → Type 0 = λ y. left_above after window (x ∷ xs) ≡ left_above y.id (window - share window y) (x ∷ xs) in
+        let P : Stream → Type 0 = λ y. left_above after window (x ∷ xs) ≡ left_above y.id (window - allowance window y) (x ∷ xs) in
         subst P (some_same x st e) (here (waits_is_above after x w))
     at more false w e =
         let behind = found_above (waits_above after) x.id last xs st r.3 e in
         let under : nat_lt st.id x.id ≡ false = grind (arith, nat_tests, behind) in
-        rw (idle after window x w, under, less_nothing window, less_nothing (window - share window st)) (more e)
+        rw (idle after window x w, under, less_nothing window, less_nothing (window - allowance window st)) (more e)
 
 -- ---- and its record is put in its place
 
@@ -241,60 +241,60 @@ id-after_sending n st = at (n == 0) (octets_waiting st == n) st.kind
     ended PeerReset = refl
     ended WeReset = refl
 
-    at : (a b : Bool) (kind : Kind) → (cond a st (cond b (server_ended_as kind (with_paid st n)) (with_left (with_paid st n) (octets_waiting st - n)))).id ≡ st.id
+    at : (a b : Bool) (kind : Kind) → (cond a st (cond b (server_ended_as kind (with_paid st n)) (with_body_remaining (with_paid st n) (octets_waiting st - n)))).id ≡ st.id
     at true b kind = refl
     at false true kind = ended kind
     at false false kind = refl
 
 pub next_streams : (after low last window : ℕ) (ss : List Stream) (st : Stream) → AreRising low last ss → find (waits_above after) ss ≡ Some st →
-    streams_above after window ss ≡ streams_above st.id (window - share window st) (put (after_sending (share window st) st) ss)
+    streams_above after window ss ≡ streams_above st.id (window - allowance window st) (put (after_sending (allowance window st) st) ss)
 next_streams after low last window [] st r e = absurd (none_some st e)
 next_streams after low last window (x ∷ xs) st r e = at (λ g. next_streams after x.id last window xs st r.3 g) (waits_above after x) refl e
   where
     v : ℕ
-    v = window - share window x
+    v = window - allowance window x
 
     new : Stream
-    new = after_sending (share window x) x
+    new = after_sending (allowance window x) x
 
     same_id : eqb x.id new.id ≡ true
-    same_id = let e = id-after_sending (share window x) x in grind (arith, nat_tests, e)
+    same_id = let e = id-after_sending (allowance window x) x in grind (arith, nat_tests, e)
 
     here : nat_lt after x.id ≡ true → streams_above after window (x ∷ xs) ≡ streams_above x.id v (put new (x ∷ xs))
     here over =
         let same = same_streams after x.id x.id last v xs r.3 (grind (arith, nat_tests, over)) (omega arith) in
-        let under : nat_lt x.id new.id ≡ false = let e = id-after_sending (share window x) x in grind (arith, nat_tests, e) in
+        let under : nat_lt x.id new.id ≡ false = let e = id-after_sending (allowance window x) x in grind (arith, nat_tests, e) in
         rw (over, same_id, under, same_stream new, less_nothing v) (ap (λ sts. new ∷ sts) same)
 
-    at : (find (waits_above after) xs ≡ Some st → streams_above after window xs ≡ streams_above st.id (window - share window st) (put (after_sending (share window st) st) xs)) →
+    at : (find (waits_above after) xs ≡ Some st → streams_above after window xs ≡ streams_above st.id (window - allowance window st) (put (after_sending (allowance window st) st) xs)) →
         (t : Bool) → waits_above after x ≡ t → cond t (Some x) (find (waits_above after) xs) ≡ Some st →
-        streams_above after window (x ∷ xs) ≡ streams_above st.id (window - share window st) (put (after_sending (share window st) st) (x ∷ xs))
+        streams_above after window (x ∷ xs) ≡ streams_above st.id (window - allowance window st) (put (after_sending (allowance window st) st) (x ∷ xs))
     at more true w e =
-        let P : Stream → Type 0 = λ y. streams_above after window (x ∷ xs) ≡ streams_above y.id (window - share window y) (put (after_sending (share window y) y) (x ∷ xs)) in
+        let P : Stream → Type 0 = λ y. streams_above after window (x ∷ xs) ≡ streams_above y.id (window - allowance window y) (put (after_sending (allowance window y) y) (x ∷ xs)) in
         subst P (some_same x st e) (here (waits_is_above after x w))
     at more false w e =
         let behind = found_above (waits_above after) x.id last xs st r.3 e in
         let under : nat_lt st.id x.id ≡ false = grind (arith, nat_tests, behind) in
-        let other : eqb x.id (after_sending (share window st) st).id ≡ false = let i = id-after_sending (share window st) st in grind (arith, nat_tests, behind, i) in
-        rw (idle after window x w, other, under, same_stream x, less_nothing window, less_nothing (window - share window st)) (ap (λ sts. x ∷ sts) (more e))
+        let other : eqb x.id (after_sending (allowance window st) st).id ≡ false = let i = id-after_sending (allowance window st) st in grind (arith, nat_tests, behind, i) in
+        rw (idle after window x w, other, under, same_stream x, less_nothing window, less_nothing (window - allowance window st)) (ap (λ sts. x ∷ sts) (more e))
 
 -- a record that is not above it does not matter for what is left
 put_left : (after window : ℕ) (ss : List Stream) (x : Stream) → nat_lt after x.id ≡ false → left_above after window (put x ss) ≡ left_above after window ss
 put_left after window [] x under = rw (under, less_nothing window) refl
-put_left after window (y ∷ ys) x under = at (put_left after (window - share_above after window y) ys x under) (eqb y.id x.id) (eqb-true y.id x.id)
+put_left after window (y ∷ ys) x under = at (put_left after (window - allowance_above after window y) ys x under) (eqb y.id x.id) (eqb-true y.id x.id)
   where
     behind : nat_lt after y.id ≡ false → left_above after window (x ∷ ys) ≡ left_above after window (y ∷ ys)
     behind other = rw (under, other) refl
 
-    at : left_above after (window - share_above after window y) (put x ys) ≡ left_above after (window - share_above after window y) ys →
+    at : left_above after (window - allowance_above after window y) (put x ys) ≡ left_above after (window - allowance_above after window y) ys →
         (t : Bool) → (t ≡ true → y.id ≡ x.id) → left_above after window (cond t (x ∷ ys) (y ∷ put x ys)) ≡ left_above after window (y ∷ ys)
     at more true same = behind (ap (λ i. nat_lt after i) (same refl) ∙ under)
     at more false same = more
 
 pub next_left_put : (after low last window : ℕ) (ss : List Stream) (st : Stream) → AreRising low last ss → find (waits_above after) ss ≡ Some st →
-    left_above after window ss ≡ left_above st.id (window - share window st) (put (after_sending (share window st) st) ss)
+    left_above after window ss ≡ left_above st.id (window - allowance window st) (put (after_sending (allowance window st) st) ss)
 next_left_put after low last window ss st r e =
-    let n = share window st in
+    let n = allowance window st in
     let under : nat_lt st.id (after_sending n st).id ≡ false = let i = id-after_sending n st in grind (arith, nat_tests, i) in
     next_left after low last window ss st r e ∙ sym (put_left st.id (window - n) ss (after_sending n st) under)
 
@@ -339,7 +339,7 @@ waits_is_live : (after : ℕ) (st : Stream) → waits_above after st ≡ true �
 unfolding octets_waiting
 waits_is_live after st e = at (nat_lt after st.id) (is_live st.kind) e
   where
-    at : (a b : Bool) → (a && nat_lt 0 (cond b (octets_left st.numbers.left) 0)) ≡ true → b ≡ true
+    at : (a b : Bool) → (a && nat_lt 0 (cond b (octets_left st.numbers.body_remaining) 0)) ≡ true → b ≡ true
     at true true e = refl
     at true false e = absurd (false≢true e)
     at false b e = absurd (false≢true e)
@@ -392,11 +392,11 @@ on_ok (Err e) P h o = absurd (false≢true h)
 
 -- ---- what is left of the window
 
-share_within : (window : ℕ) (st : Stream) → share window st ≤ window
-unfolding share
-share_within window st = omega arith
+allowance_within : (window : ℕ) (st : Stream) → allowance window st ≤ window
+unfolding allowance
+allowance_within window st = omega arith
 
 pub left_within : (window : ℕ) (ss : List Stream) → window_left window ss ≤ window
 unfolding window_left
 left_within window [] = omega arith
-left_within window (st ∷ sts) = let m = left_within (window - share window st) sts in omega (arith, m, share_within window st)
+left_within window (st ∷ sts) = let m = left_within (window - allowance window st) sts in omega (arith, m, allowance_within window st)

@@ -1,15 +1,15 @@
 -- A fragment's effect is made: the change, with the block and the table after it.
 use Rattle.std.proofs.Common.{◌≡◌, ℕ, List, ◌++◌, refl, sym, ap, subst, ◌∙◌}
 use Rattle.std.specs.Prelude.{Option}
-use Rattle.h2_spec.specs.declared.connection.Core.{Core}
+use Rattle.h2_spec.specs.declared.connection.ConnectionState.{ConnectionState}
 use Rattle.h2_spec.specs.declared.connection.Phase.{Phase}
 use Rattle.h2_spec.specs.declared.connection.Phase.TheVariants as phase
 use Rattle.h2_spec.specs.declared.reactions.Change.{Change}
-use Rattle.h2_spec.specs.declared.reactions.Touch.{Touch}
-use Rattle.h2_spec.specs.declared.reactions.Touch.TheVariants.{Same, Put, Shift}
+use Rattle.h2_spec.specs.declared.reactions.RecordUpdate.{RecordUpdate}
+use Rattle.h2_spec.specs.declared.reactions.RecordUpdate.TheVariants.{Unchanged, Put, Shift}
 use Rattle.h2_spec.specs.declared.streams.Stream.{Stream}
 use Rattle.h2_spec.specs.Answer.{Entry}
-use Rattle.h2_spec.specs.Change.{Step, made, touched}
+use Rattle.h2_spec.specs.Change.{Step, made, updated_streams}
 use Rattle.h2_spec.specs.DynamicTable.{Table}
 use Rattle.h2_spec.specs.Frame.{frames_octets}
 use Rattle.h2_spec.specs.State.{OpenBlock, State}
@@ -18,13 +18,13 @@ use Rattle.h2_spec.specs.Trace.{then_sent}
 use Rattle.h2_conn.specs.Blocks.{IsOpenFor}
 use Rattle.h2_conn.specs.Does.{AreShort, Does}
 use Rattle.h2_conn.specs.Sending.{core_after, core_after_as, records, records_after, streams_after}
-use Rattle.h2_rules.specs.Sound.{IsSoundChange, IsSoundTouch, touched_records}
-use Rattle.h2_conn.proofs.MakeLaws.{made-then, open-after}
-use Rattle.h2_rules.proofs.SoundLaws.{touched-streams}
+use Rattle.h2_rules.specs.Sound.{IsSoundChange, IsSoundRecordUpdate, updated_records}
+use Rattle.h2_conn.proofs.ApplyChangeLaws.{made-then, open-after}
+use Rattle.h2_rules.proofs.SoundLaws.{updated-streams}
 
 -- the state after a change and sending, by its parts
 abbrev after-step : State → Change → State
-after-step s c = record s { core = core_after c.core (touched c.touch s.streams); streams = streams_after c.core (touched c.touch s.streams) }
+after-step s c = record s { core = core_after c.core (updated_streams c.record_update s.streams); streams = streams_after c.core (updated_streams c.record_update s.streams) }
 
 stands : (s now : State) (p : List ℕ) (c : Change) (out out' : List ℕ) → Does (then_sent c.core.phase (made s p c)) out now out' → now ≡ after-step s c
 stands s now p c out out' d = d.state ∙ ap (λ (step : Step). step.state) (made-then s p c)
@@ -46,12 +46,12 @@ rebound s now p c b t out out' d =
     })
 
 -- the last stream that was opened is the one that the counts say
-touched-last : (book : List Entry) (r : Records) (window : ℕ) (now : Core) (t : Touch) → IsSoundTouch book r window now t → (touched_records t r).last ≡ now.last
-touched-last book r window now Same h = sym h.1
-touched-last book r window now (Put st) h = sym h.4
-touched-last book r window now (Shift from to) h = sym h.3
+updated-last : (book : List Entry) (r : Records) (window : ℕ) (now : ConnectionState) (t : RecordUpdate) → IsSoundRecordUpdate book r window now t → (updated_records t r).last ≡ now.last
+updated-last book r window now Unchanged h = sym h.1
+updated-last book r window now (Put st) h = sym h.4
+updated-last book r window now (Shift from to) h = sym h.3
 
-after-last : (core : Core) (streams : List Stream) → (core_after core streams).last ≡ core.last
+after-last : (core : ConnectionState) (streams : List Stream) → (core_after core streams).last ≡ core.last
 after-last core streams = at core.phase
   where
     at : (ph : Phase) → (core_after_as ph core streams).last ≡ core.last
@@ -62,14 +62,14 @@ after-last core streams = at core.phase
 
 -- an open block that is known with the records after the change is known with those after sending
 pub open-then : (s now : State) (r : Records) (p : List ℕ) (c : Change) (b : Option OpenBlock) (out out' : List ℕ) → IsSoundChange s.book (records s) s.core.peer.window c →
-    IsOpenFor (touched_records c.touch (records s)) b → Does (then_sent c.core.phase (made s p c)) out now out' → now.streams ≡ r.streams → r.last ≡ now.core.last → IsOpenFor r b
+    IsOpenFor (updated_records c.record_update (records s)) b → Does (then_sent c.core.phase (made s p c)) out now out' → now.streams ≡ r.streams → r.last ≡ now.core.last → IsOpenFor r b
 open-then s now r p c b out out' sound opened d held last =
-    let mid = touched_records c.touch (records s) in
+    let mid = updated_records c.record_update (records s) in
     let is = stands s now p c out out' d in
     let streams : (records_after c.core mid).streams ≡ r.streams =
-    ap (streams_after c.core) (touched-streams c.touch (records s)) ∙ sym (ap (λ (x : State). x.streams) is) ∙ held in
+    ap (streams_after c.core) (updated-streams c.record_update (records s)) ∙ sym (ap (λ (x : State). x.streams) is) ∙ held in
     let counts : mid.last ≡ r.last =
-    touched-last s.book (records s) s.core.peer.window c.core c.touch sound.1 ∙ sym (after-last c.core (touched c.touch s.streams)) ∙ sym (ap (λ (x : State). x.core.last) is) ∙ sym last in
+    updated-last s.book (records s) s.core.peer.window c.core c.record_update sound.1 ∙ sym (after-last c.core (updated_streams c.record_update s.streams)) ∙ sym (ap (λ (x : State). x.core.last) is) ∙ sym last in
     let same : records_after c.core mid ≡ r =
     ap (λ (ss : List Stream). record (records_after c.core mid) { streams = ss }) streams ∙ ap (λ (l : ℕ). record { streams = r.streams; last = l }) counts in
     subst (λ (x : Records). IsOpenFor x b) same (open-after c.core mid b opened)

@@ -10,7 +10,7 @@ use Rattle.h2_fields.specs.declared.fault.BlockFault.TheVariants as fault
 use Rattle.h2_spec.specs.declared.connection.BlockView.{BlockView}
 use Rattle.h2_spec.specs.declared.errors.ErrorCode.{ErrorCode}
 use Rattle.h2_spec.specs.declared.errors.ErrorCode.TheVariants.{CompressionError, EnhanceYourCalm}
-use Rattle.h2_spec.specs.Block.{BlockSoFar, Decoded, Decoding, Fault, Faulty, Given, Index, SizeUpdate, Outcome, Progress, Unfinished, apply, carried_on, decoded, decoded_with, given, indexed_result, instr_taken, literal_result, name_of, next_instr, table_after, taken_unless, text_result, where_not_due, decoding, list_size}
+use Rattle.h2_spec.specs.Block.{BlockSoFar, Decoded, DecoderState, Fault, Faulty, Given, Index, SizeUpdate, Outcome, Progress, Unfinished, apply, carried_on, decoded, decoded_with, given, indexed_result, instr_taken, literal_result, name_of, next_instr, table_after, taken_unless, text_result, where_not_due, decoding, list_size}
 use Rattle.h2_spec.specs.DynamicTable.{Table, field_at, resize}
 use Rattle.h2_spec.specs.Field.{Field, field}
 use Rattle.h2_spec.specs.Headers as headers
@@ -33,7 +33,7 @@ given-not-due x g h e = let same : x ≡ g = cc in subst (λ (y : Given). y.afte
 not-given : (f : Fault) (g : Given) → (let r : Gives = Err f in r ≡ Ok g) → ⊥
 not-given f g e = cc
 
-apply-not-due : (limit : ℕ) (d : Decoding) (i : Shape) (g : Given) → d.due ≡ false → apply limit d i ≡ Ok g → g.after.due ≡ false
+apply-not-due : (limit : ℕ) (d : DecoderState) (i : Shape) (g : Given) → d.due ≡ false → apply limit d i ≡ Ok g → g.after.due ≡ false
 unfolding apply
 apply-not-due limit d (Update n) g h e = at (not d.begun && nat_le n limit) e
   where
@@ -54,20 +54,20 @@ apply-not-due limit d (Literal mode name value) g h e =
     at (Err f) v k = absurd (not-given f g k)
 
 abbrev Fronts : Type 0
-Fronts = Front Decoding (Option Field)
+Fronts = Front DecoderState (Option Field)
 
-one-same : (x y : Option Field) (s t : Decoding) (m n : ℕ) → (let r : Fronts = One x s m in r ≡ One y t n) → s ≡ t
+one-same : (x y : Option Field) (s t : DecoderState) (m n : ℕ) → (let r : Fronts = One x s m in r ≡ One y t n) → s ≡ t
 one-same x y s t m n e = cc
 
-stop-not-one : (y : Option Field) (t : Decoding) (n : ℕ) → (let r : Fronts = Stop in r ≡ One y t n) → ⊥
+stop-not-one : (y : Option Field) (t : DecoderState) (n : ℕ) → (let r : Fronts = Stop in r ≡ One y t n) → ⊥
 stop-not-one y t n e = cc
 
-next-not-due : (limit : ℕ) (d : Decoding) (b : List ℕ) (f : Option Field) (t : Decoding) (used : ℕ) → d.due ≡ false → next_instr limit d b ≡ One f t used → t.due ≡ false
+next-not-due : (limit : ℕ) (d : DecoderState) (b : List ℕ) (f : Option Field) (t : DecoderState) (used : ℕ) → d.due ≡ false → next_instr limit d b ≡ One f t used → t.due ≡ false
 unfolding next_instr
 next-not-due limit d b f t used h e = at (instr_at b) e
   where
     by_result : (i : Shape) (n : ℕ) (r : Gives) → apply limit d i ≡ r → taken_unless n r ≡ One f t used → t.due ≡ false
-    by_result i n (Ok g) a k = subst (λ (s : Decoding). s.due ≡ false) (one-same g.field f g.after t n used k) (apply-not-due limit d i g h a)
+    by_result i n (Ok g) a k = subst (λ (s : DecoderState). s.due ≡ false) (one-same g.field f g.after t n used k) (apply-not-due limit d i g h a)
     by_result i n (Err x) a k = absurd (stop-not-one f t used k)
 
     at : (r : Read Shape) → instr_taken limit d r ≡ One f t used → t.due ≡ false
@@ -75,11 +75,11 @@ next-not-due limit d b f t used h e = at (instr_at b) e
     at More k = absurd (stop-not-one f t used k)
     at TooLong k = absurd (stop-not-one f t used k)
 
-upto-not-due : (limit n : ℕ) (d : Decoding) (b : List ℕ) → d.due ≡ false → (parse_upto (next_instr limit) n d b).state.due ≡ false
+upto-not-due : (limit n : ℕ) (d : DecoderState) (b : List ℕ) → d.due ≡ false → (parse_upto (next_instr limit) n d b).state.due ≡ false
 upto-not-due limit zero d b h = h
 upto-not-due limit (suc n) d b h = at (λ t rest k. upto-not-due limit n t rest k) (next_instr limit d b) refl
   where
-    at : ((t : Decoding) (rest : List ℕ) → t.due ≡ false → (parse_upto (next_instr limit) n t rest).state.due ≡ false) → (r : Fronts) → next_instr limit d b ≡ r →
+    at : ((t : DecoderState) (rest : List ℕ) → t.due ≡ false → (parse_upto (next_instr limit) n t rest).state.due ≡ false) → (r : Fronts) → next_instr limit d b ≡ r →
         (parse_first d b r (λ t rest. parse_upto (next_instr limit) n t rest)).state.due ≡ false
     at more Stop e = h
     at more (One f t used) e = more t (drop used b) (next-not-due limit d b f t used h e)

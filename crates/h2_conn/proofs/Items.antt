@@ -46,9 +46,9 @@ Within limit (Got BadPreface used) = Unit {0}
 Within limit (Got (WholeFrame h b) used) = length b ≤ limit
 Within limit (Got (Oversize h) used) = Unit {0}
 
-got : (n : Next) (x : Item) → Some x ≡ item_in n → (used : ℕ) × (n ≡ Got x used)
-got NoItem x h = cc
-got (Got item used) x h = (used, cc)
+content_received : (n : Next) (x : Item) → Some x ≡ item_in n → (used : ℕ) × (n ≡ Got x used)
+content_received NoItem x h = cc
+content_received (Got item used) x h = (used, cc)
 
 not-got : (n : Next) → None ≡ item_in n → n ≡ NoItem
 not-got NoItem h = refl
@@ -90,14 +90,14 @@ short limit (Oversize head) used h w = tt
 
 -- a payload that the splitter gives fits a frame
 pub item-short : (r : Rest) (limit : ℕ) (x : Item) → limit < 2 ^ 24 → Some x ≡ item_in (found limit r) → IsShort x
-item-short r limit x h i = let n = got (found limit r) x i in short limit x n.0 h (subst (Within limit) n.1 (within-found limit r))
+item-short r limit x h i = let n = content_received (found limit r) x i in short limit x n.0 h (subst (Within limit) n.1 (within-found limit r))
 
 -- ---- what advancing does
 
 pub item-taken : (r : Rest) (s t : State) (x : Item) (out out' : List ℕ) → Fits r s.core.phase → is_ended s.core.phase ≡ false → Some x ≡ item_in (found s.core.own.frame r)
     → Does (step s x) out t out' → Takes s r.octets out t (rest_after s.core.own.frame r).octets out'
 item-taken r s t x out out' h e i d =
-    let n = got (found s.core.own.frame r) x i in
+    let n = content_received (found s.core.own.frame r) x i in
     let st = step s x in
     record {
       event = record { item = x; state = st.state; sent = st.sent };
@@ -138,7 +138,7 @@ stays-fit r s (Oversize head) used h e g = fits-ended _ (rest_behind r (Got (Ove
 pub item-fits : (r : Rest) (s t : State) (x : Item) (out out' : List ℕ) → Fits r s.core.phase → is_ended s.core.phase ≡ false → Some x ≡ item_in (found s.core.own.frame r)
     → Does (step s x) out t out' → Fits (rest_after s.core.own.frame r) t.core.phase
 item-fits r s t x out out' h e i d =
-    let n = got (found s.core.own.frame r) x i in
+    let n = content_received (found s.core.own.frame r) x i in
     rw (d.state, n.1) (stays-fit r s x n.0 h e n.1)
 
 pub none-comes : (r : Rest) (s : State) → Fits r s.core.phase → is_ended s.core.phase ≡ false → None ≡ item_in (found s.core.own.frame r) → next_event s r.octets ≡ Stop

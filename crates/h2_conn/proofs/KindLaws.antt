@@ -6,8 +6,8 @@ use Rattle.h2_spec.specs.declared.streams.Stream.{Stream}
 use Rattle.h2_spec.specs.declared.connection.Purpose.{Purpose}
 use Rattle.h2_spec.specs.declared.connection.Purpose.TheVariants.{Request, Trailers, Closed, TableOnly}
 use Rattle.h2_spec.specs.State.{Decoding, OpenBlock}
-use Rattle.h2_spec.specs.Ends.{server_ended, server_ended_as, with_left}
-use Rattle.h2_spec.specs.Pump.{after_sending, all_after_sending, share, with_paid}
+use Rattle.h2_spec.specs.StreamEnds.{server_ended, server_ended_as, with_body_remaining}
+use Rattle.h2_spec.specs.SendPending.{after_sending, all_after_sending, allowance, with_paid}
 use Rattle.h2_spec.specs.Stream.{Records, is_peer_open, kind_of, not_live, octets_waiting, record_of, recorded, stream_at}
 use Rattle.h2_streams.specs.Put.{can_become}
 use Rattle.h2_conn.specs.Blocks.{IsDecodedAt, IsOpenAt, IsOpenFor}
@@ -28,7 +28,7 @@ sent-kind test both half n st = by_tests (eqb n 0) (eqb (octets_waiting st) n)
     ended PeerReset e = ap test e
     ended WeReset e = ap test e
 
-    by_tests : (s t : Bool) → test (cond s st (cond t (server_ended_as st.kind (with_paid st n)) (with_left (with_paid st n) (octets_waiting st - n)))).kind ≡ test st.kind
+    by_tests : (s t : Bool) → test (cond s st (cond t (server_ended_as st.kind (with_paid st n)) (with_body_remaining (with_paid st n) (octets_waiting st - n)))).kind ≡ test st.kind
     by_tests true t = refl
     by_tests false true = ended st.kind refl
     by_tests false false = refl
@@ -42,7 +42,7 @@ sent-record test both half id window (st ∷ sts) =
     ∙ by_test (eqb st.id id) (sent-record test both half id (window - n) sts)
   where
     n : ℕ
-    n = share window st
+    n = allowance window st
 
     now : Stream
     now = after_sending n st

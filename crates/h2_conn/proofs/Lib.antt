@@ -4,7 +4,7 @@ mod FragmentLaws
 pub mod Items
 mod InsideLaws
 mod KindLaws
-mod MakeLaws
+mod ApplyChangeLaws
 mod PartLaws
 pub mod Phases
 mod PiecesLaws

@@ -4,7 +4,7 @@ use Rattle.std.proofs.lemmas.Bool.{cond_both}
 use Rattle.std.specs.Prelude.{if◌then◌else◌, length, nat_lt, int_lt, pos, ◌-ℤ◌, ◌+ℤ◌, ◌+◌}
 use Rattle.h2_spec.specs.declared.connection.BlockView.{BlockView}
 use Rattle.h2_spec.specs.declared.connection.Config.{Config}
-use Rattle.h2_spec.specs.declared.connection.Core.{Core}
+use Rattle.h2_spec.specs.declared.connection.ConnectionState.{ConnectionState}
 use Rattle.h2_spec.specs.declared.connection.Phase.{Phase}
 use Rattle.h2_spec.specs.declared.connection.Phase.TheVariants as phase
 use Rattle.h2_spec.specs.declared.connection.Purpose.{Purpose}
@@ -13,18 +13,18 @@ use Rattle.h2_spec.specs.declared.errors.ErrorCode.{ErrorCode}
 use Rattle.h2_spec.specs.declared.errors.ErrorCode.TheVariants.{ProtocolError, EnhanceYourCalm, CompressionError, FlowControlError}
 use Rattle.h2_spec.specs.declared.flow.Settings.{Settings}
 use Rattle.h2_spec.specs.declared.frames.Head.{Head}
-use Rattle.h2_spec.specs.declared.reactions.Came.{Came}
+use Rattle.h2_spec.specs.declared.reactions.ReceivedData.{ReceivedData}
 use Rattle.h2_spec.specs.declared.reactions.Change.{Change}
 use Rattle.h2_spec.specs.declared.reactions.ConnectionFrame.TheVariants.{PingAck}
 use Rattle.h2_spec.specs.declared.reactions.Reaction.{Reaction}
 use Rattle.h2_spec.specs.declared.reactions.Reaction.TheVariants.{ConnectionError, Continues}
-use Rattle.h2_spec.specs.declared.reactions.Turn.{Turn}
+use Rattle.h2_spec.specs.declared.reactions.StreamOutcome.{StreamOutcome}
 use Rattle.h2_spec.specs.declared.streams.Stream.{Stream}
 use Rattle.h2_spec.specs.Block.{Decoded, Unfinished, Faulty, list_size}
-use Rattle.h2_spec.specs.Change.{Step, stay, stream_error, turned}
+use Rattle.h2_spec.specs.Change.{Step, only_counts, stream_error, with_outcome}
 use Rattle.h2_spec.specs.Checks.{refusal}
-use Rattle.h2_spec.specs.Data.{counted, data_counted, data_refused, data_taken, data_turn, if_within, owed_as, owed_on_connection}
-use Rattle.h2_spec.specs.Effect.{block_stream, body_length, came, checked_effect, concluded, data_rule, effect, frame_effect, nothing, on_data, on_headers, on_reset, on_window, part_effect, reset_rule, window_rule}
+use Rattle.h2_spec.specs.Data.{counted, data_counted, data_refused, data_taken, data_outcome, if_within, owed_as, owed_on_connection}
+use Rattle.h2_spec.specs.Effect.{block_stream, body_length, incoming, checked_effect, concluded, data_rule, effect, frame_effect, nothing, on_data, on_headers, on_reset, on_window, part_effect, reset_rule, window_rule}
 use Rattle.h2_spec.specs.Field.{Field}
 use Rattle.h2_spec.specs.Frame.{Item, Preface, BadPreface, WholeFrame, Oversize}
 use Rattle.h2_spec.specs.FrameType.{ACK, END_HEADERS, has}
@@ -32,11 +32,11 @@ use Rattle.h2_spec.specs.Headers.{FrameEffect, Breaks, Makes, block_ends, block_
 use Rattle.h2_spec.specs.Payload.{HeadersPart, Part, OfData, OfHeaders, OfPriority, OfRstStream, OfSettings, OfSettingsAck, OfPushPromise, OfPing, OfGoaway, OfWindowUpdate, OfContinuation, OfUnknown, part_of}
 use Rattle.h2_spec.specs.declared.frames.PayloadFault.{PayloadFault}
 use Rattle.h2_spec.specs.declared.frames.PayloadFault.TheVariants.{SizeFault, PadFault}
-use Rattle.h2_spec.specs.Pump.{pump}
+use Rattle.h2_spec.specs.SendPending.{send_pending}
 use Rattle.h2_spec.specs.SettingsFrame.{settings_applied, settings_rule, settings_taken}
 use Rattle.h2_spec.specs.State.{Decoding, OpenBlock, State}
 use Rattle.h2_spec.specs.Stream.{stream_at}
-use Rattle.h2_spec.specs.Table.{Cell, headers_cell, DataRule, Take, Refuse, Count, ResetRule, PeerResets, WindowRule, MoveWindow, Error, Nothing, Rule, run_cell}
+use Rattle.h2_spec.specs.ReactionTable.{Cell, headers_cell, DataRule, Take, Refuse, Count, ResetRule, PeerResets, WindowRule, MoveWindow, Error, Nothing, Rule, run_cell}
 use Rattle.h2_spec.specs.Trace.{step, then_sent}
 use Rattle.h2_spec.specs.Window.{given_back, is_above_max}
 use Rattle.h2_spec.specs.WindowUpdate.{connection_window}
@@ -58,9 +58,9 @@ makes-past : (s : State) (r : Reaction) → PastIn r → PastBy (makes s r)
 makes-past s (ConnectionError code) h = tt
 makes-past s (Continues c) h = h
 
-turned-past : (c : Change) (t : Turn) → Past c.core.phase → Past (turned c t).core.phase
-unfolding turned
-turned-past c t h = h
+outcome-past : (c : Change) (t : StreamOutcome) → Past c.core.phase → Past (with_outcome c t).core.phase
+unfolding with_outcome
+outcome-past c t h = h
 
 cell-past : {R X : Type 0} (P : X → Type 0) (error : ErrorCode → X) (nothing : X) (rule : R → X) (cell : Cell R)
     → ((code : ErrorCode) → P (error code)) → P nothing → ((r : R) → P (rule r)) → P (run_cell error nothing rule cell)
@@ -70,66 +70,66 @@ cell-past P error nothing rule (Rule x) e n r = r x
 
 -- ---- the rules
 
-owed-past : (back : Option ℕ) (core : Core) (owed : ℕ) → Past core.phase → Past (owed_as back core owed).core.phase
+owed-past : (back : Option ℕ) (core : ConnectionState) (owed : ℕ) → Past core.phase → Past (owed_as back core owed).core.phase
 owed-past None core owed h = h
 owed-past (Some n) core owed h = h
 
-counted-past : (threshold : ℕ) (core : Core) (n : ℕ) → Past core.phase → Past (counted threshold core n).core.phase
+counted-past : (threshold : ℕ) (core : ConnectionState) (n : ℕ) → Past core.phase → Past (counted threshold core n).core.phase
 unfolding counted owed_on_connection
 counted-past threshold core n h = owed-past (given_back threshold (core.owed + n)) (record core { recv = core.recv -ℤ pos n }) (core.owed + n) h
 
-within-past : (core : Core) (n : ℕ) (c : Change) → Past c.core.phase → PastIn (if_within core n c)
+within-past : (core : ConnectionState) (n : ℕ) (c : Change) → Past c.core.phase → PastIn (if_within core n c)
 within-past core n c h = cond_both (int_lt core.recv (pos n)) (ConnectionError FlowControlError) (Continues c) PastIn (λ e. tt) (λ e. h)
 
-turned-within : (config : Config) (core : Core) (d : Came) (t : Turn) → Past core.phase → PastIn (if_within core d.octets (turned (counted config.credit core d.octets) t))
-turned-within config core d t h =
-    within-past core d.octets (turned (counted config.credit core d.octets) t) (turned-past (counted config.credit core d.octets) t (counted-past config.credit core d.octets h))
+outcome-within : (config : Config) (core : ConnectionState) (d : ReceivedData) (t : StreamOutcome) → Past core.phase → PastIn (if_within core d.octets (with_outcome (counted config.credit core d.octets) t))
+outcome-within config core d t h =
+    within-past core d.octets (with_outcome (counted config.credit core d.octets) t) (outcome-past (counted config.credit core d.octets) t (counted-past config.credit core d.octets h))
 
-data-past : (rule : DataRule) (config : Config) (core : Core) (body : ℕ) (d : Came) (st : Stream) → Past core.phase → PastIn (data_rule rule config core body d st)
+data-past : (rule : DataRule) (config : Config) (core : ConnectionState) (body : ℕ) (d : ReceivedData) (st : Stream) → Past core.phase → PastIn (data_rule rule config core body d st)
 unfolding data_taken data_refused data_counted
-data-past Take config core body d st h = turned-within config core d (data_turn config.credit core.peer.signal body d st) h
-data-past (Refuse code) config core body d st h = turned-within config core d (stream_error core.peer.signal st.id code) h
+data-past Take config core body d st h = outcome-within config core d (data_outcome config.credit core.peer.size_update_pending body d st) h
+data-past (Refuse code) config core body d st h = outcome-within config core d (stream_error core.peer.size_update_pending st.id code) h
 data-past Count config core body d st h = within-past core d.octets (counted config.credit core d.octets) (counted-past config.credit core d.octets h)
 
-on_data-past : (config : Config) (core : Core) (body : ℕ) (d : Came) (st : Stream) → Past core.phase → PastIn (on_data config core body d st)
+on_data-past : (config : Config) (core : ConnectionState) (body : ℕ) (d : ReceivedData) (st : Stream) → Past core.phase → PastIn (on_data config core body d st)
 unfolding on_data
 on_data-past config core body d st h = cell-past PastIn ConnectionError (nothing core) (λ rule. data_rule rule config core body d st) _ (λ code. tt) h (λ rule. data-past rule config core body d st h)
 
-reset-past : (rule : ResetRule) (core : Core) (st : Stream) → Past core.phase → PastIn (reset_rule rule core st)
-reset-past PeerResets core st h = turned-past (stay core) _ h
+reset-past : (rule : ResetRule) (core : ConnectionState) (st : Stream) → Past core.phase → PastIn (reset_rule rule core st)
+reset-past PeerResets core st h = outcome-past (only_counts core) _ h
 
-on_reset-past : (core : Core) (st : Stream) → Past core.phase → PastIn (on_reset core st)
+on_reset-past : (core : ConnectionState) (st : Stream) → Past core.phase → PastIn (on_reset core st)
 unfolding on_reset
 on_reset-past core st h = cell-past PastIn ConnectionError (nothing core) (λ rule. reset_rule rule core st) _ (λ code. tt) h (λ rule. reset-past rule core st h)
 
-window-past : (rule : WindowRule) (core : Core) (increment : ℕ) (st : Stream) → Past core.phase → PastIn (window_rule rule core increment st)
-window-past MoveWindow core increment st h = turned-past (stay core) _ h
+window-past : (rule : WindowRule) (core : ConnectionState) (increment : ℕ) (st : Stream) → Past core.phase → PastIn (window_rule rule core increment st)
+window-past MoveWindow core increment st h = outcome-past (only_counts core) _ h
 
-on_window-past : (core : Core) (increment : ℕ) (st : Stream) → Past core.phase → PastIn (on_window core increment st)
+on_window-past : (core : ConnectionState) (increment : ℕ) (st : Stream) → Past core.phase → PastIn (on_window core increment st)
 unfolding on_window
 on_window-past core increment st h = cell-past PastIn ConnectionError (nothing core) (λ rule. window_rule rule core increment st) _ (λ code. tt) h (λ rule. window-past rule core increment st h)
 
-connection_window-past : (core : Core) (increment : ℕ) → Past core.phase → PastIn (connection_window core increment)
+connection_window-past : (core : ConnectionState) (increment : ℕ) → Past core.phase → PastIn (connection_window core increment)
 unfolding connection_window
 connection_window-past core increment h =
-    let c : Change = stay (record core { send = core.send +ℤ pos increment }) in
+    let c : Change = only_counts (record core { send = core.send +ℤ pos increment }) in
     cond_both (increment == 0) (ConnectionError ProtocolError) (if is_above_max (core.send +ℤ pos increment) then ConnectionError FlowControlError else Continues c) PastIn (λ e. tt)
     (λ e. cond_both (is_above_max (core.send +ℤ pos increment)) (ConnectionError FlowControlError) (Continues c) PastIn (λ f. tt) (λ f. h))
 
-taken-past : (core : Core) (r : Result Settings ErrorCode) → PastIn (settings_taken core r)
+taken-past : (core : ConnectionState) (r : Result Settings ErrorCode) → PastIn (settings_taken core r)
 taken-past core (Err code) = tt
 taken-past core (Ok peer) = refl
 
-settings-past : (streams : List Stream) (core : Core) (pairs : List (ℕ × ℕ)) → PastIn (settings_rule streams core pairs)
+settings-past : (streams : List Stream) (core : ConnectionState) (pairs : List (ℕ × ℕ)) → PastIn (settings_rule streams core pairs)
 unfolding settings_rule
 settings-past streams core pairs = taken-past core (settings_applied streams core.peer core.peer pairs)
 
 -- ---- field blocks
 
 ends-past : (s : State) (id : ℕ) (ends : Bool) (fields : List Field) (purpose : Purpose) → Past s.core.phase → Past (block_ends s id ends fields purpose).core.phase
-ends-past s id ends fields Request h = turned-past _ _ h
-ends-past s id ends fields Trailers h = turned-past _ _ h
-ends-past s id ends fields Closed h = turned-past _ _ h
+ends-past s id ends fields Request h = outcome-past _ _ h
+ends-past s id ends fields Trailers h = outcome-past _ _ h
+ends-past s id ends fields Closed h = outcome-past _ _ h
 ends-past s id ends fields TableOnly h = h
 
 read-past : (s : State) (b : BlockView) (d : Decoding) (end_headers : Bool) → Past s.core.phase → PastBy (fragment_read s b d end_headers)
@@ -158,14 +158,14 @@ continuation-past s None octets end_headers h = tt
 continuation-past s (Some b) octets end_headers h = continued-past s b.shown b.decoding octets end_headers h
 
 headers-past : (s : State) (head : Head) (part : HeadersPart) (cell : Cell Purpose) → Past s.core.phase → PastBy (on_headers s head part cell)
-headers-past s head part cell h = cell-past PastBy Breaks (Makes s (stay s.core)) (λ purpose. block_opens s purpose head part) cell (λ code. tt) h (λ purpose. fragment-past s (fresh_block head) (fresh_decoding purpose) part.fragment (has head.flags END_HEADERS) h)
+headers-past s head part cell h = cell-past PastBy Breaks (Makes s (only_counts s.core)) (λ purpose. block_opens s purpose head part) cell (λ code. tt) h (λ purpose. fragment-past s (fresh_block head) (fresh_decoding purpose) part.fragment (has head.flags END_HEADERS) h)
 
 -- ---- frames
 
 frame-past : (s : State) (head : Head) (p : List ℕ) (part : Part) → Past s.core.phase → PastBy (frame_effect s head p part)
 frame-past s head p (OfData part) h =
     let st = stream_at s.core.last s.streams head.stream in
-    makes-past s (on_data s.config s.core (body_length s.book st) (came head p part) st) (on_data-past s.config s.core (body_length s.book st) (came head p part) st h)
+    makes-past s (on_data s.config s.core (body_length s.book st) (incoming head p part) st) (on_data-past s.config s.core (body_length s.book st) (incoming head p part) st h)
 frame-past s head p (OfHeaders part) h = headers-past s head part (headers_cell head.stream (stream_at s.core.last s.streams head.stream).kind) h
 frame-past s head p OfPriority h = h
 frame-past s head p (OfRstStream code) h = let st = stream_at s.core.last s.streams head.stream in makes-past s (on_reset s.core st) (on_reset-past s.core st h)
@@ -173,8 +173,8 @@ frame-past s head p (OfSettings pairs) h = makes-past s (settings_rule s.streams
 frame-past s head p OfSettingsAck h = h
 frame-past s head p OfPushPromise h = tt
 frame-past s head p (OfPing octets) h =
-    makes-past s (if has head.flags ACK then nothing s.core else Continues (record (stay s.core) { first = PingAck }))
-    (cond_both (has head.flags ACK) (nothing s.core) (Continues (record (stay s.core) { first = PingAck })) PastIn (λ e. h) (λ e. h))
+    makes-past s (if has head.flags ACK then nothing s.core else Continues (record (only_counts s.core) { first = PingAck }))
+    (cond_both (has head.flags ACK) (nothing s.core) (Continues (record (only_counts s.core) { first = PingAck })) PastIn (λ e. h) (λ e. h))
 frame-past s head p (OfGoaway last code) h = h
 frame-past s head p (OfWindowUpdate increment) h =
     let st = stream_at s.core.last s.streams head.stream in
@@ -200,7 +200,7 @@ concluded-past s p (Breaks code) h = refl
 concluded-past s p (Makes t c) h = h
 
 sent-phase : (p : Phase) (e : Step) → (then_sent p e).state.core.phase ≡ e.state.core.phase
-unfolding pump
+unfolding send_pending
 sent-phase phase.Preface e = refl
 sent-phase phase.Settings e = refl
 sent-phase phase.Running e = refl

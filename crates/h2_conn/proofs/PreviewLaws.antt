@@ -5,20 +5,20 @@ use Rattle.std.proofs.lemmas.Bool.Decides.{nat_tests}
 use Rattle.std.specs.Prelude.{find, nat_lt, ◌&&◌, not, ◌==◌, is_some}
 use Rattle.std.specs.List.{AllByRecursion}
 use Rattle.std.specs.Option.{option_map}
-use Rattle.h2_spec.specs.declared.connection.Core.{Core}
+use Rattle.h2_spec.specs.declared.connection.ConnectionState.{ConnectionState}
 use Rattle.h2_spec.specs.declared.reactions.Change.{Change}
-use Rattle.h2_spec.specs.declared.reactions.Touch.{Touch}
-use Rattle.h2_spec.specs.declared.reactions.Touch.TheVariants.{Same, Put, Shift}
+use Rattle.h2_spec.specs.declared.reactions.RecordUpdate.{RecordUpdate}
+use Rattle.h2_spec.specs.declared.reactions.RecordUpdate.TheVariants.{Unchanged, Put, Shift}
 use Rattle.h2_spec.specs.declared.streams.Stream.{Stream}
 use Rattle.h2_spec.specs.declared.streams.Kind.{Kind}
 use Rattle.h2_spec.specs.declared.streams.Kind.TheVariants.{Idle}
 use Rattle.h2_spec.specs.Answer.{Entry}
-use Rattle.h2_spec.specs.Change.{follows_initial_window, moved_by, overflows, overflows_one, shifted, shifted_one, touched, with_send}
+use Rattle.h2_spec.specs.Change.{follows_initial_window, moved_by, overflows, overflows_one, shifted, shifted_one, updated_streams, with_send}
 use Rattle.h2_spec.specs.Stream.{AreRising, Records, put, record_of, recorded, not_live, stream_at, kind_of, is_id, waits_above, octets_waiting}
 use Rattle.h2_streams.specs.Put.{can_become}
-use Rattle.h2_rules.specs.Sound.{HasBody, IsSoundTouch, IsSoundChange, IsSoundState, AreSound, touched_records}
-use Rattle.h2_conn.specs.Preview.{is_other_waiting, lower_waiting, CanMove, CanTouch, CanSend}
-use Rattle.h2_rules.proofs.SoundLaws.{changed-sound, touched-streams}
+use Rattle.h2_rules.specs.Sound.{HasBody, IsSoundRecordUpdate, IsSoundChange, IsSoundState, AreSound, updated_records}
+use Rattle.h2_conn.specs.Preview.{is_other_waiting, lower_waiting, CanMove, CanUpdateRecord, CanSend}
+use Rattle.h2_rules.proofs.SoundLaws.{changed-sound, updated-streams}
 use Rattle.h2_conn.proofs.AboveLaws.{some_same, none_some, found_above, found_passes, found_record, waits_is_above}
 
 -- ---- the others
@@ -225,10 +225,10 @@ placed_odd id last ss r new known = at (ltb last id) refl
         ap (λ i. i % 2) (sym same) ∙ (found_record (is_id id) 0 last ss found.0 r found.1).1
 
 -- records stay in the order of their opening
-pub rising_touched : (t : Touch) (r : Records) → AreRising 0 r.last r.streams → CanTouch t r → AreRising 0 (touched_records t r).last (touched t r.streams)
-rising_touched Same r rising h = rising
-rising_touched (Put st) r rising h = let odd = placed_odd st.id r.last r.streams rising h.0 h.1 in rising_put 0 r.last r.streams st rising (odd_above st.id odd) odd h.1
-rising_touched (Shift from to) r rising h = rising_shifted 0 r.last (moved_by from to) r.streams rising
+pub rising_updated : (t : RecordUpdate) (r : Records) → AreRising 0 r.last r.streams → CanUpdateRecord t r → AreRising 0 (updated_records t r).last (updated_streams t r.streams)
+rising_updated Unchanged r rising h = rising
+rising_updated (Put st) r rising h = let odd = placed_odd st.id r.last r.streams rising h.0 h.1 in rising_put 0 r.last r.streams st rising (odd_above st.id odd) odd h.1
+rising_updated (Shift from to) r rising h = rising_shifted 0 r.last (moved_by from to) r.streams rising
 
 -- what is found is not above the last stream
 pub found_within : (p : Stream → Bool) (last : ℕ) (ss : List Stream) (st : Stream) → AreRising 0 last ss → find p ss ≡ Some st → st.id ≤ last
@@ -269,17 +269,17 @@ can_move book from to (x ∷ xs) fits s = at (overflows_one (moved_by from to) x
     at true e h more = absurd (false≢true (sym h))
     at false e h more = (one (follows_initial_window x.kind) refl e, more h)
 
-can_touch : (book : List Entry) (r : Records) (before : ℕ) (now : Core) (t : Touch) → IsSoundTouch book r before now t → AreSound book before r.streams → CanTouch t r
-can_touch book r before now Same h s = tt
-can_touch book r before now (Put st) h s = (h.3.0, λ within. becomes_known r.last st.id r.streams st.kind (h.3.1 within))
-can_touch book r before now (Shift from to) h s = can_move book from to r.streams h.0 (subst (λ w. AreSound book w r.streams) (sym h.1) s)
+can_update_record : (book : List Entry) (r : Records) (before : ℕ) (now : ConnectionState) (t : RecordUpdate) → IsSoundRecordUpdate book r before now t → AreSound book before r.streams → CanUpdateRecord t r
+can_update_record book r before now Unchanged h s = tt
+can_update_record book r before now (Put st) h s = (h.3.0, λ within. becomes_known r.last st.id r.streams st.kind (h.3.1 within))
+can_update_record book r before now (Shift from to) h s = can_move book from to r.streams h.0 (subst (λ w. AreSound book w r.streams) (sym h.1) s)
 
 -- what waits after a sound change can be sent
-pub can_send : (book : List Entry) (core : Core) (r : Records) (c : Change) → IsSoundState book core r → IsSoundChange book r core.peer.window c → CanSend book r c.touch
+pub can_send : (book : List Entry) (core : ConnectionState) (r : Records) (c : Change) → IsSoundState book core r → IsSoundChange book r core.peer.window c → CanSend book r c.record_update
 can_send book core r c state change =
     let after = changed-sound book core r c state change in
     let P : List Stream → Type 0 = λ ss. AllByRecursion (HasBody book) ss in
     record {
-      touches = can_touch book r core.peer.window c.core c.touch change.1 state.records;
-      bodies = subst P (touched-streams c.touch r) (sound_bodies book c.core.peer.window (touched_records c.touch r).streams after.records);
+      touches = can_update_record book r core.peer.window c.core c.record_update change.1 state.records;
+      bodies = subst P (updated-streams c.record_update r) (sound_bodies book c.core.peer.window (updated_records c.record_update r).streams after.records);
     }

@@ -1,10 +1,10 @@
 -- The counts stay within their limits where what waits is sent.
 use Rattle.std.proofs.Common.{ℕ, ◌-◌, eqb, ◌≤◌, List, [], ◌∷◌, length, Bool, true, false, cond, refl, ◌∙◌, arith, ℤ, pos, negsuc, ◌+ℤ◌, ◌-ℤ◌, ◌≤ℤ◌}
-use Rattle.h2_spec.specs.declared.connection.Core.{Core}
+use Rattle.h2_spec.specs.declared.connection.ConnectionState.{ConnectionState}
 use Rattle.h2_spec.specs.declared.streams.Stream.{Stream}
 use Rattle.h2_spec.specs.Answer.{Entry, picked}
-use Rattle.h2_spec.specs.Ends.{server_ended, with_left}
-use Rattle.h2_spec.specs.Pump.{after_sending, all_after_sending, share, with_paid}
+use Rattle.h2_spec.specs.StreamEnds.{server_ended, with_body_remaining}
+use Rattle.h2_spec.specs.SendPending.{after_sending, all_after_sending, allowance, with_paid}
 use Rattle.h2_spec.specs.Stream.{Records, is_live, octets_waiting}
 use Rattle.h2_spec.specs.Window.{sendable}
 use Rattle.h2_rules.specs.Sound.{AreSound, HasBody, IsSoundState, IsSoundStream, is_recorded}
@@ -25,7 +25,7 @@ paid-body : (book : List Entry) (n : ℕ) (st : Stream) → HasBody book st → 
 unfolding octets_waiting
 paid-body book n st h = h
 
-left-body : (book : List Entry) (n : ℕ) (st : Stream) → HasBody book st → n ≤ octets_waiting st → HasBody book (with_left st n)
+left-body : (book : List Entry) (n : ℕ) (st : Stream) → HasBody book st → n ≤ octets_waiting st → HasBody book (with_body_remaining st n)
 unfolding octets_waiting
 left-body book n st h within = (h.0, by_test (is_live st.kind) (let most = h.1 in omega (arith, within, most)))
   where
@@ -48,25 +48,25 @@ sent-sound-one book window n st least waits within h = by_tests (eqb n 0) (eqb (
     body : HasBody book paid
     body = paid-body book n st h.1
 
-    by_tests : (s t : Bool) → (let now = cond s st (cond t (server_ended paid) (with_left paid (octets_waiting st - n))) in IsSoundStream window now × HasBody book now)
+    by_tests : (s t : Bool) → (let now = cond s st (cond t (server_ended paid) (with_body_remaining paid (octets_waiting st - n))) in IsSoundStream window now × HasBody book now)
     by_tests true t = h
     by_tests false true = (ended-sound window paid sound, ended-body book paid body)
     by_tests false false = (sound, left-body book (octets_waiting st - n) paid body (omega arith))
 
-share-within : (window : ℕ) (st : Stream) → (share window st ≤ octets_waiting st) × (share window st ≤ sendable st.numbers.send)
-unfolding share
-share-within window st = (omega arith, omega arith)
+allowance-within : (window : ℕ) (st : Stream) → (allowance window st ≤ octets_waiting st) × (allowance window st ≤ sendable st.numbers.send)
+unfolding allowance
+allowance-within window st = (omega arith, omega arith)
 
 all-sent-sound : (book : List Entry) (initial window : ℕ) (streams : List Stream) → initial ≤ 2147483647 → AreSound book initial streams → AreSound book initial (all_after_sending window streams)
 unfolding all_after_sending
 all-sent-sound book initial window [] least all = tt
 all-sent-sound book initial window (st ∷ sts) least all =
-    let n = share window st in
-    let within = share-within window st in
+    let n = allowance window st in
+    let within = allowance-within window st in
     let one = sent-sound-one book initial n st least within.0 within.1 (all.0.0, all.0.1) in
     ((one.0, one.1, sent-kind is_recorded refl refl n st ∙ all.0.2), all-sent-sound book initial (window - n) sts least all.1)
 
 -- the state is sound after sending
-pub sent-sound : (book : List Entry) (core : Core) (r : Records) (window n : ℕ) → IsSoundState book core r →
+pub sent-sound : (book : List Entry) (core : ConnectionState) (r : Records) (window n : ℕ) → IsSoundState book core r →
     IsSoundState book (record core { send = core.send -ℤ pos n }) (record r { streams = all_after_sending window r.streams })
 sent-sound book core r window n state = record { counts = state.counts; records = all-sent-sound book core.peer.window window r.streams state.counts.1 state.records; last = state.last }

@@ -2,18 +2,18 @@
 use Rattle.std.proofs.Common.{ℕ, zero, suc, ◌+◌, ◌-◌, ◌<◌, ◌≤◌, ◌^◌, List, [], ◌∷◌, ◌++◌, Bool, false, length, take, drop, leb-true, arith, length-take}
 use Rattle.std.proofs.lemmas.Bool.{cond_both}
 use Rattle.std.specs.Prelude.{nat_le}
-use Rattle.h2_spec.specs.declared.connection.Core.{Core}
+use Rattle.h2_spec.specs.declared.connection.ConnectionState.{ConnectionState}
 use Rattle.h2_spec.specs.declared.connection.Phase.{Phase}
 use Rattle.h2_spec.specs.declared.connection.Phase.TheVariants as phase
 use Rattle.h2_spec.specs.declared.reactions.ConnectionFrame.{ConnectionFrame}
-use Rattle.h2_spec.specs.declared.reactions.ConnectionFrame.TheVariants.{Quiet, SettingsAck, PingAck, Credit}
+use Rattle.h2_spec.specs.declared.reactions.ConnectionFrame.TheVariants.{NoConnectionFrame, SettingsAck, PingAck, Credit}
 use Rattle.h2_spec.specs.declared.reactions.StreamFrame.{StreamFrame}
-use Rattle.h2_spec.specs.declared.reactions.StreamFrame.TheVariants.{Still, Reset, StreamCredit}
+use Rattle.h2_spec.specs.declared.reactions.StreamFrame.TheVariants.{NoStreamFrame, Reset, StreamCredit}
 use Rattle.h2_spec.specs.declared.streams.Stream.{Stream}
 use Rattle.h2_spec.specs.Answer.{Entry}
 use Rattle.h2_spec.specs.Change.{first_frames, second_frames}
 use Rattle.h2_spec.specs.Frame.{Frame}
-use Rattle.h2_spec.specs.Pump.{data_frames, data_upto, piece, sent_frames, share, share_frames}
+use Rattle.h2_spec.specs.SendPending.{data_frames, data_upto, piece, sent_frames, allowance, allowance_frames}
 use Rattle.h2_spec.specs.Window.{sendable}
 use Rattle.h2_conn.specs.Does.{AreShort}
 use Rattle.h2_conn.specs.Sending.{waiting_frames, waiting_frames_as}
@@ -23,13 +23,13 @@ short-append [] gs h k = k
 short-append (f ∷ fs) gs h k = (h.0, short-append fs gs h.1 k)
 
 pub first-short : (p : List ℕ) (first : ConnectionFrame) → length p < 2 ^ 24 → AreShort (first_frames p first)
-first-short p Quiet h = tt
+first-short p NoConnectionFrame h = tt
 first-short p SettingsAck h = (omega arith, tt)
 first-short p PingAck h = (h, tt)
 first-short p (Credit n) h = (omega arith, tt)
 
 pub second-short : (second : StreamFrame) → AreShort (second_frames second)
-second-short Still = tt
+second-short NoStreamFrame = tt
 second-short (Reset id code) = (omega arith, tt)
 second-short (StreamCredit id n) = (omega arith, tt)
 
@@ -42,18 +42,18 @@ data_upto-short (suc more) id ends size (x ∷ xs) h =
     (λ e. (omega (arith, leb-true (length (x ∷ xs)) size e), tt))
     (λ e. (omega (arith, length-take size (x ∷ xs)), data_upto-short more id ends size (drop size (x ∷ xs)) h))
 
-share_frames-short : (book : List Entry) (size n : ℕ) (st : Stream) → size < 2 ^ 24 → AreShort (share_frames book size n st)
-unfolding share_frames data_frames
+share_frames-short : (book : List Entry) (size n : ℕ) (st : Stream) → size < 2 ^ 24 → AreShort (allowance_frames book size n st)
+unfolding allowance_frames data_frames
 share_frames-short book size n st h = data_upto-short _ _ _ size _ h
 
 sent_frames-short : (book : List Entry) (size window : ℕ) (sts : List Stream) → size < 2 ^ 24 → AreShort (sent_frames book size window sts)
 unfolding sent_frames
 sent_frames-short book size window [] h = tt
 sent_frames-short book size window (st ∷ sts) h =
-    short-append (share_frames book size (share window st) st) (sent_frames book size (window - share window st) sts)
-    (share_frames-short book size (share window st) st h) (sent_frames-short book size (window - share window st) sts h)
+    short-append (allowance_frames book size (allowance window st) st) (sent_frames book size (window - allowance window st) sts)
+    (share_frames-short book size (allowance window st) st h) (sent_frames-short book size (window - allowance window st) sts h)
 
-pub waiting_frames-short : (book : List Entry) (core : Core) (sts : List Stream) → core.peer.frame < 2 ^ 24 → AreShort (waiting_frames book core sts)
+pub waiting_frames-short : (book : List Entry) (core : ConnectionState) (sts : List Stream) → core.peer.frame < 2 ^ 24 → AreShort (waiting_frames book core sts)
 waiting_frames-short book core sts h = at core.phase
   where
     at : (ph : Phase) → AreShort (waiting_frames_as ph book core sts)

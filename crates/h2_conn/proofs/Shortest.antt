@@ -62,7 +62,7 @@ preface-later b c none =
       where
         go : (t : Bool) → ltb (length b) 24 ≡ t → length b < 24
         go true e = ltb-true (length b) 24 e
-        go false e = let long = ltb-false (length b) 24 e in let got = decided (ltb (length b) more) refl m (omega (arith, long)) in absurd (no_got Preface 24 (sym none ∙ got))
+        go false e = let long = ltb-false (length b) 24 e in let content_received = decided (ltb (length b) more) refl m (omega (arith, long)) in absurd (no_got Preface 24 (sym none ∙ content_received))
 
     early-bad : eqb more 24 ≡ false → length b < more + 1
     early-bad e = go (ltb (length b) (more + 1)) refl
@@ -72,8 +72,8 @@ preface-later b c none =
         go false g =
             let long : more + 1 ≤ length b = ltb-false (length b) (more + 1) g in
             let equal : same ≡ more = common-early b c preface (omega (arith, long)) in
-            let got : preface_item same b ≡ Got BadPreface (more + 1) = rw (equal, e, lt-ltb more (length b) (omega (arith, long))) refl in
-            absurd (no_got BadPreface (more + 1) (sym none ∙ got))
+            let content_received : preface_item same b ≡ Got BadPreface (more + 1) = rw (equal, e, lt-ltb more (length b) (omega (arith, long))) refl in
+            absurd (no_got BadPreface (more + 1) (sym none ∙ content_received))
 
 head-append : (b c : List ℕ) → 9 ≤ length b → head_of (b ++ c) ≡ head_of b
 unfolding head_of

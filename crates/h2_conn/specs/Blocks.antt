@@ -10,14 +10,14 @@ use Rattle.h2_spec.specs.DynamicTable.{Table}
 use Rattle.h2_spec.specs.Headers as headers
 use Rattle.h2_spec.specs.State.{Decoding, OpenBlock, State}
 use Rattle.h2_spec.specs.Stream.{Records}
-use Rattle.h2_spec.specs.Table.{Cell, Error, Rule}
+use Rattle.h2_spec.specs.ReactionTable.{Cell, Error, Rule}
 pub use Rattle.h2_rules.specs.Open.{IsOpenAt, state_of}
 use Rattle.h2_fields.specs.Blocks.{unfinished}
-use Rattle.h2_rules.specs.Sound.{IsSoundChange, touched_records}
+use Rattle.h2_rules.specs.Sound.{IsSoundChange, updated_records}
 use Rattle.h2_conn.specs.declared.block.FragmentEffect.{FragmentEffect}
 use Rattle.h2_conn.specs.declared.block.FragmentEffect.TheVariants.{Breaks, Makes}
 use Rattle.h2_conn.specs.declared.block.TableAfter.{TableAfter}
-use Rattle.h2_conn.specs.declared.block.TableAfter.TheVariants.{Same, Changed}
+use Rattle.h2_conn.specs.declared.block.TableAfter.TheVariants.{Unchanged, Changed}
 
 -- a block whose decoder has met no fault and has not run out of memory, and need not begin with a size update
 abbrev pub IsGoing : BlockSoFar → Type 0
@@ -67,12 +67,12 @@ end_error (octet ∷ rest) = Some CompressionError
 
 -- the header table after a fragment, by the one before it
 abbrev pub table_by : {A : Type 0} → Table → TableAfter A → Table
-table_by before Same = before
+table_by before Unchanged = before
 table_by before (Changed table) = table.table
 
 -- another table has this limit
 abbrev pub HasLimit : {A : Type 0} → ℕ → TableAfter A → Type 0
-HasLimit limit Same = Unit {0}
+HasLimit limit Unchanged = Unit {0}
 HasLimit limit (Changed table) = table.limit ≡ limit
 
 -- in a state
@@ -84,7 +84,7 @@ effect_seen s (Makes block table change) = headers.Makes (record s { block = blo
 abbrev pub IsSoundEffect : {A : Type 0} → List Entry → Records → ℕ → ℕ → FragmentEffect A → Type 0
 IsSoundEffect book r window limit (Breaks code) = Unit {0}
 IsSoundEffect book r window limit (Makes block table change) =
-    IsSoundChange book r window change × HasLimit limit table × IsOpenFor (touched_records change.touch r) block
+    IsSoundChange book r window change × HasLimit limit table × IsOpenFor (updated_records change.record_update r) block
 
 -- what is shown of the open block, and how far it is decoded, if it is decoded further
 abbrev pub decoding_in : BlockView → Option Decoding → Option (BlockView × Decoding)

@@ -1,11 +1,11 @@
 -- Records as they will be after a rule touches them, looked through before it does.
 use Rattle.std.specs.Prelude.{◌≡◌, ℕ, ◌<◌, ◌≤◌, ◌%◌, Bool, true, ◌&&◌, not, List, nat_lt, ◌==◌, if◌then◌else◌, Option, Some, None, is_some, pos, ◌+ℤ◌, ◌≤ℤ◌}
 use Rattle.std.specs.List.{AllByRecursion}
-use Rattle.h2_spec.specs.declared.reactions.Touch.{Touch}
-use Rattle.h2_spec.specs.declared.reactions.Touch.TheVariants.{Same, Put, Shift}
+use Rattle.h2_spec.specs.declared.reactions.RecordUpdate.{RecordUpdate}
+use Rattle.h2_spec.specs.declared.reactions.RecordUpdate.TheVariants.{Unchanged, Put, Shift}
 use Rattle.h2_spec.specs.declared.streams.Stream.{Stream}
 use Rattle.h2_spec.specs.Answer.{Entry}
-use Rattle.h2_spec.specs.Change.{follows_initial_window, moved_by, touched}
+use Rattle.h2_spec.specs.Change.{follows_initial_window, moved_by, updated_streams}
 use Rattle.h2_spec.specs.Stream.{Records, record_of, waits_above}
 use Rattle.h2_rules.specs.Sound.{HasBody}
 
@@ -26,12 +26,12 @@ IsPlaced id r = (r.last < id → id % 2 ≡ 1) × (id ≤ r.last → is_some (re
 abbrev pub CanMove : ℕ → ℕ → Stream → Type 0
 CanMove from to st = follows_initial_window st.kind ≡ true → ((st.numbers.send +ℤ moved_by from to) ≤ℤ pos 2147483647) × (pos from ≤ℤ (st.numbers.send +ℤ pos 2147483647))
 
-abbrev pub CanTouch : Touch → Records → Type 0
-CanTouch Same r = Unit {0}
-CanTouch (Put st) r = IsPlaced st.id r
-CanTouch (Shift from to) r = AllByRecursion (CanMove from to) r.streams
+abbrev pub CanUpdateRecord : RecordUpdate → Records → Type 0
+CanUpdateRecord Unchanged r = Unit {0}
+CanUpdateRecord (Put st) r = IsPlaced st.id r
+CanUpdateRecord (Shift from to) r = AllByRecursion (CanMove from to) r.streams
 
 -- what waits after it can be sent: each stream has its body in the book
-pub record CanSend (book : List Entry) (r : Records) (touch : Touch) : Type 0 where
-  pub touches : CanTouch touch r
-  pub bodies : AllByRecursion (HasBody book) (touched touch r.streams)
+pub record CanSend (book : List Entry) (r : Records) (record_update : RecordUpdate) : Type 0 where
+  pub touches : CanUpdateRecord record_update r
+  pub bodies : AllByRecursion (HasBody book) (updated_streams record_update r.streams)

@@ -9,7 +9,7 @@ ghost use Rattle.h2_spec.specs.FrameType as frames;
 ghost use Rattle.h2_spec.specs.Headers as rule;
 ghost use Rattle.h2_spec.specs.State as state;
 ghost use Rattle.h2_spec.specs.Stream.{Records, kind_of};
-ghost use Rattle.h2_spec.specs.Table.{headers_cell};
+ghost use Rattle.h2_spec.specs.ReactionTable.{headers_cell};
 ghost use Rattle.h2_fields.specs.Blocks.{unfinished};
 ghost use Rattle.h2_fields.specs.declared.fault.BlockFault.TheVariants.{NoMemory};
 ghost use Rattle.h2_conn.specs.Blocks.{HasLimit, IsFaulty, IsGoing, IsOpenAt, IsSoundEffect, after_fragment, before_fragment, cell_of, effect_seen, end_error, state_of, table_by};
@@ -21,9 +21,9 @@ use h2_fields::block::BlockDecoder;
 use h2_fields::fault::BlockFault;
 use h2_request::book::Book;
 use h2_rules::block_end::block_ends;
-use h2_rules::change::stay;
+use h2_rules::change::only_counts;
 use h2_rules::checks::has;
-use h2_spec::connection::{BlockView, Config, Core, Purpose};
+use h2_spec::connection::{BlockView, Config, ConnectionState, Purpose};
 use h2_spec::errors::ErrorCode;
 use h2_spec::frames::Head;
 use h2_spec::reactions::Change;
@@ -44,7 +44,7 @@ const MAX_BLOCK: usize = 65_536;
 /// The header table after a fragment: the one before it, or another.
 #[derive(Drop)]
 pub enum TableAfter<A: Allocator> {
-    Same,
+    Unchanged,
     Changed(DynTable<A>),
 }
 
@@ -55,7 +55,7 @@ impl<A: Allocator> TableAfter<A> {
         ensures limit { HasLimit table.old.limit self → table.new.limit ≡ table.old.limit }
     {
         match self {
-            TableAfter::Same => {}
+            TableAfter::Unchanged => {}
             TableAfter::Changed(changed) => *table = changed,
         }
     }
@@ -93,7 +93,7 @@ fn decoded<A: Allocator + Copy>(
 {
     let used = decoder.push_still(table, octets)?;
     if is_all(used, octets.len()) {
-        return Ok(TableAfter::Same);
+        return Ok(TableAfter::Unchanged);
     }
     let mut copy = table.try_clone()?;
     decoder.push(&mut copy, octets_from(octets, used))?;
@@ -101,7 +101,7 @@ fn decoded<A: Allocator + Copy>(
 }
 
 /// Whether a fault is one of the octets: `AllocError` where it is out of memory.
-fn no_want(fault: BlockFault) -> Result<(), AllocError>
+fn memory_is_enough(fault: BlockFault) -> Result<(), AllocError>
     ensures { OnOk result (fault ≢ NoMemory) }
 {
     match fault {
@@ -118,7 +118,7 @@ fn no_want(fault: BlockFault) -> Result<(), AllocError>
 fn read<A: Allocator + Copy>(
     book: &Book<A>,
     config: Config,
-    core: Core,
+    core: ConnectionState,
     streams: &Streams<A>,
     table: TableAfter<A>,
     shown: BlockView,
@@ -135,7 +135,7 @@ fn read<A: Allocator + Copy>(
             shown,
             decoding: Some(decoding),
         };
-        return FragmentEffect::Makes(Some(block), table, stay(core));
+        return FragmentEffect::Makes(Some(block), table, only_counts(core));
     }
     match end_error(&decoding.decoder) {
         None => {
@@ -175,7 +175,7 @@ fn end_error<A: Allocator + Copy>(decoder: &BlockDecoder<A>) -> Option<ErrorCode
 pub fn fragment<A: Allocator + Copy>(
     book: &Book<A>,
     config: Config,
-    core: Core,
+    core: ConnectionState,
     streams: &Streams<A>,
     table: &DynTable<A>,
     shown: BlockView,
@@ -201,7 +201,7 @@ pub fn fragment<A: Allocator + Copy>(
     let _max = table.max();
     match decoded(table, &mut decoder, octets) {
         Err(fault) => {
-            no_want(fault)?;
+            memory_is_enough(fault)?;
             Ok(FragmentEffect::Breaks(ErrorCode::CompressionError))
         }
         Ok(table) => {
@@ -251,7 +251,7 @@ pub fn opens<A: Allocator + Copy>(
     alloc: A,
     book: &Book<A>,
     config: Config,
-    core: Core,
+    core: ConnectionState,
     streams: &Streams<A>,
     table: &DynTable<A>,
     purpose: Purpose,

@@ -1,5 +1,5 @@
 //! HEADERS and CONTINUATION on a connection: a block is opened or goes on, and what it results in is made (RFC 9113, 6.2 and 6.10).
-//! Rests on `block` and on `make`; definitions: `on_headers` of h2_spec's `specs/Effect.antt`, `continuation` of `specs/Headers.antt`.
+//! Rests on `block` and on `apply_change`; definitions: `on_headers` of h2_spec's `specs/Effect.antt`, `continuation` of `specs/Headers.antt`.
 
 ghost use Rattle.std.specs.Prelude.{◌≡◌, ◌<◌, ◌^◌, length, IfOk, IfSome, OnOk, OnErr};
 ghost use Rattle.h2_frame.specs.Parts.{headers_seen};
@@ -8,7 +8,7 @@ ghost use Rattle.h2_spec.specs.Effect as rule;
 ghost use Rattle.h2_spec.specs.FrameType as frames;
 ghost use Rattle.h2_spec.specs.Headers as headers;
 ghost use Rattle.h2_spec.specs.Stream.{stream_at};
-ghost use Rattle.h2_spec.specs.Table.{headers_cell};
+ghost use Rattle.h2_spec.specs.ReactionTable.{headers_cell};
 ghost use Rattle.h2_spec.specs.declared.errors.ErrorCode.TheVariants.{ProtocolError};
 ghost use Rattle.h2_conn.specs.Blocks.{IsOpenAt, IsSoundEffect, IsStopped, cell_of, decoding_of, effect_seen};
 ghost use Rattle.h2_conn.specs.Does.{Does, stepped, stopped};
@@ -43,7 +43,7 @@ impl<'b, A: Allocator + Copy> State<'b, A> {
         match effect {
             FragmentEffect::Breaks(code) => self.fail(code, out),
             FragmentEffect::Makes(block, table, change) => {
-                self.make(change, payload, out)?;
+                self.apply_change(change, payload, out)?;
                 self.block = block;
                 table.replace(&mut self.table);
                 Ok(())

@@ -1,5 +1,5 @@
 //! What one item does: the checks, the rule of its frame's type, and then what waits is sent (RFC 9113, 5 and 6).
-//! Rests on the rules and on `make`; definitions: `effect` of h2_spec's `specs/Effect.antt`, `step` of `specs/Trace.antt`.
+//! Rests on the rules and on `apply_change`; definitions: `effect` of h2_spec's `specs/Effect.antt`, `step` of `specs/Trace.antt`.
 
 ghost use Rattle.std.specs.Prelude.{◌≡◌, ◌<◌, ◌^◌, ◌==◌, [], length, None, Ok, OnOk, OnErr, if◌then◌else◌};
 ghost use Rattle.h2_frame.specs.Items.{item_of};
@@ -26,17 +26,17 @@ ghost use Rattle.h2_rules.specs.Sound.{HasBody, IsSound, IsSoundState, IsSoundSt
 
 use crate::state::State;
 use h2_frame::{DataPart, FrameRef, Item, Part, PayloadFault, SettingsPart, part_of};
-use h2_rules::change::stay;
+use h2_rules::change::only_counts;
 use h2_rules::checks::{has, refusal};
 use h2_rules::control::{nothing, on_goaway, on_ping};
 use h2_rules::data::on_data;
 use h2_rules::reset::on_reset;
 use h2_rules::settings::{acknowledged, settings_rule};
 use h2_rules::window_update::{connection_window, on_window};
-use h2_spec::connection::{Core, Phase};
+use h2_spec::connection::{ConnectionState, Phase};
 use h2_spec::errors::ErrorCode;
 use h2_spec::frames::Head;
-use h2_spec::reactions::{Came, Reaction};
+use h2_spec::reactions::{Reaction, ReceivedData};
 use h2_spec::streams::Stream;
 use std::alloc::{AllocError, Allocator};
 
@@ -44,13 +44,13 @@ use std::alloc::{AllocError, Allocator};
 const FLAG_1: u8 = 1;
 
 /// What a frame of DATA brings.
-fn came(head: &Head, payload: &[u8], part: DataPart<'_>) -> Came
+fn incoming(head: &Head, payload: &[u8], part: DataPart<'_>) -> ReceivedData
     requires fits { length payload.now < 2 ^ 24 }
     requires part { part_of head.now payload.now ≡ Ok (OfData (data_seen part)) }
-    ensures { result ≡ rule.came head.now payload.now (data_seen part.entry) }
+    ensures { result ≡ rule.incoming head.now payload.now (data_seen part.entry) }
 {
     let content = part.content.len() as u32;
-    Came {
+    ReceivedData {
         octets: payload.len() as u32,
         content,
         ends: has(head.flags, FLAG_1),
@@ -59,7 +59,7 @@ fn came(head: &Head, payload: &[u8], part: DataPart<'_>) -> Came
 
 impl<'b, A: Allocator + Copy> State<'b, A> {
     /// The counts.
-    pub fn core(&self) -> Core
+    pub fn core(&self) -> ConnectionState
         ensures counts { result ≡ self.now.core }
         ensures sound { IsSoundState self.now.book result (records self.now) }
     {
@@ -88,13 +88,13 @@ impl<'b, A: Allocator + Copy> State<'b, A> {
     fn on_data(&self, head: &Head, payload: &[u8], part: DataPart<'_>) -> Reaction
         requires fits { length payload.now < 2 ^ 24 }
         requires part { part_of head.now payload.now ≡ Ok (OfData (data_seen part)) }
-        ensures rule { result ≡ rule.on_data self.now.config self.now.core (rule.body_length self.now.book (stream_at self.now.core.last self.now.streams head.now.stream)) (rule.came head.now payload.now (data_seen part.entry)) (stream_at self.now.core.last self.now.streams head.now.stream) }
+        ensures rule { result ≡ rule.on_data self.now.config self.now.core (rule.body_length self.now.book (stream_at self.now.core.last self.now.streams head.now.stream)) (rule.incoming head.now payload.now (data_seen part.entry)) (stream_at self.now.core.last self.now.streams head.now.stream) }
         ensures sound { IsSound self.now.book (records self.now) self.now.core.peer.window result }
     {
         let stream = self.stream_at(head.stream);
         let body = self.body_length(&stream);
-        let came = came(head, payload, part);
-        on_data(self.config, self.core(), body, came, stream)
+        let incoming = incoming(head, payload, part);
+        on_data(self.config, self.core(), body, incoming, stream)
     }
 
     /// RST_STREAM.
@@ -177,7 +177,7 @@ impl<'b, A: Allocator + Copy> State<'b, A> {
     {
         match reaction {
             Reaction::ConnectionError(code) => self.fail(code, out),
-            Reaction::Continues(change) => self.make(change, payload, out),
+            Reaction::Continues(change) => self.apply_change(change, payload, out),
         }
     }
 
@@ -243,14 +243,14 @@ impl<'b, A: Allocator + Copy> State<'b, A> {
 
     /// The client's preface has come: SETTINGS is awaited (RFC 9113, 3.4).
     fn on_preface(&mut self, out: &mut Vec<u8, A>) -> Result<(), AllocError>
-        ensures ok { OnOk result (Does (stepped (changes.made self.old [] (changes.stay (record self.old.core { phase = phase.Settings })))) out.old.items self.new out.new.items) }
+        ensures ok { OnOk result (Does (stepped (changes.made self.old [] (changes.only_counts (record self.old.core { phase = phase.Settings })))) out.old.items self.new out.new.items) }
         ensures err { OnErr result ((self.new ≡ self.old) × (out.new.items ≡ out.old.items)) }
     {
-        let change = stay(Core {
+        let change = only_counts(ConnectionState {
             phase: Phase::Settings,
             ..self.core
         });
-        self.make(change, &[], out)
+        self.apply_change(change, &[], out)
     }
 
     /// One item: what it does, and then what waits is sent; whole, or not at all.

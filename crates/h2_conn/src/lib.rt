@@ -1,18 +1,18 @@
 //! One connection: what each item changes, and what is sent for it (RFC 9113, 3.4 to 6).
 #![tactic(auto)]
 
+mod apply_change;
 mod block;
 mod conn;
 mod fault;
 mod headers_frame;
 mod item;
-mod make;
 mod one;
 mod opening;
 mod pieces;
 pub mod play;
 mod preview;
-mod pump;
+mod send_pending;
 mod state;
 pub mod view;
 mod write;

@@ -1,10 +1,10 @@
 //! A share of an answer's body, as DATA (RFC 9113, 6.1).
-//! Rests on h2_frame; definition: h2_spec's `specs/Pump.antt`, `data_frames`.
+//! Rests on h2_frame; definition: h2_spec's `specs/SendPending.antt`, `data_frames`.
 
 ghost use Rattle.std.specs.Prelude.{◌≡◌, ◌+◌, ◌-◌, ◌<◌, ◌≤◌, ◌++◌, ◌==◌, length, IfOk, OnOk, take, drop, vec_len, ◌^◌};
 ghost use Rattle.h2_spec.specs.Change as changes;
 ghost use Rattle.h2_spec.specs.Frame.{frames_octets};
-ghost use Rattle.h2_spec.specs.Pump as rule;
+ghost use Rattle.h2_spec.specs.SendPending as rule;
 ghost use Rattle.h2_spec.specs.Stream.{octets_waiting};
 
 use h2_frame::append_frame;
@@ -13,32 +13,32 @@ use h2_streams::octets_waiting;
 use std::alloc::{AllocError, Allocator};
 
 /// Writes the frames of a stream's share of its answer's body, whole or in part.
-pub fn write_share<A: Allocator>(
+pub fn write_allowance<A: Allocator>(
     size: usize,
-    share: u64,
+    allowance: u64,
     stream: &Stream,
     body: &[u8],
     out: &mut Vec<u8, A>,
 ) -> Result<(), AllocError>
     requires size { (0 < size) × (size < 2 ^ 24) }
-    requires some { 0 < share }
-    requires waits { share ≤ octets_waiting stream.now }
+    requires some { 0 < allowance }
+    requires waits { allowance ≤ octets_waiting stream.now }
     requires left { octets_waiting stream.now ≤ length body.now }
-    ensures ok { OnOk result (out.new.items ≡ out.old.items ++ frames_octets (rule.data_frames stream.now.id (octets_waiting stream.now == share) size (take share (drop (length body.now - octets_waiting stream.now) body.now)))) }
+    ensures ok { OnOk result (out.new.items ≡ out.old.items ++ frames_octets (rule.data_frames stream.now.id (octets_waiting stream.now == allowance) size (take allowance (drop (length body.now - octets_waiting stream.now) body.now)))) }
     ensures kept { take (vec_len out.old) out.new.items ≡ out.old.items }
 {
     let left = octets_waiting(stream);
-    let octets = share_octets(body, left, share);
-    write_pieces(stream.id, left == share, size, octets, out)
+    let octets = allowance_octets(body, left, allowance);
+    write_pieces(stream.id, left == allowance, size, octets, out)
 }
 
 /// The octets of a body that are sent, where this many are left of it.
-fn share_octets(body: &[u8], left: u64, share: u64) -> &[u8]
-    requires waits { share ≤ left }
+fn allowance_octets(body: &[u8], left: u64, allowance: u64) -> &[u8]
+    requires waits { allowance ≤ left }
     requires left { left ≤ length body.now }
-    ensures { result.now ≡ take share (drop (length body.now - left) body.now) }
+    ensures { result.now ≡ take allowance (drop (length body.now - left) body.now) }
 {
-    octets_at(body, body.len() - left as usize, share as usize)
+    octets_at(body, body.len() - left as usize, allowance as usize)
 }
 
 /// Writes octets as DATA of this size and a shorter or equal last one, whole or in part.

@@ -7,22 +7,26 @@ ghost use Rattle.h2_spec.specs.Change as changes;
 ghost use Rattle.h2_spec.specs.Stream.{AreRising, put, waits_above};
 ghost use Rattle.h2_conn.specs.Above.{IsWaiting};
 ghost use Rattle.h2_conn.specs.Preview as preview;
-ghost use Rattle.h2_conn.specs.Preview.{CanTouch, IsPlaced};
+ghost use Rattle.h2_conn.specs.Preview.{CanUpdateRecord, IsPlaced};
 
-use h2_spec::reactions::Touch;
+use h2_spec::reactions::RecordUpdate;
 use h2_spec::streams::{Kind, Numbers, Stream};
 use h2_streams::{Streams, octets_waiting};
 use std::alloc::Allocator;
 
 /// The first stream above this one that will have octets to send, as it will be after the touch.
-pub fn next_after<A: Allocator>(streams: &Streams<A>, touch: Touch, after: u32) -> Option<Stream>
-    requires { CanTouch touch streams.now }
-    ensures { result ≡ find (waits_above after) (changes.touched touch streams.now.streams) }
+pub fn next_after<A: Allocator>(
+    streams: &Streams<A>,
+    record_update: RecordUpdate,
+    after: u32,
+) -> Option<Stream>
+    requires { CanUpdateRecord record_update streams.now }
+    ensures { result ≡ find (waits_above after) (changes.updated_streams record_update streams.now.streams) }
 {
-    match touch {
-        Touch::Same => next_stream(streams, after),
-        Touch::Put(stream) => next_with(streams, &stream, after),
-        Touch::Shift(from, to) => next_moved(streams, from, to, after),
+    match record_update {
+        RecordUpdate::Unchanged => next_stream(streams, after),
+        RecordUpdate::Put(stream) => next_with(streams, &stream, after),
+        RecordUpdate::Shift(from, to) => next_moved(streams, from, to, after),
     }
 }
 

@@ -6,8 +6,8 @@ ghost use Rattle.h2_spec.specs.State.{opening, opening_core};
 
 use h2_fields::block::BlockDecoder;
 use h2_request::book::Book;
-use h2_spec::connection::{BlockView, Config, Core, Phase, Purpose};
-use h2_spec::flow::{Credit, Own, Settings, Window};
+use h2_spec::connection::{BlockView, Config, ConnectionState, Phase, Purpose};
+use h2_spec::flow::{Credit, LocalSettings, Settings, Window};
 use h2_streams::Streams;
 use h2_table::DynTable;
 use std::alloc::{AllocError, Allocator};
@@ -102,7 +102,7 @@ impl<A: Allocator> OpenBlock<A> {
 pub struct State<'b, A: Allocator> {
     pub book: &'b Book<A>,
     pub config: Config,
-    pub core: Core,
+    pub core: ConnectionState,
     pub block: Option<OpenBlock<A>>,
     pub table: DynTable<A>,
     pub streams: Streams<A>,
@@ -122,17 +122,17 @@ impl<'b, A: Allocator> Model for State<'b, A> {
 }
 
 /// The counts and settings before anything came.
-fn opening_core() -> Core
+fn opening_core() -> ConnectionState
     ensures { result ≡ opening_core }
 {
-    Core {
+    ConnectionState {
         phase: Phase::Preface,
         last: 0,
         recv: Window::start(65535),
         owed: Credit::none(),
         send: Window::start(65535),
         peer: Settings::initial(),
-        own: Own::initial(),
+        own: LocalSettings::initial(),
         acked: false,
         goaway: None,
     }

@@ -35,7 +35,7 @@ pub fn write_first<A: Allocator>(
     ensures err { OnErr result (out.new.items ≡ out.old.items) }
 {
     match first {
-        ConnectionFrame::Quiet => Ok(()),
+        ConnectionFrame::NoConnectionFrame => Ok(()),
         ConnectionFrame::SettingsAck => append_frame(4, 1, 0, &[], &[], out),
         ConnectionFrame::PingAck => append_frame(6, 1, 0, &[], payload, out),
         ConnectionFrame::Credit(count) => write_number(8, 0, count, out),
@@ -51,7 +51,7 @@ pub fn write_second<A: Allocator>(
     ensures err { OnErr result (out.new.items ≡ out.old.items) }
 {
     match second {
-        StreamFrame::Still => Ok(()),
+        StreamFrame::NoStreamFrame => Ok(()),
         StreamFrame::Reset(id, code) => write_number(3, id, code.number(), out),
         StreamFrame::StreamCredit(id, count) => write_number(8, id, count, out),
     }
@@ -71,10 +71,10 @@ pub fn write_goaway<A: Allocator>(
 }
 
 /// The table size update to 0 before a response's block, where one is to be sent (RFC 7541, 4.2 and 6.3).
-fn signal_octets(signal: bool) -> &'static [u8]
-    ensures { result.now ≡ (if signal then 32 ∷ [] else []) }
+fn signal_octets(size_update_pending: bool) -> &'static [u8]
+    ensures { result.now ≡ (if size_update_pending then 32 ∷ [] else []) }
 {
-    if signal { &[32] } else { &[] }
+    if size_update_pending { &[32] } else { &[] }
 }
 
 /// END_HEADERS, and END_STREAM where the response has no body.
@@ -86,21 +86,21 @@ fn response_flags(is_empty: bool) -> u8
 
 /// Writes the HEADERS of a response, from its block without a table size update, or nothing.
 pub fn write_response<A: Allocator>(
-    signal: bool,
+    size_update_pending: bool,
     id: u32,
     is_empty: bool,
     block: &[u8],
     out: &mut Vec<u8, A>,
 ) -> Result<(), AllocError>
     requires fits { length block.now ≤ 16383 }
-    ensures ok { OnOk result (out.new.items ≡ out.old.items ++ frame_octets (frame 1 (4 + changes.flag_if is_empty 1) id ((if signal then 32 ∷ [] else []) ++ block.now))) }
+    ensures ok { OnOk result (out.new.items ≡ out.old.items ++ frame_octets (frame 1 (4 + changes.flag_if is_empty 1) id ((if size_update_pending then 32 ∷ [] else []) ++ block.now))) }
     ensures err { OnErr result (out.new.items ≡ out.old.items) }
 {
     append_frame(
         1,
         response_flags(is_empty),
         id,
-        signal_octets(signal),
+        signal_octets(size_update_pending),
         block,
         out,
     )

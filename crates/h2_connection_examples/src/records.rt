@@ -17,7 +17,7 @@ fn numbers(send: u32, left: Option<u64>) -> Numbers
         recv: Window::start(65_535),
         owed: Credit::none(),
         send: Window::start(send),
-        got: 0,
+        content_received: 0,
         declared: None,
         left,
     }

@@ -1,37 +1,39 @@
 //! The rules of a connection on worked numbers, from the text of RFC 9113.
 
 ghost use Rattle.std.specs.Prelude.{◌≡◌};
-ghost use Rattle.h2_rules.specs.Sound.{IsSoundCore, IsSoundStream};
+ghost use Rattle.h2_rules.specs.Sound.{IsSoundConnectionState, IsSoundStream};
 
 use crate::same::same;
 use h2_frame::{FrameRef, Head, settings_of};
 use h2_rules::checks::refusal;
 use h2_rules::control::{on_goaway, on_ping};
 use h2_rules::data::on_data;
-use h2_rules::headers::{request_turn, trailers_turn};
+use h2_rules::headers::{request_outcome, trailers_outcome};
 use h2_rules::reset::on_reset;
 use h2_rules::settings::{acknowledged, settings_rule};
 use h2_rules::window_update::{connection_window, on_window};
-use h2_spec::connection::{Config, Core, Phase};
+use h2_spec::connection::{Config, ConnectionState, Phase};
 use h2_spec::errors::ErrorCode;
-use h2_spec::flow::{Credit, Own, Settings, Window};
-use h2_spec::reactions::{Came, Change, ConnectionFrame, Facts, Reaction, StreamFrame, Touch};
+use h2_spec::flow::{Credit, LocalSettings, Settings, Window};
+use h2_spec::reactions::{
+    BlockSummary, Change, ConnectionFrame, Reaction, ReceivedData, RecordUpdate, StreamFrame,
+};
 use h2_spec::streams::{Kind, Numbers, Pick, Stream};
 use std::test::Fail;
 
 /// A connection of which the settings are exchanged, and nothing else has come.
-fn running() -> Core
-    ensures sound { IsSoundCore result }
+fn running() -> ConnectionState
+    ensures sound { IsSoundConnectionState result }
     ensures window { result.peer.window ≡ 65535 }
 {
-    Core {
+    ConnectionState {
         phase: Phase::Running,
         last: 1,
         recv: Window::start(65_535),
         owed: Credit::none(),
         send: Window::start(65_535),
         peer: Settings::initial(),
-        own: Own::initial(),
+        own: LocalSettings::initial(),
         acked: true,
         goaway: None,
     }
@@ -48,9 +50,9 @@ fn stream(kind: Kind) -> Stream
             recv: Window::start(65_535),
             owed: Credit::none(),
             send: Window::start(65_535),
-            got: 0,
+            content_received: 0,
             declared: None,
-            left: None,
+            body_remaining: None,
         },
         pick: Pick::NotFound,
     }
@@ -74,10 +76,10 @@ fn error_of(reaction: Reaction) -> Option<ErrorCode> {
 }
 
 /// The stream that is put, if one is.
-fn put_of(touch: Touch) -> Option<Stream> {
-    match touch {
-        Touch::Put(stream) => Some(stream),
-        Touch::Same | Touch::Shift(..) => None,
+fn put_of(record_update: RecordUpdate) -> Option<Stream> {
+    match record_update {
+        RecordUpdate::Put(stream) => Some(stream),
+        RecordUpdate::Unchanged | RecordUpdate::Shift(..) => None,
     }
 }
 
@@ -87,12 +89,12 @@ fn data(threshold: u32, octets: u32, content: u32, kind: Kind) -> Reaction {
         streams: 100,
         credit: threshold,
     };
-    let came = Came {
+    let incoming = ReceivedData {
         octets,
         content,
         ends: false,
     };
-    on_data(config, running(), 0, came, stream(kind))
+    on_data(config, running(), 0, incoming, stream(kind))
 }
 
 /// What is sent on the connection and on the stream.
@@ -105,18 +107,18 @@ type Counts = (i32, u32);
 fn data_counted(reaction: Reaction) -> Option<(Sent, Counts, Counts, u64, Kind)> {
     let Change {
         core,
-        touch,
+        record_update,
         first,
         second,
         answer: _,
     } = change_of(reaction)?;
-    let stream = put_of(touch)?;
+    let stream = put_of(record_update)?;
     let numbers = stream.numbers;
     Some((
         (first, second),
         (core.recv.value(), core.owed.owed()),
         (numbers.recv.value(), numbers.owed.owed()),
-        numbers.got,
+        numbers.content_received,
         stream.kind,
     ))
 }
@@ -126,7 +128,10 @@ fn data_is_counted_by_its_payload_and_not_by_its_content(rt: HostRuntime) {
     // A payload of three octets takes three from both windows, though one of them is content (6.9.1). That padding is part of
     // the payload is a run of the program ("padding counts").
     let given = (ConnectionFrame::Credit(3), StreamFrame::StreamCredit(1, 3));
-    let quiet = (ConnectionFrame::Quiet, StreamFrame::Still);
+    let quiet = (
+        ConnectionFrame::NoConnectionFrame,
+        StreamFrame::NoStreamFrame,
+    );
     for (threshold, sent, counts) in [(3, given, (65_535, 0)), (4, quiet, (65_532, 3))] {
         let counted = data_counted(data(threshold, 3, 1, Kind::BothOpen));
         let wanted = (sent, counts, counts, 1, Kind::BothOpen);
@@ -144,7 +149,11 @@ fn data_refused(reaction: Reaction) -> Option<(Sent, Counts, Kind)> {
 fn data_after_the_end_of_the_peer_is_counted_and_refused(rt: HostRuntime) {
     // DATA is a stream error of type STREAM_CLOSED (5.1, half-closed (remote)).
     let reset = StreamFrame::Reset(1, ErrorCode::StreamClosed);
-    let wanted = ((ConnectionFrame::Quiet, reset), (65_530, 5), Kind::WeReset);
+    let wanted = (
+        (ConnectionFrame::NoConnectionFrame, reset),
+        (65_530, 5),
+        Kind::WeReset,
+    );
     same(
         &rt,
         &data_refused(data(65_535, 5, 5, Kind::HalfRemote)),
@@ -219,12 +228,12 @@ fn window_update_on_the_connection(rt: HostRuntime) {
 
 /// What WINDOW_UPDATE does to a stream's send window, and what is sent for it.
 fn stream_sends(increment: u32) -> Option<(i32, StreamFrame)> {
-    let Change { touch, second, .. } = change_of(on_window(
-        running(),
-        increment,
-        stream(Kind::HalfRemote),
-    ))?;
-    let put = put_of(touch)?;
+    let Change {
+        record_update,
+        second,
+        ..
+    } = change_of(on_window(running(), increment, stream(Kind::HalfRemote)))?;
+    let put = put_of(record_update)?;
     Some((put.numbers.send.value(), second))
 }
 
@@ -234,8 +243,8 @@ fn window_update_of_0_and_to_the_largest_window(rt: HostRuntime) {
     let reset = |code| StreamFrame::Reset(1, code);
     for (increment, window, frame) in [
         (0, 0, reset(ErrorCode::ProtocolError)),
-        (1, 65_536, StreamFrame::Still),
-        (2_147_418_112, 2_147_483_647, StreamFrame::Still),
+        (1, 65_536, StreamFrame::NoStreamFrame),
+        (2_147_418_112, 2_147_483_647, StreamFrame::NoStreamFrame),
         (2_147_418_113, 0, reset(ErrorCode::FlowControlError)),
     ] {
         let wanted = Some((window, frame));
@@ -258,15 +267,21 @@ fn settled(has_full: bool, payload: &[u8]) -> Option<Reaction> {
 }
 
 /// What SETTINGS with this payload change: the peer's initial window, whether it takes pushes, what is sent, what becomes of the streams, and the connection's send window.
-fn settings_changed(payload: &[u8]) -> Option<(u32, u32, ConnectionFrame, Touch, i32)> {
+fn settings_changed(payload: &[u8]) -> Option<(u32, u32, ConnectionFrame, RecordUpdate, i32)> {
     let Change {
         core,
-        touch,
+        record_update,
         first,
         ..
     } = change_of(settled(false, payload)?)?;
     let peer = core.peer;
-    Some((peer.window, peer.push, first, touch, core.send.value()))
+    Some((
+        peer.window,
+        peer.push,
+        first,
+        record_update,
+        core.send.value(),
+    ))
 }
 
 #[test]
@@ -274,7 +289,7 @@ fn settings_are_taken_whole(rt: HostRuntime) {
     // SETTINGS_INITIAL_WINDOW_SIZE 1000, and then SETTINGS_ENABLE_PUSH 0.
     let changed = settings_changed(b"\x00\x04\x00\x00\x03\xe8\x00\x02\x00\x00\x00\x00");
     let acknowledged = ConnectionFrame::SettingsAck;
-    let moved = Touch::Shift(65_535, 1_000);
+    let moved = RecordUpdate::Shift(65_535, 1_000);
     // The flow-control window of the connection is not moved (6.9.2).
     same(
         &rt,
@@ -321,20 +336,20 @@ fn requested(live: usize, size: u64, declared: Option<u64>) -> (Kind, StreamFram
         streams: 2,
         credit: 1,
     };
-    let facts = Facts {
+    let summary = BlockSummary {
         size,
         malformed: false,
         declared,
         pick: Pick::NotFound,
     };
-    let turn = request_turn(config, live, 0, running(), 1, true, facts);
-    (turn.stream.kind, turn.frame, turn.answer.is_some())
+    let outcome = request_outcome(config, live, 0, running(), 1, true, summary);
+    (outcome.stream.kind, outcome.frame, outcome.answer.is_some())
 }
 
 #[test]
 fn requests_at_their_limits(rt: HostRuntime) {
     let refused = |code| (Kind::WeReset, StreamFrame::Reset(1, code), false);
-    let answered = (Kind::Ended, StreamFrame::Still, true);
+    let answered = (Kind::Ended, StreamFrame::NoStreamFrame, true);
     for (live, size, declared, wanted) in [
         // Below the limit of streams, and at it (5.1.2).
         (1, 42, None, answered),
@@ -353,15 +368,15 @@ fn requests_at_their_limits(rt: HostRuntime) {
 
 /// What trailers do to an open stream.
 fn trailed(size: u64, malformed: bool, ends: bool) -> (Kind, StreamFrame) {
-    let turn = trailers_turn(size, malformed, 0, false, ends, stream(Kind::BothOpen));
-    (turn.stream.kind, turn.frame)
+    let outcome = trailers_outcome(size, malformed, 0, false, ends, stream(Kind::BothOpen));
+    (outcome.stream.kind, outcome.frame)
 }
 
 #[test]
 fn trailers_end_the_side_of_the_peer(rt: HostRuntime) {
     let refused = |code| (Kind::WeReset, StreamFrame::Reset(1, code));
     for (size, malformed, ends, wanted) in [
-        (42, false, true, (Kind::Ended, StreamFrame::Still)),
+        (42, false, true, (Kind::Ended, StreamFrame::NoStreamFrame)),
         // Trailers without END_STREAM, and with a pseudo-header field, are malformed (8.1).
         (42, false, false, refused(ErrorCode::ProtocolError)),
         (42, true, true, refused(ErrorCode::ProtocolError)),
@@ -373,38 +388,43 @@ fn trailers_end_the_side_of_the_peer(rt: HostRuntime) {
 }
 
 /// The same where the server's settings are not acknowledged yet.
-fn fresh() -> Core
-    ensures { IsSoundCore result }
+fn fresh() -> ConnectionState
+    ensures { IsSoundConnectionState result }
 {
-    Core {
+    ConnectionState {
         acked: false,
         ..running()
     }
 }
 
 /// What is sent on the connection, what becomes of the streams, the GOAWAY that is kept, and whether the settings are acknowledged.
-type Kept = (ConnectionFrame, Touch, Option<(u32, u32)>, bool);
+type Kept = (ConnectionFrame, RecordUpdate, Option<(u32, u32)>, bool);
 
 fn kept(reaction: Reaction) -> Option<Kept> {
     let Change {
         core,
-        touch,
+        record_update,
         first,
         ..
     } = change_of(reaction)?;
-    Some((first, touch, core.goaway, core.acked))
+    Some((first, record_update, core.goaway, core.acked))
 }
 
 #[test]
 fn ping_is_answered_and_goaway_is_noted(rt: HostRuntime) {
-    let quiet = ConnectionFrame::Quiet;
-    let answered = Some((ConnectionFrame::PingAck, Touch::Same, None, false));
+    let quiet = ConnectionFrame::NoConnectionFrame;
+    let answered = Some((
+        ConnectionFrame::PingAck,
+        RecordUpdate::Unchanged,
+        None,
+        false,
+    ));
     same(&rt, &kept(on_ping(fresh(), false)), &answered, &"PING");
-    let ignored = Some((quiet, Touch::Same, None, false));
+    let ignored = Some((quiet, RecordUpdate::Unchanged, None, false));
     same(&rt, &kept(on_ping(fresh(), true)), &ignored, &"an answer");
-    let noted = Some((quiet, Touch::Same, Some((7, 2)), false));
+    let noted = Some((quiet, RecordUpdate::Unchanged, Some((7, 2)), false));
     same(&rt, &kept(on_goaway(fresh(), 7, 2)), &noted, &"GOAWAY");
-    let taken = Some((quiet, Touch::Same, None, true));
+    let taken = Some((quiet, RecordUpdate::Unchanged, None, true));
     same(&rt, &kept(acknowledged(fresh())), &taken, &"SETTINGS ACK");
 }
 

@@ -3,8 +3,8 @@
 use crate::same::same;
 use h2_spec::errors::{ErrorCode, FlowFault};
 use h2_spec::flow::{
-    Credit, Own, SETTINGS_ENABLE_PUSH, SETTINGS_HEADER_TABLE_SIZE, SETTINGS_INITIAL_WINDOW_SIZE,
-    SETTINGS_MAX_FRAME_SIZE, Settings, Window,
+    Credit, LocalSettings, SETTINGS_ENABLE_PUSH, SETTINGS_HEADER_TABLE_SIZE,
+    SETTINGS_INITIAL_WINDOW_SIZE, SETTINGS_MAX_FRAME_SIZE, Settings, Window,
 };
 
 /// A setting, its value, and what it is answered when it is applied to the first ones.
@@ -46,15 +46,19 @@ static APPLIED: [(u16, u32, Result<i64, FlowFault>); 10] = [
 fn applied(id: u16, value: u32) -> (Result<i64, FlowFault>, bool, bool) {
     let mut settings = Settings::initial();
     let answer = settings.apply(id, value);
-    (answer, settings == Settings::initial(), settings.signal)
+    (
+        answer,
+        settings == Settings::initial(),
+        settings.size_update_pending,
+    )
 }
 
 #[test]
 fn settings_applied_to_the_first_ones(rt: HostRuntime) {
     for (id, value, answer) in &APPLIED {
-        let (answered, is_unchanged, signal) = applied(*id, *value);
+        let (answered, is_unchanged, size_update_pending) = applied(*id, *value);
         let wanted = (*answer, *id == SETTINGS_HEADER_TABLE_SIZE);
-        same(&rt, &(answered, signal), &wanted, &(id, value));
+        same(&rt, &(answered, size_update_pending), &wanted, &(id, value));
         let changes_nothing = answer.is_err() || *id == 7;
         same(
             &rt,
@@ -65,7 +69,7 @@ fn settings_applied_to_the_first_ones(rt: HostRuntime) {
     }
     same(
         &rt,
-        &Own::initial().frame,
+        &LocalSettings::initial().frame,
         &16_384,
         &"the largest frame at first",
     );

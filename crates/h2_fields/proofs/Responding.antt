@@ -4,7 +4,7 @@ use Rattle.h2_spec.specs.Answer.{plain_literal, status_instruction, update_if, r
 use Rattle.h2_spec.specs.Field.{Field}
 use Rattle.h2_spec.specs.Instruction.{spell}
 
-pub response-is : (signal : Bool) (status : ℕ) (fields : List Field) → (flat_map spell (update_if signal) ++ spell (status_instruction status)) ++ flat_map spell (map plain_literal fields) ≡ response_block signal status fields
+pub response-is : (size_update_pending : Bool) (status : ℕ) (fields : List Field) → (flat_map spell (update_if size_update_pending) ++ spell (status_instruction status)) ++ flat_map spell (map plain_literal fields) ≡ response_block size_update_pending status fields
 unfolding response_block
 response-is true status fields = refl
 response-is false status fields = refl

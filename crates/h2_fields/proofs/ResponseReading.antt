@@ -5,11 +5,11 @@ use Rattle.std.proofs.lemmas.List.Quantifiers.{position-Some}
 use Rattle.std.specs.List.{AllByRecursion}
 use Rattle.h2_spec.specs.Answer.{plain_string, plain_literal, indexed_statuses, status_digits, status_at, status_instruction, response_block}
 use Rattle.h2_spec.specs.Block.{Progress, Unfinished, applied, decoded, start, name_of}
-use Rattle.h2_fields.specs.Answers.{read_whole, status_field}
+use Rattle.h2_fields.specs.ResponseRead.{read_whole, status_field}
 use Rattle.h2_fields.specs.Instructions.{IsWritableField}
 use Rattle.h2_spec.specs.DynamicTable.{Table, field_at, resize}
 use Rattle.h2_spec.specs.Field.{Field}
-use Rattle.h2_spec.specs.Instruction.{Shape, Without, Ref, Named, Update, IsSpellable, instr_at, spell}
+use Rattle.h2_spec.specs.Instruction.{Shape, WithoutIndexing, Ref, Named, Update, IsSpellable, instr_at, spell}
 use Rattle.h2_spec.specs.Read.{Whole, More}
 use Rattle.h2_spec.specs.StaticTable.{static_field, static_entries}
 use Rattle.h2_spec.proofs.BlockLaws.{stands-start, stands-step, applied-update, applied-indexed, applied-literal, decoded-more}
@@ -36,7 +36,7 @@ ends limit p = decoded-more limit p [] nothing
 -- ---- fields
 
 literal-applied : (limit : ℕ) (p : Progress) (f : Field) → p.due ≡ false → applied limit p (plain_literal f) ≡ Ok (record p { fields = p.fields ++ f ∷ [] })
-literal-applied limit p f e = applied-literal limit p Without (Named (plain_string f.name)) (plain_string f.value) f.name f.value e refl refl
+literal-applied limit p f e = applied-literal limit p WithoutIndexing (Named (plain_string f.name)) (plain_string f.value) f.name f.value e refl refl
 
 literal-spellable : (f : Field) → IsWritableField f → IsSpellable (plain_literal f)
 literal-spellable f h = (omega (arith, h.0), omega (arith, h.1))
@@ -73,7 +73,7 @@ status-applied limit p status e = at (position (λ s. s == status) indexed_statu
     at (Some place) k =
         let x = position-Some (λ s. s == status) indexed_statuses place 0 k in
         applied-indexed limit p (8 + place) (status_field status) e (indexed-at p.table.entries place status (eqb-true (get_or indexed_statuses place 0) status x.1) x.0)
-    at None k = applied-literal limit p Without (Ref 8) (plain_string (status_digits status)) (codes ":status") (status_digits status) e (status-name p.table.entries) refl
+    at None k = applied-literal limit p WithoutIndexing (Ref 8) (plain_string (status_digits status)) (codes ":status") (status_digits status) e (status-name p.table.entries) refl
 
 status-spellable : (status : ℕ) → IsSpellable (status_instruction status)
 status-spellable status = at (position (λ s. s == status) indexed_statuses) refl
@@ -91,8 +91,8 @@ status-read limit table status fields h =
     let q : Progress = record { fields = status_field status ∷ []; table = table; due = false } in
     step limit p q (status_instruction status) (flat_map spell (map plain_literal fields)) (status-spellable status) (status-applied limit p status refl) ∙ fields-read limit q fields refl h
 
-pub response-read : (limit : ℕ) (table : Table) (signal : Bool) (status : ℕ) (fields : List Field) → AllByRecursion IsWritableField fields →
-    decoded limit (start table false) (response_block signal status fields) ≡ read_whole (status_field status ∷ fields) (if signal then resize table 0 else table)
+pub response-read : (limit : ℕ) (table : Table) (size_update_pending : Bool) (status : ℕ) (fields : List Field) → AllByRecursion IsWritableField fields →
+    decoded limit (start table false) (response_block size_update_pending status fields) ≡ read_whole (status_field status ∷ fields) (if size_update_pending then resize table 0 else table)
 unfolding response_block
 response-read limit table true status fields h =
     let block = spell (status_instruction status) ++ flat_map spell (map plain_literal fields) in

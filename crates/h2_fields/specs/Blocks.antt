@@ -6,7 +6,7 @@ use Rattle.h2_fields.specs.declared.fault.BlockFault.TheVariants as fault
 use Rattle.h2_spec.specs.Block.{Index, Integer, Huffman, SizeUpdate, Outcome, Unfinished, Faulty, Progress, FieldsSoFar, BlockSoFar, StandsWithin, applied, decoded, progress_with, table_after}
 use Rattle.h2_spec.specs.DynamicTable.{Table, LimitedTable}
 use Rattle.h2_spec.specs.Field.{Field}
-use Rattle.h2_spec.specs.Instruction.{Shape, Indexed, Update, Literal, Mode, Add, Without, Never, instr_at}
+use Rattle.h2_spec.specs.Instruction.{Shape, Indexed, Update, Literal, Mode, IncrementalIndexing, WithoutIndexing, NeverIndexed, instr_at}
 use Rattle.h2_spec.specs.Read.{Read, Whole, More, TooLong}
 
 -- how far a block has come
@@ -29,9 +29,9 @@ after_literal p mode f = record p { fields = p.fields ++ f ∷ []; table = table
 abbrev pub alters_table : Shape → Bool
 alters_table (Indexed i) = false
 alters_table (Update n) = true
-alters_table (Literal Add name value) = true
-alters_table (Literal Without name value) = false
-alters_table (Literal Never name value) = false
+alters_table (Literal IncrementalIndexing name value) = true
+alters_table (Literal WithoutIndexing name value) = false
+alters_table (Literal NeverIndexed name value) = false
 
 -- one instruction that leaves the table was done, or refused; nothing was done of one that alters it
 abbrev pub IsAppliedStill : ℕ → Progress → Shape → Progress → Result Bool BlockFault → Type 0
@@ -86,9 +86,9 @@ answer_of (Some (Faulty f)) = Err (fault_of f)
 answer_of None = Err fault.NoMemory
 
 -- the same of the answer that counts the octets taken
-abbrev pub told : Result ℕ BlockFault → Result (Unit {0}) BlockFault
-told (Ok used) = Ok tt
-told (Err f) = Err f
+abbrev pub printed : Result ℕ BlockFault → Result (Unit {0}) BlockFault
+printed (Ok used) = Ok tt
+printed (Err f) = Err f
 
 -- the octets of a piece that a decoder has gone over: those taken, or all where it has met a fault
 abbrev pub taken_by : Result ℕ BlockFault → List ℕ → List ℕ

@@ -1,4 +1,4 @@
-pub mod Answers
+pub mod ResponseRead
 pub mod Blocks
 pub mod Faults
 pub mod Instructions

@@ -2,8 +2,8 @@
 use Rattle.std.specs.Prelude.{ℕ, Result, Ok, Err}
 use Rattle.h2_fields.specs.declared.instruction.Mode.{Mode}
 use Rattle.h2_fields.specs.declared.instruction.Mode.TheVariants as mode
-use Rattle.h2_fields.specs.declared.shape.Cut.{Cut}
-use Rattle.h2_fields.specs.declared.shape.Cut.TheVariants as cut
+use Rattle.h2_fields.specs.declared.shape.ShapeFault.{ShapeFault}
+use Rattle.h2_fields.specs.declared.shape.ShapeFault.TheVariants as cut
 use Rattle.h2_fields.specs.declared.shape.RawString.{RawString}
 use Rattle.h2_fields.specs.declared.shape.RawName.{RawName}
 use Rattle.h2_fields.specs.declared.shape.RawName.TheVariants as name
@@ -13,9 +13,9 @@ use Rattle.h2_spec.specs.Instruction as spec
 use Rattle.h2_spec.specs.Read.{Read, Whole, More, TooLong}
 
 abbrev pub mode_of : Mode → spec.Mode
-mode_of mode.Add = spec.Add
-mode_of mode.Without = spec.Without
-mode_of mode.Never = spec.Never
+mode_of mode.IncrementalIndexing = spec.IncrementalIndexing
+mode_of mode.WithoutIndexing = spec.WithoutIndexing
+mode_of mode.NeverIndexed = spec.NeverIndexed
 
 abbrev pub string_of : RawString → spec.Str
 string_of s = record { huffman = s.huffman; octets = s.octets.now }
@@ -33,7 +33,7 @@ abbrev pub same_number : ℕ → ℕ
 same_number n = n
 
 -- a thing and how many octets it takes, or why there is none
-abbrev pub read_of : {X Y : Type 0} → (X → Y) → Result (X × ℕ) Cut → Read Y
+abbrev pub read_of : {X Y : Type 0} → (X → Y) → Result (X × ℕ) ShapeFault → Read Y
 read_of view (Ok r) = Whole (view r.0) r.1
 read_of view (Err cut.More) = More
 read_of view (Err cut.TooLong) = TooLong

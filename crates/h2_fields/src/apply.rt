@@ -122,8 +122,8 @@ fn literal_still<A: Allocator + Copy>(
     ensures applied { IsAppliedStill table.now.limit (progress_of gathered.old table.now) (spec.Literal (mode_of mode) (name_of name.entry) (string_of value.entry)) (progress_of gathered.new table.now) result }
 {
     match mode {
-        Mode::Add => Ok(false),
-        Mode::Without | Mode::Never => add_still(gathered, table, name, value),
+        Mode::IncrementalIndexing => Ok(false),
+        Mode::WithoutIndexing | Mode::NeverIndexed => add_still(gathered, table, name, value),
     }
 }
 
@@ -134,8 +134,8 @@ fn add_still<A: Allocator + Copy>(
     name: RawName<'_>,
     value: RawString<'_>,
 ) -> Result<bool, BlockFault>
-    ensures without { IsAppliedStill table.now.limit (progress_of gathered.old table.now) (spec.Literal spec.Without (name_of name.entry) (string_of value.entry)) (progress_of gathered.new table.now) result }
-    ensures never { IsAppliedStill table.now.limit (progress_of gathered.old table.now) (spec.Literal spec.Never (name_of name.entry) (string_of value.entry)) (progress_of gathered.new table.now) result }
+    ensures without { IsAppliedStill table.now.limit (progress_of gathered.old table.now) (spec.Literal spec.WithoutIndexing (name_of name.entry) (string_of value.entry)) (progress_of gathered.new table.now) result }
+    ensures never { IsAppliedStill table.now.limit (progress_of gathered.old table.now) (spec.Literal spec.NeverIndexed (name_of name.entry) (string_of value.entry)) (progress_of gathered.new table.now) result }
 {
     let texts = literal_texts(gathered, table, name, value)?;
     gathered.add(Field::new(texts.0, texts.1))?;
@@ -174,14 +174,14 @@ fn add_literal<A: Allocator + Copy>(
     ensures err { OnErr result ((gathered.new ≡ gathered.old) × (table.new ≡ table.old)) }
 {
     match mode {
-        Mode::Add => {
+        Mode::IncrementalIndexing => {
             let name_copy = name.clone()?;
             let value_copy = value.clone()?;
             gathered.add(Field::new(name, value))?;
             table.insert(name_copy, value_copy);
             Ok(())
         }
-        Mode::Without | Mode::Never => gathered.add(Field::new(name, value)),
+        Mode::WithoutIndexing | Mode::NeverIndexed => gathered.add(Field::new(name, value)),
     }
 }
 

@@ -7,13 +7,13 @@ ghost use Rattle.h2_spec.specs.Block as block;
 ghost use Rattle.h2_spec.specs.Block.{Unfinished, StandsWithin, carried_on, decoded_with};
 ghost use Rattle.h2_spec.specs.Instruction.{instr_at};
 ghost use Rattle.h2_spec.specs.Read.{More};
-ghost use Rattle.h2_fields.specs.Blocks.{IsAltering, IsFaulted, answer_of, finish_of, progress_of, progress_so_far, taken_by, told, unfinished};
+ghost use Rattle.h2_fields.specs.Blocks.{IsAltering, IsFaulted, answer_of, finish_of, progress_of, progress_so_far, taken_by, printed, unfinished};
 
 use crate::apply::{apply, apply_still};
 use crate::fault::BlockFault;
 use crate::field::Field;
 use crate::gathered::Gathered;
-use crate::shape::{Cut, octets_from, shape_at};
+use crate::shape::{ShapeFault, octets_from, shape_at};
 use h2_table::DynTable;
 use std::alloc::{AllocError, Allocator};
 use std::marker::Model;
@@ -88,14 +88,14 @@ impl<A: Allocator + Copy> BlockDecoder<A> {
     /// As those of `push`, of the instructions up to there; `NoMemory` also where memory for the octets that are left was refused.
     /// After an error each further call answers the same one and changes nothing.
     pub fn push_still(&mut self, table: &DynTable<A>, piece: &[u8]) -> Result<usize, BlockFault>
-        ensures answer { told result ≡ answer_of self.new.outcome }
+        ensures answer { printed result ≡ answer_of self.new.outcome }
         ensures within { IfOk result (λ used. used ≤ length piece.now) }
         ensures carried { self.new.outcome ≢ None → decoded_with table.now.table self.new ≡ option_map (λ before. carried_on table.now.limit before (taken_by result piece.now)) (decoded_with table.now.table self.old) }
         ensures stops { IfOk result (λ used. unfinished self.old.outcome ≡ [] → used < length piece.now → IsAltering (instr_at (drop used piece.now))) }
         ensures left { unfinished self.old.outcome ≢ [] → (result ≡ Ok 0) × (self.new ≡ self.old) }
         ensures refused { self.new.outcome ≡ None → self.old.outcome ≢ None → StandsWithin table.now.limit (progress_so_far table.now.table self.old) (unfinished self.old.outcome ++ piece.now) (progress_so_far table.now.table self.new) }
         ensures spent { self.old.outcome ≡ None → self.new ≡ self.old }
-        ensures stays { IsErr (answer_of self.old.outcome) → (told result ≡ answer_of self.old.outcome) × (self.new ≡ self.old) }
+        ensures stays { IsErr (answer_of self.old.outcome) → (printed result ≡ answer_of self.old.outcome) × (self.new ≡ self.old) }
     {
         if let Some(earlier) = self.fault {
             return Err(earlier);
@@ -211,8 +211,8 @@ fn decode<A: Allocator + Copy>(
                 apply(gathered, table, shape)?;
                 at += used;
             }
-            Err(Cut::More) => return Ok(at),
-            Err(Cut::TooLong) => return Err(BlockFault::Integer),
+            Err(ShapeFault::More) => return Ok(at),
+            Err(ShapeFault::TooLong) => return Err(BlockFault::Integer),
         }
     }
 }
@@ -241,11 +241,11 @@ fn decode_still<A: Allocator + Copy>(
                 }
                 at += used;
             }
-            Err(Cut::More) => {
+            Err(ShapeFault::More) => {
                 rest.extend_from_slice(left)?;
                 return Ok(octets.len());
             }
-            Err(Cut::TooLong) => return Err(BlockFault::Integer),
+            Err(ShapeFault::TooLong) => return Err(BlockFault::Integer),
         }
     }
 }

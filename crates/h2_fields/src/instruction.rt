@@ -15,7 +15,7 @@ ghost use Rattle.h2_fields.specs.declared.fault.BlockFault.TheVariants as faults
 
 use crate::fault::BlockFault;
 use crate::octets::Octets;
-use crate::shape::{Cut, RawName, RawString, Shape, shape_at};
+use crate::shape::{RawName, RawString, Shape, ShapeFault, shape_at};
 use h2_prim::{huff_len, huff_read, huff_write, write_int};
 use std::alloc::{AllocError, Allocator};
 use std::marker::Model;
@@ -24,11 +24,11 @@ use std::marker::Model;
 #[derive(Clone, Copy, Debug, PartialEq, Eq)]
 pub enum Mode {
     /// It enters the dynamic table.
-    Add,
+    IncrementalIndexing,
     /// It does not enter the dynamic table.
-    Without,
+    WithoutIndexing,
     /// It must never enter a table, of no hop on the way.
-    Never,
+    NeverIndexed,
 }
 
 /// A string of an instruction (RFC 7541, 5.2).
@@ -90,8 +90,8 @@ impl Mode {
         ensures { result ≡ spec.mode_prefix (mode_of self) }
     {
         match self {
-            Mode::Add => 6,
-            Mode::Without | Mode::Never => 4,
+            Mode::IncrementalIndexing => 6,
+            Mode::WithoutIndexing | Mode::NeverIndexed => 4,
         }
     }
 
@@ -100,9 +100,9 @@ impl Mode {
         ensures { result ≡ spec.mode_high (mode_of self) }
     {
         match self {
-            Mode::Add => 64,
-            Mode::Without => 0,
-            Mode::Never => 16,
+            Mode::IncrementalIndexing => 64,
+            Mode::WithoutIndexing => 0,
+            Mode::NeverIndexed => 16,
         }
     }
 }
@@ -124,8 +124,8 @@ pub fn read_instr<A: Allocator + Copy>(alloc: A, octets: &[u8]) -> Result<InstrR
 {
     match shape_at(octets) {
         Ok((shape, used)) => Ok(InstrRead::Whole(with_texts(alloc, shape)?, used)),
-        Err(Cut::More) => Ok(InstrRead::More),
-        Err(Cut::TooLong) => Err(BlockFault::Integer),
+        Err(ShapeFault::More) => Ok(InstrRead::More),
+        Err(ShapeFault::TooLong) => Err(BlockFault::Integer),
     }
 }
 

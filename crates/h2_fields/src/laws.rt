@@ -3,7 +3,7 @@
 
 ghost use Rattle.std.specs.Prelude.{◌≡◌, ℕ, Bool, false, if◌then◌else◌, List, ◌∷◌, ◌++◌, length, Some};
 ghost use Rattle.std.specs.List.{AllByRecursion};
-ghost use Rattle.h2_fields.specs.Answers.{read_whole, status_field};
+ghost use Rattle.h2_fields.specs.ResponseRead.{read_whole, status_field};
 ghost use Rattle.h2_fields.specs.Instructions.{IsWritable, IsWritableField};
 ghost use Rattle.h2_spec.specs.Answer as answer;
 ghost use Rattle.h2_spec.specs.Block.{decoded, start};
@@ -21,5 +21,5 @@ pub fn instructions_are_read_back()
 /// What `response_block` answers is read as its status and its fields, whatever the table holds; the table is emptied first
 /// where that is signalled, and else left as it is (RFC 9113, 8.3.2; RFC 7541, 4.2 and 6.2.2).
 pub fn responses_are_read()
-    ensures { (limit : ℕ) (table : Table) (signal : Bool) (status : ℕ) (fields : List Field) → AllByRecursion IsWritableField fields → decoded limit (start table false) (answer.response_block signal status fields) ≡ read_whole (status_field status ∷ fields) (if signal then resize table 0 else table) }
+    ensures { (limit : ℕ) (table : Table) (size_update_pending : Bool) (status : ℕ) (fields : List Field) → AllByRecursion IsWritableField fields → decoded limit (start table false) (answer.response_block size_update_pending status fields) ≡ read_whole (status_field status ∷ fields) (if size_update_pending then resize table 0 else table) }
 {}

@@ -16,7 +16,7 @@ use std::alloc::{AllocError, Allocator};
 
 /// The field block of a response with this status, 200 to 599, and these fields.
 ///
-/// With `signal` the block begins with a table size update to 0: the peer gave up its dynamic table (RFC 7541, 4.2). The
+/// With `size_update_pending` the block begins with a table size update to 0: the peer gave up its dynamic table (RFC 7541, 4.2). The
 /// status stands by its index where the static table has it; each field stands as a literal that does not enter the dynamic
 /// table, its strings as they are. Names and values have at most 33,554,432 octets each.
 ///
@@ -25,16 +25,16 @@ use std::alloc::{AllocError, Allocator};
 /// `AllocError` where memory was refused.
 pub fn response_block<A: Allocator, B: Allocator>(
     alloc: A,
-    signal: bool,
+    size_update_pending: bool,
     status: u16,
     fields: &[Field<B>],
 ) -> Result<Vec<u8, A>, AllocError>
     requires status { (200 ≤ status) × (status ≤ 599) }
     requires fields { AllByRecursion IsWritableField fields.now }
-    ensures block { IfOk result (λ block. block.items ≡ spec.response_block signal status fields.now) }
+    ensures block { IfOk result (λ block. block.items ≡ spec.response_block size_update_pending status fields.now) }
 {
     let mut block = Vec::new(alloc);
-    write_update(signal, &mut block)?;
+    write_update(size_update_pending, &mut block)?;
     write_status(status, &mut block)?;
     write_fields(fields, &mut block)?;
     Ok(block)
@@ -42,10 +42,13 @@ pub fn response_block<A: Allocator, B: Allocator>(
 
 /// Appends a table size update to 0, where there is to be one.
 #[tactic(auto, unfolding(h2_spec::specs::Instruction::spell))]
-fn write_update<A: Allocator>(signal: bool, block: &mut Vec<u8, A>) -> Result<(), AllocError>
-    ensures ok { OnOk result (block.new.items ≡ block.old.items ++ flat_map spell (update_if signal)) }
+fn write_update<A: Allocator>(
+    size_update_pending: bool,
+    block: &mut Vec<u8, A>,
+) -> Result<(), AllocError>
+    ensures ok { OnOk result (block.new.items ≡ block.old.items ++ flat_map spell (update_if size_update_pending)) }
 {
-    if signal {
+    if size_update_pending {
         write_int(5, 32, 0, block)?;
     }
     Ok(())

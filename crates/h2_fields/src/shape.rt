@@ -13,7 +13,7 @@ use h2_prim::{IntRead, StrAt, find_str, read_int};
 
 /// Why nothing whole stands at the front of octets.
 #[derive(Clone, Copy)]
-pub enum Cut {
+pub enum ShapeFault {
     /// It goes on in octets that are not there.
     More,
     /// An integer of it is too long.
@@ -51,18 +51,18 @@ pub fn octets_from(octets: &[u8], start: usize) -> &[u8]
 }
 
 /// The instruction at the front of the octets, and how many octets it takes (RFC 7541, 6).
-pub fn shape_at(octets: &[u8]) -> Result<(Shape<'_>, usize), Cut>
+pub fn shape_at(octets: &[u8]) -> Result<(Shape<'_>, usize), ShapeFault>
     ensures read { read_of shape_of result ≡ spec.instr_at octets.now }
     ensures within { IfOk result (λ read. read.1 ≤ length octets.now) }
 {
     match octets.split_first() {
         Some((first, _)) => shape_by(*first, octets),
-        None => Err(Cut::More),
+        None => Err(ShapeFault::More),
     }
 }
 
 /// The instruction that the first octet announces.
-fn shape_by(first: u8, octets: &[u8]) -> Result<(Shape<'_>, usize), Cut>
+fn shape_by(first: u8, octets: &[u8]) -> Result<(Shape<'_>, usize), ShapeFault>
     ensures read { read_of shape_of result ≡ spec.instr_by first octets.now }
     ensures within { IfOk result (λ read. read.1 ≤ length octets.now) }
 {
@@ -71,21 +71,21 @@ fn shape_by(first: u8, octets: &[u8]) -> Result<(Shape<'_>, usize), Cut>
         return Ok((Shape::Indexed(index), used));
     }
     if first >= 64 {
-        return literal_at(Mode::Add, octets);
+        return literal_at(Mode::IncrementalIndexing, octets);
     }
     if first >= 32 {
         let (max, used) = number_at(5, octets)?;
         return Ok((Shape::Update(max), used));
     }
     if first >= 16 {
-        literal_at(Mode::Never, octets)
+        literal_at(Mode::NeverIndexed, octets)
     } else {
-        literal_at(Mode::Without, octets)
+        literal_at(Mode::WithoutIndexing, octets)
     }
 }
 
 /// A literal: an index, a name where the index is 0, and a value (RFC 7541, 6.2).
-fn literal_at(mode: Mode, octets: &[u8]) -> Result<(Shape<'_>, usize), Cut>
+fn literal_at(mode: Mode, octets: &[u8]) -> Result<(Shape<'_>, usize), ShapeFault>
     ensures read { read_of shape_of result ≡ spec.literal_at (mode_of mode) octets.now }
     ensures within { IfOk result (λ read. read.1 ≤ length octets.now) }
 {
@@ -95,7 +95,7 @@ fn literal_at(mode: Mode, octets: &[u8]) -> Result<(Shape<'_>, usize), Cut>
 }
 
 /// The name of a literal: an index, or the string behind the index 0.
-fn name_at(mode: Mode, octets: &[u8]) -> Result<(RawName<'_>, usize), Cut>
+fn name_at(mode: Mode, octets: &[u8]) -> Result<(RawName<'_>, usize), ShapeFault>
     ensures read { read_of name_of result ≡ spec.read_then octets.now (int_at (mode_prefix (mode_of mode)) octets.now) spec.name_by }
     ensures within { IfOk result (λ read. read.1 ≤ length octets.now) }
 {
@@ -108,26 +108,26 @@ fn name_at(mode: Mode, octets: &[u8]) -> Result<(RawName<'_>, usize), Cut>
 }
 
 /// A string: a flag, a length, and its octets (RFC 7541, 5.2).
-fn string_at(octets: &[u8]) -> Result<(RawString<'_>, usize), Cut>
+fn string_at(octets: &[u8]) -> Result<(RawString<'_>, usize), ShapeFault>
     ensures read { read_of string_of result ≡ spec.string_at octets.now }
     ensures within { IfOk result (λ read. read.1 ≤ length octets.now) }
 {
     match find_str(octets) {
         StrAt::Whole(huffman, octets, used) => Ok((RawString { huffman, octets }, used)),
-        StrAt::More => Err(Cut::More),
-        StrAt::TooLong => Err(Cut::TooLong),
+        StrAt::More => Err(ShapeFault::More),
+        StrAt::TooLong => Err(ShapeFault::TooLong),
     }
 }
 
 /// An integer with a prefix of `prefix` bits, 1 to 8 (RFC 7541, 5.1).
-fn number_at(prefix: u8, octets: &[u8]) -> Result<(u64, usize), Cut>
+fn number_at(prefix: u8, octets: &[u8]) -> Result<(u64, usize), ShapeFault>
     requires { (1 ≤ prefix) × (prefix ≤ 8) }
     ensures read { read_of same_number result ≡ int_at prefix octets.now }
     ensures within { IfOk result (λ read. read.1 ≤ length octets.now) }
 {
     match read_int(prefix, octets) {
         IntRead::Whole(value, used) => Ok((value, used)),
-        IntRead::More => Err(Cut::More),
-        IntRead::TooLong => Err(Cut::TooLong),
+        IntRead::More => Err(ShapeFault::More),
+        IntRead::TooLong => Err(ShapeFault::TooLong),
     }
 }

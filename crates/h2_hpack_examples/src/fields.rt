@@ -54,14 +54,14 @@ fn octets_are_copied(rt: HostRuntime) -> Result<(), Fail> {
 /// The block of a response, as hex.
 fn response(
     alloc: Global,
-    signal: bool,
+    size_update_pending: bool,
     status: u16,
     fields: &[Field<Global>],
 ) -> Result<String, AllocError>
     requires status { (200 ≤ status) × (status ≤ 599) }
     requires fields { AllByRecursion IsWritableField fields.now }
 {
-    let block = response_block(alloc, signal, status, fields)?;
+    let block = response_block(alloc, size_update_pending, status, fields)?;
     digits_of(alloc, block.as_slice())
 }
 
@@ -74,9 +74,9 @@ static WITHOUT_FIELDS: [(bool, u16, &str); 3] = [
 
 #[test]
 fn responses_stand_as_indexed_or_spelled(rt: HostRuntime) {
-    for (signal, status, wanted) in &WITHOUT_FIELDS {
+    for (size_update_pending, status, wanted) in &WITHOUT_FIELDS {
         assert!(rt; *status >= 200 && *status <= 599);
-        let block = response(rt.alloc(), *signal, *status, &[]).ok();
+        let block = response(rt.alloc(), *size_update_pending, *status, &[]).ok();
         same(&rt, &block.as_deref(), &Some(*wanted), status);
     }
 }

@@ -61,26 +61,26 @@ fn read_whole(alloc: Global, octets: &[u8]) -> Result<(Instr<Global>, usize), Fa
 }
 
 /// An instruction as the cases write it: a Huffman string in single quotes, another in double ones.
-fn told(alloc: Global, instr: &Instr<Global>) -> Result<String, Fail> {
+fn printed(alloc: Global, instr: &Instr<Global>) -> Result<String, Fail> {
     match instr {
         Instr::Indexed(index) => Ok(format!(in alloc; "indexed {index}")?),
         Instr::Update(max) => Ok(format!(in alloc; "update {max}")?),
         Instr::Literal { mode, name, value } => {
-            let name = told_name(alloc, name)?;
-            let value = told_text(alloc, value)?;
+            let name = printed_name(alloc, name)?;
+            let value = printed_text(alloc, value)?;
             Ok(format!(in alloc; "{mode:?} {name} {value}")?)
         }
     }
 }
 
-fn told_name(alloc: Global, name: &Name<Global>) -> Result<String, Fail> {
+fn printed_name(alloc: Global, name: &Name<Global>) -> Result<String, Fail> {
     match name {
         Name::Ref(index) => Ok(format!(in alloc; "{index}")?),
-        Name::Text(text) => told_text(alloc, text),
+        Name::Text(text) => printed_text(alloc, text),
     }
 }
 
-fn told_text(alloc: Global, text: &Text<Global>) -> Result<String, Fail> {
+fn printed_text(alloc: Global, text: &Text<Global>) -> Result<String, Fail> {
     let octets = Vec::from_slice(alloc, text.octets.as_slice())?;
     let octets = String::from_utf8(octets)?;
     if text.huffman {
@@ -158,13 +158,13 @@ fn written(alloc: Global, instr: &Instr<Global>) -> Result<String, Fail> {
 /// What octets mean, how many of them that takes, and what the instruction is written as.
 type Meaning = (String, usize, String);
 
-fn told_and_written(alloc: Global, instr: &Instr<Global>, used: usize) -> Result<Meaning, Fail> {
-    Ok((told(alloc, instr)?, used, written(alloc, instr)?))
+fn printed_and_written(alloc: Global, instr: &Instr<Global>, used: usize) -> Result<Meaning, Fail> {
+    Ok((printed(alloc, instr)?, used, written(alloc, instr)?))
 }
 
 fn meaning_of(alloc: Global, octets: &[u8]) -> Result<Meaning, Fail> {
     let (instr, used) = read_whole(alloc, octets)?;
-    told_and_written(alloc, &instr, used)
+    printed_and_written(alloc, &instr, used)
 }
 
 /// The same of octets that digits spell, with an octet behind them.

@@ -5,19 +5,19 @@ use Rattle.std.proofs.lemmas.Nat.{pow_pos}
 use Rattle.std.specs.List.{AllByRecursion}
 use Rattle.h2_spec.specs.Integer.{groups, IsContinuation, IsInt, IsUnfinished, IsReadOf, int_at}
 use Rattle.h2_spec.specs.Read.{Read, Whole, More, TooLong, read_map}
-use Rattle.h2_spec.specs.Instruction.{Str, Shape, Mode, Add, Without, Never, NameRef, Literal, Indexed, Update, Named, mode_prefix, read_past, read_then, octets_at, string_at, name_by, value_at, literal_at, instr_by, instr_at}
+use Rattle.h2_spec.specs.Instruction.{Str, Shape, Mode, IncrementalIndexing, WithoutIndexing, NeverIndexed, NameRef, Literal, Indexed, Update, Named, mode_prefix, read_past, read_then, octets_at, string_at, name_by, value_at, literal_at, instr_by, instr_at}
 use Rattle.h2_spec.proofs.IntegerLaws.{continues, int_read, int_whole}
 use Rattle.h2_spec.proofs.InstructionLaws.{Stays, Within, IsReader, then-reader, number-reader, octets-reader, name-reader, value-reader, instr-stays, instr-within}
 
 -- with some octets more they are one whole thing
-pub record Ends {A : Type 0} (p : List ℕ → Read A) (b : List ℕ) : Type 0 where
+pub record CanEnd {A : Type 0} (p : List ℕ → Read A) (b : List ℕ) : Type 0 where
   pub more : List ℕ
   pub one : A
   pub whole : p (b ++ more) ≡ Whole one (length (b ++ more))
 
 -- what begins such a thing can be ended
 abbrev IsEndable : {A : Type 0} → (List ℕ → Read A) → Type 0
-IsEndable p = (b : List ℕ) → p b ≡ More → Ends p b
+IsEndable p = (b : List ℕ) → p b ≡ More → CanEnd p b
 
 -- ---- one thing behind another
 
@@ -49,7 +49,7 @@ module _ {A B : Type 0} (f : A → List ℕ → Read B) (second : IsSecond f) (p
   both b = read_then b (p b) f
 
   -- the first is whole, and the second is ended
-  second-ends : (b : List ℕ) (a : A) (used : ℕ) → p b ≡ Whole a used → f a (drop used b) ≡ More → Ends both b
+  second-ends : (b : List ℕ) (a : A) (used : ℕ) → p b ≡ Whole a used → f a (drop used b) ≡ More → CanEnd both b
   second-ends b a used k e =
       let x = second.endable a (drop used b) e in
       let within : used ≤ length b = subst (Within (length b)) k (reader.within b) in
@@ -63,7 +63,7 @@ module _ {A B : Type 0} (f : A → List ℕ → Read B) (second : IsSecond f) (p
       }
 
   -- the first is ended, and nothing follows it yet
-  first-ends : (b c : List ℕ) (a : A) → p (b ++ c) ≡ Whole a (length (b ++ c)) → (r : Read B) → f a [] ≡ r → Ends both b
+  first-ends : (b c : List ℕ) (a : A) → p (b ++ c) ≡ Whole a (length (b ++ c)) → (r : Read B) → f a [] ≡ r → CanEnd both b
   first-ends b c a k (Whole x n) e =
       let w = b ++ c in
       let none : n ≤ 0 = subst (Within 0) e ((second.readers a).within []) in
@@ -90,7 +90,7 @@ module _ {A B : Type 0} (f : A → List ℕ → Read B) (second : IsSecond f) (p
   then-ends : IsEndable p → IsEndable (λ b. read_then b (p b) f)
   then-ends h b e = at (p b) refl e
     where
-      at : (x : Read A) → p b ≡ x → read_then b x f ≡ More → Ends both b
+      at : (x : Read A) → p b ≡ x → read_then b x f ≡ More → CanEnd both b
       at (Whole a used) k e = second-ends b a used k (past-more used (f a (drop used b)) e)
       at More k e = let x = h b k in first-ends b x.more x.one x.whole (f x.one []) refl
       at TooLong k e = absurd cc
@@ -126,7 +126,7 @@ octets-end huffman n b e = at (leb n (length b)) refl e
     str : List ℕ → Str
     str xs = record { huffman = huffman; octets = xs }
 
-    at : (t : Bool) → leb n (length b) ≡ t → cond t (Whole (str (take n b)) n) More ≡ More → Ends (octets_at huffman n) b
+    at : (t : Bool) → leb n (length b) ≡ t → cond t (Whole (str (take n b)) n) More ≡ More → CanEnd (octets_at huffman n) b
     at true k e = absurd cc
     at false k e =
         let short = leb-false n (length b) k in
@@ -188,9 +188,9 @@ value-second mode = record {
 }
 
 prefix-some : (mode : Mode) → 0 < mode_prefix mode
-prefix-some Add = omega arith
-prefix-some Without = omega arith
-prefix-some Never = omega arith
+prefix-some IncrementalIndexing = omega arith
+prefix-some WithoutIndexing = omega arith
+prefix-some NeverIndexed = omega arith
 
 literal-ends : (mode : Mode) → IsEndable (literal_at mode)
 literal-ends mode =
@@ -208,11 +208,11 @@ choice-ends false p q r s = s
 by-ends : (o : ℕ) → IsEndable (instr_by o)
 by-ends o =
     choice-ends (leb 128 o) (λ b. read_map Indexed (int_at 7 b)) _ (map-ends Indexed (int_at 7) (number-ends 7 (zero-whole 7 (omega arith))))
-    (choice-ends (leb 64 o) (literal_at Add) _ (literal-ends Add)
+    (choice-ends (leb 64 o) (literal_at IncrementalIndexing) _ (literal-ends IncrementalIndexing)
     (choice-ends (leb 32 o) (λ b. read_map Update (int_at 5 b)) _ (map-ends Update (int_at 5) (number-ends 5 (zero-whole 5 (omega arith))))
-    (choice-ends (leb 16 o) (literal_at Never) (literal_at Without) (literal-ends Never) (literal-ends Without))))
+    (choice-ends (leb 16 o) (literal_at NeverIndexed) (literal_at WithoutIndexing) (literal-ends NeverIndexed) (literal-ends WithoutIndexing))))
 
-pub instr-ends : (b : List ℕ) → instr_at b ≡ More → Ends instr_at b
+pub instr-ends : (b : List ℕ) → instr_at b ≡ More → CanEnd instr_at b
 unfolding instr_at int_at
 instr-ends [] e = record { more = 130 ∷ []; one = Indexed 2; whole = refl }
 instr-ends (o ∷ b) e = let x = by-ends o (o ∷ b) e in record { more = x.more; one = x.one; whole = x.whole }

@@ -9,8 +9,8 @@ use Rattle.h2_spec.specs.Frame.{Frame}
 use Rattle.h2_spec.specs.Stream.{octets_waiting}
 use Rattle.h2_spec.specs.Answer.{Entry, picked}
 use Rattle.h2_spec.specs.Change.{flag_if}
-use Rattle.h2_spec.specs.Pump.{piece, data_upto, data_frames, share_frames}
-use Rattle.h2_laws.specs.Cutting.{IsCut, CutsShare}
+use Rattle.h2_spec.specs.SendPending.{piece, data_upto, data_frames, allowance_frames}
+use Rattle.h2_laws.specs.Cutting.{IsCut, CutsAllowance}
 
 abbrev all_of : List Frame → List ℕ
 all_of frames = flat_map (λ (f : Frame). f.payload) frames
@@ -132,9 +132,9 @@ cut-only (f ∷ g ∷ fs) (suc more) id ends size xs h k c =
 
 -- ---- the share of a stream
 
-pub share-cut : (book : List Entry) (size n : ℕ) (st : Stream) → 1 ≤ size → n ≤ octets_waiting st → octets_waiting st ≤ length (picked book st.pick).body → CutsShare book size n st
-unfolding share_frames data_frames
-share-cut book size n st h some within = record {
+pub allowance-cut : (book : List Entry) (size n : ℕ) (st : Stream) → 1 ≤ size → n ≤ octets_waiting st → octets_waiting st ≤ length (picked book st.pick).body → CutsAllowance book size n st
+unfolding allowance_frames data_frames
+allowance-cut book size n st h some within = record {
   octets = octets;
   next = record {
     before = take start body;
@@ -159,6 +159,6 @@ share-cut book size n st h some within = record {
     count : length octets ≡ n
     count = omega (arith, length-take n (drop start body), length-drop start body)
 
-pub nothing-cut : (book : List Entry) (size : ℕ) (st : Stream) → share_frames book size 0 st ≡ []
-unfolding share_frames data_frames data_upto
+pub nothing-cut : (book : List Entry) (size : ℕ) (st : Stream) → allowance_frames book size 0 st ≡ []
+unfolding allowance_frames data_frames data_upto
 nothing-cut book size st = refl

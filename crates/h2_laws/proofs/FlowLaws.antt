@@ -31,8 +31,8 @@ with-frame : (s : Settings) (v : ℕ) → IsAllowed s → 16384 ≤ v → v ≤ 
 with-frame s v h least most = record { push = h.push; window = h.window; least_frame = least; most_frame = most }
 
 -- with a value of a field that has none
-others : (s : Settings) (table : ℕ) (streams list : Option ℕ) (signal : Bool) → IsAllowed s → IsAllowed (record s { header_table = table; streams = streams; list = list; signal = signal })
-others s table streams list signal h = record { push = h.push; window = h.window; least_frame = h.least_frame; most_frame = h.most_frame }
+others : (s : Settings) (table : ℕ) (streams list : Option ℕ) (size_update_pending : Bool) → IsAllowed s → IsAllowed (record s { header_table = table; streams = streams; list = list; size_update_pending = size_update_pending })
+others s table streams list size_update_pending h = record { push = h.push; window = h.window; least_frame = h.least_frame; most_frame = h.most_frame }
 
 abbrev Allows : Result Settings ErrorCode → Type 0
 Allows r = IfOk r IsAllowed
@@ -46,8 +46,8 @@ unfolding with_setting
 allowed-with_setting s id v h =
     cond_both (id == 1) _ _ Allows (λ e. others s v s.streams s.list true h)
     (λ e. cond_both (id == 2) _ _ Allows (λ g. cond_both (nat_le v 1) _ _ Allows (λ t. with-push s v h (leb-true v 1 t)) (λ t. tt))
-    (λ e. cond_both (id == 3) _ _ Allows (λ g. others s s.header_table (Some v) s.list s.signal h)
+    (λ e. cond_both (id == 3) _ _ Allows (λ g. others s s.header_table (Some v) s.list s.size_update_pending h)
     (λ e. cond_both (id == 4) _ _ Allows (λ g. cond_both (nat_le v 2147483647) _ _ Allows (λ t. with-window s v h (leb-true v 2147483647 t)) (λ t. tt))
     (λ e. cond_both (id == 5) _ _ Allows (λ g. cond_both (nat_le 16384 v && nat_le v 16777215) _ _ Allows (λ t. let parts = both (nat_le 16384 v) (nat_le v 16777215) t in with-frame s v h (leb-true 16384 v parts.0) (leb-true v 16777215 parts.1)) (λ t. tt))
-    (λ e. cond_both (id == 6) _ _ Allows (λ g. others s s.header_table s.streams (Some v) s.signal h)
+    (λ e. cond_both (id == 6) _ _ Allows (λ g. others s s.header_table s.streams (Some v) s.size_update_pending h)
     (λ e. h))))))

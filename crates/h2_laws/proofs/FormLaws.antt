@@ -6,7 +6,7 @@ use Rattle.std.proofs.Math.Seq.{take-add}
 use Rattle.hex.specs.Hex.{IsBytes}
 use Rattle.h2_spec.specs.Integer.{IsInt, IsReadOf, int_at}
 use Rattle.h2_spec.specs.Read.{Read, Whole, More, TooLong, read_map}
-use Rattle.h2_spec.specs.Instruction.{Mode, Add, Without, Never, NameRef, Ref, Named, Indexed, Update, Literal, Str, Shape, Instruction, read_past, read_then, octets_at, string_at, mode_prefix, name_by, value_at, literal_at, instr_by, instr_at, instruction_at}
+use Rattle.h2_spec.specs.Instruction.{Mode, IncrementalIndexing, WithoutIndexing, NeverIndexed, NameRef, Ref, Named, Indexed, Update, Literal, Str, Shape, Instruction, read_past, read_then, octets_at, string_at, mode_prefix, name_by, value_at, literal_at, instr_by, instr_at, instruction_at}
 use Rattle.h2_spec.proofs.IntegerLaws.{int_read, int_whole}
 use Rattle.h2_spec.proofs.InstructionTexts.{spelling-read, read-spelling}
 use Rattle.h2_spec.proofs.InstructionWriting.{enough, string-first, first-of, by-indexed, by-update, by-mode}
@@ -46,9 +46,9 @@ string-read s b more f =
     ∙ ap (Whole s) (sym (length-append f.size s.octets) ∙ ap length (sym f.spelled))
 
 same_bits : (mode : Mode) → index_bits mode ≡ mode_prefix mode
-same_bits Add = refl
-same_bits Without = refl
-same_bits Never = refl
+same_bits IncrementalIndexing = refl
+same_bits WithoutIndexing = refl
+same_bits NeverIndexed = refl
 
 index-read : (mode : Mode) (v : ℕ) (b more : List ℕ) → IsInt (index_bits mode) v b → int_at (mode_prefix mode) (b ++ more) ≡ Whole v (length b)
 index-read mode v b more i = int_whole (mode_prefix mode) v b more (subst (λ n. IsInt n v b) (same_bits mode) i)
@@ -70,9 +70,9 @@ name-read mode (Named s) b more f =
     ∙ ap (Whole (Named s)) (sym (length-append index string) ∙ ap length (sym f.2))
 
 mode-read : (mode : Mode) (o : ℕ) (b : List ℕ) → o / 2 ^ index_bits mode ≡ literal_mark mode → instr_by o b ≡ literal_at mode b
-mode-read Add o b e = by-mode Add o b (omega arith) (omega arith)
-mode-read Without o b e = by-mode Without o b (omega arith) (omega arith)
-mode-read Never o b e = by-mode Never o b (omega arith) (omega arith)
+mode-read IncrementalIndexing o b e = by-mode IncrementalIndexing o b (omega arith) (omega arith)
+mode-read WithoutIndexing o b e = by-mode WithoutIndexing o b (omega arith) (omega arith)
+mode-read NeverIndexed o b e = by-mode NeverIndexed o b (omega arith) (omega arith)
 
 -- the first octet of a name is the mark of its literal
 name-marked : (mode : Mode) (name : NameRef Str) (b : List ℕ) → IsName mode name b → Begun (index_bits mode) (literal_mark mode) b
@@ -228,12 +228,12 @@ shape-spelled (o ∷ xs) h = at (leb 128 o) (leb 64 o) (leb 32 o) (leb 16 o) ref
     small = h 0
 
     at : (p q r s : Bool) → leb 128 o ≡ p → leb 64 o ≡ q → leb 32 o ≡ r → leb 16 o ≡ s →
-        Spelled IsForm b (cond p (read_map Indexed (int_at 7 b)) (cond q (literal_at Add b) (cond r (read_map Update (int_at 5 b)) (cond s (literal_at Never b) (literal_at Without b)))))
+        Spelled IsForm b (cond p (read_map Indexed (int_at 7 b)) (cond q (literal_at IncrementalIndexing b) (cond r (read_map Update (int_at 5 b)) (cond s (literal_at NeverIndexed b) (literal_at WithoutIndexing b)))))
     at true q r s e f g k = let a = leb-true 128 o e in indexed-spelled o xs (omega (arith, small))
-    at false true r s e f g k = let a = leb-false 128 o e in let c = leb-true 64 o f in literal-spelled Add o xs h (omega arith)
+    at false true r s e f g k = let a = leb-false 128 o e in let c = leb-true 64 o f in literal-spelled IncrementalIndexing o xs h (omega arith)
     at false false true s e f g k = let a = leb-false 64 o f in let c = leb-true 32 o g in update-spelled o xs (omega arith)
-    at false false false true e f g k = let a = leb-false 32 o g in let c = leb-true 16 o k in literal-spelled Never o xs h (omega arith)
-    at false false false false e f g k = let a = leb-false 16 o k in literal-spelled Without o xs h (omega arith)
+    at false false false true e f g k = let a = leb-false 32 o g in let c = leb-true 16 o k in literal-spelled NeverIndexed o xs h (omega arith)
+    at false false false false e f g k = let a = leb-false 16 o k in literal-spelled WithoutIndexing o xs h (omega arith)
 
 pub read-form : (b : List ℕ) (shape : Shape) (used : ℕ) → IsBytes b → instr_at b ≡ Whole shape used → IsForm shape (take used b)
 read-form b shape used h e = (subst (Spelled IsForm b) e (shape-spelled b h)).1

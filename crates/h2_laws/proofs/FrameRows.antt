@@ -116,7 +116,7 @@ unknown_setting : with_setting initial 7 9 ≡ Ok initial
 unfolding with_setting
 unknown_setting = refl
 
-header_table_size_sets_the_signal : with_setting initial 1 0 ≡ Ok (record initial { header_table = 0; signal = true })
+header_table_size_sets_the_signal : with_setting initial 1 0 ≡ Ok (record initial { header_table = 0; size_update_pending = true })
 unfolding with_setting
 header_table_size_sets_the_signal = refl
 

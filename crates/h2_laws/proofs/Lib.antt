@@ -14,7 +14,7 @@ mod GrantsRows
 pub mod grants
 mod LongBodies
 mod LongLists
-mod OwnLaws
+mod LocalSettingsLaws
 mod PayloadLaws
 pub mod RequestLaws
 mod RequestRows

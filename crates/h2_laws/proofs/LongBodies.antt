@@ -99,7 +99,7 @@ unfolding trace
 both = (trace (opening (long 40000) default) two_requests).state
 
 lefts : State → List (Option ℕ)
-lefts s = map (λ (st : Stream). st.numbers.left) s.streams
+lefts s = map (λ (st : Stream). st.numbers.body_remaining) s.streams
 
 second_waits : lefts both ≡ None ∷ Some 14465 ∷ []
 unfolding lefts both

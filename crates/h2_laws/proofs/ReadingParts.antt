@@ -215,8 +215,8 @@ reserved_as a =
 pub stream_read : (text : List ℕ) (n : ℕ) (reserved : Bool) → SaysStream text n reserved → stream_at text ≡ Some (n, reserved)
 stream_read text n false h = rw (not_reserved text (number_lacks 82 (lit≤ tt) max_stream text n h), number_read max_stream text n h) refl
 stream_read text n true h =
-    let facts = reserved_as h.0 in
-    ap stream_at h.1 ∙ rw (facts.0, facts.1, number_read max_stream h.0 n h.2) refl
+    let summary = reserved_as h.0 in
+    ap stream_at h.1 ∙ rw (summary.0, summary.1, number_read max_stream h.0 n h.2) refl
 
 last_back : (text : List ℕ) → 0 < length text → slice_index text (length text - 1) ≡ 82 → text ≡ take (length text - 1) text ++ 82 ∷ []
 last_back [] some e = absurd (omega arith)

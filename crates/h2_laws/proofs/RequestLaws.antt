@@ -111,14 +111,14 @@ false_is e = cc
 
 -- a row more: its test decides whether its reason holds, and no reason stands between
 row : (R : ℕ → Type 0) (n m : ℕ) (t : Bool) (o : Option ℕ) → ((k : ℕ) → n ≤ k → k < m → ¬ (R k)) → (t ≡ true → R m) → (R m → t ≡ true) → IsLeastFrom R (suc m) o → IsLeastFrom R n (cond t (Some m) o)
-row R n m true o none holds tells rest = (holds refl, λ q above reason. reached R n m q none above reason)
-row R n m false None none holds tells rest = λ q above reason. rest q (passed R m q (λ r. false_is (tells r)) (reached R n m q none above reason) reason) reason
-row R n m false (Some r) none holds tells rest =
-    (rest.0, λ q above reason. rest.1 q (passed R m q (λ r. false_is (tells r)) (reached R n m q none above reason) reason) reason)
+row R n m true o none holds prints rest = (holds refl, λ q above reason. reached R n m q none above reason)
+row R n m false None none holds prints rest = λ q above reason. rest q (passed R m q (λ r. false_is (prints r)) (reached R n m q none above reason) reason) reason
+row R n m false (Some r) none holds prints rest =
+    (rest.0, λ q above reason. rest.1 q (passed R m q (λ r. false_is (prints r)) (reached R n m q none above reason) reason) reason)
 
 -- the next reason is the next number
 row_next : (R : ℕ → Type 0) (n : ℕ) (t : Bool) (o : Option ℕ) → (t ≡ true → R n) → (R n → t ≡ true) → IsLeastFrom R (suc n) o → IsLeastFrom R n (cond t (Some n) o)
-row_next R n t o holds tells rest = row R n n t o (λ k above below r. omega arith) holds tells rest
+row_next R n t o holds prints rest = row R n n t o (λ k above below r. omega arith) holds prints rest
 
 from_zero : (R : ℕ → Type 0) (o : Option ℕ) → IsLeastFrom R 0 o → IsLeast R o
 from_zero R None h = λ q. h q (omega arith)

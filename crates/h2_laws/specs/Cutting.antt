@@ -6,7 +6,7 @@ use Rattle.h2_spec.specs.Frame.{Frame}
 use Rattle.h2_spec.specs.Stream.{octets_waiting}
 use Rattle.h2_spec.specs.Answer.{Entry, picked}
 use Rattle.h2_spec.specs.Change.{flag_if}
-use Rattle.h2_spec.specs.Pump.{share_frames}
+use Rattle.h2_spec.specs.SendPending.{allowance_frames}
 
 -- frames are octets of a stream, cut into DATA by this size, of which the last ends the stream or does not
 pub record IsCut (id size : ℕ) (ends : Bool) (octets : List ℕ) (frames : List Frame) : Type 0 where
@@ -29,8 +29,8 @@ pub record IsNext (body : List ℕ) (waiting n : ℕ) (octets : List ℕ) : Type
 
 -- a stream's share of n octets is the next n of its answer's body, cut into DATA of the frame size; END_STREAM is
 -- there exactly where these are all that wait; and only these frames are that
-pub record CutsShare (book : List Entry) (size n : ℕ) (st : Stream) : Type 0 where
+pub record CutsAllowance (book : List Entry) (size n : ℕ) (st : Stream) : Type 0 where
   pub octets : List ℕ
   pub next : IsNext (picked book st.pick).body (octets_waiting st) n octets
-  pub cut : IsCut st.id size (octets_waiting st == n) octets (share_frames book size n st)
-  pub only : (frames : List Frame) → IsCut st.id size (octets_waiting st == n) octets frames → frames ≡ share_frames book size n st
+  pub cut : IsCut st.id size (octets_waiting st == n) octets (allowance_frames book size n st)
+  pub only : (frames : List Frame) → IsCut st.id size (octets_waiting st == n) octets frames → frames ≡ allowance_frames book size n st

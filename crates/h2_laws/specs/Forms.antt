@@ -2,7 +2,7 @@
 -- nothing here reads.
 use Rattle.std.specs.Prelude.{◌≡◌, ℕ, ◌/◌, ◌^◌, ◌<◌, Bool, true, false, List, [], ◌∷◌, ◌++◌, length}
 use Rattle.h2_spec.specs.Integer.{IsInt}
-use Rattle.h2_spec.specs.Instruction.{Mode, Add, Without, Never, NameRef, Ref, Named, Indexed, Update, Literal, Str, Shape, Instruction, IsShapeOf}
+use Rattle.h2_spec.specs.Instruction.{Mode, IncrementalIndexing, WithoutIndexing, NeverIndexed, NameRef, Ref, Named, Indexed, Update, Literal, Str, Shape, Instruction, IsShapeOf}
 
 -- the bits of the first octet above its lowest n are these
 abbrev pub IsMarked : ℕ → ℕ → List ℕ → Type 0
@@ -27,14 +27,14 @@ pub record IsString (s : Str) (octets : List ℕ) : Type 0 where
 -- literals begin with 01, and an index with a prefix of 6 bits, where they enter the table; with 0000, or with 0001
 -- where they never may, and one of 4 bits where they do not (6.2.1 to 6.2.3)
 abbrev pub index_bits : Mode → ℕ
-index_bits Add = 6
-index_bits Without = 4
-index_bits Never = 4
+index_bits IncrementalIndexing = 6
+index_bits WithoutIndexing = 4
+index_bits NeverIndexed = 4
 
 abbrev pub literal_mark : Mode → ℕ
-literal_mark Add = 1
-literal_mark Without = 0
-literal_mark Never = 1
+literal_mark IncrementalIndexing = 1
+literal_mark WithoutIndexing = 0
+literal_mark NeverIndexed = 1
 
 -- the name of a literal: an index above 0, or index 0 and a string
 abbrev pub IsName : Mode → NameRef Str → List ℕ → Type 0

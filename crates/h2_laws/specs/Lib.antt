@@ -3,6 +3,6 @@ pub mod Forms
 pub mod Grants
 pub mod GrantsTest
 pub mod Order
-pub mod Own
+pub mod LocalSettings
 pub mod Reasons
-pub mod Shares
+pub mod Allowances

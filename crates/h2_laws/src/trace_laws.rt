@@ -1,6 +1,6 @@
 //! Laws of items and of whole runs: octets may come in any pieces.
 //! Each law is the contract of a function with an empty body; definitions: `h2_spec/specs/Frame.antt`,
-//! `h2_spec/specs/Trace.antt`, `specs/Own.antt`.
+//! `h2_spec/specs/Trace.antt`, `specs/LocalSettings.antt`.
 
 ghost use Rattle.std.specs.Prelude.{◌≡◌, ℕ, Bool, List, ◌++◌};
 ghost use Rattle.h2_spec.specs.declared.connection.Config.{Config};
@@ -8,7 +8,7 @@ ghost use Rattle.h2_spec.specs.Answer.{Entry};
 ghost use Rattle.h2_spec.specs.Frame.{next};
 ghost use Rattle.h2_spec.specs.State.{State};
 ghost use Rattle.h2_spec.specs.Trace.{trace, carried_on, IsKept, IsWithin};
-ghost use Rattle.h2_laws.specs.Own.{KeepsOwn};
+ghost use Rattle.h2_laws.specs.LocalSettings.{KeepsLocalSettings};
 
 /// An item takes at least one octet and no more than there are, and more octets behind it leave it as it is (RFC 9113, 3.4 and 4.1).
 pub fn items_are_cut_anywhere()
@@ -25,5 +25,5 @@ pub fn runs_are_cut_anywhere()
 /// table is within the limit that these give it, and no block has to begin with a size update: the server sends no
 /// settings that would replace them (RFC 9113, 6.5.3; RFC 7541, 4.2).
 pub fn own_settings_stay_initial()
-    ensures { (book : List Entry) (config : Config) (octets : List ℕ) → KeepsOwn book config octets }
+    ensures { (book : List Entry) (config : Config) (octets : List ℕ) → KeepsLocalSettings book config octets }
 {}

@@ -1,5 +1,5 @@
 pub mod Groups
 pub mod Reading
 pub mod Strings
-pub mod Table
+pub mod HuffmanTable
 pub mod Writing

@@ -9,11 +9,11 @@ use Rattle.h2_spec.specs.Huffman.{bits, codes, IsText, HuffRead, huffman_text, T
 use Rattle.h2_spec.proofs.BitLaws.{length-bits_of, bits-more}
 use Rattle.h2_spec.proofs.HuffmanLaws.{codes-append, one_answer, is_padding}
 use Rattle.h2_spec.proofs.SpellingLaws.{length-bits}
-use Rattle.h2_prim.specs.States.{path_of, emitted, Stands, Leads, Tells}
+use Rattle.h2_prim.specs.States.{path_of, emitted, Stands, Leads, Prints}
 use Rattle.h2_prim.specs.declared.fault.HuffFault.{HuffFault}
 use Rattle.h2_prim.specs.declared.fault.HuffFault.TheVariants as fault
 use Rattle.h2_prim.specs.declared.tables.TheConstants.{LENGTHS, CODES}
-use Rattle.h2_prim.proofs.Table.{code_at, path_begins, path_ones, path_others, path_end, path_start}
+use Rattle.h2_prim.proofs.HuffmanTable.{code_at, path_begins, path_ones, path_others, path_end, path_start}
 
 -- ---- four bits more
 
@@ -119,7 +119,7 @@ pub record Refusal (T : Type 0) (r : HuffRead) (f : HuffFault) : Type 0 where
   pub eos : IsErrOf {T = T} (Err f) fault.Eos ↔ (r ≡ Eos)
   pub padding : IsErrOf {T = T} (Err f) fault.Padding ↔ (r ≡ Padding)
 
-pub refused : {T : Type 0} (r : HuffRead) (text : List ℕ) (f : Option HuffFault) → Tells r text f → Refusal T r (unwrap_or f fault.NoMemory)
+pub refused : {T : Type 0} (r : HuffRead) (text : List ℕ) (f : Option HuffFault) → Prints r text f → Refusal T r (unwrap_or f fault.NoMemory)
 refused r text None h = record { eos = (λ e. cc, λ e. cc); padding = (λ e. cc, λ e. cc) }
 refused r text (Some fault.Eos) h = record { eos = (λ e. h, λ e. refl); padding = (λ e. cc, λ e. cc) }
 refused r text (Some fault.Padding) h = record { eos = (λ e. cc, λ e. cc); padding = (λ e. h, λ e. refl) }

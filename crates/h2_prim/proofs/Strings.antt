@@ -7,7 +7,7 @@ use Rattle.h2_spec.specs.Integer.{int_at, IsReadOf}
 use Rattle.h2_spec.specs.Instruction.{string_at, octets_at, read_then}
 use Rattle.h2_spec.specs.Read.{Read, Whole, More, TooLong}
 use Rattle.h2_spec.proofs.IntegerLaws.{int_read}
-use Rattle.h2_prim.specs.Answers.{str}
+use Rattle.h2_prim.specs.Readings.{str}
 
 string-is : (o : ℕ) (cs : List ℕ) → string_at (o ∷ cs) ≡ read_then (o ∷ cs) (int_at 7 (o ∷ cs)) (octets_at (leb 128 o))
 unfolding string_at

@@ -1,3 +1,3 @@
-pub mod Answers
+pub mod Readings
 pub mod States
 pub mod Written

@@ -57,8 +57,8 @@ abbrev pub Leads : ℕ → List Bool → ℕ → ℕ → Type 0
 Leads state nibble symbol next = (rest : List Bool) → (state < 256 → rest ≡ []) → Stands (path_of state ++ (rest ++ nibble)) (emitted symbol) next
 
 -- what a string is refused for, if it is, says what it is
-abbrev pub Tells : HuffRead → List ℕ → Option HuffFault → Type 0
-Tells r text None = r ≡ Text text
-Tells r text (Some fault.Eos) = r ≡ Eos
-Tells r text (Some fault.Padding) = r ≡ Padding
-Tells r text (Some fault.NoMemory) = ⊥
+abbrev pub Prints : HuffRead → List ℕ → Option HuffFault → Type 0
+Prints r text None = r ≡ Text text
+Prints r text (Some fault.Eos) = r ≡ Eos
+Prints r text (Some fault.Padding) = r ≡ Padding
+Prints r text (Some fault.NoMemory) = ⊥

@@ -2,7 +2,7 @@
 //! It rests on nothing; what each fault means is `HasEos` and `IsPadding` of `h2_spec`, specs/Huffman.antt.
 
 ghost use Rattle.std.specs.Prelude.{◌≡◌};
-ghost use Rattle.h2_prim.specs.Answers.{number_of};
+ghost use Rattle.h2_prim.specs.Readings.{number_of};
 
 use std::alloc::{AllocError, AllocFailed};
 use thiserror::Error;

@@ -6,7 +6,7 @@ ghost use Rattle.std.specs.Prelude.{◌≡◌, ℕ, ◌+◌, ◌*◌, ◌^◌, �
 ghost use Rattle.std.specs.Vec.{vec_len, vec_capacity};
 ghost use Rattle.h2_spec.specs.HuffmanCode.{bits_of, code};
 ghost use Rattle.h2_spec.specs.Huffman.{bits, huffman_text, spell_huffman, Text, Eos, Padding};
-ghost use Rattle.h2_prim.specs.States.{Leads, Stands, Tells};
+ghost use Rattle.h2_prim.specs.States.{Leads, Stands, Prints};
 ghost use Rattle.h2_prim.specs.Written.{Written};
 ghost use Rattle.h2_prim.specs.declared.fault.HuffFault.TheVariants as fault;
 
@@ -145,7 +145,7 @@ fn state_after(octets: &[u8]) -> usize
 /// that of the whole end of a string.
 fn fault_at(state: usize) -> Option<HuffFault>
     requires { state ≤ 256 }
-    ensures { (octets text : List ℕ) → Stands (bits octets) text state → Tells (huffman_text octets) text result }
+    ensures { (octets text : List ℕ) → Stands (bits octets) text state → Prints (huffman_text octets) text result }
 {
     match state {
         0..=7 => None,

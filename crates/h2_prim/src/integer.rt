@@ -5,7 +5,7 @@
 ghost use Rattle.std.specs.Prelude.{◌≡◌, ◌+◌, ◌-◌, ◌%◌, ◌^◌, ◌<◌, ◌≤◌, ◌++◌, OnOk, OnErr};
 ghost use Rattle.std.specs.Vec.{vec_len, vec_capacity};
 ghost use Rattle.h2_spec.specs.Integer.{groups_at, groups_of, int_at, spell_int};
-ghost use Rattle.h2_prim.specs.Answers.{int_read, IsSmall};
+ghost use Rattle.h2_prim.specs.Readings.{int_read, IsSmall};
 
 use std::alloc::{AllocError, Allocator};
 

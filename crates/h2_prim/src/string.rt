@@ -5,7 +5,7 @@ ghost use Rattle.std.specs.Prelude.{◌≡◌, ◌↔◌, ◌≤◌, ◌<◌, le
 ghost use Rattle.h2_spec.specs.Huffman.{Text, Eos, Padding};
 ghost use Rattle.h2_spec.specs.Instruction.{string_at, text_of, text_str};
 ghost use Rattle.h2_spec.specs.Read.{More, TooLong, read_map};
-ghost use Rattle.h2_prim.specs.Answers.{str, str_at, str_read, IsWhole};
+ghost use Rattle.h2_prim.specs.Readings.{str, str_at, str_read, IsWhole};
 ghost use Rattle.h2_prim.specs.declared.fault.HuffFault.TheVariants as fault;
 ghost use Rattle.h2_prim.specs.declared.string.StrRead.TheVariants as read;
 

@@ -1,5 +1,5 @@
 //! The program: the words of its command line, its files, its standard input, output and error, as h2_bench runs them.
-//! Rests on h2_bench, h2_book and h2_device; what it prints for its input is defined in `h2_bench/specs/Told.antt`.
+//! Rests on h2_bench, h2_book and h2_device; what it prints for its input is defined in `h2_bench/specs/Printed.antt`.
 #![tactic(auto)]
 
 use h2_bench::{Words, run_on, serve};

@@ -214,7 +214,7 @@ fn beginnings_send_beginnings(rt: HostRuntime) -> Result<(), Fail> {
 }
 
 /// What the program prints where this was sent and a connection shows this.
-fn told(alloc: Global, conn: &Conn<'_, Global>, sent: &[u8]) -> Result<String, Fail> {
+fn printed(alloc: Global, conn: &Conn<'_, Global>, sent: &[u8]) -> Result<String, Fail> {
     let sent = digits_of(alloc, sent)?;
     let shown = shown(alloc, conn)?;
     Ok(format!(in alloc; "sent {sent}\n{shown}")?)
@@ -229,7 +229,7 @@ fn compare_place(
     octets: &[u8],
 ) -> Result<(), Fail> {
     let input = digits_of(alloc, octets)?;
-    let want = told(alloc, conn, sent)?;
+    let want = printed(alloc, conn, sent)?;
     let words = ["play", "--streams", "1"];
     let (name, want) = (input.as_str(), want.as_bytes());
     compare(rt, alloc, name, &words, input.as_bytes(), (0, want));

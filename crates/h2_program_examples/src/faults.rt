@@ -87,8 +87,8 @@ static LENGTHS: [(u32, u8, bool); 2] = [(1_048_577, 1, true), (1_048_576, 0, fal
 fn bodies_of_answers_have_a_greatest_length(rt: HostRuntime) -> Result<(), Fail> {
     for (count, status, is_fault) in &LENGTHS {
         let ran = ran_with_body(rt.alloc(), *count)?;
-        let is_told = ran.1.as_slice() == b"fault 15\n".as_slice();
-        same(&rt, &(ran.0, is_told), &(*status, *is_fault), count);
+        let is_printed = ran.1.as_slice() == b"fault 15\n".as_slice();
+        same(&rt, &(ran.0, is_printed), &(*status, *is_fault), count);
     }
     Ok(())
 }

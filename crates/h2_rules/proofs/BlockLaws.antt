@@ -1,19 +1,19 @@
 -- The stream of an open block, and what becomes of it at the block's end.
 use Rattle.std.proofs.Common.{◌≡◌, ℕ, ◌%◌, ◌<◌, ◌≤◌, Bool, true, false, cond, eqb, ltb, length, List, Option, Some, None, is_some, max, refl, ap, ◌∙◌, arith}
 use Rattle.h2_spec.specs.declared.connection.Config.{Config}
-use Rattle.h2_spec.specs.declared.connection.Core.{Core}
-use Rattle.h2_spec.specs.declared.reactions.Facts.{Facts}
+use Rattle.h2_spec.specs.declared.connection.ConnectionState.{ConnectionState}
+use Rattle.h2_spec.specs.declared.reactions.BlockSummary.{BlockSummary}
 use Rattle.h2_spec.specs.declared.streams.Kind.{Kind}
 use Rattle.h2_spec.specs.declared.streams.Kind.TheVariants.{Idle, Skipped, BothOpen, HalfRemote, HalfLocal, Ended, PeerReset, WeReset}
 use Rattle.h2_spec.specs.declared.streams.Stream.{Stream}
 use Rattle.h2_spec.specs.Answer.{Entry, picked}
 use Rattle.h2_spec.specs.Block.{list_size}
 use Rattle.h2_spec.specs.Field.{Field}
-use Rattle.h2_spec.specs.Headers.{request_facts, request_turn}
+use Rattle.h2_spec.specs.Headers.{request_summary, request_outcome}
 use Rattle.h2_spec.specs.Request.{malformed}
 use Rattle.h2_spec.specs.Stream.{Records, is_live, is_peer_open, kind_of, not_live, record_of, recorded, stream_at}
 use Rattle.h2_streams.specs.Put.{CanPut, can_become}
-use Rattle.h2_rules.proofs.RequestTurnLaws.{malformed-turn}
+use Rattle.h2_rules.proofs.RequestOutcomeLaws.{malformed-turn}
 
 -- a stream that the peer may still send on is live
 pub peer-open-live : (kind : Kind) → is_peer_open kind ≡ true → is_live kind ≡ true
@@ -47,13 +47,13 @@ pub opening-put : (r : Records) (id : ℕ) (st : Stream) → r.last < id → id 
 opening-put r id st above odd same = ((λ over. ap (λ n. n % 2) same ∙ odd, λ within. absurd (omega (arith, above, within, same))), omega (arith, above, same))
 
 -- facts that agree with those of the fields as far as these are looked at do the same
-pub same-opening : (book : List Entry) (config : Config) (live : ℕ) (core : Core) (id : ℕ) (ends : Bool) (fields : List Field) (f : Facts) →
-    f.size ≡ list_size fields → f.malformed ≡ is_some (malformed fields) → (malformed fields ≡ None → f ≡ request_facts book fields) →
-    request_turn config live (length (picked book f.pick).body) core id ends f ≡ (let g = request_facts book fields in request_turn config live (length (picked book g.pick).body) core id ends g)
+pub same-opening : (book : List Entry) (config : Config) (live : ℕ) (core : ConnectionState) (id : ℕ) (ends : Bool) (fields : List Field) (f : BlockSummary) →
+    f.size ≡ list_size fields → f.malformed ≡ is_some (malformed fields) → (malformed fields ≡ None → f ≡ request_summary book fields) →
+    request_outcome config live (length (picked book f.pick).body) core id ends f ≡ (let g = request_summary book fields in request_outcome config live (length (picked book g.pick).body) core id ends g)
 same-opening book config live core id ends fields f size bad well = at (malformed fields) refl
   where
-    at : (o : Option ℕ) → malformed fields ≡ o → request_turn config live (length (picked book f.pick).body) core id ends f ≡ (let g = request_facts book fields in request_turn config live (length (picked book g.pick).body) core id ends g)
-    at None e = ap (λ (g : Facts). request_turn config live (length (picked book g.pick).body) core id ends g) (well e)
+    at : (o : Option ℕ) → malformed fields ≡ o → request_outcome config live (length (picked book f.pick).body) core id ends f ≡ (let g = request_summary book fields in request_outcome config live (length (picked book g.pick).body) core id ends g)
+    at None e = ap (λ (g : BlockSummary). request_outcome config live (length (picked book g.pick).body) core id ends g) (well e)
     at (Some k) e =
-        let g = request_facts book fields in
+        let g = request_summary book fields in
         malformed-turn config live (length (picked book f.pick).body) (length (picked book g.pick).body) core id ends f g size (bad ∙ ap is_some e) (ap is_some e)

@@ -1,4 +1,4 @@
 pub mod BlockLaws
-mod RequestTurnLaws
+mod RequestOutcomeLaws
 mod SettingsLaws
 pub mod SoundLaws

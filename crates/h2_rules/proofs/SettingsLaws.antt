@@ -11,13 +11,13 @@ use Rattle.h2_spec.specs.declared.streams.Stream.{Stream}
 use Rattle.h2_spec.specs.Settings.{with_setting}
 use Rattle.h2_spec.specs.Change.{overflows, moved_by}
 use Rattle.h2_spec.specs.SettingsFrame.{setting_next, settings_applied}
-use Rattle.h2_spec.specs.declared.connection.Core.{Core}
+use Rattle.h2_spec.specs.declared.connection.ConnectionState.{ConnectionState}
 use Rattle.h2_spec.specs.declared.connection.Phase.TheVariants.{Running}
-use Rattle.h2_spec.specs.declared.reactions.Touch.TheVariants.{Shift}
+use Rattle.h2_spec.specs.declared.reactions.RecordUpdate.TheVariants.{Shift}
 use Rattle.h2_spec.specs.Answer.{Entry}
 use Rattle.h2_spec.specs.Stream.{Records}
 use Rattle.h2_rules.specs.OneSetting.{one_setting}
-use Rattle.h2_rules.specs.Sound.{IsSoundCore, IsSoundState, IsSoundTouch}
+use Rattle.h2_rules.specs.Sound.{IsSoundConnectionState, IsSoundState, IsSoundRecordUpdate}
 use Rattle.h2_rules.proofs.SoundLaws.{still}
 
 abbrev Applied : Type 0
@@ -128,11 +128,11 @@ applied-fit streams from now peer (p ∷ ps) fit e = at (λ t g h. applied-fit s
     at more (Ok t) g h = moved more t (overflows (moved_by from.window t.window) streams) g h
 
 -- with the settings that are taken the counts and the records stay sound
-pub applied-sound : (book : List Entry) (core now : Core) (r : Records) (peer : Settings) (ps : List (ℕ × ℕ)) → IsSoundState book core r → settings_applied r.streams core.peer core.peer ps ≡ Ok peer →
-    now ≡ record core { peer = peer; phase = Running } → IsSoundCore now × IsSoundTouch book r core.peer.window now (Shift core.peer.window peer.window)
+pub applied-sound : (book : List Entry) (core now : ConnectionState) (r : Records) (peer : Settings) (ps : List (ℕ × ℕ)) → IsSoundState book core r → settings_applied r.streams core.peer core.peer ps ≡ Ok peer →
+    now ≡ record core { peer = peer; phase = Running } → IsSoundConnectionState now × IsSoundRecordUpdate book r core.peer.window now (Shift core.peer.window peer.window)
 applied-sound book core now r peer ps state e is =
     let before = state.counts in
     let fit = applied-fit r.streams core.peer core.peer peer ps (before.1, before.3, before.4) e in
     let fits = applied-fits r.streams core.peer core.peer peer ps (still book core.peer.window r.streams state.records) e in
-    let P : Core → Type 0 = λ x. IsSoundCore x × IsSoundTouch book r core.peer.window x (Shift core.peer.window peer.window) in
+    let P : ConnectionState → Type 0 = λ x. IsSoundConnectionState x × IsSoundRecordUpdate book r core.peer.window x (Shift core.peer.window peer.window) in
     subst P (sym is) ((before.0, fit.0, before.2, fit.1, fit.2, before.5, before.6), (fits, refl, refl, sym state.last))

@@ -2,21 +2,21 @@
 use Rattle.std.proofs.Common.{◌≡◌, ℕ, ◌%◌, ltb, eqb, ◌<◌, ◌≤◌, List, [], ◌∷◌, Bool, true, false, cond, ◌||◌, ◌&&◌, not, max, Some, refl, sym, ap, subst, ◌⊎◌, inl, inr, ◌∙◌, arith, ℤ, pos, negsuc, ◌+ℤ◌, ◌-ℤ◌, ◌≤ℤ◌, int_lt}
 use Rattle.std.proofs.lemmas.Bool.{false≢true}
 use Rattle.std.specs.List.{AllByRecursion}
-use Rattle.h2_spec.specs.declared.connection.Core.{Core}
+use Rattle.h2_spec.specs.declared.connection.ConnectionState.{ConnectionState}
 use Rattle.h2_spec.specs.declared.reactions.Change.{Change}
-use Rattle.h2_spec.specs.declared.reactions.Touch.{Touch}
-use Rattle.h2_spec.specs.declared.reactions.Touch.TheVariants.{Same, Put, Shift}
+use Rattle.h2_spec.specs.declared.reactions.RecordUpdate.{RecordUpdate}
+use Rattle.h2_spec.specs.declared.reactions.RecordUpdate.TheVariants.{Unchanged, Put, Shift}
 use Rattle.h2_spec.specs.declared.streams.Stream.{Stream}
 use Rattle.h2_spec.specs.declared.streams.Kind.{Kind}
 use Rattle.h2_spec.specs.declared.streams.Kind.TheVariants.{Idle, Skipped, BothOpen, HalfRemote, HalfLocal, Ended, PeerReset, WeReset}
 use Rattle.h2_spec.specs.Answer.{Entry}
-use Rattle.h2_spec.specs.Change.{follows_initial_window, moved_by, overflows, overflows_one, shifted, shifted_one, touched, with_send}
-use Rattle.h2_spec.specs.Ends.{server_ended, server_ended_as}
+use Rattle.h2_spec.specs.Change.{follows_initial_window, moved_by, overflows, overflows_one, shifted, shifted_one, updated_streams, with_send}
+use Rattle.h2_spec.specs.StreamEnds.{server_ended, server_ended_as}
 use Rattle.h2_spec.specs.Stream.{Records, is_live, kind_of, not_live, octets_waiting, put, record_of, recorded, stream_at}
 use Rattle.h2_spec.specs.Window.{is_above_max}
 use Rattle.h2_streams.specs.Put.{CanPut, is_closed}
 use Rattle.h2_streams.specs.Shift.{CanShift}
-use Rattle.h2_rules.specs.Sound.{AreSound, HasBody, IsSoundChange, IsSoundState, IsSoundStream, IsSoundTouch, is_recorded, touched_records}
+use Rattle.h2_rules.specs.Sound.{AreSound, HasBody, IsSoundChange, IsSoundState, IsSoundStream, IsSoundRecordUpdate, is_recorded, updated_records}
 
 -- ---- a stream that is not live
 
@@ -147,10 +147,10 @@ can-shift book from to [] all = tt
 can-shift book from to (st ∷ sts) all = (λ follows. above-least from to st.numbers.send (all.0.0.2 follows), can-shift book from to sts all.1)
 
 -- what moving the records' windows asks for
-pub touch-can-shift : (book : List Entry) (core now : Core) (r : Records) (from to : ℕ) → IsSoundState book core r → IsSoundTouch book r core.peer.window now (Shift from to) →
+pub update-can-shift : (book : List Entry) (core now : ConnectionState) (r : Records) (from to : ℕ) → IsSoundState book core r → IsSoundRecordUpdate book r core.peer.window now (Shift from to) →
     AllByRecursion (CanShift (moved_by from to)) r.streams × (overflows (moved_by from to) r.streams ≡ false)
-touch-can-shift book core now r from to state touch =
-    (can-shift book from to r.streams (subst (λ w. AreSound book w r.streams) (sym touch.1) state.records), touch.0)
+update-can-shift book core now r from to state record_update =
+    (can-shift book from to r.streams (subst (λ w. AreSound book w r.streams) (sym record_update.1) state.records), record_update.0)
 
 moved-below : (z : ℤ) → is_above_max z ≡ false → z ≤ℤ pos 2147483647
 moved-below z h = grind (arith, h)
@@ -192,17 +192,17 @@ shifted-sound book from to (st ∷ sts) all fits =
 -- ---- a change
 
 -- the records of a change are those of its touch
-pub touched-streams : (touch : Touch) (r : Records) → (touched_records touch r).streams ≡ touched touch r.streams
-touched-streams Same r = refl
-touched-streams (Put st) r = refl
-touched-streams (Shift from to) r = refl
+pub updated-streams : (record_update : RecordUpdate) (r : Records) → (updated_records record_update r).streams ≡ updated_streams record_update r.streams
+updated-streams Unchanged r = refl
+updated-streams (Put st) r = refl
+updated-streams (Shift from to) r = refl
 
 -- the state is sound after a sound change
-pub changed-sound : (book : List Entry) (core : Core) (r : Records) (c : Change) → IsSoundState book core r → IsSoundChange book r core.peer.window c → IsSoundState book c.core (touched_records c.touch r)
-changed-sound book core r c state change = at c.touch change.1
+pub changed-sound : (book : List Entry) (core : ConnectionState) (r : Records) (c : Change) → IsSoundState book core r → IsSoundChange book r core.peer.window c → IsSoundState book c.core (updated_records c.record_update r)
+changed-sound book core r c state change = at c.record_update change.1
   where
-    at : (touch : Touch) → IsSoundTouch book r core.peer.window c.core touch → IsSoundState book c.core (touched_records touch r)
-    at Same t = record { counts = change.0; records = subst (λ w. AreSound book w r.streams) t.0 state.records; last = sym t.1 }
+    at : (record_update : RecordUpdate) → IsSoundRecordUpdate book r core.peer.window c.core record_update → IsSoundState book c.core (updated_records record_update r)
+    at Unchanged t = record { counts = change.0; records = subst (λ w. AreSound book w r.streams) t.0 state.records; last = sym t.1 }
     at (Put st) t = record {
       counts = change.0;
       records = put-sound book c.core.peer.window st r.streams (t.0, t.1, t.5) (subst (λ w. AreSound book w r.streams) t.2 state.records);

@@ -14,37 +14,37 @@ ghost use Rattle.h2_spec.specs.Request.{malformed, malformed_trailers};
 ghost use Rattle.h2_spec.specs.State.{OpenBlock};
 ghost use Rattle.h2_request.specs.Lent.{IsPickOf};
 ghost use Rattle.h2_rules.specs.Open.{IsOpenAt, state_of};
-ghost use Rattle.h2_rules.specs.Sound.{HasBody, IsSoundChange, IsSoundCore, IsSoundState, IsSoundStream, is_recorded};
+ghost use Rattle.h2_rules.specs.Sound.{HasBody, IsSoundChange, IsSoundConnectionState, IsSoundState, IsSoundStream, is_recorded};
 
-use crate::change::{stay, stream_error, turned};
-use crate::headers::{request_turn, trailers_turn};
+use crate::change::{only_counts, stream_error, with_outcome};
+use crate::headers::{request_outcome, trailers_outcome};
 use h2_fields::block::BlockDecoder;
 use h2_fields::field::Field;
 use h2_request::book::Book;
 use h2_request::well_formed::{check, check_trailers};
-use h2_spec::connection::{BlockView, Config, Core, Purpose};
+use h2_spec::connection::{BlockView, Config, ConnectionState, Purpose};
 use h2_spec::errors::ErrorCode;
-use h2_spec::reactions::{Change, Facts, Turn};
+use h2_spec::reactions::{BlockSummary, Change, StreamOutcome};
 use h2_spec::streams::Pick;
 use h2_streams::Streams;
 use std::alloc::Allocator;
 
 /// What the fields of a request result in, with the size of their list.
 /// Of malformed fields nothing but the size is looked at, so they declare nothing and pick nothing here.
-fn request_facts<A: Allocator>(book: &Book<A>, fields: &[Field<A>], size: u64) -> Facts
+fn request_summary<A: Allocator>(book: &Book<A>, fields: &[Field<A>], size: u64) -> BlockSummary
     ensures size { result.size ≡ size }
     ensures malformed { result.malformed ≡ is_some (malformed fields.now) }
-    ensures well_formed { malformed fields.now ≡ None → size ≡ list_size fields.now → result ≡ rule.request_facts book.now fields.now }
+    ensures well_formed { malformed fields.now ≡ None → size ≡ list_size fields.now → result ≡ rule.request_summary book.now fields.now }
     ensures pick { IsPickOf book.now result.pick }
 {
     match check(fields) {
-        Ok(request) => Facts {
+        Ok(request) => BlockSummary {
             size,
             malformed: false,
             declared: request.declared,
             pick: book.find(&request),
         },
-        Err(_) => Facts {
+        Err(_) => BlockSummary {
             size,
             malformed: true,
             declared: None,
@@ -61,32 +61,32 @@ fn body_length<A: Allocator>(book: &Book<A>, pick: Pick) -> u64
 }
 
 /// What becomes of the stream that a request opens, by what its fields result in.
-fn opening_turn<A: Allocator>(
+fn opening_outcome<A: Allocator>(
     book: &Book<A>,
     config: Config,
     live: usize,
-    core: Core,
+    core: ConnectionState,
     id: u32,
     ends: bool,
-    facts: Facts,
-) -> Turn
-    requires core { IsSoundCore core }
-    requires pick { IsPickOf book.now facts.pick }
-    ensures rule { result ≡ rule.request_turn config live (length (picked book.now facts.pick).body) core id ends facts }
+    summary: BlockSummary,
+) -> StreamOutcome
+    requires core { IsSoundConnectionState core }
+    requires pick { IsPickOf book.now summary.pick }
+    ensures rule { result ≡ rule.request_outcome config live (length (picked book.now summary.pick).body) core id ends summary }
     ensures id { result.stream.id ≡ id }
     ensures sound { IsSoundStream core.peer.window result.stream }
     ensures waits { HasBody book.now result.stream }
     ensures recorded { is_recorded result.stream.kind ≡ true }
 {
-    let body = body_length(book, facts.pick);
-    request_turn(config, live, body, core, id, ends, facts)
+    let body = body_length(book, summary.pick);
+    request_outcome(config, live, body, core, id, ends, summary)
 }
 
 /// The end of a request's block, on a client's stream above the others: it opens the stream, or refuses it.
 fn request_ends<A: Allocator + Copy>(
     book: &Book<A>,
     config: Config,
-    core: Core,
+    core: ConnectionState,
     streams: &Streams<A>,
     shown: &BlockView,
     decoder: &BlockDecoder<A>,
@@ -96,18 +96,18 @@ fn request_ends<A: Allocator + Copy>(
     ensures rule { (b : Option OpenBlock) (table : Table) → result ≡ rule.request_ends (state_of book.now config core b table streams.now.streams) shown.now.stream shown.now.ends decoder.now.fields }
     ensures sound { IsSoundChange book.now streams.now core.peer.window result }
 {
-    let facts = request_facts(book, decoder.fields(), decoder.list_size());
+    let summary = request_summary(book, decoder.fields(), decoder.list_size());
     let live = streams.live_count();
     let id = shown.stream;
-    let opened = stay(Core { last: id, ..core });
-    let turn = opening_turn(book, config, live, core, id, shown.ends, facts);
-    turned(opened, turn)
+    let opened = only_counts(ConnectionState { last: id, ..core });
+    let outcome = opening_outcome(book, config, live, core, id, shown.ends, summary);
+    with_outcome(opened, outcome)
 }
 
 /// The end of a block of trailers, on a stream that the peer may still send on: it ends the peer's side, or is a stream error.
 fn trailers_end<A: Allocator + Copy>(
     book: &Book<A>,
-    core: Core,
+    core: ConnectionState,
     streams: &Streams<A>,
     shown: &BlockView,
     decoder: &BlockDecoder<A>,
@@ -121,9 +121,16 @@ fn trailers_end<A: Allocator + Copy>(
     let malformed = are_no_trailers(decoder.fields());
     let size = decoder.list_size();
     let body = body_length(book, stream.pick);
-    let signal = core.peer.signal;
-    let turn = trailers_turn(size, malformed, body, signal, shown.ends, stream);
-    turned(stay(core), turn)
+    let size_update_pending = core.peer.size_update_pending;
+    let outcome = trailers_outcome(
+        size,
+        malformed,
+        body,
+        size_update_pending,
+        shown.ends,
+        stream,
+    );
+    with_outcome(only_counts(core), outcome)
 }
 
 /// Whether a reason stands against fields as trailers (RFC 9113, 8.1).
@@ -137,21 +144,26 @@ fn are_no_trailers<A: Allocator>(fields: &[Field<A>]) -> bool
 }
 
 /// The end of a block on a stream that the peer had ended: a stream error (RFC 9113, 5.1).
-fn closed_end<A: Allocator>(book: &Book<A>, core: Core, streams: &Streams<A>, id: u32) -> Change
+fn closed_end<A: Allocator>(
+    book: &Book<A>,
+    core: ConnectionState,
+    streams: &Streams<A>,
+    id: u32,
+) -> Change
     requires sound { IsSoundState book.now core streams.now }
     requires open { IsOpenAt streams.now id Closed }
-    ensures rule { result ≡ changes.turned (changes.stay core) (changes.stream_error core.peer.signal id StreamClosed) }
+    ensures rule { result ≡ changes.with_outcome (changes.only_counts core) (changes.stream_error core.peer.size_update_pending id StreamClosed) }
     ensures sound { IsSoundChange book.now streams.now core.peer.window result }
 {
-    let turn = stream_error(core.peer.signal, id, ErrorCode::StreamClosed);
-    turned(stay(core), turn)
+    let outcome = stream_error(core.peer.size_update_pending, id, ErrorCode::StreamClosed);
+    with_outcome(only_counts(core), outcome)
 }
 
 /// What a block results in at its end, by its purpose.
 pub fn block_ends<A: Allocator + Copy>(
     book: &Book<A>,
     config: Config,
-    core: Core,
+    core: ConnectionState,
     streams: &Streams<A>,
     shown: &BlockView,
     purpose: Purpose,
@@ -166,6 +178,6 @@ pub fn block_ends<A: Allocator + Copy>(
         Purpose::Request => request_ends(book, config, core, streams, shown, decoder),
         Purpose::Trailers => trailers_end(book, core, streams, shown, decoder),
         Purpose::Closed => closed_end(book, core, streams, shown.stream),
-        Purpose::TableOnly => stay(core),
+        Purpose::TableOnly => only_counts(core),
     }
 }

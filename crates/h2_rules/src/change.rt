@@ -5,77 +5,77 @@ ghost use Rattle.std.specs.Prelude.{◌≡◌, ℕ, true, List, max};
 ghost use Rattle.h2_spec.specs.Change as changes;
 ghost use Rattle.h2_spec.specs.Stream.{Records};
 ghost use Rattle.h2_streams.specs.Put.{CanPut};
-ghost use Rattle.h2_spec.specs.declared.connection.Core.{Core};
+ghost use Rattle.h2_spec.specs.declared.connection.ConnectionState.{ConnectionState};
 ghost use Rattle.h2_spec.specs.Answer.{Entry};
 ghost use Rattle.h2_rules.specs.Sound.{HasBody, IsCalm, IsSoundChange, IsSoundStream, is_recorded};
 
-use h2_spec::connection::Core;
+use h2_spec::connection::ConnectionState;
 use h2_spec::errors::ErrorCode;
 use h2_spec::flow::Settings;
-use h2_spec::reactions::{Change, ConnectionFrame, StreamFrame, Touch, Turn};
+use h2_spec::reactions::{Change, ConnectionFrame, RecordUpdate, StreamFrame, StreamOutcome};
 use h2_spec::streams::{Kind, Stream};
 use h2_streams::not_live;
 
 /// The stream's record, with nothing sent.
-pub fn quiet_turn(signal: bool, stream: Stream) -> Turn
-    ensures rule { result ≡ changes.quiet_turn signal stream }
+pub fn outcome_without_frame(size_update_pending: bool, stream: Stream) -> StreamOutcome
+    ensures rule { result ≡ changes.outcome_without_frame size_update_pending stream }
     ensures id { result.stream.id ≡ stream.id }
     ensures recorded { is_recorded stream.kind ≡ true → is_recorded result.stream.kind ≡ true }
 {
-    Turn {
+    StreamOutcome {
         stream,
-        frame: StreamFrame::Still,
+        frame: StreamFrame::NoStreamFrame,
         answer: None,
-        signal,
+        size_update_pending,
     }
 }
 
 /// A stream error (RFC 9113, 5.4.2).
 #[tactic(auto, unfolding(h2_spec::specs::Stream::octets_waiting))]
-pub fn stream_error(signal: bool, id: u32, code: ErrorCode) -> Turn
-    ensures rule { result ≡ changes.stream_error signal id code }
+pub fn stream_error(size_update_pending: bool, id: u32, code: ErrorCode) -> StreamOutcome
+    ensures rule { result ≡ changes.stream_error size_update_pending id code }
     ensures id { result.stream.id ≡ id }
     ensures sound { (window : ℕ) → IsSoundStream window result.stream }
     ensures waits { (book : List Entry) → HasBody book result.stream }
     ensures recorded { is_recorded result.stream.kind ≡ true }
 {
-    Turn {
+    StreamOutcome {
         stream: not_live(id, Kind::WeReset),
         frame: StreamFrame::Reset(id, code),
         answer: None,
-        signal,
+        size_update_pending,
     }
 }
 
 /// Nothing but the counts changes, and nothing is sent.
-pub fn stay(core: Core) -> Change
-    ensures { result ≡ changes.stay core }
+pub fn only_counts(core: ConnectionState) -> Change
+    ensures { result ≡ changes.only_counts core }
 {
     Change {
         core,
-        touch: Touch::Same,
-        first: ConnectionFrame::Quiet,
-        second: StreamFrame::Still,
+        record_update: RecordUpdate::Unchanged,
+        first: ConnectionFrame::NoConnectionFrame,
+        second: StreamFrame::NoStreamFrame,
         answer: None,
     }
 }
 
 /// A change, and then what a rule does to one stream.
-#[tactic(auto, unfolding(h2_spec::specs::Change::turned))]
-pub fn turned(change: Change, turn: Turn) -> Change
-    ensures rule { result ≡ changes.turned change turn }
-    ensures sound { (book : List Entry) (r : Records) (core : Core) → IsCalm core change → core.last ≡ max r.last turn.stream.id → IsSoundStream core.peer.window turn.stream → HasBody book turn.stream → CanPut turn.stream r → is_recorded turn.stream.kind ≡ true → IsSoundChange book r core.peer.window result }
+#[tactic(auto, unfolding(h2_spec::specs::Change::with_outcome))]
+pub fn with_outcome(change: Change, outcome: StreamOutcome) -> Change
+    ensures rule { result ≡ changes.with_outcome change outcome }
+    ensures sound { (book : List Entry) (r : Records) (core : ConnectionState) → IsCalm core change → core.last ≡ max r.last outcome.stream.id → IsSoundStream core.peer.window outcome.stream → HasBody book outcome.stream → CanPut outcome.stream r → is_recorded outcome.stream.kind ≡ true → IsSoundChange book r core.peer.window result }
 {
     let core = change.core;
     let peer = Settings {
-        signal: turn.signal,
+        size_update_pending: outcome.size_update_pending,
         ..core.peer
     };
     Change {
-        core: Core { peer, ..core },
-        touch: Touch::Put(turn.stream),
+        core: ConnectionState { peer, ..core },
+        record_update: RecordUpdate::Put(outcome.stream),
         first: change.first,
-        second: turn.frame,
-        answer: turn.answer,
+        second: outcome.frame,
+        answer: outcome.answer,
     }
 }

@@ -6,20 +6,22 @@ ghost use Rattle.h2_spec.specs.Answer.{Entry, picked};
 ghost use Rattle.h2_spec.specs.Data as rule;
 ghost use Rattle.h2_spec.specs.Effect as effect;
 ghost use Rattle.h2_spec.specs.Stream.{Records, is_live, stream_at};
-ghost use Rattle.h2_rules.specs.Sound.{HasBody, IsCalm, IsCredit, IsSound, IsSoundCore, IsSoundStream, is_recorded};
+ghost use Rattle.h2_rules.specs.Sound.{HasBody, IsCalm, IsCredit, IsSound, IsSoundConnectionState, IsSoundStream, is_recorded};
 
-use crate::change::{quiet_turn, stay, stream_error, turned};
+use crate::change::{only_counts, outcome_without_frame, stream_error, with_outcome};
 use crate::ends::{breaks_length, peer_ended};
-use h2_spec::connection::{Config, Core};
+use h2_spec::connection::{Config, ConnectionState};
 use h2_spec::errors::ErrorCode;
 use h2_spec::flow::Credit;
-use h2_spec::reactions::{Came, Change, ConnectionFrame, Reaction, StreamFrame, Turn};
+use h2_spec::reactions::{
+    Change, ConnectionFrame, Reaction, ReceivedData, StreamFrame, StreamOutcome,
+};
 use h2_spec::streams::{Kind, Numbers, Stream};
 
 /// Octets of DATA are counted on the connection, and given back once they reach the threshold.
 #[tactic(auto, unfolding(h2_spec::specs::Data::counted, h2_spec::specs::Data::owed_on_connection))]
-fn counted(threshold: u32, core: Core, count: u32) -> Change
-    requires core { IsSoundCore core }
+fn counted(threshold: u32, core: ConnectionState, count: u32) -> Change
+    requires core { IsSoundConnectionState core }
     requires within { pos count ≤ℤ core.recv }
     ensures rule { result ≡ rule.counted threshold core count }
     ensures calm { IsCalm core result }
@@ -27,7 +29,7 @@ fn counted(threshold: u32, core: Core, count: u32) -> Change
     let recv = core.recv.minus(count);
     let owed = core.owed.plus(count);
     if threshold <= owed.owed() {
-        let returned = stay(Core {
+        let returned = only_counts(ConnectionState {
             recv: recv.plus(owed.owed()),
             owed: Credit::none(),
             ..core
@@ -37,14 +39,14 @@ fn counted(threshold: u32, core: Core, count: u32) -> Change
             ..returned
         };
     }
-    stay(Core { recv, owed, ..core })
+    only_counts(ConnectionState { recv, owed, ..core })
 }
 
 /// What is owed on the stream is given back once it reaches the threshold.
 #[tactic(auto, unfolding(h2_spec::specs::Data::returned, h2_spec::specs::Stream::octets_waiting))]
-fn returned(threshold: u32, signal: bool, stream: Stream) -> Turn
+fn returned(threshold: u32, size_update_pending: bool, stream: Stream) -> StreamOutcome
     requires credit { IsCredit stream.numbers.recv stream.numbers.owed }
-    ensures rule { result ≡ rule.returned threshold signal stream }
+    ensures rule { result ≡ rule.returned threshold size_update_pending stream }
     ensures id { result.stream.id ≡ stream.id }
     ensures sound { (window : ℕ) → window ≤ 2147483647 → IsSoundStream window stream → IsSoundStream window result.stream }
     ensures waits { (book : List Entry) → HasBody book stream → HasBody book result.stream }
@@ -58,20 +60,20 @@ fn returned(threshold: u32, signal: bool, stream: Stream) -> Turn
             owed: Credit::none(),
             ..numbers
         };
-        return Turn {
+        return StreamOutcome {
             frame: StreamFrame::StreamCredit(stream.id, owed),
-            ..quiet_turn(signal, Stream { numbers, ..stream })
+            ..outcome_without_frame(size_update_pending, Stream { numbers, ..stream })
         };
     }
-    quiet_turn(signal, stream)
+    outcome_without_frame(size_update_pending, stream)
 }
 
 /// The stream has taken the octets.
 #[tactic(auto, unfolding(h2_spec::specs::Data::taken, h2_spec::specs::Stream::octets_waiting))]
-fn taken(stream: Stream, came: Came) -> Stream
-    requires recv { pos came.octets ≤ℤ stream.numbers.recv }
+fn taken(stream: Stream, incoming: ReceivedData) -> Stream
+    requires recv { pos incoming.octets ≤ℤ stream.numbers.recv }
     requires credit { IsCredit stream.numbers.recv stream.numbers.owed }
-    ensures rule { result ≡ rule.taken stream came }
+    ensures rule { result ≡ rule.taken stream incoming }
     ensures id { result.id ≡ stream.id }
     ensures sound { (window : ℕ) → IsSoundStream window stream → IsSoundStream window result }
     ensures waits { (book : List Entry) → HasBody book stream → HasBody book result }
@@ -79,46 +81,62 @@ fn taken(stream: Stream, came: Came) -> Stream
 {
     let numbers = stream.numbers;
     let numbers = Numbers {
-        recv: numbers.recv.minus(came.octets),
-        owed: numbers.owed.plus(came.octets),
-        got: numbers.got.saturating_add(u64::from(came.content)),
+        recv: numbers.recv.minus(incoming.octets),
+        owed: numbers.owed.plus(incoming.octets),
+        content_received: numbers
+            .content_received
+            .saturating_add(u64::from(incoming.content)),
         ..numbers
     };
     Stream { numbers, ..stream }
 }
 
 /// DATA on a stream whose peer's side is open: the threshold, and the length of the answer's body.
-#[tactic(auto, unfolding(h2_spec::specs::Data::data_turn))]
-fn data_turn(threshold: u32, signal: bool, body: u64, came: Came, stream: Stream) -> Turn
+#[tactic(auto, unfolding(h2_spec::specs::Data::data_outcome))]
+fn data_outcome(
+    threshold: u32,
+    size_update_pending: bool,
+    body: u64,
+    incoming: ReceivedData,
+    stream: Stream,
+) -> StreamOutcome
     requires credit { IsCredit stream.numbers.recv stream.numbers.owed }
-    ensures rule { result ≡ rule.data_turn threshold signal body came stream }
+    ensures rule { result ≡ rule.data_outcome threshold size_update_pending body incoming stream }
     ensures id { result.stream.id ≡ stream.id }
     ensures sound { (window : ℕ) → window ≤ 2147483647 → IsSoundStream window stream → IsSoundStream window result.stream }
     ensures waits { (book : List Entry) → body ≡ length (picked book stream.pick).body → HasBody book stream → HasBody book result.stream }
     ensures recorded { is_recorded stream.kind ≡ true → is_recorded result.stream.kind ≡ true }
 {
     let numbers = stream.numbers;
-    if numbers.recv.is_below(came.octets) {
-        return stream_error(signal, stream.id, ErrorCode::FlowControlError);
+    if numbers.recv.is_below(incoming.octets) {
+        return stream_error(size_update_pending, stream.id, ErrorCode::FlowControlError);
     }
-    let got = numbers.got.saturating_add(u64::from(came.content));
-    if breaks_length(numbers.declared, got, came.ends) {
-        return stream_error(signal, stream.id, ErrorCode::ProtocolError);
+    let content_received = numbers
+        .content_received
+        .saturating_add(u64::from(incoming.content));
+    if breaks_length(numbers.declared, content_received, incoming.ends) {
+        return stream_error(size_update_pending, stream.id, ErrorCode::ProtocolError);
     }
-    let after = taken(stream, came);
-    if came.ends {
-        peer_ended(signal, body, after)
+    let after = taken(stream, incoming);
+    if incoming.ends {
+        peer_ended(size_update_pending, body, after)
     } else {
-        returned(threshold, signal, after)
+        returned(threshold, size_update_pending, after)
     }
 }
 
 /// DATA on a stream, with the length of the body of the stream's answer.
 #[tactic(auto, unfolding(h2_spec::specs::Effect::on_data))]
-pub fn on_data(config: Config, core: Core, body: u64, came: Came, stream: Stream) -> Reaction
-    requires core { IsSoundCore core }
+pub fn on_data(
+    config: Config,
+    core: ConnectionState,
+    body: u64,
+    incoming: ReceivedData,
+    stream: Stream,
+) -> Reaction
+    requires core { IsSoundConnectionState core }
     requires stream { IsSoundStream core.peer.window stream }
-    ensures rule { result ≡ effect.on_data config core body came stream }
+    ensures rule { result ≡ effect.on_data config core body incoming stream }
     ensures sound { (book : List Entry) (r : Records) → body ≡ length (picked book stream.pick).body → HasBody book stream → stream ≡ stream_at r.last r.streams stream.id → r.last ≡ core.last → IsSound book r core.peer.window result }
 {
     match stream.kind {
@@ -126,55 +144,67 @@ pub fn on_data(config: Config, core: Core, body: u64, came: Came, stream: Stream
         Kind::Skipped | Kind::Ended | Kind::PeerReset => {
             Reaction::ConnectionError(ErrorCode::StreamClosed)
         }
-        Kind::BothOpen | Kind::HalfLocal => data_taken(config, core, body, came, stream),
-        Kind::HalfRemote => data_refused(config, core, came, stream, ErrorCode::StreamClosed),
-        Kind::WeReset => data_counted(config, core, came),
+        Kind::BothOpen | Kind::HalfLocal => data_taken(config, core, body, incoming, stream),
+        Kind::HalfRemote => data_refused(config, core, incoming, stream, ErrorCode::StreamClosed),
+        Kind::WeReset => data_counted(config, core, incoming),
     }
 }
 
 /// DATA that its stream takes.
 #[tactic(auto, unfolding(h2_spec::specs::Data::data_taken))]
-fn data_taken(config: Config, core: Core, body: u64, came: Came, stream: Stream) -> Reaction
-    requires core { IsSoundCore core }
+fn data_taken(
+    config: Config,
+    core: ConnectionState,
+    body: u64,
+    incoming: ReceivedData,
+    stream: Stream,
+) -> Reaction
+    requires core { IsSoundConnectionState core }
     requires stream { IsSoundStream core.peer.window stream }
-    ensures rule { result ≡ rule.data_taken config core body came stream }
+    ensures rule { result ≡ rule.data_taken config core body incoming stream }
     ensures sound { (book : List Entry) (r : Records) → body ≡ length (picked book stream.pick).body → HasBody book stream → stream ≡ stream_at r.last r.streams stream.id → is_live stream.kind ≡ true → r.last ≡ core.last → IsSound book r core.peer.window result }
 {
     let threshold = config.credit;
-    if core.recv.is_below(came.octets) {
+    if core.recv.is_below(incoming.octets) {
         return Reaction::ConnectionError(ErrorCode::FlowControlError);
     }
-    let signal = core.peer.signal;
-    let change = counted(threshold, core, came.octets);
-    let turn = data_turn(threshold, signal, body, came, stream);
-    Reaction::Continues(turned(change, turn))
+    let size_update_pending = core.peer.size_update_pending;
+    let change = counted(threshold, core, incoming.octets);
+    let outcome = data_outcome(threshold, size_update_pending, body, incoming, stream);
+    Reaction::Continues(with_outcome(change, outcome))
 }
 
 /// DATA that is refused on its stream, and counted.
 #[tactic(auto, unfolding(h2_spec::specs::Data::data_refused, h2_spec::specs::Stream::octets_waiting))]
-fn data_refused(config: Config, core: Core, came: Came, stream: Stream, code: ErrorCode) -> Reaction
-    requires core { IsSoundCore core }
-    ensures rule { result ≡ rule.data_refused config core came stream code }
+fn data_refused(
+    config: Config,
+    core: ConnectionState,
+    incoming: ReceivedData,
+    stream: Stream,
+    code: ErrorCode,
+) -> Reaction
+    requires core { IsSoundConnectionState core }
+    ensures rule { result ≡ rule.data_refused config core incoming stream code }
     ensures sound { (book : List Entry) (r : Records) → stream ≡ stream_at r.last r.streams stream.id → is_live stream.kind ≡ true → r.last ≡ core.last → IsSound book r core.peer.window result }
 {
-    if core.recv.is_below(came.octets) {
+    if core.recv.is_below(incoming.octets) {
         return Reaction::ConnectionError(ErrorCode::FlowControlError);
     }
-    let signal = core.peer.signal;
-    let change = counted(config.credit, core, came.octets);
-    let turn = stream_error(signal, stream.id, code);
-    Reaction::Continues(turned(change, turn))
+    let size_update_pending = core.peer.size_update_pending;
+    let change = counted(config.credit, core, incoming.octets);
+    let outcome = stream_error(size_update_pending, stream.id, code);
+    Reaction::Continues(with_outcome(change, outcome))
 }
 
 /// DATA that is counted on the connection alone.
 #[tactic(auto, unfolding(h2_spec::specs::Data::data_counted))]
-fn data_counted(config: Config, core: Core, came: Came) -> Reaction
-    requires core { IsSoundCore core }
-    ensures rule { result ≡ rule.data_counted config core came }
+fn data_counted(config: Config, core: ConnectionState, incoming: ReceivedData) -> Reaction
+    requires core { IsSoundConnectionState core }
+    ensures rule { result ≡ rule.data_counted config core incoming }
     ensures sound { (book : List Entry) (r : Records) → r.last ≡ core.last → IsSound book r core.peer.window result }
 {
-    if core.recv.is_below(came.octets) {
+    if core.recv.is_below(incoming.octets) {
         return Reaction::ConnectionError(ErrorCode::FlowControlError);
     }
-    Reaction::Continues(counted(config.credit, core, came.octets))
+    Reaction::Continues(counted(config.credit, core, incoming.octets))
 }

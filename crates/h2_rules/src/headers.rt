@@ -5,14 +5,14 @@ ghost use Rattle.std.specs.Prelude.{◌≡◌, ℕ, ◌≤◌, true, ◌&&◌, �
 ghost use Rattle.h2_spec.specs.Headers as rule;
 ghost use Rattle.h2_spec.specs.Answer.{Entry, picked};
 ghost use Rattle.h2_request.specs.Lent.{IsPickOf};
-ghost use Rattle.h2_rules.specs.Sound.{HasBody, IsSoundCore, IsSoundStream, is_recorded};
+ghost use Rattle.h2_rules.specs.Sound.{HasBody, IsSoundConnectionState, IsSoundStream, is_recorded};
 
-use crate::change::{quiet_turn, stream_error};
+use crate::change::{outcome_without_frame, stream_error};
 use crate::ends::{breaks_length, peer_ended};
-use h2_spec::connection::{Config, Core};
+use h2_spec::connection::{Config, ConnectionState};
 use h2_spec::errors::ErrorCode;
 use h2_spec::flow::{Credit, Window};
-use h2_spec::reactions::{Facts, Turn};
+use h2_spec::reactions::{BlockSummary, StreamOutcome};
 use h2_spec::streams::{Kind, Numbers, Stream};
 
 /// The largest list of fields, in octets (RFC 9113, 10.5.1).
@@ -20,27 +20,27 @@ const MAX_LIST: u64 = 65_536;
 
 /// A stream that a request opens.
 #[tactic(auto, unfolding(h2_spec::specs::Stream::octets_waiting))]
-fn new_stream(core: Core, id: u32, facts: Facts) -> Stream
-    requires core { IsSoundCore core }
-    ensures rule { result ≡ rule.new_stream core id facts }
+fn new_stream(core: ConnectionState, id: u32, summary: BlockSummary) -> Stream
+    requires core { IsSoundConnectionState core }
+    ensures rule { result ≡ rule.new_stream core id summary }
     ensures id { result.id ≡ id }
     ensures sound { IsSoundStream core.peer.window result }
-    ensures waits { (book : List Entry) → IsPickOf book facts.pick → HasBody book result }
+    ensures waits { (book : List Entry) → IsPickOf book summary.pick → HasBody book result }
     ensures recorded { is_recorded result.kind ≡ true }
 {
     let numbers = Numbers {
         recv: Window::start(core.own.window),
         owed: Credit::none(),
         send: Window::start(core.peer.window),
-        got: 0,
-        declared: facts.declared,
-        left: None,
+        content_received: 0,
+        declared: summary.declared,
+        body_remaining: None,
     };
     Stream {
         id,
         kind: Kind::BothOpen,
         numbers,
-        pick: facts.pick,
+        pick: summary.pick,
     }
 }
 
@@ -69,71 +69,71 @@ fn declares_content(declared: Option<u64>) -> bool
 }
 
 /// Whether a request is malformed: by its fields, or since it ends without the content that it declares.
-fn is_malformed(ends: bool, facts: Facts) -> bool
-    ensures { result ≡ (facts.malformed || (ends && rule.declares_content facts.declared)) }
+fn is_malformed(ends: bool, summary: BlockSummary) -> bool
+    ensures { result ≡ (summary.malformed || (ends && rule.declares_content summary.declared)) }
 {
-    facts.malformed || (ends && declares_content(facts.declared))
+    summary.malformed || (ends && declares_content(summary.declared))
 }
 
 /// What becomes of the stream that a request opens, with the number of live streams and the length of its answer's body.
-#[tactic(auto, unfolding(h2_spec::specs::Headers::request_turn, h2_spec::specs::Stream::octets_waiting))]
-pub fn request_turn(
+#[tactic(auto, unfolding(h2_spec::specs::Headers::request_outcome, h2_spec::specs::Stream::octets_waiting))]
+pub fn request_outcome(
     config: Config,
     live: usize,
     body: u64,
-    core: Core,
+    core: ConnectionState,
     id: u32,
     ends: bool,
-    facts: Facts,
-) -> Turn
-    requires core { IsSoundCore core }
-    ensures rule { result ≡ rule.request_turn config live body core id ends facts }
+    summary: BlockSummary,
+) -> StreamOutcome
+    requires core { IsSoundConnectionState core }
+    ensures rule { result ≡ rule.request_outcome config live body core id ends summary }
     ensures id { result.stream.id ≡ id }
     ensures sound { IsSoundStream core.peer.window result.stream }
-    ensures waits { (book : List Entry) → body ≡ length (picked book facts.pick).body → IsPickOf book facts.pick → HasBody book result.stream }
+    ensures waits { (book : List Entry) → body ≡ length (picked book summary.pick).body → IsPickOf book summary.pick → HasBody book result.stream }
     ensures recorded { is_recorded result.stream.kind ≡ true }
 {
-    let signal = core.peer.signal;
+    let size_update_pending = core.peer.size_update_pending;
     if is_full(config, live) {
-        return stream_error(signal, id, ErrorCode::RefusedStream);
+        return stream_error(size_update_pending, id, ErrorCode::RefusedStream);
     }
-    if is_too_large(facts.size) {
-        return stream_error(signal, id, ErrorCode::EnhanceYourCalm);
+    if is_too_large(summary.size) {
+        return stream_error(size_update_pending, id, ErrorCode::EnhanceYourCalm);
     }
-    if is_malformed(ends, facts) {
-        return stream_error(signal, id, ErrorCode::ProtocolError);
+    if is_malformed(ends, summary) {
+        return stream_error(size_update_pending, id, ErrorCode::ProtocolError);
     }
-    let stream = new_stream(core, id, facts);
+    let stream = new_stream(core, id, summary);
     if ends {
-        peer_ended(signal, body, stream)
+        peer_ended(size_update_pending, body, stream)
     } else {
-        quiet_turn(signal, stream)
+        outcome_without_frame(size_update_pending, stream)
     }
 }
 
 /// What trailers do to their stream: the size of their list, whether a reason holds against them, and the length of the answer's body.
-#[tactic(auto, unfolding(h2_spec::specs::Headers::trailers_turn, h2_spec::specs::Stream::octets_waiting))]
-pub fn trailers_turn(
+#[tactic(auto, unfolding(h2_spec::specs::Headers::trailers_outcome, h2_spec::specs::Stream::octets_waiting))]
+pub fn trailers_outcome(
     size: u64,
     malformed: bool,
     body: u64,
-    signal: bool,
+    size_update_pending: bool,
     ends: bool,
     stream: Stream,
-) -> Turn
-    ensures rule { result ≡ rule.trailers_turn size malformed body signal ends stream }
+) -> StreamOutcome
+    ensures rule { result ≡ rule.trailers_outcome size malformed body size_update_pending ends stream }
     ensures id { result.stream.id ≡ stream.id }
     ensures sound { (window : ℕ) → window ≤ 2147483647 → IsSoundStream window stream → IsSoundStream window result.stream }
     ensures waits { (book : List Entry) → body ≡ length (picked book stream.pick).body → HasBody book stream → HasBody book result.stream }
     ensures recorded { is_recorded stream.kind ≡ true → is_recorded result.stream.kind ≡ true }
 {
     if is_too_large(size) {
-        return stream_error(signal, stream.id, ErrorCode::EnhanceYourCalm);
+        return stream_error(size_update_pending, stream.id, ErrorCode::EnhanceYourCalm);
     }
     let numbers = stream.numbers;
-    let breaks = breaks_length(numbers.declared, numbers.got, true);
+    let breaks = breaks_length(numbers.declared, numbers.content_received, true);
     if malformed || !ends || breaks {
-        return stream_error(signal, stream.id, ErrorCode::ProtocolError);
+        return stream_error(size_update_pending, stream.id, ErrorCode::ProtocolError);
     }
-    peer_ended(signal, body, stream)
+    peer_ended(size_update_pending, body, stream)
 }

@@ -5,30 +5,33 @@ ghost use Rattle.std.specs.Prelude.{◌≡◌, List};
 ghost use Rattle.h2_spec.specs.Effect as rule;
 ghost use Rattle.h2_spec.specs.Stream.{Records, stream_at};
 ghost use Rattle.h2_spec.specs.Answer.{Entry};
-ghost use Rattle.h2_rules.specs.Sound.{IsSound, IsSoundCore};
+ghost use Rattle.h2_rules.specs.Sound.{IsSound, IsSoundConnectionState};
 
-use crate::change::{quiet_turn, stay, turned};
-use h2_spec::connection::Core;
+use crate::change::{only_counts, outcome_without_frame, with_outcome};
+use h2_spec::connection::ConnectionState;
 use h2_spec::errors::ErrorCode;
 use h2_spec::reactions::Reaction;
 use h2_spec::streams::{Kind, Stream};
 use h2_streams::not_live;
 
 /// RST_STREAM on a stream.
-#[tactic(auto, unfolding(h2_spec::specs::Effect::on_reset, h2_spec::specs::Effect::reset_turn, h2_spec::specs::Stream::octets_waiting))]
-pub fn on_reset(core: Core, stream: Stream) -> Reaction
-    requires core { IsSoundCore core }
+#[tactic(auto, unfolding(h2_spec::specs::Effect::on_reset, h2_spec::specs::Effect::reset_outcome, h2_spec::specs::Stream::octets_waiting))]
+pub fn on_reset(core: ConnectionState, stream: Stream) -> Reaction
+    requires core { IsSoundConnectionState core }
     ensures rule { result ≡ rule.on_reset core stream }
     ensures sound { (book : List Entry) (r : Records) → stream ≡ stream_at r.last r.streams stream.id → r.last ≡ core.last → IsSound book r core.peer.window result }
 {
     match stream.kind {
         Kind::Idle => Reaction::ConnectionError(ErrorCode::ProtocolError),
         Kind::Skipped | Kind::Ended | Kind::PeerReset | Kind::WeReset => {
-            Reaction::Continues(stay(core))
+            Reaction::Continues(only_counts(core))
         }
         Kind::BothOpen | Kind::HalfLocal | Kind::HalfRemote => {
-            let turn = quiet_turn(core.peer.signal, not_live(stream.id, Kind::PeerReset));
-            Reaction::Continues(turned(stay(core), turn))
+            let outcome = outcome_without_frame(
+                core.peer.size_update_pending,
+                not_live(stream.id, Kind::PeerReset),
+            );
+            Reaction::Continues(with_outcome(only_counts(core), outcome))
         }
     }
 }

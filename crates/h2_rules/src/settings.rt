@@ -12,12 +12,12 @@ ghost use Rattle.h2_streams.specs.Greatest.{IsGreatest, overflows_with};
 ghost use Rattle.h2_rules.specs.OneSetting.{one_setting};
 ghost use Rattle.h2_rules.specs.Sound.{IsSound, IsSoundState};
 
-use crate::change::stay;
+use crate::change::only_counts;
 use h2_frame::SettingsPart;
-use h2_spec::connection::{Core, Phase};
+use h2_spec::connection::{ConnectionState, Phase};
 use h2_spec::errors::{ErrorCode, FlowFault};
 use h2_spec::flow::{Settings, Window};
-use h2_spec::reactions::{Change, ConnectionFrame, Reaction, Touch};
+use h2_spec::reactions::{Change, ConnectionFrame, Reaction, RecordUpdate};
 
 /// Whether the greatest window, if there is one, passes its limit where the initial window goes from one value to another.
 #[tactic(auto, unfolding(h2_streams::specs::Greatest::overflows_with))]
@@ -76,7 +76,11 @@ fn settings_applied(
 
 /// SETTINGS without ACK: all of the frame, or none of it; `greatest` is the greatest of the send windows that settings move.
 #[tactic(auto, unfolding(h2_spec::specs::SettingsFrame::settings_rule))]
-pub fn settings_rule(greatest: &Option<Window>, core: Core, part: SettingsPart<'_>) -> Reaction
+pub fn settings_rule(
+    greatest: &Option<Window>,
+    core: ConnectionState,
+    part: SettingsPart<'_>,
+) -> Reaction
     ensures rule { (streams : List Stream) → IsGreatest greatest.now streams → result ≡ rule.settings_rule streams core (settings_in part.entry) }
     ensures sound { (book : List Entry) (r : Records) → IsGreatest greatest.now r.streams → IsSoundState book core r → IsSound book r core.peer.window result }
 {
@@ -84,13 +88,13 @@ pub fn settings_rule(greatest: &Option<Window>, core: Core, part: SettingsPart<'
     match settings_applied(greatest, core.peer, part) {
         Err(code) => Reaction::ConnectionError(code),
         Ok(peer) => {
-            let change = stay(Core {
+            let change = only_counts(ConnectionState {
                 peer,
                 phase: Phase::Running,
                 ..core
             });
             Reaction::Continues(Change {
-                touch: Touch::Shift(before, peer.window),
+                record_update: RecordUpdate::Shift(before, peer.window),
                 first: ConnectionFrame::SettingsAck,
                 ..change
             })
@@ -99,11 +103,11 @@ pub fn settings_rule(greatest: &Option<Window>, core: Core, part: SettingsPart<'
 }
 
 /// SETTINGS with ACK: the peer has acknowledged the server's settings.
-pub fn acknowledged(core: Core) -> Reaction
+pub fn acknowledged(core: ConnectionState) -> Reaction
     ensures rule { result ≡ rule.acknowledged core }
     ensures sound { (book : List Entry) (r : Records) → IsSoundState book core r → IsSound book r core.peer.window result }
 {
-    Reaction::Continues(stay(Core {
+    Reaction::Continues(only_counts(ConnectionState {
         acked: true,
         ..core
     }))

@@ -6,41 +6,41 @@ ghost use Rattle.h2_spec.specs.WindowUpdate as rule;
 ghost use Rattle.h2_spec.specs.Effect as effect;
 ghost use Rattle.h2_spec.specs.Stream.{Records, stream_at};
 ghost use Rattle.h2_spec.specs.Answer.{Entry};
-ghost use Rattle.h2_rules.specs.Sound.{HasBody, IsSound, IsSoundCore, IsSoundStream, is_recorded};
+ghost use Rattle.h2_rules.specs.Sound.{HasBody, IsSound, IsSoundConnectionState, IsSoundStream, is_recorded};
 
-use crate::change::{quiet_turn, stay, stream_error, turned};
-use h2_spec::connection::Core;
+use crate::change::{only_counts, outcome_without_frame, stream_error, with_outcome};
+use h2_spec::connection::ConnectionState;
 use h2_spec::errors::ErrorCode;
-use h2_spec::reactions::{Reaction, Turn};
+use h2_spec::reactions::{Reaction, StreamOutcome};
 use h2_spec::streams::{Kind, Numbers, Stream};
 
 /// An increment of a live stream's send window.
-#[tactic(auto, unfolding(h2_spec::specs::WindowUpdate::window_turn, h2_spec::specs::Stream::octets_waiting))]
-fn window_turn(signal: bool, increment: u32, stream: Stream) -> Turn
-    ensures rule { result ≡ rule.window_turn signal increment stream }
+#[tactic(auto, unfolding(h2_spec::specs::WindowUpdate::window_outcome, h2_spec::specs::Stream::octets_waiting))]
+fn window_outcome(size_update_pending: bool, increment: u32, stream: Stream) -> StreamOutcome
+    ensures rule { result ≡ rule.window_outcome size_update_pending increment stream }
     ensures id { result.stream.id ≡ stream.id }
     ensures sound { (window : ℕ) → window ≤ 2147483647 → IsSoundStream window stream → IsSoundStream window result.stream }
     ensures waits { (book : List Entry) → HasBody book stream → HasBody book result.stream }
     ensures recorded { is_recorded stream.kind ≡ true → is_recorded result.stream.kind ≡ true }
 {
     if increment == 0 {
-        return stream_error(signal, stream.id, ErrorCode::ProtocolError);
+        return stream_error(size_update_pending, stream.id, ErrorCode::ProtocolError);
     }
     let numbers = stream.numbers;
     if numbers.send.overflows(increment) {
-        return stream_error(signal, stream.id, ErrorCode::FlowControlError);
+        return stream_error(size_update_pending, stream.id, ErrorCode::FlowControlError);
     }
     let numbers = Numbers {
         send: numbers.send.plus(increment),
         ..numbers
     };
-    quiet_turn(signal, Stream { numbers, ..stream })
+    outcome_without_frame(size_update_pending, Stream { numbers, ..stream })
 }
 
 /// WINDOW_UPDATE on a stream.
 #[tactic(auto, unfolding(h2_spec::specs::Effect::on_window))]
-pub fn on_window(core: Core, increment: u32, stream: Stream) -> Reaction
-    requires core { IsSoundCore core }
+pub fn on_window(core: ConnectionState, increment: u32, stream: Stream) -> Reaction
+    requires core { IsSoundConnectionState core }
     requires stream { IsSoundStream core.peer.window stream }
     ensures rule { result ≡ effect.on_window core increment stream }
     ensures sound { (book : List Entry) (r : Records) → HasBody book stream → stream ≡ stream_at r.last r.streams stream.id → r.last ≡ core.last → IsSound book r core.peer.window result }
@@ -48,19 +48,19 @@ pub fn on_window(core: Core, increment: u32, stream: Stream) -> Reaction
     match stream.kind {
         Kind::Idle => Reaction::ConnectionError(ErrorCode::ProtocolError),
         Kind::Skipped | Kind::Ended | Kind::PeerReset | Kind::WeReset => {
-            Reaction::Continues(stay(core))
+            Reaction::Continues(only_counts(core))
         }
         Kind::BothOpen | Kind::HalfLocal | Kind::HalfRemote => {
-            let turn = window_turn(core.peer.signal, increment, stream);
-            Reaction::Continues(turned(stay(core), turn))
+            let outcome = window_outcome(core.peer.size_update_pending, increment, stream);
+            Reaction::Continues(with_outcome(only_counts(core), outcome))
         }
     }
 }
 
 /// WINDOW_UPDATE on the connection.
 #[tactic(auto, unfolding(h2_spec::specs::WindowUpdate::connection_window))]
-pub fn connection_window(core: Core, increment: u32) -> Reaction
-    requires core { IsSoundCore core }
+pub fn connection_window(core: ConnectionState, increment: u32) -> Reaction
+    requires core { IsSoundConnectionState core }
     ensures rule { result ≡ rule.connection_window core increment }
     ensures sound { (book : List Entry) (r : Records) → r.last ≡ core.last → IsSound book r core.peer.window result }
 {
@@ -71,5 +71,5 @@ pub fn connection_window(core: Core, increment: u32) -> Reaction
         return Reaction::ConnectionError(ErrorCode::FlowControlError);
     }
     let send = core.send.plus(increment);
-    Reaction::Continues(stay(Core { send, ..core }))
+    Reaction::Continues(only_counts(ConnectionState { send, ..core }))
 }

@@ -183,9 +183,9 @@ fn letter_of(mode: Mode) -> &'static str
     ensures { result.now ≡ mode_letter (mode_of mode) ∷ [] }
 {
     match mode {
-        Mode::Add => "a",
-        Mode::Without => "n",
-        Mode::Never => "v",
+        Mode::IncrementalIndexing => "a",
+        Mode::WithoutIndexing => "n",
+        Mode::NeverIndexed => "v",
     }
 }
 

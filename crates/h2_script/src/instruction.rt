@@ -99,9 +99,9 @@ fn instruction_at<A: Allocator + Copy>(
     match *letter {
         b'i' => Ok(indexed_at(rest)),
         b'u' => Ok(update_at(rest)),
-        b'a' => literal_at(alloc, Mode::Add, rest),
-        b'n' => literal_at(alloc, Mode::Without, rest),
-        b'v' => literal_at(alloc, Mode::Never, rest),
+        b'a' => literal_at(alloc, Mode::IncrementalIndexing, rest),
+        b'n' => literal_at(alloc, Mode::WithoutIndexing, rest),
+        b'v' => literal_at(alloc, Mode::NeverIndexed, rest),
         _ => Ok(None),
     }
 }

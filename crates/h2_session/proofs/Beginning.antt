@@ -8,7 +8,7 @@ use Rattle.h2_session.specs.Faults.{fault_number}
 use Rattle.h2_session.specs.Lines.{ended_lines, is_digit, lines_of, octets_in, octets_spelled}
 use Rattle.h2_session.specs.Loading.{IsNotLoaded, Loads}
 use Rattle.h2_session.specs.Reading.{IsCut, most}
-use Rattle.h2_session.specs.Session.{IsAnswered, IsFollowed, IsGiven, IsLoaded, IsSession, Told, closed, failed}
+use Rattle.h2_session.specs.Session.{IsAnswered, IsFollowed, IsGiven, IsLoaded, IsSession, Printed, closed, failed}
 use Rattle.h2_session.specs.Takes.{TakesFirst}
 use Rattle.h2_session.specs.declared.fault.SessionFault.{SessionFault}
 use Rattle.h2_session.specs.declared.fault.SessionFault.TheVariants.{NoMemory}
@@ -27,7 +27,7 @@ session-cut book config octets input_failed first before after e zero cut =
     inr ([], false, rw zero at given, refl)
 
 -- the line that ends with the input
-pub session-last : (book : List Entry) (config : Config) (octets digits : List ℕ) (first last : ℕ) (before after rest : Option (List ℕ)) (t : Told) → before ≡ Some octets → first ≡ 0
+pub session-last : (book : List Entry) (config : Config) (octets digits : List ℕ) (first last : ℕ) (before after rest : Option (List ℕ)) (t : Printed) → before ≡ Some octets → first ≡ 0
     → last ≤ most → TakesFirst before after first last digits Input → IsLoaded book config (octets_in (decode_of digits)) [] true t → IsSession book config octets false rest t
 session-last book config octets digits first last before after rest t e zero le ([], takes, is) loads =
     let given = end-given before after first last most octets rest e takes in
@@ -37,7 +37,7 @@ session-last book config octets digits first last before after rest t e zero le 
     inr ((x ∷ xs) ∷ [], true, rw zero at given, subst (λ (s : Option (List ℕ)). IsLoaded book config s [] true t) (spelled-digits (x ∷ xs) digits is) loads)
 
 -- the line that ends by a line feed
-pub session-line : (book : List Entry) (config : Config) (octets digits more : List ℕ) (input_failed : Bool) (first last : ℕ) (before after rest : Option (List ℕ)) (lines : List (List ℕ)) (whole : Bool) (t : Told)
+pub session-line : (book : List Entry) (config : Config) (octets digits more : List ℕ) (input_failed : Bool) (first last : ℕ) (before after rest : Option (List ℕ)) (lines : List (List ℕ)) (whole : Bool) (t : Printed)
     → before ≡ Some octets → after ≡ Some more → first ≡ 0 → last ≤ most → TakesFirst before after first last digits LineFeed → IsGiven (most - last) more input_failed rest lines whole
     → IsLoaded book config (octets_in (decode_of digits)) lines whole t → IsSession book config octets input_failed rest t
 session-line book config octets digits more input_failed first last before after rest lines whole t e f zero le (line, takes, is) given loads =
@@ -76,7 +76,7 @@ session-unloaded book config octets digits LineFeed first last before after rest
     ]
 
 -- a debugger
-answered-loads : (book : List Entry) (config : Config) (spelled : Option (List ℕ)) (d : Debugging) (lines : List (List ℕ)) (whole : Bool) (t : Told) → Loads book config spelled d
+answered-loads : (book : List Entry) (config : Config) (spelled : Option (List ℕ)) (d : Debugging) (lines : List (List ℕ)) (whole : Bool) (t : Printed) → Loads book config spelled d
     → IsAnswered d lines whole t → IsLoaded book config spelled lines whole t
 answered-loads book config spelled d lines whole t (octets, some, limits, is) answered = rw (some, limits) (rw is at answered)
 
@@ -86,7 +86,7 @@ session-empty book config octets digits first last before after rest d e zero le
     session-last book config octets digits first last before after rest (closed true []) e zero le takes
     (answered-loads book config (octets_in (decode_of digits)) d [] true (closed true []) loads ([], refl, refl))
 
-pub session-followed : (book : List Entry) (config : Config) (octets digits more : List ℕ) (input_failed : Bool) (first last : ℕ) (before after rest : Option (List ℕ)) (d : Debugging) (t : Told)
+pub session-followed : (book : List Entry) (config : Config) (octets digits more : List ℕ) (input_failed : Bool) (first last : ℕ) (before after rest : Option (List ℕ)) (d : Debugging) (t : Printed)
     → before ≡ Some octets → after ≡ Some more → first ≡ 0 → last ≤ most → TakesFirst before after first last digits LineFeed → Loads book config (octets_in (decode_of digits)) d
     → IsFollowed d (most - last) more input_failed rest t → IsSession book config octets input_failed rest t
 session-followed book config octets digits more input_failed first last before after rest d t e f zero le takes loads (lines, whole, given, answered) =

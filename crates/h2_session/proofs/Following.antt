@@ -5,29 +5,29 @@ use Rattle.h2_debug.specs.Debugging.{Debugging}
 use Rattle.h2_session.specs.Commands.{command_of}
 use Rattle.h2_session.specs.Reading.{IsCut, TakesLast, TakesLine, most}
 use Rattle.h2_session.specs.Replies.{Obeys}
-use Rattle.h2_session.specs.Session.{IsAnswered, IsFollowed, Told, closed}
+use Rattle.h2_session.specs.Session.{IsAnswered, IsFollowed, Printed, closed}
 use Rattle.h2_session.specs.Takes.{TakesNext}
 use Rattle.h2_session.specs.declared.line.End.{End}
 use Rattle.h2_session.specs.declared.line.End.TheVariants.{Input, LineFeed}
 use Rattle.h2_session.proofs.Giving.{cut-given, end-given, last-given, line-given}
 
 -- a text, and behind it what is reported
-abbrev pub behind : List ℕ → Told → Told
+abbrev pub behind : List ℕ → Printed → Printed
 behind text t = record { text = text ++ t.text; status = t.status }
 
 closed-behind : (text more : List ℕ) (whole : Bool) → behind text (closed whole more) ≡ closed whole (text ++ more)
 closed-behind text more true = refl
-closed-behind text more false = ap (λ (x : List ℕ). let t : Told = record { text = x; status = 1 } in t) (sym (append_assoc text more _))
+closed-behind text more false = ap (λ (x : List ℕ). let t : Printed = record { text = x; status = 1 } in t) (sym (append_assoc text more _))
 
 -- what follows from a later state of the session follows, behind the text printed so far, from an earlier one
 abbrev pub Continues : Debugging → ℕ → List ℕ → Debugging → ℕ → List ℕ → List ℕ → Type 0
-Continues d limit octets e left more text = (failed : Bool) (rest : Option (List ℕ)) (t : Told) → IsFollowed e left more failed rest t → IsFollowed d limit octets failed rest (behind text t)
+Continues d limit octets e left more text = (failed : Bool) (rest : Option (List ℕ)) (t : Printed) → IsFollowed e left more failed rest t → IsFollowed d limit octets failed rest (behind text t)
 
 pub continues-none : (d : Debugging) (limit : ℕ) (octets : List ℕ) → Continues d limit octets d limit octets []
 continues-none d limit octets = λ failed rest t follows. follows
 
 -- a line more
-answers-line : (d e : Debugging) (line reply : List ℕ) (lines : List (List ℕ)) (whole : Bool) (t : Told) → Obeys d (command_of line) reply e → IsAnswered e lines whole t
+answers-line : (d e : Debugging) (line reply : List ℕ) (lines : List (List ℕ)) (whole : Bool) (t : Printed) → Obeys d (command_of line) reply e → IsAnswered e lines whole t
     → IsAnswered d (line ∷ lines) whole (behind reply t)
 answers-line d e line reply lines whole t obeys (text, answers, is) = (
   reply ++ text,
@@ -41,7 +41,7 @@ pub continues-line : (d e f : Debugging) (limit first last : ℕ) (octets more r
 continues-line d e f limit first last octets more others text line reply before after continues k l takes le obeys = λ failed rest t (lines, whole, given, answered).
     let next : IsFollowed e (most - first) more failed rest (behind reply t)
     = (line ∷ lines, whole, line-given before after first last line more others failed rest lines whole k l takes le given, answers-line e f line reply lines whole t obeys answered) in
-    subst (λ (x : List ℕ). let u : Told = record { text = x; status = t.status } in IsFollowed d limit octets failed rest u) (sym (append_assoc text reply t.text))
+    subst (λ (x : List ℕ). let u : Printed = record { text = x; status = t.status } in IsFollowed d limit octets failed rest u) (sym (append_assoc text reply t.text))
     (continues failed rest (behind reply t) next)
 
 -- the last line, which has no line feed

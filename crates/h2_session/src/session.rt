@@ -8,7 +8,7 @@ ghost use Rattle.h2_session.specs.Commands.{command_of};
 ghost use Rattle.h2_session.specs.Lines.{octets_in};
 ghost use Rattle.h2_session.specs.Reading.{ahead, most};
 ghost use Rattle.h2_session.specs.Replies.{Obeys, reply_text};
-ghost use Rattle.h2_session.specs.Session.{AnswersLine, IsFollowed, IsSession, Tells, Told, failed};
+ghost use Rattle.h2_session.specs.Session.{AnswersLine, IsFollowed, IsSession, Prints, Printed, failed};
 ghost use Rattle.h2_session.specs.Loading.{IsNotLoaded, Loads};
 
 use crate::command::command_of;
@@ -25,7 +25,7 @@ use std::alloc::Global;
 
 /// Writes the line of a fault, and gives status 1, or 3 where that failed.
 fn refuse<O: Output>(output: &mut O, fault: SessionFault) -> u8
-    ensures told { O.has_failed output.new ≡ false → (held : List ℕ) → O.written output.old ≡ Some held → Tells (failed (fault_number fault)) held (O.written output.new) result }
+    ensures printed { O.has_failed output.new ≡ false → (held : List ℕ) → O.written output.old ≡ Some held → Prints (failed (fault_number fault)) held (O.written output.new) result }
     ensures flag { O.has_failed output.new ≡ (result == 3) }
     ensures name { O.name output.new ≡ O.name output.old }
 {
@@ -49,7 +49,7 @@ fn answer<O: Output>(
     line: &[u8],
     output: &mut O,
 ) -> Result<(), DeviceFault>
-    ensures told { OnOk result (AnswersLine debugger.old (command_of line.now) debugger.new (O.written output.old) (O.written output.new)) }
+    ensures printed { OnOk result (AnswersLine debugger.old (command_of line.now) debugger.new (O.written output.old) (O.written output.new)) }
     ensures flag { O.has_failed output.new ≡ is_err result }
     ensures name { O.name output.new ≡ O.name output.old }
 {
@@ -57,7 +57,7 @@ fn answer<O: Output>(
     write_reply(output, &reply)
 }
 
-/// Answers each line until the input ends, and gives the exit status.
+/// RespondsWith each line until the input ends, and gives the exit status.
 fn follow<I: Input, O: Output>(
     alloc: Global,
     debugger: &mut Debugger<'_, Global>,
@@ -67,8 +67,8 @@ fn follow<I: Input, O: Output>(
 ) -> u8
     requires input { I.has_failed input.old ≡ false }
     requires output { O.has_failed output.old ≡ false }
-    ensures told { O.has_failed output.new ≡ false → (octets held : List ℕ) → ahead reader.old (I.remaining input.old) ≡ Some octets → O.written output.old ≡ Some held
-        → (t : Told) × IsFollowed debugger.old (most - reader.old.passed) octets (I.has_failed input.new) (I.remaining input.new) t × Tells t held (O.written output.new) result }
+    ensures printed { O.has_failed output.new ≡ false → (octets held : List ℕ) → ahead reader.old (I.remaining input.old) ≡ Some octets → O.written output.old ≡ Some held
+        → (t : Printed) × IsFollowed debugger.old (most - reader.old.passed) octets (I.has_failed input.new) (I.remaining input.new) t × Prints t held (O.written output.new) result }
     ensures flag { O.has_failed output.new ≡ (result == 3) }
     ensures input { I.name input.new ≡ I.name input.old }
     ensures name { O.name output.new ≡ O.name output.old }
@@ -123,8 +123,8 @@ pub fn debug_session<I: Input, O: Output>(
 ) -> u8
     requires reader { I.has_failed input.old ≡ false }
     requires writer { O.has_failed output.old ≡ false }
-    ensures told { O.has_failed output.new ≡ false → (octets held : List ℕ) → I.remaining input.old ≡ Some octets → O.written output.old ≡ Some held
-        → (t : Told) × IsSession book.now config octets (I.has_failed input.new) (I.remaining input.new) t × Tells t held (O.written output.new) result }
+    ensures printed { O.has_failed output.new ≡ false → (octets held : List ℕ) → I.remaining input.old ≡ Some octets → O.written output.old ≡ Some held
+        → (t : Printed) × IsSession book.now config octets (I.has_failed input.new) (I.remaining input.new) t × Prints t held (O.written output.new) result }
     ensures flag { O.has_failed output.new ≡ (result == 3) }
     ensures input { I.name input.new ≡ I.name input.old }
     ensures name { O.name output.new ≡ O.name output.old }

@@ -10,7 +10,7 @@ use Rattle.h2_spec.specs.Field.{Field, field}
 use Rattle.h2_spec.specs.Instruction.{Shape, Indexed, Update, Literal, Mode, NameRef, Str, instr_at, text_of}
 use Rattle.h2_spec.specs.Parse.{Front, Stop, One, Parsed, after_one, parse_first, parse_all}
 use Rattle.h2_spec.specs.Read.{Read, Whole, More, TooLong}
-use Rattle.h2_spec.specs.Block.{Fault, Index, Integer, SizeUpdate, Decoding, Given, literal_result, indexed_result, where_not_due, table_after, name_of, text_result, apply, taken_unless, instr_taken, next_instr, Outcome, Unfinished, Faulty, refused_by, outcome_of, fields_given, Progress, Decoded, has_fields, decoding, decoded, carried_on, carried_through, progress_after, progress_by, applied, StandsWithin}
+use Rattle.h2_spec.specs.Block.{Fault, Index, Integer, SizeUpdate, DecoderState, Given, literal_result, indexed_result, where_not_due, table_after, name_of, text_result, apply, taken_unless, instr_taken, next_instr, Outcome, Unfinished, Faulty, refused_by, outcome_of, fields_given, Progress, Decoded, has_fields, decoding, decoded, carried_on, carried_through, progress_after, progress_by, applied, StandsWithin}
 use Rattle.h2_spec.proofs.InstructionLaws.{Stays, Within, Takes, instr-stays, instr-within, instr-takes, whole-takes, whole-exact}
 use Rattle.h2_spec.proofs.ParseLaws as laws
 
@@ -20,12 +20,12 @@ taken-uses : (b : List ℕ) (used : ℕ) (r : Result Given Fault) → 0 < used �
 taken-uses b used (Ok g) h k = (h, k)
 taken-uses b used (Err fault) h k = tt
 
-read-uses : (limit : ℕ) (d : Decoding) (b : List ℕ) (r : Read Shape) → Within (length b) r → Takes r → laws.Uses b (instr_taken limit d r)
+read-uses : (limit : ℕ) (d : DecoderState) (b : List ℕ) (r : Read Shape) → Within (length b) r → Takes r → laws.Uses b (instr_taken limit d r)
 read-uses limit d b (Whole i used) h k = taken-uses b used (apply limit d i) k h
 read-uses limit d b More h k = tt
 read-uses limit d b TooLong h k = tt
 
-next-uses : (limit : ℕ) (d : Decoding) (b : List ℕ) → laws.Uses b (next_instr limit d b)
+next-uses : (limit : ℕ) (d : DecoderState) (b : List ℕ) → laws.Uses b (next_instr limit d b)
 unfolding next_instr
 next-uses limit d b = read-uses limit d b (instr_at b) (instr-within b) (instr-takes b)
 
@@ -33,12 +33,12 @@ taken-stays : (used : ℕ) (r : Result Given Fault) → laws.Stays (taken_unless
 taken-stays used (Ok g) = refl
 taken-stays used (Err fault) = tt
 
-read-stays : (limit : ℕ) (d : Decoding) (x y : Read Shape) → Stays x y → laws.Stays (instr_taken limit d x) (instr_taken limit d y)
+read-stays : (limit : ℕ) (d : DecoderState) (x y : Read Shape) → Stays x y → laws.Stays (instr_taken limit d x) (instr_taken limit d y)
 read-stays limit d (Whole i used) y h = rw h (taken-stays used (apply limit d i))
 read-stays limit d More y h = tt
 read-stays limit d TooLong y h = tt
 
-next-stays : (limit : ℕ) (d : Decoding) (b c : List ℕ) → laws.Stays (next_instr limit d b) (next_instr limit d (b ++ c))
+next-stays : (limit : ℕ) (d : DecoderState) (b c : List ℕ) → laws.Stays (next_instr limit d b) (next_instr limit d (b ++ c))
 unfolding next_instr
 next-stays limit d b c = read-stays limit d (instr_at b) (instr_at (b ++ c)) (instr-stays b c)
 
@@ -62,20 +62,20 @@ due-begins : (begun due : Bool) (r : Result Given Fault) → Begins begun r → 
 due-begins begun true r h = tt
 due-begins begun false r h = h
 
-literal-begins : (mode : Mode) (d : Decoding) (name value : Result (List ℕ) Fault) → Begins d.begun (literal_result mode d name value)
+literal-begins : (mode : Mode) (d : DecoderState) (name value : Result (List ℕ) Fault) → Begins d.begun (literal_result mode d name value)
 literal-begins mode d (Ok name) (Ok value) = refl
 literal-begins mode d (Ok name) (Err fault) = tt
 literal-begins mode d (Err fault) value = tt
 
-indexed-begins : (d : Decoding) (f : Option Field) → Begins d.begun (indexed_result d f)
+indexed-begins : (d : DecoderState) (f : Option Field) → Begins d.begun (indexed_result d f)
 indexed-begins d (Some f) = refl
 indexed-begins d None = tt
 
-update-begins : (d : Decoding) (table : Table) (t : Bool) → Begins d.begun (cond t (Ok (record { field = None; after = record d { table = table; due = false } })) (Err SizeUpdate))
+update-begins : (d : DecoderState) (table : Table) (t : Bool) → Begins d.begun (cond t (Ok (record { field = None; after = record d { table = table; due = false } })) (Err SizeUpdate))
 update-begins d table true = refl
 update-begins d table false = tt
 
-apply-begins : (limit : ℕ) (d : Decoding) (i : Shape) → Begins d.begun (apply limit d i)
+apply-begins : (limit : ℕ) (d : DecoderState) (i : Shape) → Begins d.begun (apply limit d i)
 unfolding apply
 apply-begins limit d (Update n) = update-begins d _ (not d.begun && nat_le n limit)
 apply-begins limit d (Indexed i) = due-begins d.begun d.due _ (indexed-begins d (field_at i d.table.entries))
@@ -94,21 +94,21 @@ begins-given begun (Err fault) g e k = absurd cc
 decoding-after : (limit : ℕ) (p : Progress) (i : Shape) (g : Given) → apply limit (decoding p) i ≡ Ok g → decoding (progress_after p g) ≡ g.after
 decoding-after limit p i g e =
     let begun = begins-given (has_fields p.fields) (apply limit (decoding p) i) g e (apply-begins limit (decoding p) i) in
-    ap (λ (t : Bool). let d : Decoding = record { table = g.after.table; begun = t; due = g.after.due } in d) (has-fields p.fields g.field ∙ sym begun)
+    ap (λ (t : Bool). let d : DecoderState = record { table = g.after.table; begun = t; due = g.after.due } in d) (has-fields p.fields g.field ∙ sym begun)
 
 -- ---- one instruction more
 
 -- a block after these fields, whose instructions these are
-ended : ℕ → List Field → Parsed Decoding (Option Field) → Decoded
+ended : ℕ → List Field → Parsed DecoderState (Option Field) → Decoded
 ended limit fields t = record { progress = record { fields = fields ++ fields_given t.elements; table = t.state.table; due = t.state.due }; outcome = outcome_of limit t.state t.rest (instr_at t.rest) }
 
-ended-one : (limit : ℕ) (fields : List Field) (x : Option Field) (t : Parsed Decoding (Option Field)) → ended limit fields (after_one x t) ≡ ended limit (fields ++ option_to_list x) t
+ended-one : (limit : ℕ) (fields : List Field) (x : Option Field) (t : Parsed DecoderState (Option Field)) → ended limit fields (after_one x t) ≡ ended limit (fields ++ option_to_list x) t
 unfolding ended
 ended-one limit fields None t = rw (append-nil fields) refl
 ended-one limit fields (Some f) t = rw (append_assoc fields (f ∷ []) (fields_given t.elements)) refl
 
 -- the block whose first instruction is this
-by_first : ℕ → Progress → List ℕ → Front Decoding (Option Field) → Decoded
+by_first : ℕ → Progress → List ℕ → Front DecoderState (Option Field) → Decoded
 by_first limit p b x = ended limit p.fields (parse_first (decoding p) b x (λ d rest. parse_all (next_instr limit) d rest))
 
 decoded-first : (limit : ℕ) (p : Progress) (b : List ℕ) → decoded limit p b ≡ by_first limit p b (next_instr limit (decoding p) b)

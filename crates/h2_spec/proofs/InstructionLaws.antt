@@ -4,7 +4,7 @@ use Rattle.std.proofs.lemmas.List.{append-nil, take-append-le, drop-append-le, d
 use Rattle.std.proofs.Math.Seq.{take-add}
 use Rattle.h2_spec.specs.Integer.{IsReadOf, int_at}
 use Rattle.h2_spec.specs.Read.{Read, Whole, More, TooLong, read_map}
-use Rattle.h2_spec.specs.Instruction.{Str, Shape, Mode, Add, Without, Never, NameRef, Ref, Literal, Indexed, Update, Named, mode_prefix, read_past, read_then, octets_at, string_at, name_by, value_at, literal_at, instr_by, instr_at}
+use Rattle.h2_spec.specs.Instruction.{Str, Shape, Mode, IncrementalIndexing, WithoutIndexing, NeverIndexed, NameRef, Ref, Literal, Indexed, Update, Named, mode_prefix, read_past, read_then, octets_at, string_at, name_by, value_at, literal_at, instr_by, instr_at}
 use Rattle.h2_spec.proofs.IntegerLaws as integers
 
 -- what is read to its end is read so with more octets behind it
@@ -257,16 +257,16 @@ choice-takes false x y h k = k
 by-reader : (o : ℕ) → IsReader (instr_by o)
 by-reader o =
     choice-reader (leb 128 o) (λ b. read_map Indexed (int_at 7 b)) _ (map-reader Indexed (int_at 7) (number-reader 7))
-    (choice-reader (leb 64 o) (literal_at Add) _ (literal-reader Add)
+    (choice-reader (leb 64 o) (literal_at IncrementalIndexing) _ (literal-reader IncrementalIndexing)
     (choice-reader (leb 32 o) (λ b. read_map Update (int_at 5 b)) _ (map-reader Update (int_at 5) (number-reader 5))
-    (choice-reader (leb 16 o) (literal_at Never) (literal_at Without) (literal-reader Never) (literal-reader Without))))
+    (choice-reader (leb 16 o) (literal_at NeverIndexed) (literal_at WithoutIndexing) (literal-reader NeverIndexed) (literal-reader WithoutIndexing))))
 
 by-takes : (o : ℕ) (b : List ℕ) → Takes (instr_by o b)
 by-takes o b =
     choice-takes (leb 128 o) (read_map Indexed (int_at 7 b)) _ (map-takes Indexed (int_at 7 b) (number-first 7 b))
-    (choice-takes (leb 64 o) (literal_at Add b) _ (literal-takes Add b)
+    (choice-takes (leb 64 o) (literal_at IncrementalIndexing b) _ (literal-takes IncrementalIndexing b)
     (choice-takes (leb 32 o) (read_map Update (int_at 5 b)) _ (map-takes Update (int_at 5 b) (number-first 5 b))
-    (choice-takes (leb 16 o) (literal_at Never b) (literal_at Without b) (literal-takes Never b) (literal-takes Without b))))
+    (choice-takes (leb 16 o) (literal_at NeverIndexed b) (literal_at WithoutIndexing b) (literal-takes NeverIndexed b) (literal-takes WithoutIndexing b))))
 
 -- no spelling begins another: an instruction that stands there stays there
 pub instr-stays : (b c : List ℕ) → Stays (instr_at b) (instr_at (b ++ c))

@@ -5,7 +5,7 @@ use Rattle.std.proofs.lemmas.List.{append-nil, drop_at, take_at}
 use Rattle.std.proofs.lemmas.Nat.{pow_pos}
 use Rattle.h2_spec.specs.Huffman.{IsText}
 use Rattle.h2_spec.specs.Integer.{int_at, groups_of, spell_int}
-use Rattle.h2_spec.specs.Instruction.{Mode, Add, Without, Never, NameRef, Ref, Named, Indexed, Update, Literal, Str, TextStr, Shape, Instruction, read_past, read_then, octets_at, string_at, mode_prefix, mode_high, name_by, value_at, literal_at, instr_by, instr_at, StandsFor, IsStringOf, IsNameOf, IsShapeOf, IsSpelling, coded, coded_str, coded_name, shape_of, spell_string, spell_name, spell, IsSpellable, IsSpellableName, IsNameText, HasTexts}
+use Rattle.h2_spec.specs.Instruction.{Mode, IncrementalIndexing, WithoutIndexing, NeverIndexed, NameRef, Ref, Named, Indexed, Update, Literal, Str, TextStr, Shape, Instruction, read_past, read_then, octets_at, string_at, mode_prefix, mode_high, name_by, value_at, literal_at, instr_by, instr_at, StandsFor, IsStringOf, IsNameOf, IsShapeOf, IsSpelling, coded, coded_str, coded_name, shape_of, spell_string, spell_name, spell, IsSpellable, IsSpellableName, IsNameText, HasTexts}
 use Rattle.h2_spec.specs.Read.{Whole, read_map}
 use Rattle.h2_spec.proofs.IntegerLaws.{spelled_read}
 use Rattle.h2_spec.proofs.SpellingLaws as spelling
@@ -77,22 +77,22 @@ pub by-update : (o : ℕ) (b : List ℕ) → 32 ≤ o → o < 64 → instr_by o 
 by-update o b h k = rw (lt-leb 128 o (omega arith), lt-leb 64 o k, le-leb 32 o h) refl
 
 pub by-mode : (mode : Mode) (o : ℕ) (b : List ℕ) → mode_high mode ≤ o → o < mode_high mode + 2 ^ mode_prefix mode → instr_by o b ≡ literal_at mode b
-by-mode Add o b h k = rw (lt-leb 128 o k, le-leb 64 o h) refl
-by-mode Without o b h k = rw (lt-leb 128 o (omega arith), lt-leb 64 o (omega arith), lt-leb 32 o (omega arith), lt-leb 16 o k) refl
-by-mode Never o b h k = rw (lt-leb 128 o (omega arith), lt-leb 64 o (omega arith), lt-leb 32 o k, le-leb 16 o h) refl
+by-mode IncrementalIndexing o b h k = rw (lt-leb 128 o k, le-leb 64 o h) refl
+by-mode WithoutIndexing o b h k = rw (lt-leb 128 o (omega arith), lt-leb 64 o (omega arith), lt-leb 32 o (omega arith), lt-leb 16 o k) refl
+by-mode NeverIndexed o b h k = rw (lt-leb 128 o (omega arith), lt-leb 64 o (omega arith), lt-leb 32 o k, le-leb 16 o h) refl
 
 mode-bits : (mode : Mode) → mode_high mode % 2 ^ mode_prefix mode ≡ 0
-mode-bits Add = refl
-mode-bits Without = refl
-mode-bits Never = refl
+mode-bits IncrementalIndexing = refl
+mode-bits WithoutIndexing = refl
+mode-bits NeverIndexed = refl
 
 -- ---- names and values
 
 zero-index : (mode : Mode) (b : List ℕ) → int_at (mode_prefix mode) (mode_high mode ∷ b) ≡ Whole 0 1
 unfolding int_at
-zero-index Add b = refl
-zero-index Without b = refl
-zero-index Never b = refl
+zero-index IncrementalIndexing b = refl
+zero-index WithoutIndexing b = refl
+zero-index NeverIndexed b = refl
 
 name-written : (mode : Mode) (name : NameRef Str) (s : List ℕ) → IsSpellableName name →
     read_then (spell_name mode name ++ s) (int_at (mode_prefix mode) (spell_name mode name ++ s)) name_by ≡ Whole name (length (spell_name mode name))

@@ -75,12 +75,12 @@ module _ (K : List ℕ → Type 0) (below : (n : ℕ) (xs : List ℕ) → K xs �
   shape_whole : (o : ℕ) (xs : List ℕ) → K xs → OnRead (IsWholeShape K) (instr_by o xs)
   shape_whole o xs h = go (nat_le 128 o) (nat_le 64 o) (nat_le 32 o) (nat_le 16 o)
     where
-      go : (a b c d : Bool) → OnRead (IsWholeShape K) (cond a (read_map Indexed (int_at 7 xs)) (cond b (literal_at Mode.Add xs) (cond c (read_map Update (int_at 5 xs)) (cond d (literal_at Mode.Never xs) (literal_at Mode.Without xs)))))
+      go : (a b c d : Bool) → OnRead (IsWholeShape K) (cond a (read_map Indexed (int_at 7 xs)) (cond b (literal_at Mode.IncrementalIndexing xs) (cond c (read_map Update (int_at 5 xs)) (cond d (literal_at Mode.NeverIndexed xs) (literal_at Mode.WithoutIndexing xs)))))
       go true b c d = read_map-on IsAny (IsWholeShape K) Indexed (λ i u. tt) (int_at 7 xs) (any (int_at 7 xs))
-      go false true c d = literal_whole Mode.Add xs h
+      go false true c d = literal_whole Mode.IncrementalIndexing xs h
       go false false true d = read_map-on IsAny (IsWholeShape K) Update (λ i u. tt) (int_at 5 xs) (any (int_at 5 xs))
-      go false false false true = literal_whole Mode.Never xs h
-      go false false false false = literal_whole Mode.Without xs h
+      go false false false true = literal_whole Mode.NeverIndexed xs h
+      go false false false false = literal_whole Mode.WithoutIndexing xs h
 
   -- the shape at the front has in its strings parts of the octets, and an index above 0 where it has one
   pub first_whole : (xs : List ℕ) → K xs → OnRead (IsWholeShape K) (instr_at xs)

@@ -3,7 +3,7 @@ use Rattle.std.proofs.Common.{◌≡◌, ◌∙◌, ◌*◌, ◌<◌, ◌≤◌,
 use Rattle.std.proofs.lemmas.Str.Parse.{digit_from_value}
 use Rattle.hex.proofs.HexLemmas.{decode_of-ok}
 use Rattle.h2_spec.specs.Assemble.{before, behind, index_of, instruction_at, is_quote, literal_at, name_at, number_at, numbered_at, octet_at, onwards, string_at, string_of, unescaped, value_at, with_octet}
-use Rattle.h2_spec.specs.Instruction.{Instruction, Indexed, Update, Literal, Mode, Add, Without, Never, NameRef, Ref, Named, TextStr}
+use Rattle.h2_spec.specs.Instruction.{Instruction, Indexed, Update, Literal, Mode, IncrementalIndexing, WithoutIndexing, NeverIndexed, NameRef, Ref, Named, TextStr}
 use Rattle.h2_spec.specs.Script.{cut_at, is_plain, max_u32, mode_letter, quote_of, SaysCharacter, SaysInstruction, SaysName, SaysNumber, SaysOctet, SaysString, SaysText}
 use Rattle.h2_spec.proofs.ReadingWords.{IsEnd, before_end, cut_back, cut_here, map_some, number_back, number_read, octet_back, octet_read, onwards_end, then_some, whole}
 use Rattle.h2_spec.proofs.ScriptTexts.{number_lacks, text_lacks}
@@ -195,9 +195,9 @@ pub instruction_read : (first : List ℕ) (i : Instruction) (rest : List ℕ) �
 unfolding instruction_at
 instruction_read first (Indexed n) rest end h = ap (λ (x : List ℕ). instruction_at (x ++ rest)) h.1 ∙ numbered_read Indexed h.0 rest n end h.2
 instruction_read first (Update n) rest end h = ap (λ (x : List ℕ). instruction_at (x ++ rest)) h.1 ∙ numbered_read Update h.0 rest n end h.2
-instruction_read first (Literal Add name value) rest end h = ap (λ (x : List ℕ). instruction_at (x ++ rest)) h.2 ∙ literal_read Add h.0 h.1 name value rest h.3 h.4
-instruction_read first (Literal Without name value) rest end h = ap (λ (x : List ℕ). instruction_at (x ++ rest)) h.2 ∙ literal_read Without h.0 h.1 name value rest h.3 h.4
-instruction_read first (Literal Never name value) rest end h = ap (λ (x : List ℕ). instruction_at (x ++ rest)) h.2 ∙ literal_read Never h.0 h.1 name value rest h.3 h.4
+instruction_read first (Literal IncrementalIndexing name value) rest end h = ap (λ (x : List ℕ). instruction_at (x ++ rest)) h.2 ∙ literal_read IncrementalIndexing h.0 h.1 name value rest h.3 h.4
+instruction_read first (Literal WithoutIndexing name value) rest end h = ap (λ (x : List ℕ). instruction_at (x ++ rest)) h.2 ∙ literal_read WithoutIndexing h.0 h.1 name value rest h.3 h.4
+instruction_read first (Literal NeverIndexed name value) rest end h = ap (λ (x : List ℕ). instruction_at (x ++ rest)) h.2 ∙ literal_read NeverIndexed h.0 h.1 name value rest h.3 h.4
 
 numbered_back : (f : ℕ → Instruction) (text : List ℕ) (i : Instruction) (rest : List ℕ) → numbered_at f text ≡ Some (i, rest)
     → (n : ℕ) × (digits : List ℕ) × (text ≡ digits ++ rest) × SaysNumber max_u32 digits n × (f n ≡ i)
@@ -230,25 +230,25 @@ instruction_back (c ∷ cs) i rest e = indexed (c == 105) refl e
     moved_letter : (d : ℕ) → (c == d) ≡ true → Reads SaysInstruction (d ∷ cs) i rest → Reads SaysInstruction (c ∷ cs) i rest
     moved_letter d is h = subst (λ (x : ℕ). Reads SaysInstruction (x ∷ cs) i rest) (sym (eqb-true c d is)) h
 
-    never : (t : Bool) → (c == 118) ≡ t → cond t (literal_at Never cs) None ≡ Some (i, rest) → Reads SaysInstruction (c ∷ cs) i rest
-    never true is k = moved_letter 118 is (literal_back Never cs i rest k)
+    never : (t : Bool) → (c == 118) ≡ t → cond t (literal_at NeverIndexed cs) None ≡ Some (i, rest) → Reads SaysInstruction (c ∷ cs) i rest
+    never true is k = moved_letter 118 is (literal_back NeverIndexed cs i rest k)
     never false is k = absurd (cc)
 
-    without : (t : Bool) → (c == 110) ≡ t → cond t (literal_at Without cs) (cond (c == 118) (literal_at Never cs) None) ≡ Some (i, rest) → Reads SaysInstruction (c ∷ cs) i rest
-    without true is k = moved_letter 110 is (literal_back Without cs i rest k)
+    without : (t : Bool) → (c == 110) ≡ t → cond t (literal_at WithoutIndexing cs) (cond (c == 118) (literal_at NeverIndexed cs) None) ≡ Some (i, rest) → Reads SaysInstruction (c ∷ cs) i rest
+    without true is k = moved_letter 110 is (literal_back WithoutIndexing cs i rest k)
     without false is k = never (c == 118) refl k
 
-    add : (t : Bool) → (c == 97) ≡ t → cond t (literal_at Add cs) (cond (c == 110) (literal_at Without cs) (cond (c == 118) (literal_at Never cs) None)) ≡ Some (i, rest) → Reads SaysInstruction (c ∷ cs) i rest
-    add true is k = moved_letter 97 is (literal_back Add cs i rest k)
+    add : (t : Bool) → (c == 97) ≡ t → cond t (literal_at IncrementalIndexing cs) (cond (c == 110) (literal_at WithoutIndexing cs) (cond (c == 118) (literal_at NeverIndexed cs) None)) ≡ Some (i, rest) → Reads SaysInstruction (c ∷ cs) i rest
+    add true is k = moved_letter 97 is (literal_back IncrementalIndexing cs i rest k)
     add false is k = without (c == 110) refl k
 
-    update : (t : Bool) → (c == 117) ≡ t → cond t (numbered_at Update cs) (cond (c == 97) (literal_at Add cs) (cond (c == 110) (literal_at Without cs) (cond (c == 118) (literal_at Never cs) None))) ≡ Some (i, rest) → Reads SaysInstruction (c ∷ cs) i rest
+    update : (t : Bool) → (c == 117) ≡ t → cond t (numbered_at Update cs) (cond (c == 97) (literal_at IncrementalIndexing cs) (cond (c == 110) (literal_at WithoutIndexing cs) (cond (c == 118) (literal_at NeverIndexed cs) None))) ≡ Some (i, rest) → Reads SaysInstruction (c ∷ cs) i rest
     update true is k =
         let n = numbered_back Update cs i rest k in
         moved_letter 117 is (117 ∷ n.1, ap (λ (x : List ℕ). 117 ∷ x) n.2, subst (SaysInstruction (117 ∷ n.1)) n.4 (n.1, refl, n.3))
     update false is k = add (c == 97) refl k
 
-    indexed : (t : Bool) → (c == 105) ≡ t → cond t (numbered_at Indexed cs) (cond (c == 117) (numbered_at Update cs) (cond (c == 97) (literal_at Add cs) (cond (c == 110) (literal_at Without cs) (cond (c == 118) (literal_at Never cs) None)))) ≡ Some (i, rest) → Reads SaysInstruction (c ∷ cs) i rest
+    indexed : (t : Bool) → (c == 105) ≡ t → cond t (numbered_at Indexed cs) (cond (c == 117) (numbered_at Update cs) (cond (c == 97) (literal_at IncrementalIndexing cs) (cond (c == 110) (literal_at WithoutIndexing cs) (cond (c == 118) (literal_at NeverIndexed cs) None)))) ≡ Some (i, rest) → Reads SaysInstruction (c ∷ cs) i rest
     indexed true is k =
         let n = numbered_back Indexed cs i rest k in
         moved_letter 105 is (105 ∷ n.1, ap (λ (x : List ℕ). 105 ∷ x) n.2, subst (SaysInstruction (105 ∷ n.1)) n.4 (n.1, refl, n.3))

@@ -7,7 +7,7 @@ use Rattle.std.proofs.lemmas.List.{get_or-drop}
 use Rattle.std.proofs.lemmas.List.Elements.{All-append, All-cons}
 use Rattle.hex.specs.Hex.{IsBytes, is_hex_digit}
 use Rattle.hex.proofs.HexLemmas.{decode_of-ok}
-use Rattle.h2_spec.specs.Instruction.{Instruction, Indexed, Update, Literal, Mode, Add, Without, Never, NameRef, Ref, Named, TextStr}
+use Rattle.h2_spec.specs.Instruction.{Instruction, Indexed, Update, Literal, Mode, IncrementalIndexing, WithoutIndexing, NeverIndexed, NameRef, Ref, Named, TextStr}
 use Rattle.h2_spec.specs.Script.{Payload, Empty, Octets, Pairs, Increment, Code, Instructions, AFrame, is_plain, mode_letter, quote_of, type_names, Says, SaysCharacter, SaysEach, SaysInstruction, SaysName, SaysNumber, SaysOctets, SaysPayload, SaysSetting, SaysStream, SaysString, SaysText, SaysType}
 
 -- ---- no octet of a text is c
@@ -93,9 +93,9 @@ name_lacks text (Ref i) h = number_lacks 10 (lit≤ tt) _ text i h.0
 name_lacks text (Named s) h = string_lacks text s h
 
 letter_differs : (mode : Mode) → (mode_letter mode == 10) ≡ false
-letter_differs Add = refl
-letter_differs Without = refl
-letter_differs Never = refl
+letter_differs IncrementalIndexing = refl
+letter_differs WithoutIndexing = refl
+letter_differs NeverIndexed = refl
 
 instruction_lacks : (text : List ℕ) (i : Instruction) → SaysInstruction text i → Lacks 10 text
 instruction_lacks text (Indexed i) h = rw h.1 (cons_lacks 10 105 h.0 refl (number_lacks 10 (lit≤ tt) _ h.0 i h.2))

@@ -303,7 +303,7 @@ payload_again kind flags p h = go (length p == 0) refl
     pairs : (b : Bool) → (kind == SETTINGS && length p % 6 == 0) ≡ b → 0 < length p
         → IsSaid p (cond b (Pairs (setting_pairs p)) (cond (kind == WINDOW_UPDATE && (length p == 4 && nat_lt (slice_index p 0) 128)) (Increment (four_octets p 0)) (cond (kind == RST_STREAM && length p == 4) (Code (four_octets p 0)) (cond (is_fragment kind flags) (block_said p) (Octets p)))))
     pairs false e some = window (kind == WINDOW_UPDATE && (length p == 4 && nat_lt (slice_index p 0) 128)) refl some
-    pairs true e some = let facts = pairs_again p h (eqb-true (length p % 6) 0 (both _ _ e).1) in settings_again p (setting_pairs p) some facts.0 facts.1
+    pairs true e some = let summary = pairs_again p h (eqb-true (length p % 6) 0 (both _ _ e).1) in settings_again p (setting_pairs p) some summary.0 summary.1
 
     go : (b : Bool) → (length p == 0) ≡ b → IsSaid p (cond b Empty (cond (kind == SETTINGS && length p % 6 == 0) (Pairs (setting_pairs p)) (cond (kind == WINDOW_UPDATE && (length p == 4 && nat_lt (slice_index p 0) 128)) (Increment (four_octets p 0)) (cond (kind == RST_STREAM && length p == 4) (Code (four_octets p 0)) (cond (is_fragment kind flags) (block_said p) (Octets p))))))
     go true e = (refl, sym (empty_list p (eqb-true (length p) 0 e)))

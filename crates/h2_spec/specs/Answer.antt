@@ -1,7 +1,7 @@
 -- The book of answers, and the response to a request (the server's own choice; RFC 9113, 8.3.2, and RFC 7541, 6).
 use Rattle.std.specs.Prelude.{ℕ, ◌+◌, ◌/◌, ◌%◌, Bool, true, false, ◌&&◌, List, [], ◌∷◌, ◌++◌, map, bytes_eq, if◌then◌else◌, Option, Some, None, position, slice_get, flat_map, ◌==◌}
 use Rattle.h2_spec.specs.Field.{Field}
-use Rattle.h2_spec.specs.Instruction.{Str, Shape, Without, Ref, Named, Indexed, Update, Literal, spell}
+use Rattle.h2_spec.specs.Instruction.{Str, Shape, WithoutIndexing, Ref, Named, Indexed, Update, Literal, spell}
 use Rattle.h2_spec.specs.Request.{Request}
 use Rattle.h2_spec.specs.declared.streams.Pick.{Pick}
 use Rattle.h2_spec.specs.declared.streams.Pick.TheVariants.{Listed, NotFound, Connect}
@@ -58,7 +58,7 @@ plain_string octets = record { huffman = false; octets = octets }
 
 -- a literal without indexing whose name is spelled (RFC 7541, 6.2.2)
 abbrev pub plain_literal : Field → Shape
-plain_literal f = Literal Without (Named (plain_string f.name)) (plain_string f.value)
+plain_literal f = Literal WithoutIndexing (Named (plain_string f.name)) (plain_string f.value)
 
 -- the statuses that the static table has, from index 8 on (RFC 7541, Appendix A)
 abbrev pub indexed_statuses : List ℕ
@@ -71,7 +71,7 @@ status_digits status = (48 + status / 100) ∷ (48 + status / 10 % 10) ∷ (48 +
 -- a status that stands at this place among those: its index; any other: a literal with the name of index 8, :status (8.3.2)
 abbrev pub status_at : Option ℕ → ℕ → Shape
 status_at (Some place) status = Indexed (8 + place)
-status_at None status = Literal Without (Ref 8) (plain_string (status_digits status))
+status_at None status = Literal WithoutIndexing (Ref 8) (plain_string (status_digits status))
 
 -- the status as a field of the response: by its index where the static table has it (8.3.2)
 abbrev pub status_instruction : ℕ → Shape
@@ -84,9 +84,9 @@ update_if false = []
 
 -- the instructions of the response's field block: nothing enters the dynamic table
 abbrev pub response_instructions : Bool → ℕ → List Field → List Shape
-response_instructions signal status fields = update_if signal ++ status_instruction status ∷ map plain_literal fields
+response_instructions size_update_pending status fields = update_if size_update_pending ++ status_instruction status ∷ map plain_literal fields
 
 -- the octets of the response's field block; signal: the dynamic table's size becomes 0 first
 unfoldable pub response_block : Bool → ℕ → List Field → List ℕ
 unfolding spell
-response_block signal status fields = flat_map spell (response_instructions signal status fields)
+response_block size_update_pending status fields = flat_map spell (response_instructions size_update_pending status fields)

@@ -6,7 +6,7 @@ use Rattle.hex.specs.Hex.{decode_of, decode_sized}
 use Rattle.hex.specs.declared.FromHexError.{FromHexError}
 use Rattle.h2_spec.specs.Frame.{preface}
 use Rattle.h2_spec.specs.Huffman.{spell_huffman}
-use Rattle.h2_spec.specs.Instruction.{Instruction, Indexed, Update, Literal, Mode, Add, Without, Never, NameRef, Ref, Named, TextStr, spell}
+use Rattle.h2_spec.specs.Instruction.{Instruction, Indexed, Update, Literal, Mode, IncrementalIndexing, WithoutIndexing, NeverIndexed, NameRef, Ref, Named, TextStr, spell}
 use Rattle.h2_spec.specs.Script.{Payload, Empty, Octets, Pairs, Increment, Code, Instructions, Statement, Nothing, Preface, Raw, AFrame, cut_at, is_plain, lines_of, max_stream, max_u32, octets_of, payload_octets}
 use Rattle.h2_spec.specs.declared.scripts.SyntaxKind.{SyntaxKind}
 use Rattle.h2_spec.specs.declared.scripts.SyntaxKind.TheVariants as kind
@@ -128,9 +128,9 @@ instruction_at [] = None
 instruction_at (c ∷ cs) =
     if c == 105 then numbered_at Indexed cs
     else if c == 117 then numbered_at Update cs
-    else if c == 97 then literal_at Add cs
-    else if c == 110 then literal_at Without cs
-    else if c == 118 then literal_at Never cs
+    else if c == 97 then literal_at IncrementalIndexing cs
+    else if c == 110 then literal_at WithoutIndexing cs
+    else if c == 118 then literal_at NeverIndexed cs
     else None
 
 -- both, if both are there

@@ -3,7 +3,7 @@ use Rattle.std.specs.Prelude.{◌≡◌, ℕ, ◌-◌, ◌^◌, Bool, true, fals
 use Rattle.h2_spec.specs.Field.{Field, field}
 use Rattle.h2_spec.specs.DynamicTable.{Table, total_size, insert, resize, field_at}
 use Rattle.h2_spec.specs.Huffman.{HuffRead, Text, Eos, Padding, huffman_text}
-use Rattle.h2_spec.specs.Instruction.{Str, Shape, Indexed, Update, Literal, Mode, Add, Without, Never, NameRef, Ref, Named, text_of, instr_at}
+use Rattle.h2_spec.specs.Instruction.{Str, Shape, Indexed, Update, Literal, Mode, IncrementalIndexing, WithoutIndexing, NeverIndexed, NameRef, Ref, Named, text_of, instr_at}
 use Rattle.h2_spec.specs.Read.{Read, Whole, More, TooLong}
 use Rattle.h2_spec.specs.Parse.{Front, Stop, One, parse_all}
 
@@ -21,7 +21,7 @@ pub data Fault : Type 0 where
 -- ---- one instruction
 
 -- what the next instruction of a block depends on: the table, whether a field has come, and whether the block still has to begin with a size update
-pub record Decoding : Type 0 where
+pub record DecoderState : Type 0 where
   pub table : Table
   pub begun : Bool
   pub due : Bool
@@ -29,7 +29,7 @@ pub record Decoding : Type 0 where
 -- what an instruction gives: its field, if it has one, and what the next one depends on
 pub record Given : Type 0 where
   pub field : Option Field
-  pub after : Decoding
+  pub after : DecoderState
 
 -- the text of a string
 abbrev pub text_result : HuffRead → Result (List ℕ) Fault
@@ -49,22 +49,22 @@ name_of (Named s) entries = text_result (text_of s)
 
 -- a literal enters the table, or not (6.2)
 abbrev pub table_after : Mode → Table → Field → Table
-table_after Add t f = insert t f
-table_after Without t f = t
-table_after Never t f = t
+table_after IncrementalIndexing t f = insert t f
+table_after WithoutIndexing t f = t
+table_after NeverIndexed t f = t
 
 -- a field, and the table after it
-abbrev pub given : Decoding → Table → Field → Given
+abbrev pub given : DecoderState → Table → Field → Given
 given d table f = record { field = Some f; after = record d { table = table; begun = true } }
 
 -- the field of a name and a value, or why one of them is refused: the name is decided first
-abbrev pub literal_result : Mode → Decoding → Result (List ℕ) Fault → Result (List ℕ) Fault → Result Given Fault
+abbrev pub literal_result : Mode → DecoderState → Result (List ℕ) Fault → Result (List ℕ) Fault → Result Given Fault
 literal_result mode d (Ok name) (Ok value) = Ok (given d (table_after mode d.table (field name value)) (field name value))
 literal_result mode d (Ok name) (Err fault) = Err fault
 literal_result mode d (Err fault) value = Err fault
 
 -- the field at an index, or why there is none
-abbrev pub indexed_result : Decoding → Option Field → Result Given Fault
+abbrev pub indexed_result : DecoderState → Option Field → Result Given Fault
 indexed_result d (Some f) = Ok (given d d.table f)
 indexed_result d None = Err Index
 
@@ -74,7 +74,7 @@ where_not_due true r = Err SizeUpdate
 where_not_due false r = r
 
 -- the effect of one instruction, or why it is refused: a size update is decided first, then an index, then a Huffman string
-unfoldable pub apply : ℕ → Decoding → Shape → Result Given Fault
+unfoldable pub apply : ℕ → DecoderState → Shape → Result Given Fault
 unfolding field_at insert resize huffman_text
 apply limit d (Update n) = if not d.begun && nat_le n limit then Ok (record { field = None; after = record d { table = resize d.table n; due = false } }) else Err SizeUpdate
 apply limit d (Indexed i) = where_not_due d.due (indexed_result d (field_at i d.table.entries))
@@ -83,18 +83,18 @@ apply limit d (Literal mode name value) = where_not_due d.due (literal_result mo
 -- ---- one after another
 
 -- an instruction that is whole is taken unless it is refused
-abbrev pub taken_unless : ℕ → Result Given Fault → Front Decoding (Option Field)
+abbrev pub taken_unless : ℕ → Result Given Fault → Front DecoderState (Option Field)
 taken_unless used (Ok g) = One g.field g.after used
 taken_unless used (Err fault) = Stop
 
 -- a whole instruction is taken unless it is refused; nothing else is
-abbrev pub instr_taken : ℕ → Decoding → Read Shape → Front Decoding (Option Field)
+abbrev pub instr_taken : ℕ → DecoderState → Read Shape → Front DecoderState (Option Field)
 instr_taken limit d (Whole i used) = taken_unless used (apply limit d i)
 instr_taken limit d More = Stop
 instr_taken limit d TooLong = Stop
 
 -- what the instruction at the front of the octets gives, if it is whole and not refused
-unfoldable pub next_instr : ℕ → Decoding → List ℕ → Front Decoding (Option Field)
+unfoldable pub next_instr : ℕ → DecoderState → List ℕ → Front DecoderState (Option Field)
 unfolding instr_at apply
 next_instr limit d b = instr_taken limit d (instr_at b)
 
@@ -109,7 +109,7 @@ refused_by b (Ok g) = Unfinished b
 refused_by b (Err fault) = Faulty fault
 
 -- how a block ends so far, by what stands at the front of the octets left
-unfoldable pub outcome_of : ℕ → Decoding → List ℕ → Read Shape → Outcome
+unfoldable pub outcome_of : ℕ → DecoderState → List ℕ → Read Shape → Outcome
 unfolding apply
 outcome_of limit d b (Whole i used) = refused_by b (apply limit d i)
 outcome_of limit d b More = Unfinished b
@@ -144,7 +144,7 @@ has_fields [] = false
 has_fields (f ∷ fs) = true
 
 -- how far decoding has come, apart from the fields
-abbrev pub decoding : Progress → Decoding
+abbrev pub decoding : Progress → DecoderState
 decoding p = record { table = p.table; begun = has_fields p.fields; due = p.due }
 
 -- how far a block has come after an instruction

@@ -1,19 +1,19 @@
 -- What an item changes and what is sent for it (RFC 9113, 5.4).
 use Rattle.std.specs.Prelude.{ℕ, ◌+◌, Bool, true, false, ◌&&◌, List, [], ◌∷◌, ◌++◌, length, map, ◌==◌, if◌then◌else◌, Option, Some, None, ℤ, pos, ◌+ℤ◌, ◌-ℤ◌}
-use Rattle.h2_spec.specs.declared.connection.Core.{Core}
+use Rattle.h2_spec.specs.declared.connection.ConnectionState.{ConnectionState}
 use Rattle.h2_spec.specs.declared.connection.Phase.TheVariants as phase
 use Rattle.h2_spec.specs.declared.errors.ErrorCode.{ErrorCode}
 use Rattle.h2_spec.specs.declared.reactions.Answering.{Answering}
 use Rattle.h2_spec.specs.declared.reactions.Change.{Change}
 use Rattle.h2_spec.specs.declared.reactions.ConnectionFrame.{ConnectionFrame}
-use Rattle.h2_spec.specs.declared.reactions.ConnectionFrame.TheVariants.{Quiet, SettingsAck, PingAck, Credit}
+use Rattle.h2_spec.specs.declared.reactions.ConnectionFrame.TheVariants.{NoConnectionFrame, SettingsAck, PingAck, Credit}
 use Rattle.h2_spec.specs.declared.reactions.Reaction.{Reaction}
 use Rattle.h2_spec.specs.declared.reactions.Reaction.TheVariants.{ConnectionError, Continues}
 use Rattle.h2_spec.specs.declared.reactions.StreamFrame.{StreamFrame}
-use Rattle.h2_spec.specs.declared.reactions.StreamFrame.TheVariants.{Still, Reset, StreamCredit}
-use Rattle.h2_spec.specs.declared.reactions.Touch.{Touch}
-use Rattle.h2_spec.specs.declared.reactions.Touch.TheVariants.{Same, Put, Shift}
-use Rattle.h2_spec.specs.declared.reactions.Turn.{Turn}
+use Rattle.h2_spec.specs.declared.reactions.StreamFrame.TheVariants.{NoStreamFrame, Reset, StreamCredit}
+use Rattle.h2_spec.specs.declared.reactions.RecordUpdate.{RecordUpdate}
+use Rattle.h2_spec.specs.declared.reactions.RecordUpdate.TheVariants.{Unchanged, Put, Shift}
+use Rattle.h2_spec.specs.declared.reactions.StreamOutcome.{StreamOutcome}
 use Rattle.h2_spec.specs.declared.streams.Kind.{Kind}
 use Rattle.h2_spec.specs.declared.streams.Kind.TheVariants.{Idle, Skipped, BothOpen, HalfRemote, HalfLocal, Ended, PeerReset, WeReset}
 use Rattle.h2_spec.specs.declared.streams.Stream.{Stream}
@@ -29,26 +29,26 @@ use Rattle.h2_spec.specs.Answer.{Answer, Entry, picked, response_block}
 -- ---- rules of one stream
 
 -- the stream's record, with nothing sent
-abbrev pub quiet_turn : Bool → Stream → Turn
-quiet_turn signal st = record { stream = st; frame = Still; answer = None; signal = signal }
+abbrev pub outcome_without_frame : Bool → Stream → StreamOutcome
+outcome_without_frame size_update_pending st = record { stream = st; frame = NoStreamFrame; answer = None; size_update_pending = size_update_pending }
 
 -- a stream error (5.4.2)
-abbrev pub stream_error : Bool → ℕ → ErrorCode → Turn
-stream_error signal id code = record { stream = not_live id WeReset; frame = Reset id code; answer = None; signal = signal }
+abbrev pub stream_error : Bool → ℕ → ErrorCode → StreamOutcome
+stream_error size_update_pending id code = record { stream = not_live id WeReset; frame = Reset id code; answer = None; size_update_pending = size_update_pending }
 
 -- ---- changes
 
 -- nothing but the counts changes, and nothing is sent
-abbrev pub stay : Core → Change
-stay core = record { core = core; touch = Same; first = Quiet; second = Still; answer = None }
+abbrev pub only_counts : ConnectionState → Change
+only_counts core = record { core = core; record_update = Unchanged; first = NoConnectionFrame; second = NoStreamFrame; answer = None }
 
 -- whether the next response begins with a table size update (RFC 7541, 4.2)
-abbrev pub with_signal : Core → Bool → Core
-with_signal core signal = record core { peer = record core.peer { signal = signal } }
+abbrev pub with_size_update_pending : ConnectionState → Bool → ConnectionState
+with_size_update_pending core size_update_pending = record core { peer = record core.peer { size_update_pending = size_update_pending } }
 
 -- a change, and then what a rule does to one stream
-unfoldable pub turned : Change → Turn → Change
-turned c t = record { core = with_signal c.core t.signal; touch = Put t.stream; first = c.first; second = t.frame; answer = t.answer }
+unfoldable pub with_outcome : Change → StreamOutcome → Change
+with_outcome c t = record { core = with_size_update_pending c.core t.size_update_pending; record_update = Put t.stream; first = c.first; second = t.frame; answer = t.answer }
 
 -- streams whose send windows settings move (6.9.2)
 abbrev pub follows_initial_window : Kind → Bool
@@ -87,14 +87,14 @@ abbrev pub moved_by : ℕ → ℕ → ℤ
 moved_by from to = pos to -ℤ pos from
 
 -- the records after a change
-abbrev pub touched : Touch → List Stream → List Stream
-touched Same streams = streams
-touched (Put st) streams = put st streams
-touched (Shift from to) streams = shifted (moved_by from to) streams
+abbrev pub updated_streams : RecordUpdate → List Stream → List Stream
+updated_streams Unchanged streams = streams
+updated_streams (Put st) streams = put st streams
+updated_streams (Shift from to) streams = shifted (moved_by from to) streams
 
 -- the state after a change
 abbrev pub after : State → Change → State
-after s c = record s { core = c.core; streams = touched c.touch s.streams }
+after s c = record s { core = c.core; streams = updated_streams c.record_update s.streams }
 
 -- ---- the frames
 
@@ -117,25 +117,25 @@ flag_if false f = 0
 
 -- the HEADERS of a response (8.1)
 abbrev pub response : Bool → ℕ → Answer → Frame
-response signal id a = record { kind = HEADERS; flags = END_HEADERS + flag_if (length a.body == 0) END_STREAM; stream = id; payload = response_block signal a.status a.fields }
+response size_update_pending id a = record { kind = HEADERS; flags = END_HEADERS + flag_if (length a.body == 0) END_STREAM; stream = id; payload = response_block size_update_pending a.status a.fields }
 
 -- with the item's payload
 abbrev pub first_frames : List ℕ → ConnectionFrame → List Frame
-first_frames p Quiet = []
+first_frames p NoConnectionFrame = []
 first_frames p SettingsAck = record { kind = SETTINGS; flags = ACK; stream = 0; payload = [] } ∷ []
 first_frames p PingAck = record { kind = PING; flags = ACK; stream = 0; payload = p } ∷ []
 first_frames p (Credit n) = window_update 0 n ∷ []
 
 -- what is sent on a stream
 abbrev pub second_frames : StreamFrame → List Frame
-second_frames Still = []
+second_frames NoStreamFrame = []
 second_frames (Reset id code) = rst_stream id code ∷ []
 second_frames (StreamCredit id n) = window_update id n ∷ []
 
 -- HEADERS of an answer that begins
 abbrev pub answer_frames : List Entry → Option Answering → List Frame
 answer_frames book None = []
-answer_frames book (Some a) = response a.signal a.id (picked book a.pick) ∷ []
+answer_frames book (Some a) = response a.size_update_pending a.id (picked book a.pick) ∷ []
 
 -- what is sent for an item, in the order of its parts
 unfoldable pub frames_of : List Entry → List ℕ → Change → List Frame

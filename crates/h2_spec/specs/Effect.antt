@@ -1,17 +1,17 @@
 -- What one item does to a connection (RFC 9113, 5 and 6).
 use Rattle.std.specs.Prelude.{ℕ, Bool, List, [], length, ◌==◌, if◌then◌else◌, Option, Some, None, Result, Ok, Err}
 use Rattle.h2_spec.specs.declared.connection.Config.{Config}
-use Rattle.h2_spec.specs.declared.connection.Core.{Core}
+use Rattle.h2_spec.specs.declared.connection.ConnectionState.{ConnectionState}
 use Rattle.h2_spec.specs.declared.connection.Phase.TheVariants as phase
 use Rattle.h2_spec.specs.declared.connection.Purpose.{Purpose}
 use Rattle.h2_spec.specs.declared.errors.ErrorCode.{ErrorCode}
 use Rattle.h2_spec.specs.declared.errors.ErrorCode.TheVariants.{ProtocolError, FrameSizeError}
 use Rattle.h2_spec.specs.declared.frames.Head.{Head}
-use Rattle.h2_spec.specs.declared.reactions.Came.{Came}
+use Rattle.h2_spec.specs.declared.reactions.ReceivedData.{ReceivedData}
 use Rattle.h2_spec.specs.declared.reactions.ConnectionFrame.TheVariants.{PingAck}
 use Rattle.h2_spec.specs.declared.reactions.Reaction.{Reaction}
 use Rattle.h2_spec.specs.declared.reactions.Reaction.TheVariants.{ConnectionError, Continues}
-use Rattle.h2_spec.specs.declared.reactions.Turn.{Turn}
+use Rattle.h2_spec.specs.declared.reactions.StreamOutcome.{StreamOutcome}
 use Rattle.h2_spec.specs.declared.streams.Kind.TheVariants.{PeerReset}
 use Rattle.h2_spec.specs.declared.streams.Stream.{Stream}
 use Rattle.h2_spec.specs.FrameType.{ACK, END_STREAM, END_HEADERS, has}
@@ -22,34 +22,34 @@ use Rattle.h2_spec.specs.Request.{malformed, malformed_trailers, declared_length
 use Rattle.h2_spec.specs.Answer.{Entry, picked, pick_of, response_block}
 use Rattle.h2_spec.specs.Stream.{not_live, stream_at}
 use Rattle.h2_spec.specs.State.{State, OpenBlock}
-use Rattle.h2_spec.specs.Change.{Step, stay, turned, quiet_turn, broken, made, frames_of, shifted}
+use Rattle.h2_spec.specs.Change.{Step, only_counts, with_outcome, outcome_without_frame, broken, made, frames_of, shifted}
 use Rattle.h2_spec.specs.Checks.{refusal}
-use Rattle.h2_spec.specs.Table.{Cell, DataRule, Take, Refuse, Count, ResetRule, PeerResets, WindowRule, MoveWindow, data_cell, headers_cell, reset_cell, window_cell, run_cell}
+use Rattle.h2_spec.specs.ReactionTable.{Cell, DataRule, Take, Refuse, Count, ResetRule, PeerResets, WindowRule, MoveWindow, data_cell, headers_cell, reset_cell, window_cell, run_cell}
 use Rattle.h2_spec.specs.Data.{data_taken, data_refused, data_counted}
-use Rattle.h2_spec.specs.WindowUpdate.{window_turn, connection_window}
+use Rattle.h2_spec.specs.WindowUpdate.{window_outcome, connection_window}
 use Rattle.h2_spec.specs.SettingsFrame.{settings_rule, acknowledged}
-use Rattle.h2_spec.specs.Headers.{FrameEffect, Breaks, Makes, makes, request_turn, trailers_turn, block_opens, continuation}
+use Rattle.h2_spec.specs.Headers.{FrameEffect, Breaks, Makes, makes, request_outcome, trailers_outcome, block_opens, continuation}
 
 -- nothing happens
-abbrev pub nothing : Core → Reaction
-nothing core = Continues (stay core)
+abbrev pub nothing : ConnectionState → Reaction
+nothing core = Continues (only_counts core)
 
 -- ---- DATA
 
 -- DATA by the rule that the table names
-abbrev pub data_rule : DataRule → Config → Core → ℕ → Came → Stream → Reaction
+abbrev pub data_rule : DataRule → Config → ConnectionState → ℕ → ReceivedData → Stream → Reaction
 data_rule Take config core body d st = data_taken config core body d st
 data_rule (Refuse code) config core body d st = data_refused config core d st code
 data_rule Count config core body d st = data_counted config core d
 
 -- DATA that comes on a stream, with the length of the body of the stream's answer
-unfoldable pub on_data : Config → Core → ℕ → Came → Stream → Reaction
+unfoldable pub on_data : Config → ConnectionState → ℕ → ReceivedData → Stream → Reaction
 unfolding data_taken data_refused data_counted
 on_data config core body d st = run_cell ConnectionError (nothing core) (λ rule. data_rule rule config core body d st) (data_cell st.kind)
 
 -- what a frame of DATA brings
-abbrev pub came : Head → List ℕ → DataPart → Came
-came h p part = record { octets = length p; content = length part.content; ends = has h.flags END_STREAM }
+abbrev pub incoming : Head → List ℕ → DataPart → ReceivedData
+incoming h p part = record { octets = length p; content = length part.content; ends = has h.flags END_STREAM }
 
 -- the length of the body of a stream's answer
 abbrev pub body_length : List Entry → Stream → ℕ
@@ -58,46 +58,46 @@ body_length book st = length (picked book st.pick).body
 -- ---- RST_STREAM and WINDOW_UPDATE
 
 -- a live stream that the peer resets (6.4)
-abbrev pub reset_turn : Bool → Stream → Turn
-reset_turn signal st = quiet_turn signal (not_live st.id PeerReset)
+abbrev pub reset_outcome : Bool → Stream → StreamOutcome
+reset_outcome size_update_pending st = outcome_without_frame size_update_pending (not_live st.id PeerReset)
 
 -- RST_STREAM by the rule that the table names
-abbrev pub reset_rule : ResetRule → Core → Stream → Reaction
-reset_rule PeerResets core st = Continues (turned (stay core) (reset_turn core.peer.signal st))
+abbrev pub reset_rule : ResetRule → ConnectionState → Stream → Reaction
+reset_rule PeerResets core st = Continues (with_outcome (only_counts core) (reset_outcome core.peer.size_update_pending st))
 
 -- RST_STREAM that comes on a stream (6.4)
-unfoldable pub on_reset : Core → Stream → Reaction
-unfolding turned
+unfoldable pub on_reset : ConnectionState → Stream → Reaction
+unfolding with_outcome
 on_reset core st = run_cell ConnectionError (nothing core) (λ rule. reset_rule rule core st) (reset_cell st.kind)
 
 -- WINDOW_UPDATE by the rule that the table names
-abbrev pub window_rule : WindowRule → Core → ℕ → Stream → Reaction
-window_rule MoveWindow core increment st = Continues (turned (stay core) (window_turn core.peer.signal increment st))
+abbrev pub window_rule : WindowRule → ConnectionState → ℕ → Stream → Reaction
+window_rule MoveWindow core increment st = Continues (with_outcome (only_counts core) (window_outcome core.peer.size_update_pending increment st))
 
 -- WINDOW_UPDATE that comes on a stream (6.9)
-unfoldable pub on_window : Core → ℕ → Stream → Reaction
-unfolding turned window_turn
+unfoldable pub on_window : ConnectionState → ℕ → Stream → Reaction
+unfolding with_outcome window_outcome
 on_window core increment st = run_cell ConnectionError (nothing core) (λ rule. window_rule rule core increment st) (window_cell st.kind)
 
 -- ---- HEADERS
 
 -- HEADERS by their cell of the table (6.2)
 abbrev pub on_headers : State → Head → HeadersPart → Cell Purpose → FrameEffect
-on_headers s h part cell = run_cell Breaks (Makes s (stay s.core)) (λ purpose. block_opens s purpose h part) cell
+on_headers s h part cell = run_cell Breaks (Makes s (only_counts s.core)) (λ purpose. block_opens s purpose h part) cell
 
 -- ---- a frame that has passed the checks, by what it holds
 
 -- a frame, by what it holds
 abbrev pub frame_effect : State → Head → List ℕ → Part → FrameEffect
-frame_effect s h p (OfData part) = let st = stream_at s.core.last s.streams h.stream in makes s (on_data s.config s.core (body_length s.book st) (came h p part) st)
+frame_effect s h p (OfData part) = let st = stream_at s.core.last s.streams h.stream in makes s (on_data s.config s.core (body_length s.book st) (incoming h p part) st)
 frame_effect s h p (OfHeaders part) = on_headers s h part (headers_cell h.stream (stream_at s.core.last s.streams h.stream).kind)
 frame_effect s h p OfPriority = makes s (nothing s.core)
 frame_effect s h p (OfRstStream code) = makes s (on_reset s.core (stream_at s.core.last s.streams h.stream))
 frame_effect s h p (OfSettings pairs) = makes s (settings_rule s.streams s.core pairs)
 frame_effect s h p OfSettingsAck = makes s (acknowledged s.core)
 frame_effect s h p OfPushPromise = Breaks ProtocolError
-frame_effect s h p (OfPing octets) = makes s (if has h.flags ACK then nothing s.core else Continues (record (stay s.core) { first = PingAck }))
-frame_effect s h p (OfGoaway last code) = makes s (Continues (stay (record s.core { goaway = Some (last, code) })))
+frame_effect s h p (OfPing octets) = makes s (if has h.flags ACK then nothing s.core else Continues (record (only_counts s.core) { first = PingAck }))
+frame_effect s h p (OfGoaway last code) = makes s (Continues (only_counts (record s.core { goaway = Some (last, code) })))
 frame_effect s h p (OfWindowUpdate increment) = makes s (if h.stream == 0 then connection_window s.core increment else on_window s.core increment (stream_at s.core.last s.streams h.stream))
 frame_effect s h p (OfContinuation fragment) = continuation s s.block fragment (has h.flags END_HEADERS)
 frame_effect s h p OfUnknown = makes s (nothing s.core)
@@ -122,7 +122,7 @@ block_stream (Some b) = Some b.shown.stream
 
 -- an item: the preface, a frame that is too large, or a frame
 abbrev pub item_effect : State → Item → FrameEffect
-item_effect s Preface = Makes s (stay (record s.core { phase = phase.Settings }))
+item_effect s Preface = Makes s (only_counts (record s.core { phase = phase.Settings }))
 item_effect s BadPreface = Breaks ProtocolError
 item_effect s (Oversize h) = Breaks FrameSizeError
 item_effect s (WholeFrame h p) = checked_effect s h p (refusal (block_stream s.block) s.core.phase h)
@@ -141,5 +141,5 @@ concluded s p (Makes t c) = made t p c
 
 -- the effect of one item
 unfoldable pub effect : State → Item → Step
-unfolding refusal part_as on_data on_reset on_window connection_window settings_rule request_turn trailers_turn stream_at turned decoded frames_of shifted malformed malformed_trailers declared_length request_of pick_of response_block
+unfolding refusal part_as on_data on_reset on_window connection_window settings_rule request_outcome trailers_outcome stream_at with_outcome decoded frames_of shifted malformed malformed_trailers declared_length request_of pick_of response_block
 effect s item = concluded s (payload_of item) (item_effect s item)

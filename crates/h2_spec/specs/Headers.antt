@@ -2,17 +2,17 @@
 use Rattle.std.specs.Prelude.{ℕ, ◌+◌, Bool, true, false, ◌&&◌, ◌||◌, not, List, [], ◌++◌, length, nat_lt, nat_le, ◌==◌, if◌then◌else◌, Option, Some, None, is_some, pos}
 use Rattle.h2_spec.specs.declared.connection.BlockView.{BlockView}
 use Rattle.h2_spec.specs.declared.connection.Config.{Config}
-use Rattle.h2_spec.specs.declared.connection.Core.{Core}
+use Rattle.h2_spec.specs.declared.connection.ConnectionState.{ConnectionState}
 use Rattle.h2_spec.specs.declared.connection.Purpose.{Purpose}
 use Rattle.h2_spec.specs.declared.connection.Purpose.TheVariants.{Request, Trailers, Closed, TableOnly}
 use Rattle.h2_spec.specs.declared.errors.ErrorCode.{ErrorCode}
 use Rattle.h2_spec.specs.declared.errors.ErrorCode.TheVariants.{ProtocolError, StreamClosed, RefusedStream, CompressionError, EnhanceYourCalm}
 use Rattle.h2_spec.specs.declared.frames.Head.{Head}
 use Rattle.h2_spec.specs.declared.reactions.Change.{Change}
-use Rattle.h2_spec.specs.declared.reactions.Facts.{Facts}
+use Rattle.h2_spec.specs.declared.reactions.BlockSummary.{BlockSummary}
 use Rattle.h2_spec.specs.declared.reactions.Reaction.{Reaction}
 use Rattle.h2_spec.specs.declared.reactions.Reaction.TheVariants.{ConnectionError, Continues}
-use Rattle.h2_spec.specs.declared.reactions.Turn.{Turn}
+use Rattle.h2_spec.specs.declared.reactions.StreamOutcome.{StreamOutcome}
 use Rattle.h2_spec.specs.declared.streams.Kind.TheVariants.{BothOpen}
 use Rattle.h2_spec.specs.declared.streams.Stream.{Stream}
 use Rattle.h2_spec.specs.FrameType.{END_STREAM, END_HEADERS, has}
@@ -23,8 +23,8 @@ use Rattle.h2_spec.specs.Request.{malformed, malformed_trailers, declared_length
 use Rattle.h2_spec.specs.Answer.{Entry, pick_of, picked}
 use Rattle.h2_spec.specs.Stream.{stream_at, live_count}
 use Rattle.h2_spec.specs.State.{State, OpenBlock, Decoding, is_due}
-use Rattle.h2_spec.specs.Change.{stay, turned, quiet_turn, stream_error}
-use Rattle.h2_spec.specs.Ends.{peer_ended}
+use Rattle.h2_spec.specs.Change.{only_counts, with_outcome, outcome_without_frame, stream_error}
+use Rattle.h2_spec.specs.StreamEnds.{peer_ended}
 use Rattle.h2_spec.specs.Data.{breaks_length}
 
 -- the most octets of a block's fragments
@@ -38,15 +38,15 @@ max_list = 65536
 -- ---- the end of a block
 
 -- what the fields of a request result in
-abbrev pub request_facts : List Entry → List Field → Facts
-request_facts book fields = record { size = list_size fields; malformed = is_some (malformed fields); declared = declared_length fields; pick = pick_of book (request_of fields) }
+abbrev pub request_summary : List Entry → List Field → BlockSummary
+request_summary book fields = record { size = list_size fields; malformed = is_some (malformed fields); declared = declared_length fields; pick = pick_of book (request_of fields) }
 
 -- a stream that a request opens
-abbrev pub new_stream : Core → ℕ → Facts → Stream
+abbrev pub new_stream : ConnectionState → ℕ → BlockSummary → Stream
 new_stream core id f = record {
   id = id;
   kind = BothOpen;
-  numbers = record { recv = pos core.own.window; owed = 0; send = pos core.peer.window; got = 0; declared = f.declared; left = None };
+  numbers = record { recv = pos core.own.window; owed = 0; send = pos core.peer.window; content_received = 0; declared = f.declared; body_remaining = None };
   pick = f.pick;
 }
 
@@ -56,41 +56,41 @@ declares_content None = false
 declares_content (Some n) = not (n == 0)
 
 -- the stream that a request opens, with the number of live streams and the length of its answer's body
-unfoldable pub request_turn : Config → ℕ → ℕ → Core → ℕ → Bool → Facts → Turn
+unfoldable pub request_outcome : Config → ℕ → ℕ → ConnectionState → ℕ → Bool → BlockSummary → StreamOutcome
 unfolding peer_ended
-request_turn config live body core id ends f =
-    if nat_le config.streams live then stream_error core.peer.signal id RefusedStream
-    else if nat_lt max_list f.size then stream_error core.peer.signal id EnhanceYourCalm
-    else if f.malformed || (ends && declares_content f.declared) then stream_error core.peer.signal id ProtocolError
-    else if ends then peer_ended core.peer.signal body (new_stream core id f)
-    else quiet_turn core.peer.signal (new_stream core id f)
+request_outcome config live body core id ends f =
+    if nat_le config.streams live then stream_error core.peer.size_update_pending id RefusedStream
+    else if nat_lt max_list f.size then stream_error core.peer.size_update_pending id EnhanceYourCalm
+    else if f.malformed || (ends && declares_content f.declared) then stream_error core.peer.size_update_pending id ProtocolError
+    else if ends then peer_ended core.peer.size_update_pending body (new_stream core id f)
+    else outcome_without_frame core.peer.size_update_pending (new_stream core id f)
 
 -- what trailers do to their stream: the size of their list, whether a reason holds against them, and the length of the answer's body
-unfoldable pub trailers_turn : ℕ → Bool → ℕ → Bool → Bool → Stream → Turn
+unfoldable pub trailers_outcome : ℕ → Bool → ℕ → Bool → Bool → Stream → StreamOutcome
 unfolding peer_ended
-trailers_turn size malformed body signal ends st =
-    if nat_lt max_list size then stream_error signal st.id EnhanceYourCalm
-    else if malformed || not ends || breaks_length st.numbers.declared st.numbers.got true then stream_error signal st.id ProtocolError
-    else peer_ended signal body st
+trailers_outcome size malformed body size_update_pending ends st =
+    if nat_lt max_list size then stream_error size_update_pending st.id EnhanceYourCalm
+    else if malformed || not ends || breaks_length st.numbers.declared st.numbers.content_received true then stream_error size_update_pending st.id ProtocolError
+    else peer_ended size_update_pending body st
 
 -- the end of a request's block
 abbrev pub request_ends : State → ℕ → Bool → List Field → Change
 request_ends s id ends fields =
-    let f = request_facts s.book fields in
-    turned (stay (record s.core { last = id })) (request_turn s.config (live_count s.streams) (length (picked s.book f.pick).body) s.core id ends f)
+    let f = request_summary s.book fields in
+    with_outcome (only_counts (record s.core { last = id })) (request_outcome s.config (live_count s.streams) (length (picked s.book f.pick).body) s.core id ends f)
 
 -- the end of a block of trailers
 abbrev pub trailers_end : State → ℕ → Bool → List Field → Change
 trailers_end s id ends fields =
     let st = stream_at s.core.last s.streams id in
-    turned (stay s.core) (trailers_turn (list_size fields) (is_some (malformed_trailers fields)) (length (picked s.book st.pick).body) s.core.peer.signal ends st)
+    with_outcome (only_counts s.core) (trailers_outcome (list_size fields) (is_some (malformed_trailers fields)) (length (picked s.book st.pick).body) s.core.peer.size_update_pending ends st)
 
 -- the end of a block, by its purpose
 abbrev pub block_ends : State → ℕ → Bool → List Field → Purpose → Change
 block_ends s id ends fields Request = request_ends s id ends fields
 block_ends s id ends fields Trailers = trailers_end s id ends fields
-block_ends s id ends fields Closed = turned (stay s.core) (stream_error s.core.peer.signal id StreamClosed)
-block_ends s id ends fields TableOnly = stay s.core
+block_ends s id ends fields Closed = with_outcome (only_counts s.core) (stream_error s.core.peer.size_update_pending id StreamClosed)
+block_ends s id ends fields TableOnly = only_counts s.core
 
 -- ---- fragments
 
@@ -110,7 +110,7 @@ with_block s b = record s { block = b }
 
 -- the fragments so far are decoded, up to the beginning of an instruction
 abbrev pub fragment_read : State → BlockView → Decoding → Bool → FrameEffect
-fragment_read s b d false = Makes (with_block s (Some (record { shown = b; decoding = Some d }))) (stay s.core)
+fragment_read s b d false = Makes (with_block s (Some (record { shown = b; decoding = Some d }))) (only_counts s.core)
 fragment_read s b d true = if length d.rest == 0 then Makes (with_block s None) (block_ends s b.stream b.ends d.fields d.purpose) else Breaks CompressionError
 
 -- a fragment was decoded: the block and the table stand so, or it has a fault

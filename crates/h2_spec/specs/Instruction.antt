@@ -9,9 +9,9 @@ use Rattle.h2_spec.specs.Read.{Read, Whole, More, TooLong, read_map}
 
 -- what becomes of a literal: it enters the dynamic table, or not, or must never (6.2)
 pub data Mode : Type 0 where
-  Add : Mode
-  Without : Mode
-  Never : Mode
+  IncrementalIndexing : Mode
+  WithoutIndexing : Mode
+  NeverIndexed : Mode
 
 -- the name of a literal: an index of the tables, or a string
 pub data NameRef (S : Type 0) : Type 0 where
@@ -68,15 +68,15 @@ string_at (o ∷ xs) = read_then (o ∷ xs) (int_at 7 (o ∷ xs)) (octets_at (na
 
 -- the bits of an index behind each literal's mark, and the mark (6.2)
 abbrev pub mode_prefix : Mode → ℕ
-mode_prefix Add = 6
-mode_prefix Without = 4
-mode_prefix Never = 4
+mode_prefix IncrementalIndexing = 6
+mode_prefix WithoutIndexing = 4
+mode_prefix NeverIndexed = 4
 
 -- the bits above the prefix of a literal, by its mode (6.2)
 abbrev pub mode_high : Mode → ℕ
-mode_high Add = 64
-mode_high Without = 0
-mode_high Never = 16
+mode_high IncrementalIndexing = 64
+mode_high WithoutIndexing = 0
+mode_high NeverIndexed = 16
 
 -- index 0 means that the name is the string behind it
 abbrev pub name_by : ℕ → List ℕ → Read (NameRef Str)
@@ -95,10 +95,10 @@ literal_at mode xs = read_then xs (read_then xs (int_at (mode_prefix mode) xs) n
 abbrev pub instr_by : ℕ → List ℕ → Read Shape
 instr_by o xs =
     if nat_le 128 o then read_map Indexed (int_at 7 xs)
-    else if nat_le 64 o then literal_at Add xs
+    else if nat_le 64 o then literal_at IncrementalIndexing xs
     else if nat_le 32 o then read_map Update (int_at 5 xs)
-    else if nat_le 16 o then literal_at Never xs
-    else literal_at Without xs
+    else if nat_le 16 o then literal_at NeverIndexed xs
+    else literal_at WithoutIndexing xs
 
 -- the instruction at the front of the octets, with any octets in its strings
 unfoldable pub instr_at : List ℕ → Read Shape

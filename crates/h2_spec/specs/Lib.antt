@@ -9,7 +9,7 @@ pub mod Data
 pub mod Debug
 pub mod DynamicTable
 pub mod Effect
-pub mod Ends
+pub mod StreamEnds
 pub mod Errors
 pub mod Field
 pub mod Frame
@@ -23,7 +23,7 @@ pub mod Octets
 pub mod Opening
 pub mod Parse
 pub mod Payload
-pub mod Pump
+pub mod SendPending
 pub mod Read
 pub mod Request
 pub mod Script
@@ -33,7 +33,7 @@ pub mod Show
 pub mod State
 pub mod StaticTable
 pub mod Stream
-pub mod Table
+pub mod ReactionTable
 pub mod Trace
 pub mod View
 pub mod Window

@@ -4,7 +4,7 @@ use Rattle.std.specs.List.{AllByRecursion, before_first, slice_split}
 use Rattle.std.specs.Str.Parse.{IsNumeral, digits_value}
 use Rattle.hex.specs.Hex.{decode_of}
 use Rattle.h2_spec.specs.Frame.{preface}
-use Rattle.h2_spec.specs.Instruction.{Instruction, Indexed, Update, Literal, Mode, Add, Without, Never, NameRef, Ref, Named, TextStr, shape_of, spell}
+use Rattle.h2_spec.specs.Instruction.{Instruction, Indexed, Update, Literal, Mode, IncrementalIndexing, WithoutIndexing, NeverIndexed, NameRef, Ref, Named, TextStr, shape_of, spell}
 use Rattle.h2_spec.specs.Octets.{big_endian}
 use Rattle.h2_spec.specs.declared.scripts.SyntaxKind.{SyntaxKind}
 use Rattle.h2_spec.specs.declared.scripts.SyntaxKind.TheVariants as kind
@@ -114,9 +114,9 @@ SaysName text (Named s) = SaysString text s
 
 -- a, n and v: with indexing, without, and never
 abbrev pub mode_letter : Mode → ℕ
-mode_letter Add = 97
-mode_letter Without = 110
-mode_letter Never = 118
+mode_letter IncrementalIndexing = 97
+mode_letter WithoutIndexing = 110
+mode_letter NeverIndexed = 118
 
 -- i and an index, u and a table size, or a literal: its mode, its name, an equals sign, its value
 abbrev pub SaysInstruction : List ℕ → Instruction → Type 0

@@ -5,7 +5,7 @@ use Rattle.h2_spec.specs.declared.errors.ErrorCode.TheVariants.{ProtocolError, F
 use Rattle.h2_spec.specs.declared.errors.FlowFault.{FlowFault}
 use Rattle.h2_spec.specs.declared.errors.FlowFault.TheVariants.{BadSetting}
 use Rattle.h2_spec.specs.declared.flow.Settings.{Settings}
-use Rattle.h2_spec.specs.declared.flow.Own.{Own}
+use Rattle.h2_spec.specs.declared.flow.LocalSettings.{LocalSettings}
 use Rattle.h2_spec.specs.Window.{max_window}
 
 -- the identifiers of settings
@@ -34,11 +34,11 @@ SETTINGS_MAX_HEADER_LIST_SIZE = 6
 
 -- the peer's settings before it has sent any
 abbrev pub initial : Settings
-initial = record { header_table = 4096; push = 1; streams = None; window = 65535; frame = 16384; list = None; signal = false }
+initial = record { header_table = 4096; push = 1; streams = None; window = 65535; frame = 16384; list = None; size_update_pending = false }
 
 -- the server's settings that are in force until the peer has acknowledged others
-abbrev pub own_initial : Own
-own_initial = record { table = 4096; window = 65535; frame = 16384 }
+abbrev pub initial_local_settings : LocalSettings
+initial_local_settings = record { table = 4096; window = 65535; frame = 16384 }
 
 -- values that are allowed (6.5.2)
 pub record IsAllowed (s : Settings) : Type 0 where
@@ -50,7 +50,7 @@ pub record IsAllowed (s : Settings) : Type 0 where
 -- the settings after one of them, or the error code
 unfoldable pub with_setting : Settings → ℕ → ℕ → Result Settings ErrorCode
 with_setting s id v =
-    if id == SETTINGS_HEADER_TABLE_SIZE then Ok (record s { header_table = v; signal = true })
+    if id == SETTINGS_HEADER_TABLE_SIZE then Ok (record s { header_table = v; size_update_pending = true })
     else if id == SETTINGS_ENABLE_PUSH then (if nat_le v 1 then Ok (record s { push = v }) else Err ProtocolError)
     else if id == SETTINGS_MAX_CONCURRENT_STREAMS then Ok (record s { streams = Some v })
     else if id == SETTINGS_INITIAL_WINDOW_SIZE then (if nat_le v max_window then Ok (record s { window = v }) else Err FlowControlError)

@@ -1,6 +1,6 @@
 -- The rule for SETTINGS (RFC 9113, 6.5 and 6.9.2).
 use Rattle.std.specs.Prelude.{ℕ, true, List, [], ◌∷◌, if◌then◌else◌, Result, Ok, Err}
-use Rattle.h2_spec.specs.declared.connection.Core.{Core}
+use Rattle.h2_spec.specs.declared.connection.ConnectionState.{ConnectionState}
 use Rattle.h2_spec.specs.declared.connection.Phase.TheVariants.{Running}
 use Rattle.h2_spec.specs.declared.errors.ErrorCode.{ErrorCode}
 use Rattle.h2_spec.specs.declared.errors.ErrorCode.TheVariants.{FlowControlError}
@@ -8,10 +8,10 @@ use Rattle.h2_spec.specs.declared.flow.Settings.{Settings}
 use Rattle.h2_spec.specs.declared.reactions.ConnectionFrame.TheVariants.{SettingsAck}
 use Rattle.h2_spec.specs.declared.reactions.Reaction.{Reaction}
 use Rattle.h2_spec.specs.declared.reactions.Reaction.TheVariants.{ConnectionError, Continues}
-use Rattle.h2_spec.specs.declared.reactions.Touch.TheVariants.{Shift}
+use Rattle.h2_spec.specs.declared.reactions.RecordUpdate.TheVariants.{Shift}
 use Rattle.h2_spec.specs.declared.streams.Stream.{Stream}
 use Rattle.h2_spec.specs.Settings.{with_setting}
-use Rattle.h2_spec.specs.Change.{stay, overflows, moved_by}
+use Rattle.h2_spec.specs.Change.{only_counts, overflows, moved_by}
 
 -- the settings in order behind one of them, unless that is refused or takes a stream's window too far
 abbrev pub setting_next : List Stream → Settings → Result Settings ErrorCode → (Settings → Result Settings ErrorCode) → Result Settings ErrorCode
@@ -25,15 +25,15 @@ settings_applied streams from now [] = Ok now
 settings_applied streams from now (p ∷ ps) = setting_next streams from (with_setting now p.0 p.1) (λ next. settings_applied streams from next ps)
 
 -- the settings are taken and acknowledged, or refused
-abbrev pub settings_taken : Core → Result Settings ErrorCode → Reaction
+abbrev pub settings_taken : ConnectionState → Result Settings ErrorCode → Reaction
 settings_taken core (Err code) = ConnectionError code
-settings_taken core (Ok peer) = Continues (record (stay (record core { peer = peer; phase = Running })) { touch = Shift core.peer.window peer.window; first = SettingsAck })
+settings_taken core (Ok peer) = Continues (record (only_counts (record core { peer = peer; phase = Running })) { record_update = Shift core.peer.window peer.window; first = SettingsAck })
 
 -- SETTINGS: all of the frame, or none of it
-unfoldable pub settings_rule : List Stream → Core → List (ℕ × ℕ) → Reaction
+unfoldable pub settings_rule : List Stream → ConnectionState → List (ℕ × ℕ) → Reaction
 unfolding settings_applied
 settings_rule streams core pairs = settings_taken core (settings_applied streams core.peer core.peer pairs)
 
 -- the peer has acknowledged the server's settings
-abbrev pub acknowledged : Core → Reaction
-acknowledged core = Continues (stay (record core { acked = true }))
+abbrev pub acknowledged : ConnectionState → Reaction
+acknowledged core = Continues (only_counts (record core { acked = true }))

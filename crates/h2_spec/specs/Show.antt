@@ -75,7 +75,7 @@ peer_line p = joined (
     codes " window " ∷ decimal p.window ∷
     codes " frame " ∷ decimal p.frame ∷
     codes " list " ∷ option_text p.list ∷
-    codes " signal " ∷ flag_text p.signal ∷ codes "\n" ∷ [])
+    codes " signal " ∷ flag_text p.size_update_pending ∷ codes "\n" ∷ [])
 
 -- whether the server's settings are acknowledged, and the latest GOAWAY
 unfoldable pub acked_line : Bool → Option (ℕ × ℕ) → List ℕ
@@ -111,9 +111,9 @@ stream_line_as true st = joined (
     codes " recv " ∷ signed_decimal st.numbers.recv ∷
     codes " owed " ∷ decimal st.numbers.owed ∷
     codes " send " ∷ signed_decimal st.numbers.send ∷
-    codes " got " ∷ decimal st.numbers.got ∷
+    codes " got " ∷ decimal st.numbers.content_received ∷
     codes " of " ∷ option_text st.numbers.declared ∷
-    codes " left " ∷ option_text st.numbers.left ∷ codes "\n" ∷ [])
+    codes " left " ∷ option_text st.numbers.body_remaining ∷ codes "\n" ∷ [])
 stream_line_as false st = joined (codes "stream " ∷ decimal st.id ∷ codes " " ∷ kind_text st.kind ∷ codes "\n" ∷ [])
 
 -- a stream that has a record

@@ -2,7 +2,7 @@
 use Rattle.std.specs.Prelude.{ℕ, Bool, false, List, [], nat_lt, Option, Some, None, pos}
 use Rattle.h2_spec.specs.declared.connection.BlockView.{BlockView}
 use Rattle.h2_spec.specs.declared.connection.Config.{Config}
-use Rattle.h2_spec.specs.declared.connection.Core.{Core}
+use Rattle.h2_spec.specs.declared.connection.ConnectionState.{ConnectionState}
 use Rattle.h2_spec.specs.declared.connection.Phase.{Phase}
 use Rattle.h2_spec.specs.declared.connection.Phase.TheVariants.{Preface, Settings, Running, Ended}
 use Rattle.h2_spec.specs.declared.connection.Purpose.{Purpose}
@@ -10,7 +10,7 @@ use Rattle.h2_spec.specs.declared.errors.ErrorCode.{ErrorCode}
 use Rattle.h2_spec.specs.declared.streams.Stream.{Stream}
 use Rattle.h2_spec.specs.Field.{Field}
 use Rattle.h2_spec.specs.DynamicTable.{Table}
-use Rattle.h2_spec.specs.Settings.{initial, own_initial}
+use Rattle.h2_spec.specs.Settings.{initial, initial_local_settings}
 use Rattle.h2_spec.specs.Answer.{Entry}
 
 -- how far a field block is decoded: what it is for, its fields, and the octets of an instruction that is not whole
@@ -28,7 +28,7 @@ pub record OpenBlock : Type 0 where
 pub record State : Type 0 where
   pub book : List Entry
   pub config : Config
-  pub core : Core
+  pub core : ConnectionState
   pub block : Option OpenBlock
   pub table : Table
   pub streams : List Stream
@@ -41,8 +41,8 @@ ended_code Running = None
 ended_code (Ended code) = Some code
 
 -- the counts and settings before anything came
-abbrev pub opening_core : Core
-opening_core = record { phase = Preface; last = 0; recv = pos 65535; owed = 0; send = pos 65535; peer = initial; own = own_initial; acked = false; goaway = None }
+abbrev pub opening_core : ConnectionState
+opening_core = record { phase = Preface; last = 0; recv = pos 65535; owed = 0; send = pos 65535; peer = initial; own = initial_local_settings; acked = false; goaway = None }
 
 -- the state before anything came
 abbrev pub opening : List Entry → Config → State

@@ -21,7 +21,7 @@ is_live WeReset = false
 
 -- what is counted on a stream that is not live
 abbrev pub no_numbers : Numbers
-no_numbers = record { recv = pos 0; owed = 0; send = pos 0; got = 0; declared = None; left = None }
+no_numbers = record { recv = pos 0; owed = 0; send = pos 0; content_received = 0; declared = None; body_remaining = None }
 
 -- a stream that is not live: its identifier and its state alone
 abbrev pub not_live : ℕ → Kind → Stream
@@ -67,7 +67,7 @@ octets_left (Some n) = n
 
 -- the octets that wait on a stream, if it is live
 unfoldable pub octets_waiting : Stream → ℕ
-octets_waiting st = if is_live st.kind then octets_left st.numbers.left else 0
+octets_waiting st = if is_live st.kind then octets_left st.numbers.body_remaining else 0
 
 -- ---- the records of a connection
 

@@ -7,7 +7,7 @@ use Rattle.h2_spec.specs.declared.connection.Phase.{Phase}
 use Rattle.h2_spec.specs.declared.connection.Phase.TheVariants.{Preface, Settings, Running, Ended}
 use Rattle.h2_spec.specs.Change.{Step}
 use Rattle.h2_spec.specs.Effect.{effect}
-use Rattle.h2_spec.specs.Pump.{pump}
+use Rattle.h2_spec.specs.SendPending.{send_pending}
 
 -- one item, the state after it, and the frames sent for it
 pub record Event : Type 0 where
@@ -28,13 +28,13 @@ behind e p = record { state = p.state; sent = e.sent ++ p.sent }
 -- what waits is sent behind an item, unless it ended the connection
 abbrev pub then_sent : Phase → Step → Step
 then_sent (Ended code) e = e
-then_sent Preface e = behind e (pump e.state)
-then_sent Settings e = behind e (pump e.state)
-then_sent Running e = behind e (pump e.state)
+then_sent Preface e = behind e (send_pending e.state)
+then_sent Settings e = behind e (send_pending e.state)
+then_sent Running e = behind e (send_pending e.state)
 
 -- what one item results in
 unfoldable pub step : State → Item → Step
-unfolding effect pump
+unfolding effect send_pending
 step s item = let e = effect s item in then_sent e.state.core.phase e
 
 -- the next item in a phase, with the limit of a frame's length: none after the end

@@ -1,7 +1,7 @@
 -- What is shown of a connection's state.
 use Rattle.std.specs.Prelude.{ℕ, Bool, List, map, Option, None, Some, ℤ}
 use Rattle.h2_spec.specs.declared.connection.BlockView.{BlockView}
-use Rattle.h2_spec.specs.declared.connection.Core.{Core}
+use Rattle.h2_spec.specs.declared.connection.ConnectionState.{ConnectionState}
 use Rattle.h2_spec.specs.declared.connection.Phase.{Phase}
 use Rattle.h2_spec.specs.declared.flow.Settings.{Settings}
 use Rattle.h2_spec.specs.declared.streams.Stream.{Stream}
@@ -36,7 +36,7 @@ shown_block None = None
 shown_block (Some b) = Some b.shown
 
 -- the view of these counts, this open block, this header table and these records
-abbrev pub view_of : Core → Option BlockView → Table → List Stream → View
+abbrev pub view_of : ConnectionState → Option BlockView → Table → List Stream → View
 view_of core block table streams = record {
   phase = core.phase;
   last = core.last;

@@ -2,7 +2,7 @@
 //! Rests on `errors` and `flow`; definitions: `specs/State.antt`.
 
 use crate::errors::ErrorCode;
-use crate::flow::{Credit, Own, Settings, Window};
+use crate::flow::{Credit, LocalSettings, Settings, Window};
 
 /// How far a connection has come (RFC 9113, 3.4 and 5.4.1).
 #[derive(Clone, Copy, Debug, PartialEq, Eq)]
@@ -27,7 +27,7 @@ pub struct Config {
 
 /// What a connection counts and knows, besides its streams, table and open block.
 #[derive(Clone, Copy)]
-pub struct Core {
+pub struct ConnectionState {
     pub phase: Phase,
     /// The highest client stream whose request block has ended, 0 at first.
     pub last: u32,
@@ -40,7 +40,7 @@ pub struct Core {
     /// The peer's settings.
     pub peer: Settings,
     /// The server's settings that are in force.
-    pub own: Own,
+    pub own: LocalSettings,
     /// Whether the peer has acknowledged the server's settings.
     pub acked: bool,
     /// The last stream and the code of the latest GOAWAY received.

@@ -3,7 +3,7 @@
 
 ghost use Rattle.std.specs.Prelude.{◌≡◌, ℕ, ℤ, pos, negsuc, ◌+◌, ◌<◌, ◌≤◌, ◌^◌, ◌-ℤ◌, ◌+ℤ◌, ◌≤ℤ◌, ◌↔◌, ◌&&◌, nat_le, int_lt, IsOk, OnOk, IfErr};
 ghost use Rattle.h2_spec.specs.Window.{max_window, given_back, still_owed};
-ghost use Rattle.h2_spec.specs.Settings.{initial, own_initial, with_setting, window_change, settings_or};
+ghost use Rattle.h2_spec.specs.Settings.{initial, initial_local_settings, with_setting, window_change, settings_or};
 
 use crate::errors::{ErrorCode, FlowFault};
 use std::marker::Model;
@@ -248,7 +248,7 @@ pub struct Settings {
     /// SETTINGS_MAX_HEADER_LIST_SIZE, in octets, if it was given.
     pub list: Option<u32>,
     /// Whether the next response has to begin with a table size update (RFC 7541, 4.2).
-    pub signal: bool,
+    pub size_update_pending: bool,
 }
 
 impl Settings {
@@ -263,7 +263,7 @@ impl Settings {
             window: 65_535,
             frame: 16_384,
             list: None,
-            signal: false,
+            size_update_pending: false,
         }
     }
 
@@ -279,7 +279,7 @@ impl Settings {
         match id {
             SETTINGS_HEADER_TABLE_SIZE => {
                 self.header_table = value;
-                self.signal = true;
+                self.size_update_pending = true;
             }
             SETTINGS_ENABLE_PUSH => {
                 if value > 1 {
@@ -323,7 +323,7 @@ fn is_frame_size(value: u32) -> bool
 
 /// The server's own settings that are in force.
 #[derive(Clone, Copy)]
-pub struct Own {
+pub struct LocalSettings {
     /// The limit of the header table, in octets.
     pub table: u32,
     /// The receive window of a new stream, in octets.
@@ -332,12 +332,12 @@ pub struct Own {
     pub frame: u32,
 }
 
-impl Own {
+impl LocalSettings {
     /// The settings in force until the peer has acknowledged others (RFC 9113, 6.5.3).
     pub fn initial() -> Self
-        ensures { result ≡ own_initial }
+        ensures { result ≡ initial_local_settings }
     {
-        Own {
+        LocalSettings {
             table: 4096,
             window: 65_535,
             frame: 16_384,

@@ -1,14 +1,14 @@
 //! What a rule answers: a connection error, or a small change with at most one frame of each place in the order of sending.
 //! Rests on `errors`, `streams` and `connection`; definitions: `specs/Change.antt`.
 
-use crate::connection::Core;
+use crate::connection::ConnectionState;
 use crate::errors::ErrorCode;
 use crate::streams::{Pick, Stream};
 
 /// What becomes of the streams' records.
 #[derive(Clone, Copy, Debug, PartialEq, Eq)]
-pub enum Touch {
-    Same,
+pub enum RecordUpdate {
+    Unchanged,
     /// A record takes the place of the one with its identifier, or goes last.
     Put(Stream),
     /// Send windows move by the difference of these initial windows (RFC 9113, 6.9.2).
@@ -18,7 +18,7 @@ pub enum Touch {
 /// What is sent first for an item, on the connection.
 #[derive(Clone, Copy, Debug, PartialEq, Eq)]
 pub enum ConnectionFrame {
-    Quiet,
+    NoConnectionFrame,
     SettingsAck,
     /// With the payload of the PING that is answered.
     PingAck,
@@ -29,7 +29,7 @@ pub enum ConnectionFrame {
 /// What is sent next for an item, on a stream.
 #[derive(Clone, Copy, Debug, PartialEq, Eq)]
 pub enum StreamFrame {
-    Still,
+    NoStreamFrame,
     /// RST_STREAM on this stream, with this code.
     Reset(u32, ErrorCode),
     /// WINDOW_UPDATE on this stream, with this increment.
@@ -42,23 +42,23 @@ pub struct Answering {
     pub id: u32,
     pub pick: Pick,
     /// Whether the block begins with a table size update to 0.
-    pub signal: bool,
+    pub size_update_pending: bool,
 }
 
 /// What a rule of one stream answers: its record, what is sent on it, and whether a table size update is still to be sent.
 #[derive(Clone, Copy)]
-pub struct Turn {
+pub struct StreamOutcome {
     pub stream: Stream,
     pub frame: StreamFrame,
     pub answer: Option<Answering>,
-    pub signal: bool,
+    pub size_update_pending: bool,
 }
 
 /// What an item changes, and what is sent for it.
 #[derive(Clone, Copy)]
 pub struct Change {
-    pub core: Core,
-    pub touch: Touch,
+    pub core: ConnectionState,
+    pub record_update: RecordUpdate,
     pub first: ConnectionFrame,
     pub second: StreamFrame,
     pub answer: Option<Answering>,
@@ -73,7 +73,7 @@ pub enum Reaction {
 
 /// DATA that comes: its octets, those of its content, and whether it ends the peer's side.
 #[derive(Clone, Copy)]
-pub struct Came {
+pub struct ReceivedData {
     pub octets: u32,
     pub content: u32,
     pub ends: bool,
@@ -81,7 +81,7 @@ pub struct Came {
 
 /// What the fields of a block result in: their size, whether a reason holds against them, what they declare, and the answer that is picked.
 #[derive(Clone, Copy)]
-pub struct Facts {
+pub struct BlockSummary {
     pub size: u64,
     pub malformed: bool,
     pub declared: Option<u64>,

@@ -33,11 +33,11 @@ pub struct Numbers {
     /// The send window (RFC 9113, 6.9).
     pub send: Window,
     /// Octets of content received; stays at 2^64 - 1 once there.
-    pub got: u64,
+    pub content_received: u64,
     /// The content-length of the request, if it has one (RFC 9113, 8.1.1).
     pub declared: Option<u64>,
     /// The octets of the answer that wait to be sent, if there are any.
-    pub left: Option<u64>,
+    pub body_remaining: Option<u64>,
 }
 
 /// Which answer a request gets.

@@ -20,8 +20,8 @@ impl Hasher for IdHasher {
     ghost finish = { λ h. spread h.id };
 
     fn finish(&self) -> u64 {
-        let turned = self.id / 2 + self.id % 2 * 2_147_483_648;
-        let product = turned.wrapping_mul(0x9E37_79B9);
+        let with_outcome = self.id / 2 + self.id % 2 * 2_147_483_648;
+        let product = with_outcome.wrapping_mul(0x9E37_79B9);
         u64::from(product % 65_536 * 65_536 + product / 65_536)
     }
 

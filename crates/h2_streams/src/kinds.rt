@@ -3,7 +3,7 @@
 
 ghost use Rattle.std.specs.Prelude.{◌≡◌};
 ghost use Rattle.h2_spec.specs.Stream as spec;
-ghost use Rattle.h2_spec.specs.Ends as ends;
+ghost use Rattle.h2_spec.specs.StreamEnds as ends;
 ghost use Rattle.h2_streams.specs.Kept as kept;
 
 use h2_spec::flow::{Credit, Window};
@@ -24,7 +24,7 @@ pub fn is_live(kind: Kind) -> bool
 pub fn octets_waiting(stream: &Stream) -> u64
     ensures { result ≡ spec.octets_waiting stream.now }
 {
-    match stream.numbers.left {
+    match stream.numbers.body_remaining {
         Some(octets) if is_live(stream.kind) => octets,
         _ => 0,
     }
@@ -48,9 +48,9 @@ pub fn not_live(id: u32, kind: Kind) -> Stream
             recv: Window::start(0),
             owed: Credit::none(),
             send: Window::start(0),
-            got: 0,
+            content_received: 0,
             declared: None,
-            left: None,
+            body_remaining: None,
         },
         pick: Pick::NotFound,
     }
@@ -76,7 +76,7 @@ pub(crate) fn peer_closed(stream: Stream) -> Stream
 }
 
 /// The stream after the server's last frame: nothing waits any more, and it ends where the peer's side has ended (RFC 9113, 5.1).
-#[tactic(auto, unfolding(h2_spec::specs::Ends::server_ended))]
+#[tactic(auto, unfolding(h2_spec::specs::StreamEnds::server_ended))]
 pub fn server_ended(stream: Stream) -> Stream
     ensures value { result ≡ ends.server_ended stream }
     ensures id { result.id ≡ stream.id }
@@ -84,7 +84,7 @@ pub fn server_ended(stream: Stream) -> Stream
     match stream.kind {
         Kind::BothOpen => {
             let numbers = Numbers {
-                left: None,
+                body_remaining: None,
                 ..stream.numbers
             };
             Stream {

@@ -8,7 +8,7 @@ ghost use Rattle.std.specs.Map.{set_value};
 ghost use Rattle.indexmap.specs.IndexMap.{insert_entry};
 ghost use Rattle.std.specs.Option.{option_copied};
 ghost use Rattle.h2_spec.specs.Stream as spec;
-ghost use Rattle.h2_spec.specs.Ends as ends;
+ghost use Rattle.h2_spec.specs.StreamEnds as ends;
 ghost use Rattle.h2_spec.specs.Change as changes;
 ghost use Rattle.h2_streams.specs.Greatest.{IsGreatest};
 ghost use Rattle.h2_streams.specs.Kept as kept;

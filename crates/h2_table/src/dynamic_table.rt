@@ -8,7 +8,7 @@ ghost use Rattle.h2_spec.specs.DynamicTable.{fit, insert, resize, total_size, en
 ghost use Rattle.h2_table.specs.Lent.{lent_field};
 ghost use Rattle.h2_table.specs.declared.fault.TableFault.TheVariants as faults;
 
-use crate::entry::Entry;
+use crate::entry::TableEntry;
 use crate::fault::TableFault;
 use circular_buffer::HeapCircularBuffer;
 use std::alloc::{AllocError, Allocator};
@@ -20,7 +20,7 @@ use std::marker::Model;
 /// An entry counts the octets of its name and value and 32 more (RFC 7541, 4.1).
 #[derive(Drop)]
 pub struct DynTable<A: Allocator> {
-    ring: HeapCircularBuffer<Entry<A>, A>,
+    ring: HeapCircularBuffer<TableEntry<A>, A>,
     size: usize,
     max: u32,
     limit: u32,
@@ -138,7 +138,7 @@ impl<A: Allocator> DynTable<A> {
             return;
         }
         self.size = evict(&mut self.ring, self.size, max - size) + size;
-        put_newest(&mut self.ring, Entry::new(name, value));
+        put_newest(&mut self.ring, TableEntry::new(name, value));
     }
 }
 
@@ -164,7 +164,7 @@ impl<A: Allocator + Copy> DynTable<A> {
 /// Takes out the oldest entries until those left, which count `size` together, count at most `room`; what is left
 /// counts the answer.
 fn evict<A: Allocator>(
-    ring: &mut HeapCircularBuffer<Entry<A>, A>,
+    ring: &mut HeapCircularBuffer<TableEntry<A>, A>,
     size: usize,
     room: usize,
 ) -> usize
@@ -185,7 +185,7 @@ fn evict<A: Allocator>(
 }
 
 /// Puts an entry in a free place, as the newest.
-fn put_newest<A: Allocator>(ring: &mut HeapCircularBuffer<Entry<A>, A>, entry: Entry<A>)
+fn put_newest<A: Allocator>(ring: &mut HeapCircularBuffer<TableEntry<A>, A>, entry: TableEntry<A>)
     requires { length ring.old.items < ring.old.capacity }
     ensures { ring.new ≡ buffer (entry ∷ ring.old.items) ring.old.capacity }
 {
@@ -193,7 +193,7 @@ fn put_newest<A: Allocator>(ring: &mut HeapCircularBuffer<Entry<A>, A>, entry: E
 }
 
 /// Puts an entry in a free place, as the oldest.
-fn put_oldest<A: Allocator>(ring: &mut HeapCircularBuffer<Entry<A>, A>, entry: Entry<A>)
+fn put_oldest<A: Allocator>(ring: &mut HeapCircularBuffer<TableEntry<A>, A>, entry: TableEntry<A>)
     requires { length ring.old.items < ring.old.capacity }
     ensures { ring.new ≡ buffer (ring.old.items ++ entry ∷ []) ring.old.capacity }
 {
@@ -202,8 +202,8 @@ fn put_oldest<A: Allocator>(ring: &mut HeapCircularBuffer<Entry<A>, A>, entry: E
 
 /// The same entries in as many places.
 fn copy_of<A: Allocator + Copy>(
-    ring: &HeapCircularBuffer<Entry<A>, A>,
-) -> Result<HeapCircularBuffer<Entry<A>, A>, AllocError>
+    ring: &HeapCircularBuffer<TableEntry<A>, A>,
+) -> Result<HeapCircularBuffer<TableEntry<A>, A>, AllocError>
     ensures { IfOk result (λ copy. copy ≡ ring.now) }
 {
     let mut copy = HeapCircularBuffer::with_capacity(*ring.allocator(), ring.capacity())?;

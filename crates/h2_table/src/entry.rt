@@ -8,12 +8,12 @@ use std::marker::Model;
 
 /// A header field in the table.
 #[derive(Drop, Debug)]
-pub struct Entry<A: Allocator> {
+pub struct TableEntry<A: Allocator> {
     name: Vec<u8, A>,
     value: Vec<u8, A>,
 }
 
-impl<A: Allocator> Model for Entry<A> {
+impl<A: Allocator> Model for TableEntry<A> {
     ghost use Rattle.h2_spec.specs.Field as spec;
 
     ghost Value = { spec.Field };
@@ -21,12 +21,12 @@ impl<A: Allocator> Model for Entry<A> {
     ghost view = { λ e. record { name = e.name.items; value = e.value.items } };
 }
 
-impl<A: Allocator> Entry<A> {
+impl<A: Allocator> TableEntry<A> {
     /// The entry of this name and this value; no memory is taken.
     pub fn new(name: Vec<u8, A>, value: Vec<u8, A>) -> Self
         ensures { result ≡ record { name = name.items; value = value.items } }
     {
-        Entry { name, value }
+        TableEntry { name, value }
     }
 
     /// The octets of the name.
@@ -44,16 +44,16 @@ impl<A: Allocator> Entry<A> {
     }
 }
 
-impl<A: Allocator + Copy> Entry<A> {
+impl<A: Allocator + Copy> TableEntry<A> {
     /// The same entry once more, in memory of its own.
     ///
     /// # Errors
     ///
     /// `AllocError` where the memory was refused; `self` is as it was.
-    pub fn try_clone(&self) -> Result<Entry<A>, AllocError>
+    pub fn try_clone(&self) -> Result<TableEntry<A>, AllocError>
         ensures same { IfOk result (λ copy. copy ≡ self.now) }
     {
-        Ok(Entry {
+        Ok(TableEntry {
             name: self.name.clone()?,
             value: self.value.clone()?,
         })

@@ -7,7 +7,7 @@ ghost use Rattle.h2_spec.specs.Field.{field};
 ghost use Rattle.h2_spec.specs.Show.{joined, phase_line, phase_text, peer_line, acked_line, goaway_text, block_line, table_line, entry_line, stream_line, stream_line_as, kind_text, option_text, flag_text};
 
 use crate::hex_text::OctetsText;
-use h2_spec::connection::{BlockView, Core, Phase};
+use h2_spec::connection::{BlockView, ConnectionState, Phase};
 use h2_spec::flow::Settings;
 use h2_spec::streams::{Kind, StreamView};
 use h2_streams::is_live;
@@ -82,7 +82,7 @@ impl fmt::Display for GoawayText {
 
 /// How far the connection has come, and the last stream that was opened.
 #[derive(Drop)]
-pub struct PhaseLine<'c>(pub &'c Core);
+pub struct PhaseLine<'c>(pub &'c ConnectionState);
 
 #[tactic(auto, unfolding(h2_spec::specs::Show::phase_line))]
 impl fmt::Display for PhaseLine<'_> {
@@ -95,7 +95,7 @@ impl fmt::Display for PhaseLine<'_> {
 
 /// The windows of the connection, and what is owed on it.
 #[derive(Drop)]
-pub struct WindowLine<'c>(pub &'c Core);
+pub struct WindowLine<'c>(pub &'c ConnectionState);
 
 impl fmt::Display for WindowLine<'_> {
     ghost output = { λ x. Some (joined (codes "window recv " ∷ signed_decimal x.0.now.recv ∷ codes " owed " ∷ decimal x.0.now.owed ∷ codes " send " ∷ signed_decimal x.0.now.send ∷ codes "\n" ∷ [])) };
@@ -133,14 +133,14 @@ impl fmt::Display for PeerLine<'_> {
             self.0.window,
             self.0.frame,
             OptionText(widened(self.0.list)),
-            FlagText(self.0.signal)
+            FlagText(self.0.size_update_pending)
         )
     }
 }
 
 /// Whether the server's settings are acknowledged, and the latest GOAWAY.
 #[derive(Drop)]
-pub struct AckedLine<'c>(pub &'c Core);
+pub struct AckedLine<'c>(pub &'c ConnectionState);
 
 #[tactic(auto, unfolding(h2_spec::specs::Show::acked_line))]
 impl fmt::Display for AckedLine<'_> {
@@ -250,9 +250,9 @@ impl fmt::Display for LiveLine {
             numbers.recv.value(),
             numbers.owed.owed(),
             numbers.send.value(),
-            numbers.got,
+            numbers.content_received,
             OptionText(numbers.declared),
-            OptionText(numbers.left)
+            OptionText(numbers.body_remaining)
         )
     }
 }

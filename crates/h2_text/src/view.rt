@@ -7,7 +7,7 @@ ghost use Rattle.h2_table.specs.Lent.{lent_field};
 ghost use Rattle.h2_spec.specs.View.{shown_stream};
 
 use h2_fields::field::Field;
-use h2_spec::connection::{BlockView, Core, Phase};
+use h2_spec::connection::{BlockView, ConnectionState, Phase};
 use h2_spec::flow::{Credit, Settings, Window};
 use h2_spec::streams::{Stream, StreamView};
 use h2_streams::Streams;
@@ -140,7 +140,7 @@ fn streams_of<A: Allocator + Copy>(
 /// What is shown of a connection's state, as it stands there: the parts that a view is made of.
 #[derive(Drop)]
 pub struct Shown<'s, A: Allocator> {
-    pub core: Core,
+    pub core: ConnectionState,
     /// The open field block.
     pub block: Option<BlockView>,
     pub table: &'s DynTable<A>,

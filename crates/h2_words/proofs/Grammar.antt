@@ -70,8 +70,8 @@ pub entered : (m : ArgMatches) (name : Text) (rows : List Row) → Some name ≡
     → Some rows ≡ option_map (λ p. p.1) (subcommand_rows_of m) → asked_at (subcommand_rows_of m) ≡ asked_by name rows
 entered m name rows named found = both_known (subcommand_rows_of m) name rows (named ∙ name_entered m) found
 
-pub told_refuses : (a : App) (texts words : List Text) (e : Error) (r : Refusal) → a ≡ bench_app → texts ≡ words
+pub printed_refuses : (a : App) (texts words : List Text) (e : Error) (r : Refusal) → a ≡ bench_app → texts ≡ words
     → (is_simple_and_free a ≡ true → HasKind (fault_of a texts) e) → (kind_of e ≡ OutOfMemory → r ≡ NoMemory) → Refuses (asked_of words) r
-told_refuses a texts words e NoMemory app same kinds memory = tt
-told_refuses a texts words e (Words text) app same kinds memory =
+printed_refuses a texts words e NoMemory app same kinds memory = tt
+printed_refuses a texts words e (Words text) app same kinds memory =
     clap_refused a texts words e app same kinds (λ k. let differ : Words text ≡ NoMemory = memory k in cc)

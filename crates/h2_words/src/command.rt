@@ -437,7 +437,7 @@ fn plan_from<'a>(
 }
 
 /// What clap says of words that it refuses; `NoMemory` where that is its reason.
-fn told_of(alloc: Global, error: &clap::Error) -> Refusal
+fn printed_of(alloc: Global, error: &clap::Error) -> Refusal
     ensures { kind_of error.now ≡ OutOfMemory → result ≡ Refusal.NoMemory }
 {
     if error.kind() == ErrorKind::OutOfMemory {
@@ -459,7 +459,7 @@ fn matches_of<'a>(alloc: Global, words: &'a Words) -> Result<ArgMatches<'a>, Ref
     };
     match command.try_get_matches_from(words.as_slice()) {
         Ok(matches) => Ok(matches),
-        Err(error) => Err(told_of(alloc, &error)),
+        Err(error) => Err(printed_of(alloc, &error)),
     }
 }
 

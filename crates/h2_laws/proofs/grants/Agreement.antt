@@ -30,7 +30,7 @@ pub record Sends (body : List ℕ) (window : ℕ) (send : ℤ) (left : Option �
   pub reset : m.reset ≡ false
 
 -- the server's side is closed by END_STREAM
-pub record Ends (m : Mark) : Type 0 where
+pub record HasEnded (m : Mark) : Type 0 where
   pub promised : is_some m.promised ≡ true
   pub of_body : IsOfBody m
   pub ended : m.ended ≡ true
@@ -47,13 +47,13 @@ FitsAs Idle body window send left m = ⊥
 FitsAs Skipped body window send left m = ⊥
 FitsAs BothOpen body window send left m = Sends body window send left m
 FitsAs HalfRemote body window send left m = Sends body window send left m
-FitsAs HalfLocal body window send left m = Ends m × (m.reset ≡ false) × (left ≡ None)
-FitsAs Ended body window send left m = Ends m
+FitsAs HalfLocal body window send left m = HasEnded m × (m.reset ≡ false) × (left ≡ None)
+FitsAs Ended body window send left m = HasEnded m
 FitsAs PeerReset body window send left m = Cut m
 FitsAs WeReset body window send left m = Cut m
 
 abbrev pub Fits : List Entry → ℕ → Stream → Mark → Type 0
-Fits book window st m = FitsAs st.kind (picked book st.pick).body window st.numbers.send st.numbers.left m
+Fits book window st m = FitsAs st.kind (picked book st.pick).body window st.numbers.send st.numbers.body_remaining m
 
 -- ---- the records
 

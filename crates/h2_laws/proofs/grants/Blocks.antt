@@ -4,14 +4,14 @@ use Rattle.std.proofs.lemmas.Bool.{eqb-true, false≢true}
 use Rattle.std.specs.Option.{is_some}
 use Rattle.std.specs.Prelude.{nat_lt}
 use Rattle.h2_spec.specs.declared.connection.BlockView.{BlockView}
-use Rattle.h2_spec.specs.declared.connection.Core.{Core}
+use Rattle.h2_spec.specs.declared.connection.ConnectionState.{ConnectionState}
 use Rattle.h2_spec.specs.declared.connection.Purpose.{Purpose}
 use Rattle.h2_spec.specs.declared.connection.Purpose.TheVariants.{Request, Trailers, Closed, TableOnly}
 use Rattle.h2_spec.specs.declared.errors.ErrorCode.TheVariants.{StreamClosed}
 use Rattle.h2_spec.specs.declared.reactions.Change.{Change}
-use Rattle.h2_spec.specs.declared.reactions.ConnectionFrame.TheVariants.{Quiet}
-use Rattle.h2_spec.specs.declared.reactions.Facts.{Facts}
-use Rattle.h2_spec.specs.declared.reactions.Turn.{Turn}
+use Rattle.h2_spec.specs.declared.reactions.ConnectionFrame.TheVariants.{NoConnectionFrame}
+use Rattle.h2_spec.specs.declared.reactions.BlockSummary.{BlockSummary}
+use Rattle.h2_spec.specs.declared.reactions.StreamOutcome.{StreamOutcome}
 use Rattle.h2_spec.specs.declared.streams.Stream.{Stream}
 use Rattle.h2_spec.specs.Field.{Field}
 use Rattle.h2_spec.specs.DynamicTable.{Table}
@@ -20,15 +20,15 @@ use Rattle.h2_spec.specs.Request.{malformed_trailers}
 use Rattle.h2_spec.specs.Answer.{Entry, picked}
 use Rattle.h2_spec.specs.Stream.{stream_at, octets_waiting, live_count, put}
 use Rattle.h2_spec.specs.State.{State, OpenBlock, Decoding}
-use Rattle.h2_spec.specs.Change.{stay, turned, stream_error}
-use Rattle.h2_spec.specs.Headers.{FrameEffect, Breaks, request_facts, new_stream, request_turn, trailers_turn, block_ends, fragment_decoded, decoded_with, fragment}
+use Rattle.h2_spec.specs.Change.{only_counts, with_outcome, stream_error}
+use Rattle.h2_spec.specs.Headers.{FrameEffect, Breaks, request_summary, new_stream, request_outcome, trailers_outcome, block_ends, fragment_decoded, decoded_with, fragment}
 use Rattle.h2_spec.specs.Effect.{body_length}
 use Rattle.h2_laws.specs.Grants.{Mark, Tally, When, with_mark_on, body_promised, with_fields, fields_at_end}
 use Rattle.h2_laws.specs.Order.{Rise}
 use Rattle.h2_laws.proofs.grants.Agreement.{Fits, IsRecorded, IsBlock, BlockStands, Agreement}
 use Rattle.h2_laws.proofs.grants.Turns.{Proper, Good, just_asked, error-proper, error-good, Uncut-live, trailers_turn-proper, trailers_turn-good, request_turn-proper, request_turn-good}
 use Rattle.h2_laws.proofs.grants.Records.{at-id, put-last}
-use Rattle.h2_laws.proofs.grants.Rules.{Moves, Kept, stays, turned-kept, record-kept}
+use Rattle.h2_laws.proofs.grants.Rules.{Moves, Kept, stays, outcome-kept, record-kept}
 
 -- ---- what is promised
 
@@ -59,28 +59,28 @@ request-kept : (id : ℕ) (s : State) (t : Tally) (p : List ℕ) (j : ℕ) (ends
     Moves s.book id (with_mark_on id j t (with_fields s.book t.mark (Some fields))) p s (block_ends s j ends fields Request)
 unfolding octets_waiting
 request-kept id s t p j ends fields pos_id x none above =
-    turned-kept id s t (cond (eqb j id) asked t.mark) p (stay core) st turn pos_id agrees none proper (omega arith, tt) ordered good (λ e. rw e refl) (λ e h. absurd (omega (arith, eqb-true j id e)))
+    outcome-kept id s t (cond (eqb j id) asked t.mark) p (only_counts core) st outcome pos_id agrees none proper (omega arith, tt) ordered good (λ e. rw e refl) (λ e h. absurd (omega (arith, eqb-true j id e)))
   where
-    f : Facts
-    f = request_facts s.book fields
+    f : BlockSummary
+    f = request_summary s.book fields
 
     st : Stream
     st = new_stream s.core j f
 
-    turn : Turn
-    turn = request_turn s.config (live_count s.streams) (body_length s.book st) s.core j ends f
+    outcome : StreamOutcome
+    outcome = request_outcome s.config (live_count s.streams) (body_length s.book st) s.core j ends f
 
-    core : Core
+    core : ConnectionState
     core = record s.core { last = j }
 
     asked : Mark
     asked = with_fields s.book t.mark (Some fields)
 
-    proper : Proper s.book st turn
+    proper : Proper s.book st outcome
     proper = request_turn-proper s.book s.config (live_count s.streams) s.core j ends f
 
-    ordered : Rise 0 j (put turn.stream s.streams)
-    ordered = subst (λ i. Rise 0 i (put turn.stream s.streams)) proper.same_id (put-last 0 s.core.last turn.stream s.streams (rw proper.same_id above) x.ordered)
+    ordered : Rise 0 j (put outcome.stream s.streams)
+    ordered = subst (λ i. Rise 0 i (put outcome.stream s.streams)) proper.same_id (put-last 0 s.core.last outcome.stream s.streams (rw proper.same_id above) x.ordered)
 
     raised : (low high : ℕ) (sts : List Stream) → high < j → Rise low high sts → Rise low j sts
     raised low high [] h r = omega arith
@@ -102,12 +102,12 @@ request-kept id s t p j ends fields pos_id x none above =
       of_block = subst (λ o. BlockStands id j s.streams o t.mark) (sym none) tt;
     }
 
-    good : eqb j id ≡ true → Good s.book t.window (cond (eqb j id) asked t.mark) turn
+    good : eqb j id ≡ true → Good s.book t.window (cond (eqb j id) asked t.mark) outcome
     good e =
         let blank = (x.idle (omega (arith, eqb-true j id e))).0 in
         let m : Mark = just_asked (picked s.book f.pick).body in
         let same : asked ≡ m = ap (λ n. with_fields s.book n (Some fields)) blank in
-        rw (e, same) (subst (λ w. Good s.book w m turn) x.same_window (request_turn-good s.book s.config (live_count s.streams) s.core j ends f))
+        rw (e, same) (subst (λ w. Good s.book w m outcome) x.same_window (request_turn-good s.book s.config (live_count s.streams) s.core j ends f))
 
 -- ---- the end of a block
 
@@ -122,25 +122,25 @@ block-kept id s t p j ends fields purpose pos_id x none b = at purpose b
     promised : (c : Change) → (eqb j id ≡ true → is_some t.mark.promised ≡ true) → Moves s.book id t p s c → Moves s.book id (with_mark_on id j t (with_fields s.book t.mark (Some fields))) p s c
     promised c h = subst (λ u. Moves s.book id u p s c) (sym (mark-same id j t (with_fields s.book t.mark (Some fields)) (λ e. ap (λ o. record t.mark { promised = o }) (promised-same s.book t.mark.promised (Some fields) (h e)))))
 
-    on_record : (turn : Turn) → IsRecorded st.kind → Proper s.book st turn → (eqb j id ≡ true → Fits s.book t.window st t.mark → Good s.book t.window t.mark turn) → Moves s.book id t p s (turned (stay s.core) turn)
-    on_record turn r proper good = record-kept id s t t.mark p (stay s.core) j turn pos_id x none r proper good (λ e. refl)
+    on_record : (outcome : StreamOutcome) → IsRecorded st.kind → Proper s.book st outcome → (eqb j id ≡ true → Fits s.book t.window st t.mark → Good s.book t.window t.mark outcome) → Moves s.book id t p s (with_outcome (only_counts s.core) outcome)
+    on_record outcome r proper good = record-kept id s t t.mark p (only_counts s.core) j outcome pos_id x none r proper good (λ e. refl)
 
     at : (purpose : Purpose) → IsBlock id s.core.last s.streams j purpose t.mark → Moves s.book id (with_mark_on id j t (with_fields s.book t.mark (Some fields))) p s (block_ends s j ends fields purpose)
     at Request b = request-kept id s t p j ends fields pos_id x none b.0
     at Trailers b =
         let for : (e : eqb j id ≡ true) → (is_some t.mark.promised ≡ true) × (t.mark.reset ≡ false) = λ e. whenever _ (eqb j id) e b.1 in
         promised _ (λ e. (for e).0)
-        (on_record (trailers_turn (list_size fields) (is_some (malformed_trailers fields)) (body_length s.book st) s.core.peer.signal ends st) b.0
-        (trailers_turn-proper s.book (list_size fields) (is_some (malformed_trailers fields)) s.core.peer.signal ends st)
-        (λ e f. trailers_turn-good s.book t.window t.mark (list_size fields) (is_some (malformed_trailers fields)) s.core.peer.signal ends st f (for e).1))
+        (on_record (trailers_outcome (list_size fields) (is_some (malformed_trailers fields)) (body_length s.book st) s.core.peer.size_update_pending ends st) b.0
+        (trailers_turn-proper s.book (list_size fields) (is_some (malformed_trailers fields)) s.core.peer.size_update_pending ends st)
+        (λ e f. trailers_turn-good s.book t.window t.mark (list_size fields) (is_some (malformed_trailers fields)) s.core.peer.size_update_pending ends st f (for e).1))
     at Closed b =
         let for : (e : eqb j id ≡ true) → (is_some t.mark.promised ≡ true) × (t.mark.reset ≡ false) = λ e. whenever _ (eqb j id) e b.1 in
         let same : st.id ≡ j = at-id s.core.last s.streams j in
         promised _ (λ e. (for e).0)
-        (on_record (stream_error s.core.peer.signal j StreamClosed) b.0
-        (subst (λ i. Proper s.book st (stream_error s.core.peer.signal i StreamClosed)) same (error-proper s.book s.core.peer.signal st StreamClosed))
-        (λ e f. error-good s.book t.window t.mark s.core.peer.signal j StreamClosed (Uncut-live st.kind (picked s.book st.pick).body t.window st.numbers.send st.numbers.left t.mark f (for e).1)))
-    at TableOnly b = promised _ (λ e. whenever _ (eqb j id) e b.1) (stays s.book id t p s s.core Quiet pos_id x)
+        (on_record (stream_error s.core.peer.size_update_pending j StreamClosed) b.0
+        (subst (λ i. Proper s.book st (stream_error s.core.peer.size_update_pending i StreamClosed)) same (error-proper s.book s.core.peer.size_update_pending st StreamClosed))
+        (λ e f. error-good s.book t.window t.mark s.core.peer.size_update_pending j StreamClosed (Uncut-live st.kind (picked s.book st.pick).body t.window st.numbers.send st.numbers.body_remaining t.mark f (for e).1)))
+    at TableOnly b = promised _ (λ e. whenever _ (eqb j id) e b.1) (stays s.book id t p s s.core NoConnectionFrame pos_id x)
 
 -- ---- a fragment
 
@@ -180,7 +180,7 @@ fragment-kept id s t p b d octets ends pos_id x of = over _ (cases ends)
 
     more : (o : Outcome) → Kept s.book id t p (fragment_decoded s c d.purpose false (record r { outcome = o }))
     more (Faulty fault) = tt
-    more (Unfinished rest) = stays s.book id t p _ s.core Quiet pos_id (with_table r.progress.table _ of)
+    more (Unfinished rest) = stays s.book id t p _ s.core NoConnectionFrame pos_id (with_table r.progress.table _ of)
 
     last : (o : Outcome) → Kept s.book id (with_mark_on id b.stream t (with_fields s.book t.mark (Some r.progress.fields))) p (fragment_decoded s c d.purpose true (record r { outcome = o }))
     last (Faulty fault) = tt

@@ -11,7 +11,7 @@ use Rattle.h2_spec.specs.declared.errors.ErrorCode.TheVariants.{ProtocolError}
 use Rattle.h2_spec.specs.declared.frames.Head.{Head}
 use Rattle.h2_spec.specs.declared.frames.PayloadFault.{PayloadFault}
 use Rattle.h2_spec.specs.declared.frames.PayloadFault.TheVariants.{SizeFault, PadFault}
-use Rattle.h2_spec.specs.declared.reactions.ConnectionFrame.TheVariants.{Quiet, PingAck}
+use Rattle.h2_spec.specs.declared.reactions.ConnectionFrame.TheVariants.{NoConnectionFrame, PingAck}
 use Rattle.h2_spec.specs.declared.reactions.Reaction.TheVariants.{Continues}
 use Rattle.h2_spec.specs.declared.streams.Kind.{Kind}
 use Rattle.h2_spec.specs.declared.streams.Kind.TheVariants.{Idle, Skipped, BothOpen, HalfRemote, HalfLocal, Ended, PeerReset, WeReset}
@@ -22,12 +22,12 @@ use Rattle.h2_spec.specs.Payload.{HeadersPart, Part, OfData, OfHeaders, OfPriori
 use Rattle.h2_spec.specs.Answer.{Entry, picked}
 use Rattle.h2_spec.specs.Stream.{record_of, stream_at}
 use Rattle.h2_spec.specs.State.{State, OpenBlock, Decoding}
-use Rattle.h2_spec.specs.Change.{stay}
+use Rattle.h2_spec.specs.Change.{only_counts}
 use Rattle.h2_spec.specs.Checks.{interrupts, is_early, is_misplaced, refusal}
-use Rattle.h2_spec.specs.Table.{Rule, Error, headers_cell}
+use Rattle.h2_spec.specs.ReactionTable.{Rule, Error, headers_cell}
 use Rattle.h2_spec.specs.WindowUpdate.{connection_window}
 use Rattle.h2_spec.specs.Headers.{makes, fresh_block, fresh_decoding, block_opens, continued}
-use Rattle.h2_spec.specs.Effect.{nothing, came, on_headers, on_window, frame_effect, part_effect, checked_effect, block_stream, item_effect, payload_of}
+use Rattle.h2_spec.specs.Effect.{nothing, incoming, on_headers, on_window, frame_effect, part_effect, checked_effect, block_stream, item_effect, payload_of}
 use Rattle.h2_laws.specs.Grants.{Tally, When, with_mark_on, with_fields, with_fragment, fields_at_end, received_part, received_frame, received}
 use Rattle.h2_laws.proofs.grants.Tallies.{always}
 use Rattle.h2_laws.proofs.grants.Agreement.{FitsAs, IsRecorded, IsBlock, IsDecoding, BlockStands, Agreement}
@@ -56,20 +56,20 @@ module _ (id : ℕ) (s : State) (t : Tally) (h : Head) (p : List ℕ) (pos_id : 
       same false = refl
 
   -- what the record of the stream that is followed says
-  own : (P : Type 0) (k : Kind) → IsRecorded k → st.kind ≡ k → (FitsAs k (picked s.book st.pick).body t.window st.numbers.send st.numbers.left t.mark → P) → When (eqb h.stream id) P
+  own : (P : Type 0) (k : Kind) → IsRecorded k → st.kind ≡ k → (FitsAs k (picked s.book st.pick).body t.window st.numbers.send st.numbers.body_remaining t.mark → P) → When (eqb h.stream id) P
   own P k r e f = at (eqb h.stream id) refl
     where
       at : (b : Bool) → eqb h.stream id ≡ b → When b P
       at false g = tt
       at true g =
           let found : record_of s.streams id ≡ Some st = subst (λ i. record_of s.streams i ≡ Some st) (eqb-true h.stream id g) (at-found s.core.last s.streams h.stream (subst IsRecorded (sym e) r)) in
-          f (subst (λ k. FitsAs k (picked s.book st.pick).body t.window st.numbers.send st.numbers.left t.mark) e (found-fits s.book t.window id s.streams t.mark st found x.stands))
+          f (subst (λ k. FitsAs k (picked s.book st.pick).body t.window st.numbers.send st.numbers.body_remaining t.mark) e (found-fits s.book t.window id s.streams t.mark st found x.stands))
 
   live : (k : Kind) → IsLive k → IsRecorded k → st.kind ≡ k → When (eqb h.stream id) ((is_some t.mark.promised ≡ true) × (t.mark.reset ≡ false))
   live k l r e = own ((is_some t.mark.promised ≡ true) × (t.mark.reset ≡ false)) k r e
       (λ f.
-      let reset : t.mark.reset ≡ false = live-reset k (picked s.book st.pick).body t.window st.numbers.send st.numbers.left t.mark l f in
-      ((Uncut-live k (picked s.book st.pick).body t.window st.numbers.send st.numbers.left t.mark f reset).promised, reset))
+      let reset : t.mark.reset ≡ false = live-reset k (picked s.book st.pick).body t.window st.numbers.send st.numbers.body_remaining t.mark l f in
+      ((Uncut-live k (picked s.book st.pick).body t.window st.numbers.send st.numbers.body_remaining t.mark f reset).promised, reset))
 
   headers-kept : (part : HeadersPart) → Kept s.book id (headers part) p (on_headers s h part (headers_cell h.stream st.kind))
   headers-kept part = at st.kind refl
@@ -91,24 +91,24 @@ module _ (id : ℕ) (s : State) (t : Tally) (h : Head) (p : List ℕ) (pos_id : 
   -- ---- each type of frame, where no block is open
 
   part-kept : (part : Part) → Kept s.book id (received_part s.book id s t h part) p (frame_effect s h p part)
-  part-kept (OfData part) = data-kept id s t p h.stream (came h p part) pos_id x none
+  part-kept (OfData part) = data-kept id s t p h.stream (incoming h p part) pos_id x none
   part-kept (OfHeaders part) = headers-kept part
-  part-kept OfPriority = stays s.book id t p s s.core Quiet pos_id x
+  part-kept OfPriority = stays s.book id t p s s.core NoConnectionFrame pos_id x
   part-kept (OfRstStream code) = reset-kept id s t p h.stream pos_id x none
   part-kept (OfSettings pairs) = settings-kept id s t p pairs pos_id x none
-  part-kept OfSettingsAck = stays s.book id t p s (record s.core { acked = true }) Quiet pos_id x
+  part-kept OfSettingsAck = stays s.book id t p s (record s.core { acked = true }) NoConnectionFrame pos_id x
   part-kept OfPushPromise = tt
   part-kept (OfPing octets) =
-      either-kept s.book id t p s (has h.flags ACK) (nothing s.core) (Continues (record (stay s.core) { first = PingAck }))
-      (stays s.book id t p s s.core Quiet pos_id x) (stays s.book id t p s s.core PingAck pos_id x)
-  part-kept (OfGoaway last code) = stays s.book id t p s (record s.core { goaway = Some (last, code) }) Quiet pos_id x
+      either-kept s.book id t p s (has h.flags ACK) (nothing s.core) (Continues (record (only_counts s.core) { first = PingAck }))
+      (stays s.book id t p s s.core NoConnectionFrame pos_id x) (stays s.book id t p s s.core PingAck pos_id x)
+  part-kept (OfGoaway last code) = stays s.book id t p s (record s.core { goaway = Some (last, code) }) NoConnectionFrame pos_id x
   part-kept (OfWindowUpdate n) = at (eqb h.stream 0)
     where
       at : (b : Bool) → Kept s.book id (cond b (record t { granted = t.granted + n }) (with_mark_on id h.stream t (granted_more n t.mark))) p (makes s (cond b (connection_window s.core n) (on_window s.core n st)))
       at true = connection-kept id s t p n pos_id x
       at false = window-kept id s t p h.stream pos_id x none n
   part-kept (OfContinuation fragment) = rw none tt
-  part-kept OfUnknown = stays s.book id t p s s.core Quiet pos_id x
+  part-kept OfUnknown = stays s.book id t p s s.core NoConnectionFrame pos_id x
 
 -- ---- a frame that does not interrupt a block
 
@@ -162,7 +162,7 @@ pub item-kept : (book : List Entry) (id : ℕ) (s : State) (t : Tally) (item : I
 item-kept book id s t item pos_id x = subst (λ b. Agreement b id s t → Kept b id (received b id s t item) (payload_of item) (item_effect s item)) x.same_book (at item) x
   where
     at : (item : Item) → Agreement s.book id s t → Kept s.book id (received s.book id s t item) (payload_of item) (item_effect s item)
-    at Preface x = stays s.book id t [] s (record s.core { phase = phase.Settings }) Quiet pos_id (record {
+    at Preface x = stays s.book id t [] s (record s.core { phase = phase.Settings }) NoConnectionFrame pos_id (record {
       running = refl;
       same_book = x.same_book;
       same_window = x.same_window;

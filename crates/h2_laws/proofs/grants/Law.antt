@@ -15,7 +15,7 @@ use Rattle.h2_spec.specs.State.{State, opening}
 use Rattle.h2_spec.specs.Change.{Step, goaway, made}
 use Rattle.h2_spec.specs.Headers.{FrameEffect, Breaks, Makes}
 use Rattle.h2_spec.specs.Effect.{item_effect, payload_of, concluded, effect}
-use Rattle.h2_spec.specs.Pump.{pump}
+use Rattle.h2_spec.specs.SendPending.{send_pending}
 use Rattle.h2_spec.specs.Trace.{then_sent, step, next_in, next_item, event_on, next_event, trace}
 use Rattle.h2_laws.specs.Grants.{Mark, Tally, When, IsWithinConnection, IsWithinStream, IsWithinFrameSize, IsInOrder, IsBeforeEnd, IsOfBody, body_or_nothing, IsUsedUp, is_unfinished, sends_data, sent_all, received, received_by, has_ended, start, Meets, Keeps, KeepsGrants}
 use Rattle.h2_laws.specs.Order.{Rise, AreOrdered, KeepsOrder}
@@ -24,7 +24,7 @@ use Rattle.h2_spec.proofs.TraceLaws.{event-uses}
 use Rattle.h2_laws.proofs.grants.Tallies.{IsRight, Leads, Leads-append, AtEach-weaker, sends_data-append}
 use Rattle.h2_laws.proofs.grants.Agreement.{Fits, FitsAs, Absent, Either, Stands, Agreement}
 use Rattle.h2_laws.proofs.grants.Turns.{other-leads, Uncut-sends}
-use Rattle.h2_laws.proofs.grants.Sending.{Pumped, pump-keeps}
+use Rattle.h2_laws.proofs.grants.Sending.{PendingSent, sending-keeps}
 use Rattle.h2_laws.proofs.grants.Rules.{Kept, quiet-only, not_zero}
 use Rattle.h2_laws.proofs.grants.Items.{item-kept}
 
@@ -49,7 +49,7 @@ stands-of_body book window id [] m f = (([], rw (f.content, f.promised) refl), w
 stands-of_body book window id (x ∷ sts) m f = at (λ g. stands-of_body book window id sts m g) (eqb x.id id) f
   where
     at : (Stands book window id sts m → IsOfBody m) → (c : Bool) → Either c (Fits book window x m × Absent id sts) (Stands book window id sts m) → IsOfBody m
-    at more true f = fits-of_body x.kind (picked book x.pick).body window x.numbers.send x.numbers.left m f.0
+    at more true f = fits-of_body x.kind (picked book x.pick).body window x.numbers.send x.numbers.body_remaining m f.0
     at more false f = more f
 
 -- ---- the tests, from frames that lead to a tally
@@ -102,10 +102,10 @@ steps book id s t item pos_id x = at (item_effect s item) (item-kept book id s t
         sends e leads quiet agrees = by_phase e.state.core.phase agrees.running
           where
             q : Step
-            q = pump e.state
+            q = send_pending e.state
 
-            y : Pumped book id k.tally q
-            y = pump-keeps book id e.state k.tally agrees
+            y : PendingSent book id k.tally q
+            y = sending-keeps book id e.state k.tally agrees
 
             all : Step
             all = record { state = q.state; sent = e.sent ++ q.sent }

@@ -3,15 +3,15 @@ use Rattle.std.proofs.Common.{◌≡◌, ℕ, ◌+◌, ◌<◌, ◌≤◌, Bool,
 use Rattle.std.proofs.lemmas.Bool.{eqb-true, ne_eqb}
 use Rattle.std.proofs.lemmas.Int.{ints}
 use Rattle.std.specs.Prelude.{ℤ, pos, int_lt, ◌+ℤ◌, ◌-ℤ◌}
-use Rattle.h2_spec.specs.declared.connection.Core.{Core}
+use Rattle.h2_spec.specs.declared.connection.ConnectionState.{ConnectionState}
 use Rattle.h2_spec.specs.declared.errors.ErrorCode.TheVariants.{ProtocolError, FlowControlError, StreamClosed}
-use Rattle.h2_spec.specs.declared.reactions.Came.{Came}
+use Rattle.h2_spec.specs.declared.reactions.ReceivedData.{ReceivedData}
 use Rattle.h2_spec.specs.declared.reactions.Change.{Change}
 use Rattle.h2_spec.specs.declared.reactions.ConnectionFrame.{ConnectionFrame}
-use Rattle.h2_spec.specs.declared.reactions.ConnectionFrame.TheVariants.{Quiet, SettingsAck, PingAck, Credit}
+use Rattle.h2_spec.specs.declared.reactions.ConnectionFrame.TheVariants.{NoConnectionFrame, SettingsAck, PingAck, Credit}
 use Rattle.h2_spec.specs.declared.reactions.Reaction.{Reaction}
 use Rattle.h2_spec.specs.declared.reactions.Reaction.TheVariants.{ConnectionError, Continues}
-use Rattle.h2_spec.specs.declared.reactions.Turn.{Turn}
+use Rattle.h2_spec.specs.declared.reactions.StreamOutcome.{StreamOutcome}
 use Rattle.h2_spec.specs.declared.streams.Kind.{Kind}
 use Rattle.h2_spec.specs.declared.streams.Kind.TheVariants.{Idle, Skipped, BothOpen, HalfRemote, HalfLocal, Ended, PeerReset, WeReset}
 use Rattle.h2_spec.specs.declared.streams.Stream.{Stream}
@@ -20,17 +20,17 @@ use Rattle.h2_spec.specs.Answer.{Entry, picked}
 use Rattle.h2_spec.specs.Window.{is_above_max, given_back}
 use Rattle.h2_spec.specs.Stream.{record_of, stream_at, put}
 use Rattle.h2_spec.specs.State.{State}
-use Rattle.h2_spec.specs.Change.{stay, turned, after, first_frames, second_frames, answer_frames, frames_of, stream_error}
-use Rattle.h2_spec.specs.Table.{run_cell, data_cell, reset_cell, window_cell}
-use Rattle.h2_spec.specs.Data.{counted, owed_on_connection, owed_as, if_within, data_taken, data_refused, data_counted, data_turn}
-use Rattle.h2_spec.specs.WindowUpdate.{connection_window, window_turn}
+use Rattle.h2_spec.specs.Change.{only_counts, with_outcome, after, first_frames, second_frames, answer_frames, frames_of, stream_error}
+use Rattle.h2_spec.specs.ReactionTable.{run_cell, data_cell, reset_cell, window_cell}
+use Rattle.h2_spec.specs.Data.{counted, owed_on_connection, owed_as, if_within, data_taken, data_refused, data_counted, data_outcome}
+use Rattle.h2_spec.specs.WindowUpdate.{connection_window, window_outcome}
 use Rattle.h2_spec.specs.Headers.{FrameEffect, Breaks, Makes, makes}
-use Rattle.h2_spec.specs.Effect.{nothing, data_rule, on_data, body_length, reset_rule, reset_turn, on_reset, window_rule, on_window}
+use Rattle.h2_spec.specs.Effect.{nothing, data_rule, on_data, body_length, reset_rule, reset_outcome, on_reset, window_rule, on_window}
 use Rattle.h2_laws.specs.Grants.{Mark, Tally, with_mark_on, sends_data}
 use Rattle.h2_laws.specs.Order.{Rise}
 use Rattle.h2_laws.proofs.grants.Tallies.{Leads, Leads-append, quiet-append}
 use Rattle.h2_laws.proofs.grants.Agreement.{FitsAs, Fits, Absent, Unasked, Stands, IsRecorded, HasBody, BlockStands, Agreement}
-use Rattle.h2_laws.proofs.grants.Turns.{OnlyOn, other-leads, own-leads, marked_all, turn_frames, Proper, Good, Uncut-live, error-proper, error-good, data_turn-proper, data_turn-good, IsOver, now_reset, granted_more, reset_turn-proper, reset_turn-good, over-reset, window_turn-proper, window_turn-good, over-granted}
+use Rattle.h2_laws.proofs.grants.Turns.{OnlyOn, other-leads, own-leads, marked_all, outcome_frames, Proper, Good, Uncut-live, error-proper, error-good, data_turn-proper, data_turn-good, IsOver, now_reset, granted_more, reset_turn-proper, reset_turn-good, over-reset, window_turn-proper, window_turn-good, over-granted}
 use Rattle.h2_laws.proofs.grants.Records.{at-id, at-found, at-skipped, found-body, found-fits, found-not_absent, unfound, put-absent, put-bodies, put-own, put-other, put-in_order, remarked, unmarked}
 
 -- what a change leaves, where the item has this payload; t: the tally with what the item brought
@@ -64,7 +64,7 @@ only-append j [] gs o q = q
 only-append j (f ∷ fs) gs o q = (o.0, o.1, only-append j fs gs o.2 q)
 
 first-only : (p : List ℕ) (f : ConnectionFrame) → OnlyOn 0 (first_frames p f)
-first-only p Quiet = tt
+first-only p NoConnectionFrame = tt
 first-only p SettingsAck = (refl, refl, tt)
 first-only p PingAck = (refl, refl, tt)
 first-only p (Credit n) = (refl, refl, tt)
@@ -73,8 +73,8 @@ pub not_zero : (id : ℕ) → 1 ≤ id → eqb 0 id ≡ false
 not_zero id h = ne_eqb 0 id (λ e. absurd (omega arith))
 
 -- the counts change, and a frame is sent on stream 0
-pub stays : (book : List Entry) (id : ℕ) (t : Tally) (p : List ℕ) (s : State) (core : Core) (first : ConnectionFrame) → 1 ≤ id → Agreement book id (record s { core = core }) t →
-    Moves book id t p s (record (stay core) { first = first })
+pub stays : (book : List Entry) (id : ℕ) (t : Tally) (p : List ℕ) (s : State) (core : ConnectionState) (first : ConnectionFrame) → 1 ≤ id → Agreement book id (record s { core = core }) t →
+    Moves book id t p s (record (only_counts core) { first = first })
 unfolding frames_of
 stays book id t p s core first h x =
     let only = only-append 0 (first_frames p first ++ []) [] (only-append 0 (first_frames p first) [] (first-only p first) tt) tt in
@@ -82,34 +82,34 @@ stays book id t p s core first h x =
 
 -- ---- a turn of one stream
 
-frames-turned : (book : List Entry) (p : List ℕ) (c : Change) (turn : Turn) → frames_of book p (turned c turn) ≡ first_frames p c.first ++ turn_frames book turn
-unfolding frames_of turned
-frames-turned book p c turn = append_assoc (first_frames p c.first) (second_frames turn.frame) (answer_frames book turn.answer)
+frames-turned : (book : List Entry) (p : List ℕ) (c : Change) (outcome : StreamOutcome) → frames_of book p (with_outcome c outcome) ≡ first_frames p c.first ++ outcome_frames book outcome
+unfolding frames_of with_outcome
+frames-turned book p c outcome = append_assoc (first_frames p c.first) (second_frames outcome.frame) (answer_frames book outcome.answer)
 
 -- m: the stream's mark with what the item brought
-module _ (id : ℕ) (s : State) (t : Tally) (m : Mark) (p : List ℕ) (c : Change) (st : Stream) (turn : Turn)
+module _ (id : ℕ) (s : State) (t : Tally) (m : Mark) (p : List ℕ) (c : Change) (st : Stream) (outcome : StreamOutcome)
     (pos_id : 1 ≤ id) (x : Agreement s.book id (record s { core = c.core }) t) (no_block : s.block ≡ None)
-    (proper : Proper s.book st turn) (body : HasBody s.book st) (ordered : Rise 0 c.core.last (put turn.stream s.streams))
-    (good : eqb st.id id ≡ true → Good s.book t.window m turn)
+    (proper : Proper s.book st outcome) (body : HasBody s.book st) (ordered : Rise 0 c.core.last (put outcome.stream s.streams))
+    (good : eqb st.id id ≡ true → Good s.book t.window m outcome)
     (other : eqb st.id id ≡ false → m ≡ t.mark)
     (not_idle : eqb st.id id ≡ true → c.core.last < id → ⊥) where
   abbrev brought : Tally
   brought = record t { mark = m }
 
   abbrev streams : List Stream
-  streams = put turn.stream s.streams
+  streams = put outcome.stream s.streams
 
-  joined : (u : Tally) → Leads id brought (turn_frames s.book turn) u → Leads id brought (frames_of s.book p (turned c turn)) u
+  joined : (u : Tally) → Leads id brought (outcome_frames s.book outcome) u → Leads id brought (frames_of s.book p (with_outcome c outcome)) u
   joined u l =
       let front : Leads id brought (first_frames p c.first) brought = other-leads id 0 brought (first_frames p c.first) (not_zero id pos_id) (first-only p c.first) in
-      rw (frames-turned s.book p c turn) (Leads-append id brought brought u (first_frames p c.first) (turn_frames s.book turn) front l)
+      rw (frames-turned s.book p c outcome) (Leads-append id brought brought u (first_frames p c.first) (outcome_frames s.book outcome) front l)
 
-  silent : sends_data id (frames_of s.book p (turned c turn)) ≡ false
-  silent = rw (frames-turned s.book p c turn) (quiet-append id (first_frames p c.first) (turn_frames s.book turn) (quiet-only id 0 (first_frames p c.first) (first-only p c.first)) (quiet-only id st.id (turn_frames s.book turn) proper.only))
+  silent : sends_data id (frames_of s.book p (with_outcome c outcome)) ≡ false
+  silent = rw (frames-turned s.book p c outcome) (quiet-append id (first_frames p c.first) (outcome_frames s.book outcome) (quiet-only id 0 (first_frames p c.first) (first-only p c.first)) (quiet-only id st.id (outcome_frames s.book outcome) proper.only))
 
   -- the state after it agrees with another mark
-  agrees-with : (n : Mark) → Stands s.book t.window id streams n → (c.core.last < id → (n ≡ t.mark) × Absent id streams) → Agreement s.book id (after s (turned c turn)) (record t { mark = n })
-  unfolding turned
+  agrees-with : (n : Mark) → Stands s.book t.window id streams n → (c.core.last < id → (n ≡ t.mark) × Absent id streams) → Agreement s.book id (after s (with_outcome c outcome)) (record t { mark = n })
+  unfolding with_outcome
   agrees-with n f i = record {
     running = x.running;
     same_book = x.same_book;
@@ -119,54 +119,54 @@ module _ (id : ℕ) (s : State) (t : Tally) (m : Mark) (p : List ℕ) (c : Chang
     send_is = x.send_is;
     within = x.within;
     stands = f;
-    bodies = put-bodies s.book turn.stream s.streams (proper.has_body body) x.bodies;
+    bodies = put-bodies s.book outcome.stream s.streams (proper.has_body body) x.bodies;
     ordered = ordered;
     idle = λ h. ((i h).0 ∙ (x.idle h).0, (i h).1);
     of_block = subst (λ o. BlockStands id c.core.last streams o n) (sym no_block) tt;
   }
 
-  turned-own : eqb st.id id ≡ true → Moves s.book id brought p s (turned c turn)
-  turned-own e =
-      let g : Good s.book t.window m turn = good e in
-      let n : Mark = marked_all m (turn_frames s.book turn) in
+  outcome-own : eqb st.id id ≡ true → Moves s.book id brought p s (with_outcome c outcome)
+  outcome-own e =
+      let g : Good s.book t.window m outcome = good e in
+      let n : Mark = marked_all m (outcome_frames s.book outcome) in
       record {
         tally = record t { mark = n };
-        leads = joined (record t { mark = n }) (own-leads id st.id brought (turn_frames s.book turn) e proper.only g.in_turn);
+        leads = joined (record t { mark = n }) (own-leads id st.id brought (outcome_frames s.book outcome) e proper.only g.in_turn);
         quiet = silent;
-        agrees = agrees-with n (put-own s.book t.window id turn.stream s.streams t.mark n (proper.same_id ∙ eqb-true st.id id e) x.stands g.fits) (λ h. absurd (not_idle e h));
+        agrees = agrees-with n (put-own s.book t.window id outcome.stream s.streams t.mark n (proper.same_id ∙ eqb-true st.id id e) x.stands g.fits) (λ h. absurd (not_idle e h));
       }
 
-  turned-other : eqb st.id id ≡ false → Moves s.book id brought p s (turned c turn)
-  turned-other e =
-      let turn_id : eqb turn.stream.id id ≡ false = rw proper.same_id e in
+  outcome-other : eqb st.id id ≡ false → Moves s.book id brought p s (with_outcome c outcome)
+  outcome-other e =
+      let outcome_id : eqb outcome.stream.id id ≡ false = rw proper.same_id e in
       record {
         tally = brought;
-        leads = joined brought (other-leads id st.id brought (turn_frames s.book turn) e proper.only);
+        leads = joined brought (other-leads id st.id brought (outcome_frames s.book outcome) e proper.only);
         quiet = silent;
-        agrees = agrees-with m (subst (Stands s.book t.window id streams) (sym (other e)) (put-other s.book t.window id turn.stream s.streams t.mark turn_id x.stands))
-            (λ h. (other e, put-absent id turn.stream s.streams turn_id (x.idle h).1));
+        agrees = agrees-with m (subst (Stands s.book t.window id streams) (sym (other e)) (put-other s.book t.window id outcome.stream s.streams t.mark outcome_id x.stands))
+            (λ h. (other e, put-absent id outcome.stream s.streams outcome_id (x.idle h).1));
       }
 
-  pub turned-kept : Moves s.book id brought p s (turned c turn)
-  turned-kept = at (eqb st.id id) refl
+  pub outcome-kept : Moves s.book id brought p s (with_outcome c outcome)
+  outcome-kept = at (eqb st.id id) refl
     where
-      at : (b : Bool) → eqb st.id id ≡ b → Moves s.book id brought p s (turned c turn)
-      at true e = turned-own e
-      at false e = turned-other e
+      at : (b : Bool) → eqb st.id id ≡ b → Moves s.book id brought p s (with_outcome c outcome)
+      at true e = outcome-own e
+      at false e = outcome-other e
 
 -- on a stream that has a record
-pub record-kept : (id : ℕ) (s : State) (t : Tally) (m : Mark) (p : List ℕ) (c : Change) (j : ℕ) (turn : Turn) → 1 ≤ id → Agreement s.book id (record s { core = c.core }) t → s.block ≡ None →
+pub record-kept : (id : ℕ) (s : State) (t : Tally) (m : Mark) (p : List ℕ) (c : Change) (j : ℕ) (outcome : StreamOutcome) → 1 ≤ id → Agreement s.book id (record s { core = c.core }) t → s.block ≡ None →
     let st : Stream = stream_at s.core.last s.streams j in
-    IsRecorded st.kind → Proper s.book st turn →
-    (eqb j id ≡ true → Fits s.book t.window st t.mark → Good s.book t.window m turn) → (eqb j id ≡ false → m ≡ t.mark) →
-    Moves s.book id (record t { mark = m }) p s (turned c turn)
-record-kept id s t m p c j turn pos_id x none r proper good other =
+    IsRecorded st.kind → Proper s.book st outcome →
+    (eqb j id ≡ true → Fits s.book t.window st t.mark → Good s.book t.window m outcome) → (eqb j id ≡ false → m ≡ t.mark) →
+    Moves s.book id (record t { mark = m }) p s (with_outcome c outcome)
+record-kept id s t m p c j outcome pos_id x none r proper good other =
     let st : Stream = stream_at s.core.last s.streams j in
     let same : st.id ≡ j = at-id s.core.last s.streams j in
     let found : record_of s.streams j ≡ Some st = at-found s.core.last s.streams j r in
     let own : (e : eqb st.id id ≡ true) → record_of s.streams id ≡ Some st = λ e. subst (λ i. record_of s.streams i ≡ Some st) (sym same ∙ eqb-true st.id id e) found in
-    turned-kept id s t m p c st turn pos_id x none proper (found-body s.book j s.streams st found x.bodies)
-    (put-in_order 0 c.core.last turn.stream s.streams st (subst (λ i. record_of s.streams i ≡ Some st) (sym (proper.same_id ∙ same)) found) x.ordered)
+    outcome-kept id s t m p c st outcome pos_id x none proper (found-body s.book j s.streams st found x.bodies)
+    (put-in_order 0 c.core.last outcome.stream s.streams st (subst (λ i. record_of s.streams i ≡ Some st) (sym (proper.same_id ∙ same)) found) x.ordered)
     (λ e. good (subst (λ i. eqb i id ≡ true) same e) (found-fits s.book t.window id s.streams t.mark st (own e) x.stands))
     (λ e. other (subst (λ i. eqb i id ≡ false) same e))
     (λ e h. found-not_absent id s.streams st (own e) (x.idle h).1)
@@ -200,7 +200,7 @@ counted-agrees : (id : ℕ) (s : State) (t : Tally) (threshold n : ℕ) → Agre
 unfolding counted owed_on_connection
 counted-agrees id s t threshold n x = at (given_back threshold (s.core.owed + n))
   where
-    core : Core
+    core : ConnectionState
     core = record s.core { recv = s.core.recv -ℤ pos n }
 
     at : (o : Option ℕ) → Agreement s.book id (record s { core = (owed_as o core (core.owed + n)).core }) t
@@ -211,17 +211,17 @@ counted-moves : (id : ℕ) (s : State) (t : Tally) (p : List ℕ) (threshold n :
 unfolding counted owed_on_connection
 counted-moves id s t p threshold n pos_id x = at (given_back threshold (s.core.owed + n))
   where
-    core : Core
+    core : ConnectionState
     core = record s.core { recv = s.core.recv -ℤ pos n }
 
     at : (o : Option ℕ) → Moves s.book id t p s (owed_as o core (core.owed + n))
     at (Some k) = stays s.book id t p s _ (Credit k) pos_id x
-    at None = stays s.book id t p s _ Quiet pos_id x
+    at None = stays s.book id t p s _ NoConnectionFrame pos_id x
 
 within-kept : (id : ℕ) (s : State) (t : Tally) (p : List ℕ) (n : ℕ) (c : Change) → Moves s.book id t p s c → Kept s.book id t p (makes s (if_within s.core n c))
 within-kept id s t p n c h = either-kept s.book id t p s (int_lt s.core.recv (pos n)) (ConnectionError FlowControlError) (Continues c) tt h
 
-pub data-kept : (id : ℕ) (s : State) (t : Tally) (p : List ℕ) (j : ℕ) (d : Came) → 1 ≤ id → Agreement s.book id s t → s.block ≡ None →
+pub data-kept : (id : ℕ) (s : State) (t : Tally) (p : List ℕ) (j : ℕ) (d : ReceivedData) → 1 ≤ id → Agreement s.book id s t → s.block ≡ None →
     let st : Stream = stream_at s.core.last s.streams j in
     Kept s.book id t p (makes s (on_data s.config s.core (body_length s.book st) d st))
 unfolding on_data data_taken data_refused data_counted
@@ -233,19 +233,19 @@ data-kept id s t p j d pos_id x none = at st.kind refl
     c : Change
     c = counted s.config.credit s.core d.octets
 
-    on_record : (turn : Turn) → IsRecorded st.kind → Proper s.book st turn → (Fits s.book t.window st t.mark → Good s.book t.window t.mark turn) → Moves s.book id t p s (turned c turn)
-    on_record turn r proper good = record-kept id s t t.mark p c j turn pos_id (counted-agrees id s t s.config.credit d.octets x) none r proper (λ e f. good f) (λ e. refl)
+    on_record : (outcome : StreamOutcome) → IsRecorded st.kind → Proper s.book st outcome → (Fits s.book t.window st t.mark → Good s.book t.window t.mark outcome) → Moves s.book id t p s (with_outcome c outcome)
+    on_record outcome r proper good = record-kept id s t t.mark p c j outcome pos_id (counted-agrees id s t s.config.credit d.octets x) none r proper (λ e f. good f) (λ e. refl)
 
     take : (k : Kind) → IsLive k → IsRecorded k → st.kind ≡ k → Kept s.book id t p (makes s (data_taken s.config s.core (body_length s.book st) d st))
     take k l r e = within-kept id s t p d.octets _
-        (on_record (data_turn s.config.credit s.core.peer.signal (body_length s.book st) d st) (subst IsRecorded (sym e) r) (data_turn-proper s.book s.config.credit s.core.peer.signal d st)
-        (λ f. data_turn-good s.book t.window t.mark s.config.credit s.core.peer.signal d st f (live-reset st.kind (picked s.book st.pick).body t.window st.numbers.send st.numbers.left t.mark (subst IsLive (sym e) l) f)))
+        (on_record (data_outcome s.config.credit s.core.peer.size_update_pending (body_length s.book st) d st) (subst IsRecorded (sym e) r) (data_turn-proper s.book s.config.credit s.core.peer.size_update_pending d st)
+        (λ f. data_turn-good s.book t.window t.mark s.config.credit s.core.peer.size_update_pending d st f (live-reset st.kind (picked s.book st.pick).body t.window st.numbers.send st.numbers.body_remaining t.mark (subst IsLive (sym e) l) f)))
 
     refuse : st.kind ≡ HalfRemote → Kept s.book id t p (makes s (data_refused s.config s.core d st StreamClosed))
     refuse e = within-kept id s t p d.octets _
-        (on_record (stream_error s.core.peer.signal st.id StreamClosed) (subst IsRecorded (sym e) tt) (error-proper s.book s.core.peer.signal st StreamClosed)
-        (λ f. error-good s.book t.window t.mark s.core.peer.signal st.id StreamClosed
-        (Uncut-live st.kind (picked s.book st.pick).body t.window st.numbers.send st.numbers.left t.mark f (live-reset st.kind (picked s.book st.pick).body t.window st.numbers.send st.numbers.left t.mark (subst IsLive (sym e) tt) f))))
+        (on_record (stream_error s.core.peer.size_update_pending st.id StreamClosed) (subst IsRecorded (sym e) tt) (error-proper s.book s.core.peer.size_update_pending st StreamClosed)
+        (λ f. error-good s.book t.window t.mark s.core.peer.size_update_pending st.id StreamClosed
+        (Uncut-live st.kind (picked s.book st.pick).body t.window st.numbers.send st.numbers.body_remaining t.mark f (live-reset st.kind (picked s.book st.pick).body t.window st.numbers.send st.numbers.body_remaining t.mark (subst IsLive (sym e) tt) f))))
 
     count : Kept s.book id t p (makes s (data_counted s.config s.core d))
     count = within-kept id s t p d.octets c (counted-moves id s t p s.config.credit d.octets pos_id x)
@@ -280,12 +280,12 @@ re-agrees id s t n x none f busy = record {
 }
 
 -- what is kept where a frame on stream j makes this of the mark of its stream, and has this rule where the stream is live, and none where it is not
-record ByState (id : ℕ) (s : State) (t : Tally) (p : List ℕ) (j : ℕ) (n : Mark) (rule : Stream → Turn) : Type 0 where
-  live : (k : Kind) → IsLive k → IsRecorded k → (stream_at s.core.last s.streams j).kind ≡ k → Moves s.book id (with_mark_on id j t n) p s (turned (stay s.core) (rule (stream_at s.core.last s.streams j)))
-  over : (k : Kind) → IsOver k → IsRecorded k → (stream_at s.core.last s.streams j).kind ≡ k → Moves s.book id (with_mark_on id j t n) p s (stay s.core)
-  skipped : (stream_at s.core.last s.streams j).kind ≡ Skipped → Moves s.book id (with_mark_on id j t n) p s (stay s.core)
+record ByState (id : ℕ) (s : State) (t : Tally) (p : List ℕ) (j : ℕ) (n : Mark) (rule : Stream → StreamOutcome) : Type 0 where
+  live : (k : Kind) → IsLive k → IsRecorded k → (stream_at s.core.last s.streams j).kind ≡ k → Moves s.book id (with_mark_on id j t n) p s (with_outcome (only_counts s.core) (rule (stream_at s.core.last s.streams j)))
+  over : (k : Kind) → IsOver k → IsRecorded k → (stream_at s.core.last s.streams j).kind ≡ k → Moves s.book id (with_mark_on id j t n) p s (only_counts s.core)
+  skipped : (stream_at s.core.last s.streams j).kind ≡ Skipped → Moves s.book id (with_mark_on id j t n) p s (only_counts s.core)
 
-module _ (id : ℕ) (s : State) (t : Tally) (p : List ℕ) (j : ℕ) (n : Mark) (rule : Stream → Turn)
+module _ (id : ℕ) (s : State) (t : Tally) (p : List ℕ) (j : ℕ) (n : Mark) (rule : Stream → StreamOutcome)
     (pos_id : 1 ≤ id) (x : Agreement s.book id s t) (none : s.block ≡ None)
     (proper : (st : Stream) → Proper s.book st (rule st))
     (good : (st : Stream) → Fits s.book t.window st t.mark → t.mark.reset ≡ false → Good s.book t.window n (rule st))
@@ -298,25 +298,25 @@ module _ (id : ℕ) (s : State) (t : Tally) (p : List ℕ) (j : ℕ) (n : Mark) 
   marked = with_mark_on id j t n
 
   -- nothing changes but the mark
-  nothing-own : (b : Bool) → eqb j id ≡ b → (j ≡ id → Stands s.book t.window id s.streams n × (s.core.last < id → ⊥)) → Moves s.book id (record t { mark = cond b n t.mark }) p s (stay s.core)
-  nothing-own false e f = stays s.book id t p s s.core Quiet pos_id x
-  nothing-own true e f = let g = f (eqb-true j id e) in stays s.book id (record t { mark = n }) p s s.core Quiet pos_id (re-agrees id s t n x none g.0 g.1)
+  nothing-own : (b : Bool) → eqb j id ≡ b → (j ≡ id → Stands s.book t.window id s.streams n × (s.core.last < id → ⊥)) → Moves s.book id (record t { mark = cond b n t.mark }) p s (only_counts s.core)
+  nothing-own false e f = stays s.book id t p s s.core NoConnectionFrame pos_id x
+  nothing-own true e f = let g = f (eqb-true j id e) in stays s.book id (record t { mark = n }) p s s.core NoConnectionFrame pos_id (re-agrees id s t n x none g.0 g.1)
 
-  nothing-over : (k : Kind) → IsOver k → IsRecorded k → st.kind ≡ k → Moves s.book id marked p s (stay s.core)
+  nothing-over : (k : Kind) → IsOver k → IsRecorded k → st.kind ≡ k → Moves s.book id marked p s (only_counts s.core)
   nothing-over k o r e = nothing-own (eqb j id) refl (λ g.
       let found : record_of s.streams id ≡ Some st = subst (λ i. record_of s.streams i ≡ Some st) g (at-found s.core.last s.streams j (subst IsRecorded (sym e) r)) in
       (remarked s.book t.window id s.streams t.mark n st found (over st (subst IsOver (sym e) o)) x.stands, λ h. found-not_absent id s.streams st found (x.idle h).1))
 
-  nothing-skipped : st.kind ≡ Skipped → Moves s.book id marked p s (stay s.core)
+  nothing-skipped : st.kind ≡ Skipped → Moves s.book id marked p s (only_counts s.core)
   nothing-skipped e = nothing-own (eqb j id) refl (λ g.
       let missing = at-skipped s.book s.core.last s.streams j x.bodies e in
       let u = unfound s.book t.window id s.streams t.mark (subst (λ i. record_of s.streams i ≡ None) g missing.1) x.stands in
       (unmarked s.book t.window id s.streams n u.1 (unasked u.0), λ h. let passed = missing.0 in absurd (omega arith)))
 
-  rule-live : (k : Kind) → IsLive k → IsRecorded k → st.kind ≡ k → Moves s.book id marked p s (turned (stay s.core) (rule st))
+  rule-live : (k : Kind) → IsLive k → IsRecorded k → st.kind ≡ k → Moves s.book id marked p s (with_outcome (only_counts s.core) (rule st))
   rule-live k l r e =
-      record-kept id s t (cond (eqb j id) n t.mark) p (stay s.core) j (rule st) pos_id x none (subst IsRecorded (sym e) r) (proper st)
-      (λ own f. rw own (good st f (live-reset st.kind (picked s.book st.pick).body t.window st.numbers.send st.numbers.left t.mark (subst IsLive (sym e) l) f)))
+      record-kept id s t (cond (eqb j id) n t.mark) p (only_counts s.core) j (rule st) pos_id x none (subst IsRecorded (sym e) r) (proper st)
+      (λ own f. rw own (good st f (live-reset st.kind (picked s.book st.pick).body t.window st.numbers.send st.numbers.body_remaining t.mark (subst IsLive (sym e) l) f)))
       (λ other. rw other refl)
 
   by-state : ByState id s t p j n rule
@@ -334,9 +334,9 @@ module _ (id : ℕ) (s : State) (t : Tally) (p : List ℕ) (j : ℕ) (pos_id : 1
   unfolding on_reset
   reset-kept = at on.kind refl
     where
-      rules : ByState id s t p j (now_reset t.mark) (reset_turn s.core.peer.signal)
-      rules = by-state id s t p j (now_reset t.mark) (reset_turn s.core.peer.signal) pos_id x none (reset_turn-proper s.book s.core.peer.signal) (reset_turn-good s.book t.window t.mark s.core.peer.signal)
-          (λ st. over-reset st.kind (picked s.book st.pick).body t.window st.numbers.send st.numbers.left t.mark) (unasked-more (now_reset t.mark) refl refl refl refl)
+      rules : ByState id s t p j (now_reset t.mark) (reset_outcome s.core.peer.size_update_pending)
+      rules = by-state id s t p j (now_reset t.mark) (reset_outcome s.core.peer.size_update_pending) pos_id x none (reset_turn-proper s.book s.core.peer.size_update_pending) (reset_turn-good s.book t.window t.mark s.core.peer.size_update_pending)
+          (λ st. over-reset st.kind (picked s.book st.pick).body t.window st.numbers.send st.numbers.body_remaining t.mark) (unasked-more (now_reset t.mark) refl refl refl refl)
 
       at : (k : Kind) → on.kind ≡ k → Kept s.book id (with_mark_on id j t (now_reset t.mark)) p (makes s (run_cell ConnectionError (nothing s.core) (λ r. reset_rule r s.core on) (reset_cell k)))
       at Idle e = tt
@@ -352,9 +352,9 @@ module _ (id : ℕ) (s : State) (t : Tally) (p : List ℕ) (j : ℕ) (pos_id : 1
   unfolding on_window
   window-kept i = at on.kind refl
     where
-      rules : ByState id s t p j (granted_more i t.mark) (window_turn s.core.peer.signal i)
-      rules = by-state id s t p j (granted_more i t.mark) (window_turn s.core.peer.signal i) pos_id x none (window_turn-proper s.book s.core.peer.signal i) (window_turn-good s.book t.window t.mark s.core.peer.signal i)
-          (λ st. over-granted st.kind (picked s.book st.pick).body t.window st.numbers.send st.numbers.left t.mark i) (unasked-more (granted_more i t.mark) refl refl refl refl)
+      rules : ByState id s t p j (granted_more i t.mark) (window_outcome s.core.peer.size_update_pending i)
+      rules = by-state id s t p j (granted_more i t.mark) (window_outcome s.core.peer.size_update_pending i) pos_id x none (window_turn-proper s.book s.core.peer.size_update_pending i) (window_turn-good s.book t.window t.mark s.core.peer.size_update_pending i)
+          (λ st. over-granted st.kind (picked s.book st.pick).body t.window st.numbers.send st.numbers.body_remaining t.mark i) (unasked-more (granted_more i t.mark) refl refl refl refl)
 
       at : (k : Kind) → on.kind ≡ k → Kept s.book id (with_mark_on id j t (granted_more i t.mark)) p (makes s (run_cell ConnectionError (nothing s.core) (λ r. window_rule r s.core i on) (window_cell k)))
       at Idle e = tt
@@ -372,10 +372,10 @@ pub connection-kept : (id : ℕ) (s : State) (t : Tally) (p : List ℕ) (i : ℕ
 unfolding connection_window
 connection-kept id s t p i pos_id x =
     let u : Tally = record t { granted = t.granted + i } in
-    let core : Core = record s.core { send = s.core.send +ℤ pos i } in
+    let core : ConnectionState = record s.core { send = s.core.send +ℤ pos i } in
     either-kept s.book id u p s (eqb i 0) (ConnectionError ProtocolError) _ tt
-    (either-kept s.book id u p s (is_above_max (s.core.send +ℤ pos i)) (ConnectionError FlowControlError) (Continues (stay core)) tt
-    (stays s.book id u p s core Quiet pos_id (record {
+    (either-kept s.book id u p s (is_above_max (s.core.send +ℤ pos i)) (ConnectionError FlowControlError) (Continues (only_counts core)) tt
+    (stays s.book id u p s core NoConnectionFrame pos_id (record {
       running = x.running;
       same_book = x.same_book;
       same_window = x.same_window;

@@ -16,13 +16,13 @@ use Rattle.h2_spec.specs.Stream.{is_live, octets_left, octets_waiting}
 use Rattle.h2_spec.specs.State.{State}
 use Rattle.h2_spec.specs.Window.{sendable}
 use Rattle.h2_spec.specs.Change.{Step}
-use Rattle.h2_spec.specs.Ends.{server_ended, server_ended_as, with_left}
-use Rattle.h2_spec.specs.Pump.{share, data_upto, data_frames, share_frames, with_paid, after_sending, sent_frames, all_after_sending, window_left, pump}
+use Rattle.h2_spec.specs.StreamEnds.{server_ended, server_ended_as, with_body_remaining}
+use Rattle.h2_spec.specs.SendPending.{allowance, data_upto, data_frames, allowance_frames, with_paid, after_sending, sent_frames, all_after_sending, window_left, send_pending}
 use Rattle.h2_laws.specs.Grants.{Mark, Tally, When, AtEach, IsWithinStream, IsUsedUp, body_or_nothing, is_unfinished, sends_data, sent_all}
 use Rattle.h2_laws.specs.Order.{Rise}
 use Rattle.h2_laws.proofs.grants.Tallies.{always, IsRight, Leads, Leads-append, Leads-to, elsewhere, nowhere, data-elsewhere, data-own, sends_data-append, quiet-append, finished_by_end, finished_by_reset, not_begun}
 use Rattle.h2_laws.proofs.grants.Records.{still-recorded}
-use Rattle.h2_laws.proofs.grants.Agreement.{Waits, Sends, Ends, FitsAs, Fits, Absent, Either, Stands, HasBody, Bodies, BlockStands-same, Agreement}
+use Rattle.h2_laws.proofs.grants.Agreement.{Waits, Sends, HasEnded, FitsAs, Fits, Absent, Either, Stands, HasBody, Bodies, BlockStands-same, Agreement}
 
 -- ---- the octets of a share
 
@@ -39,9 +39,9 @@ next-rest sent body left n h g e =
     let place : length body - (left - n) ≡ length body - left + n = omega arith in
     rw (place, append_assoc, ← drop-drop n (length body - left) body, take-append-drop n (drop (length body - left) body)) e
 
-share-le : (w : ℕ) (st : Stream) → (share w st ≤ w) × (share w st ≤ octets_waiting st) × (share w st ≤ sendable st.numbers.send)
-unfolding share
-share-le w st = (omega arith, omega arith, omega arith)
+allowance-le : (w : ℕ) (st : Stream) → (allowance w st ≤ w) × (allowance w st ≤ octets_waiting st) × (allowance w st ≤ sendable st.numbers.send)
+unfolding allowance
+allowance-le w st = (omega arith, omega arith, omega arith)
 
 -- ---- the record after it
 
@@ -49,7 +49,7 @@ after-id : (n : ℕ) (st : Stream) → (after_sending n st).id ≡ st.id
 unfolding after_sending server_ended
 after-id n st = at (eqb n 0) (eqb (octets_waiting st) n) st.kind
   where
-    at : (z b : Bool) (k : Kind) → (cond z st (cond b (server_ended_as k (with_paid st n)) (with_left (with_paid st n) (octets_waiting st - n)))).id ≡ st.id
+    at : (z b : Bool) (k : Kind) → (cond z st (cond b (server_ended_as k (with_paid st n)) (with_body_remaining (with_paid st n) (octets_waiting st - n)))).id ≡ st.id
     at true b k = refl
     at false false k = refl
     at false true Idle = refl
@@ -69,7 +69,7 @@ after-has_body book n st h = at (eqb n 0) (eqb (octets_waiting st) n) st.kind h
     in_state : Kind → Stream
     in_state k = record st { kind = k }
 
-    at : (z b : Bool) (k : Kind) → HasBody book (in_state k) → HasBody book (cond z (in_state k) (cond b (server_ended_as k (with_paid (in_state k) n)) (with_left (with_paid (in_state k) n) (octets_waiting (in_state k) - n))))
+    at : (z b : Bool) (k : Kind) → HasBody book (in_state k) → HasBody book (cond z (in_state k) (cond b (server_ended_as k (with_paid (in_state k) n)) (with_body_remaining (with_paid (in_state k) n) (octets_waiting (in_state k) - n))))
     at true b k h = h
     at false false Idle h = (omega arith, h.1)
     at false false Skipped h = (omega arith, h.1)
@@ -90,10 +90,10 @@ after-has_body book n st h = at (eqb n 0) (eqb (octets_waiting st) n) st.kind h
 
 -- ---- a stream that isn't followed
 
-share-elsewhere : (book : List Entry) (id size n : ℕ) (st : Stream) (t : Tally) → eqb st.id id ≡ false → size ≡ t.frame → 1 ≤ size → HasBody book st → n ≤ octets_waiting st →
-    Leads id t (share_frames book size n st) (elsewhere t n) × (sends_data id (share_frames book size n st) ≡ false)
-unfolding share_frames data_frames
-share-elsewhere book id size n st t e f h b l =
+allowance-elsewhere : (book : List Entry) (id size n : ℕ) (st : Stream) (t : Tally) → eqb st.id id ≡ false → size ≡ t.frame → 1 ≤ size → HasBody book st → n ≤ octets_waiting st →
+    Leads id t (allowance_frames book size n st) (elsewhere t n) × (sends_data id (allowance_frames book size n st) ≡ false)
+unfolding allowance_frames data_frames
+allowance-elsewhere book id size n st t e f h b l =
     let xs : List ℕ = next_octets (picked book st.pick).body (octets_waiting st) n in
     let k : length xs ≡ n = next-length (picked book st.pick).body (octets_waiting st) n b.0 l in
     let all = data-elsewhere (length xs) id st.id size (eqb (octets_waiting st) n) t xs e (omega arith) h (omega arith) in
@@ -112,9 +112,9 @@ passes : (book : List Entry) (id size : ℕ) (sts : List Stream) (t : Tally) (w 
 unfolding sent_frames all_after_sending window_left
 passes book id size [] t w f h a b = record { leads = Leads-to id _ _ _ _ (nowhere id t) (ap (elsewhere t) (omega arith)); quiet = refl; within = omega arith; absent = tt; bodies = tt }
 passes book id size (st ∷ sts) t w f h a b =
-    let n : ℕ = share w st in
-    let le = share-le w st in
-    let one = share-elsewhere book id size n st t a.0 f h b.0 le.1 in
+    let n : ℕ = allowance w st in
+    let le = allowance-le w st in
+    let one = allowance-elsewhere book id size n st t a.0 f h b.0 le.1 in
     let more = passes book id size sts (elsewhere t n) (w - n) f h a.1 b.1 in
     let sum : t.sent + n + (w - n - window_left (w - n) sts) ≡ t.sent + (w - window_left (w - n) sts) = omega (arith, le.0, more.within) in
     record {
@@ -137,8 +137,8 @@ record Pays (book : List Entry) (id : ℕ) (t : Tally) (w : ℕ) (frames : List 
   stream : When (sends_data id frames) (length mark.content ≤ t.window + mark.granted)
   held : is_unfinished mark ≡ true → (t.window + mark.granted ≤ length mark.content) ⊎ (n ≡ w)
 
-held-sends : (body : List ℕ) (window w : ℕ) (x : Numbers) (m : Mark) → Sends body window x.send x.left m → is_unfinished m ≡ true → min (min (octets_left x.left) (sendable x.send)) w ≡ 0 → (window + m.granted ≤ length m.content) ⊎ (0 ≡ w)
-held-sends body window w x m f u e = at x.left x.send f.waits f.send_is e
+held-sends : (body : List ℕ) (window w : ℕ) (x : Numbers) (m : Mark) → Sends body window x.send x.body_remaining m → is_unfinished m ≡ true → min (min (octets_left x.body_remaining) (sendable x.send)) w ≡ 0 → (window + m.granted ≤ length m.content) ⊎ (0 ≡ w)
+held-sends body window w x m f u e = at x.body_remaining x.send f.waits f.send_is e
   where
     at : (o : Option ℕ) (z : ℤ) → Waits body o m → z +ℤ pos (length m.content) ≡ pos (window + m.granted) → min (min (octets_left o) (sendable z)) w ≡ 0 → (window + m.granted ≤ length m.content) ⊎ (0 ≡ w)
     at None z p q e = absurd (not_begun m p.0 u)
@@ -149,8 +149,8 @@ held-sends body window w x m f u e = at x.left x.send f.waits f.send_is e
 -- where it sends nothing
 rests : (book : List Entry) (id w : ℕ) (i : ℕ) (kind : Kind) (x : Numbers) (pick : Pick) (t : Tally) →
     let st : Stream = record { id = i; kind = kind; numbers = x; pick = pick } in
-    Fits book t.window st t.mark → share w st ≡ 0 → Pays book id t w [] 0 st
-unfolding share octets_waiting
+    Fits book t.window st t.mark → allowance w st ≡ 0 → Pays book id t w [] 0 st
+unfolding allowance octets_waiting
 rests book id w i kind x pick t f e = record {
   mark = t.mark;
   leads = nowhere id t;
@@ -161,7 +161,7 @@ rests book id w i kind x pick t f e = record {
   held = λ u. at kind f u e;
 }
   where
-    at : (k : Kind) → FitsAs k (picked book pick).body t.window x.send x.left t.mark → is_unfinished t.mark ≡ true → min (min (cond (is_live k) (octets_left x.left) 0) (sendable x.send)) w ≡ 0 → (t.window + t.mark.granted ≤ length t.mark.content) ⊎ (0 ≡ w)
+    at : (k : Kind) → FitsAs k (picked book pick).body t.window x.send x.body_remaining t.mark → is_unfinished t.mark ≡ true → min (min (cond (is_live k) (octets_left x.body_remaining) 0) (sendable x.send)) w ≡ 0 → (t.window + t.mark.granted ≤ length t.mark.content) ⊎ (0 ≡ w)
     at Idle f u e = absurd f
     at Skipped f u e = absurd f
     at BothOpen f u e = held-sends (picked book pick).body t.window w x t.mark f u e
@@ -202,7 +202,7 @@ module _ (book : List Entry) (id size k l : ℕ) (t : Tally) (x : Numbers) (body
     reset = f.reset;
   }
 
-  ends-now : eqb l (suc k) ≡ true → Ends (after true)
+  ends-now : eqb l (suc k) ≡ true → HasEnded (after true)
   ends-now e =
       let none : length body ≤ length body - (l - suc k) = omega (arith, eqb-true l (suc k) e) in
       let whole : t.mark.content ++ xs ≡ body = sym (append-nil (t.mark.content ++ xs)) ∙ (ap (λ ys. (t.mark.content ++ xs) ++ ys) (sym (drop_all (length body - (l - suc k)) body none)) ∙ rest) in
@@ -239,15 +239,15 @@ module _ (book : List Entry) (id size k l : ℕ) (t : Tally) (x : Numbers) (body
 
   -- the record that is left, where the peer's side is open and where it is not
   both-fits : (i : ℕ) (pick : Pick) (b : Bool) → body ≡ (picked book pick).body → eqb l (suc k) ≡ b →
-      let st : Stream = record { id = i; kind = BothOpen; numbers = record x { left = Some l }; pick = pick } in
-      Fits book t.window (cond b (server_ended (with_paid st (suc k))) (with_left (with_paid st (suc k)) (l - suc k))) (after b)
+      let st : Stream = record { id = i; kind = BothOpen; numbers = record x { body_remaining = Some l }; pick = pick } in
+      Fits book t.window (cond b (server_ended (with_paid st (suc k))) (with_body_remaining (with_paid st (suc k)) (l - suc k))) (after b)
   unfolding server_ended
   both-fits i pick true g e = (ends-now e, f.reset, refl)
   both-fits i pick false g e = subst (λ ys. Sends ys t.window (x.send -ℤ pos (suc k)) (Some (l - suc k)) (after false)) g (sends-more e)
 
   half-fits : (i : ℕ) (pick : Pick) (b : Bool) → body ≡ (picked book pick).body → eqb l (suc k) ≡ b →
-      let st : Stream = record { id = i; kind = HalfRemote; numbers = record x { left = Some l }; pick = pick } in
-      Fits book t.window (cond b (server_ended (with_paid st (suc k))) (with_left (with_paid st (suc k)) (l - suc k))) (after b)
+      let st : Stream = record { id = i; kind = HalfRemote; numbers = record x { body_remaining = Some l }; pick = pick } in
+      Fits book t.window (cond b (server_ended (with_paid st (suc k))) (with_body_remaining (with_paid st (suc k)) (l - suc k))) (after b)
   unfolding server_ended
   half-fits i pick true g e = ends-now e
   half-fits i pick false g e = subst (λ ys. Sends ys t.window (x.send -ℤ pos (suc k)) (Some (l - suc k)) (after false)) g (sends-more e)
@@ -256,29 +256,29 @@ after-none : (st : Stream) → after_sending 0 st ≡ st
 unfolding after_sending
 after-none st = refl
 
-after-some : (k : ℕ) (st : Stream) → after_sending (suc k) st ≡ cond (eqb (octets_waiting st) (suc k)) (server_ended (with_paid st (suc k))) (with_left (with_paid st (suc k)) (octets_waiting st - suc k))
+after-some : (k : ℕ) (st : Stream) → after_sending (suc k) st ≡ cond (eqb (octets_waiting st) (suc k)) (server_ended (with_paid st (suc k))) (with_body_remaining (with_paid st (suc k)) (octets_waiting st - suc k))
 unfolding after_sending
 after-some k st = rw (ne_eqb (suc k) 0 (λ e. absurd (omega arith))) refl
 
 -- whatever its share is
-own-share : (book : List Entry) (id size w i : ℕ) (kind : Kind) (x : Numbers) (pick : Pick) (t : Tally) (n : ℕ) →
+own-allowance : (book : List Entry) (id size w i : ℕ) (kind : Kind) (x : Numbers) (pick : Pick) (t : Tally) (n : ℕ) →
     let st : Stream = record { id = i; kind = kind; numbers = x; pick = pick } in
-    eqb i id ≡ true → size ≡ t.frame → 1 ≤ size → Fits book t.window st t.mark → n ≡ share w st →
-    Pays book id t w (share_frames book size n st) n (after_sending n st)
-unfolding share share_frames data_frames data_upto octets_waiting
-own-share book id size w i kind x pick t zero own g h f e = rw (after-none (record { id = i; kind = kind; numbers = x; pick = pick })) (rests book id w i kind x pick t f (sym e))
-own-share book id size w i kind x pick t (suc k) own g h f e = at kind x.left f e
+    eqb i id ≡ true → size ≡ t.frame → 1 ≤ size → Fits book t.window st t.mark → n ≡ allowance w st →
+    Pays book id t w (allowance_frames book size n st) n (after_sending n st)
+unfolding allowance allowance_frames data_frames data_upto octets_waiting
+own-allowance book id size w i kind x pick t zero own g h f e = rw (after-none (record { id = i; kind = kind; numbers = x; pick = pick })) (rests book id w i kind x pick t f (sym e))
+own-allowance book id size w i kind x pick t (suc k) own g h f e = at kind x.body_remaining f e
   where
     at : (kd : Kind) (o : Option ℕ) →
-        let st : Stream = record { id = i; kind = kd; numbers = record x { left = o }; pick = pick } in
-        Fits book t.window st t.mark → suc k ≡ share w st →
-        Pays book id t w (share_frames book size (suc k) st) (suc k) (after_sending (suc k) st)
+        let st : Stream = record { id = i; kind = kd; numbers = record x { body_remaining = o }; pick = pick } in
+        Fits book t.window st t.mark → suc k ≡ allowance w st →
+        Pays book id t w (allowance_frames book size (suc k) st) (suc k) (after_sending (suc k) st)
     at Idle o f e = absurd f
     at Skipped o f e = absurd f
     at BothOpen None f e = absurd (omega arith)
-    at BothOpen (Some l) f e = rw (after-some k (record { id = i; kind = BothOpen; numbers = record x { left = Some l }; pick = pick })) (pays book id size k l t x (picked book pick).body g h f (omega arith) (omega arith) w i _ own e (both-fits book id size k l t x (picked book pick).body g h f (omega arith) (omega arith) i pick (eqb l (suc k)) refl refl))
+    at BothOpen (Some l) f e = rw (after-some k (record { id = i; kind = BothOpen; numbers = record x { body_remaining = Some l }; pick = pick })) (pays book id size k l t x (picked book pick).body g h f (omega arith) (omega arith) w i _ own e (both-fits book id size k l t x (picked book pick).body g h f (omega arith) (omega arith) i pick (eqb l (suc k)) refl refl))
     at HalfRemote None f e = absurd (omega arith)
-    at HalfRemote (Some l) f e = rw (after-some k (record { id = i; kind = HalfRemote; numbers = record x { left = Some l }; pick = pick })) (pays book id size k l t x (picked book pick).body g h f (omega arith) (omega arith) w i _ own e (half-fits book id size k l t x (picked book pick).body g h f (omega arith) (omega arith) i pick (eqb l (suc k)) refl refl))
+    at HalfRemote (Some l) f e = rw (after-some k (record { id = i; kind = HalfRemote; numbers = record x { body_remaining = Some l }; pick = pick })) (pays book id size k l t x (picked book pick).body g h f (omega arith) (omega arith) w i _ own e (half-fits book id size k l t x (picked book pick).body g h f (omega arith) (omega arith) i pick (eqb l (suc k)) refl refl))
     at HalfLocal o f e = let none = ap octets_left f.2 in absurd (omega arith)
     at Ended o f e = absurd (omega arith)
     at PeerReset o f e = absurd (omega arith)
@@ -318,13 +318,13 @@ sends book id size [] t w g h f b = record {
   stream = tt;
   held = λ u. absurd (not_begun t.mark f.headers u);
 }
-sends book id size (st ∷ sts) t w g h f b = at (λ x. sends book id size sts (elsewhere t (share w st)) (w - share w st) g h x b.1) (eqb st.id id) refl f
+sends book id size (st ∷ sts) t w g h f b = at (λ x. sends book id size sts (elsewhere t (allowance w st)) (w - allowance w st) g h x b.1) (eqb st.id id) refl f
   where
     n : ℕ
-    n = share w st
+    n = allowance w st
 
     front : List Frame
-    front = share_frames book size n st
+    front = allowance_frames book size n st
 
     back : List Frame
     back = sent_frames book size (w - n) sts
@@ -336,13 +336,13 @@ sends book id size (st ∷ sts) t w g h f b = at (λ x. sends book id size sts (
     left = window_left (w - n) sts
 
     le : (n ≤ w) × (n ≤ octets_waiting st) × (n ≤ sendable st.numbers.send)
-    le = share-le w st
+    le = allowance-le w st
 
     at : (Stands book t.window id sts t.mark → Sent book id (elsewhere t n) (w - n) sts back rest left) →
         (c : Bool) → eqb st.id id ≡ c → Either c (Fits book t.window st t.mark × Absent id sts) (Stands book t.window id sts t.mark) →
         Sent book id t w (st ∷ sts) (front ++ back) (after_sending n st ∷ rest) left
     at tail true e f =
-        let one = own-share book id size w st.id st.kind st.numbers st.pick t n e g h f.0 refl in
+        let one = own-allowance book id size w st.id st.kind st.numbers st.pick t n e g h f.0 refl in
         let u : Tally = record t { sent = t.sent + n; mark = one.mark } in
         let more = passes book id size sts u (w - n) g h f.1 b.1 in
         let sum : t.sent + n + (w - n - left) ≡ t.sent + (w - left) = omega (arith, le.0, more.within) in
@@ -359,7 +359,7 @@ sends book id size (st ∷ sts) t w g h f b = at (λ x. sends book id size sts (
           held = λ v. elim (one.held v) [ inl x ↦ inl x | inr y ↦ inr (omega (arith, more.within)) ];
         }
     at tail false e f =
-        let one = share-elsewhere book id size n st t e g h b.0 le.1 in
+        let one = allowance-elsewhere book id size n st t e g h b.0 le.1 in
         let more = tail f in
         let sum : t.sent + n + (w - n - left) ≡ t.sent + (w - left) = omega (arith, le.0, more.within) in
         record {
@@ -378,17 +378,17 @@ sends book id size (st ∷ sts) t w g h f b = at (λ x. sends book id size sts (
 rises : (low high w : ℕ) (sts : List Stream) → Rise low high sts → Rise low high (all_after_sending w sts)
 unfolding all_after_sending
 rises low high w [] r = r
-rises low high w (st ∷ sts) r = rw (after-id (share w st) st) (r.0, rises st.id high (w - share w st) sts r.1)
+rises low high w (st ∷ sts) r = rw (after-id (allowance w st) st) (r.0, rises st.id high (w - allowance w st) sts r.1)
 
 still-absent : (j w : ℕ) (sts : List Stream) → Absent j (all_after_sending w sts) → Absent j sts
 unfolding all_after_sending
 still-absent j w [] a = tt
-still-absent j w (st ∷ sts) a = (rw (after-id (share w st) st) at a.0, still-absent j (w - share w st) sts a.1)
+still-absent j w (st ∷ sts) a = (rw (after-id (allowance w st) st) at a.0, still-absent j (w - allowance w st) sts a.1)
 
 -- ---- the pump
 
 -- what it leaves
-pub record Pumped (book : List Entry) (id : ℕ) (t : Tally) (p : Step) : Type 0 where
+pub record PendingSent (book : List Entry) (id : ℕ) (t : Tally) (p : Step) : Type 0 where
   pub right : AtEach (IsRight id) id t p.sent
   pub agrees : Agreement book id p.state (sent_all id t p.sent)
   pub stream : When (sends_data id p.sent) (IsWithinStream (sent_all id t p.sent))
@@ -402,9 +402,9 @@ not_passed : (z : ℤ) (sent granted left : ℕ) → z +ℤ pos sent ≡ pos (65
 not_passed (pos n) sent granted left e h = omega (arith, ints)
 not_passed (negsuc n) sent granted left e h = omega arith
 
-pub pump-keeps : (book : List Entry) (id : ℕ) (s : State) (t : Tally) → Agreement book id s t → Pumped book id t (pump s)
-unfolding pump
-pump-keeps book id s t x = at (subst (λ b. Sent book id t w s.streams (sent_frames b s.core.peer.frame w s.streams) streams left) (sym x.same_book)
+pub sending-keeps : (book : List Entry) (id : ℕ) (s : State) (t : Tally) → Agreement book id s t → PendingSent book id t (send_pending s)
+unfolding send_pending
+sending-keeps book id s t x = at (subst (λ b. Sent book id t w s.streams (sent_frames b s.core.peer.frame w s.streams) streams left) (sym x.same_book)
     (sends book id s.core.peer.frame s.streams t w x.same_frame (rw x.same_frame x.some_frame) x.stands x.bodies))
   where
     w : ℕ
@@ -422,7 +422,7 @@ pump-keeps book id s t x = at (subst (λ b. Sent book id t w s.streams (sent_fra
     after : State
     after = record s { streams = streams; core = record s.core { send = s.core.send -ℤ pos (w - left) } }
 
-    at : Sent book id t w s.streams frames streams left → Pumped book id t (record { state = after; sent = frames })
+    at : Sent book id t w s.streams frames streams left → PendingSent book id t (record { state = after; sent = frames })
     at y =
         let u : Tally = record t { sent = t.sent + (w - left); mark = y.mark } in
         let agrees : Agreement book id after u = record {

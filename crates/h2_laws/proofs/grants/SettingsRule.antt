@@ -134,8 +134,8 @@ shifted-fits book window new st m f = at st.kind f
     at : (k : Kind) → Fits book window (record st { kind = k }) m → Fits book new (shifted_one (moved_by window new) (record st { kind = k })) m
     at Idle f = f
     at Skipped f = f
-    at BothOpen f = shifted-sends (picked book st.pick).body window new st.numbers.send st.numbers.left m f
-    at HalfRemote f = shifted-sends (picked book st.pick).body window new st.numbers.send st.numbers.left m f
+    at BothOpen f = shifted-sends (picked book st.pick).body window new st.numbers.send st.numbers.body_remaining m f
+    at HalfRemote f = shifted-sends (picked book st.pick).body window new st.numbers.send st.numbers.body_remaining m f
     at HalfLocal f = f
     at Ended f = f
     at PeerReset f = f

@@ -4,23 +4,23 @@ use Rattle.h2_spec.specs.declared.streams.Stream.{Stream}
 use Rattle.h2_spec.specs.Window.{sendable}
 use Rattle.h2_spec.specs.Stream.{octets_waiting}
 use Rattle.h2_spec.specs.Answer.{Entry}
-use Rattle.h2_spec.specs.Pump.{share, share_frames, after_sending, sent_frames, all_after_sending, window_left}
-use Rattle.h2_laws.specs.Shares.{shares, total, ShareIsLeast, SendsShares}
+use Rattle.h2_spec.specs.SendPending.{allowance, allowance_frames, after_sending, sent_frames, all_after_sending, window_left}
+use Rattle.h2_laws.specs.Allowances.{allowances, total, AllowanceIsLeast, SendsAllowances}
 
-pub share-least : (window : ℕ) (before : List Stream) (st : Stream) (behind : List Stream) → ShareIsLeast window before st behind
-unfolding share
-share-least window [] st behind = ap (λ w. Some (min (min (octets_waiting st) (sendable st.numbers.send)) w)) (omega arith)
-share-least window (x ∷ before) st behind =
-    let less : window - share window x - total (shares (window - share window x) before) ≡ window - (share window x + total (shares (window - share window x) before)) = omega arith in
-    share-least (window - share window x) before st behind ∙ ap (λ w. Some (min (min (octets_waiting st) (sendable st.numbers.send)) w)) less
+pub allowance-least : (window : ℕ) (before : List Stream) (st : Stream) (behind : List Stream) → AllowanceIsLeast window before st behind
+unfolding allowance
+allowance-least window [] st behind = ap (λ w. Some (min (min (octets_waiting st) (sendable st.numbers.send)) w)) (omega arith)
+allowance-least window (x ∷ before) st behind =
+    let less : window - allowance window x - total (allowances (window - allowance window x) before) ≡ window - (allowance window x + total (allowances (window - allowance window x) before)) = omega arith in
+    allowance-least (window - allowance window x) before st behind ∙ ap (λ w. Some (min (min (octets_waiting st) (sendable st.numbers.send)) w)) less
 
-pub shares-sent : (book : List Entry) (size window : ℕ) (sts : List Stream) → SendsShares book size window sts
+pub allowances-sent : (book : List Entry) (size window : ℕ) (sts : List Stream) → SendsAllowances book size window sts
 unfolding sent_frames all_after_sending window_left
-shares-sent book size window [] = record { frames = refl; records = refl; left = omega arith }
-shares-sent book size window (st ∷ sts) =
-    let more = shares-sent book size (window - share window st) sts in
+allowances-sent book size window [] = record { frames = refl; records = refl; left = omega arith }
+allowances-sent book size window (st ∷ sts) =
+    let more = allowances-sent book size (window - allowance window st) sts in
     record {
-      frames = ap (λ fs. share_frames book size (share window st) st ++ fs) more.frames;
-      records = ap (λ rs. after_sending (share window st) st ∷ rs) more.records;
+      frames = ap (λ fs. allowance_frames book size (allowance window st) st ++ fs) more.frames;
+      records = ap (λ rs. after_sending (allowance window st) st ∷ rs) more.records;
       left = more.left ∙ (omega arith);
     }

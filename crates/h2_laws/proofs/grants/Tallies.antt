@@ -3,7 +3,7 @@ use Rattle.std.proofs.Common.{◌≡◌, ℕ, zero, suc, ◌+◌, ◌≤◌, Boo
 use Rattle.std.proofs.lemmas.List.{take-append-drop, length-take}
 use Rattle.std.proofs.lemmas.Bool.{false≢true, leb-true, leb-false}
 use Rattle.h2_spec.specs.Frame.{Frame}
-use Rattle.h2_spec.specs.Pump.{piece, data_upto, data_frames}
+use Rattle.h2_spec.specs.SendPending.{piece, data_upto, data_frames}
 use Rattle.h2_laws.specs.Grants.{Mark, Tally, When, AtEach, IsWithinFrameSize, IsInOrder, IsBeforeEnd, sent_one, sent_all, sends_data, is_unfinished}
 
 pub always : {P : Type 0} (b : Bool) → P → When b P

@@ -6,12 +6,12 @@ use Rattle.std.proofs.lemmas.List.{nil_from_length, append-nil}
 use Rattle.std.specs.Option.{is_some}
 use Rattle.std.specs.Prelude.{ℤ, pos, ◌+ℤ◌}
 use Rattle.h2_spec.specs.declared.connection.Config.{Config}
-use Rattle.h2_spec.specs.declared.connection.Core.{Core}
+use Rattle.h2_spec.specs.declared.connection.ConnectionState.{ConnectionState}
 use Rattle.h2_spec.specs.declared.errors.ErrorCode.{ErrorCode}
 use Rattle.h2_spec.specs.declared.errors.ErrorCode.TheVariants.{ProtocolError, FlowControlError, RefusedStream, EnhanceYourCalm}
-use Rattle.h2_spec.specs.declared.reactions.Came.{Came}
-use Rattle.h2_spec.specs.declared.reactions.Facts.{Facts}
-use Rattle.h2_spec.specs.declared.reactions.Turn.{Turn}
+use Rattle.h2_spec.specs.declared.reactions.ReceivedData.{ReceivedData}
+use Rattle.h2_spec.specs.declared.reactions.BlockSummary.{BlockSummary}
+use Rattle.h2_spec.specs.declared.reactions.StreamOutcome.{StreamOutcome}
 use Rattle.h2_spec.specs.declared.streams.Kind.{Kind}
 use Rattle.h2_spec.specs.declared.streams.Kind.TheVariants.{Idle, Skipped, BothOpen, HalfRemote, HalfLocal, Ended, PeerReset, WeReset}
 use Rattle.h2_spec.specs.declared.streams.Numbers.{Numbers}
@@ -21,15 +21,15 @@ use Rattle.h2_spec.specs.Frame.{Frame}
 use Rattle.h2_spec.specs.Answer.{Entry, picked}
 use Rattle.h2_spec.specs.Window.{given_back}
 use Rattle.h2_spec.specs.Stream.{octets_waiting}
-use Rattle.h2_spec.specs.Change.{quiet_turn, stream_error, second_frames, answer_frames, with_send}
-use Rattle.h2_spec.specs.Ends.{server_ended, begun, with_left, with_kind, answered, answered_unless, peer_ended}
-use Rattle.h2_spec.specs.Data.{returned, returned_as, taken, data_turn}
-use Rattle.h2_spec.specs.WindowUpdate.{window_turn}
-use Rattle.h2_spec.specs.Headers.{new_stream, request_turn, trailers_turn}
-use Rattle.h2_spec.specs.Effect.{body_length, reset_turn}
+use Rattle.h2_spec.specs.Change.{outcome_without_frame, stream_error, second_frames, answer_frames, with_send}
+use Rattle.h2_spec.specs.StreamEnds.{server_ended, begun, with_body_remaining, with_kind, answered, answered_unless, peer_ended}
+use Rattle.h2_spec.specs.Data.{returned, returned_as, taken, data_outcome}
+use Rattle.h2_spec.specs.WindowUpdate.{window_outcome}
+use Rattle.h2_spec.specs.Headers.{new_stream, request_outcome, trailers_outcome}
+use Rattle.h2_spec.specs.Effect.{body_length, reset_outcome}
 use Rattle.h2_laws.specs.Grants.{Mark, Tally, When, IsOfBody, body_or_nothing, blank, marked_by}
 use Rattle.h2_laws.proofs.grants.Tallies.{always, Leads, Leads-nil, Leads-cons}
-use Rattle.h2_laws.proofs.grants.Agreement.{Waits, Sends, Ends, Cut, FitsAs, Fits, HasBody}
+use Rattle.h2_laws.proofs.grants.Agreement.{Waits, Sends, HasEnded, Cut, FitsAs, Fits, HasBody}
 
 -- ---- frames of one stream that are no DATA
 
@@ -74,40 +74,40 @@ own-leads id j t (f ∷ fs) e o h =
 -- ---- what holds of a turn
 
 -- what a turn sends
-abbrev pub turn_frames : List Entry → Turn → List Frame
-turn_frames book turn = second_frames turn.frame ++ answer_frames book turn.answer
+abbrev pub outcome_frames : List Entry → StreamOutcome → List Frame
+outcome_frames book outcome = second_frames outcome.frame ++ answer_frames book outcome.answer
 
 -- of any stream: it keeps the identifier, sends on it alone, and waits for no more than the body
-pub record Proper (book : List Entry) (st : Stream) (turn : Turn) : Type 0 where
-  pub same_id : turn.stream.id ≡ st.id
-  pub only : OnlyOn st.id (turn_frames book turn)
-  pub has_body : HasBody book st → HasBody book turn.stream
+pub record Proper (book : List Entry) (st : Stream) (outcome : StreamOutcome) : Type 0 where
+  pub same_id : outcome.stream.id ≡ st.id
+  pub only : OnlyOn st.id (outcome_frames book outcome)
+  pub has_body : HasBody book st → HasBody book outcome.stream
 
 -- of the stream that is followed, m being its mark before the frames
-pub record Good (book : List Entry) (window : ℕ) (m : Mark) (turn : Turn) : Type 0 where
-  pub in_turn : InTurn m (turn_frames book turn)
-  pub fits : Fits book window turn.stream (marked_all m (turn_frames book turn))
+pub record Good (book : List Entry) (window : ℕ) (m : Mark) (outcome : StreamOutcome) : Type 0 where
+  pub in_turn : InTurn m (outcome_frames book outcome)
+  pub fits : Fits book window outcome.stream (marked_all m (outcome_frames book outcome))
 
 -- tests are gone through without a look at what they say
-either-proper : (book : List Entry) (st : Stream) (b : Bool) (x y : Turn) → Proper book st x → Proper book st y → Proper book st (cond b x y)
+either-proper : (book : List Entry) (st : Stream) (b : Bool) (x y : StreamOutcome) → Proper book st x → Proper book st y → Proper book st (cond b x y)
 either-proper book st true x y p q = p
 either-proper book st false x y p q = q
 
-either-good : (book : List Entry) (window : ℕ) (m : Mark) (b : Bool) (x y : Turn) → Good book window m x → Good book window m y → Good book window m (cond b x y)
+either-good : (book : List Entry) (window : ℕ) (m : Mark) (b : Bool) (x y : StreamOutcome) → Good book window m x → Good book window m y → Good book window m (cond b x y)
 either-good book window m true x y p q = p
 either-good book window m false x y p q = q
 
 -- ---- a turn that changes nothing, and a stream error
 
-quiet-proper : (book : List Entry) (signal : Bool) (st : Stream) → Proper book st (quiet_turn signal st)
-quiet-proper book signal st = record { same_id = refl; only = tt; has_body = λ h. h }
+quiet-proper : (book : List Entry) (size_update_pending : Bool) (st : Stream) → Proper book st (outcome_without_frame size_update_pending st)
+quiet-proper book size_update_pending st = record { same_id = refl; only = tt; has_body = λ h. h }
 
-quiet-good : (book : List Entry) (window : ℕ) (m : Mark) (signal : Bool) (st : Stream) → Fits book window st m → Good book window m (quiet_turn signal st)
-quiet-good book window m signal st f = record { in_turn = tt; fits = f }
+quiet-good : (book : List Entry) (window : ℕ) (m : Mark) (size_update_pending : Bool) (st : Stream) → Fits book window st m → Good book window m (outcome_without_frame size_update_pending st)
+quiet-good book window m size_update_pending st f = record { in_turn = tt; fits = f }
 
-pub error-proper : (book : List Entry) (signal : Bool) (st : Stream) (code : ErrorCode) → Proper book st (stream_error signal st.id code)
+pub error-proper : (book : List Entry) (size_update_pending : Bool) (st : Stream) (code : ErrorCode) → Proper book st (stream_error size_update_pending st.id code)
 unfolding octets_waiting
-error-proper book signal st code = record { same_id = refl; only = (refl, refl, tt); has_body = λ h. (omega arith, tt) }
+error-proper book size_update_pending st code = record { same_id = refl; only = (refl, refl, tt); has_body = λ h. (omega arith, tt) }
 
 -- the stream has a request and was not reset
 pub record Uncut (m : Mark) : Type 0 where
@@ -115,8 +115,8 @@ pub record Uncut (m : Mark) : Type 0 where
   pub of_body : IsOfBody m
   pub reset : m.reset ≡ false
 
-pub error-good : (book : List Entry) (window : ℕ) (m : Mark) (signal : Bool) (id : ℕ) (code : ErrorCode) → Uncut m → Good book window m (stream_error signal id code)
-error-good book window m signal id code u = record { in_turn = ((tt, u.reset), tt); fits = record { promised = u.promised; of_body = u.of_body; reset = refl } }
+pub error-good : (book : List Entry) (window : ℕ) (m : Mark) (size_update_pending : Bool) (id : ℕ) (code : ErrorCode) → Uncut m → Good book window m (stream_error size_update_pending id code)
+error-good book window m size_update_pending id code u = record { in_turn = ((tt, u.reset), tt); fits = record { promised = u.promised; of_body = u.of_body; reset = refl } }
 
 pub Uncut-sends : (body : List ℕ) (window : ℕ) (send : ℤ) (left : Option ℕ) (m : Mark) → Sends body window send left m → Uncut m
 Uncut-sends body window send left m f = record {
@@ -149,15 +149,15 @@ Uncut-live WeReset body window send left m f r = record { promised = f.promised;
 
 -- ---- the answer begins
 
-answered-proper : (book : List Entry) (signal : Bool) (st : Stream) → Proper book st (answered signal (body_length book st) st)
+answered-proper : (book : List Entry) (size_update_pending : Bool) (st : Stream) → Proper book st (answered size_update_pending (body_length book st) st)
 unfolding answered begun server_ended octets_waiting
-answered-proper book signal st = at (eqb (body_length book st) 0) st.kind
+answered-proper book size_update_pending st = at (eqb (body_length book st) 0) st.kind
   where
     -- the record with another state
     in_state : Kind → Stream
     in_state k = record st { kind = k }
 
-    at : (b : Bool) (k : Kind) → Proper book (in_state k) (record (answered signal (body_length book st) (in_state k)) { stream = cond b (server_ended (in_state k)) (with_left (in_state k) (body_length book st)) })
+    at : (b : Bool) (k : Kind) → Proper book (in_state k) (record (answered size_update_pending (body_length book st) (in_state k)) { stream = cond b (server_ended (in_state k)) (with_body_remaining (in_state k) (body_length book st)) })
     at false Idle = record { same_id = refl; only = (refl, refl, tt); has_body = λ h. (omega arith, h.1) }
     at false Skipped = record { same_id = refl; only = (refl, refl, tt); has_body = λ h. (omega arith, h.1) }
     at false BothOpen = record { same_id = refl; only = (refl, refl, tt); has_body = λ h. (omega arith, h.1) }
@@ -176,11 +176,11 @@ answered-proper book signal st = at (eqb (body_length book st) 0) st.kind
     at true WeReset = record { same_id = refl; only = (refl, refl, tt); has_body = λ h. h }
 
 -- on a stream that nothing was sent on, and that the peer has ended
-answered-good : (book : List Entry) (window : ℕ) (m : Mark) (signal : Bool) (i : ℕ) (x : Numbers) (pick : Pick) → Sends (picked book pick).body window x.send None m →
+answered-good : (book : List Entry) (window : ℕ) (m : Mark) (size_update_pending : Bool) (i : ℕ) (x : Numbers) (pick : Pick) → Sends (picked book pick).body window x.send None m →
     let st : Stream = record { id = i; kind = HalfRemote; numbers = x; pick = pick } in
-    Good book window m (answered signal (body_length book st) st)
+    Good book window m (answered size_update_pending (body_length book st) st)
 unfolding answered begun server_ended
-answered-good book window m signal i x pick f = at (eqb (length body) 0) refl
+answered-good book window m size_update_pending i x pick f = at (eqb (length body) 0) refl
   where
     body : List ℕ
     body = (picked book pick).body
@@ -194,7 +194,7 @@ answered-good book window m signal i x pick f = at (eqb (length body) 0) refl
     no_body : eqb (length body) 0 ≡ true → m.content ≡ body
     no_body e = f.waits.1 ∙ sym (nil_from_length body (eqb-true (length body) 0 e))
 
-    ends : (e : eqb (length body) 0 ≡ true) → Ends (record m { headers = m.headers + 1; ended = m.ended || true })
+    ends : (e : eqb (length body) 0 ≡ true) → HasEnded (record m { headers = m.headers + 1; ended = m.ended || true })
     ends e = record {
       promised = ap is_some f.promised;
       of_body = (([], append-nil m.content ∙ (no_body e ∙ promised)), always (m.ended || true) (no_body e ∙ promised));
@@ -213,92 +213,92 @@ answered-good book window m signal i x pick f = at (eqb (length body) 0) refl
     st : Stream
     st = record { id = i; kind = HalfRemote; numbers = x; pick = pick }
 
-    at : (b : Bool) → eqb (length body) 0 ≡ b → Good book window m (record (answered signal (length body) st) { stream = cond b (server_ended st) (with_left st (length body)) })
+    at : (b : Bool) → eqb (length body) 0 ≡ b → Good book window m (record (answered size_update_pending (length body) st) { stream = cond b (server_ended st) (with_body_remaining st (length body)) })
     at true e = record { in_turn = (((f.waits.0, f.ended), f.reset), tt); fits = rw e (ends e) }
     at false e = record { in_turn = (((f.waits.0, f.ended), f.reset), tt); fits = rw e (goes_on e) }
 
 -- ---- the peer's side ends
 
 -- what is right for the record after a change is right for the record before it
-moved-proper : (book : List Entry) (st after : Stream) (turn : Turn) → after.id ≡ st.id → (HasBody book st → HasBody book after) → Proper book after turn → Proper book st turn
-moved-proper book st after turn e h p = record { same_id = p.same_id ∙ e; only = subst (λ j. OnlyOn j (turn_frames book turn)) e p.only; has_body = λ b. p.has_body (h b) }
+moved-proper : (book : List Entry) (st after : Stream) (outcome : StreamOutcome) → after.id ≡ st.id → (HasBody book st → HasBody book after) → Proper book after outcome → Proper book st outcome
+moved-proper book st after outcome e h p = record { same_id = p.same_id ∙ e; only = subst (λ j. OnlyOn j (outcome_frames book outcome)) e p.only; has_body = λ b. p.has_body (h b) }
 
-peer_ended-proper : (book : List Entry) (signal : Bool) (st : Stream) → Proper book st (peer_ended signal (body_length book st) st)
+peer_ended-proper : (book : List Entry) (size_update_pending : Bool) (st : Stream) → Proper book st (peer_ended size_update_pending (body_length book st) st)
 unfolding peer_ended octets_waiting
-peer_ended-proper book signal st = at st.kind
+peer_ended-proper book size_update_pending st = at st.kind
   where
     after : Stream
     after = with_kind st HalfRemote
 
-    begins : (b : Bool) → Proper book (record st { kind = BothOpen }) (answered_unless b signal (body_length book st) after)
+    begins : (b : Bool) → Proper book (record st { kind = BothOpen }) (answered_unless b size_update_pending (body_length book st) after)
     begins true = record { same_id = refl; only = tt; has_body = λ h. h }
-    begins false = moved-proper book (record st { kind = BothOpen }) after (answered signal (body_length book st) after) refl (λ h. h) (answered-proper book signal after)
+    begins false = moved-proper book (record st { kind = BothOpen }) after (answered size_update_pending (body_length book st) after) refl (λ h. h) (answered-proper book size_update_pending after)
 
-    at : (k : Kind) → Proper book (record st { kind = k }) (peer_ended signal (body_length book st) (record st { kind = k }))
-    at Idle = quiet-proper book signal (record st { kind = Idle })
-    at Skipped = quiet-proper book signal (record st { kind = Skipped })
-    at BothOpen = begins (is_some st.numbers.left)
-    at HalfRemote = quiet-proper book signal (record st { kind = HalfRemote })
+    at : (k : Kind) → Proper book (record st { kind = k }) (peer_ended size_update_pending (body_length book st) (record st { kind = k }))
+    at Idle = quiet-proper book size_update_pending (record st { kind = Idle })
+    at Skipped = quiet-proper book size_update_pending (record st { kind = Skipped })
+    at BothOpen = begins (is_some st.numbers.body_remaining)
+    at HalfRemote = quiet-proper book size_update_pending (record st { kind = HalfRemote })
     at HalfLocal = record { same_id = refl; only = tt; has_body = λ h. (omega arith, tt) }
-    at Ended = quiet-proper book signal (record st { kind = Ended })
-    at PeerReset = quiet-proper book signal (record st { kind = PeerReset })
-    at WeReset = quiet-proper book signal (record st { kind = WeReset })
+    at Ended = quiet-proper book size_update_pending (record st { kind = Ended })
+    at PeerReset = quiet-proper book size_update_pending (record st { kind = PeerReset })
+    at WeReset = quiet-proper book size_update_pending (record st { kind = WeReset })
 
-peer_ended-good : (book : List Entry) (window : ℕ) (m : Mark) (signal : Bool) (st : Stream) → Fits book window st m → Good book window m (peer_ended signal (body_length book st) st)
+peer_ended-good : (book : List Entry) (window : ℕ) (m : Mark) (size_update_pending : Bool) (st : Stream) → Fits book window st m → Good book window m (peer_ended size_update_pending (body_length book st) st)
 unfolding peer_ended
-peer_ended-good book window m signal st f = at st.kind f
+peer_ended-good book window m size_update_pending st f = at st.kind f
   where
     begins : (o : Option ℕ) → Sends (picked book st.pick).body window st.numbers.send o m →
-        let after : Stream = record st { kind = HalfRemote; numbers = record st.numbers { left = o } } in
-        Good book window m (answered_unless (is_some o) signal (body_length book st) after)
-    begins None f = answered-good book window m signal st.id (record st.numbers { left = None }) st.pick f
+        let after : Stream = record st { kind = HalfRemote; numbers = record st.numbers { body_remaining = o } } in
+        Good book window m (answered_unless (is_some o) size_update_pending (body_length book st) after)
+    begins None f = answered-good book window m size_update_pending st.id (record st.numbers { body_remaining = None }) st.pick f
     begins (Some l) f = record { in_turn = tt; fits = f }
 
-    at : (k : Kind) → Fits book window (record st { kind = k }) m → Good book window m (peer_ended signal (body_length book st) (record st { kind = k }))
+    at : (k : Kind) → Fits book window (record st { kind = k }) m → Good book window m (peer_ended size_update_pending (body_length book st) (record st { kind = k }))
     at Idle f = absurd f
     at Skipped f = absurd f
-    at BothOpen f = begins st.numbers.left f
-    at HalfRemote f = quiet-good book window m signal (record st { kind = HalfRemote }) f
+    at BothOpen f = begins st.numbers.body_remaining f
+    at HalfRemote f = quiet-good book window m size_update_pending (record st { kind = HalfRemote }) f
     at HalfLocal f = record { in_turn = tt; fits = f.0 }
-    at Ended f = quiet-good book window m signal (record st { kind = Ended }) f
-    at PeerReset f = quiet-good book window m signal (record st { kind = PeerReset }) f
-    at WeReset f = quiet-good book window m signal (record st { kind = WeReset }) f
+    at Ended f = quiet-good book window m size_update_pending (record st { kind = Ended }) f
+    at PeerReset f = quiet-good book window m size_update_pending (record st { kind = PeerReset }) f
+    at WeReset f = quiet-good book window m size_update_pending (record st { kind = WeReset }) f
 
 -- ---- DATA
 
-returned-proper : (book : List Entry) (threshold : ℕ) (signal : Bool) (st : Stream) → Proper book st (returned threshold signal st)
+returned-proper : (book : List Entry) (threshold : ℕ) (size_update_pending : Bool) (st : Stream) → Proper book st (returned threshold size_update_pending st)
 unfolding returned octets_waiting
-returned-proper book threshold signal st = at (given_back threshold st.numbers.owed)
+returned-proper book threshold size_update_pending st = at (given_back threshold st.numbers.owed)
   where
-    at : (o : Option ℕ) → Proper book st (returned_as o signal st)
+    at : (o : Option ℕ) → Proper book st (returned_as o size_update_pending st)
     at (Some n) = record { same_id = refl; only = (refl, refl, tt); has_body = λ h. h }
-    at None = quiet-proper book signal st
+    at None = quiet-proper book size_update_pending st
 
-returned-good : (book : List Entry) (window : ℕ) (m : Mark) (threshold : ℕ) (signal : Bool) (st : Stream) → Fits book window st m → m.reset ≡ false → Good book window m (returned threshold signal st)
+returned-good : (book : List Entry) (window : ℕ) (m : Mark) (threshold : ℕ) (size_update_pending : Bool) (st : Stream) → Fits book window st m → m.reset ≡ false → Good book window m (returned threshold size_update_pending st)
 unfolding returned
-returned-good book window m threshold signal st f r = at (given_back threshold st.numbers.owed)
+returned-good book window m threshold size_update_pending st f r = at (given_back threshold st.numbers.owed)
   where
-    at : (o : Option ℕ) → Good book window m (returned_as o signal st)
+    at : (o : Option ℕ) → Good book window m (returned_as o size_update_pending st)
     at (Some n) = record { in_turn = ((tt, r), tt); fits = f }
-    at None = quiet-good book window m signal st f
+    at None = quiet-good book window m size_update_pending st f
 
-pub data_turn-proper : (book : List Entry) (threshold : ℕ) (signal : Bool) (d : Came) (st : Stream) → Proper book st (data_turn threshold signal (body_length book st) d st)
-unfolding data_turn taken octets_waiting
-data_turn-proper book threshold signal d st =
+pub data_turn-proper : (book : List Entry) (threshold : ℕ) (size_update_pending : Bool) (d : ReceivedData) (st : Stream) → Proper book st (data_outcome threshold size_update_pending (body_length book st) d st)
+unfolding data_outcome taken octets_waiting
+data_turn-proper book threshold size_update_pending d st =
     let after : Stream = taken st d in
-    either-proper book st _ _ _ (error-proper book signal st FlowControlError)
-    (either-proper book st _ _ _ (error-proper book signal st ProtocolError)
+    either-proper book st _ _ _ (error-proper book size_update_pending st FlowControlError)
+    (either-proper book st _ _ _ (error-proper book size_update_pending st ProtocolError)
     (either-proper book st d.ends _ _
-    (moved-proper book st after _ refl (λ h. h) (peer_ended-proper book signal after))
-    (moved-proper book st after _ refl (λ h. h) (returned-proper book threshold signal after))))
+    (moved-proper book st after _ refl (λ h. h) (peer_ended-proper book size_update_pending after))
+    (moved-proper book st after _ refl (λ h. h) (returned-proper book threshold size_update_pending after))))
 
-pub data_turn-good : (book : List Entry) (window : ℕ) (m : Mark) (threshold : ℕ) (signal : Bool) (d : Came) (st : Stream) → Fits book window st m → m.reset ≡ false → Good book window m (data_turn threshold signal (body_length book st) d st)
-unfolding data_turn taken
-data_turn-good book window m threshold signal d st f r =
-    let u : Uncut m = Uncut-live st.kind (picked book st.pick).body window st.numbers.send st.numbers.left m f r in
-    either-good book window m _ _ _ (error-good book window m signal st.id FlowControlError u)
-    (either-good book window m _ _ _ (error-good book window m signal st.id ProtocolError u)
-    (either-good book window m d.ends _ _ (peer_ended-good book window m signal (taken st d) f) (returned-good book window m threshold signal (taken st d) f r)))
+pub data_turn-good : (book : List Entry) (window : ℕ) (m : Mark) (threshold : ℕ) (size_update_pending : Bool) (d : ReceivedData) (st : Stream) → Fits book window st m → m.reset ≡ false → Good book window m (data_outcome threshold size_update_pending (body_length book st) d st)
+unfolding data_outcome taken
+data_turn-good book window m threshold size_update_pending d st f r =
+    let u : Uncut m = Uncut-live st.kind (picked book st.pick).body window st.numbers.send st.numbers.body_remaining m f r in
+    either-good book window m _ _ _ (error-good book window m size_update_pending st.id FlowControlError u)
+    (either-good book window m _ _ _ (error-good book window m size_update_pending st.id ProtocolError u)
+    (either-good book window m d.ends _ _ (peer_ended-good book window m size_update_pending (taken st d) f) (returned-good book window m threshold size_update_pending (taken st d) f r)))
 
 -- ---- WINDOW_UPDATE and RST_STREAM
 
@@ -318,7 +318,7 @@ granted-sends body window send left m i f = record { promised = f.promised; send
     waits None w = w
     waits (Some l) w = w
 
-granted-ends : (m : Mark) (i : ℕ) → Ends m → Ends (granted_more i m)
+granted-ends : (m : Mark) (i : ℕ) → HasEnded m → HasEnded (granted_more i m)
 granted-ends m i f = record { promised = f.promised; of_body = f.of_body; ended = f.ended }
 
 granted-cut : (m : Mark) (i : ℕ) → Cut m → Cut (granted_more i m)
@@ -365,63 +365,63 @@ over-reset BothOpen body window send left m o f = absurd o
 over-reset HalfRemote body window send left m o f = absurd o
 over-reset HalfLocal body window send left m o f = absurd o
 
-pub window_turn-proper : (book : List Entry) (signal : Bool) (i : ℕ) (st : Stream) → Proper book st (window_turn signal i st)
-unfolding window_turn octets_waiting
-window_turn-proper book signal i st =
-    either-proper book st _ _ _ (error-proper book signal st ProtocolError)
-    (either-proper book st _ _ _ (error-proper book signal st FlowControlError) (record { same_id = refl; only = tt; has_body = λ h. h }))
+pub window_turn-proper : (book : List Entry) (size_update_pending : Bool) (i : ℕ) (st : Stream) → Proper book st (window_outcome size_update_pending i st)
+unfolding window_outcome octets_waiting
+window_turn-proper book size_update_pending i st =
+    either-proper book st _ _ _ (error-proper book size_update_pending st ProtocolError)
+    (either-proper book st _ _ _ (error-proper book size_update_pending st FlowControlError) (record { same_id = refl; only = tt; has_body = λ h. h }))
 
-pub window_turn-good : (book : List Entry) (window : ℕ) (m : Mark) (signal : Bool) (i : ℕ) (st : Stream) → Fits book window st m → m.reset ≡ false → Good book window (granted_more i m) (window_turn signal i st)
-unfolding window_turn
-window_turn-good book window m signal i st f r =
+pub window_turn-good : (book : List Entry) (window : ℕ) (m : Mark) (size_update_pending : Bool) (i : ℕ) (st : Stream) → Fits book window st m → m.reset ≡ false → Good book window (granted_more i m) (window_outcome size_update_pending i st)
+unfolding window_outcome
+window_turn-good book window m size_update_pending i st f r =
     let more : Mark = granted_more i m in
-    let g : FitsAs st.kind (picked book st.pick).body window (st.numbers.send +ℤ pos i) st.numbers.left more = granted-fits st.kind (picked book st.pick).body window st.numbers.send st.numbers.left m i f in
-    let u : Uncut more = Uncut-live st.kind (picked book st.pick).body window (st.numbers.send +ℤ pos i) st.numbers.left more g r in
-    either-good book window more _ _ _ (error-good book window more signal st.id ProtocolError u)
-    (either-good book window more _ _ _ (error-good book window more signal st.id FlowControlError u) (quiet-good book window more signal (with_send st (st.numbers.send +ℤ pos i)) g))
+    let g : FitsAs st.kind (picked book st.pick).body window (st.numbers.send +ℤ pos i) st.numbers.body_remaining more = granted-fits st.kind (picked book st.pick).body window st.numbers.send st.numbers.body_remaining m i f in
+    let u : Uncut more = Uncut-live st.kind (picked book st.pick).body window (st.numbers.send +ℤ pos i) st.numbers.body_remaining more g r in
+    either-good book window more _ _ _ (error-good book window more size_update_pending st.id ProtocolError u)
+    (either-good book window more _ _ _ (error-good book window more size_update_pending st.id FlowControlError u) (quiet-good book window more size_update_pending (with_send st (st.numbers.send +ℤ pos i)) g))
 
-pub reset_turn-proper : (book : List Entry) (signal : Bool) (st : Stream) → Proper book st (reset_turn signal st)
+pub reset_turn-proper : (book : List Entry) (size_update_pending : Bool) (st : Stream) → Proper book st (reset_outcome size_update_pending st)
 unfolding octets_waiting
-reset_turn-proper book signal st = record { same_id = refl; only = tt; has_body = λ h. (omega arith, tt) }
+reset_turn-proper book size_update_pending st = record { same_id = refl; only = tt; has_body = λ h. (omega arith, tt) }
 
-pub reset_turn-good : (book : List Entry) (window : ℕ) (m : Mark) (signal : Bool) (st : Stream) → Fits book window st m → m.reset ≡ false → Good book window (now_reset m) (reset_turn signal st)
-reset_turn-good book window m signal st f r =
-    let u : Uncut m = Uncut-live st.kind (picked book st.pick).body window st.numbers.send st.numbers.left m f r in
+pub reset_turn-good : (book : List Entry) (window : ℕ) (m : Mark) (size_update_pending : Bool) (st : Stream) → Fits book window st m → m.reset ≡ false → Good book window (now_reset m) (reset_outcome size_update_pending st)
+reset_turn-good book window m size_update_pending st f r =
+    let u : Uncut m = Uncut-live st.kind (picked book st.pick).body window st.numbers.send st.numbers.body_remaining m f r in
     record { in_turn = tt; fits = record { promised = u.promised; of_body = u.of_body; reset = refl } }
 
 -- ---- the ends of blocks
 
-pub trailers_turn-proper : (book : List Entry) (size : ℕ) (malformed signal ends : Bool) (st : Stream) → Proper book st (trailers_turn size malformed (body_length book st) signal ends st)
-unfolding trailers_turn
-trailers_turn-proper book size malformed signal ends st =
-    either-proper book st _ _ _ (error-proper book signal st EnhanceYourCalm)
-    (either-proper book st _ _ _ (error-proper book signal st ProtocolError) (peer_ended-proper book signal st))
+pub trailers_turn-proper : (book : List Entry) (size : ℕ) (malformed size_update_pending ends : Bool) (st : Stream) → Proper book st (trailers_outcome size malformed (body_length book st) size_update_pending ends st)
+unfolding trailers_outcome
+trailers_turn-proper book size malformed size_update_pending ends st =
+    either-proper book st _ _ _ (error-proper book size_update_pending st EnhanceYourCalm)
+    (either-proper book st _ _ _ (error-proper book size_update_pending st ProtocolError) (peer_ended-proper book size_update_pending st))
 
-pub trailers_turn-good : (book : List Entry) (window : ℕ) (m : Mark) (size : ℕ) (malformed signal ends : Bool) (st : Stream) → Fits book window st m → m.reset ≡ false →
-    Good book window m (trailers_turn size malformed (body_length book st) signal ends st)
-unfolding trailers_turn
-trailers_turn-good book window m size malformed signal ends st f r =
-    let u : Uncut m = Uncut-live st.kind (picked book st.pick).body window st.numbers.send st.numbers.left m f r in
-    either-good book window m _ _ _ (error-good book window m signal st.id EnhanceYourCalm u)
-    (either-good book window m _ _ _ (error-good book window m signal st.id ProtocolError u) (peer_ended-good book window m signal st f))
+pub trailers_turn-good : (book : List Entry) (window : ℕ) (m : Mark) (size : ℕ) (malformed size_update_pending ends : Bool) (st : Stream) → Fits book window st m → m.reset ≡ false →
+    Good book window m (trailers_outcome size malformed (body_length book st) size_update_pending ends st)
+unfolding trailers_outcome
+trailers_turn-good book window m size malformed size_update_pending ends st f r =
+    let u : Uncut m = Uncut-live st.kind (picked book st.pick).body window st.numbers.send st.numbers.body_remaining m f r in
+    either-good book window m _ _ _ (error-good book window m size_update_pending st.id EnhanceYourCalm u)
+    (either-good book window m _ _ _ (error-good book window m size_update_pending st.id ProtocolError u) (peer_ended-good book window m size_update_pending st f))
 
-pub request_turn-proper : (book : List Entry) (config : Config) (live : ℕ) (core : Core) (id : ℕ) (ends : Bool) (f : Facts) →
-    Proper book (new_stream core id f) (request_turn config live (body_length book (new_stream core id f)) core id ends f)
-unfolding request_turn
+pub request_turn-proper : (book : List Entry) (config : Config) (live : ℕ) (core : ConnectionState) (id : ℕ) (ends : Bool) (f : BlockSummary) →
+    Proper book (new_stream core id f) (request_outcome config live (body_length book (new_stream core id f)) core id ends f)
+unfolding request_outcome
 request_turn-proper book config live core id ends f =
     let st : Stream = new_stream core id f in
-    either-proper book st _ _ _ (error-proper book core.peer.signal st RefusedStream)
-    (either-proper book st _ _ _ (error-proper book core.peer.signal st EnhanceYourCalm)
-    (either-proper book st _ _ _ (error-proper book core.peer.signal st ProtocolError)
-    (either-proper book st ends _ _ (peer_ended-proper book core.peer.signal st) (quiet-proper book core.peer.signal st))))
+    either-proper book st _ _ _ (error-proper book core.peer.size_update_pending st RefusedStream)
+    (either-proper book st _ _ _ (error-proper book core.peer.size_update_pending st EnhanceYourCalm)
+    (either-proper book st _ _ _ (error-proper book core.peer.size_update_pending st ProtocolError)
+    (either-proper book st ends _ _ (peer_ended-proper book core.peer.size_update_pending st) (quiet-proper book core.peer.size_update_pending st))))
 
 -- the mark of a stream whose request has just come
 abbrev pub just_asked : List ℕ → Mark
 just_asked body = record blank { promised = Some body }
 
-pub request_turn-good : (book : List Entry) (config : Config) (live : ℕ) (core : Core) (id : ℕ) (ends : Bool) (f : Facts) →
-    Good book core.peer.window (just_asked (picked book f.pick).body) (request_turn config live (body_length book (new_stream core id f)) core id ends f)
-unfolding request_turn
+pub request_turn-good : (book : List Entry) (config : Config) (live : ℕ) (core : ConnectionState) (id : ℕ) (ends : Bool) (f : BlockSummary) →
+    Good book core.peer.window (just_asked (picked book f.pick).body) (request_outcome config live (body_length book (new_stream core id f)) core id ends f)
+unfolding request_outcome
 request_turn-good book config live core id ends f =
     let st : Stream = new_stream core id f in
     let body : List ℕ = (picked book f.pick).body in
@@ -429,7 +429,7 @@ request_turn-good book config live core id ends f =
     let w : ℕ = core.peer.window in
     let g : Sends body w (pos w) None m = record { promised = refl; send_is = omega (arith, ints); waits = (refl, refl); ended = refl; reset = refl } in
     let u : Uncut m = Uncut-sends body w (pos w) None m g in
-    either-good book w m _ _ _ (error-good book w m core.peer.signal id RefusedStream u)
-    (either-good book w m _ _ _ (error-good book w m core.peer.signal id EnhanceYourCalm u)
-    (either-good book w m _ _ _ (error-good book w m core.peer.signal id ProtocolError u)
-    (either-good book w m ends _ _ (peer_ended-good book w m core.peer.signal st g) (quiet-good book w m core.peer.signal st g))))
+    either-good book w m _ _ _ (error-good book w m core.peer.size_update_pending id RefusedStream u)
+    (either-good book w m _ _ _ (error-good book w m core.peer.size_update_pending id EnhanceYourCalm u)
+    (either-good book w m _ _ _ (error-good book w m core.peer.size_update_pending id ProtocolError u)
+    (either-good book w m ends _ _ (peer_ended-good book w m core.peer.size_update_pending st g) (quiet-good book w m core.peer.size_update_pending st g))))

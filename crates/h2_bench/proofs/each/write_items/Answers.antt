@@ -2,8 +2,8 @@ use Rattle.std.proofs.Common.{◌∙◌, ◌+◌, ◌++◌, List, ℕ, Result, S
 use Rattle.std.proofs.lemmas.List.{append-nil}
 use Rattle.h2_spec.specs.Trace.{trace}
 use Rattle.h2_bench.specs.Each.{not_written}
-use Rattle.h2_bench.specs.Told.{item_texts}
-use Rattle.h2_bench.specs.declared.each.Untold.{Untold}
+use Rattle.h2_bench.specs.Printed.{item_texts}
+use Rattle.h2_bench.specs.declared.each.PlacesFault.{PlacesFault}
 use Rattle.h2_bench.proofs.Places.{concat-all, concat-next, drop-next, item-next, item-within, none-next, trace-events}
 use Rattle.h2_bench.proofs.Written.{more-written}
 use Rattle.h2_bench.proofs.each.write_items.Goals as goal
@@ -16,7 +16,7 @@ loop-taken-init g c = record {
   writer = c.requires.writer;
   name = refl;
   left = ap (item_texts 1) (trace-events c.args.conn.now.state c.args.octets.now);
-  told = λ held is. is ∙ ap (λ (t : List ℕ). Some t) (sym (append-nil held));
+  printed = λ held is. is ∙ ap (λ (t : List ℕ). Some t) (sym (append-nil held));
 }
 
 pub overflow_add-at : goal.overflow_add-at
@@ -41,17 +41,17 @@ loop-taken-preserved g c =
       within = within.1;
       new = item.after;
       counted = omega (arith, within.0, c.loop-taken.invariant.counted);
-      writer = c.write_place.ensures.flag ∙ ap (λ (r : Result (Unit {0}) Untold). not_written r) c.in-Ok.is;
+      writer = c.write_place.ensures.flag ∙ ap (λ (r : Result (Unit {0}) PlacesFault). not_written r) c.in-Ok.is;
       name = c.write_place.ensures.name ∙ c.loop-taken.invariant.name;
       left = drop-next c.loop-taken.place items _ _ left;
-      told = λ held is. more-written held _ _ _ _ _ (c.loop-taken.invariant.told held is) (rw c.as_slice-sent.ensures.value at c.in-Ok.ensures.octets) (concat-next c.loop-taken.place items _ _ left);
+      printed = λ held is. more-written held _ _ _ _ _ (c.loop-taken.invariant.printed held is) (rw c.as_slice-sent.ensures.value at c.in-Ok.ensures.octets) (concat-next c.loop-taken.place items _ _ left);
     }
 
-pub returns-in-Ok-None-clause-told : goal.returns-in-Ok-None-clause-told
-returns-in-Ok-None-clause-told g c = λ held is.
+pub returns-in-Ok-None-clause-printed : goal.returns-in-Ok-None-clause-printed
+returns-in-Ok-None-clause-printed g c = λ held is.
     let none = rw (c.octets_from.ensures, c.in-Ok-None.field-0-is) at c.in-Ok-None.ensures in
     let all = c.loop-taken.invariant.left ∙ none-next _ _ (c.loop-taken.place + 1) none in
-    c.loop-taken.invariant.told held is ∙ ap (λ (t : List ℕ). Some (held ++ t)) (concat-all c.loop-taken.place (item_texts 1 (trace c.args.conn.now.state c.args.octets.now).events) all)
+    c.loop-taken.invariant.printed held is ∙ ap (λ (t : List ℕ). Some (held ++ t)) (concat-all c.loop-taken.place (item_texts 1 (trace c.args.conn.now.state c.args.octets.now).events) all)
 
 pub returns-in-Err-clause-cut : goal.returns-in-Err-clause-cut
-returns-in-Err-clause-cut g c = λ held is. (refl, (c.loop-taken.place, c.loop-taken.invariant.told held is))
+returns-in-Err-clause-cut g c = λ held is. (refl, (c.loop-taken.place, c.loop-taken.invariant.printed held is))

@@ -2,7 +2,7 @@ use Rattle.std.proofs.Common.{◌≡◌, ◌≤◌, ◌+◌, ◌-◌, ℕ, List,
 use Rattle.std.specs.List.{concat}
 use Rattle.h2_spec.specs.Trace.{trace}
 use Rattle.h2_conn.specs.Connection.{going}
-use Rattle.h2_bench.specs.Told.{item_texts}
+use Rattle.h2_bench.specs.Printed.{item_texts}
 use Rattle.h2_bench.proofs.Places.{events}
 use Rattle.h2_bench.proofs.each.write_items.Given as goal
 
@@ -16,7 +16,7 @@ invariant-loop-taken g l =
       writer : g.O.Output.has_failed l.output ≡ false;
       name : g.O.Output.name l.output ≡ g.O.Output.name l.fn.output;
       left : drop l.place items ≡ item_texts (l.place + 1) (events l.conn.state (drop l.at l.octets));
-      told : (held : List ℕ) → g.O.Output.written l.fn.output ≡ Some held → g.O.Output.written l.output ≡ Some (held ++ concat (take l.place items));
+      printed : (held : List ℕ) → g.O.Output.written l.fn.output ≡ Some held → g.O.Output.written l.output ≡ Some (held ++ concat (take l.place items));
     }
 
 abbrev pub decreases-loop-taken : goal.decreases-loop-taken

@@ -3,44 +3,44 @@ use Rattle.h2_spec.specs.Answer.{Entry}
 use Rattle.h2_spec.specs.declared.connection.Config.{Config}
 use Rattle.h2_words.specs.Grammar.{BatchAsked, BookAsked}
 use Rattle.h2_bench.specs.Books.{book_in}
-use Rattle.h2_bench.specs.Ends.{AnswersAs, Ends, EndsSession, EndsSomehow, Tells, no_files}
-use Rattle.h2_bench.specs.Told.{Told, cut_short, failed, places_with, places_within, told_with, told_within}
+use Rattle.h2_bench.specs.ProgramEnd.{AnswersAs, EndsBatch, EndsSession, EndsSomehow, Prints, no_files}
+use Rattle.h2_bench.specs.Printed.{Printed, cut_short, failed, places_with, places_within, printed_with, printed_within}
 use Rattle.h2_bench.specs.declared.fault.BenchFault.TheVariants.{Read}
 use Rattle.h2_bench.proofs.execute.run.Goals as goal
 
-by-book : (made : Result (List Entry) ℕ) (asked : BatchAsked) (input : Option (List ℕ)) (input_failed : Bool) (octets held : List ℕ) (after : Option (List ℕ)) (status : ℕ) (t : Told)
-    → input ≡ Some octets → AnswersAs made asked input input_failed t → Tells t held after status
-    → (status ≡ 3) ⊎ (((count : ℕ) × Tells (cut_short count (places_with made asked octets)) held after status) ⊎ (Tells (failed Read) held after status ⊎ Tells (told_with made asked octets) held after status))
-by-book (Err fault) asked input input_failed octets held after status t read known tells = inr (inr (inr (subst (λ (u : Told). Tells u held after status) known tells)))
-by-book (Ok book) asked input input_failed octets held after status t read (inl f) tells = inr (inr (inl (subst (λ (u : Told). Tells u held after status) f.1 tells)))
-by-book (Ok book) asked input input_failed octets held after status t read (inr x) tells = elim (x.1 octets read) [
-  | inl all ↦ inr (inr (inr (subst (λ (u : Told). Tells u held after status) all tells)))
-  | inr cut ↦ inr (inl (cut.0, subst (λ (u : Told). Tells u held after status) cut.1 tells))
+by-book : (made : Result (List Entry) ℕ) (asked : BatchAsked) (input : Option (List ℕ)) (input_failed : Bool) (octets held : List ℕ) (after : Option (List ℕ)) (status : ℕ) (t : Printed)
+    → input ≡ Some octets → AnswersAs made asked input input_failed t → Prints t held after status
+    → (status ≡ 3) ⊎ (((count : ℕ) × Prints (cut_short count (places_with made asked octets)) held after status) ⊎ (Prints (failed Read) held after status ⊎ Prints (printed_with made asked octets) held after status))
+by-book (Err fault) asked input input_failed octets held after status t read known prints = inr (inr (inr (subst (λ (u : Printed). Prints u held after status) known prints)))
+by-book (Ok book) asked input input_failed octets held after status t read (inl f) prints = inr (inr (inl (subst (λ (u : Printed). Prints u held after status) f.1 prints)))
+by-book (Ok book) asked input input_failed octets held after status t read (inr x) prints = elim (x.1 octets read) [
+  | inl all ↦ inr (inr (inr (subst (λ (u : Printed). Prints u held after status) all prints)))
+  | inr cut ↦ inr (inl (cut.0, subst (λ (u : Printed). Prints u held after status) cut.1 prints))
 ]
 
 somehow : (asked : BatchAsked) (input : Option (List ℕ)) (failed : Bool) (before after : Option (List ℕ)) (status : ℕ)
-    → Ends no_files asked input failed before after status → EndsSomehow no_files asked input before after status
+    → EndsBatch no_files asked input failed before after status → EndsSomehow no_files asked input before after status
 somehow asked input input_failed before after status h octets held read had = let x = h held had in elim x.1 [
-  | inl memory ↦ inr (inl (0, subst (λ (t : Told). Tells t held after status) memory x.2))
+  | inl memory ↦ inr (inl (0, subst (λ (t : Printed). Prints t held after status) memory x.2))
   | inr known ↦ by-book (book_in no_files asked) asked input input_failed octets held after status x.0 read known x.2
 ]
 
 by-status : (status : ℕ) (failed b : Bool) (P : Type 0) → failed ≡ (status == 3) → (status == 3) ≡ b → (failed ≡ false → P) → (status ≡ 3) ⊎ P
-by-status status failed true P flag e told = inl (eqb-true status 3 e)
-by-status status failed false P flag e told = inr (told (flag ∙ e))
+by-status status failed true P flag e printed = inl (eqb-true status 3 e)
+by-status status failed false P flag e printed = inr (printed (flag ∙ e))
 
 ends-or-three : (asked : BatchAsked) (input input' before before' after after' : Option (List ℕ)) (status : ℕ) (broken input_failed b : Bool) → input ≡ input' → before ≡ before' → after ≡ after' → broken ≡ (status == 3) → (status == 3) ≡ b
-    → (broken ≡ false → Ends no_files asked input input_failed before after status) → EndsSomehow no_files asked input' before' after' status
-ends-or-three asked input input' before before' after after' status broken input_failed true i w o flag e told = λ octets held read had. inl (eqb-true status 3 e)
-ends-or-three asked input input' before before' after after' status broken input_failed false i w o flag e told = somehow asked input' input_failed before' after' status (rw (← i, ← w, ← o) (told (flag ∙ e)))
+    → (broken ≡ false → EndsBatch no_files asked input input_failed before after status) → EndsSomehow no_files asked input' before' after' status
+ends-or-three asked input input' before before' after after' status broken input_failed true i w o flag e printed = λ octets held read had. inl (eqb-true status 3 e)
+ends-or-three asked input input' before before' after after' status broken input_failed false i w o flag e printed = somehow asked input' input_failed before' after' status (rw (← i, ← w, ← o) (printed (flag ∙ e)))
 
-pub returns-clause-told : goal.returns-clause-told
-returns-clause-told g c = λ asked planned.
+pub returns-clause-printed : goal.returns-clause-printed
+returns-clause-printed g c = λ asked planned.
     let from = c.into_inner-reader.ensures.same_reference ∙ c.run_on-status.ensures.input ∙ c.new-from.ensures.same_reference in
     let into = c.into_inner-writer.ensures.same_reference ∙ c.run_on-status.ensures.name ∙ c.new-into.ensures.same_reference in
     ends-or-three asked (g.R.Read.remaining c.new-from.result.inner.now) (g.R.Read.remaining c.args.input.now) (g.W.Write.contents c.new-into.result.inner.now) (g.W.Write.contents c.args.output.now)
     (g.W.Write.contents c.run_on-status.new.output.inner.now) _ c.run_on-status.result c.run_on-status.new.output.failed c.run_on-status.new.input.failed _
-    (search rules) (search rules) (search rules) c.run_on-status.ensures.flag refl (c.run_on-status.ensures.told asked planned (inr refl))
+    (search rules) (search rules) (search rules) c.run_on-status.ensures.flag refl (c.run_on-status.ensures.printed asked planned (inr refl))
 
 pub returns-clause-refused : goal.returns-clause-refused
 returns-clause-refused g c = λ none.
@@ -52,9 +52,9 @@ session-or-three : (config : Config) (book : BookAsked) (input input' left left'
     → input ≡ input' → left ≡ left' → before ≡ before' → after ≡ after' → broken ≡ (status == 3) → (status == 3) ≡ b
     → (broken ≡ false → EndsSession no_files config book input left input_failed before after status)
     → (status ≡ 3) ⊎ ((failed : Bool) × EndsSession no_files config book input' left' failed before' after' status)
-session-or-three config book input input' left left' before before' after after' status broken input_failed true i l w o flag e told = inl (eqb-true status 3 e)
-session-or-three config book input input' left left' before before' after after' status broken input_failed false i l w o flag e told =
-    inr (input_failed, rw (← i, ← l, ← w, ← o) (told (flag ∙ e)))
+session-or-three config book input input' left left' before before' after after' status broken input_failed true i l w o flag e printed = inl (eqb-true status 3 e)
+session-or-three config book input input' left left' before before' after after' status broken input_failed false i l w o flag e printed =
+    inr (input_failed, rw (← i, ← l, ← w, ← o) (printed (flag ∙ e)))
 
 pub returns-clause-debugs : goal.returns-clause-debugs
 returns-clause-debugs g c = λ config book planned.

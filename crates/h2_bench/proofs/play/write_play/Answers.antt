@@ -4,30 +4,30 @@ use Rattle.h2_spec.specs.declared.connection.Config.{Config}
 use Rattle.h2_conn.specs.Connection.{is_allowed}
 use Rattle.h2_bench.specs.Input.{octets_spelled}
 use Rattle.h2_bench.specs.Limits.{limits_fault}
-use Rattle.h2_bench.specs.Tell.{failed_after}
-use Rattle.h2_bench.specs.Told.{told_play}
+use Rattle.h2_bench.specs.Printing.{failed_after}
+use Rattle.h2_bench.specs.Printed.{printed_play}
 use Rattle.h2_bench.proofs.Written.{unchanged}
 use Rattle.h2_bench.proofs.play.write_play.Goals as goal
 
-pub returns-in-Err-clause-told : goal.returns-in-Err-clause-told
-returns-in-Err-clause-told g c = λ well held is. (
+pub returns-in-Err-clause-printed : goal.returns-in-Err-clause-printed
+returns-in-Err-clause-printed g c = λ well held is. (
   [],
   unchanged held _ is,
   elim c.in-Err.ensures.err [
     | inl memory ↦ inr (0, ap (failed_after []) memory.0)
-    | inr bad ↦ inl (ap (failed_after []) bad.0 ∙ ap (λ (o : Option (List ℕ)). told_play c.args.play.now.each c.args.book.now c.args.play.now.config o) (sym bad.1))
+    | inr bad ↦ inl (ap (failed_after []) bad.0 ∙ ap (λ (o : Option (List ℕ)). printed_play c.args.play.now.each c.args.book.now c.args.play.now.config o) (sym bad.1))
   ],
 )
 
-pub returns-in-Ok-clause-told : goal.returns-in-Ok-clause-told
-returns-in-Ok-clause-told g c = λ well. rw (c.in-Ok.ensures.ok, ← c.as_slice-in-Ok.ensures.value) (c.write_played.ensures.told well)
+pub returns-in-Ok-clause-printed : goal.returns-in-Ok-clause-printed
+returns-in-Ok-clause-printed g c = λ well. rw (c.in-Ok.ensures.ok, ← c.as_slice-in-Ok.ensures.value) (c.write_played.ensures.printed well)
 
-limits-told : (each : Bool) (book : List Entry) (config : Config) (spelled : Option (List ℕ)) → is_allowed config ≡ false → failed_after [] (limits_fault spelled) ≡ told_play each book config spelled
+limits-told : (each : Bool) (book : List Entry) (config : Config) (spelled : Option (List ℕ)) → is_allowed config ≡ false → failed_after [] (limits_fault spelled) ≡ printed_play each book config spelled
 limits-told each book config None bad = refl
 limits-told each book config (Some octets) bad = rw bad refl
 
-pub returns-then-not-are_limits-clause-told : goal.returns-then-not-are_limits-clause-told
-returns-then-not-are_limits-clause-told g c = λ well held is. (
+pub returns-then-not-are_limits-clause-printed : goal.returns-then-not-are_limits-clause-printed
+returns-then-not-are_limits-clause-printed g c = λ well held is. (
   [],
   unchanged held _ is,
   inl (ap (failed_after []) (rw c.as_slice.ensures.value at c.refused_limits.ensures)

@@ -1,5 +1,5 @@
 use Rattle.std.proofs.Common.{◌∙◌, ◌≤◌, ◌<◌, length, arith, ap}
-use Rattle.h2_bench.specs.TableProgram.{lines_of, table_text, told_lines}
+use Rattle.h2_bench.specs.TableProgram.{lines_of, table_text, printed_lines}
 use Rattle.h2_spec.specs.DynamicTable.{LimitedTable}
 use Rattle.h2_bench.proofs.Tables.{line-told, lines-end}
 use Rattle.h2_bench.proofs.table.table_text.Goals as goal
@@ -15,4 +15,4 @@ unfolding table_text
 returns c =
     let none : length c.loop-rest.rest.now ≤ 0 = grind (arith, c.loop-rest-test.ensures) in
     c.in_ok-write_entries.ensures ∙ lines-end _ c.loop-rest.rest.now _ _ none c.loop-rest.invariant
-    ∙ ap (λ (t : LimitedTable). told_lines t (lines_of c.args.input.now)) c.in_ok-table.ensures.empty
+    ∙ ap (λ (t : LimitedTable). printed_lines t (lines_of c.args.input.now)) c.in_ok-table.ensures.empty

@@ -6,9 +6,9 @@ use Rattle.h2_book.proofs.book_file.add_answers.Given as goal
 
 abbrev pub invariant-loop-place : goal.invariant-loop-place
 invariant-loop-place g l = record {
-  same_told : g.F.Files.is_told l.files ≡ g.F.Files.is_told l.fn.files;
+  same_printed : g.F.Files.is_printed l.files ≡ g.F.Files.is_printed l.fn.files;
   same_files : g.F.Files.file l.files ≡ g.F.Files.file l.fn.files;
   grown : (entries : List Entry) × (l.book ≡ l.fn.book ++ entries);
-  goes_on : g.F.Files.is_told l.fn.files ≡ true
+  goes_on : g.F.Files.is_printed l.fn.files ≡ true
       → book_with (g.F.Files.file l.fn.files) l.path l.book (items_view (drop l.place l.answers)) ≡ book_with (g.F.Files.file l.fn.files) l.path l.fn.book (items_view l.answers);
 }

@@ -6,11 +6,11 @@ use Rattle.h2_fields.proofs.response.response_block.Goals as goal
 
 pub returns : goal.returns
 returns g c =
-    let update = flat_map spell (update_if c.args.signal) in
+    let update = flat_map spell (update_if c.args.size_update_pending) in
     let status = spell (status_instruction c.args.status) in
     let fields = flat_map spell (map plain_literal c.args.fields.now) in
     record {
       block = c.in_ok-write_fields.ensures.ok
           ∙ ap (λ x. x ++ fields) (c.in_ok-write_status.ensures.ok ∙ ap (λ x. x ++ status) (c.in_ok-write_update.ensures.ok ∙ ap (λ x. x ++ update) c.new-block.ensures.items))
-          ∙ response-is c.args.signal c.args.status c.args.fields.now;
+          ∙ response-is c.args.size_update_pending c.args.status c.args.fields.now;
     }

@@ -1,5 +1,5 @@
 use Rattle.std.proofs.Common.{arith, ◌<◌}
-use Rattle.h2_prim.proofs.Table.{code_at}
+use Rattle.h2_prim.proofs.HuffmanTable.{code_at}
 use Rattle.h2_prim.proofs.huffman.code_of.Goals as goal
 
 pub returns : goal.returns

@@ -1,4 +1,4 @@
-use Rattle.h2_prim.proofs.Table.{move_at}
+use Rattle.h2_prim.proofs.HuffmanTable.{move_at}
 use Rattle.h2_prim.proofs.huffman.move_at.Goals as goal
 
 pub returns : goal.returns

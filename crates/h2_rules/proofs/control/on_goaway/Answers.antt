@@ -3,4 +3,4 @@ use Rattle.h2_spec.specs.declared.reactions.Reaction.TheVariants.{Continues}
 use Rattle.h2_rules.proofs.control.on_goaway.Goals as goal
 
 pub returns-clause-rule : goal.returns-clause-rule
-returns-clause-rule c = ap Continues c.stay.ensures
+returns-clause-rule c = ap Continues c.only_counts.ensures

@@ -5,9 +5,9 @@ use Rattle.h2_rules.proofs.data.data_taken.Goals as goal
 
 pub returns-clause-sound : goal.returns-clause-sound
 returns-clause-sound c = λ book r same has found live last.
-    let put = live-put r c.args.stream c.data_turn-turn.result.stream found live c.data_turn-turn.ensures.id in
-    let sound = c.data_turn-turn.ensures.sound c.args.core.peer.window c.requires.core.1 c.requires.stream in
-    c.turned.ensures.sound book r c.args.core c.counted-change.ensures.calm (sym last ∙ put.1) sound (c.data_turn-turn.ensures.waits book same has) put.0 (c.data_turn-turn.ensures.recorded (live-recorded c.args.stream.kind live))
+    let put = live-put r c.args.stream c.data_outcome-outcome.result.stream found live c.data_outcome-outcome.ensures.id in
+    let sound = c.data_outcome-outcome.ensures.sound c.args.core.peer.window c.requires.core.1 c.requires.stream in
+    c.with_outcome.ensures.sound book r c.args.core c.counted-change.ensures.calm (sym last ∙ put.1) sound (c.data_outcome-outcome.ensures.waits book same has) put.0 (c.data_outcome-outcome.ensures.recorded (live-recorded c.args.stream.kind live))
 
 pub returns-then-is_below-clause-rule : goal.returns-then-is_below-clause-rule
 unfolding data_taken

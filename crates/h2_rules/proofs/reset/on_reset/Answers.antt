@@ -1,5 +1,5 @@
 use Rattle.std.proofs.Common.{◌≡◌, refl, sym, ◌∙◌, ap, subst}
-use Rattle.h2_spec.specs.declared.reactions.Turn.{Turn}
+use Rattle.h2_spec.specs.declared.reactions.StreamOutcome.{StreamOutcome}
 use Rattle.h2_spec.specs.declared.streams.Kind.TheVariants.{PeerReset}
 use Rattle.h2_spec.specs.declared.streams.Stream.{Stream}
 use Rattle.h2_spec.specs.Stream.{not_live}
@@ -12,11 +12,11 @@ pub returns-in-BothOpen-clause-sound : goal.returns-in-BothOpen-clause-sound
 returns-in-BothOpen-clause-sound c = λ book r found last.
     let st = c.args.stream in
     let window = c.args.core.peer.window in
-    let turn = c.quiet_turn-turn in
-    let is : turn.result.stream ≡ not_live st.id PeerReset = ap (λ (t : Turn). t.stream) turn.ensures.rule ∙ c.not_live.ensures in
-    let put = live-put r st turn.result.stream found (is-live st.kind c.in-BothOpen.is) (ap (λ (x : Stream). x.id) is) in
-    let calm = subst (IsCalm c.args.core) (sym c.stay-in-BothOpen.ensures) (c.requires.core, refl, refl) in
-    c.turned.ensures.sound book r c.args.core calm
+    let outcome = c.outcome_without_frame-outcome in
+    let is : outcome.result.stream ≡ not_live st.id PeerReset = ap (λ (t : StreamOutcome). t.stream) outcome.ensures.rule ∙ c.not_live.ensures in
+    let put = live-put r st outcome.result.stream found (is-live st.kind c.in-BothOpen.is) (ap (λ (x : Stream). x.id) is) in
+    let calm = subst (IsCalm c.args.core) (sym c.only_counts-in-BothOpen.ensures) (c.requires.core, refl, refl) in
+    c.with_outcome.ensures.sound book r c.args.core calm
     (sym last ∙ put.1) (subst (IsSoundStream window) (sym is) (not-live-sound window st.id PeerReset refl)) (subst (HasBody book) (sym is) (not-live-body book st.id PeerReset)) put.0 (ap (λ (x : Stream). is_recorded x.kind) is)
 
 pub returns-in-Idle-clause-rule : goal.returns-in-Idle-clause-rule

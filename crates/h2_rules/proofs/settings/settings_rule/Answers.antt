@@ -8,7 +8,7 @@ use Rattle.h2_rules.proofs.settings.settings_rule.Goals as goal
 pub returns-in-Ok-clause-sound : goal.returns-in-Ok-clause-sound
 returns-in-Ok-clause-sound c = λ book r greatest state.
     let taken = sym (c.settings_applied.ensures r.streams greatest) ∙ c.in-Ok.is in
-    applied-sound book c.args.core c.stay-change.result.core r c.in-Ok.peer (settings_in c.args.part) state taken (ap (λ (x : Change). x.core) c.stay-change.ensures)
+    applied-sound book c.args.core c.only_counts-change.result.core r c.in-Ok.peer (settings_in c.args.part) state taken (ap (λ (x : Change). x.core) c.only_counts-change.ensures)
 
 pub returns-in-Ok-clause-rule : goal.returns-in-Ok-clause-rule
 unfolding settings_rule

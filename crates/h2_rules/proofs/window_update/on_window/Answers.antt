@@ -8,12 +8,12 @@ pub returns-in-BothOpen-clause-sound : goal.returns-in-BothOpen-clause-sound
 returns-in-BothOpen-clause-sound c = λ book r has found last.
     let st = c.args.stream in
     let window = c.args.core.peer.window in
-    let turn = c.window_turn-turn in
+    let outcome = c.window_outcome-outcome in
     let live = is-live st.kind c.in-BothOpen.is in
-    let put = live-put r st turn.result.stream found live turn.ensures.id in
-    let calm = subst (IsCalm c.args.core) (sym c.stay-in-BothOpen.ensures) (c.requires.core, refl, refl) in
-    c.turned.ensures.sound book r c.args.core calm
-    (sym last ∙ put.1) (turn.ensures.sound window c.requires.core.1 c.requires.stream) (turn.ensures.waits book has) put.0 (turn.ensures.recorded (live-recorded st.kind live))
+    let put = live-put r st outcome.result.stream found live outcome.ensures.id in
+    let calm = subst (IsCalm c.args.core) (sym c.only_counts-in-BothOpen.ensures) (c.requires.core, refl, refl) in
+    c.with_outcome.ensures.sound book r c.args.core calm
+    (sym last ∙ put.1) (outcome.ensures.sound window c.requires.core.1 c.requires.stream) (outcome.ensures.waits book has) put.0 (outcome.ensures.recorded (live-recorded st.kind live))
 
 pub returns-in-Idle-clause-rule : goal.returns-in-Idle-clause-rule
 unfolding on_window

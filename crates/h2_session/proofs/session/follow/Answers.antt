@@ -9,9 +9,9 @@ use Rattle.h2_session.proofs.Giving.{known}
 use Rattle.h2_session.proofs.Short.{command-short}
 use Rattle.h2_session.proofs.session.follow.Goals as goal
 
-pub returns-in-Ok-None-clause-told : goal.returns-in-Ok-None-clause-told
-returns-in-Ok-None-clause-told g c = λ well octets held knows out.
-    let i = c.loop-end.invariant.told octets held knows out in
+pub returns-in-Ok-None-clause-printed : goal.returns-in-Ok-None-clause-printed
+returns-in-Ok-None-clause-printed g c = λ well octets held knows out.
+    let i = c.loop-end.invariant.printed octets held knows out in
     let rest = g.I.Input.remaining c.next_line.new.input in
     let takes = rw c.in-Ok-None.field-0-is at c.in-Ok-None.ensures.ok in (
       behind i.1 (closed true []),
@@ -19,22 +19,22 @@ returns-in-Ok-None-clause-told g c = λ well octets held knows out.
       (i.3 ∙ ap (λ (t : List ℕ). Some (held ++ t)) (sym (append-nil i.1)), refl),
     )
 
-pub returns-in-Err-clause-told : goal.returns-in-Err-clause-told
-returns-in-Err-clause-told g c = λ well octets held knows out.
-    let i = c.loop-end.invariant.told octets held knows out in
-    let e = c.refuse.ensures.told well (held ++ i.1) i.3 in (
+pub returns-in-Err-clause-printed : goal.returns-in-Err-clause-printed
+returns-in-Err-clause-printed g c = λ well octets held knows out.
+    let i = c.loop-end.invariant.printed octets held knows out in
+    let e = c.refuse.ensures.printed well (held ++ i.1) i.3 in (
       behind i.1 (closed false []),
       i.4 _ _ (closed false []) (follows-cut _ _ _ _ _ _ i.2 c.in-Err.ensures.err),
       (e.0 ∙ ap (λ (t : List ℕ). Some t) (append_assoc held i.1 _), e.1),
     )
 
-pub returns-in-Input-clause-told : goal.returns-in-Input-clause-told
-returns-in-Input-clause-told g c = λ well octets held knows out.
-    let i = c.loop-end.invariant.told octets held knows out in
+pub returns-in-Input-clause-printed : goal.returns-in-Input-clause-printed
+returns-in-Input-clause-printed g c = λ well octets held knows out.
+    let i = c.loop-end.invariant.printed octets held knows out in
     let some = rw c.in-Ok-Some.field-0-is at c.in-Ok-Some.ensures.ok in
     let rest = g.I.Input.remaining c.next_line.new.input in
     let takes = rw c.in-Input.is at some in
-    let a = c.in-Ok.ensures.told in
+    let a = c.in-Ok.ensures.printed in
     let asked = ap command_of (c.as_slice.ensures.value ∙ takes.2) ∙ command-short takes.0 in (
       behind i.1 (closed true a.0),
       rw c.in-Ok-Some.ensures.well
@@ -47,15 +47,15 @@ loop-end-preserved g c =
     let some = rw c.in-Ok-Some.field-0-is at c.in-Ok-Some.ensures.ok in
     let takes = line-feed (ahead c.loop-end.reader (g.I.Input.remaining c.loop-end.input)) (ahead c.next_line.new.reader (g.I.Input.remaining c.next_line.new.input)) c.loop-end.reader.passed
     c.next_line.new.reader.passed c.next_line.new.line.items c.in-Ok-Some.end c.in_default-end.not-Input some in
-    let a = c.in-Ok.ensures.told in
+    let a = c.in-Ok.ensures.printed in
     let asked = ap command_of (c.as_slice.ensures.value ∙ takes.2) ∙ command-short takes.0 in
     record {
       input = c.in-Ok-Some.ensures.well;
       output = c.answer.ensures.flag ∙ ap (λ r. is_err r) c.in-Ok.is;
       input_name = c.next_line.ensures.name ∙ c.loop-end.invariant.input_name;
       output_name = c.answer.ensures.name ∙ c.loop-end.invariant.output_name;
-      told = λ octets held knows out.
-          let i = c.loop-end.invariant.told octets held knows out in
+      printed = λ octets held knows out.
+          let i = c.loop-end.invariant.printed octets held knows out in
           let k = known _ _ i.0 (takes.0 ++ 10 ∷ []) i.2 takes.1.taken in (
             k.0,
             i.1 ++ a.0,

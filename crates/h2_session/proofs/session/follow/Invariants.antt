@@ -9,7 +9,7 @@ invariant-loop-end g l = record {
   output : g.O.Output.has_failed l.output ≡ false;
   input_name : g.I.Input.name l.input ≡ g.I.Input.name l.initial.input;
   output_name : g.O.Output.name l.output ≡ g.O.Output.name l.initial.output;
-  told : (octets held : List ℕ) → ahead l.initial.reader (g.I.Input.remaining l.initial.input) ≡ Some octets → g.O.Output.written l.initial.output ≡ Some held
+  printed : (octets held : List ℕ) → ahead l.initial.reader (g.I.Input.remaining l.initial.input) ≡ Some octets → g.O.Output.written l.initial.output ≡ Some held
       → (more : List ℕ) × (text : List ℕ) × (ahead l.reader (g.I.Input.remaining l.input) ≡ Some more) × (g.O.Output.written l.output ≡ Some (held ++ text))
       × Continues l.initial.debugger (most - l.initial.reader.passed) octets l.debugger (most - l.reader.passed) more text;
 }

@@ -1,12 +1,12 @@
 use Rattle.std.proofs.Common.{map, string_bytes}
 use Rattle.clap.specs.Words.{app_of}
-use Rattle.h2_words.proofs.Grammar.{told_refuses, clap_took}
+use Rattle.h2_words.proofs.Grammar.{printed_refuses, clap_took}
 use Rattle.h2_words.proofs.command.matches_of.Goals as goal
 
 pub returns-in-Err-clause-refused : goal.returns-in-Err-clause-refused
 returns-in-Err-clause-refused c =
-    told_refuses (app_of c.in-Ok.command) (map string_bytes c.as_slice.result.now) c.args.words.now c.in-Err.error c.told_of.result
-    (c.in-Ok.ensures.0) c.as_slice.ensures c.in-Err.ensures.kinds c.told_of.ensures
+    printed_refuses (app_of c.in-Ok.command) (map string_bytes c.as_slice.result.now) c.args.words.now c.in-Err.error c.printed_of.result
+    (c.in-Ok.ensures.0) c.as_slice.ensures c.in-Err.ensures.kinds c.printed_of.ensures
 
 pub returns-in-Ok-try_get_matches_from-clause-ok : goal.returns-in-Ok-try_get_matches_from-clause-ok
 returns-in-Ok-try_get_matches_from-clause-ok c =

@@ -1,5 +1,5 @@
 use Rattle.std.proofs.Common.{sym, subst, ap}
-use Rattle.h2_spec.specs.declared.connection.Core.{Core}
+use Rattle.h2_spec.specs.declared.connection.ConnectionState.{ConnectionState}
 use Rattle.h2_conn.specs.Sending.{records}
 use Rattle.h2_rules.specs.Sound.{IsSound}
 use Rattle.h2_conn.proofs.state.State.on_window_update.Goals as goal
@@ -8,4 +8,4 @@ pub returns-then-id-eq0-clause-sound : goal.returns-then-id-eq0-clause-sound
 returns-then-id-eq0-clause-sound g c =
     let s = c.args.self.now in
     let counts = c.core.ensures.counts in
-    subst (λ (k : Core). IsSound s.book (records s) k.peer.window c.connection_window.result) counts (c.connection_window.ensures.sound s.book (records s) (sym (ap (λ (k : Core). k.last) counts)))
+    subst (λ (k : ConnectionState). IsSound s.book (records s) k.peer.window c.connection_window.result) counts (c.connection_window.ensures.sound s.book (records s) (sym (ap (λ (k : ConnectionState). k.last) counts)))

@@ -1,5 +1,5 @@
 use Rattle.std.proofs.Common.{rules}
 use Rattle.h2_fields.proofs.instruction.Mode.high.Goals as goal
 
-pub returns-in-Never : goal.returns-in-Never
-returns-in-Never c = search rules
+pub returns-in-NeverIndexed : goal.returns-in-NeverIndexed
+returns-in-NeverIndexed c = search rules

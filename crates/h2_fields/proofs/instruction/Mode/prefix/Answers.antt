@@ -1,5 +1,5 @@
 use Rattle.std.proofs.Common.{rules}
 use Rattle.h2_fields.proofs.instruction.Mode.prefix.Goals as goal
 
-pub returns-in-Add : goal.returns-in-Add
-returns-in-Add c = search rules
+pub returns-in-IncrementalIndexing : goal.returns-in-IncrementalIndexing
+returns-in-IncrementalIndexing c = search rules

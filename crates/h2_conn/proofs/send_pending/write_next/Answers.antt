@@ -1,0 +1,20 @@
+use Rattle.std.proofs.Common.{◌≡◌, ◌≤◌, ◌++◌, ◌∙◌, ap, sym, arith}
+use Rattle.std.proofs.lemmas.List.{append-nil}
+use Rattle.h2_spec.specs.Frame.{frames_octets}
+use Rattle.h2_spec.specs.SendPending.{allowance_frames}
+use Rattle.h2_conn.proofs.AboveLaws.{body_frames, no_frames}
+use Rattle.h2_conn.proofs.send_pending.write_next.Goals as goal
+
+pub returns-in_ok-write_allowance-clause-ok : goal.returns-in_ok-write_allowance-clause-ok
+returns-in_ok-write_allowance-clause-ok g c =
+    let a = c.args in
+    let frames = body_frames a.book.now a.size c.allowance-allowance.result a.stream.now c.body_of.result.now c.body_of.ensures in
+    c.in_ok-write_allowance.ensures.ok ∙ ap (λ fs. a.out.now.items ++ frames_octets fs) (frames ∙ ap (λ n. allowance_frames a.book.now a.size n a.stream.now) c.allowance-allowance.ensures.allowance)
+
+pub returns-else-allowance-gt0-clause-ok : goal.returns-else-allowance-gt0-clause-ok
+returns-else-allowance-gt0-clause-ok g c =
+    let a = c.args in
+    let less : c.allowance-allowance.result ≤ 0 = c.if-allowance-gt0.false in
+    let none : c.allowance-allowance.result ≡ 0 = omega (arith, less) in
+    let nothing = ap (λ n. allowance_frames a.book.now a.size n a.stream.now) (sym c.allowance-allowance.ensures.allowance ∙ none) ∙ no_frames a.book.now a.size a.stream.now in
+    sym (ap (λ fs. a.out.now.items ++ frames_octets fs) nothing ∙ append-nil a.out.now.items)

@@ -1,0 +1,192 @@
+//! Sending what waits, as far as the windows go (RFC 9113, 5.2 and 6.9).
+//! First the frames are written, as the records will be after a touch, and then the shares are taken, which wants no memory.
+//! Rests on `pieces`, `preview` and `ends`; definition: h2_spec's `specs/SendPending.antt`.
+
+ghost use Rattle.std.specs.Prelude.{◌≡◌, List, ◌-◌, ◌<◌, ◌≤◌, ◌++◌, IfOk, OnOk, take, vec_len, ◌^◌, pos, ◌-ℤ◌, ◌≤ℤ◌};
+ghost use Rattle.h2_request.specs.Lent.{IsPickOf};
+ghost use Rattle.h2_spec.specs.Answer.{Entry, picked};
+ghost use Rattle.h2_spec.specs.Change as changes;
+ghost use Rattle.h2_spec.specs.Frame.{frames_octets};
+ghost use Rattle.h2_spec.specs.SendPending as rule;
+ghost use Rattle.h2_spec.specs.Stream.{octets_waiting, put};
+ghost use Rattle.h2_conn.specs.Above.{IsWaiting};
+ghost use Rattle.h2_conn.specs.Preview.{CanSend};
+ghost use Rattle.h2_rules.specs.Sound.{HasBody, IsSoundState};
+ghost use Rattle.h2_spec.specs.Window.{sendable};
+
+use crate::pieces::write_allowance;
+use crate::preview::{next_after, next_stream};
+use h2_request::book::Book;
+use h2_rules::ends::{server_ended, with_body_remaining};
+use h2_spec::connection::ConnectionState;
+use h2_spec::flow::Window;
+use h2_spec::reactions::RecordUpdate;
+use h2_spec::streams::{Numbers, Pick, Stream};
+use h2_streams::{Streams, octets_waiting};
+use std::alloc::{AllocError, Allocator};
+
+/// Writes the frames of each stream's share, as the records will be after the touch, whole or in part.
+pub fn write_allowances<A: Allocator>(
+    book: &Book<A>,
+    streams: &Streams<A>,
+    record_update: RecordUpdate,
+    size: usize,
+    window: u64,
+    out: &mut Vec<u8, A>,
+) -> Result<(), AllocError>
+    requires size { (0 < size) × (size < 2 ^ 24) }
+    requires sends { CanSend book.now streams.now record_update }
+    ensures ok { OnOk result (out.new.items ≡ out.old.items ++ frames_octets (rule.sent_frames book.now size window (changes.updated_streams record_update streams.now.streams))) }
+    ensures kept { take (vec_len out.old) out.new.items ≡ out.old.items }
+{
+    let _last = streams.last();
+    let mut after = 0;
+    let mut left = window;
+    while let Some(stream) = next_after(streams, record_update, after) {
+        if left == 0 {
+            return Ok(());
+        }
+        after = stream.id;
+        left -= write_next(book, &stream, size, left, out)?;
+    }
+    Ok(())
+}
+
+/// Writes the frames of one stream's share of what is left of the connection's window, whole or in part; answers the share.
+fn write_next<A: Allocator>(
+    book: &Book<A>,
+    stream: &Stream,
+    size: usize,
+    window: u64,
+    out: &mut Vec<u8, A>,
+) -> Result<u64, AllocError>
+    requires size { (0 < size) × (size < 2 ^ 24) }
+    requires body { HasBody book.now stream.now }
+    ensures allowance { IfOk result (λ allowance. (allowance ≡ rule.allowance window stream.now) × (allowance ≤ window)) }
+    ensures ok { OnOk result (out.new.items ≡ out.old.items ++ frames_octets (rule.allowance_frames book.now size (rule.allowance window stream.now) stream.now)) }
+    ensures kept { take (vec_len out.old) out.new.items ≡ out.old.items }
+{
+    let allowance = allowance(window, stream);
+    if allowance > 0 {
+        write_allowance(size, allowance, stream, body_of(book, stream.pick), out)?;
+    }
+    Ok(allowance)
+}
+
+/// The body of the answer that is picked.
+fn body_of<A: Allocator>(book: &Book<A>, pick: Pick) -> &[u8]
+    requires { IsPickOf book.now pick }
+    ensures { result.now ≡ (picked book.now pick).body }
+{
+    book.answer(pick).body
+}
+
+/// Each stream's share is taken from it, and all of them from the connection's send window: the counts after it.
+pub fn commit_allowances<A: Allocator>(
+    core: ConnectionState,
+    streams: &mut Streams<A>,
+) -> ConnectionState
+    ensures paid { result ≡ record core { send = core.send -ℤ pos (sendable core.send - rule.window_left (sendable core.send) streams.old.streams) } }
+    ensures sent { streams.new ≡ record streams.old { streams = rule.all_after_sending (sendable core.send) streams.old.streams } }
+    ensures sound { (book : List Entry) → IsSoundState book core streams.old → IsSoundState book result streams.new }
+{
+    let send = core.send;
+    let window = sendable(send);
+    let left = take_allowances(window, streams);
+    ConnectionState {
+        send: without(send, window - left),
+        ..core
+    }
+}
+
+/// A send window without octets that it let pass.
+fn without(window: Window, count: u64) -> Window
+    requires { count ≤ sendable window }
+    ensures { result ≡ window -ℤ pos count }
+{
+    if count == 0 {
+        return window;
+    }
+    window.minus(count as u32)
+}
+
+/// Each stream's share is taken from it, in the order of the identifiers; answers what is left of the window.
+fn take_allowances<A: Allocator>(window: u64, streams: &mut Streams<A>) -> u64
+    ensures left { (result ≡ rule.window_left window streams.old.streams) × (result ≤ window) }
+    ensures sent { streams.new ≡ record streams.old { streams = rule.all_after_sending window streams.old.streams } }
+{
+    let _last = streams.last();
+    let mut after = 0;
+    let mut left = window;
+    while let Some(stream) = next_stream(streams, after) {
+        if left == 0 {
+            return 0;
+        }
+        after = stream.id;
+        left -= take_allowance(left, &stream, streams);
+    }
+    left
+}
+
+/// One stream's share is taken from it.
+fn take_allowance<A: Allocator>(window: u64, stream: &Stream, streams: &mut Streams<A>) -> u64
+    requires { IsWaiting streams.old.last streams.old.streams stream.now }
+    ensures allowance { (result ≡ rule.allowance window stream.now) × (result ≤ window) }
+    ensures sent { streams.new ≡ record streams.old { streams = put (rule.after_sending (rule.allowance window stream.now) stream.now) streams.old.streams } }
+{
+    let allowance = allowance(window, stream);
+    let _ = streams.put(after_sending(allowance, stream));
+    allowance
+}
+
+/// The stream after it sent its share.
+#[tactic(auto, unfolding(h2_spec::specs::SendPending::after_sending))]
+fn after_sending(allowance: u64, stream: &Stream) -> Stream
+    requires waits { allowance ≤ octets_waiting stream.now }
+    requires within { (allowance ≤ sendable stream.now.numbers.send) × (allowance ≤ 2147483647) }
+    ensures { result ≡ rule.after_sending allowance stream.now }
+{
+    if allowance == 0 {
+        return *stream;
+    }
+    let left = octets_waiting(stream);
+    let paid = with_paid(*stream, allowance as u32);
+    if left == allowance {
+        server_ended(paid)
+    } else {
+        with_body_remaining(paid, left - allowance)
+    }
+}
+
+/// The record with octets taken from its send window.
+fn with_paid(stream: Stream, count: u32) -> Stream
+    requires { pos count ≤ℤ stream.numbers.send }
+    ensures { result ≡ rule.with_paid stream count }
+{
+    let numbers = stream.numbers;
+    let numbers = Numbers {
+        send: numbers.send.minus(count),
+        ..numbers
+    };
+    Stream { numbers, ..stream }
+}
+
+/// What a stream sends, where this much of the connection's window is left by those before it.
+#[tactic(auto, unfolding(h2_spec::specs::SendPending::allowance))]
+fn allowance(window: u64, stream: &Stream) -> u64
+    ensures allowance { result ≡ rule.allowance window stream.now }
+    ensures within { (result ≤ window) × (result ≤ octets_waiting stream.now) × (result ≤ sendable stream.now.numbers.send) × (result ≤ 2147483647) }
+{
+    let waiting = octets_waiting(stream);
+    let most = sendable(stream.numbers.send);
+    waiting.min(most).min(window)
+}
+
+/// The octets that a window lets pass.
+pub fn sendable(window: Window) -> u64
+    ensures sendable { result ≡ sendable window }
+    ensures few { result ≤ 2147483647 }
+{
+    let value = window.value();
+    if value < 0 { 0 } else { value as u64 }
+}
