@@ -15,6 +15,7 @@ ghost use Rattle.h2_bench.specs.Printed.{OrCutShort, done, item_text, item_texts
 use crate::fault::BenchFault;
 use h2_conn::Conn;
 use h2_device::Output;
+use h2_spec::octets::octets_from;
 use h2_text::hex_text::OctetsText;
 use std::alloc::{AllocError, Global};
 use std::fmt;
@@ -53,13 +54,6 @@ impl fmt::Display for PlaceText<'_, '_> {
         let conn = self.conn;
         write!(f, "item {place}\nsent {sent}\n{conn}")
     }
-}
-
-fn octets_from(octets: &[u8], start: usize) -> &[u8]
-    requires { start ≤ length octets.now }
-    ensures { result.now ≡ drop start octets.now }
-{
-    &octets[start..]
 }
 
 /// Writes a text, or says that it was not written.

@@ -15,28 +15,21 @@ ghost use Rattle.h2_fields.specs.declared.fault.BlockFault.TheVariants.{NoMemory
 ghost use Rattle.h2_conn.specs.Blocks.{HasLimit, IsFaulty, IsGoing, IsOpenAt, IsSoundEffect, after_fragment, before_fragment, cell_of, effect_seen, end_error, state_of, table_by};
 ghost use Rattle.h2_rules.specs.Sound.{AreSound, IsSoundState};
 
-use crate::pieces::octets_from;
 use crate::state::{Decoding, OpenBlock};
 use h2_fields::block::BlockDecoder;
 use h2_fields::fault::BlockFault;
 use h2_request::book::Book;
 use h2_rules::block_end::block_ends;
 use h2_rules::change::only_counts;
-use h2_rules::checks::has;
 use h2_spec::connection::{BlockView, Config, ConnectionState, Purpose};
 use h2_spec::errors::ErrorCode;
-use h2_spec::frames::Head;
+use h2_spec::frames::{END_HEADERS, END_STREAM, Head};
+use h2_spec::octets::octets_from;
 use h2_spec::reactions::Change;
 use h2_spec::streams::Kind;
 use h2_streams::Streams;
 use h2_table::DynTable;
 use std::alloc::{AllocError, Allocator};
-
-/// The flag END_STREAM of HEADERS (RFC 9113, 6.2).
-const END_STREAM: u8 = 1;
-
-/// The flag END_HEADERS of HEADERS and CONTINUATION (RFC 9113, 6.2 and 6.10).
-const END_HEADERS: u8 = 4;
 
 /// The most octets of a block's fragments.
 const MAX_BLOCK: usize = 65_536;
@@ -268,13 +261,13 @@ pub fn opens<A: Allocator + Copy>(
         stream: head.stream,
         octets: 0,
         list_size: 0,
-        ends: has(head.flags, END_STREAM),
+        ends: head.has(END_STREAM),
     };
     let decoding = Decoding {
         purpose,
         decoder: BlockDecoder::start(alloc),
     };
-    let end_headers = has(head.flags, END_HEADERS);
+    let end_headers = head.has(END_HEADERS);
     fragment(
         book,
         config,

@@ -17,14 +17,10 @@ ghost use Rattle.h2_conn.specs.Sending.{records};
 use crate::block::{FragmentEffect, fragment, headers_purpose, opens};
 use crate::state::{Decoding, OpenBlock, State};
 use h2_frame::HeadersPart;
-use h2_rules::checks::has;
 use h2_spec::connection::{BlockView, Purpose};
 use h2_spec::errors::ErrorCode;
-use h2_spec::frames::Head;
+use h2_spec::frames::{END_HEADERS, Head};
 use std::alloc::{AllocError, Allocator};
-
-/// END_HEADERS (RFC 9113, 6.2 and 6.10).
-const END_HEADERS: u8 = 4;
 
 impl<'b, A: Allocator + Copy> State<'b, A> {
     /// What a fragment results in is made: a connection error, or the change, and then block and table; or nothing.
@@ -126,7 +122,7 @@ impl<'b, A: Allocator + Copy> State<'b, A> {
         match self.take_decoding() {
             None => self.not_open(out),
             Some((shown, decoding)) => {
-                let end_headers = has(head.flags, END_HEADERS);
+                let end_headers = head.has(END_HEADERS);
                 self.on_fragment(shown, decoding, octets, end_headers, payload, out)
             }
         }

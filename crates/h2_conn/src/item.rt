@@ -27,7 +27,7 @@ ghost use Rattle.h2_rules.specs.Sound.{HasBody, IsSound, IsSoundState, IsSoundSt
 use crate::state::State;
 use h2_frame::{DataPart, FrameRef, Item, Part, PayloadFault, SettingsPart, part_of};
 use h2_rules::change::only_counts;
-use h2_rules::checks::{has, refusal};
+use h2_rules::checks::refusal;
 use h2_rules::control::{nothing, on_goaway, on_ping};
 use h2_rules::data::on_data;
 use h2_rules::reset::on_reset;
@@ -35,13 +35,10 @@ use h2_rules::settings::{acknowledged, settings_rule};
 use h2_rules::window_update::{connection_window, on_window};
 use h2_spec::connection::{ConnectionState, Phase};
 use h2_spec::errors::ErrorCode;
-use h2_spec::frames::Head;
+use h2_spec::frames::{ACK, END_STREAM, Head};
 use h2_spec::reactions::{Reaction, ReceivedData};
 use h2_spec::streams::Stream;
 use std::alloc::{AllocError, Allocator};
-
-/// END_STREAM (RFC 9113, 6.1 and 6.2), and ACK of SETTINGS and PING (6.5 and 6.7).
-const FLAG_1: u8 = 1;
 
 /// What a frame of DATA brings.
 fn incoming(head: &Head, payload: &[u8], part: DataPart<'_>) -> ReceivedData
@@ -53,7 +50,7 @@ fn incoming(head: &Head, payload: &[u8], part: DataPart<'_>) -> ReceivedData
     ReceivedData {
         octets: payload.len() as u32,
         content,
-        ends: has(head.flags, FLAG_1),
+        ends: head.has(END_STREAM),
     }
 }
 
@@ -153,7 +150,7 @@ impl<'b, A: Allocator + Copy> State<'b, A> {
             Part::RstStream(_) => self.on_reset(head.stream),
             Part::Settings(part) => self.on_settings(part),
             Part::SettingsAck => acknowledged(self.core()),
-            Part::Ping(_) => on_ping(self.core(), has(head.flags, FLAG_1)),
+            Part::Ping(_) => on_ping(self.core(), head.has(ACK)),
             Part::Goaway(last, code) => on_goaway(self.core(), last, code),
             Part::WindowUpdate(increment) => self.on_window_update(head.stream, increment),
             Part::Priority | Part::Unknown => nothing(self.core()),

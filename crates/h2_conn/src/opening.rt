@@ -6,6 +6,7 @@ ghost use Rattle.h2_spec.specs.Opening.{opening_octets, setting};
 
 use h2_frame::append_frame;
 use h2_spec::connection::Config;
+use h2_spec::frames::SETTINGS;
 use std::alloc::{AllocError, Allocator};
 
 /// The setting of the most streams at a time.
@@ -23,5 +24,5 @@ pub fn write_opening<A: Allocator>(config: Config, out: &mut Vec<u8, A>) -> Resu
     ensures no_memory { OnErr result (out.new.items ≡ out.old.items) }
 {
     let streams = streams_setting(config.streams);
-    append_frame(4, 0, 0, &streams, &[0, 6, 0, 1, 0, 0], out)
+    append_frame(SETTINGS, 0, 0, &streams, &[0, 6, 0, 1, 0, 0], out)
 }

@@ -8,6 +8,8 @@ ghost use Rattle.h2_spec.specs.SendPending as rule;
 ghost use Rattle.h2_spec.specs.Stream.{octets_waiting};
 
 use h2_frame::append_frame;
+use h2_spec::frames::{DATA, END_STREAM};
+use h2_spec::octets::octets_from;
 use h2_spec::streams::Stream;
 use h2_streams::octets_waiting;
 use std::alloc::{AllocError, Allocator};
@@ -58,7 +60,7 @@ fn write_pieces<A: Allocator>(
     while octets.len() - at > size {
         at = write_piece(id, ends, size, octets, at, out)?;
     }
-    append_frame(0, end_flag(ends), id, &[], octets_from(octets, at), out)
+    append_frame(DATA, end_flag(ends), id, &[], octets_from(octets, at), out)
 }
 
 /// Writes one DATA that is not the last of them, or nothing; answers where the next begins.
@@ -76,7 +78,7 @@ fn write_piece<A: Allocator>(
     ensures ok { IfOk result (λ next. out.new.items ++ frames_octets (rule.data_frames id ends size (drop next octets.now)) ≡ out.old.items ++ frames_octets (rule.data_frames id ends size (drop at octets.now))) }
     ensures kept { take (vec_len out.old) out.new.items ≡ out.old.items }
 {
-    append_frame(0, 0, id, &[], octets_at(octets, at, size), out)?;
+    append_frame(DATA, 0, id, &[], octets_at(octets, at, size), out)?;
     Ok(at + size)
 }
 
@@ -84,7 +86,7 @@ fn write_piece<A: Allocator>(
 fn end_flag(ends: bool) -> u8
     ensures { result ≡ changes.flag_if ends 1 }
 {
-    if ends { 1 } else { 0 }
+    if ends { END_STREAM } else { 0 }
 }
 
 pub fn octets_at(octets: &[u8], start: usize, count: usize) -> &[u8]
@@ -92,11 +94,4 @@ pub fn octets_at(octets: &[u8], start: usize, count: usize) -> &[u8]
     ensures { result.now ≡ take count (drop start octets.now) }
 {
     &octets[start..start + count]
-}
-
-pub fn octets_from(octets: &[u8], start: usize) -> &[u8]
-    requires { start ≤ length octets.now }
-    ensures { result.now ≡ drop start octets.now }
-{
-    &octets[start..]
 }

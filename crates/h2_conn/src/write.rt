@@ -8,6 +8,9 @@ ghost use Rattle.h2_spec.specs.Octets.{big_endian};
 
 use h2_frame::append_frame;
 use h2_spec::errors::ErrorCode;
+use h2_spec::frames::{
+    ACK, END_HEADERS, END_STREAM, GOAWAY, HEADERS, PING, RST_STREAM, SETTINGS, WINDOW_UPDATE,
+};
 use h2_spec::reactions::{ConnectionFrame, StreamFrame};
 use std::alloc::{AllocError, Allocator};
 
@@ -36,9 +39,9 @@ pub fn write_first<A: Allocator>(
 {
     match first {
         ConnectionFrame::NoConnectionFrame => Ok(()),
-        ConnectionFrame::SettingsAck => append_frame(4, 1, 0, &[], &[], out),
-        ConnectionFrame::PingAck => append_frame(6, 1, 0, &[], payload, out),
-        ConnectionFrame::Credit(count) => write_number(8, 0, count, out),
+        ConnectionFrame::SettingsAck => append_frame(SETTINGS, ACK, 0, &[], &[], out),
+        ConnectionFrame::PingAck => append_frame(PING, ACK, 0, &[], payload, out),
+        ConnectionFrame::Credit(count) => write_number(WINDOW_UPDATE, 0, count, out),
     }
 }
 
@@ -52,8 +55,8 @@ pub fn write_second<A: Allocator>(
 {
     match second {
         StreamFrame::NoStreamFrame => Ok(()),
-        StreamFrame::Reset(id, code) => write_number(3, id, code.number(), out),
-        StreamFrame::StreamCredit(id, count) => write_number(8, id, count, out),
+        StreamFrame::Reset(id, code) => write_number(RST_STREAM, id, code.number(), out),
+        StreamFrame::StreamCredit(id, count) => write_number(WINDOW_UPDATE, id, count, out),
     }
 }
 
@@ -67,7 +70,14 @@ pub fn write_goaway<A: Allocator>(
     ensures err { OnErr result (out.new.items ≡ out.old.items) }
 {
     let number = code.number();
-    append_frame(7, 0, 0, &last.to_be_bytes(), &number.to_be_bytes(), out)
+    append_frame(
+        GOAWAY,
+        0,
+        0,
+        &last.to_be_bytes(),
+        &number.to_be_bytes(),
+        out,
+    )
 }
 
 /// The table size update to 0 before a response's block, where one is to be sent (RFC 7541, 4.2 and 6.3).
@@ -81,7 +91,11 @@ fn signal_octets(size_update_pending: bool) -> &'static [u8]
 fn response_flags(is_empty: bool) -> u8
     ensures { result ≡ 4 + changes.flag_if is_empty 1 }
 {
-    if is_empty { 5 } else { 4 }
+    if is_empty {
+        END_HEADERS + END_STREAM
+    } else {
+        END_HEADERS
+    }
 }
 
 /// Writes the HEADERS of a response, from its block without a table size update, or nothing.
@@ -97,7 +111,7 @@ pub fn write_response<A: Allocator>(
     ensures err { OnErr result (out.new.items ≡ out.old.items) }
 {
     append_frame(
-        1,
+        HEADERS,
         response_flags(is_empty),
         id,
         signal_octets(size_update_pending),

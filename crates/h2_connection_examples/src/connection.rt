@@ -1,6 +1,5 @@
 //! Single calls of a connection (RFC 9113, 3.4).
 
-use crate::frames::PREFACE;
 use crate::same::same;
 use h2_conn::play::play;
 use h2_conn::view::View;
@@ -318,7 +317,7 @@ fn refused(alloc: Global, sent: &mut Vec<u8>) -> Option<ConnFault> {
         streams: 0,
         credit: 1,
     };
-    play(&book, config, PREFACE, &[], sent).err()
+    play(&book, config, &PREFACE, &[], sent).err()
 }
 
 #[test]

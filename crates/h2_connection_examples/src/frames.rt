@@ -9,9 +9,6 @@ use std::alloc::{AllocError, Allocator, Global};
 use std::process::Abort;
 use std::test::Fail;
 
-/// The client preface (RFC 9113, 3.4).
-pub(crate) const PREFACE: &[u8] = b"PRI * HTTP/2.0\r\n\r\nSM\r\n\r\n";
-
 /// What PING holds.
 const DIGITS: &[u8] = b"\x01\x02\x03\x04\x05\x06\x07\x08";
 
@@ -85,7 +82,7 @@ fn first_item_and_octets_left(rt: HostRuntime) -> Result<(), Fail> {
 
 /// A splitter of which the preface is taken, and which was given the octets.
 fn running(alloc: Global, octets: &[u8]) -> Result<Splitter<Global>, AllocError> {
-    let mut splitter = fed(alloc, PREFACE)?;
+    let mut splitter = fed(alloc, &PREFACE)?;
     next(&mut splitter);
     push(&mut splitter, octets)?;
     Ok(splitter)
@@ -124,7 +121,7 @@ fn frames_behind_the_preface(rt: HostRuntime) -> Result<(), Fail> {
 /// Whether frames of no octets are taken as they come, so many, where the splitter has no more memory than these 64 octets.
 fn taken_within(heap: &LocalHeap, count: u32) -> bool {
     let mut splitter = Splitter::new(heap);
-    let mut all_taken = push(&mut splitter, PREFACE).is_ok();
+    let mut all_taken = push(&mut splitter, &PREFACE).is_ok();
     all_taken = all_taken && next(&mut splitter) == Some(Item::Preface);
     for _ in 0..count {
         all_taken = all_taken

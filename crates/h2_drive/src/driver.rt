@@ -10,17 +10,11 @@ use crate::fault::{DriveEnd, DriveFault};
 use crate::outgoing::write_all;
 use crate::wire::Wire;
 use h2_conn::{Conn, ConnFault};
+use h2_spec::octets::octets_up_to;
 use std::alloc::Allocator;
 
 /// The most octets of one read.
 const READ_SIZE: usize = 4096;
-
-fn octets_up_to(octets: &[u8], end: usize) -> &[u8]
-    requires { end ≤ length octets.now }
-    ensures { result.now ≡ take end octets.now }
-{
-    &octets[..end]
-}
 
 /// Reads once, feeds what was read to the connection, and writes the frames that it sends for that. Returns how many
 /// octets were read; 0 is the end of the input.

@@ -5,14 +5,8 @@ ghost use Rattle.std.specs.Prelude.{◌≡◌, ◌<◌, ◌≤◌, [], length, d
 ghost use Rattle.h2_drive.specs.Wires.{Writes};
 
 use crate::wire::{Wire, WireFault};
+use h2_spec::octets::octets_from;
 use std::alloc::Allocator;
-
-fn octets_from(octets: &[u8], start: usize) -> &[u8]
-    requires { start ≤ length octets.now }
-    ensures { result.now ≡ drop start octets.now }
-{
-    &octets[start..]
-}
 
 fn remove_front<A: Allocator>(octets: &mut Vec<u8, A>, count: usize)
     requires { count ≤ vec_len octets.old }

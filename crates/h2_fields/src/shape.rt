@@ -10,6 +10,7 @@ ghost use Rattle.h2_fields.specs.Shapes.{mode_of, string_of, name_of, shape_of, 
 
 use crate::instruction::Mode;
 use h2_prim::{IntRead, StrAt, find_str, read_int};
+use h2_spec::octets::octets_from;
 
 /// Why nothing whole stands at the front of octets.
 #[derive(Clone, Copy)]
@@ -40,14 +41,6 @@ pub enum Shape<'a> {
     Indexed(u64),
     Update(u64),
     Literal(Mode, RawName<'a>, RawString<'a>),
-}
-
-/// The octets from a place on.
-pub fn octets_from(octets: &[u8], start: usize) -> &[u8]
-    requires { start ≤ length octets.now }
-    ensures { result.now ≡ drop start octets.now }
-{
-    octets.split_at(start).1
 }
 
 /// The instruction at the front of the octets, and how many octets it takes (RFC 7541, 6).

@@ -4,20 +4,6 @@
 ghost use Rattle.std.specs.Prelude.{◌≡◌, ◌+◌, ◌≤◌, length, take, drop};
 ghost use Rattle.h2_spec.specs.Octets.{two_octets, four_octets, low_31_bits};
 
-pub(crate) fn octets_from(octets: &[u8], start: usize) -> &[u8]
-    requires { start ≤ length octets.now }
-    ensures { result.now ≡ drop start octets.now }
-{
-    &octets[start..]
-}
-
-pub(crate) fn octets_up_to(octets: &[u8], end: usize) -> &[u8]
-    requires { end ≤ length octets.now }
-    ensures { result.now ≡ take end octets.now }
-{
-    &octets[..end]
-}
-
 /// The number that two octets from a place on write.
 pub(crate) fn u16_at(octets: &[u8], place: usize) -> u16
     requires { place + 2 ≤ length octets.now }

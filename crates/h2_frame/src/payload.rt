@@ -9,9 +9,10 @@ ghost use Rattle.h2_spec.specs.Payload.{octets_if, fixed_len, pad_or_0, pad_leng
 ghost use Rattle.h2_spec.specs.declared.frames.PayloadFault.TheVariants.{SizeFault, PadFault};
 ghost use Rattle.h2_frame.specs.Parts.{both_seen, cut_between, data_seen, headers_seen, settings_in, part_seen, seen};
 
-use crate::cuts::{octets_from, octets_up_to, u16_at, u31_at, u32_at};
+use crate::cuts::{u16_at, u31_at, u32_at};
 use crate::head::FrameRef;
-use h2_spec::frames::{ACK, FrameType, PADDED, PRIORITY, PayloadFault};
+use h2_spec::frames::{ACK, FrameType, PADDED, PayloadFault, WITH_PRIORITY};
+use h2_spec::octets::{octets_from, octets_up_to};
 
 /// What DATA holds (RFC 9113, 6.1).
 #[derive(Clone, Copy)]
@@ -102,7 +103,7 @@ pub fn headers_of(frame: FrameRef<'_>) -> Result<HeadersPart<'_>, PayloadFault>
     ensures { seen headers_seen result ≡ headers_part frame.entry.head.flags frame.entry.payload.now }
 {
     let pad_octets = octets_if(frame.head.has(PADDED), 1);
-    let fixed = pad_octets + octets_if(frame.head.has(PRIORITY), 5);
+    let fixed = pad_octets + octets_if(frame.head.has(WITH_PRIORITY), 5);
     if frame.payload.len() < fixed {
         return Err(PayloadFault::SizeFault);
     }
@@ -142,7 +143,7 @@ fn priority_of(frame: FrameRef<'_>, start: usize) -> Option<(u32, u8)>
     requires fits { fixed_len frame.head.flags ≤ length frame.payload.now }
     ensures { result ≡ priority_of frame.entry.head.flags frame.entry.payload.now }
 {
-    if frame.head.has(PRIORITY) {
+    if frame.head.has(WITH_PRIORITY) {
         Some((u32_at(frame.payload, start), frame.payload[start + 4]))
     } else {
         None
@@ -251,7 +252,7 @@ pub enum Part<'a> {
     Unknown,
 }
 
-/// What a frame's payload holds, by the frame's type; the refusals are those of the readers above, and PRIORITY has 5 octets,
+/// What a frame's payload holds, by the frame's type; the refusals are those of the readers above, and WITH_PRIORITY has 5 octets,
 /// PING 8 (RFC 9113, 6).
 #[tactic(auto, unfolding(h2_spec::specs::Payload::part_as))]
 pub fn part_of(frame: FrameRef<'_>) -> Result<Part<'_>, PayloadFault>
@@ -285,7 +286,7 @@ fn octets_of_length(octets: &[u8], count: usize) -> Result<&[u8], PayloadFault>
     Ok(octets)
 }
 
-/// The five octets of a PRIORITY frame, which are not looked at.
+/// The five octets of a WITH_PRIORITY frame, which are not looked at.
 fn priority_part(octets: &[u8]) -> Result<Part<'_>, PayloadFault>
     ensures { seen part_seen result ≡ of_length 5 OfPriority octets.now }
 {

@@ -10,14 +10,13 @@ ghost use Rattle.h2_spec.specs.Frame.{next, preface, frame_item};
 ghost use Rattle.h2_frame.specs.Items.{item_of, ends_items, found_in, next_in, rest_after};
 ghost use Rattle.h2_frame.specs.contracts.splitter.Splitter.{the_row};
 
-use crate::cuts::{octets_from, octets_up_to};
 use crate::head::{FrameRef, first_head};
-use h2_spec::frames::Head;
+use h2_spec::frames::{Head, PREFACE};
+use h2_spec::octets::{octets_from, octets_up_to};
 use std::alloc::{AllocError, Allocator};
 use std::marker::Model;
 
 /// The client's connection preface (RFC 9113, 3.4).
-static PREFACE: [u8; 24] = *b"PRI * HTTP/2.0\r\n\r\nSM\r\n\r\n";
 
 /// One step of the input.
 #[derive(Clone, Copy, Debug, PartialEq, Eq)]

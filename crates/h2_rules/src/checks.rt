@@ -7,18 +7,7 @@ ghost use Rattle.h2_spec.specs.Checks as rule;
 
 use h2_spec::connection::Phase;
 use h2_spec::errors::ErrorCode;
-use h2_spec::frames::{FrameType, Head};
-
-/// The flag ACK of SETTINGS and PING (RFC 9113, 6.5 and 6.7).
-const ACK: u8 = 1;
-
-/// Whether a flag, given as the bit's value, is set.
-pub fn has(flags: u8, flag: u8) -> bool
-    requires { 0 < flag }
-    ensures { result ≡ frame.has flags flag }
-{
-    flags / flag % 2 == 1
-}
+use h2_spec::frames::{ACK, CONTINUATION, FrameType, Head, SETTINGS};
 
 /// Inside a block on this stream, what is no CONTINUATION of it.
 #[tactic(auto, unfolding(h2_spec::specs::Checks::interrupts))]
@@ -27,7 +16,7 @@ fn interrupts(block: Option<u32>, head: &Head) -> bool
 {
     match block {
         None => false,
-        Some(stream) => !(head.kind == 9 && head.stream == stream),
+        Some(stream) => !(head.kind == CONTINUATION && head.stream == stream),
     }
 }
 
@@ -37,7 +26,7 @@ fn is_early(phase: Phase, head: &Head) -> bool
     ensures { result ≡ rule.is_early phase head.now }
 {
     match phase {
-        Phase::Settings => !(head.kind == 4 && !has(head.flags, ACK)),
+        Phase::Settings => !(head.kind == SETTINGS && !head.has(ACK)),
         Phase::Preface | Phase::Running | Phase::Ended(_) => false,
     }
 }

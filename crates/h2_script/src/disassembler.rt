@@ -10,11 +10,11 @@ ghost use Rattle.h2_spec.specs.Script.{Script};
 ghost use Rattle.h2_spec.specs.Written.{frame_said, line_text, next_said, rest_text, written};
 ghost use Rattle.h2_script.specs.Texts.{IsFrame, IsNext, head_text, said_text};
 
-use crate::line::PREFACE;
 use crate::said::push_payload;
 use crate::text::{push_octet, push_octets, push_stream, push_type};
-use crate::words::{octets_from, octets_up_to};
 use h2_frame::{Head, read_head};
+use h2_spec::frames::PREFACE;
+use h2_spec::octets::{octets_from, octets_up_to};
 use std::alloc::{AllocError, Allocator};
 
 /// The one script that is written for octets: the preface, a line for each whole frame, and the rest in hex.
@@ -93,7 +93,7 @@ fn first_frame(octets: &[u8]) -> Option<(Head, &[u8])>
 fn begins_with_preface(first: bool, octets: &[u8]) -> bool
     ensures { result ≡ (first && starts_with nat_eq octets.now preface) }
 {
-    first && octets.starts_with(PREFACE.as_slice())
+    first && octets.starts_with(&PREFACE)
 }
 
 /// Appends the line of a frame.

@@ -13,9 +13,9 @@ ghost use Rattle.h2_script.specs.Texts.{AddsText, IsBlockText, IsFirstSaid, Says
 
 use crate::said::push_hex;
 use crate::text::{push_number, push_numbered, push_string};
-use crate::words::octets_from;
 use h2_fields::fault::BlockFault;
 use h2_fields::instruction::{Instr, InstrRead, Mode, Name, Text, read_instr, write_instr};
+use h2_spec::octets::octets_from;
 use std::alloc::{AllocError, Allocator};
 
 /// Appends the text of a fragment of a field block.

@@ -15,11 +15,11 @@ use crate::number::number_at;
 use crate::payload::payload_at;
 use crate::words::{after, cut, is_word, octet_at, octets_at};
 use h2_frame::append_frame;
+use h2_spec::frames::PREFACE;
 use h2_spec::scripts::SyntaxKind;
 use std::alloc::Allocator;
 
 /// The octets of the client's preface (RFC 9113, 3.4).
-pub(crate) const PREFACE: &[u8; 24] = b"PRI * HTTP/2.0\r\n\r\nSM\r\n\r\n";
 
 /// Appends the octets that a line represents.
 pub(crate) fn add_line<A: Allocator + Copy>(
@@ -53,7 +53,7 @@ fn add_word<A: Allocator>(line: &[u8], out: &mut Vec<u8, A>) -> Result<(), LineF
     if !is_word(line, b"PREFACE") {
         return Err(LineFault::Bad(SyntaxKind::Parts));
     }
-    out.extend_from_slice(PREFACE.as_slice())?;
+    out.extend_from_slice(&PREFACE)?;
     Ok(())
 }
 

@@ -12,7 +12,7 @@ ghost use Rattle.h2_spec.specs.Written.{each_text, is_fragment, payload_said, pa
 
 use crate::fragment::push_fragment;
 use crate::text::{push_numbered, push_octets};
-use crate::words::octets_from;
+use h2_spec::octets::octets_from;
 use std::alloc::{AllocError, Allocator};
 use std::fmt::Write;
 

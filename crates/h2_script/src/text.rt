@@ -9,6 +9,10 @@ ghost use Rattle.h2_spec.specs.Script.{quote_of, type_names};
 ghost use Rattle.h2_spec.specs.Written.{character_text, stream_text, type_text};
 
 use crate::words::is_plain;
+use h2_spec::frames::{
+    CONTINUATION, DATA, GOAWAY, HEADERS, PING, PRIORITY, PUSH_PROMISE, RST_STREAM, SETTINGS,
+    WINDOW_UPDATE,
+};
 use std::alloc::{AllocError, Allocator};
 use std::fmt::Write;
 
@@ -114,16 +118,16 @@ fn type_name(kind: u8) -> Option<&'static str>
     ensures { option_map (λ t. t.now) result ≡ slice_get type_names kind }
 {
     match kind {
-        0 => Some("DATA"),
-        1 => Some("HEADERS"),
-        2 => Some("PRIORITY"),
-        3 => Some("RST_STREAM"),
-        4 => Some("SETTINGS"),
-        5 => Some("PUSH_PROMISE"),
-        6 => Some("PING"),
-        7 => Some("GOAWAY"),
-        8 => Some("WINDOW_UPDATE"),
-        9 => Some("CONTINUATION"),
+        DATA => Some("DATA"),
+        HEADERS => Some("HEADERS"),
+        PRIORITY => Some("PRIORITY"),
+        RST_STREAM => Some("RST_STREAM"),
+        SETTINGS => Some("SETTINGS"),
+        PUSH_PROMISE => Some("PUSH_PROMISE"),
+        PING => Some("PING"),
+        GOAWAY => Some("GOAWAY"),
+        WINDOW_UPDATE => Some("WINDOW_UPDATE"),
+        CONTINUATION => Some("CONTINUATION"),
         _ => None,
     }
 }

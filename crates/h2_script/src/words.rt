@@ -7,24 +7,9 @@ ghost use Rattle.h2_spec.specs.Assemble.{before, behind, octet_at, octets_at, on
 ghost use Rattle.h2_spec.specs.Script.{cut_at, is_plain};
 ghost use Rattle.h2_script.specs.Characters.{character_at};
 
+use h2_spec::octets::octets_from;
 use hex::{FromHex, FromHexError};
 use std::alloc::{AllocError, Allocator};
-
-/// The octets from a place on.
-pub(crate) fn octets_from(text: &[u8], start: usize) -> &[u8]
-    requires { start ≤ length text.now }
-    ensures { result.now ≡ drop start text.now }
-{
-    text.split_at(start).1
-}
-
-/// The octets up to a place.
-pub(crate) fn octets_up_to(text: &[u8], end: usize) -> &[u8]
-    requires { end ≤ length text.now }
-    ensures { result.now ≡ take end text.now }
-{
-    text.split_at(end).0
-}
 
 /// Whether a text is this word.
 pub(crate) fn is_word(text: &[u8], word: &[u8]) -> bool

@@ -6,6 +6,30 @@ ghost use Rattle.h2_spec.specs.FrameType.{frame_type, type_number, has};
 
 use thiserror::Error;
 
+/// What a client sends first (RFC 9113, 3.4).
+pub static PREFACE: [u8; 24] = *b"PRI * HTTP/2.0\r\n\r\nSM\r\n\r\n";
+
+/// The number of the type DATA (RFC 9113, 6.1).
+pub const DATA: u8 = 0x0;
+/// The number of the type HEADERS (RFC 9113, 6.2).
+pub const HEADERS: u8 = 0x1;
+/// The number of the type PRIORITY (RFC 9113, 6.3).
+pub const PRIORITY: u8 = 0x2;
+/// The number of the type RST_STREAM (RFC 9113, 6.4).
+pub const RST_STREAM: u8 = 0x3;
+/// The number of the type SETTINGS (RFC 9113, 6.5).
+pub const SETTINGS: u8 = 0x4;
+/// The number of the type PUSH_PROMISE (RFC 9113, 6.6).
+pub const PUSH_PROMISE: u8 = 0x5;
+/// The number of the type PING (RFC 9113, 6.7).
+pub const PING: u8 = 0x6;
+/// The number of the type GOAWAY (RFC 9113, 6.8).
+pub const GOAWAY: u8 = 0x7;
+/// The number of the type WINDOW_UPDATE (RFC 9113, 6.9).
+pub const WINDOW_UPDATE: u8 = 0x8;
+/// The number of the type CONTINUATION (RFC 9113, 6.10).
+pub const CONTINUATION: u8 = 0x9;
+
 /// The stream has ended on the sender's side: DATA, HEADERS (RFC 9113, 6.1 and 6.2).
 pub const END_STREAM: u8 = 0x1;
 /// An acknowledgement: SETTINGS, PING (RFC 9113, 6.5 and 6.7).
@@ -15,7 +39,7 @@ pub const END_HEADERS: u8 = 0x4;
 /// The payload begins with the length of its padding: DATA, HEADERS (RFC 9113, 6.1 and 6.2).
 pub const PADDED: u8 = 0x8;
 /// The payload has a dependency and a weight: HEADERS (RFC 9113, 6.2).
-pub const PRIORITY: u8 = 0x20;
+pub const WITH_PRIORITY: u8 = 0x20;
 
 /// The types of frames (RFC 9113, 6).
 #[derive(Clone, Copy, Debug, PartialEq, Eq)]
@@ -40,16 +64,16 @@ impl FrameType {
         ensures { result ≡ frame_type kind }
     {
         match kind {
-            0 => FrameType::Data,
-            1 => FrameType::Headers,
-            2 => FrameType::Priority,
-            3 => FrameType::RstStream,
-            4 => FrameType::Settings,
-            5 => FrameType::PushPromise,
-            6 => FrameType::Ping,
-            7 => FrameType::Goaway,
-            8 => FrameType::WindowUpdate,
-            9 => FrameType::Continuation,
+            DATA => FrameType::Data,
+            HEADERS => FrameType::Headers,
+            PRIORITY => FrameType::Priority,
+            RST_STREAM => FrameType::RstStream,
+            SETTINGS => FrameType::Settings,
+            PUSH_PROMISE => FrameType::PushPromise,
+            PING => FrameType::Ping,
+            GOAWAY => FrameType::Goaway,
+            WINDOW_UPDATE => FrameType::WindowUpdate,
+            CONTINUATION => FrameType::Continuation,
             _ => FrameType::Unknown(kind),
         }
     }
@@ -59,16 +83,16 @@ impl FrameType {
         ensures { result ≡ type_number self }
     {
         match self {
-            FrameType::Data => 0,
-            FrameType::Headers => 1,
-            FrameType::Priority => 2,
-            FrameType::RstStream => 3,
-            FrameType::Settings => 4,
-            FrameType::PushPromise => 5,
-            FrameType::Ping => 6,
-            FrameType::Goaway => 7,
-            FrameType::WindowUpdate => 8,
-            FrameType::Continuation => 9,
+            FrameType::Data => DATA,
+            FrameType::Headers => HEADERS,
+            FrameType::Priority => PRIORITY,
+            FrameType::RstStream => RST_STREAM,
+            FrameType::Settings => SETTINGS,
+            FrameType::PushPromise => PUSH_PROMISE,
+            FrameType::Ping => PING,
+            FrameType::Goaway => GOAWAY,
+            FrameType::WindowUpdate => WINDOW_UPDATE,
+            FrameType::Continuation => CONTINUATION,
             FrameType::Unknown(kind) => kind,
         }
     }

@@ -5,6 +5,7 @@ pub mod connection;
 pub mod errors;
 pub mod flow;
 pub mod frames;
+pub mod octets;
 pub mod reactions;
 pub mod scripts;
 pub mod streams;
