@@ -1,13 +1,19 @@
 //! Long bodies: DATA as far as the windows go, on one stream and on two (RFC 9113, 5.2 and 6.9).
 
-use crate::program::{Piece, compare_exchange, filled, long_answer};
+use crate::program::{Piece, assembled, compare_exchange, filled, long_answer};
 use std::alloc::Global;
 use std::process::Abort;
 use std::test::Fail;
 
-/// An exchange of a GET whose answer is long: its name, the frames that come behind the preface and SETTINGS of no setting, those that are sent behind the
-/// opening SETTINGS and the acknowledgement, with octets 61, and the text of the state.
-type LongExchange = (&'static str, &'static [u8], &'static [Piece], &'static [u8]);
+/// An exchange of a GET whose answer is long: its name, the script of the frames behind the preface and SETTINGS of no
+/// setting, the frames that are sent behind the opening SETTINGS and the acknowledgement, with octets 61, and the lines
+/// of the state that matter.
+type LongExchange = (
+    &'static str,
+    &'static str,
+    &'static [Piece],
+    &'static [&'static str],
+);
 
 /// Plays each exchange with a GET whose answer has so many octets 61, and compares what is printed; the exit status is 0.
 fn compare_long_answers(
@@ -18,9 +24,11 @@ fn compare_long_answers(
 ) -> Result<(), Fail> {
     let answer = long_answer(alloc, count)?;
     let words = ["play", answer.as_str()];
-    for (name, frames, pieces, state) in cases {
+    for (name, script, pieces, lines) in cases {
+        let frames = assembled(alloc, script)?;
         let sent = filled(alloc, "61", pieces)?;
-        compare_exchange(rt, alloc, name, &words, frames, sent.as_slice(), state);
+        let (frames, sent) = (frames.as_bytes(), sent.as_slice());
+        compare_exchange(rt, alloc, name, &words, frames, sent, lines);
     }
     Ok(())
 }
@@ -29,7 +37,7 @@ fn compare_long_answers(
 static ON_ONE_STREAM: [LongExchange; 6] = [
     (
         "the connection's window is used up",
-        b"000014010500000001828684410f7777772e6578616d706c652e636f6d",
+        "HEADERS 05 1 hi2,i6,i4,a1=\"www.example.com\"",
         &[
             ("00000101040000000188 004000000000000001", 16384),
             ("004000000000000001", 16384),
@@ -47,7 +55,8 @@ static ON_ONE_STREAM: [LongExchange; 6] = [
     ),
     (
         "the connection's window alone is opened again",
-        b"000014010500000001828684410f7777772e6578616d706c652e636f6d 000004080000000000000186a0",
+        "HEADERS 05 1 hi2,i6,i4,a1=\"www.example.com\"\n\
+         WINDOW_UPDATE 00 0 w100000",
         &[
             ("00000101040000000188 004000000000000001", 16384),
             ("004000000000000001", 16384),
@@ -65,7 +74,9 @@ static ON_ONE_STREAM: [LongExchange; 6] = [
     ),
     (
         "both windows are opened again",
-        b"000014010500000001828684410f7777772e6578616d706c652e636f6d 000004080000000000000186a0 00000408000000000100001171",
+        "HEADERS 05 1 hi2,i6,i4,a1=\"www.example.com\"\n\
+         WINDOW_UPDATE 00 0 w100000\n\
+         WINDOW_UPDATE 00 1 w4465",
         &[
             ("00000101040000000188 004000000000000001", 16384),
             ("004000000000000001", 16384),
@@ -84,7 +95,8 @@ static ON_ONE_STREAM: [LongExchange; 6] = [
     ),
     (
         "the initial window becomes 0",
-        b"000014010500000001828684410f7777772e6578616d706c652e636f6d 000006040000000000000400000000",
+        "HEADERS 05 1 hi2,i6,i4,a1=\"www.example.com\"\n\
+         SETTINGS 00 0 s4=0",
         &[
             ("00000101040000000188 004000000000000001", 16384),
             ("004000000000000001", 16384),
@@ -103,7 +115,9 @@ static ON_ONE_STREAM: [LongExchange; 6] = [
     ),
     (
         "the initial window becomes 0, and then 65535",
-        b"000014010500000001828684410f7777772e6578616d706c652e636f6d 000006040000000000000400000000 00000604000000000000040000ffff",
+        "HEADERS 05 1 hi2,i6,i4,a1=\"www.example.com\"\n\
+         SETTINGS 00 0 s4=0\n\
+         SETTINGS 00 0 s4=65535",
         &[
             ("00000101040000000188 004000000000000001", 16384),
             ("004000000000000001", 16384),
@@ -122,7 +136,9 @@ static ON_ONE_STREAM: [LongExchange; 6] = [
     ),
     (
         "two settings open the stream's window",
-        b"000014010500000001828684410f7777772e6578616d706c652e636f6d 000004080000000000000186a0 00000c040000000000000400000000000400011170",
+        "HEADERS 05 1 hi2,i6,i4,a1=\"www.example.com\"\n\
+         WINDOW_UPDATE 00 0 w100000\n\
+         SETTINGS 00 0 s4=0,4=70000",
         &[
             ("00000101040000000188 004000000000000001", 16384),
             ("004000000000000001", 16384),
@@ -145,7 +161,8 @@ static ON_ONE_STREAM: [LongExchange; 6] = [
 static ON_TWO_STREAMS: [LongExchange; 2] = [
     (
         "the first stream is sent whole, and the second as far as the window goes",
-        b"000003010500000001828684 000003010500000003828684",
+        "HEADERS 05 1 hi2,i6,i4\n\
+         HEADERS 05 3 hi2,i6,i4",
         &[
             ("00000101040000000188 004000000000000001", 16384),
             ("004000000000000001", 16384),
@@ -164,7 +181,9 @@ static ON_TWO_STREAMS: [LongExchange; 2] = [
     ),
     (
         "one octet more may be sent",
-        b"000003010500000001828684 000003010500000003828684 00000408000000000000000001",
+        "HEADERS 05 1 hi2,i6,i4\n\
+         HEADERS 05 3 hi2,i6,i4\n\
+         WINDOW_UPDATE 00 0 w1",
         &[
             ("00000101040000000188 004000000000000001", 16384),
             ("004000000000000001", 16384),

@@ -7,54 +7,46 @@ pub(crate) static IN_ORDER: [Exchange; 4] = [
     (
         "HEADERS below the last stream",
         &["play"],
-        b"000003010400000005828684 000003010400000003828684",
-        b"0000080700000000000000000500000001",
-        b"phase ended 1 last 5\n\
-         window recv 65535 owed 0 send 65535\n\
-         peer table 4096 push 1 streams - window 65535 frame 16384 list - signal 0\n\
-         acked 0 goaway -\n\
-         block -\n\
-         table 0 0 4096\n\
-         stream 5 open recv 65535 owed 0 send 65535 got 0 of - left -\n",
+        "HEADERS 04 5 hi2,i6,i4\n\
+         HEADERS 04 3 hi2,i6,i4",
+        "GOAWAY 00 0 x0000000500000001",
+        &[
+            "phase ended 1 last 5",
+            "stream 5 open recv 65535 owed 0 send 65535 got 0 of - left -",
+        ],
     ),
     (
         "DATA on a skipped stream",
         &["play"],
-        b"000003010400000005828684 00000100000000000361",
-        b"0000080700000000000000000500000005",
-        b"phase ended 5 last 5\n\
-         window recv 65535 owed 0 send 65535\n\
-         peer table 4096 push 1 streams - window 65535 frame 16384 list - signal 0\n\
-         acked 0 goaway -\n\
-         block -\n\
-         table 0 0 4096\n\
-         stream 5 open recv 65535 owed 0 send 65535 got 0 of - left -\n",
+        "HEADERS 04 5 hi2,i6,i4\n\
+         DATA 00 3 x61",
+        "GOAWAY 00 0 x0000000500000005",
+        &[
+            "phase ended 5 last 5",
+            "stream 5 open recv 65535 owed 0 send 65535 got 0 of - left -",
+        ],
     ),
     (
         "PRIORITY on a skipped stream",
         &["play"],
-        b"000003010400000005828684 0000050200000000030000000000",
-        b"",
-        b"phase running last 5\n\
-         window recv 65535 owed 0 send 65535\n\
-         peer table 4096 push 1 streams - window 65535 frame 16384 list - signal 0\n\
-         acked 0 goaway -\n\
-         block -\n\
-         table 0 0 4096\n\
-         stream 5 open recv 65535 owed 0 send 65535 got 0 of - left -\n",
+        "HEADERS 04 5 hi2,i6,i4\n\
+         PRIORITY 00 3 x0000000000",
+        "",
+        &[
+            "phase running last 5",
+            "stream 5 open recv 65535 owed 0 send 65535 got 0 of - left -",
+        ],
     ),
     (
         "HEADERS on an even stream",
         &["play"],
-        b"000003010400000005828684 000003010400000002828684",
-        b"0000080700000000000000000500000001",
-        b"phase ended 1 last 5\n\
-         window recv 65535 owed 0 send 65535\n\
-         peer table 4096 push 1 streams - window 65535 frame 16384 list - signal 0\n\
-         acked 0 goaway -\n\
-         block -\n\
-         table 0 0 4096\n\
-         stream 5 open recv 65535 owed 0 send 65535 got 0 of - left -\n",
+        "HEADERS 04 5 hi2,i6,i4\n\
+         HEADERS 04 2 hi2,i6,i4",
+        "GOAWAY 00 0 x0000000500000001",
+        &[
+            "phase ended 1 last 5",
+            "stream 5 open recv 65535 owed 0 send 65535 got 0 of - left -",
+        ],
     ),
 ];
 

@@ -1,9 +1,11 @@
 //! Runs of the program over memory, and the tables of them, which are in a file for each topic.
 //! Rests on h2_bench.
 
+use crate::digits::digits_of;
 use crate::same::same;
 use crate::{blocks, faults, flow, items, opening, order, requests, sessions, tables};
 use h2_bench::{Words, run};
+use h2_script::assemble;
 use std::alloc::{AllocError, Global};
 use std::process::Abort;
 use std::test::Fail;
@@ -29,15 +31,29 @@ pub(crate) type Run = (
     u8,
 );
 
-/// An exchange of `play`: its name, the words behind the program's name, the frames that come behind the preface and SETTINGS of no setting, those that
-/// are sent behind the opening SETTINGS and the acknowledgement, and the text of the state. Frames are hex, with spaces between them.
+/// An exchange of `play`: its name, the words behind the program's name, the script of the frames that come behind the
+/// preface and SETTINGS of no setting, the script of those that are sent behind the opening SETTINGS and the
+/// acknowledgement, and the lines of the state that are not those of `RUNNING`, in their order.
 pub(crate) type Exchange = (
     &'static str,
     &'static [&'static str],
-    &'static [u8],
-    &'static [u8],
-    &'static [u8],
+    &'static str,
+    &'static str,
+    &'static [&'static str],
 );
+
+/// The lines of the state where settings were exchanged and nothing else came, with their first words.
+static RUNNING: [(&str, &str); 6] = [
+    ("phase ", "phase running last 0"),
+    ("window ", "window recv 65535 owed 0 send 65535"),
+    (
+        "peer ",
+        "peer table 4096 push 1 streams - window 65535 frame 16384 list - signal 0",
+    ),
+    ("acked ", "acked 0 goaway -"),
+    ("block ", "block -"),
+    ("table ", "table 0 0 4096"),
+];
 
 /// A text, and behind it another one so many times.
 pub(crate) type Piece = (&'static str, u32);
@@ -113,12 +129,58 @@ fn close_up(text: &[u8], closed: &mut Vec<u8>) -> Result<(), AllocError> {
     Ok(())
 }
 
-/// Appends what `play` prints where these frames are sent behind the opening SETTINGS and the acknowledgement, and this state is shown.
-fn print(sent: &[u8], state: &[u8], text: &mut Vec<u8>) -> Result<(), AllocError> {
+/// The hex of the octets of a script.
+pub(crate) fn assembled(alloc: Global, script: &str) -> Result<String, Fail> {
+    let octets = assemble(alloc, script)?;
+    Ok(digits_of(alloc, octets.as_slice())?)
+}
+
+/// The first line that begins with this word, or else the other one.
+fn line_of<'l>(lines: &[&'l str], word: &str, other: &'l str) -> &'l str {
+    for line in lines {
+        if line.starts_with(word) {
+            return line;
+        }
+    }
+    other
+}
+
+/// Whether a line is one of those that each state has.
+fn is_in_each_state(line: &str) -> bool {
+    for (word, _) in &RUNNING {
+        if line.starts_with(word) {
+            return true;
+        }
+    }
+    false
+}
+
+/// Appends the lines that each state has: these, and else those of `RUNNING`.
+fn print_running(lines: &[&str], text: &mut Vec<u8>) -> Result<(), AllocError> {
+    for (word, line) in &RUNNING {
+        join(text, &[line_of(lines, word, line).as_bytes(), b"\n"])?;
+    }
+    Ok(())
+}
+
+/// Appends the lines of entries and streams.
+fn print_more(lines: &[&str], text: &mut Vec<u8>) -> Result<(), AllocError> {
+    for line in lines {
+        if !is_in_each_state(line) {
+            join(text, &[line.as_bytes(), b"\n"])?;
+        }
+    }
+    Ok(())
+}
+
+/// Appends what `play` prints where these frames are sent behind the opening SETTINGS and the acknowledgement, and the state has these lines.
+fn print(sent: &[u8], lines: &[&str], text: &mut Vec<u8>) -> Result<(), AllocError> {
     let front = [b"sent ", OPENING.as_bytes(), ACKNOWLEDGEMENT.as_bytes()];
     join(text, &front)?;
     close_up(sent, text)?;
-    join(text, &[b"\n", state])
+    join(text, &[b"\n"])?;
+    print_running(lines, text)?;
+    print_more(lines, text)
 }
 
 /// Runs the program, and compares the exit status and what is printed.
@@ -165,21 +227,32 @@ pub(crate) fn compare_exchange(
     words: &[&str],
     frames: &[u8],
     sent: &[u8],
-    state: &[u8],
+    lines: &[&str],
 ) {
     let mut text = Vec::new(alloc);
     let status = status_of_play(alloc, words, frames, &mut text);
     let mut printed = Vec::new(alloc);
-    let is_printed = print(sent, state, &mut printed);
+    let is_printed = print(sent, lines, &mut printed);
     let wanted = (Ok(0), Ok(()), printed.as_slice());
     same(rt, &(status, is_printed, text.as_slice()), &wanted, &name);
 }
 
+/// The same for an exchange.
+fn compare_scripts(rt: &impl Abort, alloc: Global, case: &Exchange) -> Result<(), Fail> {
+    let (name, words, script, sent, lines) = case;
+    let frames = assembled(alloc, script)?;
+    let sent = assembled(alloc, sent)?;
+    let (frames, sent) = (frames.as_bytes(), sent.as_bytes());
+    compare_exchange(rt, alloc, name, words, frames, sent, lines);
+    Ok(())
+}
+
 /// The same for each exchange.
-pub(crate) fn compare_exchanges(rt: &impl Abort, alloc: Global, cases: &[Exchange]) {
-    for (name, words, frames, sent, state) in cases {
-        compare_exchange(rt, alloc, name, words, frames, sent, state);
+fn compare_exchanges(rt: &impl Abort, alloc: Global, cases: &[Exchange]) -> Result<(), Fail> {
+    for case in cases {
+        compare_scripts(rt, alloc, case)?;
     }
+    Ok(())
 }
 
 #[test]
@@ -198,7 +271,7 @@ fn runs_print_what_the_tables_say(rt: HostRuntime) {
 }
 
 #[test]
-fn exchanges_are_as_the_tables_say(rt: HostRuntime) {
+fn exchanges_are_as_the_tables_say(rt: HostRuntime) -> Result<(), Fail> {
     let tables: [&[Exchange]; 5] = [
         &opening::HEADS,
         &requests::REQUESTS,
@@ -207,6 +280,7 @@ fn exchanges_are_as_the_tables_say(rt: HostRuntime) {
         &order::IN_ORDER,
     ];
     for cases in tables {
-        compare_exchanges(&rt, rt.alloc(), cases);
+        compare_exchanges(&rt, rt.alloc(), cases)?;
     }
+    Ok(())
 }

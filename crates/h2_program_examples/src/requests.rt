@@ -7,226 +7,151 @@ pub(crate) static REQUESTS: [Exchange; 17] = [
     (
         "a whole block",
         &["play", "GET|/|200|6869"],
-        b"000014010500000001828684410f7777772e6578616d706c652e636f6d",
-        b"00000101040000000188 0000020001000000016869",
-        b"phase running last 1\n\
-         window recv 65535 owed 0 send 65533\n\
-         peer table 4096 push 1 streams - window 65535 frame 16384 list - signal 0\n\
-         acked 0 goaway -\n\
-         block -\n\
-         table 1 57 4096\n\
-         entry 62 3a617574686f72697479 7777772e6578616d706c652e636f6d\n\
-         stream 1 ended\n",
+        "HEADERS 05 1 hi2,i6,i4,a1=\"www.example.com\"",
+        "HEADERS 04 1 hi8\n\
+         DATA 01 1 x6869",
+        &[
+            "phase running last 1",
+            "window recv 65535 owed 0 send 65533",
+            "table 1 57 4096",
+            "entry 62 3a617574686f72697479 7777772e6578616d706c652e636f6d",
+            "stream 1 ended",
+        ],
     ),
     (
         "a block in two frames, cut in an instruction, with Huffman",
         &["play", "GET|/|200|6869"],
-        b"000007010100000001828684418cf1e3 00000a090400000001c2e5f23a6ba0ab90f4ff",
-        b"00000101040000000188 0000020001000000016869",
-        b"phase running last 1\n\
-         window recv 65535 owed 0 send 65533\n\
-         peer table 4096 push 1 streams - window 65535 frame 16384 list - signal 0\n\
-         acked 0 goaway -\n\
-         block -\n\
-         table 1 57 4096\n\
-         entry 62 3a617574686f72697479 7777772e6578616d706c652e636f6d\n\
-         stream 1 ended\n",
+        "HEADERS 01 1 x828684418cf1e3\n\
+         CONTINUATION 04 1 xc2e5f23a6ba0ab90f4ff",
+        "HEADERS 04 1 hi8\n\
+         DATA 01 1 x6869",
+        &[
+            "phase running last 1",
+            "window recv 65535 owed 0 send 65533",
+            "table 1 57 4096",
+            "entry 62 3a617574686f72697479 7777772e6578616d706c652e636f6d",
+            "stream 1 ended",
+        ],
     ),
     (
         "PING in a block",
         &["play", "GET|/|200|6869"],
-        b"000007010100000001828684418cf1e3 0000080600000000000102030405060708",
-        b"0000080700000000000000000000000001",
-        b"phase ended 1 last 0\n\
-         window recv 65535 owed 0 send 65535\n\
-         peer table 4096 push 1 streams - window 65535 frame 16384 list - signal 0\n\
-         acked 0 goaway -\n\
-         block stream 1 octets 7 list 123 ends 1\n\
-         table 0 0 4096\n",
+        "HEADERS 01 1 x828684418cf1e3\n\
+         PING 00 0 x0102030405060708",
+        "GOAWAY 00 0 x0000000000000001",
+        &[
+            "phase ended 1 last 0",
+            "block stream 1 octets 7 list 123 ends 1",
+        ],
     ),
     (
         "no answer for the path",
         &["play"],
-        b"000003010500000001828684",
-        b"0000010105000000018d",
-        b"phase running last 1\n\
-         window recv 65535 owed 0 send 65535\n\
-         peer table 4096 push 1 streams - window 65535 frame 16384 list - signal 0\n\
-         acked 0 goaway -\n\
-         block -\n\
-         table 0 0 4096\n\
-         stream 1 ended\n",
+        "HEADERS 05 1 hi2,i6,i4",
+        "HEADERS 05 1 hi13",
+        &["phase running last 1", "stream 1 ended"],
     ),
     (
         "the peer's table of size 0",
         &["play", "GET|/|200|6869"],
-        b"000006040000000000000100000000 000014010500000001828684410f7777772e6578616d706c652e636f6d",
-        b"000000040100000000 0000020104000000012088 0000020001000000016869",
-        b"phase running last 1\n\
-         window recv 65535 owed 0 send 65533\n\
-         peer table 0 push 1 streams - window 65535 frame 16384 list - signal 0\n\
-         acked 0 goaway -\n\
-         block -\n\
-         table 1 57 4096\n\
-         entry 62 3a617574686f72697479 7777772e6578616d706c652e636f6d\n\
-         stream 1 ended\n",
+        "SETTINGS 00 0 s1=0\n\
+         HEADERS 05 1 hi2,i6,i4,a1=\"www.example.com\"",
+        "SETTINGS 01 0 -\n\
+         HEADERS 04 1 hu0,i8\n\
+         DATA 01 1 x6869",
+        &[
+            "phase running last 1",
+            "window recv 65535 owed 0 send 65533",
+            "peer table 0 push 1 streams - window 65535 frame 16384 list - signal 0",
+            "table 1 57 4096",
+            "entry 62 3a617574686f72697479 7777772e6578616d706c652e636f6d",
+            "stream 1 ended",
+        ],
     ),
     (
         "CONNECT",
         &["play"],
-        b"00000c0105000000010207434f4e4e454354010161",
-        b"0000050105000000010803353031",
-        b"phase running last 1\n\
-         window recv 65535 owed 0 send 65535\n\
-         peer table 4096 push 1 streams - window 65535 frame 16384 list - signal 0\n\
-         acked 0 goaway -\n\
-         block -\n\
-         table 0 0 4096\n\
-         stream 1 ended\n",
+        "HEADERS 05 1 hn2=\"CONNECT\",n1=\"a\"",
+        "HEADERS 05 1 hn8=\"501\"",
+        &["phase running last 1", "stream 1 ended"],
     ),
-    // Malformed requests.
     (
         "an upper-case letter in a name",
         &["play"],
-        b"0000080105000000018286840001410162",
-        b"00000403000000000100000001",
-        b"phase running last 1\n\
-         window recv 65535 owed 0 send 65535\n\
-         peer table 4096 push 1 streams - window 65535 frame 16384 list - signal 0\n\
-         acked 0 goaway -\n\
-         block -\n\
-         table 0 0 4096\n\
-         stream 1 we-reset\n",
+        "HEADERS 05 1 hi2,i6,i4,n\"A\"=\"b\"",
+        "RST_STREAM 00 1 c1",
+        &["phase running last 1", "stream 1 we-reset"],
     ),
     (
         "a value with a carriage return",
         &["play"],
-        b"000008010500000001828684000161010d",
-        b"00000403000000000100000001",
-        b"phase running last 1\n\
-         window recv 65535 owed 0 send 65535\n\
-         peer table 4096 push 1 streams - window 65535 frame 16384 list - signal 0\n\
-         acked 0 goaway -\n\
-         block -\n\
-         table 0 0 4096\n\
-         stream 1 we-reset\n",
+        "HEADERS 05 1 hi2,i6,i4,n\"a\"=\"\\0d\"",
+        "RST_STREAM 00 1 c1",
+        &["phase running last 1", "stream 1 we-reset"],
     ),
     (
         "a pseudo-field behind a field",
         &["play"],
-        b"0000080105000000018286000161016284",
-        b"00000403000000000100000001",
-        b"phase running last 1\n\
-         window recv 65535 owed 0 send 65535\n\
-         peer table 4096 push 1 streams - window 65535 frame 16384 list - signal 0\n\
-         acked 0 goaway -\n\
-         block -\n\
-         table 0 0 4096\n\
-         stream 1 we-reset\n",
+        "HEADERS 05 1 hi2,i6,n\"a\"=\"b\",i4",
+        "RST_STREAM 00 1 c1",
+        &["phase running last 1", "stream 1 we-reset"],
     ),
     (
         "a pseudo-field of another name",
         &["play"],
-        b"00000901050000000182868400023a780162",
-        b"00000403000000000100000001",
-        b"phase running last 1\n\
-         window recv 65535 owed 0 send 65535\n\
-         peer table 4096 push 1 streams - window 65535 frame 16384 list - signal 0\n\
-         acked 0 goaway -\n\
-         block -\n\
-         table 0 0 4096\n\
-         stream 1 we-reset\n",
+        "HEADERS 05 1 hi2,i6,i4,n\":x\"=\"b\"",
+        "RST_STREAM 00 1 c1",
+        &["phase running last 1", "stream 1 we-reset"],
     ),
     (
         ":path twice",
         &["play"],
-        b"00000401050000000182868484",
-        b"00000403000000000100000001",
-        b"phase running last 1\n\
-         window recv 65535 owed 0 send 65535\n\
-         peer table 4096 push 1 streams - window 65535 frame 16384 list - signal 0\n\
-         acked 0 goaway -\n\
-         block -\n\
-         table 0 0 4096\n\
-         stream 1 we-reset\n",
+        "HEADERS 05 1 hi2,i6,i4,i4",
+        "RST_STREAM 00 1 c1",
+        &["phase running last 1", "stream 1 we-reset"],
     ),
     (
         "no :scheme",
         &["play"],
-        b"0000020105000000018284",
-        b"00000403000000000100000001",
-        b"phase running last 1\n\
-         window recv 65535 owed 0 send 65535\n\
-         peer table 4096 push 1 streams - window 65535 frame 16384 list - signal 0\n\
-         acked 0 goaway -\n\
-         block -\n\
-         table 0 0 4096\n\
-         stream 1 we-reset\n",
+        "HEADERS 05 1 hi2,i4",
+        "RST_STREAM 00 1 c1",
+        &["phase running last 1", "stream 1 we-reset"],
     ),
     (
         "a field of one connection",
         &["play"],
-        b"000011010500000001828684000a636f6e6e656374696f6e0161",
-        b"00000403000000000100000001",
-        b"phase running last 1\n\
-         window recv 65535 owed 0 send 65535\n\
-         peer table 4096 push 1 streams - window 65535 frame 16384 list - signal 0\n\
-         acked 0 goaway -\n\
-         block -\n\
-         table 0 0 4096\n\
-         stream 1 we-reset\n",
+        "HEADERS 05 1 hi2,i6,i4,n\"connection\"=\"a\"",
+        "RST_STREAM 00 1 c1",
+        &["phase running last 1", "stream 1 we-reset"],
     ),
     (
         "te: gzip",
         &["play"],
-        b"00000c0105000000018286840002746504677a6970",
-        b"00000403000000000100000001",
-        b"phase running last 1\n\
-         window recv 65535 owed 0 send 65535\n\
-         peer table 4096 push 1 streams - window 65535 frame 16384 list - signal 0\n\
-         acked 0 goaway -\n\
-         block -\n\
-         table 0 0 4096\n\
-         stream 1 we-reset\n",
+        "HEADERS 05 1 hi2,i6,i4,n\"te\"=\"gzip\"",
+        "RST_STREAM 00 1 c1",
+        &["phase running last 1", "stream 1 we-reset"],
     ),
     (
         "content-length: 1x",
         &["play"],
-        b"0000080105000000018286840f0d023178",
-        b"00000403000000000100000001",
-        b"phase running last 1\n\
-         window recv 65535 owed 0 send 65535\n\
-         peer table 4096 push 1 streams - window 65535 frame 16384 list - signal 0\n\
-         acked 0 goaway -\n\
-         block -\n\
-         table 0 0 4096\n\
-         stream 1 we-reset\n",
+        "HEADERS 05 1 hi2,i6,i4,n28=\"1x\"",
+        "RST_STREAM 00 1 c1",
+        &["phase running last 1", "stream 1 we-reset"],
     ),
-    // Trailers.
     (
         "trailers that don't end the stream",
         &["play"],
-        b"000003010400000001828684 0000050104000000010001610162",
-        b"00000403000000000100000001",
-        b"phase running last 1\n\
-         window recv 65535 owed 0 send 65535\n\
-         peer table 4096 push 1 streams - window 65535 frame 16384 list - signal 0\n\
-         acked 0 goaway -\n\
-         block -\n\
-         table 0 0 4096\n\
-         stream 1 we-reset\n",
+        "HEADERS 04 1 hi2,i6,i4\n\
+         HEADERS 04 1 hn\"a\"=\"b\"",
+        "RST_STREAM 00 1 c1",
+        &["phase running last 1", "stream 1 we-reset"],
     ),
     (
         "trailers",
         &["play"],
-        b"000003010400000001828684 0000050105000000010001610162",
-        b"0000010105000000018d",
-        b"phase running last 1\n\
-         window recv 65535 owed 0 send 65535\n\
-         peer table 4096 push 1 streams - window 65535 frame 16384 list - signal 0\n\
-         acked 0 goaway -\n\
-         block -\n\
-         table 0 0 4096\n\
-         stream 1 ended\n",
+        "HEADERS 04 1 hi2,i6,i4\n\
+         HEADERS 05 1 hn\"a\"=\"b\"",
+        "HEADERS 05 1 hi13",
+        &["phase running last 1", "stream 1 ended"],
     ),
 ];
