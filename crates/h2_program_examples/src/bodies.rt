@@ -44,14 +44,13 @@ static ON_ONE_STREAM: [LongExchange; 6] = [
             ("004000000000000001", 16384),
             ("003fff000000000001", 16383),
         ],
-        b"phase running last 1\n\
-         window recv 65535 owed 0 send 0\n\
-         peer table 4096 push 1 streams - window 65535 frame 16384 list - signal 0\n\
-         acked 0 goaway -\n\
-         block -\n\
-         table 1 57 4096\n\
-         entry 62 3a617574686f72697479 7777772e6578616d706c652e636f6d\n\
-         stream 1 half-remote recv 65535 owed 0 send 0 got 0 of - left 4465\n",
+        &[
+            "phase running last 1",
+            "window recv 65535 owed 0 send 0",
+            "table 1 57 4096",
+            "entry 62 3a617574686f72697479 7777772e6578616d706c652e636f6d",
+            "stream 1 half-remote recv 65535 owed 0 send 0 got 0 of - left 4465",
+        ],
     ),
     (
         "the connection's window alone is opened again",
@@ -63,14 +62,13 @@ static ON_ONE_STREAM: [LongExchange; 6] = [
             ("004000000000000001", 16384),
             ("003fff000000000001", 16383),
         ],
-        b"phase running last 1\n\
-         window recv 65535 owed 0 send 100000\n\
-         peer table 4096 push 1 streams - window 65535 frame 16384 list - signal 0\n\
-         acked 0 goaway -\n\
-         block -\n\
-         table 1 57 4096\n\
-         entry 62 3a617574686f72697479 7777772e6578616d706c652e636f6d\n\
-         stream 1 half-remote recv 65535 owed 0 send 0 got 0 of - left 4465\n",
+        &[
+            "phase running last 1",
+            "window recv 65535 owed 0 send 100000",
+            "table 1 57 4096",
+            "entry 62 3a617574686f72697479 7777772e6578616d706c652e636f6d",
+            "stream 1 half-remote recv 65535 owed 0 send 0 got 0 of - left 4465",
+        ],
     ),
     (
         "both windows are opened again",
@@ -84,14 +82,13 @@ static ON_ONE_STREAM: [LongExchange; 6] = [
             ("003fff000000000001", 16383),
             ("001171000100000001", 4465),
         ],
-        b"phase running last 1\n\
-         window recv 65535 owed 0 send 95535\n\
-         peer table 4096 push 1 streams - window 65535 frame 16384 list - signal 0\n\
-         acked 0 goaway -\n\
-         block -\n\
-         table 1 57 4096\n\
-         entry 62 3a617574686f72697479 7777772e6578616d706c652e636f6d\n\
-         stream 1 ended\n",
+        &[
+            "phase running last 1",
+            "window recv 65535 owed 0 send 95535",
+            "table 1 57 4096",
+            "entry 62 3a617574686f72697479 7777772e6578616d706c652e636f6d",
+            "stream 1 ended",
+        ],
     ),
     (
         "the initial window becomes 0",
@@ -104,14 +101,14 @@ static ON_ONE_STREAM: [LongExchange; 6] = [
             ("003fff000000000001", 16383),
             ("000000040100000000", 0),
         ],
-        b"phase running last 1\n\
-         window recv 65535 owed 0 send 0\n\
-         peer table 4096 push 1 streams - window 0 frame 16384 list - signal 0\n\
-         acked 0 goaway -\n\
-         block -\n\
-         table 1 57 4096\n\
-         entry 62 3a617574686f72697479 7777772e6578616d706c652e636f6d\n\
-         stream 1 half-remote recv 65535 owed 0 send -65535 got 0 of - left 4465\n",
+        &[
+            "phase running last 1",
+            "window recv 65535 owed 0 send 0",
+            "peer table 4096 push 1 streams - window 0 frame 16384 list - signal 0",
+            "table 1 57 4096",
+            "entry 62 3a617574686f72697479 7777772e6578616d706c652e636f6d",
+            "stream 1 half-remote recv 65535 owed 0 send -65535 got 0 of - left 4465",
+        ],
     ),
     (
         "the initial window becomes 0, and then 65535",
@@ -125,14 +122,13 @@ static ON_ONE_STREAM: [LongExchange; 6] = [
             ("003fff000000000001", 16383),
             ("000000040100000000 000000040100000000", 0),
         ],
-        b"phase running last 1\n\
-         window recv 65535 owed 0 send 0\n\
-         peer table 4096 push 1 streams - window 65535 frame 16384 list - signal 0\n\
-         acked 0 goaway -\n\
-         block -\n\
-         table 1 57 4096\n\
-         entry 62 3a617574686f72697479 7777772e6578616d706c652e636f6d\n\
-         stream 1 half-remote recv 65535 owed 0 send 0 got 0 of - left 4465\n",
+        &[
+            "phase running last 1",
+            "window recv 65535 owed 0 send 0",
+            "table 1 57 4096",
+            "entry 62 3a617574686f72697479 7777772e6578616d706c652e636f6d",
+            "stream 1 half-remote recv 65535 owed 0 send 0 got 0 of - left 4465",
+        ],
     ),
     (
         "two settings open the stream's window",
@@ -146,14 +142,14 @@ static ON_ONE_STREAM: [LongExchange; 6] = [
             ("003fff000000000001", 16383),
             ("000000040100000000 001171000100000001", 4465),
         ],
-        b"phase running last 1\n\
-         window recv 65535 owed 0 send 95535\n\
-         peer table 4096 push 1 streams - window 70000 frame 16384 list - signal 0\n\
-         acked 0 goaway -\n\
-         block -\n\
-         table 1 57 4096\n\
-         entry 62 3a617574686f72697479 7777772e6578616d706c652e636f6d\n\
-         stream 1 ended\n",
+        &[
+            "phase running last 1",
+            "window recv 65535 owed 0 send 95535",
+            "peer table 4096 push 1 streams - window 70000 frame 16384 list - signal 0",
+            "table 1 57 4096",
+            "entry 62 3a617574686f72697479 7777772e6578616d706c652e636f6d",
+            "stream 1 ended",
+        ],
     ),
 ];
 
@@ -170,14 +166,12 @@ static ON_TWO_STREAMS: [LongExchange; 2] = [
             ("00000101040000000388 004000000000000003", 16384),
             ("0023bf000000000003", 9151),
         ],
-        b"phase running last 3\n\
-         window recv 65535 owed 0 send 0\n\
-         peer table 4096 push 1 streams - window 65535 frame 16384 list - signal 0\n\
-         acked 0 goaway -\n\
-         block -\n\
-         table 0 0 4096\n\
-         stream 1 ended\n\
-         stream 3 half-remote recv 65535 owed 0 send 40000 got 0 of - left 14465\n",
+        &[
+            "phase running last 3",
+            "window recv 65535 owed 0 send 0",
+            "stream 1 ended",
+            "stream 3 half-remote recv 65535 owed 0 send 40000 got 0 of - left 14465",
+        ],
     ),
     (
         "one octet more may be sent",
@@ -192,14 +186,12 @@ static ON_TWO_STREAMS: [LongExchange; 2] = [
             ("0023bf000000000003", 9151),
             ("000001000000000003", 1),
         ],
-        b"phase running last 3\n\
-         window recv 65535 owed 0 send 0\n\
-         peer table 4096 push 1 streams - window 65535 frame 16384 list - signal 0\n\
-         acked 0 goaway -\n\
-         block -\n\
-         table 0 0 4096\n\
-         stream 1 ended\n\
-         stream 3 half-remote recv 65535 owed 0 send 39999 got 0 of - left 14464\n",
+        &[
+            "phase running last 3",
+            "window recv 65535 owed 0 send 0",
+            "stream 1 ended",
+            "stream 3 half-remote recv 65535 owed 0 send 39999 got 0 of - left 14464",
+        ],
     ),
 ];
 
