@@ -53,7 +53,8 @@ abbrev pub fed_first : Bool → List ℕ → List ℕ
 fed_first true octets = []
 fed_first false octets = octets
 
--- what is reported of a state, for which this was sent: the places of its run over the octets, or some first of them; or what was sent, and the state
+-- what is reported of a state, for which this was sent: the places of its run over the octets, or some first of them;
+-- or what was sent, and the state
 abbrev pub PrintsRun : Bool → State → List ℕ → List ℕ → Printed → Type 0
 PrintsRun true s sent octets t = let places = places_from (item_text 0 sent (view s)) s octets in OrCutShort places (done (concat places)) t
 PrintsRun false s sent octets t = OrCutShort [] (done (sent_and_state sent (view s))) t

@@ -12,7 +12,8 @@ use Rattle.h2_bench.specs.Books.{book_in, book_said}
 use Rattle.h2_bench.specs.Printed.{OrCutShort, Printed, cut_short, failed, places_read, places_within, refused, printed_read, printed_within}
 use Rattle.h2_bench.specs.declared.fault.BenchFault.TheVariants.{NoMemory, Read}
 
--- a read failed, or the input is known and this is what is reported for it; where memory is refused, some first places of it and then that fault
+-- a read failed, or the input is known and this is what is reported for it; where memory is refused, some first
+-- places of it and then that fault
 abbrev pub AnswersInput : List Entry → BatchAsked → Option (List ℕ) → Bool → Printed → Type 0
 AnswersInput book asked input input_failed t = ((input_failed ≡ true) × (t ≡ failed Read))
     ⊎ ((input_failed ≡ false) × ((octets : List ℕ) → input ≡ Some octets → OrCutShort (places_read book asked octets) (printed_read book asked octets) t))

@@ -28,12 +28,14 @@ struct Parts<'a> {
 
 /// The entry of the book that the words say: METHOD|PATH|STATUS|BODYHEX|NAME=VALUE|..
 ///
-/// METHOD and PATH are any octets but a bar, STATUS three decimal digits, BODYHEX pairs of hex digits in either case or nothing, and each further
+/// METHOD and PATH are any octets but a bar, STATUS three decimal digits, BODYHEX pairs of hex digits in either case
+/// or nothing, and each further
 /// part a field, cut at its first `=`. Whether a book takes the entry is reported by `Book::add` alone.
 ///
 /// # Errors
 ///
-/// `BadAnswer` where the words say no entry, which is found before memory is needed; `NoMemory` where they say one and memory is refused.
+/// `BadAnswer` where the words say no entry, which is found before memory is needed; `NoMemory` where they say one
+/// and memory is refused.
 pub fn parse_answer(alloc: Global, text: &str) -> Result<Entry<Global>, BenchFault>
     ensures said { IfOk result (λ entry. words.entry_of text.now ≡ Some entry) }
     ensures refused { IfErr result (λ fault. fault ≡ refusal_of (words.entry_of text.now)) }
@@ -44,7 +46,8 @@ pub fn parse_answer(alloc: Global, text: &str) -> Result<Entry<Global>, BenchFau
     }
 }
 
-/// The entry of these parts; `BadAnswer` where they are not what they have to be, which is found before memory is needed.
+/// The entry of these parts; `BadAnswer` where they are not what they have to be, which is found before memory is
+/// needed.
 fn entry_of(alloc: Global, parts: Parts<'_>) -> Result<Entry<Global>, BenchFault>
     ensures said { IfOk result (λ entry. entry_in parts.entry ≡ Some entry) }
     ensures refused { IfErr result (λ fault. fault ≡ refusal_of (entry_in parts.entry)) }

@@ -1,4 +1,5 @@
-//! A connection that is reported place by place: the start, and then each item. What is reported is written as it is made, so that its text takes no memory.
+//! A connection that is reported place by place: the start, and then each item. What is reported is written as it is
+//! made, so that its text takes no memory.
 //! Rests on h2_device and h2_conn; definitions: `specs/Printed.antt`, `specs/Each.antt`.
 
 ghost use Rattle.std.specs.Prelude.{◌≡◌, ◌⊎◌, ◌≤◌, ◌<◌, ◌^◌, ◌++◌, ℕ, List, [], Some, false, drop, length, IfOk, IfErr, OnOk, is_err, string_bytes};

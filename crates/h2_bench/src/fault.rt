@@ -17,7 +17,8 @@ pub enum BenchFault {
     /// The status of an answer is outside 200 to 599.
     #[error("the status is outside 200 to 599")]
     BadStatus,
-    /// A field of an answer is ill-formed, of a connection, a pseudo-field, or `content-length` (RFC 9113, 8.2 and 8.3).
+    /// A field of an answer is ill-formed, of a connection, a pseudo-field, or `content-length` (RFC 9113, 8.2 and
+    /// 8.3).
     #[error("a field may not stand in an answer")]
     BadField,
     /// An answer has a body with status 204, 205 or 304, or for the method HEAD.

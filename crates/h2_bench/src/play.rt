@@ -44,10 +44,12 @@ impl fmt::Display for PlayedText<'_, '_> {
     }
 }
 
-/// How long a piece is where the words don't say it: a connection holds a copy of a piece, so a whole input is fed piece after piece.
+/// How long a piece is where the words don't say it: a connection holds a copy of a piece, so a whole input is fed
+/// piece after piece.
 const PIECE: usize = 65536;
 
-/// The lengths of the pieces into which this many octets are cut: as many as there are whole ones of this length, or of 65,536 octets where it is 0.
+/// The lengths of the pieces into which this many octets are cut: as many as there are whole ones of this length, or
+/// of 65,536 octets where it is 0.
 fn piece_lengths(alloc: Global, cut: u32, total: usize) -> Result<Vec<usize>, AllocError>
     ensures { IfOk result (λ lengths. lengths.items ≡ piece_lengths cut total) }
 {
@@ -109,7 +111,8 @@ fn write_sent<O: Output>(
     }
 }
 
-/// Writes what `play` prints of a connection: each place of its run over the octets; or what was sent, and its state, for which no memory is needed.
+/// Writes what `play` prints of a connection: each place of its run over the octets; or what was sent, and its state,
+/// for which no memory is needed.
 fn write_conn<O: Output>(
     alloc: Global,
     each: bool,
@@ -132,7 +135,8 @@ fn write_conn<O: Output>(
     }
 }
 
-/// Writes what `play` prints of octets: of each place of their run, for which items are taken one by one, or of the whole.
+/// Writes what `play` prints of octets: of each place of their run, for which items are taken one by one, or of the
+/// whole.
 fn write_played<O: Output>(
     alloc: Global,
     play: &Play<'_>,
@@ -184,9 +188,11 @@ fn refused_limits(input: &[u8]) -> BenchFault
     }
 }
 
-/// Writes what `play` prints of its input, however the octets are cut: the octets sent, and the state after all of them; or the same of each place.
+/// Writes what `play` prints of its input, however the octets are cut: the octets sent, and the state after all of
+/// them; or the same of each place.
 ///
-/// `BadHex` where the input is no hex text, then `BadConfig` where a limit is out of range; nothing is written then, and no memory is needed. `NoMemory`
+/// `BadHex` where the input is no hex text, then `BadConfig` where a limit is out of range; nothing is written then,
+/// and no memory is needed. `NoMemory`
 /// where memory is refused: nothing was written, or some first places. `NotWritten` where a write failed.
 pub fn write_play<O: Output>(
     alloc: Global,

@@ -138,8 +138,10 @@ fn first_line(text: &[u8]) -> (&[u8], &[u8])
 
 /// What `table` prints: an empty dynamic table of this limit and maximum is changed by each line of the input.
 ///
-/// A line is `add NAME VALUE`, where NAME has no space, or `max N`; it prints the number of entries, what they count and the maximum,
-/// or the line of its fault: 3 for a maximum above the limit, 27 where it is no command. At the end the entries are printed.
+/// A line is `add NAME VALUE`, where NAME has no space, or `max N`; it prints the number of entries, what they count
+/// and the maximum,
+/// or the line of its fault: 3 for a maximum above the limit, 27 where it is no command. At the end the entries are
+/// printed.
 /// `AllocError` where memory is refused.
 pub fn table_text(alloc: Global, limit: u32, input: &[u8]) -> Result<String, AllocError>
     ensures { IfOk result (λ text. string_bytes text ≡ table_text limit input.now) }

@@ -80,7 +80,8 @@ abbrev pub effect_seen : {A : Type 0} → State → FragmentEffect A → headers
 effect_seen s (Breaks code) = headers.Breaks code
 effect_seen s (Makes block table change) = headers.Makes (record s { block = block; table = table_by s.table table }) change
 
--- the change keeps what is true of every connection, the table its limit, and an open block is known by its stream, with the records after the change
+-- the change keeps what is true of every connection, the table its limit, and an open block is known by its stream,
+-- with the records after the change
 abbrev pub IsSoundEffect : {A : Type 0} → List Entry → Records → ℕ → ℕ → FragmentEffect A → Type 0
 IsSoundEffect book r window limit (Breaks code) = Unit {0}
 IsSoundEffect book r window limit (Makes block table change) =

@@ -103,7 +103,8 @@ pub record Halted (s : State) (b out : List ℕ) (t : State) (out' : List ℕ) :
 abbrev pub Fed : Connection → List ℕ → List ℕ → Connection → List ℕ → Type 0
 Fed c more out c' out' = (n : ℕ) × Feeds c more out c' out' n
 
--- a new connection that all items of the octets were fed to: its state is the last one, and what is sent goes to the end of out
+-- a new connection that all items of the octets were fed to: its state is the last one, and what is sent goes to the
+-- end of out
 pub record Opens (book : List Entry) (config : Config) (octets out : List ℕ) (c : Connection) (out' : List ℕ) : Type 0 where
   pub sent : out' ≡ out ++ opening_octets config ++ sent_octets (trace (opening book config) octets).events
   pub after : c ≡ going (trace (opening book config) octets).state (trace (opening book config) octets).rest

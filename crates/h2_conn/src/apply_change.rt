@@ -1,5 +1,7 @@
-//! A change is made: first all that may need memory, behind a mark in `out`, and then what changes the state (RFC 9113, 5.4).
-//! Rests on `write` and `send_pending`; definitions: h2_spec's `specs/Change.antt`, `specs/SendPending.antt`, and `specs/Sending.antt` here.
+//! A change is made: first all that may need memory, behind a mark in `out`, and then what changes the state (RFC
+//! 9113, 5.4).
+//! Rests on `write` and `send_pending`; definitions: h2_spec's `specs/Change.antt`, `specs/SendPending.antt`, and
+//! `specs/Sending.antt` here.
 
 ghost use Rattle.std.specs.Prelude.{◌≡◌, ◌<◌, ◌^◌, ◌++◌, List, length, OnOk, OnErr, take, vec_len};
 ghost use Rattle.h2_spec.specs.Answer.{Entry};
@@ -120,7 +122,8 @@ fn record_update<A: Allocator>(
     }
 }
 
-/// All that is sent for a change and behind it, and then what becomes of the records: whole, or in part and then they stay.
+/// All that is sent for a change and behind it, and then what becomes of the records: whole, or in part and then they
+/// stay.
 fn write_and_update<A: Allocator>(
     book: &Book<A>,
     streams: &mut Streams<A>,

@@ -68,7 +68,8 @@ fn is_all(used: usize, count: usize) -> bool
     used == count
 }
 
-/// Decodes a fragment behind those before it. From the first instruction that alters the table it goes on with a copy of it,
+/// Decodes a fragment behind those before it. From the first instruction that alters the table it goes on with a copy
+/// of it,
 /// which is the table after the fragment.
 ///
 /// # Errors
@@ -159,7 +160,8 @@ fn end_error<A: Allocator + Copy>(decoder: &BlockDecoder<A>) -> Option<ErrorCode
     }
 }
 
-/// A fragment of a block whose stream is known by the block's purpose. Nothing is changed: what the block results in is answered,
+/// A fragment of a block whose stream is known by the block's purpose. Nothing is changed: what the block results in
+/// is answered,
 /// with the table after it where that is another.
 ///
 /// # Errors
@@ -218,7 +220,8 @@ pub fn fragment<A: Allocator + Copy>(
     }
 }
 
-/// What HEADERS begins on a stream, by the stream's state: a block for this purpose, or a connection error (RFC 9113, 5.1 and 6.2).
+/// What HEADERS begins on a stream, by the stream's state: a block for this purpose, or a connection error (RFC 9113,
+/// 5.1 and 6.2).
 /// An idle stream that a client may open is above the last one that was opened.
 pub fn headers_purpose(id: u32, kind: Kind) -> Result<Purpose, ErrorCode>
     ensures rule { cell_of result ≡ headers_cell id kind }

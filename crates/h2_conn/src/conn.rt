@@ -1,6 +1,7 @@
 //! A connection over octets: items off their front, each whole or not at all (RFC 9113, 3.4).
 //! Rests on h2_frame's splitter, on `item`, `opening` and `view`.
-//! Definitions: h2_spec's `specs/Trace.antt`; `specs/Connection.antt` for what a connection represents, `specs/Runs.antt` for what feeding it results in.
+//! Definitions: h2_spec's `specs/Trace.antt`; `specs/Connection.antt` for what a connection represents,
+//! `specs/Runs.antt` for what feeding it results in.
 
 ghost use Rattle.std.specs.Prelude.{◌≡◌, ◌++◌, ◌∷◌, ◌<◌, ◌^◌, [], true, false, IfOk, IfErr, IsOk, OnOk, OnErr, Some, option_map};
 ghost use Rattle.std.specs.String.{string_bytes};
@@ -97,7 +98,8 @@ fn drain<'b, A: Allocator + Copy>(
     }
 }
 
-/// Takes all items that there are with more octets, and says how many; none after the end. Where memory is refused, those before it are taken.
+/// Takes all items that there are with more octets, and says how many; none after the end. Where memory is refused,
+/// those before it are taken.
 fn take_piece<'b, A: Allocator + Copy>(
     splitter: &mut Splitter<A>,
     state: &mut State<'b, A>,
@@ -133,7 +135,8 @@ fn offer<'b, A: Allocator + Copy>(
     advance(splitter, state, out)
 }
 
-/// Takes the next item with more octets, if there is one, and no octets behind it; none after the end. Where memory is refused nothing of it is done.
+/// Takes the next item with more octets, if there is one, and no octets behind it; none after the end. Where memory
+/// is refused nothing of it is done.
 fn take_one<'b, A: Allocator + Copy>(
     splitter: &mut Splitter<A>,
     state: &mut State<'b, A>,
@@ -185,7 +188,8 @@ fn refused(failed: &mut bool) -> ConnFault
 
 /// The server's end of one connection.
 ///
-/// A contract sees its state, the octets that wait for more, and whether memory was refused. No octets wait after the end.
+/// A contract sees its state, the octets that wait for more, and whether memory was refused. No octets wait after the
+/// end.
 #[derive(Drop)]
 pub struct Conn<'b, A: Allocator> {
     splitter: Splitter<A>,
@@ -204,11 +208,13 @@ impl<'b, A: Allocator> Model for Conn<'b, A> {
 }
 
 impl<'b, A: Allocator + Copy> Conn<'b, A> {
-    /// A connection of which nothing has come, with a book of answers and these limits. The opening SETTINGS is appended to `out`.
+    /// A connection of which nothing has come, with a book of answers and these limits. The opening SETTINGS is
+    /// appended to `out`.
     ///
     /// # Errors
     ///
-    /// `BadConfig` where the most streams are not 1 to 1000, or the credit is not 1 to 65535; then `NoMemory`. Both leave `out` as it was.
+    /// `BadConfig` where the most streams are not 1 to 1000, or the credit is not 1 to 65535; then `NoMemory`. Both
+    /// leave `out` as it was.
     pub fn new(book: &'b Book<A>, config: Config, out: &mut Vec<u8, A>) -> Result<Self, ConnFault>
         ensures opened { IfOk result (λ conn. conn ≡ going (opening book.now config) []) }
         ensures sent { OnOk result (out.new.items ≡ out.old.items ++ opening_octets config) }
@@ -229,12 +235,14 @@ impl<'b, A: Allocator + Copy> Conn<'b, A> {
         })
     }
 
-    /// Takes all items that there are with these octets behind those that wait, and says how many. What is sent for them is appended to `out`.
+    /// Takes all items that there are with these octets behind those that wait, and says how many. What is sent for
+    /// them is appended to `out`.
     /// After the end of the connection all octets are dropped.
     ///
     /// # Errors
     ///
-    /// `Failed` where an earlier call was refused memory; nothing changes. `NoMemory` where memory is refused: the items before it are taken whole,
+    /// `Failed` where an earlier call was refused memory; nothing changes. `NoMemory` where memory is refused: the
+    /// items before it are taken whole,
     /// `out` has gained what is sent for them and no more, and from then on the answer is `Failed`.
     pub fn feed(&mut self, piece: &[u8], out: &mut Vec<u8, A>) -> Result<usize, ConnFault>
         ensures ok { IfOk result (Feeds self.old piece.now out.old.items self.new out.new.items) }
@@ -252,12 +260,14 @@ impl<'b, A: Allocator + Copy> Conn<'b, A> {
         }
     }
 
-    /// Takes the next item with these octets behind those that wait, if there is one, and none of the octets behind it. What is sent for it is appended to `out`.
+    /// Takes the next item with these octets behind those that wait, if there is one, and none of the octets behind
+    /// it. What is sent for it is appended to `out`.
     /// After the end of the connection all octets are dropped.
     ///
     /// # Errors
     ///
-    /// `Failed` where an earlier call was refused memory; nothing changes. `NoMemory` where memory is refused: the item is not taken, nothing is sent,
+    /// `Failed` where an earlier call was refused memory; nothing changes. `NoMemory` where memory is refused: the
+    /// item is not taken, nothing is sent,
     /// and from then on the answer is `Failed`.
     pub fn feed_one(&mut self, piece: &[u8], out: &mut Vec<u8, A>) -> Result<One, ConnFault>
         ensures ok { IfOk result (FeedsOne self.old piece.now out.old.items self.new out.new.items) }
@@ -275,7 +285,8 @@ impl<'b, A: Allocator + Copy> Conn<'b, A> {
         }
     }
 
-    /// The same connection once more, in memory of its own; the book is lent to both, and where one was refused memory, the copy was too.
+    /// The same connection once more, in memory of its own; the book is lent to both, and where one was refused
+    /// memory, the copy was too.
     ///
     /// `AllocError` where the memory was refused; `self` is as it was.
     pub fn try_clone(&self) -> Result<Self, AllocError>

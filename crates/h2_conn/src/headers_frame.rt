@@ -1,5 +1,7 @@
-//! HEADERS and CONTINUATION on a connection: a block is opened or goes on, and what it results in is made (RFC 9113, 6.2 and 6.10).
-//! Rests on `block` and on `apply_change`; definitions: `on_headers` of h2_spec's `specs/Effect.antt`, `continuation` of `specs/Headers.antt`.
+//! HEADERS and CONTINUATION on a connection: a block is opened or goes on, and what it results in is made (RFC 9113,
+//! 6.2 and 6.10).
+//! Rests on `block` and on `apply_change`; definitions: `on_headers` of h2_spec's `specs/Effect.antt`, `continuation`
+//! of `specs/Headers.antt`.
 
 ghost use Rattle.std.specs.Prelude.{◌≡◌, ◌<◌, ◌^◌, length, IfOk, IfSome, OnOk, OnErr};
 ghost use Rattle.h2_frame.specs.Parts.{headers_seen};

@@ -1,5 +1,6 @@
 //! What one item does: the checks, the rule of its frame's type, and then what waits is sent (RFC 9113, 5 and 6).
-//! Rests on the rules and on `apply_change`; definitions: `effect` of h2_spec's `specs/Effect.antt`, `step` of `specs/Trace.antt`.
+//! Rests on the rules and on `apply_change`; definitions: `effect` of h2_spec's `specs/Effect.antt`, `step` of
+//! `specs/Trace.antt`.
 
 ghost use Rattle.std.specs.Prelude.{◌≡◌, ◌<◌, ◌^◌, ◌==◌, [], length, None, Ok, OnOk, OnErr, if◌then◌else◌};
 ghost use Rattle.h2_frame.specs.Items.{item_of};
@@ -254,7 +255,8 @@ impl<'b, A: Allocator + Copy> State<'b, A> {
     ///
     /// # Errors
     ///
-    /// `AllocError` where memory was refused: the state and `out` are as before the item, but for an open block, which can't
+    /// `AllocError` where memory was refused: the state and `out` are as before the item, but for an open block,
+    /// which can't
     /// be decoded further.
     #[tactic(auto, unfolding(h2_spec::specs::Effect::effect, h2_spec::specs::Trace::step))]
     pub fn item(&mut self, item: &Item<'_>, out: &mut Vec<u8, A>) -> Result<(), AllocError>

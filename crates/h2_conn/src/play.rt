@@ -45,7 +45,8 @@ fn feed_pieces<'b, A: Allocator + Copy>(
     }
 }
 
-/// Feeds a connection the octets in pieces of these lengths, then what remains; where memory is refused, `out` is cut to a length.
+/// Feeds a connection the octets in pieces of these lengths, then what remains; where memory is refused, `out` is cut
+/// to a length.
 fn feed_or_cut<'b, A: Allocator + Copy>(
     conn: &mut Conn<'b, A>,
     octets: &[u8],
@@ -68,13 +69,15 @@ fn feed_or_cut<'b, A: Allocator + Copy>(
     }
 }
 
-/// Opens a connection and feeds it the octets, cut into pieces of these lengths and what remains; a length above what is left takes what is left.
+/// Opens a connection and feeds it the octets, cut into pieces of these lengths and what remains; a length above what
+/// is left takes what is left.
 ///
 /// `out` gains the opening SETTINGS and all frames sent. The connection is the same however the octets are cut.
 ///
 /// # Errors
 ///
-/// `BadConfig` where the most streams are not 1 to 1000, or the credit is not 1 to 65535; then `NoMemory`. Both leave `out` as it was.
+/// `BadConfig` where the most streams are not 1 to 1000, or the credit is not 1 to 65535; then `NoMemory`. Both leave
+/// `out` as it was.
 pub fn open_and_feed<'b, A: Allocator + Copy>(
     book: &'b Book<A>,
     config: Config,
@@ -114,13 +117,16 @@ fn view_or_cut<A: Allocator + Copy>(
     }
 }
 
-/// Plays a connection over the octets, cut into pieces of these lengths and what remains; a length above what is left takes what is left.
+/// Plays a connection over the octets, cut into pieces of these lengths and what remains; a length above what is left
+/// takes what is left.
 ///
-/// `out` gains the opening SETTINGS and all frames sent, and the answer is what is shown of the last state, however the octets are cut.
+/// `out` gains the opening SETTINGS and all frames sent, and the answer is what is shown of the last state, however
+/// the octets are cut.
 ///
 /// # Errors
 ///
-/// `BadConfig` where the most streams are not 1 to 1000, or the credit is not 1 to 65535; then `NoMemory`. Both leave `out` as it was.
+/// `BadConfig` where the most streams are not 1 to 1000, or the credit is not 1 to 65535; then `NoMemory`. Both leave
+/// `out` as it was.
 pub fn play<A: Allocator + Copy>(
     book: &Book<A>,
     config: Config,

@@ -1,5 +1,6 @@
 //! Sending what waits, as far as the windows go (RFC 9113, 5.2 and 6.9).
-//! First the frames are written, as the records will be after a touch, and then the shares are taken, which wants no memory.
+//! First the frames are written, as the records will be after a touch, and then the shares are taken, which wants no
+//! memory.
 //! Rests on `pieces`, `preview` and `ends`; definition: h2_spec's `specs/SendPending.antt`.
 
 ghost use Rattle.std.specs.Prelude.{◌≡◌, List, ◌-◌, ◌<◌, ◌≤◌, ◌++◌, IfOk, OnOk, take, vec_len, ◌^◌, pos, ◌-ℤ◌, ◌≤ℤ◌};
@@ -52,7 +53,8 @@ pub fn write_allowances<A: Allocator>(
     Ok(())
 }
 
-/// Writes the frames of one stream's share of what is left of the connection's window, whole or in part; answers the share.
+/// Writes the frames of one stream's share of what is left of the connection's window, whole or in part; answers the
+/// share.
 fn write_next<A: Allocator>(
     book: &Book<A>,
     stream: &Stream,

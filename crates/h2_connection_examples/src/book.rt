@@ -143,7 +143,8 @@ fn requests_pick_answers(rt: HostRuntime) -> Result<(), Fail> {
     Ok(())
 }
 
-/// What is picked, the status of its answer, its body, how many fields it has, and its field block (RFC 7541, 6.1 and 6.2.2).
+/// What is picked, the status of its answer, its body, how many fields it has, and its field block (RFC 7541, 6.1 and
+/// 6.2.2).
 static ANSWERS: [(Pick, u16, &[u8], usize, &[u8]); 3] = [
     (Pick::Listed(0), 200, b"hi", 1, b"\x88\x00\x01a\x01b"),
     (Pick::NotFound, 404, b"", 0, b"\x8d"),

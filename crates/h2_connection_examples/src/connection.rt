@@ -122,7 +122,8 @@ fn fed(
     counted(&mut conn, pieces, counts, sent)
 }
 
-/// Pieces; the number of items in each and of the octets sent after it; the octets sent; and the code that ended the connection.
+/// Pieces; the number of items in each and of the octets sent after it; the octets sent; and the code that ended the
+/// connection.
 type Fed = (
     &'static [&'static [u8]],
     &'static [(usize, usize)],
@@ -163,7 +164,8 @@ fn items_are_counted_and_answered(rt: HostRuntime) {
     }
 }
 
-/// What comes of a piece that is given for one item: the octets used of it, whether there was an item, and the number of the octets sent.
+/// What comes of a piece that is given for one item: the octets used of it, whether there was an item, and the number
+/// of the octets sent.
 fn step(
     conn: &mut Conn<'_, Global>,
     piece: &[u8],

@@ -118,7 +118,8 @@ fn frames_behind_the_preface(rt: HostRuntime) -> Result<(), Fail> {
     compare_items(&rt, &mut splitter)
 }
 
-/// Whether frames of no octets are taken as they come, so many, where the splitter has no more memory than these 64 octets.
+/// Whether frames of no octets are taken as they come, so many, where the splitter has no more memory than these 64
+/// octets.
 fn taken_within(heap: &LocalHeap, count: u32) -> bool {
     let mut splitter = Splitter::new(heap);
     let mut all_taken = push(&mut splitter, &PREFACE).is_ok();

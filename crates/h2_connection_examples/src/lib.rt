@@ -1,4 +1,5 @@
-//! Worked examples of a connection (RFC 9113) and of scripts of frames, by single calls: frames, windows, streams, requests, rules, `Conn`.
+//! Worked examples of a connection (RFC 9113) and of scripts of frames, by single calls: frames, windows, streams,
+//! requests, rules, `Conn`.
 //! Tests alone. Expected values come from RFC 9113 and computation by hand.
 #![tactic(auto)]
 

@@ -120,7 +120,8 @@ fn settings_in_their_order(rt: HostRuntime) {
     }
 }
 
-/// The last stream and the code of GOAWAY, which has type 7; the increment of WINDOW_UPDATE, which has type 8, and 0; or the code of RST_STREAM and 0.
+/// The last stream and the code of GOAWAY, which has type 7; the increment of WINDOW_UPDATE, which has type 8, and 0;
+/// or the code of RST_STREAM and 0.
 fn numbers(kind: u8, payload: &[u8]) -> Result<(u32, u32), PayloadFault> {
     match kind {
         7 => goaway_of(frame(7, 0, payload)),

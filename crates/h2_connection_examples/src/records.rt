@@ -184,7 +184,8 @@ fn full(kind: Kind) -> Stream
     }
 }
 
-/// Opens a stream 1 with a window of 10 beside a full one, and moves windows up by 1: the greatest that is moved, and whether that is refused.
+/// Opens a stream 1 with a window of 10 beside a full one, and moves windows up by 1: the greatest that is moved, and
+/// whether that is refused.
 fn open_and_move(
     streams: &mut Streams<Global>,
     full: Stream,
@@ -203,7 +204,8 @@ fn stream_at(streams: &Streams<Global>, id: u32) -> Stream {
     streams.stream_at(id)
 }
 
-/// The greatest window that is moved, whether that is refused, the window of stream 1, and whether the full stream 3 is as before.
+/// The greatest window that is moved, whether that is refused, the window of stream 1, and whether the full stream 3
+/// is as before.
 type Moved = (i32, bool, i32, bool);
 
 fn moved(streams: &mut Streams<Global>, kind: Kind) -> Option<Moved>

@@ -125,7 +125,8 @@ fn data_counted(reaction: Reaction) -> Option<(Sent, Counts, Counts, u64, Kind)>
 
 #[test]
 fn data_is_counted_by_its_payload_and_not_by_its_content(rt: HostRuntime) {
-    // A payload of three octets takes three from both windows, though one of them is content (6.9.1). That padding is part of
+    // A payload of three octets takes three from both windows, though one of them is content (6.9.1). That padding is
+    // part of
     // the payload is a run of the program ("padding counts").
     let given = (ConnectionFrame::Credit(3), StreamFrame::StreamCredit(1, 3));
     let quiet = (
@@ -266,7 +267,8 @@ fn settled(has_full: bool, payload: &[u8]) -> Option<Reaction> {
     Some(settings_rule(&greatest, running(), part))
 }
 
-/// What SETTINGS with this payload change: the peer's initial window, whether it takes pushes, what is sent, what becomes of the streams, and the connection's send window.
+/// What SETTINGS with this payload change: the peer's initial window, whether it takes pushes, what is sent, what
+/// becomes of the streams, and the connection's send window.
 fn settings_changed(payload: &[u8]) -> Option<(u32, u32, ConnectionFrame, RecordUpdate, i32)> {
     let Change {
         core,
@@ -330,7 +332,8 @@ fn settings_are_taken_whole_or_not_at_all(rt: HostRuntime) -> Result<(), Fail> {
     Ok(())
 }
 
-/// What a request of a list of this size, that declares this much content and ends its side, is answered where at most two streams may live and so many do.
+/// What a request of a list of this size, that declares this much content and ends its side, is answered where at
+/// most two streams may live and so many do.
 fn requested(live: usize, size: u64, declared: Option<u64>) -> (Kind, StreamFrame, bool) {
     let config = Config {
         streams: 2,
@@ -397,7 +400,8 @@ fn fresh() -> ConnectionState
     }
 }
 
-/// What is sent on the connection, what becomes of the streams, the GOAWAY that is kept, and whether the settings are acknowledged.
+/// What is sent on the connection, what becomes of the streams, the GOAWAY that is kept, and whether the settings are
+/// acknowledged.
 type Kept = (ConnectionFrame, RecordUpdate, Option<(u32, u32)>, bool);
 
 fn kept(reaction: Reaction) -> Option<Kept> {
@@ -456,7 +460,8 @@ static HEADS: [(Option<u32>, Phase, u8, u8, u32, bool); 13] = [
     (Some(1), Phase::Running, 9, 0, 1, false),
     (Some(1), Phase::Running, 9, 0, 3, true),
     (Some(1), Phase::Running, 0, 0, 1, true),
-    // DATA is on a stream (6.1), SETTINGS, PING and GOAWAY are on none (6.5, 6.7 and 6.8), WINDOW_UPDATE is on either (6.9).
+    // DATA is on a stream (6.1), SETTINGS, PING and GOAWAY are on none (6.5, 6.7 and 6.8), WINDOW_UPDATE is on either
+    // (6.9).
     (None, Phase::Running, 0, 0, 0, true),
     (None, Phase::Running, 4, 0, 1, true),
     (None, Phase::Running, 6, 0, 1, true),

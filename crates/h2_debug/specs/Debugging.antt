@@ -3,7 +3,8 @@ use Rattle.std.specs.Prelude.{ℕ, ◌+◌, ◌-◌, ◌*◌, ◌/◌, ◌<◌, 
 use Rattle.h2_spec.specs.Debug.{Break}
 use Rattle.h2_debug.specs.Places.{AreKept, IsAt, Placed, Source, end}
 
--- a run, the breakpoints, the present position, the greatest one that was reached, and how many items the last `back` or `go` ran again
+-- a run, the breakpoints, the present position, the greatest one that was reached, and how many items the last `back`
+-- or `go` ran again
 pub record Debugging : Type 0 where
   pub run : Source
   pub breaks : List Break

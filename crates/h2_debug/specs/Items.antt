@@ -12,7 +12,8 @@ head_of_item BadPreface = None
 head_of_item (WholeFrame h p) = Some h
 head_of_item (Oversize h) = Some h
 
--- the item that leads to this position: the octets begin with it, where it is not the preface, and these octets were sent for it
+-- the item that leads to this position: the octets begin with it, where it is not the preface, and these octets were
+-- sent for it
 pub record IsItem (position : ℕ) (octets sent : List ℕ) (e : Event) : Type 0 where
   pub head_is : head_of_item e.item ≡ (if position == 1 then None else head_at octets)
   pub sent_is : sent ≡ frames_octets e.sent

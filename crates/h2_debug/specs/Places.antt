@@ -83,7 +83,8 @@ pub record Forward : Type 0 where
   pub place : Placed
   pub fresh : List Placed
 
--- a place that was reached where so many copies were kept before, and the copies at the further multiples of 64 up to it
+-- a place that was reached where so many copies were kept before, and the copies at the further multiples of 64 up to
+-- it
 pub record IsReached (r : Source) (count : ℕ) (p : Placed) (fresh : List Placed) : Type 0 where
   pub place : IsAt r p
   pub kept : AreKept r count fresh

@@ -54,7 +54,8 @@ fn sends(octets: &[u8], kind: u8) -> bool
     false
 }
 
-/// The head of the item that leads to a position, from the octets that begin with it; the preface, which leads to position 1, has none.
+/// The head of the item that leads to a position, from the octets that begin with it; the preface, which leads to
+/// position 1, has none.
 fn head_of(position: usize, octets: &[u8]) -> Option<Head>
     ensures { result ≡ (if position == 1 then None else head_at octets.now) }
 {
@@ -83,7 +84,8 @@ fn is_match(stop: Break, position: usize, head: Option<Head>, sent: &[u8]) -> bo
     }
 }
 
-/// Whether one of the breakpoints matches the item that leads to a position: `octets` begin with it, and `sent` was sent for it.
+/// Whether one of the breakpoints matches the item that leads to a position: `octets` begin with it, and `sent` was
+/// sent for it.
 pub fn any_match(breaks: &[Break], position: usize, octets: &[u8], sent: &[u8]) -> bool
     ensures { (e : Event) → IsItem position octets.now sent.now e → result ≡ list_any (matches position e) (map break_of breaks.now) }
 {

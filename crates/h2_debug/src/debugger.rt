@@ -1,6 +1,8 @@
 //! A debugger: a position in the run of a new connection over octets, moved forward and back.
-//! A copy of the place at each multiple of 64 is kept from when it is first reached, so that no move runs more than 63 items again.
-//! Rests on `forward`; definitions: h2_spec's `specs/Debug.antt` for positions and breakpoints, `specs/Debugging.antt` for what a debugger represents.
+//! A copy of the place at each multiple of 64 is kept from when it is first reached, so that no move runs more than
+//! 63 items again.
+//! Rests on `forward`; definitions: h2_spec's `specs/Debug.antt` for positions and breakpoints,
+//! `specs/Debugging.antt` for what a debugger represents.
 
 ghost use Rattle.std.specs.Prelude.{◌≡◌, ◌⊎◌, ◌+◌, ◌-◌, ◌<◌, ◌≤◌, ◌==◌, [], ◌∷◌, ◌++◌, IfErr, IfOk, OnErr, OnOk, length, min, slice_get, nat_le, ◌&&◌, false, true, Some, if◌then◌else◌};
 ghost use Rattle.h2_spec.specs.Debug.{AtPosition, OnSent, OnStream, OnType, stop};
@@ -30,7 +32,8 @@ use std::marker::Model;
 /// A position in the run of a new connection over octets.
 ///
 /// Position `p` is the state after `p` items; the end is the number of items in the octets.
-/// A contract sees the run, the breakpoints, the position, the greatest position that was reached, and how many items the last `back` or `go` ran again.
+/// A contract sees the run, the breakpoints, the position, the greatest position that was reached, and how many items
+/// the last `back` or `go` ran again.
 /// Where a call is refused the debugger is as it was.
 #[derive(Drop)]
 pub struct Debugger<'b, A: Allocator> {
@@ -76,7 +79,8 @@ impl<'b, A: Allocator + Copy> Debugger<'b, A> {
     ///
     /// # Errors
     ///
-    /// `BadConfig` where the limit of concurrent streams is not 1 to 1000 or the credit is not 1 to 65535; otherwise `NoMemory`.
+    /// `BadConfig` where the limit of concurrent streams is not 1 to 1000 or the credit is not 1 to 65535; otherwise
+    /// `NoMemory`.
     pub fn load(book: &'b Book<A>, config: Config, octets: Vec<u8, A>) -> Result<Self, DebugFault>
         ensures ok { IfOk result (λ d. d ≡ record { run = record { book = book.now; config = config; octets = octets.items }; breaks = []; position = 0; reached = 0; replayed = 0 }) }
         ensures allowed { OnOk result (is_allowed config ≡ true) }
@@ -124,7 +128,8 @@ impl<'b, A: Allocator + Copy> Debugger<'b, A> {
         self.present.try_clone()
     }
 
-    /// The place where a move to a position starts: the greatest kept one that is not after it, or the present one where that is between the two.
+    /// The place where a move to a position starts: the greatest kept one that is not after it, or the present one
+    /// where that is between the two.
     /// `AllocError` if it is out of memory.
     fn start_for(&self, target: usize) -> Result<Place<'b, A>, AllocError>
         ensures { IfOk result (λ p. IsAt self.now.run p × (p.position ≡ replay_start target self.now)) }
@@ -156,7 +161,8 @@ impl<'b, A: Allocator + Copy> Debugger<'b, A> {
         Ok(Forward { place, fresh })
     }
 
-    /// A move from the present place to the next one that a breakpoint matches, or to the end; `AllocError` if it is out of memory.
+    /// A move from the present place to the next one that a breakpoint matches, or to the end; `AllocError` if it is
+    /// out of memory.
     fn reach_stop(&self) -> Result<Forward<'b, A>, AllocError>
         ensures reached { IfOk result (λ f. IsReached self.now.run (kept_count self.now) f.place f.fresh) }
         ensures position { IfOk result (λ f. f.place.position ≡ stop self.now.breaks (events self.now.run) self.now.position) }
@@ -173,7 +179,8 @@ impl<'b, A: Allocator + Copy> Debugger<'b, A> {
         Ok(Forward { place, fresh })
     }
 
-    /// Makes a move: its place becomes the present one, its copies are kept. Returns the new position; `AllocError` changes nothing.
+    /// Makes a move: its place becomes the present one, its copies are kept. Returns the new position; `AllocError`
+    /// changes nothing.
     fn commit(&mut self, forward: Forward<'b, A>) -> Result<usize, AllocError>
         requires { IsReached self.old.run (kept_count self.old) forward.place forward.fresh }
         ensures ok { IfOk result (λ p. (p ≡ forward.entry.place.position) × (self.new ≡ moved p self.old)) }
@@ -187,7 +194,8 @@ impl<'b, A: Allocator + Copy> Debugger<'b, A> {
         Ok(position)
     }
 
-    /// Moves forward by `count` items, or to the end if fewer follow, and returns the new position. A count of 0 is accepted anywhere and moves nothing.
+    /// Moves forward by `count` items, or to the end if fewer follow, and returns the new position. A count of 0 is
+    /// accepted anywhere and moves nothing.
     ///
     /// # Errors
     ///
@@ -285,7 +293,8 @@ impl<'b, A: Allocator + Copy> Debugger<'b, A> {
         Ok(())
     }
 
-    /// Adds a breakpoint after each item whose head has this type; the preface has none. `NoMemory` leaves the debugger as it was.
+    /// Adds a breakpoint after each item whose head has this type; the preface has none. `NoMemory` leaves the
+    /// debugger as it was.
     pub fn break_type(&mut self, kind: u8) -> Result<(), DebugFault>
         ensures ok { OnOk result (self.new ≡ record self.old { breaks = self.old.breaks ++ OnType kind ∷ [] }) }
         ensures fault { IfErr result (λ fault. fault ≡ NoMemory) }
@@ -295,7 +304,8 @@ impl<'b, A: Allocator + Copy> Debugger<'b, A> {
         Ok(())
     }
 
-    /// Adds a breakpoint after each item whose head has this stream; the preface has none. `NoMemory` leaves the debugger as it was.
+    /// Adds a breakpoint after each item whose head has this stream; the preface has none. `NoMemory` leaves the
+    /// debugger as it was.
     pub fn break_stream(&mut self, id: u32) -> Result<(), DebugFault>
         ensures ok { OnOk result (self.new ≡ record self.old { breaks = self.old.breaks ++ OnStream id ∷ [] }) }
         ensures fault { IfErr result (λ fault. fault ≡ NoMemory) }
@@ -305,7 +315,8 @@ impl<'b, A: Allocator + Copy> Debugger<'b, A> {
         Ok(())
     }
 
-    /// Adds a breakpoint after each item for which a frame of this type is sent. `NoMemory` leaves the debugger as it was.
+    /// Adds a breakpoint after each item for which a frame of this type is sent. `NoMemory` leaves the debugger as it
+    /// was.
     pub fn break_sent(&mut self, kind: u8) -> Result<(), DebugFault>
         ensures ok { OnOk result (self.new ≡ record self.old { breaks = self.old.breaks ++ OnSent kind ∷ [] }) }
         ensures fault { IfErr result (λ fault. fault ≡ NoMemory) }
@@ -344,7 +355,8 @@ impl<'b, A: Allocator + Copy> Debugger<'b, A> {
         self.present.conn()
     }
 
-    /// The octets sent for the item that leads to the present position; at position 0 the opening SETTINGS. It takes no memory.
+    /// The octets sent for the item that leads to the present position; at position 0 the opening SETTINGS. It takes
+    /// no memory.
     pub fn sent(&self) -> &[u8]
         ensures { result.now ≡ sent_octets_at self.now.run self.now.position }
     {

@@ -1,5 +1,7 @@
-//! Moves forward through a run: items taken one after another, with a copy of each place at a multiple of 64 that is reached for the first time.
-//! Rests on `place`, `kept` and `breakpoints`; definitions: `specs/Places.antt`, and `stop` of h2_spec's `specs/Debug.antt`.
+//! Moves forward through a run: items taken one after another, with a copy of each place at a multiple of 64 that is
+//! reached for the first time.
+//! Rests on `place`, `kept` and `breakpoints`; definitions: `specs/Places.antt`, and `stop` of h2_spec's
+//! `specs/Debug.antt`.
 
 ghost use Rattle.std.specs.Prelude.{◌≡◌, ◌⊎◌, ◌+◌, ◌*◌, ◌<◌, ◌≤◌, ◌^◌, IfOk, OnOk, length, min, map};
 ghost use Rattle.h2_spec.specs.Debug.{stop};

@@ -1,4 +1,5 @@
-//! A place in a run: a connection, how many items it took, how many octets it was fed, and what was sent for the last item.
+//! A place in a run: a connection, how many items it took, how many octets it was fed, and what was sent for the last
+//! item.
 //! Rests on h2_conn; definitions: `specs/Places.antt`.
 
 ghost use Rattle.std.specs.Prelude.{◌≡◌, ◌≤◌, true, IfErr, IfOk, OnErr, OnOk};

@@ -91,7 +91,8 @@ fn asked_refused(
     Ok(refused)
 }
 
-/// The call of a case with the nth allocation refused; what is shown after it is what is shown after one that was not refused.
+/// The call of a case with the nth allocation refused; what is shown after it is what is shown after one that was not
+/// refused.
 fn compare_call(
     rt: &impl Abort,
     alloc: Global,

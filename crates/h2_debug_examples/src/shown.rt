@@ -1,4 +1,5 @@
-//! What is shown after moves forward and back, compared at each position with a debugger that was just loaded and moved there.
+//! What is shown after moves forward and back, compared at each position with a debugger that was just loaded and
+//! moved there.
 
 use crate::loads::{Ask, USUAL, asked, book_of, octets_of};
 use crate::same::same;
@@ -151,7 +152,8 @@ fn compare_move(
     Ok(())
 }
 
-/// The moves of a walk over so many items, and where they lead: forward to the end one by one, back to the start, and then to positions in no order.
+/// The moves of a walk over so many items, and where they lead: forward to the end one by one, back to the start, and
+/// then to positions in no order.
 fn move_at(turn: u16, items: u8) -> (Ask, usize) {
     let (turn, end) = (usize::from(turn), usize::from(items));
     if turn < end {

@@ -25,7 +25,8 @@ IsApplied limit before shape now (Err f) = (now ≡ before) × (f ≢ fault.NoMe
 abbrev pub after_literal : Progress → Mode → Field → Progress
 after_literal p mode f = record p { fields = p.fields ++ f ∷ []; table = table_after mode p.table f }
 
--- whether an instruction alters the table: a literal with incremental indexing and a size update do (RFC 7541, 6.2.1 and 6.3)
+-- whether an instruction alters the table: a literal with incremental indexing and a size update do (RFC 7541, 6.2.1
+-- and 6.3)
 abbrev pub alters_table : Shape → Bool
 alters_table (Indexed i) = false
 alters_table (Update n) = true
@@ -50,7 +51,8 @@ abbrev pub faulted : Outcome → Option BlockFault
 faulted (Unfinished rest) = None
 faulted (Faulty f) = Some (fault_of f)
 
--- the octets were decoded up to an instruction that is refused for this fault; where memory was refused, up to some instruction
+-- the octets were decoded up to an instruction that is refused for this fault; where memory was refused, up to some
+-- instruction
 pub record IsFaulted (limit : ℕ) (before : Progress) (b : List ℕ) (now : Progress) (f : BlockFault) : Type 0 where
   pub named : f ≢ fault.Truncated
   pub exact : f ≢ fault.NoMemory → ((decoded limit before b).progress ≡ now) × (faulted (decoded limit before b).outcome ≡ Some f)

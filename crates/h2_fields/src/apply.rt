@@ -39,7 +39,8 @@ pub fn apply<A: Allocator + Copy>(
     }
 }
 
-/// Does what an instruction says that leaves the table as it is, or refuses it; answers whether it is one. A refusal, and an
+/// Does what an instruction says that leaves the table as it is, or refuses it; answers whether it is one. A refusal,
+/// and an
 /// instruction that alters the table, leave the fields as they were.
 pub fn apply_still<A: Allocator + Copy>(
     gathered: &mut Gathered<A>,

@@ -1,6 +1,7 @@
 //! The decoder of a field block, which comes in fragments (RFC 7541, 3; RFC 9113, 4.3).
 //! It rests on `shape` for what stands at the front of the octets, and on `apply` for what each instruction does.
-//! The definitions are `decoded` and `carried_on` of `h2_spec`, specs/Block.antt; contracts see a decoder as `BlockSoFar`.
+//! The definitions are `decoded` and `carried_on` of `h2_spec`, specs/Block.antt; contracts see a decoder as
+//! `BlockSoFar`.
 
 ghost use Rattle.std.specs.Prelude.{◌≡◌, ◌≢◌, ◌≤◌, ◌<◌, [], ◌++◌, false, drop, take, vec_len, length, Some, None, Ok, Err, option_map, IfOk, IfErr, IsErr, OnOk};
 ghost use Rattle.h2_spec.specs.Block as block;
@@ -19,7 +20,8 @@ use h2_table::DynTable;
 use std::alloc::{AllocError, Allocator};
 use std::marker::Model;
 
-/// A decoder of one field block: the fields so far, the octets that begin an instruction and do not end it, and the fault,
+/// A decoder of one field block: the fields so far, the octets that begin an instruction and do not end it, and the
+/// fault,
 /// if there was one.
 #[derive(Drop)]
 pub struct BlockDecoder<A: Allocator> {
@@ -55,7 +57,8 @@ impl<A: Allocator + Copy> BlockDecoder<A> {
     ///
     /// # Errors
     ///
-    /// `Index`, `Integer`, `Huffman` and `SizeUpdate` as RFC 7541 has them, once the instruction is whole, an integer already
+    /// `Index`, `Integer`, `Huffman` and `SizeUpdate` as RFC 7541 has them, once the instruction is whole, an integer
+    /// already
     /// at its fifth octet behind the prefix; the fields and the table are those after the instructions before it.
     /// `NoMemory` where memory was refused; the fields and the table are those after some of the whole instructions.
     /// After an error each further call answers the same one and changes nothing.
@@ -79,14 +82,19 @@ impl<A: Allocator + Copy> BlockDecoder<A> {
         }
     }
 
-    /// Decodes the front of a fragment as far as the table stays as it is, and answers how many octets that takes, up to the
-    /// length of the piece: all of them, an instruction that the piece begins and does not end included, or those before the
-    /// first whole instruction that alters the table, a literal with incremental indexing or a size update (RFC 7541, 6.2.1 and
-    /// 6.3). Where octets of the fragments before it are left it takes none and changes nothing. The rest is for `push`.
+    /// Decodes the front of a fragment as far as the table stays as it is, and answers how many octets that takes, up
+    /// to the
+    /// length of the piece: all of them, an instruction that the piece begins and does not end included, or those
+    /// before the
+    /// first whole instruction that alters the table, a literal with incremental indexing or a size update (RFC 7541,
+    /// 6.2.1 and
+    /// 6.3). Where octets of the fragments before it are left it takes none and changes nothing. The rest is for
+    /// `push`.
     ///
     /// # Errors
     ///
-    /// As those of `push`, of the instructions up to there; `NoMemory` also where memory for the octets that are left was refused.
+    /// As those of `push`, of the instructions up to there; `NoMemory` also where memory for the octets that are left
+    /// was refused.
     /// After an error each further call answers the same one and changes nothing.
     pub fn push_still(&mut self, table: &DynTable<A>, piece: &[u8]) -> Result<usize, BlockFault>
         ensures answer { printed result ≡ answer_of self.new.outcome }
@@ -138,7 +146,8 @@ impl<A: Allocator + Copy> BlockDecoder<A> {
         self.gathered.fields()
     }
 
-    /// What the fields so far count together, in octets: 32 each beside their own (RFC 9113, 6.5.2); 2^64 - 1 where that is
+    /// What the fields so far count together, in octets: 32 each beside their own (RFC 9113, 6.5.2); 2^64 - 1 where
+    /// that is
     /// more.
     pub fn list_size(&self) -> u64
         ensures { result ≡ block.list_size self.now.fields }
@@ -218,7 +227,8 @@ fn decode<A: Allocator + Copy>(
     }
 }
 
-/// Does what the whole instructions at the front of the octets say, up to one that alters the table, and answers how many octets
+/// Does what the whole instructions at the front of the octets say, up to one that alters the table, and answers how
+/// many octets
 /// they take. Where none alters it, what does not end an instruction is left and counts too.
 fn decode_still<A: Allocator + Copy>(
     gathered: &mut Gathered<A>,

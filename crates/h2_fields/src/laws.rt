@@ -1,5 +1,6 @@
 //! Laws of what is written here, each on a function with an empty body: it is read back as what it was written for.
-//! They rest on the lemmas from which `h2_laws::block_laws` is proved too, and which are in `h2_spec` as the definitions do.
+//! They rest on the lemmas from which `h2_laws::block_laws` is proved too, and which are in `h2_spec` as the
+//! definitions do.
 
 ghost use Rattle.std.specs.Prelude.{◌≡◌, ℕ, Bool, false, if◌then◌else◌, List, ◌∷◌, ◌++◌, length, Some};
 ghost use Rattle.std.specs.List.{AllByRecursion};
@@ -12,13 +13,15 @@ ghost use Rattle.h2_spec.specs.Field.{Field};
 ghost use Rattle.h2_spec.specs.Instruction.{Instruction, HasTexts, IsSpelling, instruction_at, shape_of, spell};
 ghost use Rattle.h2_spec.specs.Read.{Whole};
 
-/// What `write_instr` appends is one whole spelling of the instruction, and is read back, whatever follows (RFC 7541, 6).
+/// What `write_instr` appends is one whole spelling of the instruction, and is read back, whatever follows (RFC 7541,
+/// 6).
 pub fn instructions_are_read_back()
     ensures spelling { (instruction : Instruction) → IsWritable instruction → HasTexts instruction → IsSpelling instruction (spell (shape_of instruction)) }
     ensures read { (instruction : Instruction) (more : List ℕ) → IsWritable instruction → HasTexts instruction → instruction_at (spell (shape_of instruction) ++ more) ≡ Whole (Some instruction) (length (spell (shape_of instruction))) }
 {}
 
-/// What `response_block` answers is read as its status and its fields, whatever the table holds; the table is emptied first
+/// What `response_block` answers is read as its status and its fields, whatever the table holds; the table is emptied
+/// first
 /// where that is signalled, and else left as it is (RFC 9113, 8.3.2; RFC 7541, 4.2 and 6.2.2).
 pub fn responses_are_read()
     ensures { (limit : ℕ) (table : Table) (size_update_pending : Bool) (status : ℕ) (fields : List Field) → AllByRecursion IsWritableField fields → decoded limit (start table false) (answer.response_block size_update_pending status fields) ≡ read_whole (status_field status ∷ fields) (if size_update_pending then resize table 0 else table) }

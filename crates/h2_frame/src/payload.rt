@@ -74,7 +74,8 @@ impl SettingsPart<'_> {
 
 /// What DATA holds (RFC 9113, 6.1).
 ///
-/// `SizeFault` where the length of the padding is missing, then `PadFault` where the padding is longer than what follows.
+/// `SizeFault` where the length of the padding is missing, then `PadFault` where the padding is longer than what
+/// follows.
 #[tactic(auto, unfolding(h2_spec::specs::Payload::data_part))]
 pub fn data_of(frame: FrameRef<'_>) -> Result<DataPart<'_>, PayloadFault>
     requires { frame.head.kind ≡ DATA }
@@ -95,7 +96,8 @@ pub fn data_of(frame: FrameRef<'_>) -> Result<DataPart<'_>, PayloadFault>
 
 /// What HEADERS hold (RFC 9113, 6.2).
 ///
-/// `SizeFault` where the length of the padding, the dependency or the weight is missing, then `PadFault` where the padding is
+/// `SizeFault` where the length of the padding, the dependency or the weight is missing, then `PadFault` where the
+/// padding is
 /// longer than what follows them.
 #[tactic(auto, unfolding(h2_spec::specs::Payload::headers_part))]
 pub fn headers_of(frame: FrameRef<'_>) -> Result<HeadersPart<'_>, PayloadFault>
@@ -252,7 +254,8 @@ pub enum Part<'a> {
     Unknown,
 }
 
-/// What a frame's payload holds, by the frame's type; the refusals are those of the readers above, and WITH_PRIORITY has 5 octets,
+/// What a frame's payload holds, by the frame's type; the refusals are those of the readers above, and WITH_PRIORITY
+/// has 5 octets,
 /// PING 8 (RFC 9113, 6).
 #[tactic(auto, unfolding(h2_spec::specs::Payload::part_as))]
 pub fn part_of(frame: FrameRef<'_>) -> Result<Part<'_>, PayloadFault>

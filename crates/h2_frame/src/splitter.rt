@@ -1,5 +1,7 @@
-//! The splitter: octets come in pieces of any length, and items are taken from their front (RFC 9113, 3.4, 4.1 and 4.2).
-//! Rests on `head`; definitions: `next` of `h2_spec/specs/Frame.antt`, and `specs/Items.antt` for what a splitter holds.
+//! The splitter: octets come in pieces of any length, and items are taken from their front (RFC 9113, 3.4, 4.1 and
+//! 4.2).
+//! Rests on `head`; definitions: `next` of `h2_spec/specs/Frame.antt`, and `specs/Items.antt` for what a splitter
+//! holds.
 
 ghost use Rattle.std.specs.Prelude.{◌≡◌, ℕ, ◌+◌, ◌-◌, ◌≤◌, ◌++◌, [], length, drop, vec_len, true, false, nat_eq, IfOk, IfSome, OnOk, OnErr};
 ghost use Rattle.std.specs.List.{common_prefix_len};
@@ -90,9 +92,11 @@ impl<A: Allocator> Splitter<A> {
         self.buffer.len() - self.offset
     }
 
-    /// Takes the next item, if the octets held begin with a whole one; a frame is oversized when its length is above the limit.
+    /// Takes the next item, if the octets held begin with a whole one; a frame is oversized when its length is above
+    /// the limit.
     ///
-    /// The first item is the preface or a bad one. After a bad preface or an oversized head the answer is `None` permanently.
+    /// The first item is the preface or a bad one. After a bad preface or an oversized head the answer is `None`
+    /// permanently.
     /// The payload is lent from the splitter.
     pub fn next(&mut self, limit: u32) -> Option<Item<'_>>
         ensures* leaves { sem 𝓛 (Rests (the_row A.row A.Allocator) self.entry (λ rest. rest ≡ rest_after limit self.old)) }

@@ -1,4 +1,5 @@
-//! The decoder of field blocks on worked values: RFC 7541, Appendix C.2 to C.6; blocks that are refused, cut, or at the edge of the table.
+//! The decoder of field blocks on worked values: RFC 7541, Appendix C.2 to C.6; blocks that are refused, cut, or at
+//! the edge of the table.
 
 use crate::digits::octets_of;
 use crate::same::same;
@@ -103,7 +104,8 @@ fn held_by(
     })
 }
 
-/// A field block: its fields and what they count, and the dynamic table after it: its entries, the newest first, and what
+/// A field block: its fields and what they count, and the dynamic table after it: its entries, the newest first, and
+/// what
 /// they count.
 struct Case {
     name: &'static str,
@@ -407,7 +409,8 @@ fn blocks_may_come_octet_by_octet(rt: HostRuntime) -> Result<(), Fail> {
     compare_blocks(&rt, rt.alloc(), true)
 }
 
-/// A block that is refused, on an empty table of limit 4096: its fragments; what each of them and then the end is answered,
+/// A block that is refused, on an empty table of limit 4096: its fragments; what each of them and then the end is
+/// answered,
 /// a fault by its number; the fields and the entries afterwards.
 struct Refusal {
     name: &'static str,
@@ -647,7 +650,8 @@ fn a_copy_goes_its_own_way(rt: HostRuntime) -> Result<(), Fail> {
     Ok(())
 }
 
-/// A block of Appendix C on an empty table: how many of its octets leave the table as it is, their fields, and all its fields.
+/// A block of Appendix C on an empty table: how many of its octets leave the table as it is, their fields, and all
+/// its fields.
 struct Still {
     name: &'static str,
     block: &'static str,

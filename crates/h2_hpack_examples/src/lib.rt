@@ -1,4 +1,5 @@
-//! Worked examples of HPACK (RFC 7541): integers, Huffman strings, header tables, instructions and field blocks, by single calls.
+//! Worked examples of HPACK (RFC 7541): integers, Huffman strings, header tables, instructions and field blocks, by
+//! single calls.
 //! Tests alone. Expected values come from RFC 7541 and computation by hand.
 #![tactic(auto)]
 

@@ -1,4 +1,5 @@
--- Positions of the debugger, computed: 130 items, which are the preface, SETTINGS, 97 PING, HEADERS on stream 3, and 30 PING.
+-- Positions of the debugger, computed: 130 items, which are the preface, SETTINGS, 97 PING, HEADERS on stream 3, and
+-- 30 PING.
 use Rattle.std.specs.Prelude.{◌≡◌, ℕ, ◌++◌, List, [], ◌∷◌, refl, codes, replicate, flat_map, length}
 use Rattle.h2_spec.specs.declared.connection.Config.{Config}
 use Rattle.h2_spec.specs.Opening.{opening_settings}

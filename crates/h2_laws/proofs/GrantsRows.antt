@@ -1,4 +1,5 @@
--- Runs that keep to the grants, and frames that do not, with the tests that they fail; and that what is computed decides the tests.
+-- Runs that keep to the grants, and frames that do not, with the tests that they fail; and that what is computed
+-- decides the tests.
 use Rattle.std.proofs.Common.{◌≡◌, ℕ, zero, suc, ◌+◌, ◌≤◌, Bool, true, false, not, ◌&&◌, ◌||◌, List, [], ◌∷◌, ◌++◌, length, take, drop, refl, sym, ap, ◌∙◌, eqb}
 use Rattle.std.proofs.lemmas.Bool.{le-leb, leb-true}
 use Rattle.std.proofs.lemmas.Bool.Decides.{Decides-eqb, Decides-and, Decides-or}
@@ -175,7 +176,8 @@ octet_by_octet = refl
 long : List Entry
 long = get (replicate 70000 120)
 
--- the initial window 100,000, GETs on two streams of 70,000 octets each, which the connection's window holds back, and 5,000 more octets for both
+-- the initial window 100,000, GETs on two streams of 70,000 octets each, which the connection's window holds back,
+-- and 5,000 more octets for both
 two_long : List Event
 unfolding events long
 two_long = events long "0000060400000000000004000186a000000301050000000182868400000301050000000382868400000408000000000000001388"

@@ -1,4 +1,5 @@
--- The first of the server's own settings stay in force, whatever comes: no rule changes them, and no block takes the header table above their limit.
+-- The first of the server's own settings stay in force, whatever comes: no rule changes them, and no block takes the
+-- header table above their limit.
 use Rattle.std.proofs.Common.{◌≡◌, ℕ, zero, suc, ◌+◌, ◌≤◌, Bool, true, false, cond, ◌&&◌, not, List, ◌++◌, length, drop, refl, sym, ap, subst, ◌∙◌, arith, leb, leb-true, ltb, eqb, Option, Some, None, Result, Ok, Err}
 use Rattle.std.proofs.lemmas.Bool.{le-ltb}
 use Rattle.std.specs.Prelude.{pos, int_lt, ◌+ℤ◌, ◌-ℤ◌}

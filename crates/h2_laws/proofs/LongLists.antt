@@ -1,4 +1,5 @@
--- Lists of fields at their limit, computed: 65,536 octets pass, one more does not, though the block's octets do (RFC 9113, 10.5.1).
+-- Lists of fields at their limit, computed: 65,536 octets pass, one more does not, though the block's octets do (RFC
+-- 9113, 10.5.1).
 use Rattle.std.specs.Prelude.{◌≡◌, ℕ, ◌++◌, List, [], take, drop, refl, codes, replicate}
 use Prim.Native.String.{String}
 use Rattle.h2_spec.specs.State.{opening}

@@ -1,4 +1,5 @@
--- Worked rows of requests and trailers, of the book of answers, and of the words of an answer: each side of a line beside the other.
+-- Worked rows of requests and trailers, of the book of answers, and of the words of an answer: each side of a line
+-- beside the other.
 use Rattle.std.specs.Prelude.{◌≡◌, ℕ, Bool, true, false, List, [], ◌∷◌, map, refl, codes, replicate, Option, Some, None}
 use Prim.Native.String.{String}
 use Rattle.h2_spec.specs.Field.{Field, field}

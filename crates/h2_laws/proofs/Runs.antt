@@ -1,4 +1,5 @@
--- Whole runs, computed: what is sent for octets that come behind the preface and the first SETTINGS, and what is shown then.
+-- Whole runs, computed: what is sent for octets that come behind the preface and the first SETTINGS, and what is
+-- shown then.
 use Rattle.std.specs.Prelude.{◌≡◌, ℕ, ◌++◌, List, [], ◌∷◌, refl, codes, replicate}
 use Rattle.std.specs.Fmt.{digits}
 use Rattle.hex.specs.Hex.{encode_with}

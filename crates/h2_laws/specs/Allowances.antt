@@ -16,12 +16,14 @@ abbrev pub total : List ℕ → ℕ
 total [] = 0
 total (n ∷ ns) = n + total ns
 
--- a stream's share is the least of what it waits with, its own window, and the connection's window less the shares of the streams before it
+-- a stream's share is the least of what it waits with, its own window, and the connection's window less the shares of
+-- the streams before it
 abbrev pub AllowanceIsLeast : ℕ → List Stream → Stream → List Stream → Type 0
 AllowanceIsLeast window before st behind =
     slice_get (allowances window (before ++ st ∷ behind)) (length before) ≡ Some (min (min (octets_waiting st) (sendable st.numbers.send)) (window - total (allowances window before)))
 
--- what is sent are the shares, each stream's record is the one after its share, and the connection's window falls by their sum
+-- what is sent are the shares, each stream's record is the one after its share, and the connection's window falls by
+-- their sum
 pub record SendsAllowances (book : List Entry) (size window : ℕ) (sts : List Stream) : Type 0 where
   pub frames : sent_frames book size window sts ≡ flat_map (λ (p : ℕ × Stream). allowance_frames book size p.0 p.1) (zip (allowances window sts) sts)
   pub records : all_after_sending window sts ≡ flat_map (λ (p : ℕ × Stream). after_sending p.0 p.1 ∷ []) (zip (allowances window sts) sts)

@@ -1,5 +1,7 @@
--- What a peer grants and what it is sent, over a whole run and without any window of the connection (RFC 9113, 5.2, 6.9 and 8.1).
--- A tally follows the connection and one stream, item by item, and six tests are made of it after each item. What holds of one stream holds of each.
+-- What a peer grants and what it is sent, over a whole run and without any window of the connection (RFC 9113, 5.2,
+-- 6.9 and 8.1).
+-- A tally follows the connection and one stream, item by item, and six tests are made of it after each item. What
+-- holds of one stream holds of each.
 use Rattle.std.specs.Prelude.{◌≡◌, ℕ, ◌+◌, ◌≤◌, ◌⊎◌, Bool, true, false, ◌&&◌, ◌||◌, not, List, [], ◌∷◌, ◌++◌, length, nat_le, ◌==◌, if◌then◌else◌, Option, Some, None, is_some, Result, Ok, Err}
 use Rattle.h2_spec.specs.declared.connection.Config.{Config}
 use Rattle.h2_spec.specs.declared.connection.Phase.{Phase}
@@ -226,7 +228,8 @@ pub record Meets (id : ℕ) (ends : Bool) (t : Tally) (sent : List Frame) : Type
   pub within_stream : When (sends_data id sent) (IsWithinStream (sent_all id t sent))
   -- no DATA longer than the frame size now
   pub within_frame_size : AtEach IsWithinFrameSize id t sent
-  -- at most one HEADERS and no DATA before it; DATA is a prefix of the body that is promised, and the whole where END_STREAM was sent
+  -- at most one HEADERS and no DATA before it; DATA is a prefix of the body that is promised, and the whole where
+  -- END_STREAM was sent
   pub answers_once : AtEach (IsInOrder id) id t sent × IsOfBody (sent_all id t sent).mark
   -- no HEADERS or DATA after END_STREAM, and no frame on the stream after RST_STREAM either way
   pub silent_after_end : AtEach (IsBeforeEnd id) id t sent

@@ -1,4 +1,5 @@
--- The order of the streams' records: by rising identifier, so that sending in the order of the list is sending in the order of the identifiers (RFC 9113, 5.1.1).
+-- The order of the streams' records: by rising identifier, so that sending in the order of the list is sending in the
+-- order of the identifiers (RFC 9113, 5.1.1).
 use Rattle.std.specs.Prelude.{ℕ, ◌<◌, ◌≤◌, List, [], ◌∷◌}
 use Rattle.h2_spec.specs.declared.connection.Config.{Config}
 use Rattle.h2_spec.specs.declared.streams.Stream.{Stream}

@@ -1,4 +1,5 @@
--- Why fields make no request or no trailers, each reason said of the places of fields in their list (RFC 9113, 8.1.1, 8.2, 8.3 and 8.5).
+-- Why fields make no request or no trailers, each reason said of the places of fields in their list (RFC 9113, 8.1.1,
+-- 8.2, 8.3 and 8.5).
 -- `malformed` and `malformed_trailers` of Request compute the least of them: a law of this crate.
 use Rattle.std.specs.Prelude.{◌≡◌, ◌≢◌, ℕ, ◌<◌, ◌≤◌, List, [], codes, slice_get, Option, Some, None, IsTrue, IsFalse, IsSome}
 use Rattle.h2_spec.specs.Field.{Field}

@@ -19,7 +19,8 @@ pub fn no_spelling_begins_another()
     ensures stays_too_long { (octets more : List ℕ) → instr_at octets ≡ TooLong → instr_at (octets ++ more) ≡ TooLong }
 {}
 
-/// There is one way to write octets as instructions in a row and a rest that begins with none, and splitting finds it; octets
+/// There is one way to write octets as instructions in a row and a rest that begins with none, and splitting finds
+/// it; octets
 /// in two pieces split as their sum does (RFC 7541, 6).
 pub fn octets_split_in_one_way()
     ensures split { (octets : List ℕ) → Splits octets (split octets).elements (split octets).rest }
@@ -34,7 +35,8 @@ pub fn instructions_are_read()
     ensures spelled { (octets : List ℕ) (instruction : Instruction) (used : ℕ) → instruction_at octets ≡ Whole (Some instruction) used → IsSpelling instruction (take used octets) }
 {}
 
-/// The octets that are written for an instruction are one whole spelling of it, by its shape and by its texts (RFC 7541, 6).
+/// The octets that are written for an instruction are one whole spelling of it, by its shape and by its texts (RFC
+/// 7541, 6).
 /// That its integers are the shortest is a law of `integer_laws`.
 pub fn instructions_are_written()
     ensures whole { (shape : Shape) → IsSpellable shape → instr_at (spell shape) ≡ Whole shape (length (spell shape)) }
@@ -51,7 +53,8 @@ pub fn instructions_have_five_forms()
     ensures text_formed { (octets : List ℕ) (instruction : Instruction) (used : ℕ) → IsBytes octets → instruction_at octets ≡ Whole (Some instruction) used → IsFormOf instruction (take used octets) }
 {}
 
-/// Octets that are the beginning of an instruction become one with some octets more, and these alone do; one with an integer
+/// Octets that are the beginning of an instruction become one with some octets more, and these alone do; one with an
+/// integer
 /// that is too long never does (RFC 7541, 5.1 and 6).
 pub fn beginnings_can_be_ended()
     ensures ended { (octets : List ℕ) → instr_at octets ≡ More → CanEnd octets }

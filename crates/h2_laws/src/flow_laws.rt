@@ -1,5 +1,6 @@
 //! Laws of credit and of settings.
-//! Each law is the contract of a function with an empty body; definitions: `h2_spec/specs/Window.antt`, `h2_spec/specs/Settings.antt`.
+//! Each law is the contract of a function with an empty body; definitions: `h2_spec/specs/Window.antt`,
+//! `h2_spec/specs/Settings.antt`.
 
 ghost use Rattle.std.specs.Prelude.{◌≡◌, ◌+◌, ◌<◌, ℕ, unwrap_or, IfOk};
 ghost use Rattle.h2_spec.specs.declared.flow.Settings.{Settings};

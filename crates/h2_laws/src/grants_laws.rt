@@ -1,4 +1,5 @@
-//! Flow control as the peer sees it, over whole runs: what is sent keeps to what was granted, and is held back no further (RFC 9113, 5.2, 6.9 and 8.1).
+//! Flow control as the peer sees it, over whole runs: what is sent keeps to what was granted, and is held back no
+//! further (RFC 9113, 5.2, 6.9 and 8.1).
 //! Rests on the definitions alone: each function's contract is a law of them, and its body is empty.
 //! Definitions: `specs/Grants.antt`, `specs/Order.antt`, `specs/Allowances.antt`, `specs/Cutting.antt`.
 
@@ -13,19 +14,23 @@ ghost use Rattle.h2_laws.specs.Grants.{KeepsGrants};
 ghost use Rattle.h2_laws.specs.Order.{KeepsOrder};
 ghost use Rattle.h2_laws.specs.Allowances.{AllowanceIsLeast, SendsAllowances};
 
-/// Whatever octets a peer sends, after each of their items, on each stream: DATA is within what the peer has granted on the connection and on the
-/// stream, and within its frame size; at most one response is sent, with a prefix of its body, and the whole where END_STREAM is sent; nothing
+/// Whatever octets a peer sends, after each of their items, on each stream: DATA is within what the peer has granted
+/// on the connection and on the
+/// stream, and within its frame size; at most one response is sent, with a prefix of its body, and the whole where
+/// END_STREAM is sent; nothing
 /// follows the end; and nothing that may be sent is held back.
 pub fn grants_are_kept()
     ensures { (book : List Entry) (config : Config) (octets : List ℕ) → KeepsGrants book config octets }
 {}
 
-/// After each item the records of the streams stand by rising identifier, up to the last stream that was opened; so what waits is sent in that order.
+/// After each item the records of the streams stand by rising identifier, up to the last stream that was opened; so
+/// what waits is sent in that order.
 pub fn records_are_in_order()
     ensures { (book : List Entry) (config : Config) (octets : List ℕ) → KeepsOrder book config octets }
 {}
 
-/// Each stream sends the least of three: what waits on it, its own window, and the connection's window less what the streams before it send.
+/// Each stream sends the least of three: what waits on it, its own window, and the connection's window less what the
+/// streams before it send.
 pub fn allowances_are_least()
     ensures { (window : ℕ) (before : List Stream) (stream : Stream) (behind : List Stream) → AllowanceIsLeast window before stream behind }
 {}

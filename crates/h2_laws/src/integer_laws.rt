@@ -13,7 +13,8 @@ ghost use Rattle.h2_spec.specs.Integer.{
 };
 ghost use Rattle.h2_spec.specs.Read.{More, TooLong, Whole};
 
-/// What is read of an integer is what the octets spell, its beginning, or one that is too long; and each of these is read so.
+/// What is read of an integer is what the octets spell, its beginning, or one that is too long; and each of these is
+/// read so.
 pub fn integers_are_read()
     ensures read { (n : ℕ) (octets : List ℕ) → IsReadOf n octets (int_at n octets) }
     ensures whole { (n v : ℕ) (octets rest : List ℕ) → IsInt n v octets → int_at n (octets ++ rest) ≡ Whole v (length octets) }

@@ -1,5 +1,6 @@
 //! Laws of scripts: reading is what the relation says, and what is written for octets is a script of them.
-//! Each law is the contract of a function with an empty body; definitions: `Script`, `Assemble` and `Written` of `h2_spec/specs`.
+//! Each law is the contract of a function with an empty body; definitions: `Script`, `Assemble` and `Written` of
+//! `h2_spec/specs`.
 
 ghost use Rattle.std.specs.Prelude.{◌≡◌, ℕ, List, Ok, Err};
 ghost use Rattle.hex.specs.Hex.{IsBytes};
@@ -8,8 +9,10 @@ ghost use Rattle.h2_spec.specs.Script.{Bad, IsReadingOf, Script};
 ghost use Rattle.h2_spec.specs.Written.{written};
 ghost use Rattle.h2_spec.specs.declared.scripts.SyntaxKind.{SyntaxKind};
 
-/// What a text is read as is what it says: the octets that it represents, or its first bad line with the line's least kind of fault.
-/// A text represents one sequence of octets at most, and these are the ones that are read; the first bad line, where there is
+/// What a text is read as is what it says: the octets that it represents, or its first bad line with the line's least
+/// kind of fault.
+/// A text represents one sequence of octets at most, and these are the ones that are read; the first bad line, where
+/// there is
 /// one, is the one that is named.
 pub fn scripts_are_read()
     ensures reading { (text : List ℕ) → IsReadingOf text (assembled text) }

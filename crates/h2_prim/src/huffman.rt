@@ -1,6 +1,8 @@
 //! Huffman strings (RFC 7541, 5.2 and Appendix B): how long one is, writing one, and reading one.
-//! It rests on the arrays of `tables`, which proofs tie to the code of `h2_spec`; its definitions are `spell_huffman` and
-//! `huffman_text` of `h2_spec`, specs/Huffman.antt, and the law that these are what the RFC says is `h2_laws::huffman_laws`.
+//! It rests on the arrays of `tables`, which proofs tie to the code of `h2_spec`; its definitions are `spell_huffman`
+//! and
+//! `huffman_text` of `h2_spec`, specs/Huffman.antt, and the law that these are what the RFC says is
+//! `h2_laws::huffman_laws`.
 
 ghost use Rattle.std.specs.Prelude.{◌≡◌, ℕ, ◌+◌, ◌*◌, ◌^◌, ◌<◌, ◌≤◌, ◌↔◌, ◌++◌, Bool, List, length, take, IfOk, OnOk, OnErr, IsErrOf};
 ghost use Rattle.std.specs.Vec.{vec_len, vec_capacity};
@@ -45,7 +47,8 @@ pub fn huff_write<A: Allocator>(text: &[u8], out: &mut Vec<u8, A>) -> Result<(),
 ///
 /// # Errors
 ///
-/// `Eos` where the whole code of the end of a string is in the octets, `Padding` where they are neither a text nor that;
+/// `Eos` where the whole code of the end of a string is in the octets, `Padding` where they are neither a text nor
+/// that;
 /// `NoMemory` where they are a text and memory was refused.
 pub fn huff_read<A: Allocator>(alloc: A, octets: &[u8]) -> Result<Vec<u8, A>, HuffFault>
     ensures text { IfOk result (λ text. huffman_text octets.now ≡ Text text.items) }
@@ -93,7 +96,8 @@ fn move_at(state: usize, nibble: u8) -> (usize, u16)
     (usize::from(NEXT[place]), SYMBOLS[place])
 }
 
-/// Takes four bits: writes the octet that they may make whole at `len`, and answers the text's length and the state behind them.
+/// Takes four bits: writes the octet that they may make whole at `len`, and answers the text's length and the state
+/// behind them.
 fn step(text: &mut [u8], len: usize, state: usize, nibble: u8) -> (usize, usize)
     requires room { len < length text.now }
     requires state { state ≤ 256 }
@@ -141,7 +145,8 @@ fn state_after(octets: &[u8]) -> usize
     state
 }
 
-/// What a string that ends in the state is refused for, if it is. States 0 to 7 are those of no ones to seven ones, and 256 is
+/// What a string that ends in the state is refused for, if it is. States 0 to 7 are those of no ones to seven ones,
+/// and 256 is
 /// that of the whole end of a string.
 fn fault_at(state: usize) -> Option<HuffFault>
     requires { state ≤ 256 }
@@ -185,7 +190,8 @@ fn power(bits: u8) -> u64
     1 << bits
 }
 
-/// Appends the whole octets of a number of `count` bits, for which there is room; answers what is left, and how many bits it has.
+/// Appends the whole octets of a number of `count` bits, for which there is room; answers what is left, and how many
+/// bits it has.
 fn flush<A: Allocator>(out: &mut Vec<u8, A>, number: u64, count: u8) -> (u64, u8)
     requires few { count ≤ 40 }
     requires small { number < 2 ^ count }

@@ -20,7 +20,8 @@ pub enum IntRead {
     TooLong,
 }
 
-/// The integer with a prefix of `prefix` bits, 1 to 8, at the front of the octets, whatever the bits above the prefix are.
+/// The integer with a prefix of `prefix` bits, 1 to 8, at the front of the octets, whatever the bits above the prefix
+/// are.
 /// Spellings longer than the shortest are accepted up to five octets behind the prefix. Takes no memory.
 pub fn read_int(prefix: u8, octets: &[u8]) -> IntRead
     requires { (1 ≤ prefix) × (prefix ≤ 8) }

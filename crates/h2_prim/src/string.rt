@@ -1,5 +1,6 @@
 //! Strings of HPACK (RFC 7541, 5.2): a flag, a length, and octets that are the text or its Huffman string.
-//! It rests on `integer` and `huffman`; its definitions are `string_at` and `text_of` of `h2_spec`, specs/Instruction.antt.
+//! It rests on `integer` and `huffman`; its definitions are `string_at` and `text_of` of `h2_spec`,
+//! specs/Instruction.antt.
 
 ghost use Rattle.std.specs.Prelude.{◌≡◌, ◌↔◌, ◌≤◌, ◌<◌, length, take, drop, Some, Ok, IfOk, IfSome, IsSome, IsErrOf};
 ghost use Rattle.h2_spec.specs.Huffman.{Text, Eos, Padding};
@@ -57,7 +58,8 @@ pub fn find_str(octets: &[u8]) -> StrAt<'_>
 ///
 /// # Errors
 ///
-/// `Eos` and `Padding` where the whole string is there and has no text, as `huff_read` says; `NoMemory` where it has one and
+/// `Eos` and `Padding` where the whole string is there and has no text, as `huff_read` says; `NoMemory` where it has
+/// one and
 /// memory was refused.
 pub fn read_str<A: Allocator>(alloc: A, octets: &[u8]) -> Result<StrRead<A>, HuffFault>
     ensures text { IfOk result (λ s. read_map text_str (string_at octets.now) ≡ read_map Some (str_read s)) }

@@ -15,7 +15,8 @@ type LongExchange = (
     &'static [&'static str],
 );
 
-/// Plays each exchange with a GET whose answer has so many octets 61, and compares what is printed; the exit status is 0.
+/// Plays each exchange with a GET whose answer has so many octets 61, and compares what is printed; the exit status
+/// is 0.
 fn compare_long_answers(
     rt: &impl Abort,
     alloc: Global,

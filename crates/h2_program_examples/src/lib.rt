@@ -1,4 +1,5 @@
-//! Worked examples of the program: runs from end to end, octets in, octets out and texts, by the program's call `h2_bench::run`.
+//! Worked examples of the program: runs from end to end, octets in, octets out and texts, by the program's call
+//! `h2_bench::run`.
 //! Tests alone. Expected values come from RFC 9113, RFC 7541 and computation by hand.
 #![tactic(auto)]
 

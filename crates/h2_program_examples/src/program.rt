@@ -173,7 +173,8 @@ fn print_more(lines: &[&str], text: &mut Vec<u8>) -> Result<(), AllocError> {
     Ok(())
 }
 
-/// Appends what `play` prints where these frames are sent behind the opening SETTINGS and the acknowledgement, and the state has these lines.
+/// Appends what `play` prints where these frames are sent behind the opening SETTINGS and the acknowledgement, and
+/// the state has these lines.
 fn print(sent: &[u8], lines: &[&str], text: &mut Vec<u8>) -> Result<(), AllocError> {
     let front = [b"sent ", OPENING.as_bytes(), ACKNOWLEDGEMENT.as_bytes()];
     join(text, &front)?;
@@ -204,7 +205,8 @@ pub(crate) fn compare_runs(rt: &impl Abort, alloc: Global, cases: &[Run]) {
     }
 }
 
-/// The exit status of a run for frames behind the preface and SETTINGS of no setting, whose output is appended to `text`.
+/// The exit status of a run for frames behind the preface and SETTINGS of no setting, whose output is appended to
+/// `text`.
 fn status_of_play(
     alloc: Global,
     words: &[&str],
@@ -219,7 +221,8 @@ fn status_of_play(
     status_of(alloc, words, input.as_slice(), text)
 }
 
-/// Runs the program for frames behind the preface and SETTINGS of no setting, and compares the frames that are sent and the state; the exit status is 0.
+/// Runs the program for frames behind the preface and SETTINGS of no setting, and compares the frames that are sent
+/// and the state; the exit status is 0.
 pub(crate) fn compare_exchange(
     rt: &impl Abort,
     alloc: Global,

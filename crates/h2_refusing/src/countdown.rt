@@ -2,7 +2,8 @@
 
 ghost use Rattle.std.specs.Prelude.{◌≡◌, ◌-◌, ◌||◌, false, nat_eq};
 
-/// How many allocations there are up to and including the one that is refused, 0 where none is or it is past, and whether it is past.
+/// How many allocations there are up to and including the one that is refused, 0 where none is or it is past, and
+/// whether it is past.
 #[derive(Clone, Copy)]
 pub(crate) struct Countdown {
     left: u64,

@@ -1,11 +1,13 @@
 //! The allocator: it counts allocations behind a `&`, and passes all but one on.
-//! No clause can name what a cell holds. So the contracts about the count are those of `Countdown`; that it is kept from call to call is tested in `h2_refusing_examples`.
+//! No clause can name what a cell holds. So the contracts about the count are those of `Countdown`; that it is kept
+//! from call to call is tested in `h2_refusing_examples`.
 
 use crate::countdown::Countdown;
 use std::alloc::{AllocError, Allocator};
 use std::cell::Cell;
 
-/// An allocator that refuses one allocation and passes all other calls on to `inner`. To grow or shrink a block is an allocation too.
+/// An allocator that refuses one allocation and passes all other calls on to `inner`. To grow or shrink a block is an
+/// allocation too.
 ///
 /// Collections take a `&` to it, which is `Copy`.
 #[derive(Drop)]
@@ -28,7 +30,8 @@ impl<B: Allocator> Refusing<B> {
         self.countdown.set(Countdown::new(nth));
     }
 
-    /// Whether an allocation was refused since the count began, by `new` or the last `refuse`. What `inner` refused is not counted.
+    /// Whether an allocation was refused since the count began, by `new` or the last `refuse`. What `inner` refused
+    /// is not counted.
     pub fn has_refused(&self) -> bool {
         self.countdown.get().has_refused()
     }

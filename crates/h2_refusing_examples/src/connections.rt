@@ -48,7 +48,8 @@ fn is_before_an_item(whole: &Whole<'_>, left: &Place) -> bool {
     before.into_iter().any(|place| place == left)
 }
 
-/// Whether a feed of all octets of a run may leave this: all items are taken, or the first few and memory was refused to the next.
+/// Whether a feed of all octets of a run may leave this: all items are taken, or the first few and memory was refused
+/// to the next.
 fn is_expected(whole: &Whole<'_>, left: &Left) -> bool {
     let (answer, failed, place) = left;
     match answer {
@@ -61,7 +62,8 @@ fn is_expected(whole: &Whole<'_>, left: &Left) -> bool {
     }
 }
 
-/// Feeds a run to a new connection with the nth allocation refused, and then a PING if that was answered. Returns whether an allocation was refused.
+/// Feeds a run to a new connection with the nth allocation refused, and then a PING if that was answered. Returns
+/// whether an allocation was refused.
 fn refused_feed(rt: &impl Abort, alloc: Global, whole: &Whole<'_>, nth: u64) -> Result<bool, Fail> {
     let case = (whole.run.name, nth);
     let heap = Refusing::new(alloc, 0);
@@ -149,7 +151,8 @@ fn compare_copy<'h>(
     compare_end(rt, alloc, whole, &mut copy, rest, &mut sent.clone()?, nth)
 }
 
-/// Copies a connection before the rest of a run, with the nth allocation refused, and feeds the rest to the copy, if there is one, and to the connection.
+/// Copies a connection before the rest of a run, with the nth allocation refused, and feeds the rest to the copy, if
+/// there is one, and to the connection.
 /// Returns whether an allocation was refused.
 fn compare_copies<'h>(
     rt: &impl Abort,
@@ -206,7 +209,8 @@ fn copies_leave_the_connection(rt: HostRuntime) -> Result<(), Fail> {
     Ok(())
 }
 
-/// Opens a connection of the first run behind an octet, with the nth allocation refused, and once more if it was. Returns whether it was.
+/// Opens a connection of the first run behind an octet, with the nth allocation refused, and once more if it was.
+/// Returns whether it was.
 fn refused_opening(rt: &impl Abort, alloc: Global, run: &Run, nth: u64) -> Result<bool, Fail> {
     let heap = Refusing::new(alloc, 0);
     let book = book_of(&heap, run)?;

@@ -33,7 +33,8 @@ const ONE_STREAM: &str = "00000c040000000000000300000001000600010000";
 const USUAL_STREAMS: &str = "00000c040000000000000300000064000600010000";
 
 pub(crate) static RUNS: [Run; 4] = [
-    // The second request is refused with REFUSED_STREAM, and its block adds to the table; the last refers to what it added.
+    // The second request is refused with REFUSED_STREAM, and its block adds to the table; the last refers to what it
+    // added.
     Run {
         name: "one stream at a time",
         streams: 1,

@@ -9,7 +9,8 @@ use std::alloc::{AllocError, Global};
 use std::process::Abort;
 use std::test::Fail;
 
-// These have no clause, so that the proof of a test does not carry the definition of each call. What they return is in memory of `Global`.
+// These have no clause, so that the proof of a test does not carry the definition of each call. What they return is
+// in memory of `Global`.
 
 /// The octets that a script represents, as hex, or why it is none.
 fn assembled(
@@ -31,7 +32,8 @@ fn written(alloc: Global, heap: &Heap, octets: &[u8]) -> Result<Option<String>, 
     })
 }
 
-/// Scripts, each the one that is written for its octets, and those as hex (RFC 9113, 3.4, 4.1 and 6.5.1; RFC 7541, C.2.1 and C.3.1).
+/// Scripts, each the one that is written for its octets, and those as hex (RFC 9113, 3.4, 4.1 and 6.5.1; RFC 7541,
+/// C.2.1 and C.3.1).
 static SCRIPTS: [(&str, &str); 2] = [
     (
         "PREFACE\nSETTINGS 00 0 s3=100,6=65536\nHEADERS 05 1 hi2,i6,i4,a1=\"www.example.com\"\nRAW 0000000001\n",
@@ -48,7 +50,8 @@ const BAD_SCRIPT: &str = "PING 00 0 x0102030405060708\n; a comment\nSETTINGS 00 
 
 const BAD_LINE: ScriptFault = ScriptFault::Syntax(3, SyntaxKind::Payload);
 
-/// Assembles a text with the nth allocation refused, and once more if that was the answer. Returns whether an allocation was refused.
+/// Assembles a text with the nth allocation refused, and once more if that was the answer. Returns whether an
+/// allocation was refused.
 fn refused_assembly(
     rt: &impl Abort,
     alloc: Global,
@@ -95,7 +98,8 @@ fn scripts_are_assembled_whole(rt: HostRuntime) -> Result<(), Fail> {
     refused_assemblies(&rt, rt.alloc(), BAD_SCRIPT, Err(BAD_LINE))
 }
 
-/// Writes octets as a script with the nth allocation refused, and once more if that was the answer. Returns whether an allocation was refused.
+/// Writes octets as a script with the nth allocation refused, and once more if that was the answer. Returns whether
+/// an allocation was refused.
 fn refused_writing(
     rt: &impl Abort,
     alloc: Global,

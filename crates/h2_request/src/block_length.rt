@@ -1,5 +1,6 @@
 //! Whether the field block of a response is within its limit, told without writing it.
-//! It rests on nothing; the block is `response_block` of `h2_spec`, specs/Answer.antt, and the lengths of its parts are in
+//! It rests on nothing; the block is `response_block` of `h2_spec`, specs/Answer.antt, and the lengths of its parts
+//! are in
 //! specs/BlockLength.antt.
 
 ghost use Rattle.std.specs.Prelude.{◌≡◌, ◌+◌, ◌<◌, ◌≤◌, ◌==◌, length, false, is_some, nat_lt, position, MatchOption};

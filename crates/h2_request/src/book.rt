@@ -1,5 +1,6 @@
 //! The book of answers: its entries in order, what it refuses, and the answer that a request picks.
-//! It rests on `h2_fields` and `octets`; the definitions are `entry_fault` of `h2_spec`, specs/Book.antt, and `pick_of` and
+//! It rests on `h2_fields` and `octets`; the definitions are `entry_fault` of `h2_spec`, specs/Book.antt, and
+//! `pick_of` and
 //! `picked` of specs/Answer.antt.
 
 ghost use Rattle.std.specs.Prelude.{None, ◌≡◌, ◌≢◌, ◌≤◌, ◌==◌, ◌&&◌, ◌||◌, [], ◌∷◌, ◌++◌, OnOk, OnErr, IfOk, IfErr, MatchOption, codes, length, nat_lt, position, bytes_eq, take};
@@ -102,10 +103,13 @@ impl<A: Allocator + Copy> Book<A> {
     ///
     /// # Errors
     ///
-    /// The first of these that holds; the entry is dropped and the book stays as it was. `BadStatus`: the status is outside
+    /// The first of these that holds; the entry is dropped and the book stays as it was. `BadStatus`: the status is
+    /// outside
     /// 200 to 599. `BadField`: a name or value is ill-formed, or a field is one of a connection, a pseudo-field or
-    /// `content-length` (RFC 9113, 8.2 and 8.3). `BodyNotAllowed`: a body with status 204, 205 or 304, or for the method
-    /// HEAD. `TooLong`: the book has 1000 entries, the body is above 1,048,576 octets, or the response's field block is above
+    /// `content-length` (RFC 9113, 8.2 and 8.3). `BodyNotAllowed`: a body with status 204, 205 or 304, or for the
+    /// method
+    /// HEAD. `TooLong`: the book has 1000 entries, the body is above 1,048,576 octets, or the response's field block
+    /// is above
     /// 16,383. `NoMemory`: the growth was refused.
     pub fn add(&mut self, entry: Entry<A>) -> Result<(), BookFault>
         ensures added { OnOk result (self.new ≡ self.old ++ entry ∷ []) }
@@ -153,7 +157,8 @@ impl<A: Allocator> Book<A> {
         self.entries.len()
     }
 
-    /// Keeps the first `count` entries, in their order, and drops the others; all are kept where there are no more. Takes no memory.
+    /// Keeps the first `count` entries, in their order, and drops the others; all are kept where there are no more.
+    /// Takes no memory.
     pub fn truncate(&mut self, count: usize)
         ensures { self.new ≡ take count self.old }
     {
@@ -210,7 +215,8 @@ impl<A: Allocator> Book<A> {
             .position(|entry| is_entry_for(entry, method, path))
     }
 
-    /// The answer to a request that made this pick: that of the entry, or a bare 404 or 501; a bare 404 too where there is no
+    /// The answer to a request that made this pick: that of the entry, or a bare 404 or 501; a bare 404 too where
+    /// there is no
     /// such entry, which `find` of this book never picks.
     pub fn answer(&self, pick: Pick) -> Answer<'_, A>
         ensures { answered result ≡ picked self.now pick }
@@ -232,7 +238,8 @@ impl<A: Allocator> Book<A> {
         }
     }
 
-    /// The field block of that answer's HEADERS, at most 16,383 octets, without a table size update; it was made when the
+    /// The field block of that answer's HEADERS, at most 16,383 octets, without a table size update; it was made when
+    /// the
     /// entry was added.
     pub fn block(&self, pick: Pick) -> &[u8]
         ensures block { result.now ≡ block_of_answer (picked self.now pick) }

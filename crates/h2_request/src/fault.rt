@@ -17,7 +17,8 @@ pub enum BookFault {
     /// 12: the status is outside 200 to 599.
     #[error("the status is outside 200 to 599")]
     BadStatus,
-    /// 13: a field is ill-formed (RFC 9113, 8.2.1), of a connection (RFC 9113, 8.2.2), a pseudo-field, or `content-length`.
+    /// 13: a field is ill-formed (RFC 9113, 8.2.1), of a connection (RFC 9113, 8.2.2), a pseudo-field, or
+    /// `content-length`.
     #[error("a field may not stand in an answer")]
     BadField,
     /// 14: there is a body with status 204, 205 or 304, or for the method HEAD.

@@ -1,4 +1,5 @@
-//! Requests and the book of answers: which fields make a request or trailers (RFC 9113, 8.1 to 8.5), and what is answered.
+//! Requests and the book of answers: which fields make a request or trailers (RFC 9113, 8.1 to 8.5), and what is
+//! answered.
 //! It rests on `h2_fields` (fields, response blocks) and the definitions of `h2_spec`: Request, Answer, Book and
 //! AnswerWords.
 #![tactic(auto)]

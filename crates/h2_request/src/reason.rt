@@ -1,5 +1,6 @@
 //! Why fields make no request or no trailers (RFC 9113, 8.1.1, 8.2, 8.3 and 8.5).
-//! It rests on nothing; the reasons and their numbers are in `h2_spec`, specs/Request.antt, and in `h2_laws`, specs/Reasons.antt.
+//! It rests on nothing; the reasons and their numbers are in `h2_spec`, specs/Request.antt, and in `h2_laws`,
+//! specs/Reasons.antt.
 
 ghost use Rattle.std.specs.Prelude.{◌≡◌};
 ghost use Rattle.h2_request.specs.ReasonNumber.{reason_number};
@@ -9,7 +10,8 @@ use thiserror::Error;
 /// A reason against fields, in the order of their numbers: of several that hold the least is answered.
 #[derive(Clone, Copy, Debug, PartialEq, Eq)]
 pub enum Reason {
-    /// 1: a name is empty, has an octet 00-20, 41-5a or 7f-ff, or a colon that is not its first octet (RFC 9113, 8.2.1).
+    /// 1: a name is empty, has an octet 00-20, 41-5a or 7f-ff, or a colon that is not its first octet (RFC 9113,
+    /// 8.2.1).
     BadName,
     /// 2: a value has an octet 00, 0a or 0d, or begins or ends with a space or a tab (RFC 9113, 8.2.1).
     BadValue,

@@ -50,7 +50,8 @@ pub fn check<A: Allocator>(fields: &[Field<A>]) -> Result<Request<'_>, Malformed
 ///
 /// # Errors
 ///
-/// `Malformed` with the least reason that stands against the fields: `BadName`, `BadValue`, `UnknownPseudoField` for any
+/// `Malformed` with the least reason that stands against the fields: `BadName`, `BadValue`, `UnknownPseudoField` for
+/// any
 /// pseudo-field, `ConnectionField` or `BadTe` (RFC 9113, 8.1 and 8.2).
 pub fn check_trailers<A: Allocator>(fields: &[Field<A>]) -> Result<(), Malformed>
     ensures accepted { OnOk result (malformed_trailers fields.now ≡ None) }

@@ -1,4 +1,5 @@
--- One setting of a SETTINGS frame, and all of them, where the greatest send window is tested for all (RFC 9113, 6.5 and 6.9.2).
+-- One setting of a SETTINGS frame, and all of them, where the greatest send window is tested for all (RFC 9113, 6.5
+-- and 6.9.2).
 use Rattle.std.specs.Prelude.{ℕ, List, Result, Ok}
 use Rattle.h2_spec.specs.declared.errors.ErrorCode.{ErrorCode}
 use Rattle.h2_spec.specs.declared.flow.Settings.{Settings}

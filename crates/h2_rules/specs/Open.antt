@@ -16,7 +16,8 @@ use Rattle.h2_streams.specs.Put.{can_become}
 abbrev pub state_of : List Entry → Config → ConnectionState → Option OpenBlock → Table → List Stream → State
 state_of book config core block table streams = record { book = book; config = config; core = core; block = block; table = table; streams = streams }
 
--- by what the block is for: a client's stream above the others, one that the peer may still send on, or one that the server may reset
+-- by what the block is for: a client's stream above the others, one that the peer may still send on, or one that the
+-- server may reset
 abbrev pub IsOpenAt : Records → ℕ → Purpose → Type 0
 IsOpenAt r id Request = (r.last < id) × (id % 2 ≡ 1)
 IsOpenAt r id Trailers = is_peer_open (kind_of r.last r.streams id) ≡ true

@@ -104,7 +104,8 @@ fn request_ends<A: Allocator + Copy>(
     with_outcome(opened, outcome)
 }
 
-/// The end of a block of trailers, on a stream that the peer may still send on: it ends the peer's side, or is a stream error.
+/// The end of a block of trailers, on a stream that the peer may still send on: it ends the peer's side, or is a
+/// stream error.
 fn trailers_end<A: Allocator + Copy>(
     book: &Book<A>,
     core: ConnectionState,

@@ -75,7 +75,8 @@ fn is_malformed(ends: bool, summary: BlockSummary) -> bool
     summary.malformed || (ends && declares_content(summary.declared))
 }
 
-/// What becomes of the stream that a request opens, with the number of live streams and the length of its answer's body.
+/// What becomes of the stream that a request opens, with the number of live streams and the length of its answer's
+/// body.
 #[tactic(auto, unfolding(h2_spec::specs::Headers::request_outcome, h2_spec::specs::Stream::octets_waiting))]
 pub fn request_outcome(
     config: Config,
@@ -111,7 +112,8 @@ pub fn request_outcome(
     }
 }
 
-/// What trailers do to their stream: the size of their list, whether a reason holds against them, and the length of the answer's body.
+/// What trailers do to their stream: the size of their list, whether a reason holds against them, and the length of
+/// the answer's body.
 #[tactic(auto, unfolding(h2_spec::specs::Headers::trailers_outcome, h2_spec::specs::Stream::octets_waiting))]
 pub fn trailers_outcome(
     size: u64,

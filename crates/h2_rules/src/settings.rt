@@ -19,7 +19,8 @@ use h2_spec::errors::{ErrorCode, FlowFault};
 use h2_spec::flow::{Settings, Window};
 use h2_spec::reactions::{Change, ConnectionFrame, Reaction, RecordUpdate};
 
-/// Whether the greatest window, if there is one, passes its limit where the initial window goes from one value to another.
+/// Whether the greatest window, if there is one, passes its limit where the initial window goes from one value to
+/// another.
 #[tactic(auto, unfolding(h2_streams::specs::Greatest::overflows_with))]
 fn overflows(greatest: Option<Window>, from: u32, to: u32) -> bool
     ensures { result ≡ overflows_with greatest (moved_by from to) }
@@ -74,7 +75,8 @@ fn settings_applied(
     Ok(now)
 }
 
-/// SETTINGS without ACK: all of the frame, or none of it; `greatest` is the greatest of the send windows that settings move.
+/// SETTINGS without ACK: all of the frame, or none of it; `greatest` is the greatest of the send windows that
+/// settings move.
 #[tactic(auto, unfolding(h2_spec::specs::SettingsFrame::settings_rule))]
 pub fn settings_rule(
     greatest: &Option<Window>,

@@ -1,5 +1,6 @@
 //! Assembling a script, line by line.
-//! It rests on `line`; the definition is `assembled` of `h2_spec`, specs/Assemble.antt, and the law that this is what the
+//! It rests on `line`; the definition is `assembled` of `h2_spec`, specs/Assemble.antt, and the law that this is what
+//! the
 //! script says is `h2_laws::script_laws::scripts_are_read`.
 
 ghost use Rattle.std.specs.Prelude.{◌+◌, ◌<◌};
@@ -16,7 +17,8 @@ use std::alloc::Allocator;
 ///
 /// # Errors
 ///
-/// `Syntax(line, kind)` where a line says nothing: the first such line, counted from 1, and the least kind of fault in it;
+/// `Syntax(line, kind)` where a line says nothing: the first such line, counted from 1, and the least kind of fault
+/// in it;
 /// `NoMemory` where memory was refused before that was found.
 #[tactic(auto, unfolding(h2_spec::specs::Assemble::assembled))]
 pub fn assemble<A: Allocator + Copy>(alloc: A, text: &str) -> Result<Vec<u8, A>, ScriptFault>

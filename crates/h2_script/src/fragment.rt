@@ -63,7 +63,8 @@ fn if_spelled<A: Allocator>(text: String<A>, octets: &[u8], payload: &[u8]) -> O
     (octets == payload).then_some(text)
 }
 
-/// Appends the text and the octets of the instruction at the front, if a script can say it; answers how many octets it takes.
+/// Appends the text and the octets of the instruction at the front, if a script can say it; answers how many octets
+/// it takes.
 fn push_first<A: Allocator + Copy>(
     alloc: A,
     rest: &[u8],

@@ -170,7 +170,8 @@ fn push_frame<A: Allocator>(
     Ok(())
 }
 
-/// The number that the last four octets of a head write: the reserved bit above the stream's identifier (RFC 9113, 4.1).
+/// The number that the last four octets of a head write: the reserved bit above the stream's identifier (RFC 9113,
+/// 4.1).
 fn stream_number(stream: u32, reserved: bool) -> u32
     requires { stream < 2 ^ 31 }
     ensures { result ≡ if reserved then 2 ^ 31 + stream else stream }

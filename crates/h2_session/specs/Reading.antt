@@ -16,7 +16,8 @@ most = 16777216
 abbrev pub ahead : Reading → Option (List ℕ) → Option (List ℕ)
 ahead r remaining = prepend_known r.held remaining
 
--- why nothing can be taken: a read failed, and what was to come is what the device has left; or the most octets were taken, and there is another one
+-- why nothing can be taken: a read failed, and what was to come is what the device has left; or the most octets were
+-- taken, and there is another one
 abbrev pub IsUnread : Option (List ℕ) → Option (List ℕ) → ℕ → Bool → Type 0
 IsUnread before after passed failed = ((failed ≡ true) × Keeps before after)
     ⊎ ((failed ≡ false) × (passed ≡ most) × ((octets : List ℕ) → before ≡ Some octets → 0 < length octets))

@@ -1,4 +1,5 @@
-//! Lines that are taken from an input: the first one as the octets that it spells in hex, each other one as far as a command goes.
+//! Lines that are taken from an input: the first one as the octets that it spells in hex, each other one as far as a
+//! command goes.
 //! Rests on `reader` and on the crates `hex` and arrayvec; definitions: `specs/Lines.antt`, `specs/Reading.antt`.
 
 ghost use Rattle.std.specs.Prelude.{◌≡◌, ◌⊎◌, ◌<◌, ◌≤◌, false, [], ◌∷◌, ◌++◌, Some, None, filter, length, not, take, IfOk, IfErr, IfSome, OnOk, OnErr};
@@ -49,7 +50,8 @@ fn keep_digit(digits: &mut Vec<u8>, octet: u8) -> Result<(), AllocError>
     Ok(())
 }
 
-/// Takes a line, and puts it behind what is in `digits`, without its spaces, tabs and carriage returns. Says how it ends; where the input has ended it
+/// Takes a line, and puts it behind what is in `digits`, without its spaces, tabs and carriage returns. Says how it
+/// ends; where the input has ended it
 /// is empty.
 ///
 /// `Read` where nothing more can be taken, `NoMemory`.
@@ -115,7 +117,8 @@ fn last_end(line: &Line) -> Option<End>
     Some(End::Input)
 }
 
-/// Takes the next line, as far as a command goes, and says how it ends; `None` at the end of the input. Takes no memory.
+/// Takes the next line, as far as a command goes, and says how it ends; `None` at the end of the input. Takes no
+/// memory.
 ///
 /// `Unread` where nothing more can be taken.
 pub fn next_line<I: Input>(

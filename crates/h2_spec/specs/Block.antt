@@ -20,7 +20,8 @@ pub data Fault : Type 0 where
 
 -- ---- one instruction
 
--- what the next instruction of a block depends on: the table, whether a field has come, and whether the block still has to begin with a size update
+-- what the next instruction of a block depends on: the table, whether a field has come, and whether the block still
+-- has to begin with a size update
 pub record DecoderState : Type 0 where
   pub table : Table
   pub begun : Bool
@@ -73,7 +74,8 @@ abbrev pub where_not_due : Bool → Result Given Fault → Result Given Fault
 where_not_due true r = Err SizeUpdate
 where_not_due false r = r
 
--- the effect of one instruction, or why it is refused: a size update is decided first, then an index, then a Huffman string
+-- the effect of one instruction, or why it is refused: a size update is decided first, then an index, then a Huffman
+-- string
 unfoldable pub apply : ℕ → DecoderState → Shape → Result Given Fault
 unfolding field_at insert resize huffman_text
 apply limit d (Update n) = if not d.begun && nat_le n limit then Ok (record { field = None; after = record d { table = resize d.table n; due = false } }) else Err SizeUpdate

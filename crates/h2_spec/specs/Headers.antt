@@ -65,7 +65,8 @@ request_outcome config live body core id ends f =
     else if ends then peer_ended core.peer.size_update_pending body (new_stream core id f)
     else outcome_without_frame core.peer.size_update_pending (new_stream core id f)
 
--- what trailers do to their stream: the size of their list, whether a reason holds against them, and the length of the answer's body
+-- what trailers do to their stream: the size of their list, whether a reason holds against them, and the length of
+-- the answer's body
 unfoldable pub trailers_outcome : ℕ → Bool → ℕ → Bool → Bool → Stream → StreamOutcome
 unfolding peer_ended
 trailers_outcome size malformed body size_update_pending ends st =

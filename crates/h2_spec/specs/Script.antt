@@ -11,7 +11,8 @@ use Rattle.h2_spec.specs.declared.scripts.SyntaxKind.TheVariants as kind
 
 -- ---- what can be said
 
--- a payload: octets, settings as identifier and value, a window's increment, an error code, or instructions, whose strings are texts
+-- a payload: octets, settings as identifier and value, a window's increment, an error code, or instructions, whose
+-- strings are texts
 pub data Payload : Type 0 where
   Empty : Payload
   Octets : List ℕ → Payload
@@ -20,7 +21,8 @@ pub data Payload : Type 0 where
   Code : ℕ → Payload
   Instructions : List Instruction → Payload
 
--- a line: nothing, the client's preface, octets as they are, or a frame by its type, flags, stream, reserved bit and payload
+-- a line: nothing, the client's preface, octets as they are, or a frame by its type, flags, stream, reserved bit and
+-- payload
 pub data Statement : Type 0 where
   Nothing : Statement
   Preface : Statement
@@ -158,7 +160,8 @@ abbrev pub SaysStream : List ℕ → ℕ → Bool → Type 0
 SaysStream text stream false = SaysNumber max_stream text stream
 SaysStream text stream true = (digits : List ℕ) × (text ≡ digits ++ codes "R") × SaysNumber max_stream digits stream
 
--- the line says the statement; a frame's four parts have one space between, and its payload is everything behind the third
+-- the line says the statement; a frame's four parts have one space between, and its payload is everything behind the
+-- third
 abbrev pub Says : List ℕ → Statement → Type 0
 Says text Nothing = (text ≡ []) ⊎ (slice_get text 0 ≡ Some 59)
 Says text Preface = text ≡ codes "PREFACE"
@@ -214,7 +217,8 @@ IsFrameLine line = (first_word line ≢ codes "PREFACE") × (first_word line ≢
 abbrev pub HasParts : (FourParts → Type 0) → List ℕ → Type 0
 HasParts P line = IsFrameLine line × ((p : FourParts) × (parts_of line ≡ Some p) × P p)
 
--- the first word is PREFACE with a space behind it, or RAW without digits, or neither and there are fewer than three spaces
+-- the first word is PREFACE with a space behind it, or RAW without digits, or neither and there are fewer than three
+-- spaces
 abbrev pub HasBadParts : List ℕ → Type 0
 HasBadParts line =
     ((first_word line ≡ codes "PREFACE") × (line ≢ codes "PREFACE")) ⊎ ((line ≡ codes "RAW") ⊎ ((line ≡ codes "RAW ") ⊎ (IsFrameLine line × (parts_of line ≡ None))))

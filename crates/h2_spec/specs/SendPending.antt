@@ -1,4 +1,5 @@
--- Sending what waits, as far as the windows go (RFC 9113, 5.2 and 6.9): each stream in turn sends the least of what waits on it, its own window and what is left of the connection's,
+-- Sending what waits, as far as the windows go (RFC 9113, 5.2 and 6.9): each stream in turn sends the least of what
+-- waits on it, its own window and what is left of the connection's,
 -- in DATA of the peer's frame size and one last, shorter or equal, which has END_STREAM where nothing waits any more.
 use Rattle.std.specs.Prelude.{ℕ, zero, suc, ◌-◌, Bool, false, List, [], ◌∷◌, ◌++◌, length, min, take, drop, nat_le, ◌==◌, if◌then◌else◌, pos, ◌-ℤ◌}
 use Rattle.h2_spec.specs.declared.streams.Stream.{Stream}

@@ -18,7 +18,8 @@ abbrev pub setting_next : List Stream → Settings → Result Settings ErrorCode
 setting_next streams from (Err code) follow = Err code
 setting_next streams from (Ok now) follow = if overflows (moved_by from.window now.window) streams then Err FlowControlError else follow now
 
--- the settings after those of a frame in their order, where they were these before it; the first one that is refused decides
+-- the settings after those of a frame in their order, where they were these before it; the first one that is refused
+-- decides
 unfoldable pub settings_applied : List Stream → Settings → Settings → List (ℕ × ℕ) → Result Settings ErrorCode
 unfolding overflows with_setting
 settings_applied streams from now [] = Ok now

@@ -1,4 +1,5 @@
--- The text of a view, line by line: numbers are decimal, a missing value and no octets are a dash, flags 0 or 1, octets lower-case hex.
+-- The text of a view, line by line: numbers are decimal, a missing value and no octets are a dash, flags 0 or 1,
+-- octets lower-case hex.
 use Rattle.std.specs.Prelude.{ℕ, ◌+◌, Bool, true, false, List, [], ◌∷◌, ◌++◌, length, codes, decimal, Option, Some, None}
 use Rattle.std.specs.Fmt.{signed_decimal}
 use Rattle.hex.specs.Hex.{encode_lower}

@@ -24,7 +24,8 @@ pub record OpenBlock : Type 0 where
   pub shown : BlockView
   pub decoding : Option Decoding
 
--- the book and the limits; what is counted; the open block; the header table; the records of streams in the order of their opening
+-- the book and the limits; what is counted; the open block; the header table; the records of streams in the order of
+-- their opening
 pub record State : Type 0 where
   pub book : List Entry
   pub config : Config

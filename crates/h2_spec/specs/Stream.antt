@@ -80,7 +80,8 @@ pub record Records : Type 0 where
 abbrev pub no_records : Records
 no_records = record { streams = []; last = 0 }
 
--- records in the order of their opening: odd identifiers that rise above the first number and are not above the second (5.1.1)
+-- records in the order of their opening: odd identifiers that rise above the first number and are not above the
+-- second (5.1.1)
 abbrev pub AreRising : ℕ → ℕ → List Stream → Type 0
 AreRising low last [] = Unit {0}
 AreRising low last (st ∷ sts) = (low < st.id) × (st.id % 2 ≡ 1) × (st.id ≤ last) × AreRising st.id last sts

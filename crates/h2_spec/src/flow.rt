@@ -13,7 +13,8 @@ pub const MAX_WINDOW: u32 = 2_147_483_647;
 
 /// A flow-control window: how many octets may still come or go, at most 2147483647 (RFC 9113, 6.9.1).
 ///
-/// Settings can make it negative (RFC 9113, 6.9.2); nothing then goes until it has risen above 0. Contracts see the integer.
+/// Settings can make it negative (RFC 9113, 6.9.2); nothing then goes until it has risen above 0. Contracts see the
+/// integer.
 #[derive(Clone, Copy, Debug, PartialEq, Eq)]
 pub struct Window {
     size: i32,
@@ -76,7 +77,8 @@ impl Window {
         Ok(())
     }
 
-    /// Moves it by a change of SETTINGS_INITIAL_WINDOW_SIZE (RFC 9113, 6.9.2); it may become negative, not below -2147483648.
+    /// Moves it by a change of SETTINGS_INITIAL_WINDOW_SIZE (RFC 9113, 6.9.2); it may become negative, not below
+    /// -2147483648.
     ///
     /// `Overflow` where it would pass 2147483647; then it stays as it is.
     pub fn shift(&mut self, delta: i64) -> Result<(), FlowFault>
@@ -185,7 +187,8 @@ impl Credit {
         Credit { octets: 0 }
     }
 
-    /// Owes the peer these octets too, and answers how many are to be given back now: all that are owed, once they reach the threshold.
+    /// Owes the peer these octets too, and answers how many are to be given back now: all that are owed, once they
+    /// reach the threshold.
     pub fn owe(&mut self, count: u32, threshold: u32) -> Option<u32>
         requires { self.old + count < 2 ^ 32 }
         ensures answer { result ≡ given_back threshold (self.old + count) }
@@ -267,7 +270,8 @@ impl Settings {
         }
     }
 
-    /// Applies one setting, and answers by how much the initial window changes; other identifiers change nothing (RFC 9113, 6.5.2).
+    /// Applies one setting, and answers by how much the initial window changes; other identifiers change nothing (RFC
+    /// 9113, 6.5.2).
     ///
     /// `BadSetting` with the error code where the value is not allowed; then the settings stay as they are.
     #[tactic(auto, unfolding(crate::specs::Settings::with_setting))]

@@ -1,4 +1,5 @@
-//! What a rule answers: a connection error, or a small change with at most one frame of each place in the order of sending.
+//! What a rule answers: a connection error, or a small change with at most one frame of each place in the order of
+//! sending.
 //! Rests on `errors`, `streams` and `connection`; definitions: `specs/Change.antt`.
 
 use crate::connection::ConnectionState;
@@ -45,7 +46,8 @@ pub struct Answering {
     pub size_update_pending: bool,
 }
 
-/// What a rule of one stream answers: its record, what is sent on it, and whether a table size update is still to be sent.
+/// What a rule of one stream answers: its record, what is sent on it, and whether a table size update is still to be
+/// sent.
 #[derive(Clone, Copy)]
 pub struct StreamOutcome {
     pub stream: Stream,
@@ -79,7 +81,8 @@ pub struct ReceivedData {
     pub ends: bool,
 }
 
-/// What the fields of a block result in: their size, whether a reason holds against them, what they declare, and the answer that is picked.
+/// What the fields of a block result in: their size, whether a reason holds against them, what they declare, and the
+/// answer that is picked.
 #[derive(Clone, Copy)]
 pub struct BlockSummary {
     pub size: u64,

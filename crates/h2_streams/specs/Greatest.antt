@@ -1,4 +1,5 @@
--- The greatest of the send windows that settings move: whether a move takes one of them too far is seen from it alone (RFC 9113, 6.9.2).
+-- The greatest of the send windows that settings move: whether a move takes one of them too far is seen from it alone
+-- (RFC 9113, 6.9.2).
 use Rattle.std.specs.Prelude.{◌≡◌, Bool, false, List, Option, Some, None, ℤ, ◌+ℤ◌}
 use Rattle.h2_spec.specs.declared.streams.Stream.{Stream}
 use Rattle.h2_spec.specs.Window.{is_above_max}

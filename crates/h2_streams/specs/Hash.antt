@@ -13,6 +13,7 @@ halves_exchanged n = n % 65536 * 65536 + n / 65536
 abbrev pub bit_turned : ℕ → ℕ
 bit_turned n = n / 2 + n % 2 * 2147483648
 
--- a product by 2^32 divided by the golden ratio, an odd number, which spreads neighbours evenly over the groups of the map
+-- a product by 2^32 divided by the golden ratio, an odd number, which spreads neighbours evenly over the groups of
+-- the map
 abbrev pub spread : ℕ → ℕ
 spread id = halves_exchanged (bit_turned id * 2654435769 % 2 ^ 32)

@@ -1,5 +1,6 @@
 //! The hash of a stream's identifier, for the map of the records.
-//! A turn by one bit, a product by an odd number and an exchange of halves: two identifiers never have one hash, and the
+//! A turn by one bit, a product by an odd number and an exchange of halves: two identifiers never have one hash, and
+//! the
 //! odd identifiers of clients are spread evenly over the groups of the map.
 //! Definition: `specs/Hash.antt`.
 

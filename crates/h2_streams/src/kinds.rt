@@ -75,7 +75,8 @@ pub(crate) fn peer_closed(stream: Stream) -> Stream
     }
 }
 
-/// The stream after the server's last frame: nothing waits any more, and it ends where the peer's side has ended (RFC 9113, 5.1).
+/// The stream after the server's last frame: nothing waits any more, and it ends where the peer's side has ended (RFC
+/// 9113, 5.1).
 #[tactic(auto, unfolding(h2_spec::specs::StreamEnds::server_ended))]
 pub fn server_ended(stream: Stream) -> Stream
     ensures value { result ≡ ends.server_ended stream }

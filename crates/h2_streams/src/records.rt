@@ -231,14 +231,16 @@ impl<A: Allocator> Streams<A> {
         first_waiting(&self.records, ids_above(self.live.as_slice(), after))
     }
 
-    /// The greatest of the send windows that settings move, if there is one: it alone decides whether a move takes a window too far (RFC 9113, 6.9.2).
+    /// The greatest of the send windows that settings move, if there is one: it alone decides whether a move takes a
+    /// window too far (RFC 9113, 6.9.2).
     pub fn greatest_send(&self) -> Option<Window>
         ensures { IsGreatest result self.now.streams }
     {
         greatest_of(&self.records, self.live.as_slice())
     }
 
-    /// Moves the send windows of the streams that settings move, as SETTINGS_INITIAL_WINDOW_SIZE changes by `delta` (RFC 9113, 6.9.2).
+    /// Moves the send windows of the streams that settings move, as SETTINGS_INITIAL_WINDOW_SIZE changes by `delta`
+    /// (RFC 9113, 6.9.2).
     /// A window may become negative, but not less than -2147483648.
     /// `Overflow`, and nothing is changed, where one would pass 2147483647.
     pub fn shift_send(&mut self, delta: i64) -> Result<(), FlowFault>
@@ -279,7 +281,8 @@ impl<A: Allocator> Streams<A> {
     }
 }
 
-/// Whether the stream is idle, where the last one that was opened is this: even identifiers are the server's, which opens none.
+/// Whether the stream is idle, where the last one that was opened is this: even identifiers are the server's, which
+/// opens none.
 fn is_idle(last: u32, id: u32) -> bool
     ensures { result ≡ (id % 2 == 0 || nat_lt last id) }
 {
@@ -315,7 +318,8 @@ fn append<A: Allocator>(
     Ok(())
 }
 
-/// Writes a record in the place of the one with its identifier, if there is one, and answers what that one was counted as.
+/// Writes a record in the place of the one with its identifier, if there is one, and answers what that one was
+/// counted as.
 fn write<A: Allocator>(records: &mut IndexMap<u32, Stream, IdHash, A>, stream: Stream) -> usize
     ensures written { records.new.entries ≡ set_value (nat_eq stream.id) records.old.entries stream }
     ensures before { result ≡ kept.counted_at records.old.entries stream.id }

@@ -1,5 +1,6 @@
 //! The static table (RFC 7541, 2.3.1 and Appendix A): 61 fields that every decoder knows.
-//! It rests on nothing but its own constant table; the definition is `static_field` of `h2_spec`, specs/StaticTable.antt.
+//! It rests on nothing but its own constant table; the definition is `static_field` of `h2_spec`,
+//! specs/StaticTable.antt.
 
 ghost use Rattle.std.specs.Prelude.{◌≡◌, option_map, map, slice_get};
 ghost use Rattle.h2_spec.specs.StaticTable as spec;

@@ -1,5 +1,6 @@
 //! What is shown of a connection's state.
-//! Rests on h2_table, h2_streams and, for the fields of the header table, on h2_fields; definition: h2_spec's `specs/View.antt`.
+//! Rests on h2_table, h2_streams and, for the fields of the header table, on h2_fields; definition: h2_spec's
+//! `specs/View.antt`.
 
 ghost use Rattle.std.specs.Prelude.{◌≡◌, ◌<◌, ◌^◌, IfOk, length, map, option_map, slice_get};
 ghost use Rattle.h2_spec.specs.Field.{field};

@@ -88,7 +88,8 @@ bench_app =
 
 -- ---- what words ask for
 
--- a book of answers: the path of its file, empty where there is none; whether the reason of a refused entry is written; the words of further answers
+-- a book of answers: the path of its file, empty where there is none; whether the reason of a refused entry is
+-- written; the words of further answers
 pub record BookAsked : Type 0 where
   pub file : Text
   pub why : Bool

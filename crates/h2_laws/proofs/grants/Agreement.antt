@@ -99,7 +99,8 @@ Bodies book (st ∷ sts) = HasBody book st × Bodies book sts
 
 -- ---- the open block
 
--- a request's block is on a stream above the last one, and the others are on streams that have a record; nothing follows the server's reset
+-- a request's block is on a stream above the last one, and the others are on streams that have a record; nothing
+-- follows the server's reset
 abbrev pub IsPlaced : Purpose → ℕ → List Stream → ℕ → Type 0
 IsPlaced Request last streams j = last < j
 IsPlaced Trailers last streams j = IsRecorded (stream_at last streams j).kind

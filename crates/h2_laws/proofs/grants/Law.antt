@@ -70,7 +70,8 @@ when_so P false h = tt
 
 -- ---- one item
 
--- what holds after it: the tests, the order of the records, and unless it has ended the connection all that they rest on
+-- what holds after it: the tests, the order of the records, and unless it has ended the connection all that they rest
+-- on
 record Steps (book : List Entry) (id : ℕ) (t u : Tally) (st : Step) : Type 0 where
   kept : (g : Tally) → g ≡ cond (has_ended st.state.core.phase) t u → Meets id (has_ended st.state.core.phase) g st.sent
   ordered : Rise 0 st.state.core.last st.state.streams

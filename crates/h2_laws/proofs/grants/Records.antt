@@ -1,4 +1,5 @@
--- The list of records: what is found in it, and a record put into it, for the stream that is followed and for the others.
+-- The list of records: what is found in it, and a record put into it, for the stream that is followed and for the
+-- others.
 use Rattle.std.proofs.Common.{◌≡◌, ℕ, ◌%◌, ◌<◌, ◌≤◌, Bool, true, false, cond, List, [], ◌∷◌, refl, sym, ap, subst, ◌∙◌, arith, eqb, ltb, Option, Some, None}
 use Rattle.std.proofs.lemmas.Bool.{eqb-true, eq-eqb, ltb-true, ltb-false, both_ways}
 use Rattle.h2_spec.specs.declared.streams.Kind.TheVariants.{Idle, Skipped}

@@ -1,4 +1,5 @@
--- The rules of an item keep the tests, and what state and tally have to do with each other: DATA, RST_STREAM, WINDOW_UPDATE.
+-- The rules of an item keep the tests, and what state and tally have to do with each other: DATA, RST_STREAM,
+-- WINDOW_UPDATE.
 use Rattle.std.proofs.Common.{◌≡◌, ℕ, ◌+◌, ◌<◌, ◌≤◌, Bool, true, false, cond, ◌&&◌, List, [], ◌∷◌, ◌++◌, refl, sym, subst, ◌∙◌, arith, eqb, append_assoc, Option, Some, None}
 use Rattle.std.proofs.lemmas.Bool.{eqb-true, ne_eqb}
 use Rattle.std.proofs.lemmas.Int.{ints}
@@ -279,7 +280,8 @@ re-agrees id s t n x none f busy = record {
   of_block = subst (λ o. BlockStands id s.core.last s.streams o n) (sym none) tt;
 }
 
--- what is kept where a frame on stream j makes this of the mark of its stream, and has this rule where the stream is live, and none where it is not
+-- what is kept where a frame on stream j makes this of the mark of its stream, and has this rule where the stream is
+-- live, and none where it is not
 record ByState (id : ℕ) (s : State) (t : Tally) (p : List ℕ) (j : ℕ) (n : Mark) (rule : Stream → StreamOutcome) : Type 0 where
   live : (k : Kind) → IsLive k → IsRecorded k → (stream_at s.core.last s.streams j).kind ≡ k → Moves s.book id (with_mark_on id j t n) p s (with_outcome (only_counts s.core) (rule (stream_at s.core.last s.streams j)))
   over : (k : Kind) → IsOver k → IsRecorded k → (stream_at s.core.last s.streams j).kind ≡ k → Moves s.book id (with_mark_on id j t n) p s (only_counts s.core)
