@@ -5,7 +5,9 @@ use h2_conn::play::play;
 use h2_conn::view::View;
 use h2_conn::{Conn, ConnFault};
 use h2_request::book::Book;
+use h2_script::assemble;
 use h2_spec::connection::{Config, Phase};
+use h2_spec::frames::PREFACE;
 use h2_spec::streams::Kind;
 use std::alloc::{AllocError, Global};
 use std::test::Fail;
@@ -295,15 +297,14 @@ fn played(
 
 #[test]
 fn runs_are_played(rt: HostRuntime) -> Result<(), Fail> {
-    // SETTINGS, and a request on stream 1 of one field, `:method: GET`, which is malformed (RFC 9113, 8.3.1).
-    let octets =
-        b"PRI * HTTP/2.0\r\n\r\nSM\r\n\r\n\x00\x00\x00\x04\x00\x00\x00\x00\x00\x00\x00\x01\x01\x05\x00\x00\x00\x01\x82";
-    // SETTINGS of 100 streams and 65536 octets of fields, the acknowledgement, RST_STREAM with PROTOCOL_ERROR.
-    let answers =
-        b"\x00\x00\x0c\x04\x00\x00\x00\x00\x00\x00\x03\x00\x00\x00\x64\x00\x06\x00\x01\x00\x00\x00\x00\x00\x04\x01\x00\x00\x00\x00\x00\x00\x04\x03\x00\x00\x00\x00\x01\x00\x00\x00\x01";
+    let alloc = rt.alloc();
+    // A request on stream 1 of one field, `:method: GET`, which is malformed (RFC 9113, 8.3.1).
+    let octets = assemble(alloc, "PREFACE\nSETTINGS 00 0 -\nHEADERS 05 1 hi2")?;
+    let answers = "SETTINGS 00 0 s3=100,6=65536\nSETTINGS 01 0 -\nRST_STREAM 00 1 c1";
+    let answers = assemble(alloc, answers)?;
     for lengths in [[].as_slice(), [1, 24, 100].as_slice()] {
-        let mut sent = Vec::new(rt.alloc());
-        let (phase, last, streams) = played(rt.alloc(), octets, lengths, &mut sent)?;
+        let mut sent = Vec::new(alloc);
+        let (phase, last, streams) = played(alloc, octets.as_slice(), lengths, &mut sent)?;
         let found = (phase, last, streams.as_slice(), sent.as_slice());
         let streams = [(1, Kind::WeReset)];
         let wanted = (Phase::Running, 1, streams.as_slice(), answers.as_slice());

@@ -4,6 +4,7 @@ ghost use Rattle.std.specs.Prelude.{◌≡◌, false};
 
 use crate::same::same;
 use h2_frame::{FrameRef, Head, Item, Splitter, read_head, write_frame};
+use h2_spec::frames::PREFACE;
 use linked_list_allocator::LocalHeap;
 use std::alloc::{AllocError, Allocator, Global};
 use std::process::Abort;

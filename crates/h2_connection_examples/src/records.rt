@@ -19,7 +19,7 @@ fn numbers(send: u32, left: Option<u64>) -> Numbers
         send: Window::start(send),
         content_received: 0,
         declared: None,
-        left,
+        body_remaining: left,
     }
 }
 

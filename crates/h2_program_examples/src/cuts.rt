@@ -1,24 +1,31 @@
 //! The same octets in other pieces, and the beginnings of octets (RFC 9113, 4.1).
 
-use crate::digits::{digits_of, octets_of};
-use crate::program::{compare, ran};
+use crate::digits::digits_of;
+use crate::program::{assembled, compare, ran};
 use crate::same::same;
 use h2_bench::parse_answer;
 use h2_conn::play::open_and_feed;
 use h2_conn::{Conn, ConnFault};
 use h2_request::book::Book;
+use h2_script::assemble;
 use h2_spec::connection::Config;
 use std::alloc::{AllocError, Global};
 use std::process::Abort;
 use std::test::Fail;
 
-/// Three requests where one stream may be open, and DATA that ends the first, as hex.
-const ONE_AT_A_TIME: &str =
-    "505249202a20485454502f322e300d0a0d0a534d0d0a0d0a0000000400000000000000030104000000018286840000080105000000038286844001610162000000000100000001000004010500000005828684be";
+/// Three requests where one stream may be open, and DATA that ends the first.
+const ONE_AT_A_TIME: &str = "PREFACE\n\
+                             SETTINGS 00 0 -\n\
+                             HEADERS 04 1 hi2,i6,i4\n\
+                             HEADERS 05 3 hi2,i6,i4,a\"a\"=\"b\"\n\
+                             DATA 01 1 -\n\
+                             HEADERS 05 5 hi2,i6,i4,i62";
 
-/// A request in two frames, as hex.
-const IN_TWO_FRAMES: &str =
-    "505249202a20485454502f322e300d0a0d0a534d0d0a0d0a000000040000000000000007010100000001828684418cf1e300000a090400000001c2e5f23a6ba0ab90f4ff";
+/// A request in two frames.
+const IN_TWO_FRAMES: &str = "PREFACE\n\
+                             SETTINGS 00 0 -\n\
+                             HEADERS 01 1 x828684418cf1e3\n\
+                             CONTINUATION 04 1 xc2e5f23a6ba0ab90f4ff";
 
 /// At most one stream open, and the usual credit.
 fn one_stream() -> Config {
@@ -32,19 +39,20 @@ fn one_stream() -> Config {
 static LENGTHS: [&str; 7] = ["0", "1", "2", "3", "7", "33", "65536"];
 
 /// Compares what is printed where the octets of a request come in pieces of each length.
-fn compare_lengths(rt: &impl Abort, alloc: Global, whole: &[u8]) {
+fn compare_lengths(rt: &impl Abort, alloc: Global, hex: &[u8], whole: &[u8]) {
     for cut in &LENGTHS {
         let words = ["play", "--cut", cut, "GET|/|200|6869"];
-        compare(rt, alloc, cut, &words, IN_TWO_FRAMES.as_bytes(), (0, whole));
+        compare(rt, alloc, cut, &words, hex, (0, whole));
     }
 }
 
 #[test]
 fn pieces_change_nothing(rt: HostRuntime) -> Result<(), Fail> {
     let words = ["play", "GET|/|200|6869"];
-    let whole = ran(rt.alloc(), words.as_slice(), IN_TWO_FRAMES.as_bytes())?;
+    let hex = assembled(rt.alloc(), IN_TWO_FRAMES)?;
+    let whole = ran(rt.alloc(), words.as_slice(), hex.as_bytes())?;
     same(&rt, &whole.0, &0, &"the exit status");
-    compare_lengths(&rt, rt.alloc(), whole.1.as_slice());
+    compare_lengths(&rt, rt.alloc(), hex.as_bytes(), whole.1.as_slice());
     Ok(())
 }
 
@@ -160,41 +168,51 @@ fn compare_cuts(
     compare_pieces(rt, alloc, book, octets, lengths.as_slice(), &whole, &case)
 }
 
-/// The same of octets in hex.
-fn compare_cuts_of_hex(
+/// The same of the octets of a script.
+fn compare_cuts_of_script(
     rt: &impl Abort,
     alloc: Global,
     book: &Book<Global>,
     name: &str,
-    hex: &str,
+    script: &str,
 ) -> Result<(), Fail> {
-    let octets = octets_of(alloc, hex)?;
+    let octets = assemble(alloc, script)?;
     compare_cuts(rt, alloc, book, name, octets.as_slice())
 }
 
-/// Octets in hex, by name.
+/// Scripts, by name.
 static CUT: [(&str, &str); 5] = [
     (
         "a request",
-        "505249202a20485454502f322e300d0a0d0a534d0d0a0d0a000000040000000000000014010500000001828684410f7777772e6578616d706c652e636f6d",
+        "PREFACE\n\
+         SETTINGS 00 0 -\n\
+         HEADERS 05 1 hi2,i6,i4,a1=\"www.example.com\"",
     ),
     ("a request in two frames", IN_TWO_FRAMES),
     (
         "DATA for a stream that was reset",
-        "505249202a20485454502f322e300d0a0d0a534d0d0a0d0a000000040000000000000006040000000000000400000000000014010500000001828684410f7777772e6578616d706c652e636f6d000003000000000001616263000003000000000001616263",
+        "PREFACE\n\
+         SETTINGS 00 0 -\n\
+         SETTINGS 00 0 s4=0\n\
+         HEADERS 05 1 hi2,i6,i4,a1=\"www.example.com\"\n\
+         DATA 00 1 x616263\n\
+         DATA 00 1 x616263",
     ),
     ("one stream at a time", ONE_AT_A_TIME),
     (
         "more content than declared",
-        "505249202a20485454502f322e300d0a0d0a534d0d0a0d0a0000000400000000000000070104000000018386840f0d013300000400010000000161626364",
+        "PREFACE\n\
+         SETTINGS 00 0 -\n\
+         HEADERS 04 1 hi3,i6,i4,n28=\"3\"\n\
+         DATA 01 1 x61626364",
     ),
 ];
 
 #[test]
 fn cuts_change_nothing(rt: HostRuntime) -> Result<(), Fail> {
     let book = book_of_one(rt.alloc())?;
-    for (name, hex) in &CUT {
-        compare_cuts_of_hex(&rt, rt.alloc(), &book, name, hex)?;
+    for (name, script) in &CUT {
+        compare_cuts_of_script(&rt, rt.alloc(), &book, name, script)?;
     }
     Ok(())
 }
@@ -203,7 +221,7 @@ fn cuts_change_nothing(rt: HostRuntime) -> Result<(), Fail> {
 fn beginnings_send_beginnings(rt: HostRuntime) -> Result<(), Fail> {
     let alloc = rt.alloc();
     let book = no_answers(alloc);
-    let octets = octets_of(alloc, ONE_AT_A_TIME)?;
+    let octets = assemble(alloc, ONE_AT_A_TIME)?;
     let (sent, _) = played(alloc, &book, octets.as_slice(), &[])?;
     for end in 0..octets.len() {
         let (first, _) = played(alloc, &book, &octets.as_slice()[..end], &[])?;
@@ -265,6 +283,6 @@ fn compare_places_from_the_opening(
 
 #[test]
 fn beginnings_are_played_as_octets_come(rt: HostRuntime) -> Result<(), Fail> {
-    let octets = octets_of(rt.alloc(), ONE_AT_A_TIME)?;
+    let octets = assemble(rt.alloc(), ONE_AT_A_TIME)?;
     compare_places_from_the_opening(&rt, rt.alloc(), octets.as_slice())
 }
