@@ -160,7 +160,10 @@ fn closed_end<A: Allocator>(
     with_outcome(only_counts(core), outcome)
 }
 
-/// What a block results in at its end, by its purpose.
+/// What a block results in at its end, by its purpose (RFC 9113, 4.3 and 8.1). A request opens its stream, or is refused
+/// as `request_outcome` says; trailers end the peer's side, or are refused as `trailers_outcome` says; a block on a
+/// stream whose peer's side has ended is a stream error STREAM_CLOSED (5.1); after a stream error of the server the
+/// block changes the header table alone.
 pub fn block_ends<A: Allocator + Copy>(
     book: &Book<A>,
     config: Config,

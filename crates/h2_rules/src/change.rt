@@ -30,7 +30,7 @@ pub fn outcome_without_frame(size_update_pending: bool, stream: Stream) -> Strea
     }
 }
 
-/// A stream error (RFC 9113, 5.4.2).
+/// A stream error (RFC 9113, 5.4.2): RST_STREAM with this code is sent, and the stream is one that the server has reset.
 #[tactic(auto, unfolding(h2_spec::specs::Stream::octets_waiting))]
 pub fn stream_error(size_update_pending: bool, id: u32, code: ErrorCode) -> StreamOutcome
     ensures rule { result ≡ changes.stream_error size_update_pending id code }

@@ -47,7 +47,10 @@ fn is_misplaced(head: &Head) -> bool
     }
 }
 
-/// The code of the first of these checks that fails, with the stream of the open block if there is one.
+/// The connection error that the head of a frame is, whatever its payload: PROTOCOL_ERROR where another frame than its
+/// CONTINUATION comes inside a block (RFC 9113, 6.10), where the first frame is not SETTINGS without ACK (3.4), and
+/// where the stream is 0 or not 0 against the rule of its type (6). `block` is the stream of the open block, if there
+/// is one.
 #[tactic(auto, unfolding(h2_spec::specs::Checks::refusal))]
 pub fn refusal(block: Option<u32>, phase: Phase, head: &Head) -> Option<ErrorCode>
     ensures { result ≡ rule.refusal block phase head.now }

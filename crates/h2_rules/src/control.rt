@@ -23,7 +23,7 @@ pub fn nothing(core: ConnectionState) -> Reaction
     Reaction::Continues(only_counts(core))
 }
 
-/// PING: answered, unless it is an answer itself (RFC 9113, 6.7).
+/// PING (RFC 9113, 6.7): answered, unless it is an answer itself (`is_answer`), which is ignored. There is no error.
 pub fn on_ping(core: ConnectionState, is_answer: bool) -> Reaction
     requires core { IsSoundConnectionState core }
     ensures rule { result ≡ (if is_answer then rule.nothing core else reactions.Continues (record (changes.only_counts core) { first = frames.PingAck })) }
@@ -39,7 +39,8 @@ pub fn on_ping(core: ConnectionState, is_answer: bool) -> Reaction
     })
 }
 
-/// GOAWAY: the last stream and the code of the latest one are kept (RFC 9113, 6.8).
+/// GOAWAY (RFC 9113, 6.8): the last stream and the code of the latest one are kept, and nothing else changes. There is
+/// no error.
 pub fn on_goaway(core: ConnectionState, last: u32, code: u32) -> Reaction
     requires core { IsSoundConnectionState core }
     ensures rule { result ≡ reactions.Continues (changes.only_counts (record core { goaway = Some (last, code) })) }

@@ -125,7 +125,20 @@ fn data_outcome(
     }
 }
 
-/// DATA on a stream, with the length of the body of the stream's answer.
+/// DATA on a stream (RFC 9113, 5.1, 5.2, 6.1 and 6.9); `body` is the length of the body of the stream's answer, in octets.
+///
+/// All octets of the payload count, padding included.
+///
+/// # Errors
+///
+/// - On an idle stream: connection error PROTOCOL_ERROR. On one that was skipped, has ended, or was reset by the peer:
+///   connection error STREAM_CLOSED.
+/// - Above the connection's receive window: connection error FLOW_CONTROL_ERROR.
+/// - On a stream whose peer's side has ended: stream error STREAM_CLOSED. The octets count on the connection.
+/// - Above the stream's receive window: stream error FLOW_CONTROL_ERROR.
+/// - More content than `content-length` declared, or less at END_STREAM: stream error PROTOCOL_ERROR (8.1.1).
+///
+/// On a stream that the server has reset, the octets count on the connection and nothing else happens.
 #[tactic(auto, unfolding(h2_spec::specs::Effect::on_data))]
 pub fn on_data(
     config: Config,

@@ -75,8 +75,17 @@ fn is_malformed(ends: bool, summary: BlockSummary) -> bool
     summary.malformed || (ends && declares_content(summary.declared))
 }
 
-/// What becomes of the stream that a request opens, with the number of live streams and the length of its answer's
-/// body.
+/// What becomes of the stream that a request opens (RFC 9113, 8.1): it is answered where the request has ended, and
+/// waits for content and trailers where it has not. `live` is the number of live streams, `body` the length of the
+/// answer's body in octets.
+///
+/// # Errors
+///
+/// The first that applies, each a stream error:
+///
+/// - As many live streams as `config` allows: REFUSED_STREAM (5.1.2).
+/// - A list of fields above 65536 octets (6.5.2): ENHANCE_YOUR_CALM.
+/// - A malformed request (8.1.1), or one that ends although it declares content: PROTOCOL_ERROR.
 #[tactic(auto, unfolding(h2_spec::specs::Headers::request_outcome, h2_spec::specs::Stream::octets_waiting))]
 pub fn request_outcome(
     config: Config,
@@ -112,8 +121,15 @@ pub fn request_outcome(
     }
 }
 
-/// What trailers do to their stream: the size of their list, whether a reason holds against them, and the length of
-/// the answer's body.
+/// What trailers do to their stream (RFC 9113, 8.1): they end the peer's side, and the request is answered. `size` is the
+/// size of their list in octets, `malformed` whether a reason holds against them, `body` the length of the answer's body.
+///
+/// # Errors
+///
+/// The first that applies, each a stream error:
+///
+/// - A list of fields above 65536 octets (6.5.2): ENHANCE_YOUR_CALM.
+/// - Malformed trailers, trailers without END_STREAM, or content other than declared (8.1.1): PROTOCOL_ERROR.
 #[tactic(auto, unfolding(h2_spec::specs::Headers::trailers_outcome, h2_spec::specs::Stream::octets_waiting))]
 pub fn trailers_outcome(
     size: u64,

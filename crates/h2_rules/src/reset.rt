@@ -14,7 +14,12 @@ use h2_spec::reactions::Reaction;
 use h2_spec::streams::{Kind, Stream};
 use h2_streams::not_live;
 
-/// RST_STREAM on a stream.
+/// RST_STREAM on a stream (RFC 9113, 5.4.2 and 6.4): an open or half-closed stream is reset by the peer, and nothing
+/// more is sent on it; on a stream that is closed it is ignored.
+///
+/// # Errors
+///
+/// On an idle stream: connection error PROTOCOL_ERROR.
 #[tactic(auto, unfolding(h2_spec::specs::Effect::on_reset, h2_spec::specs::Effect::reset_outcome, h2_spec::specs::Stream::octets_waiting))]
 pub fn on_reset(core: ConnectionState, stream: Stream) -> Reaction
     requires core { IsSoundConnectionState core }

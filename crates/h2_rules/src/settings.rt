@@ -75,8 +75,16 @@ fn settings_applied(
     Ok(now)
 }
 
-/// SETTINGS without ACK: all of the frame, or none of it; `greatest` is the greatest of the send windows that
-/// settings move.
+/// SETTINGS without ACK (RFC 9113, 6.5): all settings of the frame in their order, and then its acknowledgement; or
+/// none of them. `greatest` is the greatest of the send windows that SETTINGS_INITIAL_WINDOW_SIZE moves.
+///
+/// # Errors
+///
+/// The first setting that is refused decides, each a connection error (6.5.2):
+///
+/// - SETTINGS_ENABLE_PUSH other than 0 and 1, SETTINGS_MAX_FRAME_SIZE below 16384 or above 16777215: PROTOCOL_ERROR.
+/// - SETTINGS_INITIAL_WINDOW_SIZE above 2147483647, or one that takes a send window above it (6.9.2):
+///   FLOW_CONTROL_ERROR.
 #[tactic(auto, unfolding(h2_spec::specs::SettingsFrame::settings_rule))]
 pub fn settings_rule(
     greatest: &Option<Window>,
@@ -104,7 +112,8 @@ pub fn settings_rule(
     }
 }
 
-/// SETTINGS with ACK: the peer has acknowledged the server's settings.
+/// SETTINGS with ACK (RFC 9113, 6.5.3): the peer has acknowledged the server's settings. There is no error, also where
+/// none was awaited.
 pub fn acknowledged(core: ConnectionState) -> Reaction
     ensures rule { result ≡ rule.acknowledged core }
     ensures sound { (book : List Entry) (r : Records) → IsSoundState book core r → IsSound book r core.peer.window result }

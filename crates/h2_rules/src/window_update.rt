@@ -37,7 +37,14 @@ fn window_outcome(size_update_pending: bool, increment: u32, stream: Stream) -> 
     outcome_without_frame(size_update_pending, Stream { numbers, ..stream })
 }
 
-/// WINDOW_UPDATE on a stream.
+/// WINDOW_UPDATE on a stream (RFC 9113, 6.9): its send window rises by `increment`, 0 to 2147483647; on a stream that
+/// is closed it is ignored.
+///
+/// # Errors
+///
+/// - On an idle stream: connection error PROTOCOL_ERROR.
+/// - An increment of 0: stream error PROTOCOL_ERROR.
+/// - A window above 2147483647: stream error FLOW_CONTROL_ERROR (6.9.1).
 #[tactic(auto, unfolding(h2_spec::specs::Effect::on_window))]
 pub fn on_window(core: ConnectionState, increment: u32, stream: Stream) -> Reaction
     requires core { IsSoundConnectionState core }
@@ -57,7 +64,12 @@ pub fn on_window(core: ConnectionState, increment: u32, stream: Stream) -> React
     }
 }
 
-/// WINDOW_UPDATE on the connection.
+/// WINDOW_UPDATE on the connection (RFC 9113, 6.9): its send window rises by `increment`, 0 to 2147483647.
+///
+/// # Errors
+///
+/// - An increment of 0: connection error PROTOCOL_ERROR.
+/// - A window above 2147483647: connection error FLOW_CONTROL_ERROR (6.9.1).
 #[tactic(auto, unfolding(h2_spec::specs::WindowUpdate::connection_window))]
 pub fn connection_window(core: ConnectionState, increment: u32) -> Reaction
     requires core { IsSoundConnectionState core }
