@@ -1,5 +1,5 @@
 use Rattle.std.proofs.Common.{ap, ◌∙◌, sym, nat_eq}
-use Rattle.std.proofs.Math.BlockSummary.{to_z-of_z}
+use Rattle.std.proofs.Math.Facts.{to_z-of_z}
 use Rattle.std.specs.Map.{set_value}
 use Rattle.h2_streams.specs.Shift.{moved_or_same}
 use Rattle.h2_streams.proofs.ShiftLaws.{update-set, update-absent}

@@ -1,5 +1,5 @@
 use Rattle.std.proofs.Common.{rules, ap, ◌∙◌, sym, subst, List}
-use Rattle.std.proofs.Math.BlockSummary.{to_z-of_z}
+use Rattle.std.proofs.Math.Facts.{to_z-of_z}
 use Rattle.std.specs.List.{AllByRecursion}
 use Rattle.h2_spec.specs.declared.streams.Stream.{Stream}
 use Rattle.h2_spec.specs.Change.{overflows, shifted}
