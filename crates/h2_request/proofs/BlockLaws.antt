@@ -7,7 +7,7 @@ use Rattle.std.proofs.lemmas.List.Quantifiers.{position-Some}
 use Rattle.std.proofs.lemmas.List.Folds.{flat_map-map, length-flat_map-take}
 use Rattle.h2_spec.specs.Field.{Field}
 use Rattle.h2_spec.specs.Integer.{spell_int}
-use Rattle.h2_spec.specs.Instruction.{Indexed, Literal, Without, Ref, spell}
+use Rattle.h2_spec.specs.Instruction.{Indexed, Literal, WithoutIndexing, Ref, spell}
 use Rattle.h2_spec.specs.Answer.{indexed_statuses, status_at, status_digits, plain_string, plain_literal, status_instruction, response_block}
 use Rattle.h2_spec.specs.Book.{max_response_block}
 use Rattle.std.specs.List.{AllByRecursion}
@@ -36,7 +36,7 @@ indexed-len : (place : ℕ) → place < 7 → length (spell (Indexed (8 + place)
 unfolding spell
 indexed-len place h = grind (arith, nat_tests)
 
-literal-len : (status : ℕ) → length (spell (Literal Without (Ref 8) (plain_string (status_digits status)))) ≡ 5
+literal-len : (status : ℕ) → length (spell (Literal WithoutIndexing (Ref 8) (plain_string (status_digits status)))) ≡ 5
 unfolding spell
 literal-len status = refl
 
