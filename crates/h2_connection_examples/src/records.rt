@@ -129,6 +129,48 @@ fn records_stand_in_the_order_of_opening(rt: HostRuntime) {
     same(&rt, &compared, &Ok(()), &"memory for the records");
 }
 
+/// Identifiers as a peer may choose them: the least, the greatest, and wide gaps between some.
+static CHOSEN: [u32; 8] = [
+    1,
+    3,
+    611,
+    65_537,
+    536_870_913,
+    1_073_741_825,
+    2_147_483_645,
+    2_147_483_647,
+];
+
+fn open_chosen(rt: &impl Abort, streams: &mut Streams<Global>) -> Result<(), AllocError> {
+    for id in &CHOSEN {
+        open(rt, streams, *id, None, false)?;
+    }
+    Ok(())
+}
+
+/// The identifier of the record that is found for an identifier, if there is one.
+fn found(streams: &Streams<Global>, id: u32) -> Option<u32> {
+    Some(streams.get(id)?.id)
+}
+
+fn compare_chosen(rt: &impl Abort, streams: &mut Streams<Global>) -> Result<(), AllocError> {
+    open_chosen(rt, streams)?;
+    for id in &CHOSEN {
+        same(rt, &found(streams, *id), &Some(*id), id);
+    }
+    for id in [0, 2, 5, 609, 613, 65_535, 1_073_741_823, 2_147_483_643] {
+        same(rt, &found(streams, id), &None, &id);
+    }
+    Ok(())
+}
+
+#[test]
+fn records_are_found_by_chosen_identifiers(rt: HostRuntime) {
+    let mut streams = Streams::new(rt.alloc());
+    let compared = compare_chosen(&rt, &mut streams);
+    same(&rt, &compared, &Ok(()), &"memory for the records");
+}
+
 /// The send window of a stream, if it has a record.
 fn window_of(streams: &Streams<Global>, id: u32) -> Option<i32> {
     Some(streams.get(id)?.numbers.send.value())

@@ -1,5 +1,4 @@
-mod CountLaws
-mod HashLaws
-mod KeptLaws
+mod IdsLaws
 mod LiveLaws
+mod PlaceLaws
 mod ShiftLaws

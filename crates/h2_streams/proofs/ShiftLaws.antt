@@ -1,66 +1,73 @@
 -- Laws of the send windows that settings move.
-use Rattle.std.proofs.Common.{◌≡◌, ℕ, ◌<◌, ◌≤◌, ◌%◌, Bool, true, false, ◌&&◌, ◌||◌, not, cond, eqb, nat_eq, ℤ, negsuc, ◌+ℤ◌, ◌≤ℤ◌, int_lt, List, [], ◌∷◌, map, Some, None, refl, ap, ◌∙◌, sym, arith, subst, true≢false, unwrap_or}
+use Rattle.std.proofs.Common.{◌≡◌, ℕ, ◌<◌, ◌≤◌, ◌%◌, Bool, true, false, ◌&&◌, ◌||◌, not, cond, eqb, nat_lt, ℤ, negsuc, pos, ◌+ℤ◌, ◌≤ℤ◌, int_lt, List, [], ◌∷◌, map, filter, Some, None, Option, refl, ap, ◌∙◌, sym, arith, subst, true≢false, unwrap_or}
 use Rattle.std.proofs.lemmas.Bool.Decides.{nat_tests}
 use Rattle.std.proofs.lemmas.Int.{ints}
 use Rattle.std.specs.List.{AllByRecursion, list_any}
 use Rattle.std.specs.Option.{option_map, is_none}
-use Rattle.std.specs.Map.{lookup, set_value}
 use Rattle.h2_spec.specs.declared.streams.Kind.{Kind}
 use Rattle.h2_spec.specs.declared.streams.Kind.TheVariants.{Idle, Skipped, BothOpen, HalfRemote, HalfLocal, Ended, PeerReset, WeReset}
 use Rattle.h2_spec.specs.declared.streams.Stream.{Stream}
 use Rattle.h2_spec.specs.Change.{follows_initial_window, shifted, shifted_one, overflows, overflows_one, with_send}
 use Rattle.h2_spec.specs.Window.{max_window, is_above_max}
-use Rattle.h2_spec.specs.Stream.{is_live, octets_waiting, AreRising}
-use Rattle.h2_streams.specs.Kept.{keyed, records_of, live_ids, passes_at, waits, IdsRise, IsKept}
+use Rattle.h2_spec.specs.Stream.{is_live, octets_waiting, record_of, put, AreRising}
+use Rattle.h2_streams.specs.Kept.{ids_of, lives, waits, is_ready, passes_at, IdsRise, Rise, IsKept}
 use Rattle.h2_streams.specs.Shift.{CanShift, is_window, moved, moved_or_same, is_stuck, update, update_each}
-use Rattle.h2_streams.proofs.CountLaws.{count-map}
-use Rattle.h2_streams.proofs.KeptLaws.{rise-live_ids, rise-weaken, eqb-refl, kept-keyed, records_of-keyed}
-use Rattle.h2_streams.proofs.LiveLaws.{AllFound, all-found, passes-found}
+use Rattle.h2_streams.proofs.IdsLaws.{rise-ids_of, rise-weaken, eqb-refl}
+use Rattle.h2_streams.proofs.LiveLaws.{all-found, any-live, listed-live}
 
-pub update-set : (f : Stream → Stream) (id : ℕ) (es : List (ℕ × Stream)) (st : Stream) → lookup (nat_eq id) es ≡ Some st → set_value (nat_eq id) es (f st) ≡ update f id es
-update-set f id [] st h = refl
-update-set f id (e ∷ es) st h = by (eqb id e.0) h (update-set f id es st) where
-  by : (b : Bool) → cond b (Some e.1) (lookup (nat_eq id) es) ≡ Some st → (lookup (nat_eq id) es ≡ Some st → set_value (nat_eq id) es (f st) ≡ update f id es)
-      → cond b ((e.0, f st) ∷ es) (e ∷ set_value (nat_eq id) es (f st)) ≡ cond b ((e.0, f e.1) ∷ es) (e ∷ update f id es)
-  by true k rest = let same : st ≡ e.1 = cc in ap (λ (s : Stream). (e.0, f s) ∷ es) same
-  by false k rest = ap (λ ys. e ∷ ys) (rest k)
+-- what a function makes of an element, where there is one
+pub mapped-found : (f : Stream → Stream) (o : Option Stream) (st : Stream) → option_map f o ≡ Some st → (old : Stream) × (o ≡ Some old) × (f old ≡ st)
+mapped-found f None st h = cc
+mapped-found f (Some old) st h = (old, refl, cc)
 
-pub update-absent : (f : Stream → Stream) (id : ℕ) (es : List (ℕ × Stream)) → lookup (nat_eq id) es ≡ None → update f id es ≡ es
+pub mapped-none : (f : Stream → Stream) (o : Option Stream) → option_map f o ≡ None → o ≡ None
+mapped-none f None h = refl
+mapped-none f (Some old) h = cc
+
+-- a record is put where the one with its identifier is changed
+pub put-update : (f : Stream → Stream) (id : ℕ) (rs : List Stream) (st : Stream) → (f st).id ≡ id → record_of rs id ≡ Some st → put (f st) rs ≡ update f id rs
+put-update f id [] st same h = cc
+put-update f id (x ∷ xs) st same h = ap (λ n. cond (eqb x.id n) (f st ∷ xs) (x ∷ put (f st) xs)) same ∙ by (eqb x.id id) h (put-update f id xs st same) where
+  by : (b : Bool) → cond b (Some x) (record_of xs id) ≡ Some st → (record_of xs id ≡ Some st → put (f st) xs ≡ update f id xs)
+      → cond b (f st ∷ xs) (x ∷ put (f st) xs) ≡ cond b (f x ∷ xs) (x ∷ update f id xs)
+  by true k rest = let alike : st ≡ x = cc in ap (λ (s : Stream). f s ∷ xs) alike
+  by false k rest = ap (λ ys. x ∷ ys) (rest k)
+
+pub update-absent : (f : Stream → Stream) (id : ℕ) (rs : List Stream) → record_of rs id ≡ None → update f id rs ≡ rs
 update-absent f id [] h = refl
-update-absent f id (e ∷ es) h = by (eqb id e.0) h (update-absent f id es) where
-  by : (b : Bool) → cond b (Some e.1) (lookup (nat_eq id) es) ≡ None → (lookup (nat_eq id) es ≡ None → update f id es ≡ es) → cond b ((e.0, f e.1) ∷ es) (e ∷ update f id es) ≡ e ∷ es
+update-absent f id (x ∷ xs) h = by (eqb x.id id) h (update-absent f id xs) where
+  by : (b : Bool) → cond b (Some x) (record_of xs id) ≡ None → (record_of xs id ≡ None → update f id xs ≡ xs) → cond b (f x ∷ xs) (x ∷ update f id xs) ≡ x ∷ xs
   by true k rest = cc
-  by false k rest = ap (λ ys. e ∷ ys) (rest k)
+  by false k rest = ap (λ ys. x ∷ ys) (rest k)
+
+pub rise-update : (f : Stream → Stream) → ((st : Stream) → (f st).id ≡ st.id) → (id low : ℕ) (rs : List Stream) → Rise low rs → Rise low (update f id rs)
+rise-update f keeps id low [] r = tt
+rise-update f keeps id low (x ∷ xs) r = by (eqb x.id id) (rise-update f keeps id x.id xs r.1) where
+  by : (b : Bool) → Rise x.id (update f id xs) → Rise low (cond b (f x ∷ xs) (x ∷ update f id xs))
+  by true rest = subst (λ n. (low < n) × Rise n xs) (sym (keeps x)) r
+  by false rest = (r.0, rest)
 
 -- a record below the identifiers stays as it is
-update_each-above : (f : Stream → Stream) (e : ℕ × Stream) (ids : List ℕ) (es : List (ℕ × Stream)) → IdsRise e.0 ids → update_each f ids (e ∷ es) ≡ e ∷ update_each f ids es
-update_each-above f e [] es r = refl
-update_each-above f e (id ∷ ids) es r =
-    let apart : eqb id e.0 ≡ false = let b = r.0 in grind (arith, nat_tests, b) in
-    rw apart (update_each-above f e ids (update f id es) (rise-weaken e.0 id ids (let b = r.0 in omega arith) r.1))
+update_each-above : (f : Stream → Stream) (x : Stream) (ids : List ℕ) (rs : List Stream) → IdsRise x.id ids → update_each f ids (x ∷ rs) ≡ x ∷ update_each f ids rs
+update_each-above f x [] rs r = refl
+update_each-above f x (id ∷ ids) rs r =
+    let apart : eqb x.id id ≡ false = let b = r.0 in grind (arith, nat_tests, b) in
+    rw apart (update_each-above f x ids (update f id rs) (rise-weaken x.id id ids (let b = r.0 in omega arith) r.1))
 
 -- what is done to the live streams, one after another, is done to all, where it leaves the others
 pub update_each-live : (f : Stream → Stream) → ((st : Stream) → (f st).id ≡ st.id) → ((st : Stream) → is_live st.kind ≡ false → f st ≡ st)
-    → (low last : ℕ) (rs : List Stream) → AreRising low last rs → update_each f (live_ids rs) (keyed rs) ≡ keyed (map f rs)
+    → (low last : ℕ) (rs : List Stream) → AreRising low last rs → update_each f (ids_of lives rs) rs ≡ map f rs
 update_each-live f keeps idle low last [] r = refl
 update_each-live f keeps idle low last (x ∷ xs) r = by (is_live x.kind) refl (update_each-live f keeps idle x.id last xs r.3) where
-  head : (y : Stream) (ids : List ℕ) (es : List (ℕ × Stream)) → update_each f (y.id ∷ ids) ((y.id, y) ∷ es) ≡ update_each f ids ((y.id, f y) ∷ es)
-  head y ids es = ap (λ b. update_each f ids (cond b ((y.id, f y) ∷ es) ((y.id, y) ∷ update f y.id es))) (eqb-refl y.id y.id refl)
+  head : (ids : List ℕ) → update_each f (x.id ∷ ids) (x ∷ xs) ≡ update_each f ids (f x ∷ xs)
+  head ids = ap (λ b. update_each f ids (cond b (f x ∷ xs) (x ∷ update f x.id xs))) (eqb-refl x.id x.id refl)
 
-  by : (b : Bool) → is_live x.kind ≡ b → update_each f (live_ids xs) (keyed xs) ≡ keyed (map f xs) → update_each f (cond (is_live x.kind) (x.id ∷ live_ids xs) (live_ids xs)) (keyed (x ∷ xs)) ≡ keyed (map f (x ∷ xs))
-  by true live rest =
-      rw live (head x (live_ids xs) (keyed xs) ∙ update_each-above f (x.id, f x) (live_ids xs) (keyed xs) (rise-live_ids x.id last xs r.3) ∙ ap (λ ys. (x.id, f x) ∷ ys) rest ∙ ap (λ n. (n, f x) ∷ keyed (map f xs)) (sym (keeps x)))
-  by false live rest =
-      rw (live, idle x live) (update_each-above f (x.id, x) (live_ids xs) (keyed xs) (rise-live_ids x.id last xs r.3) ∙ ap (λ ys. (x.id, x) ∷ ys) rest)
+  over : IdsRise (f x).id (ids_of lives xs)
+  over = subst (λ n. IdsRise n (ids_of lives xs)) (sym (keeps x)) (rise-ids_of lives x.id last xs r.3)
 
--- a test that no stream passes but a live one is asked of the live ones
-pub any-live : (test : Stream → Bool) → ((st : Stream) → is_live st.kind ≡ false → test st ≡ false) → (rs parts : List Stream) → AllFound rs parts
-    → list_any (passes_at test (keyed rs)) (live_ids parts) ≡ list_any test parts
-any-live test idle rs [] f = refl
-any-live test idle rs (x ∷ xs) f = by (is_live x.kind) refl (any-live test idle rs xs f.1) where
-  by : (b : Bool) → is_live x.kind ≡ b → list_any (passes_at test (keyed rs)) (live_ids xs) ≡ list_any test xs → list_any (passes_at test (keyed rs)) (cond (is_live x.kind) (x.id ∷ live_ids xs) (live_ids xs)) ≡ (test x || list_any test xs)
-  by true live rest = rw (live, passes-found test rs x f.0) (ap (λ b. test x || b) rest)
-  by false live rest = rw (live, idle x live) rest
+  by : (b : Bool) → is_live x.kind ≡ b → update_each f (ids_of lives xs) xs ≡ map f xs → update_each f (cond (is_live x.kind) (x.id ∷ ids_of lives xs) (ids_of lives xs)) (x ∷ xs) ≡ map f (x ∷ xs)
+  by true live rest = rw live (head (ids_of lives xs) ∙ update_each-above f (f x) (ids_of lives xs) xs over ∙ ap (λ ys. f x ∷ ys) rest)
+  by false live rest = rw (live, idle x live) (update_each-above f x (ids_of lives xs) xs (rise-ids_of lives x.id last xs r.3) ∙ ap (λ ys. x ∷ ys) rest)
 
 -- ---- streams that settings move
 
@@ -101,10 +108,6 @@ module _ (d : ℤ) (st : Stream) where
 
   pub kind-moved : (moved_or_same d st).kind ≡ st.kind
   kind-moved = part-moved (λ s. s.kind) (λ w. refl)
-
-  pub waits-moved : waits (moved_or_same d st) ≡ waits st
-  unfolding octets_waiting
-  waits-moved = part-moved waits (λ w. refl)
 
   -- one that is not stuck moves
   pub moved-free : is_stuck d st ≡ false → moved_or_same d st ≡ shifted_one d st
@@ -153,34 +156,45 @@ rising-map f keeps low last (x ∷ xs) r =
     let tail = rising-map f keeps x.id last xs r.3 in
     subst (λ n. (low < n) × (n % 2 ≡ 1) × (n ≤ last) × AreRising n last (map f xs)) (sym (keeps x)) (r.0, r.1, r.2, tail)
 
-live_ids-map : (f : Stream → Stream) → ((st : Stream) → (f st).id ≡ st.id) → ((st : Stream) → (f st).kind ≡ st.kind) → (rs : List Stream) → live_ids (map f rs) ≡ live_ids rs
-live_ids-map f ids kinds [] = refl
-live_ids-map f ids kinds (x ∷ xs) =
-    ap (λ k. cond (is_live k) ((f x).id ∷ live_ids (map f xs)) (live_ids (map f xs))) (kinds x) ∙ ap (λ n. cond (is_live x.kind) (n ∷ live_ids (map f xs)) (live_ids (map f xs))) (ids x)
-    ∙ ap (λ ys. cond (is_live x.kind) (x.id ∷ ys) ys) (live_ids-map f ids kinds xs)
+lives-map : (f : Stream → Stream) → ((st : Stream) → (f st).id ≡ st.id) → ((st : Stream) → (f st).kind ≡ st.kind) → (rs : List Stream) → ids_of lives (map f rs) ≡ ids_of lives rs
+lives-map f ids kinds [] = refl
+lives-map f ids kinds (x ∷ xs) =
+    ap (λ k. cond (is_live k) ((f x).id ∷ ids_of lives (map f xs)) (ids_of lives (map f xs))) (kinds x) ∙ ap (λ n. cond (is_live x.kind) (n ∷ ids_of lives (map f xs)) (ids_of lives (map f xs))) (ids x)
+    ∙ ap (λ ys. cond (is_live x.kind) (x.id ∷ ys) ys) (lives-map f ids kinds xs)
 
-module _ (d : ℤ) (es : List (ℕ × Stream)) (live : List ℕ) (last waiting : ℕ) (kept : IsKept es live last waiting) where
-  entries-moved : update_each (moved_or_same d) live es ≡ keyed (map (moved_or_same d) (records_of es))
-  entries-moved =
-      ap (λ ids. update_each (moved_or_same d) ids es) kept.live_listed ∙ ap (update_each (moved_or_same d) (live_ids (records_of es))) kept.under_ids
-      ∙ update_each-live (moved_or_same d) (id-moved d) (same-ended d) 0 last (records_of es) kept.rising
+-- a stream that is not live cannot send
+not-ready : (st : Stream) → is_live st.kind ≡ false → is_ready st ≡ false
+unfolding octets_waiting
+not-ready st h = rw h refl
 
-  pub kept-moved : IsKept (update_each (moved_or_same d) live es) live last waiting
+module _ (d : ℤ) (rs : List Stream) (live ready : List ℕ) (last : ℕ) (kept : IsKept rs live ready last) where
+  each-moved : update_each (moved_or_same d) live rs ≡ map (moved_or_same d) rs
+  each-moved = ap (λ ids. update_each (moved_or_same d) ids rs) kept.live_listed ∙ update_each-live (moved_or_same d) (id-moved d) (same-ended d) 0 last rs kept.rising
+
+  pub rising-moved : AreRising 0 last (update_each (moved_or_same d) live rs)
+  rising-moved = subst (AreRising 0 last) (sym each-moved) (rising-map (moved_or_same d) (id-moved d) 0 last rs kept.rising)
+
+  live-moved : live ≡ ids_of lives (update_each (moved_or_same d) live rs)
+  live-moved = kept.live_listed ∙ sym (lives-map (moved_or_same d) (id-moved d) (kind-moved d) rs) ∙ ap (ids_of lives) (sym each-moved)
+
+  -- the streams that can send are found among the live ones
+  pub kept-moved : IsKept (update_each (moved_or_same d) live rs) live (filter (passes_at is_ready (update_each (moved_or_same d) live rs)) live) last
   kept-moved =
-      kept-keyed _ live last waiting (map (moved_or_same d) (records_of es)) entries-moved (rising-map (moved_or_same d) (id-moved d) 0 last (records_of es) kept.rising)
-      (kept.live_listed ∙ sym (live_ids-map (moved_or_same d) (id-moved d) (kind-moved d) (records_of es)))
-      (kept.waiting_counted ∙ sym (count-map (moved_or_same d) (waits-moved d) (records_of es)))
+      let moved = update_each (moved_or_same d) live rs in
+      record {
+        rising = rising-moved;
+        live_listed = live-moved;
+        ready_listed = ap (filter (passes_at is_ready moved)) live-moved ∙ listed-live is_ready not-ready moved moved (all-found 0 last moved rising-moved);
+      }
 
-  pub stuck-listed : list_any (passes_at (is_stuck d) es) live ≡ list_any (is_stuck d) (records_of es)
-  stuck-listed =
-      ap (list_any (passes_at (is_stuck d) es)) kept.live_listed ∙ ap (λ (xs : List (ℕ × Stream)). list_any (passes_at (is_stuck d) xs) (live_ids (records_of es))) kept.under_ids
-      ∙ any-live (is_stuck d) (stuck-ended d) (records_of es) (records_of es) (all-found 0 last (records_of es) kept.rising)
+  pub stuck-listed : list_any (passes_at (is_stuck d) rs) live ≡ list_any (is_stuck d) rs
+  stuck-listed = ap (list_any (passes_at (is_stuck d) rs)) kept.live_listed ∙ any-live (is_stuck d) (stuck-ended d) rs rs (all-found 0 last rs kept.rising)
 
-  pub records_of-moved : list_any (passes_at (is_stuck d) es) live ≡ false → records_of (update_each (moved_or_same d) live es) ≡ shifted d (records_of es)
-  records_of-moved free = ap records_of entries-moved ∙ records_of-keyed (map (moved_or_same d) (records_of es)) ∙ all-free d (records_of es) (sym stuck-listed ∙ free)
+  pub records-moved : list_any (passes_at (is_stuck d) rs) live ≡ false → update_each (moved_or_same d) live rs ≡ shifted d rs
+  records-moved free = each-moved ∙ all-free d rs (sym stuck-listed ∙ free)
 
-  pub overflow-listed : AllByRecursion (CanShift d) (records_of es) → list_any (passes_at (is_stuck d) es) live ≡ overflows d (records_of es)
-  overflow-listed can = stuck-listed ∙ stuck-overflows d (records_of es) can
+  pub overflow-listed : AllByRecursion (CanShift d) rs → list_any (passes_at (is_stuck d) rs) live ≡ overflows d rs
+  overflow-listed can = stuck-listed ∙ stuck-overflows d rs can
 
 -- ---- the greatest window
 
@@ -196,8 +210,6 @@ any-overflows d (x ∷ xs) = by (overflows_one d x) (any-overflows d xs) where
   by false rest = rest
 
 -- whether a window would pass its limit is asked of the live streams
-pub overflows-listed : (d : ℤ) (es : List (ℕ × Stream)) (live : List ℕ) (last waiting : ℕ) → IsKept es live last waiting → list_any (passes_at (overflows_one d) es) live ≡ overflows d (records_of es)
-overflows-listed d es live last waiting kept =
-    ap (list_any (passes_at (overflows_one d) es)) kept.live_listed ∙ ap (λ (xs : List (ℕ × Stream)). list_any (passes_at (overflows_one d) xs) (live_ids (records_of es))) kept.under_ids
-    ∙ any-live (overflows_one d) (overflows-ended d) (records_of es) (records_of es) (all-found 0 last (records_of es) kept.rising)
-    ∙ any-overflows d (records_of es)
+pub overflows-listed : (d : ℤ) (rs : List Stream) (live ready : List ℕ) (last : ℕ) → IsKept rs live ready last → list_any (passes_at (overflows_one d) rs) live ≡ overflows d rs
+overflows-listed d rs live ready last kept =
+    ap (list_any (passes_at (overflows_one d) rs)) kept.live_listed ∙ any-live (overflows_one d) (overflows-ended d) rs rs (all-found 0 last rs kept.rising) ∙ any-overflows d rs

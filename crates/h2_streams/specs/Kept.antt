@@ -1,50 +1,54 @@
--- What the map, the list of live identifiers and the number of records that wait keep.
-use Rattle.std.specs.Prelude.{◌≡◌, ℕ, ◌<◌, Bool, false, List, [], ◌∷◌, map, nat_eq, nat_lt, ◌==◌, if◌then◌else◌}
-use Rattle.std.specs.List.{count_by}
-use Rattle.std.specs.Map.{lookup}
+-- What the records, the identifiers of the live streams and those of the streams that can send keep.
+use Rattle.std.specs.Prelude.{◌≡◌, ℕ, suc, ◌<◌, Bool, false, ◌&&◌, List, [], ◌∷◌, nat_lt, ◌==◌, if◌then◌else◌, pos, int_lt}
 use Rattle.std.specs.Option.{option_map_or}
 use Rattle.h2_spec.specs.declared.streams.Stream.{Stream}
-use Rattle.h2_spec.specs.Stream.{is_live, octets_waiting, AreRising}
+use Rattle.h2_spec.specs.Stream.{is_live, octets_waiting, record_of, AreRising}
 
-abbrev pub records_of : List (ℕ × Stream) → List Stream
-records_of entries = map (λ e. e.1) entries
+-- whether the stream has octets to send
+abbrev pub waits : Stream → Bool
+waits st = nat_lt 0 (octets_waiting st)
 
--- each record under its identifier
-abbrev pub keyed : List Stream → List (ℕ × Stream)
-keyed streams = map (λ st. (st.id, st)) streams
+-- whether the stream has octets to send and a send window that lets some pass
+abbrev pub is_ready : Stream → Bool
+is_ready st = waits st && int_lt (pos 0) st.numbers.send
 
-abbrev pub live_ids : List Stream → List ℕ
-live_ids [] = []
-live_ids (st ∷ sts) = if is_live st.kind then st.id ∷ live_ids sts else live_ids sts
+-- whether one side of the stream or both are open
+abbrev pub lives : Stream → Bool
+lives st = is_live st.kind
+
+-- the identifiers of the records that pass a test
+abbrev pub ids_of : (Stream → Bool) → List Stream → List ℕ
+ids_of test [] = []
+ids_of test (st ∷ sts) = if test st then st.id ∷ ids_of test sts else ids_of test sts
 
 -- identifiers that rise above this number
 abbrev pub IdsRise : ℕ → List ℕ → Type 0
 IdsRise low [] = Unit {0}
 IdsRise low (id ∷ ids) = (low < id) × IdsRise id ids
 
+-- records whose identifiers rise above this number
+abbrev pub Rise : ℕ → List Stream → Type 0
+Rise low [] = Unit {0}
+Rise low (st ∷ sts) = (low < st.id) × Rise st.id sts
+
+-- how many records of a rising list are below this identifier
+abbrev pub place_of : ℕ → List Stream → ℕ
+place_of id [] = 0
+place_of id (st ∷ sts) = if nat_lt st.id id then suc (place_of id sts) else 0
+
 -- identifiers without this one
 abbrev pub without : ℕ → List ℕ → List ℕ
 without id [] = []
 without id (x ∷ xs) = if x == id then xs else x ∷ without id xs
 
--- the live identifiers after a stream, live or closed, has this record
-abbrev pub still_live : Stream → List ℕ → List ℕ
-still_live st ids = if is_live st.kind then ids else without st.id ids
+-- rising identifiers with this one
+abbrev pub placed : ℕ → List ℕ → List ℕ
+placed id [] = id ∷ []
+placed id (x ∷ xs) = if nat_lt id x then id ∷ x ∷ xs else if x == id then x ∷ xs else x ∷ placed id xs
 
--- whether the stream has octets to send
-abbrev pub waits : Stream → Bool
-waits st = nat_lt 0 (octets_waiting st)
-
--- what a record adds to the number of those that wait
-abbrev pub counted : Stream → ℕ
-counted st = if waits st then 1 else 0
-
--- the entries of the map, the live identifiers, the last stream that was opened and the number of records that wait
-pub record IsKept (entries : List (ℕ × Stream)) (live : List ℕ) (last waiting : ℕ) : Type 0 where
-  pub under_ids : entries ≡ keyed (records_of entries)
-  pub rising : AreRising 0 last (records_of entries)
-  pub live_listed : live ≡ live_ids (records_of entries)
-  pub waiting_counted : waiting ≡ count_by waits (records_of entries)
+-- with this one, or without it
+abbrev pub listed : Bool → ℕ → List ℕ → List ℕ
+listed is_in id ids = if is_in then placed id ids else without id ids
 
 -- identifiers that rise, from the first above this number on
 abbrev pub above : ℕ → List ℕ → List ℕ
@@ -52,9 +56,11 @@ above after [] = []
 above after (x ∷ xs) = if nat_lt after x then x ∷ xs else above after xs
 
 -- whether the record with this identifier passes a test
-abbrev pub passes_at : (Stream → Bool) → List (ℕ × Stream) → ℕ → Bool
-passes_at test entries id = option_map_or test (lookup (nat_eq id) entries) false
+abbrev pub passes_at : (Stream → Bool) → List Stream → ℕ → Bool
+passes_at test records id = option_map_or test (record_of records id) false
 
--- what the record with this identifier adds to the number of those that wait
-abbrev pub counted_at : List (ℕ × Stream) → ℕ → ℕ
-counted_at entries id = option_map_or counted (lookup (nat_eq id) entries) 0
+-- the records, the identifiers of the live streams and of those that can send, and the last stream that was opened
+pub record IsKept (records : List Stream) (live ready : List ℕ) (last : ℕ) : Type 0 where
+  pub rising : AreRising 0 last records
+  pub live_listed : live ≡ ids_of lives records
+  pub ready_listed : ready ≡ ids_of is_ready records

@@ -1,5 +1,5 @@
 -- Send windows that settings move (RFC 9113, 6.9.2).
-use Rattle.std.specs.Prelude.{◌≡◌, ℕ, Bool, true, ◌&&◌, not, List, [], ◌∷◌, nat_eq, if◌then◌else◌, Option, Some, None, is_none, unwrap_or, ℤ, negsuc, ◌+ℤ◌, ◌≤ℤ◌, int_lt}
+use Rattle.std.specs.Prelude.{◌≡◌, ℕ, Bool, true, ◌&&◌, not, List, [], ◌∷◌, ◌==◌, if◌then◌else◌, Option, Some, None, is_none, unwrap_or, ℤ, negsuc, ◌+ℤ◌, ◌≤ℤ◌, int_lt}
 use Rattle.std.specs.Option.{option_map}
 use Rattle.h2_spec.specs.declared.streams.Stream.{Stream}
 use Rattle.h2_spec.specs.Change.{follows_initial_window, with_send}
@@ -26,12 +26,12 @@ is_stuck d st = is_none (moved d st)
 abbrev pub moved_or_same : ℤ → Stream → Stream
 moved_or_same d st = unwrap_or (moved d st) st
 
--- entries with a function done to the record with this identifier
-abbrev pub update : (Stream → Stream) → ℕ → List (ℕ × Stream) → List (ℕ × Stream)
+-- records with a function done to the one with this identifier
+abbrev pub update : (Stream → Stream) → ℕ → List Stream → List Stream
 update f id [] = []
-update f id (e ∷ es) = if nat_eq id e.0 then (e.0, f e.1) ∷ es else e ∷ update f id es
+update f id (st ∷ sts) = if st.id == id then f st ∷ sts else st ∷ update f id sts
 
 -- and to those with these identifiers in turn
-abbrev pub update_each : (Stream → Stream) → List ℕ → List (ℕ × Stream) → List (ℕ × Stream)
-update_each f [] es = es
-update_each f (id ∷ ids) es = update_each f ids (update f id es)
+abbrev pub update_each : (Stream → Stream) → List ℕ → List Stream → List Stream
+update_each f [] sts = sts
+update_each f (id ∷ ids) sts = update_each f ids (update f id sts)

@@ -1,5 +1,5 @@
 //! The greatest of the send windows that settings move (RFC 9113, 6.9.2).
-//! Rests on `hash`, `shift` and the windows of `h2_spec`.
+//! Rests on `places`, `shift` and the windows of `h2_spec`.
 //! Definitions: `specs/Greatest.antt`, over `h2_spec/specs/Change.antt`.
 
 ghost use Rattle.std.specs.Prelude.{◌≡◌, ◌||◌, ℤ, ◌+ℤ◌};
@@ -7,22 +7,18 @@ ghost use Rattle.std.specs.List.{list_any};
 ghost use Rattle.h2_spec.specs.Change.{overflows_one};
 ghost use Rattle.h2_spec.specs.Window.{is_above_max};
 ghost use Rattle.h2_streams.specs.Greatest.{overflows_with};
-ghost use Rattle.h2_streams.specs.Kept.{passes_at};
+ghost use Rattle.h2_streams.specs.Kept.{passes_at, Rise};
 
-use crate::hash::IdHash;
+use crate::places::record_of;
 use crate::shift::follows_initial_window;
 use h2_spec::flow::Window;
 use h2_spec::streams::Stream;
-use indexmap::IndexMap;
-use std::alloc::Allocator;
 
 /// The greatest of these streams' send windows that settings move, if there is one.
 #[tactic(auto, unfolding(crate::specs::Greatest::overflows_with))]
-pub(crate) fn greatest_of<A: Allocator>(
-    records: &IndexMap<u32, Stream, IdHash, A>,
-    ids: &[u32],
-) -> Option<Window>
-    ensures { (d : ℤ) → overflows_with result d ≡ list_any (passes_at (overflows_one d) records.now.entries) ids.now }
+pub(crate) fn greatest_of(records: &[Stream], ids: &[u32]) -> Option<Window>
+    requires { Rise 0 records.now }
+    ensures { (d : ℤ) → overflows_with result d ≡ list_any (passes_at (overflows_one d) records.now) ids.now }
 {
     let mut greatest = None;
     for id in ids {
@@ -33,14 +29,11 @@ pub(crate) fn greatest_of<A: Allocator>(
 
 /// The greater one of a window and the stream's, if settings move that.
 #[tactic(auto, unfolding(crate::specs::Greatest::overflows_with))]
-fn greater_at<A: Allocator>(
-    records: &IndexMap<u32, Stream, IdHash, A>,
-    id: u32,
-    greatest: Option<Window>,
-) -> Option<Window>
-    ensures { (d : ℤ) → overflows_with result d ≡ (overflows_with greatest d || passes_at (overflows_one d) records.now.entries id) }
+fn greater_at(records: &[Stream], id: u32, greatest: Option<Window>) -> Option<Window>
+    requires { Rise 0 records.now }
+    ensures { (d : ℤ) → overflows_with result d ≡ (overflows_with greatest d || passes_at (overflows_one d) records.now id) }
 {
-    match records.get(&id) {
+    match record_of(records, id) {
         Some(stream) => greater(greatest, stream),
         None => greatest,
     }

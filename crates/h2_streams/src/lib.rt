@@ -1,13 +1,12 @@
 //! The records of a connection's streams, in the order of their opening (RFC 9113, 5.1).
-//! Rests on `h2_spec` (the types and the definitions) and on `indexmap`.
+//! Rests on `h2_spec` (the types and the definitions). Records are found by binary search, since identifiers rise.
 //! What each call does to the list of records is said in `h2_spec/specs/Stream.antt`.
 #![tactic(auto)]
 
 mod greatest;
-mod hash;
+mod ids;
 mod kinds;
-pub mod laws;
-mod live;
+mod places;
 mod records;
 mod shift;
 

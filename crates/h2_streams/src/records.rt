@@ -1,53 +1,55 @@
 //! The records: what opens, changes and ends a stream.
-//! Rests on `kinds`, `hash` and `indexmap`.
+//! Rests on `kinds`, `places` (the search by identifier) and `ids` (rising lists of identifiers).
 //! Definitions: `h2_spec/specs/Stream.antt`; what the fields keep: `specs/Kept.antt`.
 
-ghost use Rattle.std.specs.Prelude.{◌≡◌, ◌<◌, ◌≤◌, ◌%◌, [], ◌∷◌, ◌++◌, ◌==◌, ◌||◌, nat_eq, nat_lt, IsOk, OnOk, OnErr, IfOk, IfErr, IfSome, IsTrue, is_err, slice_get};
+ghost use Rattle.std.specs.Prelude.{◌≡◌, ◌<◌, ◌≤◌, ◌%◌, ◌==◌, ◌||◌, nat_lt, length, IsOk, OnOk, OnErr, IfOk, IfErr, IfSome, IsTrue, is_err, slice_get};
 ghost use Rattle.std.specs.List.{AllByRecursion};
-ghost use Rattle.std.specs.Map.{set_value};
-ghost use Rattle.indexmap.specs.IndexMap.{insert_entry};
 ghost use Rattle.std.specs.Option.{option_copied};
+ghost use Rattle.std.specs.Vec.{vec_capacity};
 ghost use Rattle.h2_spec.specs.Stream as spec;
 ghost use Rattle.h2_spec.specs.StreamEnds as ends;
 ghost use Rattle.h2_spec.specs.Change as changes;
 ghost use Rattle.h2_streams.specs.Greatest.{IsGreatest};
-ghost use Rattle.h2_streams.specs.Kept as kept;
 ghost use Rattle.h2_streams.specs.Put.{CanPut, can_become};
 ghost use Rattle.h2_streams.specs.Shift as shift;
 
 use crate::greatest::greatest_of;
-use crate::hash::IdHash;
-use crate::kinds::{counted, is_live, not_live, peer_closed, reset_kind, server_ended};
-use crate::live::{drop_ended, first_waiting, ids_above};
+use crate::ids::{append, first_waiting, ids_above, keep, list, list_ready};
+use crate::kinds::{is_live, is_ready, not_live, peer_closed, reset_kind, server_ended};
+use crate::places::{record_of, write};
 use crate::shift::{any_is_stuck, move_each};
 use h2_spec::errors::FlowFault;
 use h2_spec::flow::Window;
 use h2_spec::streams::{Kind, Numbers, Pick, Stream};
-use indexmap::IndexMap;
 use std::alloc::{AllocError, Allocator};
 use std::marker::Model;
 
 /// The records of a connection's streams.
+///
+/// A record is found by binary search over the identifiers: by at most 31 comparisons, since there are at most 2^30 odd
+/// identifiers of 31 bits (RFC 9113, 5.1.1), and by at most 20 among a million. No choice of identifiers costs more.
 #[derive(Drop)]
 pub struct Streams<A: Allocator> {
-    records: IndexMap<u32, Stream, IdHash, A>,
+    /// In the order of opening, so that identifiers rise.
+    records: Vec<Stream, A>,
     /// The identifiers of the live streams, rising.
     live: Vec<u32, A>,
+    /// The identifiers of the streams that can send, rising; it has room for all live ones.
+    ready: Vec<u32, A>,
     last: u32,
-    /// The number of records that have octets to send, at most `last`.
-    waiting: usize,
 }
 
 impl<A: Allocator> Model for Streams<A> {
+    ghost use Rattle.std.specs.Prelude.{◌≤◌, length};
+    ghost use Rattle.std.specs.Vec.{vec_capacity};
     ghost use Rattle.h2_spec.specs.Stream.{Records};
+    ghost use Rattle.h2_streams.specs.Kept.{IsKept};
 
     ghost Value = { Records };
 
-    ghost use Rattle.h2_streams.specs.Kept.{records_of, IsKept};
+    ghost view = { λ s. record { streams = s.records.items; last = s.last } };
 
-    ghost view = { λ s. record { streams = records_of s.records.entries; last = s.last } };
-
-    ghost invariant = { λ s. IsKept s.records.entries s.live.items s.last s.waiting };
+    ghost invariant = { λ s. IsKept s.records.items s.live.items s.ready.items s.last × (length s.live.items ≤ vec_capacity s.ready) };
 }
 
 impl<A: Allocator + Copy> Streams<A> {
@@ -56,10 +58,10 @@ impl<A: Allocator + Copy> Streams<A> {
         ensures { result ≡ spec.no_records }
     {
         Streams {
-            records: IndexMap::with_hasher(alloc, IdHash),
+            records: Vec::new(alloc),
             live: Vec::new(alloc),
+            ready: Vec::new(alloc),
             last: 0,
-            waiting: 0,
         }
     }
 
@@ -67,13 +69,14 @@ impl<A: Allocator + Copy> Streams<A> {
     pub fn try_clone(&self) -> Result<Self, AllocError>
         ensures { IfOk result (λ copy. copy ≡ self.now) }
     {
-        let live = self.live.clone()?;
         let records = copy_of(&self.records)?;
+        let live = self.live.clone()?;
+        let ready = copy_with_room(&self.ready, live.as_slice().len())?;
         Ok(Streams {
             records,
             live,
+            ready,
             last: self.last,
-            waiting: self.waiting,
         })
     }
 }
@@ -87,19 +90,18 @@ impl<A: Allocator> Streams<A> {
         self.last // 0 for none: client streams have odd identifiers
     }
 
-    /// The record of the stream, if it has one.
+    /// The record of the stream, if it has one, by binary search.
     pub fn get(&self, id: u32) -> Option<&Stream>
         ensures { option_copied result ≡ spec.record_of self.now.streams id }
     {
-        self.records.get(&id)
+        record_of(self.records.as_slice(), id)
     }
 
     /// The i-th record in the order of opening, from 0.
     pub fn at(&self, i: usize) -> Option<&Stream>
         ensures { option_copied result ≡ slice_get self.now.streams i }
     {
-        let (_, stream) = self.records.get_index(i)?;
-        Some(stream)
+        self.records.as_slice().get(i)
     }
 
     /// The number of live streams.
@@ -225,10 +227,10 @@ impl<A: Allocator> Streams<A> {
         ensures first { result ≡ spec.next_waiting after self.now.streams }
         ensures least { IfSome result (λ id. AllByRecursion (λ st. IsTrue (spec.waits_above after st) → id ≤ st.id) self.now.streams) }
     {
-        if self.waiting == 0 {
-            return None;
-        }
-        first_waiting(&self.records, ids_above(self.live.as_slice(), after))
+        first_waiting(
+            self.records.as_slice(),
+            ids_above(self.live.as_slice(), after),
+        )
     }
 
     /// The greatest of the send windows that settings move, if there is one: it alone decides whether a move takes a
@@ -236,7 +238,7 @@ impl<A: Allocator> Streams<A> {
     pub fn greatest_send(&self) -> Option<Window>
         ensures { IsGreatest result self.now.streams }
     {
-        greatest_of(&self.records, self.live.as_slice())
+        greatest_of(self.records.as_slice(), self.live.as_slice())
     }
 
     /// Moves the send windows of the streams that settings move, as SETTINGS_INITIAL_WINDOW_SIZE changes by `delta`
@@ -249,10 +251,15 @@ impl<A: Allocator> Streams<A> {
         ensures refused { IfErr result (λ e. (e ≡ FlowFault.Overflow) × (self.new ≡ self.old)) }
         ensures overflow { is_err result ≡ changes.overflows delta self.old.streams }
     {
-        if any_is_stuck(&self.records, self.live.as_slice(), delta) {
+        if any_is_stuck(self.records.as_slice(), self.live.as_slice(), delta) {
             return Err(FlowFault::Overflow);
         }
         move_each(&mut self.records, self.live.as_slice(), delta);
+        list_ready(
+            self.records.as_slice(),
+            self.live.as_slice(),
+            &mut self.ready,
+        );
         Ok(())
     }
 
@@ -263,9 +270,15 @@ impl<A: Allocator> Streams<A> {
         ensures ok { OnOk result (self.new ≡ spec.added stream self.old) }
         ensures err { OnErr result (self.new ≡ self.old) }
     {
-        append(&mut self.records, &mut self.live, stream)?;
+        let live = is_live(stream.kind);
+        let ready = is_ready(&stream);
+        self.live.reserve(1)?;
+        let more = self.live.as_slice().len() - self.ready.as_slice().len() + 1;
+        self.ready.reserve(more)?;
+        self.records.push(stream)?;
+        append(&mut self.live, stream.id, live);
+        append(&mut self.ready, stream.id, ready);
         self.last = stream.id;
-        self.waiting += counted(&stream);
         Ok(())
     }
 
@@ -274,10 +287,11 @@ impl<A: Allocator> Streams<A> {
         requires { IsTrue (can_become (spec.kind_of self.old.last self.old.streams stream.id) stream.kind) }
         ensures { self.new ≡ record self.old { streams = spec.put stream self.old.streams } }
     {
-        let after = counted(&stream);
-        drop_ended(&mut self.live, &stream);
-        let before = write(&mut self.records, stream);
-        self.waiting = self.waiting - before + after;
+        let live = is_live(stream.kind);
+        let ready = is_ready(&stream);
+        write(&mut self.records, stream);
+        keep(&mut self.live, stream.id, live);
+        list(&mut self.ready, stream.id, ready);
     }
 }
 
@@ -289,47 +303,24 @@ fn is_idle(last: u32, id: u32) -> bool
     id % 2 == 0 || last < id
 }
 
-/// The same entries again.
-fn copy_of<A: Allocator + Copy>(
-    records: &IndexMap<u32, Stream, IdHash, A>,
-) -> Result<IndexMap<u32, Stream, IdHash, A>, AllocError>
-    ensures { IfOk result (λ copy. copy.entries ≡ records.now.entries) }
+/// The same records again.
+fn copy_of<A: Allocator + Copy>(records: &Vec<Stream, A>) -> Result<Vec<Stream, A>, AllocError>
+    ensures { IfOk result (λ copy. copy.items ≡ records.now.items) }
 {
-    records.clone()
+    let mut copy = Vec::new(*records.allocator());
+    copy.extend_from_slice(records.as_slice())?;
+    Ok(copy)
 }
 
-/// Appends a record, and its identifier where it is live. An `Err` leaves both as they were.
-fn append<A: Allocator>(
-    records: &mut IndexMap<u32, Stream, IdHash, A>,
-    live: &mut Vec<u32, A>,
-    stream: Stream,
-) -> Result<(), AllocError>
-    ensures entries { OnOk result (records.new.entries ≡ insert_entry nat_eq records.old.entries stream.id stream) }
-    ensures live { OnOk result (live.new.items ≡ live.old.items ++ kept.live_ids (stream ∷ [])) }
-    ensures err { OnErr result ((records.new.entries ≡ records.old.entries) × (live.new.items ≡ live.old.items)) }
+/// The same identifiers again, with room for so many.
+fn copy_with_room<A: Allocator + Copy>(
+    ids: &Vec<u32, A>,
+    room: usize,
+) -> Result<Vec<u32, A>, AllocError>
+    ensures items { IfOk result (λ copy. copy.items ≡ ids.now.items) }
+    ensures room { IfOk result (λ copy. room ≤ vec_capacity copy) }
 {
-    let id = stream.id;
-    let listed = is_live(stream.kind);
-    live.reserve(usize::from(listed))?;
-    records.insert(id, stream)?;
-    if listed {
-        live.push_reserved(id);
-    }
-    Ok(())
-}
-
-/// Writes a record in the place of the one with its identifier, if there is one, and answers what that one was
-/// counted as.
-fn write<A: Allocator>(records: &mut IndexMap<u32, Stream, IdHash, A>, stream: Stream) -> usize
-    ensures written { records.new.entries ≡ set_value (nat_eq stream.id) records.old.entries stream }
-    ensures before { result ≡ kept.counted_at records.old.entries stream.id }
-{
-    match records.get_mut(&stream.id) {
-        Some(record) => {
-            let before = counted(record);
-            *record = stream;
-            before
-        }
-        None => 0,
-    }
+    let mut copy = Vec::with_capacity(*ids.allocator(), room)?;
+    copy.extend_from_slice(ids.as_slice())?;
+    Ok(copy)
 }

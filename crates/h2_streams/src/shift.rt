@@ -1,17 +1,18 @@
 //! What a change of the peer's initial window does to the send windows (RFC 9113, 6.9.2).
-//! Rests on `live`, `hash` and the windows of `h2_spec`.
+//! Rests on `places` and the windows of `h2_spec`.
 //! Definitions: `specs/Shift.antt`, over `h2_spec/specs/Change.antt`.
 
 ghost use Rattle.std.specs.Prelude.{◌≡◌};
 ghost use Rattle.std.specs.List.{list_any};
+ghost use Rattle.std.specs.Option.{option_map};
+ghost use Rattle.h2_spec.specs.Stream as spec;
 ghost use Rattle.h2_spec.specs.Change as changes;
 ghost use Rattle.h2_streams.specs.Kept as kept;
 ghost use Rattle.h2_streams.specs.Shift as shift;
 
-use crate::hash::IdHash;
+use crate::places::{record_of, write};
 use h2_spec::flow::Window;
 use h2_spec::streams::{Kind, Numbers, Stream};
-use indexmap::IndexMap;
 use std::alloc::Allocator;
 
 /// The least window.
@@ -62,22 +63,20 @@ fn moved(stream: &Stream, delta: i64) -> Option<Stream>
 }
 
 /// Whether the stream has a send window that cannot be moved by `delta`.
-fn is_stuck<A: Allocator>(records: &IndexMap<u32, Stream, IdHash, A>, id: u32, delta: i64) -> bool
-    ensures { result ≡ kept.passes_at (shift.is_stuck delta) records.now.entries id }
+fn is_stuck(records: &[Stream], id: u32, delta: i64) -> bool
+    requires { kept.Rise 0 records.now }
+    ensures { result ≡ kept.passes_at (shift.is_stuck delta) records.now id }
 {
-    match records.get(&id) {
+    match record_of(records, id) {
         Some(stream) => moved(stream, delta).is_none(),
         None => false,
     }
 }
 
 /// Whether one of these streams has a send window that cannot be moved by `delta`.
-pub(crate) fn any_is_stuck<A: Allocator>(
-    records: &IndexMap<u32, Stream, IdHash, A>,
-    ids: &[u32],
-    delta: i64,
-) -> bool
-    ensures { result ≡ list_any (kept.passes_at (shift.is_stuck delta) records.now.entries) ids.now }
+pub(crate) fn any_is_stuck(records: &[Stream], ids: &[u32], delta: i64) -> bool
+    requires { kept.Rise 0 records.now }
+    ensures { result ≡ list_any (kept.passes_at (shift.is_stuck delta) records.now) ids.now }
 {
     for id in ids {
         if is_stuck(records, *id, delta) {
@@ -87,31 +86,30 @@ pub(crate) fn any_is_stuck<A: Allocator>(
     false
 }
 
-/// Moves the send window, where it can be moved.
-fn move_one(stream: &mut Stream, delta: i64)
-    ensures { stream.new ≡ shift.moved_or_same delta stream.old }
+/// The record of the stream, if it has one, with its send window moved by `delta` where it can be moved.
+fn moved_at(records: &[Stream], id: u32, delta: i64) -> Option<Stream>
+    requires { kept.Rise 0 records.now }
+    ensures { result ≡ option_map (shift.moved_or_same delta) (spec.record_of records.now id) }
 {
-    if let Some(moved) = moved(stream, delta) {
-        *stream = moved;
-    }
+    let stream = record_of(records, id)?;
+    Some(moved(stream, delta).unwrap_or(*stream))
 }
 
-/// Moves the send window of the stream, where it has a record.
-fn move_at<A: Allocator>(records: &mut IndexMap<u32, Stream, IdHash, A>, id: u32, delta: i64)
-    ensures { records.new.entries ≡ shift.update (shift.moved_or_same delta) id records.old.entries }
+/// Moves the send window of the stream, where it has a record and can be moved.
+fn move_at<A: Allocator>(records: &mut Vec<Stream, A>, id: u32, delta: i64)
+    requires { kept.Rise 0 records.old.items }
+    ensures moved { records.new.items ≡ shift.update (shift.moved_or_same delta) id records.old.items }
+    ensures rising { kept.Rise 0 records.new.items }
 {
-    if let Some(stream) = records.get_mut(&id) {
-        move_one(stream, delta);
+    if let Some(stream) = moved_at(records.as_slice(), id, delta) {
+        write(records, stream);
     }
 }
 
 /// Moves the send windows of these streams.
-pub(crate) fn move_each<A: Allocator>(
-    records: &mut IndexMap<u32, Stream, IdHash, A>,
-    ids: &[u32],
-    delta: i64,
-)
-    ensures { records.new.entries ≡ shift.update_each (shift.moved_or_same delta) ids.now records.old.entries }
+pub(crate) fn move_each<A: Allocator>(records: &mut Vec<Stream, A>, ids: &[u32], delta: i64)
+    requires { kept.Rise 0 records.old.items }
+    ensures { records.new.items ≡ shift.update_each (shift.moved_or_same delta) ids.now records.old.items }
 {
     for id in ids {
         move_at(records, *id, delta);

@@ -5,13 +5,13 @@ use Rattle.std.proofs.lemmas.List.{drop_all}
 use Rattle.h2_streams.proofs.shift.any_is_stuck.Goals as goal
 
 pub returns : goal.returns
-returns g c =
+returns c =
     let none = drop_all c.loop-id.id-index c.args.ids.now (omega arith) in
     let all = rw (to_z-of_z c.ranges.delta, none) at c.loop-id.invariant in
     all
 
 pub returns-then-is_stuck : goal.returns-then-is_stuck
-returns-then-is_stuck g c = grind (arith, common_steps)
+returns-then-is_stuck c = grind (arith, common_steps)
 
 pub loop-id-preserved : goal.loop-id-preserved
-loop-id-preserved g c = grind (arith, common_steps)
+loop-id-preserved c = grind (arith, common_steps)

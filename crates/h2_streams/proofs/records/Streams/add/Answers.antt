@@ -1,29 +1,27 @@
-use Rattle.std.proofs.Common.{arith, ◌<◌, ◌∙◌, ap, subst, sym, List}
-use Rattle.h2_spec.specs.declared.streams.Stream.{Stream}
-use Rattle.h2_spec.specs.Stream.{Records, added}
-use Rattle.h2_streams.specs.Kept.{records_of}
-use Rattle.h2_streams.proofs.CountLaws.{counted-one}
-use Rattle.h2_streams.proofs.KeptLaws.{waiting-last, kept-added, records_of-added}
+use Rattle.std.proofs.Common.{◌<◌, length, ◌∙◌, ap, sym, subst, arith}
+use Rattle.h2_spec.specs.Stream.{Records, is_live}
+use Rattle.h2_streams.proofs.IdsLaws.{kept-added, kept-fewer, one-more}
 use Rattle.h2_streams.proofs.records.Streams.add.Goals as goal
+
+pub overflow_sub-more : goal.overflow_sub-more
+overflow_sub-more g c =
+    let s = c.self.inside in
+    let few = kept-fewer s.records.items s.live.items s.ready.items s.last c.self.invariant.0 in
+    let live = ap length (c.as_slice.ensures.value ∙ c.reserve.ensures.items) in
+    let ready = ap length c.as_slice-2.ensures.value in
+    omega (arith, few, live, ready)
 
 pub invariant_of-self-2 : goal.invariant_of-self-2
 invariant_of-self-2 g c =
     let s = c.self.inside in
-    let above : s.last < c.args.stream.id = let P : Records → Type 0 = λ v. v.last < c.args.stream.id in subst P (sym c.self.view_is) c.requires.above in
-    rw (c.counted.ensures, c.in_ok-append.ensures.entries, c.in_ok-append.ensures.live) (kept-added s.records.entries s.live.items s.last s.waiting c.self.invariant c.args.stream above c.requires.odd)
-
-pub returns-clause-ok : goal.returns-clause-ok
-returns-clause-ok g c =
-    let s = c.self.inside in
     let st = c.args.stream in
     let above : s.last < st.id = let P : Records → Type 0 = λ v. v.last < st.id in subst P (sym c.self.view_is) c.requires.above in
-    let streams = ap records_of c.in_ok-append.ensures.entries ∙ records_of-added s.records.entries s.live.items s.last s.waiting c.self.invariant st above in
-    ap (λ (xs : List Stream). let r : Records = record { streams = xs; last = st.id } in r) streams ∙ ap (added st) c.self.view_is
-
-pub overflow_add-self : goal.overflow_add-self
-overflow_add-self g c =
-    let s = c.self.inside in
-    let most = waiting-last s.records.entries s.live.items s.last s.waiting c.self.invariant in
-    let more = counted-one c.args.stream in
-    let fits = c.self.ranges.1.1.0.1 in
-    rw c.counted.ensures (omega (arith, most, more, fits))
+    let kept = kept-added s.records.items s.live.items s.ready.items s.last st c.self.invariant.0 above c.requires.odd in
+    let few = kept-fewer s.records.items s.live.items s.ready.items s.last c.self.invariant.0 in
+    let longer = one-more s.live.items (is_live st.kind) st.id in
+    let live = ap length (c.as_slice.ensures.value ∙ c.reserve.ensures.items) in
+    let ready = ap length c.as_slice-2.ensures.value in
+    let len = c.as_slice-2.ensures.len in
+    let room = c.in_ok-reserve-2.ensures.ok in
+    let grown = c.append-2.ensures.capacity in
+    rw (c.in_ok-push.ensures.items, c.append.ensures.items, c.append-2.ensures.items, c.reserve.ensures.items, c.reserve-2.ensures.items, c.is_live-live.ensures, c.is_ready-ready.ensures) (kept, omega (arith, few, longer, live, ready, len, room, grown))

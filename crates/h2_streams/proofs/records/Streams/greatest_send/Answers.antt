@@ -1,11 +1,16 @@
-use Rattle.std.proofs.Common.{ap, ◌∙◌, sym}
+use Rattle.std.proofs.Common.{ap, ◌∙◌, subst, sym}
 use Rattle.h2_spec.specs.Change.{overflows}
 use Rattle.h2_spec.specs.Stream.{Records}
+use Rattle.h2_streams.specs.Kept.{Rise}
+use Rattle.h2_streams.proofs.PlaceLaws.{rise}
 use Rattle.h2_streams.proofs.ShiftLaws.{overflows-listed}
 use Rattle.h2_streams.proofs.records.Streams.greatest_send.Goals as goal
+
+pub greatest_of-requires : goal.greatest_of-requires
+greatest_of-requires g c = subst (Rise 0) (sym c.as_slice.ensures.value) (rise 0 c.self.inside.last c.self.inside.records.items c.self.invariant.0.rising)
 
 pub returns : goal.returns
 returns g c = λ d.
     let s = c.self.inside in
-    let asked = rw c.as_slice.ensures.value at c.greatest_of.ensures d in
-    sym (asked ∙ overflows-listed d s.records.entries s.live.items s.last s.waiting c.self.invariant ∙ ap (λ (v : Records). overflows d v.streams) c.self.view_is)
+    let asked = rw (c.as_slice.ensures.value, c.as_slice-2.ensures.value) at c.greatest_of.ensures d in
+    sym (asked ∙ overflows-listed d s.records.items s.live.items s.ready.items s.last c.self.invariant.0 ∙ ap (λ (v : Records). overflows d v.streams) c.self.view_is)

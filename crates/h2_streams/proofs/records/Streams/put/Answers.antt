@@ -1,6 +1,6 @@
 use Rattle.std.proofs.Common.{arith, rules, ◌≡◌, ◌<◌, subst, OnOk}
 use Rattle.h2_spec.specs.Stream.{Records}
-use Rattle.h2_streams.proofs.KeptLaws.{added-is-put}
+use Rattle.h2_streams.proofs.PlaceLaws.{added-is-put}
 use Rattle.h2_streams.proofs.records.Streams.put.Goals as goal
 
 pub returns-then-last-stream-clause-ok : goal.returns-then-last-stream-clause-ok

@@ -2,7 +2,7 @@ use Rattle.std.proofs.Common.{ap, ◌∙◌, sym, ℕ}
 use Rattle.h2_spec.specs.declared.streams.Kind.{Kind}
 use Rattle.h2_spec.specs.declared.streams.Stream.{Stream}
 use Rattle.h2_spec.specs.Stream.{Records, not_live, reset_kind, put}
-use Rattle.h2_streams.proofs.KeptLaws.{live-id}
+use Rattle.h2_streams.proofs.PlaceLaws.{live-id}
 use Rattle.h2_streams.proofs.records.Streams.reset.Goals as goal
 
 pub returns : goal.returns

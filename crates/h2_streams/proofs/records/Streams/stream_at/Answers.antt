@@ -1,5 +1,5 @@
 use Rattle.std.proofs.Common.{sym}
-use Rattle.h2_streams.proofs.KeptLaws.{found-id}
+use Rattle.h2_streams.proofs.PlaceLaws.{found-id}
 use Rattle.h2_streams.proofs.records.Streams.stream_at.Goals as goal
 
 pub returns-in-Some-clause-id : goal.returns-in-Some-clause-id

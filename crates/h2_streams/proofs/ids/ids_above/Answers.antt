@@ -1,8 +1,8 @@
 use Rattle.std.proofs.Common.{arith, leb, ◌∙◌, rules}
 use Rattle.std.proofs.lemmas.List.{length-drop, take_all}
 use Rattle.std.proofs.lemmas.List.Sorted.{IsPartitionPoint-from_clause, IsPartitionedBy-leb, IsNonDecreasingBy-from_default}
-use Rattle.h2_streams.proofs.KeptLaws.{rise-ordered, above-point}
-use Rattle.h2_streams.proofs.live.ids_above.Goals as goal
+use Rattle.h2_streams.proofs.IdsLaws.{rise-ordered, above-point}
+use Rattle.h2_streams.proofs.ids.ids_above.Goals as goal
 
 pub returns : goal.returns
 returns c =
