@@ -1,5 +1,5 @@
 -- Laws of the send windows that settings move.
-use Rattle.std.proofs.Common.{◌≡◌, ℕ, ◌<◌, ◌≤◌, ◌%◌, Bool, true, false, ◌&&◌, ◌||◌, not, cond, eqb, nat_lt, ℤ, negsuc, pos, ◌+ℤ◌, ◌≤ℤ◌, int_lt, List, [], ◌∷◌, map, filter, Some, None, Option, refl, ap, ◌∙◌, sym, arith, subst, true≢false, unwrap_or}
+use Rattle.std.proofs.Common.{◌≡◌, ℕ, ◌<◌, ◌≤◌, ◌%◌, Bool, true, false, ◌&&◌, ◌||◌, not, cond, eqb, ℤ, negsuc, ◌+ℤ◌, ◌≤ℤ◌, int_lt, List, [], ◌∷◌, map, filter, Some, None, Option, refl, ap, ◌∙◌, sym, arith, subst, true≢false, unwrap_or}
 use Rattle.std.proofs.lemmas.Bool.Decides.{nat_tests}
 use Rattle.std.proofs.lemmas.Int.{ints}
 use Rattle.std.specs.List.{AllByRecursion, list_any}
@@ -10,7 +10,7 @@ use Rattle.h2_spec.specs.declared.streams.Stream.{Stream}
 use Rattle.h2_spec.specs.Change.{follows_initial_window, shifted, shifted_one, overflows, overflows_one, with_send}
 use Rattle.h2_spec.specs.Window.{max_window, is_above_max}
 use Rattle.h2_spec.specs.Stream.{is_live, octets_waiting, record_of, put, AreRising}
-use Rattle.h2_streams.specs.Kept.{ids_of, lives, waits, is_ready, passes_at, IdsRise, Rise, IsKept}
+use Rattle.h2_streams.specs.Kept.{ids_of, lives, is_ready, passes_at, IdsRise, Rise, IsKept}
 use Rattle.h2_streams.specs.Shift.{CanShift, is_window, moved, moved_or_same, is_stuck, update, update_each}
 use Rattle.h2_streams.proofs.IdsLaws.{rise-ids_of, rise-weaken, eqb-refl}
 use Rattle.h2_streams.proofs.LiveLaws.{all-found, any-live, listed-live}

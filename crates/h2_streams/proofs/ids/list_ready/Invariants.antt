@@ -1,5 +1,4 @@
-use Rattle.std.proofs.Common.{◌≡◌, ◌+◌, ◌≤◌, filter, take, length}
-use Rattle.std.specs.Vec.{vec_capacity}
+use Rattle.std.proofs.Common.{◌≡◌, ◌≤◌, filter, take, length}
 use Rattle.h2_streams.specs.Kept.{passes_at, is_ready}
 use Rattle.h2_streams.proofs.ids.list_ready.Given as goal
 

@@ -1,9 +1,8 @@
-use Rattle.std.proofs.Common.{◌≡◌, ap, ◌∙◌, cond, sym, subst, true, Bool, Option, Some, None}
+use Rattle.std.proofs.Common.{◌≡◌, ap, ◌∙◌, sym}
 use Rattle.std.proofs.Math.Facts.{to_z-of_z}
-use Rattle.std.specs.Option.{is_some, option_map}
+use Rattle.std.specs.Option.{is_some}
 use Rattle.h2_spec.specs.declared.streams.Stream.{Stream}
 use Rattle.h2_spec.specs.Stream.{record_of}
-use Rattle.h2_streams.specs.Kept.{Rise}
 use Rattle.h2_streams.specs.Shift.{moved_or_same}
 use Rattle.h2_streams.proofs.PlaceLaws.{found-id}
 use Rattle.h2_streams.proofs.ShiftLaws.{mapped-found, mapped-none, id-moved, put-update, update-absent, rise-update}

@@ -1,8 +1,7 @@
-use Rattle.std.proofs.Common.{◌∙◌, ap, subst, sym, find, List, ℕ, ◌≤◌, Option, IfSome, IsTrue}
+use Rattle.std.proofs.Common.{◌∙◌, ap, subst, sym, ℕ, ◌≤◌, Option, IfSome, IsTrue}
 use Rattle.std.specs.List.{AllByRecursion}
-use Rattle.h2_spec.specs.declared.streams.Stream.{Stream}
 use Rattle.h2_spec.specs.Stream.{Records, next_waiting, waits_above, AreRising}
-use Rattle.h2_streams.specs.Kept.{IdsRise, Rise, ids_of, lives, above, passes_at, waits}
+use Rattle.h2_streams.specs.Kept.{IdsRise, Rise, lives, above}
 use Rattle.h2_streams.proofs.PlaceLaws.{rise}
 use Rattle.h2_streams.proofs.IdsLaws.{rise-ids_of}
 use Rattle.h2_streams.proofs.LiveLaws.{waiting-live, all-found, find-least}

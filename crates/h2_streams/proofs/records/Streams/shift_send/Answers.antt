@@ -1,4 +1,4 @@
-use Rattle.std.proofs.Common.{ap, ◌∙◌, sym, subst, arith, length, List}
+use Rattle.std.proofs.Common.{ap, ◌∙◌, sym, subst, arith, List}
 use Rattle.std.proofs.Math.Facts.{to_z-of_z}
 use Rattle.std.specs.List.{AllByRecursion}
 use Rattle.h2_spec.specs.declared.streams.Stream.{Stream}
