@@ -1,12 +1,12 @@
 -- What holds of the live streams alone, and what is found or changed by way of them.
-use Rattle.std.proofs.Common.{◌≡◌, ℕ, suc, ◌<◌, ◌≤◌, Bool, true, false, ◌&&◌, ◌||◌, cond, eqb, nat_lt, List, [], ◌∷◌, find, filter, Some, None, IfSome, Option, refl, ap, ◌∙◌, sym, arith, true≢false}
+use Rattle.std.proofs.Common.{◌≡◌, ℕ, suc, ◌<◌, ◌≤◌, Bool, true, false, ◌||◌, cond, eqb, List, [], ◌∷◌, find, Some, None, IfSome, Option, refl, ap, ◌∙◌, sym, arith, true≢false}
 use Rattle.std.proofs.lemmas.Bool.Decides.{nat_tests}
 use Rattle.std.specs.List.{AllByRecursion, list_any}
 use Rattle.std.specs.Option.{option_map, option_map_or}
 use Rattle.h2_spec.specs.declared.streams.Stream.{Stream}
-use Rattle.h2_spec.specs.Stream.{is_live, record_of, octets_waiting, waits_above, id_of, AreRising}
-use Rattle.h2_streams.specs.Kept.{ids_of, lives, above, passes_at, waits, IdsRise}
-use Rattle.h2_streams.proofs.IdsLaws.{rise-ids_of, eqb-refl}
+use Rattle.h2_spec.specs.Stream.{is_live, record_of, id_of, AreRising}
+use Rattle.h2_streams.specs.Kept.{ids_of, lives, passes_at}
+use Rattle.h2_streams.proofs.IdsLaws.{eqb-refl}
 
 -- each record is the one that is found with its identifier
 abbrev pub AllFound : List Stream → List Stream → Type 0
@@ -22,39 +22,9 @@ pub all-found : (low last : ℕ) (rs : List Stream) → AreRising low last rs �
 all-found low last [] r = tt
 all-found low last (x ∷ xs) r = (rw (eqb-refl x.id x.id refl) refl, found-behind x xs xs x.id last (omega arith) r.3 (all-found x.id last xs r.3))
 
-above-all : (after low : ℕ) (ids : List ℕ) → after < suc low → IdsRise low ids → above after ids ≡ ids
-above-all after low [] l r = refl
-above-all after low (x ∷ xs) l r = let over : nat_lt after x ≡ true = let b = r.0 in grind (arith, nat_tests, b, l) in rw over refl
-
-and-false : (b : Bool) → (b && false) ≡ false
-and-false true = refl
-and-false false = refl
-
--- a stream that is not live has nothing to send
-idle : (st : Stream) → is_live st.kind ≡ false → nat_lt 0 (octets_waiting st) ≡ false
-unfolding octets_waiting
-idle st h = rw h refl
-
 -- the test of a record that is found
 passes-found : (test : Stream → Bool) (rs : List Stream) (x : Stream) → record_of rs x.id ≡ Some x → passes_at test rs x.id ≡ test x
 passes-found test rs x f = ap (λ o. option_map_or test o false) f
-
--- the first waiting stream is found among the live ones
-pub waiting-live : (after low last : ℕ) (rs parts : List Stream) → AreRising low last parts → AllFound rs parts
-    → find (passes_at waits rs) (above after (ids_of lives parts)) ≡ option_map id_of (find (waits_above after) parts)
-waiting-live after low last rs [] r f = refl
-waiting-live after low last rs (x ∷ xs) r f = by (is_live x.kind) refl (nat_lt after x.id) refl (waiting-live after x.id last rs xs r.3 f.1) where
-  chosen : (t : Bool) (ids : Option ℕ) (found : Option Stream) → ids ≡ option_map id_of found → cond t (Some x.id) ids ≡ option_map id_of (cond t (Some x) found)
-  chosen true ids found e = refl
-  chosen false ids found e = e
-
-  by : (b : Bool) → is_live x.kind ≡ b → (t : Bool) → nat_lt after x.id ≡ t → find (passes_at waits rs) (above after (ids_of lives xs)) ≡ option_map id_of (find (waits_above after) xs)
-      → find (passes_at waits rs) (above after (cond (is_live x.kind) (x.id ∷ ids_of lives xs) (ids_of lives xs))) ≡ option_map id_of (cond (nat_lt after x.id && waits x) (Some x) (find (waits_above after) xs))
-  by true live true over rest =
-      let all : above after (ids_of lives xs) ≡ ids_of lives xs = above-all after x.id (ids_of lives xs) (grind (arith, nat_tests, over)) (rise-ids_of lives x.id last xs r.3) in
-      rw (live, over, passes-found waits rs x f.0) (chosen (waits x) (find (passes_at waits rs) (ids_of lives xs)) (find (waits_above after) xs) (rw all at rest))
-  by true live false over rest = rw (live, over) rest
-  by false live t over rest = rw (live, idle x live, and-false (nat_lt after x.id)) rest
 
 above-low : (test : Stream → Bool) (n low last : ℕ) (rs : List Stream) → n ≤ low → AreRising low last rs → AllByRecursion (λ st. test st ≡ true → n ≤ st.id) rs
 above-low test n low last [] le r = tt
@@ -77,13 +47,4 @@ any-live test idle rs [] f = refl
 any-live test idle rs (x ∷ xs) f = by (is_live x.kind) refl (any-live test idle rs xs f.1) where
   by : (b : Bool) → is_live x.kind ≡ b → list_any (passes_at test rs) (ids_of lives xs) ≡ list_any test xs → list_any (passes_at test rs) (cond (is_live x.kind) (x.id ∷ ids_of lives xs) (ids_of lives xs)) ≡ list_any test (x ∷ xs)
   by true live rest = rw (live, passes-found test rs x f.0) (ap (λ b. test x || b) rest)
-  by false live rest = rw (live, idle x live) rest
-
--- and they are listed by way of the live ones
-pub listed-live : (test : Stream → Bool) → ((st : Stream) → is_live st.kind ≡ false → test st ≡ false) → (rs parts : List Stream) → AllFound rs parts
-    → filter (passes_at test rs) (ids_of lives parts) ≡ ids_of test parts
-listed-live test idle rs [] f = refl
-listed-live test idle rs (x ∷ xs) f = by (is_live x.kind) refl (listed-live test idle rs xs f.1) where
-  by : (b : Bool) → is_live x.kind ≡ b → filter (passes_at test rs) (ids_of lives xs) ≡ ids_of test xs → filter (passes_at test rs) (cond (is_live x.kind) (x.id ∷ ids_of lives xs) (ids_of lives xs)) ≡ ids_of test (x ∷ xs)
-  by true live rest = rw (live, passes-found test rs x f.0) (ap (λ ids. cond (test x) (x.id ∷ ids) ids) rest)
   by false live rest = rw (live, idle x live) rest

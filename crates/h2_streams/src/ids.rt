@@ -1,13 +1,10 @@
-//! Rising lists of identifiers: of the live streams, and of those that can send.
-//! Rests on `kinds` and `places`; definitions: `specs/Kept.antt`.
+//! Rising lists of identifiers: of the live streams, and of those that have octets to send.
+//! Definitions: `specs/Kept.antt`.
 
-ghost use Rattle.std.specs.Prelude.{◌≡◌, ◌<◌, ◌≤◌, ◌++◌, ◌∷◌, [], length, find, filter, if◌then◌else◌};
+ghost use Rattle.std.specs.Prelude.{◌≡◌, ◌<◌, ◌≤◌, ◌++◌, ◌∷◌, [], length, if◌then◌else◌};
 ghost use Rattle.std.specs.Vec.{vec_len, vec_capacity};
 ghost use Rattle.h2_streams.specs.Kept as kept;
 
-use crate::kinds::{is_ready, octets_waiting};
-use crate::places::record_of;
-use h2_spec::streams::Stream;
 use std::alloc::Allocator;
 
 /// Puts an identifier into a rising list or takes it out. The list has room for it.
@@ -75,53 +72,4 @@ pub(crate) fn ids_above(ids: &[u32], after: u32) -> &[u32]
 {
     let start = ids.partition_point(|id| *id <= after);
     &ids[start..]
-}
-
-/// The first of these streams that has octets to send.
-pub(crate) fn first_waiting(records: &[Stream], ids: &[u32]) -> Option<u32>
-    requires { kept.Rise 0 records.now }
-    ensures { result ≡ find (kept.passes_at kept.waits records.now) ids.now }
-{
-    for id in ids {
-        if waits_at(records, *id) {
-            return Some(*id);
-        }
-    }
-    None
-}
-
-/// Whether the stream has octets to send.
-fn waits_at(records: &[Stream], id: u32) -> bool
-    requires { kept.Rise 0 records.now }
-    ensures { result ≡ kept.passes_at kept.waits records.now id }
-{
-    match record_of(records, id) {
-        Some(stream) => octets_waiting(stream) > 0,
-        None => false,
-    }
-}
-
-/// Makes a list of those of these streams that can send. It has room for all of them.
-pub(crate) fn list_ready<A: Allocator>(records: &[Stream], ids: &[u32], ready: &mut Vec<u32, A>)
-    requires rising { kept.Rise 0 records.now }
-    requires room { length ids.now ≤ vec_capacity ready.old }
-    ensures items { ready.new.items ≡ filter (kept.passes_at kept.is_ready records.now) ids.now }
-    ensures capacity { vec_capacity ready.old ≤ vec_capacity ready.new }
-{
-    ready.clear();
-    for id in ids {
-        let is_in = ready_at(records, *id);
-        append(ready, *id, is_in);
-    }
-}
-
-/// Whether the stream can send.
-fn ready_at(records: &[Stream], id: u32) -> bool
-    requires { kept.Rise 0 records.now }
-    ensures { result ≡ kept.passes_at kept.is_ready records.now id }
-{
-    match record_of(records, id) {
-        Some(stream) => is_ready(stream),
-        None => false,
-    }
 }

@@ -14,8 +14,8 @@ ghost use Rattle.h2_streams.specs.Put.{CanPut, can_become};
 ghost use Rattle.h2_streams.specs.Shift as shift;
 
 use crate::greatest::greatest_of;
-use crate::ids::{append, first_waiting, ids_above, keep, list, list_ready};
-use crate::kinds::{is_live, is_ready, not_live, peer_closed, reset_kind, server_ended};
+use crate::ids::{append, ids_above, keep, list};
+use crate::kinds::{is_live, not_live, peer_closed, reset_kind, server_ended, waits};
 use crate::places::{record_of, write};
 use crate::shift::{any_is_stuck, move_each};
 use h2_spec::errors::FlowFault;
@@ -34,8 +34,8 @@ pub struct Streams<A: Allocator> {
     records: Vec<Stream, A>,
     /// The identifiers of the live streams, rising.
     live: Vec<u32, A>,
-    /// The identifiers of the streams that can send, rising; it has room for all live ones.
-    ready: Vec<u32, A>,
+    /// The identifiers of the streams that have octets to send, rising; it has room for all live ones.
+    waiting: Vec<u32, A>,
     last: u32,
 }
 
@@ -49,7 +49,7 @@ impl<A: Allocator> Model for Streams<A> {
 
     ghost view = { λ s. record { streams = s.records.items; last = s.last } };
 
-    ghost invariant = { λ s. IsKept s.records.items s.live.items s.ready.items s.last × (length s.live.items ≤ vec_capacity s.ready) };
+    ghost invariant = { λ s. IsKept s.records.items s.live.items s.waiting.items s.last × (length s.live.items ≤ vec_capacity s.waiting) };
 }
 
 impl<A: Allocator + Copy> Streams<A> {
@@ -60,7 +60,7 @@ impl<A: Allocator + Copy> Streams<A> {
         Streams {
             records: Vec::new(alloc),
             live: Vec::new(alloc),
-            ready: Vec::new(alloc),
+            waiting: Vec::new(alloc),
             last: 0,
         }
     }
@@ -71,11 +71,11 @@ impl<A: Allocator + Copy> Streams<A> {
     {
         let records = copy_of(&self.records)?;
         let live = self.live.clone()?;
-        let ready = copy_with_room(&self.ready, live.as_slice().len())?;
+        let waiting = copy_with_room(&self.waiting, live.as_slice().len())?;
         Ok(Streams {
             records,
             live,
-            ready,
+            waiting,
             last: self.last,
         })
     }
@@ -222,15 +222,12 @@ impl<A: Allocator> Streams<A> {
         Ok(())
     }
 
-    /// The first live stream above this one that has octets to send, if there is one.
+    /// The first live stream above this one that has octets to send, if there is one, by binary search.
     pub fn next_waiting(&self, after: u32) -> Option<u32>
         ensures first { result ≡ spec.next_waiting after self.now.streams }
         ensures least { IfSome result (λ id. AllByRecursion (λ st. IsTrue (spec.waits_above after st) → id ≤ st.id) self.now.streams) }
     {
-        first_waiting(
-            self.records.as_slice(),
-            ids_above(self.live.as_slice(), after),
-        )
+        first(ids_above(self.waiting.as_slice(), after))
     }
 
     /// The greatest of the send windows that settings move, if there is one: it alone decides whether a move takes a
@@ -255,11 +252,6 @@ impl<A: Allocator> Streams<A> {
             return Err(FlowFault::Overflow);
         }
         move_each(&mut self.records, self.live.as_slice(), delta);
-        list_ready(
-            self.records.as_slice(),
-            self.live.as_slice(),
-            &mut self.ready,
-        );
         Ok(())
     }
 
@@ -271,13 +263,13 @@ impl<A: Allocator> Streams<A> {
         ensures err { OnErr result (self.new ≡ self.old) }
     {
         let live = is_live(stream.kind);
-        let ready = is_ready(&stream);
+        let waits = waits(&stream);
         self.live.reserve(1)?;
-        let more = self.live.as_slice().len() - self.ready.as_slice().len() + 1;
-        self.ready.reserve(more)?;
+        let more = self.live.as_slice().len() - self.waiting.as_slice().len() + 1;
+        self.waiting.reserve(more)?;
         self.records.push(stream)?;
         append(&mut self.live, stream.id, live);
-        append(&mut self.ready, stream.id, ready);
+        append(&mut self.waiting, stream.id, waits);
         self.last = stream.id;
         Ok(())
     }
@@ -288,11 +280,18 @@ impl<A: Allocator> Streams<A> {
         ensures { self.new ≡ record self.old { streams = spec.put stream self.old.streams } }
     {
         let live = is_live(stream.kind);
-        let ready = is_ready(&stream);
+        let waits = waits(&stream);
         write(&mut self.records, stream);
         keep(&mut self.live, stream.id, live);
-        list(&mut self.ready, stream.id, ready);
+        list(&mut self.waiting, stream.id, waits);
     }
+}
+
+fn first(ids: &[u32]) -> Option<u32>
+    ensures { result ≡ slice_get ids.now 0 }
+{
+    let id = ids.first()?;
+    Some(*id)
 }
 
 /// Whether the stream is idle, where the last one that was opened is this: even identifiers are the server's, which

@@ -1,29 +1,21 @@
 use Rattle.std.proofs.Common.{◌∙◌, ap, subst, sym, ℕ, ◌≤◌, Option, IfSome, IsTrue}
+use Rattle.std.specs.Prelude.{slice_get}
 use Rattle.std.specs.List.{AllByRecursion}
 use Rattle.h2_spec.specs.Stream.{Records, next_waiting, waits_above, AreRising}
-use Rattle.h2_streams.specs.Kept.{IdsRise, Rise, lives, above}
-use Rattle.h2_streams.proofs.PlaceLaws.{rise}
-use Rattle.h2_streams.proofs.IdsLaws.{rise-ids_of}
-use Rattle.h2_streams.proofs.LiveLaws.{waiting-live, all-found, find-least}
+use Rattle.h2_streams.specs.Kept.{IdsRise, above, waits}
+use Rattle.h2_streams.proofs.IdsLaws.{rise-ids_of, first-above}
+use Rattle.h2_streams.proofs.LiveLaws.{find-least}
 use Rattle.h2_streams.proofs.records.Streams.next_waiting.Goals as goal
 
 pub ids_above-requires : goal.ids_above-requires
 ids_above-requires g c =
-    subst (IdsRise 0) (sym (c.as_slice-2.ensures.value ∙ c.self.invariant.0.live_listed)) (rise-ids_of lives 0 c.self.inside.last c.self.inside.records.items c.self.invariant.0.rising)
-
-pub first_waiting-requires : goal.first_waiting-requires
-first_waiting-requires g c = subst (Rise 0) (sym c.as_slice.ensures.value) (rise 0 c.self.inside.last c.self.inside.records.items c.self.invariant.0.rising)
+    subst (IdsRise 0) (sym (c.as_slice.ensures.value ∙ c.self.invariant.0.waiting_listed)) (rise-ids_of waits 0 c.self.inside.last c.self.inside.records.items c.self.invariant.0.rising)
 
 pub returns-clause-first : goal.returns-clause-first
 unfolding next_waiting
 returns-clause-first g c =
-    let s = c.self.inside in
-    let after = c.args.after in
-    let rs = s.records.items in
-    let rising = c.self.invariant.0.rising in
-    let listed = c.ids_above.ensures ∙ ap (above after) (c.as_slice-2.ensures.value ∙ c.self.invariant.0.live_listed) in
-    let asked = rw (c.as_slice.ensures.value, listed) at c.first_waiting.ensures in
-    asked ∙ waiting-live after 0 s.last rs rs rising (all-found 0 s.last rs rising) ∙ ap (λ (v : Records). next_waiting after v.streams) c.self.view_is
+    c.first.ensures ∙ ap (λ ids. slice_get ids 0) (c.ids_above.ensures ∙ ap (above c.args.after) (c.as_slice.ensures.value ∙ c.self.invariant.0.waiting_listed))
+    ∙ first-above waits c.args.after c.self.inside.records.items ∙ ap (λ (v : Records). next_waiting c.args.after v.streams) c.self.view_is
 
 pub returns-clause-least : goal.returns-clause-least
 unfolding next_waiting
