@@ -1,13 +1,14 @@
 -- What clap's answer says of the plan.
-use Rattle.std.proofs.Common.{◌≡◌, ◌∙◌, true, List, [], ◌∷◌, Option, Some, None, option_map, inl, inr, refl, sym, ap, subst}
+use Rattle.std.proofs.Common.{◌≡◌, ◌∙◌, ℕ, Bool, true, List, [], ◌∷◌, Option, Some, None, option_map, inl, inr, refl, sym, ap, subst}
 use Rattle.clap.specs.Words.{App, HasKind, HasMatchesOf, IsAmong, Kinds, Row, Text, fault_of, is_simple, is_simple_and_free, kind_of, subcommand_name_of, subcommand_of, subcommand_rows, subcommand_rows_of}
+use Rattle.h2_spec.specs.declared.connection.Config.{Config}
 use Rattle.clap.specs.declared.ArgMatches.{ArgMatches}
 use Rattle.clap.specs.declared.ArgMatches.TheViews.{out-ArgMatches, out-SubCommand}
 use Rattle.std.specs.Box.{box_value}
 use Rattle.clap.specs.declared.Error.{Error}
 use Rattle.clap.specs.declared.error.ErrorKind.{ErrorKind}
 use Rattle.clap.specs.declared.error.ErrorKind.TheVariants.{OutOfMemory}
-use Rattle.h2_words.specs.Grammar.{Asked, asked_at, asked_by, bench_app, asked_of, unless_refused}
+use Rattle.h2_words.specs.Grammar.{Asked, BookAsked, batch, play, asked_at, asked_by, bench_app, asked_of, unless_refused}
 use Rattle.h2_words.specs.Plans.{Refuses}
 use Rattle.h2_words.specs.declared.command.Refusal.{Refusal}
 use Rattle.h2_words.specs.declared.command.Refusal.TheVariants.{Words, NoMemory}
@@ -75,3 +76,6 @@ pub printed_refuses : (a : App) (texts words : List Text) (e : Error) (r : Refus
 printed_refuses a texts words e NoMemory app same kinds memory = tt
 printed_refuses a texts words e (Words text) app same kinds memory =
     clap_refused a texts words e app same kinds (λ k. let differ : Words text ≡ NoMemory = memory k in cc)
+
+pub plays-alike : (a b : Config) (m n : ℕ) (d e : Bool) (x y : BookAsked) → a ≡ b → m ≡ n → d ≡ e → x ≡ y → Some (batch (play a m d x)) ≡ Some (batch (play b n e y))
+plays-alike a b m n d e x y ab mn de xy = rw (ab, mn, de, xy) refl

@@ -15,10 +15,10 @@ IsArg rule arg = (rule_of arg ≡ rule) × (arg.global ≡ false)
 abbrev pub IsCommand : App → Command → Type 0
 IsCommand app command = (app_of command ≡ app) × ((out-Command command).has_globals ≡ false)
 
--- the rule of a positional that takes a number, 0 to the most
-abbrev pub number_rule : Text → ℕ → Rule
-number_rule id most = record (new_rule id) { action = Some Set; parser = Some (parser.Unsigned 0 most) }
+-- the rule of a positional that takes a number, from the least to the most
+abbrev pub number_rule : Text → ℕ → ℕ → Rule
+number_rule id least most = record (new_rule id) { action = Some Set; parser = Some (parser.Unsigned least most) }
 
 -- the rule of an option that takes a number, 0 to the most
 abbrev pub option_rule : Text → ℕ → Rule
-option_rule name most = record (number_rule name most) { long = Some name }
+option_rule name most = record (number_rule name 0 most) { long = Some name }

@@ -2,7 +2,7 @@
 //! Rests on `words` and on clap, whose definition of a command says which words are taken: `specs/Grammar.antt`.
 
 ghost use Rattle.std.specs.Prelude.{◌≡◌, IfOk, IfErr, Some, None, codes, map, option_map};
-ghost use Rattle.clap.specs.Words.{App, found_of, kind_of, rows_of, subcommand_rows_of, with_subcommand};
+ghost use Rattle.clap.specs.Words.{App, Rule, found_of, kind_of, new_app, rows_of, subcommand_rows_of, with_rule, with_subcommand};
 ghost use Rattle.clap.specs.declared.error.ErrorKind.TheVariants.{OutOfMemory};
 ghost use Rattle.h2_words.specs.Grammar.{answer_rule, asked_at, asked_by, asked_of, asm_app, bench_app, book_at, book_rule, config_at, count_rule, credit_rule, cut_rule, debug_app, dis_app, each_rule, is_set, limit_rule, number_at, play_app, port_rule, serve_app, streams_rule, table_app, text_at, texts_at, top_app, why_rule, with_book, with_limits};
 ghost use Rattle.h2_words.specs.Built.{IsArg, IsCommand, number_rule, option_rule};
@@ -87,20 +87,20 @@ pub enum Refusal {
     NoMemory,
 }
 
-/// An argument that takes a number from 0 to the most.
-fn number_arg<'a>(alloc: Global, id: &'a str, most: u64) -> Arg<'a>
-    ensures { IsArg (number_rule id.entry.now most) result }
+/// An argument that takes a number from the least to the most.
+fn number_arg<'a>(alloc: Global, id: &'a str, least: u64, most: u64) -> Arg<'a>
+    ensures { IsArg (number_rule id.entry.now least most) result }
 {
     Arg::new(alloc, id)
         .action(ArgAction::Set)
-        .value_parser(ValueParser::Unsigned(0, most))
+        .value_parser(ValueParser::Unsigned(least, most))
 }
 
 /// An option of this name that takes a number from 0 to the most.
 fn number_option<'a>(alloc: Global, name: &'a str, most: u64, help: &'a str) -> Arg<'a>
     ensures { IsArg (option_rule name.entry.now most) result }
 {
-    number_arg(alloc, name, most).long(name).help(help)
+    number_arg(alloc, name, 0, most).long(name).help(help)
 }
 
 fn streams_option<'a>(alloc: Global) -> Arg<'a>
@@ -174,7 +174,7 @@ fn answer_words<'a>(alloc: Global) -> Arg<'a>
 fn limit_word<'a>(alloc: Global) -> Arg<'a>
     ensures { IsArg limit_rule result }
 {
-    number_arg(alloc, "LIMIT", 65536)
+    number_arg(alloc, "LIMIT", 0, 65536)
         .required(true)
         .help("The table's limit in octets, 0 to 65536")
 }
@@ -182,9 +182,7 @@ fn limit_word<'a>(alloc: Global) -> Arg<'a>
 fn port_word<'a>(alloc: Global) -> Arg<'a>
     ensures { IsArg port_rule result }
 {
-    Arg::new(alloc, "PORT")
-        .action(ArgAction::Set)
-        .value_parser(ValueParser::Unsigned(1, 65535))
+    number_arg(alloc, "PORT", 1, 65535)
         .required(true)
         .help("The port of 127.0.0.1, 1 to 65535")
 }
@@ -192,115 +190,134 @@ fn port_word<'a>(alloc: Global) -> Arg<'a>
 fn count_word<'a>(alloc: Global) -> Arg<'a>
     ensures { IsArg count_rule result }
 {
-    number_arg(alloc, "COUNT", 4294967295)
+    number_arg(alloc, "COUNT", 0, 4294967295)
         .required(true)
         .help("How many connections are served, one after another")
 }
 
-/// The command with the limits of a connection.
-fn with_limits<'a>(alloc: Global, command: Command<'a>) -> Result<Command<'a>, AllocError>
-    ensures { (app : App) → IsCommand app command.entry → IfOk result (IsCommand (with_limits app)) }
+/// The command with one more argument.
+fn with_arg<'a>(
+    command: Result<Command<'a>, AllocError>,
+    arg: Arg<'a>,
+) -> Result<Command<'a>, AllocError>
+    ensures { (app : App) (rule : Rule) → IfOk command.entry (IsCommand app) → IsArg rule arg.entry
+        → IfOk result (IsCommand (with_rule app rule)) }
 {
-    command
-        .arg(streams_option(alloc))?
-        .arg(credit_option(alloc))
+    match command {
+        Ok(command) => command.arg(arg),
+        Err(refused) => Err(refused),
+    }
+}
+
+/// The command with the limits of a connection.
+fn with_limits<'a>(
+    alloc: Global,
+    command: Result<Command<'a>, AllocError>,
+) -> Result<Command<'a>, AllocError>
+    ensures { (app : App) → IfOk command.entry (IsCommand app) → IfOk result (IsCommand (with_limits app)) }
+{
+    let command = with_arg(command, streams_option(alloc));
+    with_arg(command, credit_option(alloc))
 }
 
 /// The command with the file of a book, and whether reasons are written.
-fn with_book<'a>(alloc: Global, command: Command<'a>) -> Result<Command<'a>, AllocError>
-    ensures { (app : App) → IsCommand app command.entry → IfOk result (IsCommand (with_book app)) }
+fn with_book<'a>(
+    alloc: Global,
+    command: Result<Command<'a>, AllocError>,
+) -> Result<Command<'a>, AllocError>
+    ensures { (app : App) → IfOk command.entry (IsCommand app) → IfOk result (IsCommand (with_book app)) }
 {
-    command.arg(book_option(alloc))?.arg(why_option(alloc))
+    let command = with_arg(command, book_option(alloc));
+    with_arg(command, why_option(alloc))
 }
 
 /// The command with one more subcommand.
 fn with_subcommand<'a>(
-    command: Command<'a>,
+    command: Result<Command<'a>, AllocError>,
     subcommand: Result<Command<'a>, AllocError>,
 ) -> Result<Command<'a>, AllocError>
-    ensures { (app sub : App) → IsCommand app command.entry → IfOk subcommand.entry (IsCommand sub)
+    ensures { (app sub : App) → IfOk command.entry (IsCommand app) → IfOk subcommand.entry (IsCommand sub)
         → IfOk result (IsCommand (with_subcommand app sub.top)) }
 {
-    command.subcommand(subcommand?)
+    command?.subcommand(subcommand?)
+}
+
+/// A command with what help says of it.
+fn described<'a>(alloc: Global, name: &'a str, about: &'a str) -> Command<'a>
+    ensures { IsCommand (new_app name.entry.now) result }
+{
+    Command::new(alloc, name).about(about)
 }
 
 fn play_command<'a>(alloc: Global) -> Result<Command<'a>, AllocError>
     ensures { IfOk result (IsCommand play_app) }
 {
-    let command = Command::new(alloc, "play").about(
-        "Plays one connection over the octets that standard input has as hex",
-    );
-    let command = with_limits(alloc, command)?
-        .arg(cut_option(alloc))?
-        .arg(each_option(alloc))?;
-    with_book(alloc, command)?.arg(answer_words(alloc))
+    let about = "Plays one connection over the octets that standard input has as hex";
+    let command = with_limits(alloc, Ok(described(alloc, "play", about)));
+    let command = with_arg(command, cut_option(alloc));
+    let command = with_arg(command, each_option(alloc));
+    let command = with_book(alloc, command);
+    with_arg(command, answer_words(alloc))
 }
 
 fn asm_command<'a>(alloc: Global) -> Command<'a>
     ensures { IsCommand asm_app result }
 {
-    Command::new(alloc, "asm").about(
-        "Writes the octets of the script that standard input is, as hex",
-    )
+    let about = "Writes the octets of the script that standard input is, as hex";
+    described(alloc, "asm", about)
 }
 
 fn dis_command<'a>(alloc: Global) -> Command<'a>
     ensures { IsCommand dis_app result }
 {
-    Command::new(alloc, "dis").about(
-        "Writes the script of the octets that standard input has as hex",
-    )
+    let about = "Writes the script of the octets that standard input has as hex";
+    described(alloc, "dis", about)
 }
 
 fn table_command<'a>(alloc: Global) -> Result<Command<'a>, AllocError>
     ensures { IfOk result (IsCommand table_app) }
 {
-    Command::new(alloc, "table")
-        .about(
-            "Changes a dynamic header table by the lines of standard input: add NAME VALUE, max N",
-        )
-        .arg(limit_word(alloc))
+    let about =
+        "Changes a dynamic header table by the lines of standard input: add NAME VALUE, max N";
+    described(alloc, "table", about).arg(limit_word(alloc))
 }
 
 fn debug_command<'a>(alloc: Global) -> Result<Command<'a>, AllocError>
     ensures { IfOk result (IsCommand debug_app) }
 {
-    let command = Command::new(alloc, "debug").about(
-        "Debugs one connection: the first line of standard input is hex, each further line a command",
-    );
-    let command = with_limits(alloc, command)?;
-    with_book(alloc, command)?.arg(answer_words(alloc))
+    let about =
+        "Debugs one connection: the first line of standard input is hex, each further line a command";
+    let command = with_limits(alloc, Ok(described(alloc, "debug", about)));
+    let command = with_book(alloc, command);
+    with_arg(command, answer_words(alloc))
 }
 
 fn serve_command<'a>(alloc: Global) -> Result<Command<'a>, AllocError>
     ensures { IfOk result (IsCommand serve_app) }
 {
-    let command = Command::new(alloc, "serve").about(
-        "Serves connections of a port, one after another",
-    );
-    let command = with_limits(alloc, command)?;
-    with_book(alloc, command)?
-        .arg(port_word(alloc))?
-        .arg(count_word(alloc))?
-        .arg(answer_words(alloc))
+    let about = "Serves connections of a port, one after another";
+    let command = with_limits(alloc, Ok(described(alloc, "serve", about)));
+    let command = with_book(alloc, command);
+    let command = with_arg(command, port_word(alloc));
+    let command = with_arg(command, count_word(alloc));
+    with_arg(command, answer_words(alloc))
 }
 
 fn top_command<'a>(alloc: Global) -> Command<'a>
     ensures { IsCommand top_app result }
 {
-    Command::new(alloc, "h2_bench")
-        .about("An HTTP/2 server emulator and frame debugger")
-        .subcommand_required(true)
+    let about = "An HTTP/2 server emulator and frame debugger";
+    described(alloc, "h2_bench", about).subcommand_required(true)
 }
 
 fn bench_command<'a>(alloc: Global) -> Result<Command<'a>, AllocError>
     ensures { IfOk result (IsCommand bench_app) }
 {
-    let command = with_subcommand(top_command(alloc), play_command(alloc))?;
-    let command = with_subcommand(command, Ok(asm_command(alloc)))?;
-    let command = with_subcommand(command, Ok(dis_command(alloc)))?;
-    let command = with_subcommand(command, table_command(alloc))?;
-    let command = with_subcommand(command, debug_command(alloc))?;
+    let command = with_subcommand(Ok(top_command(alloc)), play_command(alloc));
+    let command = with_subcommand(command, Ok(asm_command(alloc)));
+    let command = with_subcommand(command, Ok(dis_command(alloc)));
+    let command = with_subcommand(command, table_command(alloc));
+    let command = with_subcommand(command, debug_command(alloc));
     with_subcommand(command, serve_command(alloc))
 }
 
