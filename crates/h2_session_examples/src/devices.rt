@@ -2,7 +2,7 @@
 //! call, and a pair in which the
 //! input fails unless all that was written was flushed.
 
-ghost use Rattle.std.specs.Prelude.{◌≡◌, Some, None};
+ghost use Rattle.std.specs.Prelude.{◌≡◌, None, false, is_err, true};
 
 use h2_device::{DeviceFault, Input, Output};
 use std::alloc::Global;
@@ -59,7 +59,7 @@ impl Limited {
     }
 
     fn fail(&mut self) -> Result<(), DeviceFault>
-        ensures { (result ≡ Err DeviceFault) × (self.new.failed ≡ true) }
+        ensures { (is_err result ≡ true) × (self.new.failed ≡ true) }
     {
         self.failed = true;
         Err(DeviceFault)
@@ -99,6 +99,8 @@ impl Output for Limited {
 #[derive(Drop)]
 pub(crate) struct Asker<'l> {
     pub lines: &'l [&'l [u8]],
+    /// Which line comes next.
+    pub next: usize,
     pub held_back: &'l Cell<bool>,
     pub failed: bool,
 }
@@ -111,18 +113,23 @@ impl Input for Asker<'_> {
     ghost name = { λ _. 0 };
 
     fn read(&mut self, room: &mut [u8]) -> Result<usize, DeviceFault> {
-        if self.held_back.get() {
-            self.failed = true;
+        self.failed = self.held_back.get();
+        if self.failed {
             return Err(DeviceFault);
         }
-        self.failed = false;
-        let Some((line, left)) = self.lines.split_first() else {
-            return Ok(0);
-        };
-        self.lines = left;
+        let line = line_at(self.lines, self.next);
+        self.next = self.next.saturating_add(1);
         let count = line.len().min(room.len());
         room[..count].copy_from_slice(&line[..count]);
         Ok(count)
+    }
+}
+
+/// The line at a place; no octets behind the last one.
+fn line_at<'l>(lines: &[&'l [u8]], place: usize) -> &'l [u8] {
+    match lines.get(place) {
+        Some(line) => line,
+        None => &[],
     }
 }
 

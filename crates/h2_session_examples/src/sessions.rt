@@ -207,6 +207,7 @@ fn each_answer_is_flushed_before_the_next_line_is_read(rt: HostRuntime) -> Resul
     ];
     let mut input = Asker {
         lines: lines.as_slice(),
+        next: 0,
         held_back: &held_back,
         failed: false,
     };
