@@ -1,2 +1,3 @@
+mod Editing
 mod Popped
 mod StaticEntries

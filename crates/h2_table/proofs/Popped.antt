@@ -8,7 +8,7 @@ use Rattle.h2_spec.specs.DynamicTable.{total_size, fit}
 use Rattle.h2_spec.proofs.TableLaws.{fit-evict, total_size-append, total_size-length}
 use Rattle.h2_table.specs.Held.{places_for}
 
-last-split : {X : Type 0} (xs : List X) (x : X) → last_item xs ≡ Some x → xs ≡ take (length xs - 1) xs ++ x ∷ []
+pub last-split : {X : Type 0} (xs : List X) (x : X) → last_item xs ≡ Some x → xs ≡ take (length xs - 1) xs ++ x ∷ []
 last-split xs x h =
     let i = length xs - 1 in
     let inside : i < length xs = slice_get_within xs i x h in

@@ -20,9 +20,9 @@ use std::marker::Model;
 /// An entry counts the octets of its name and value and 32 more (RFC 7541, 4.1).
 #[derive(Drop)]
 pub struct DynTable<A: Allocator> {
-    ring: HeapCircularBuffer<TableEntry<A>, A>,
-    size: usize,
-    max: u32,
+    pub(crate) ring: HeapCircularBuffer<TableEntry<A>, A>,
+    pub(crate) size: usize,
+    pub(crate) max: u32,
     limit: u32,
 }
 
@@ -163,7 +163,7 @@ impl<A: Allocator + Copy> DynTable<A> {
 
 /// Takes out the oldest entries until those left, which count `size` together, count at most `room`; what is left
 /// counts the answer.
-fn evict<A: Allocator>(
+pub(crate) fn evict<A: Allocator>(
     ring: &mut HeapCircularBuffer<TableEntry<A>, A>,
     size: usize,
     room: usize,
@@ -185,7 +185,10 @@ fn evict<A: Allocator>(
 }
 
 /// Puts an entry in a free place, as the newest.
-fn put_newest<A: Allocator>(ring: &mut HeapCircularBuffer<TableEntry<A>, A>, entry: TableEntry<A>)
+pub(crate) fn put_newest<A: Allocator>(
+    ring: &mut HeapCircularBuffer<TableEntry<A>, A>,
+    entry: TableEntry<A>,
+)
     requires { length ring.old.items < ring.old.capacity }
     ensures { ring.new ≡ buffer (entry ∷ ring.old.items) ring.old.capacity }
 {

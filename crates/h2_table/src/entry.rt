@@ -45,6 +45,20 @@ impl<A: Allocator> TableEntry<A> {
 }
 
 impl<A: Allocator + Copy> TableEntry<A> {
+    /// The entry of this name and this value, in memory of its own.
+    ///
+    /// # Errors
+    ///
+    /// `AllocError` where the memory was refused.
+    pub fn of(alloc: A, name: &[u8], value: &[u8]) -> Result<TableEntry<A>, AllocError>
+        ensures { IfOk result (λ entry. entry ≡ record { name = name.now; value = value.now }) }
+    {
+        Ok(TableEntry {
+            name: Vec::from_slice(alloc, name)?,
+            value: Vec::from_slice(alloc, value)?,
+        })
+    }
+
     /// The same entry once more, in memory of its own.
     ///
     /// # Errors

@@ -4,10 +4,12 @@
 #![tactic(auto)]
 
 pub mod dynamic_table;
+pub mod edit;
 pub mod entry;
 pub mod fault;
 pub mod static_table;
 
 pub use dynamic_table::DynTable;
+pub use edit::{Draft, Edit};
 pub use fault::TableFault;
 pub use static_table::static_field;

@@ -1,0 +1,79 @@
+-- What an edited table evicts, and what a commit moves.
+use Rattle.std.proofs.Common.{◌≡◌, ℕ, zero, suc, ◌+◌, ◌-◌, ◌<◌, ◌≤◌, List, [], ◌∷◌, ◌++◌, length, take, Some, None, get_or, refl, ap, ◌∙◌, sym, arith}
+use Rattle.std.proofs.lemmas.List.{take_more, append_assoc, length-append}
+use Rattle.std.proofs.lemmas.Option.{slice_get_within, get_or_from_slice_get}
+use Rattle.circular_buffer.specs.Buffer.{last_item}
+use Rattle.h2_spec.specs.Field.{Field, size}
+use Rattle.h2_spec.specs.DynamicTable.{Table, LimitedTable, total_size, fit, entry_at, insert, resize}
+use Rattle.h2_spec.proofs.TableLaws.{fit-cons, fit-none, fit-zero, fit-evict, total_size-append, total_size-length, fit-is_longest}
+use Rattle.h2_table.specs.Edits.{Drafted}
+use Rattle.h2_table.specs.Held.{places_for}
+use Rattle.h2_table.proofs.Popped.{last-split}
+
+-- the last of the entries that are still there
+take-last : (es : List Field) (last : ℕ) (x : Field) → Some x ≡ entry_at last es → take last es ≡ take (last - 1) es ++ x ∷ []
+take-last es zero x h = absurd cc
+take-last es (suc n) x h =
+    let at = sym h in
+    let inside : n < length es = slice_get_within es n x at in
+    let next : n + 1 ≡ suc n = omega arith in
+    let less : suc n - 1 ≡ n = omega arith in
+    rw less (ap (λ k. take k es) (sym next) ∙ take_more es n x inside ∙ ap (λ y. take n es ++ y ∷ []) (get_or_from_slice_get es n x x at))
+
+-- it counts what the others don't, and what fits is the same without it
+pub record Leaves (added es : List Field) (last : ℕ) (x : Field) (room : ℕ) : Type 0 where
+  pub counted : total_size (added ++ take last es) ≡ total_size (added ++ take (last - 1) es) + size x
+  pub same : fit (added ++ take (last - 1) es) room ≡ fit (added ++ take last es) room
+
+pub leaves : (added es : List Field) (last : ℕ) (x : Field) (room : ℕ) → Some x ≡ entry_at last es → room < total_size (added ++ take last es) → Leaves added es last x room
+leaves added es last x room h over =
+    let rest = added ++ take (last - 1) es in
+    let split : added ++ take last es ≡ rest ++ x ∷ [] = ap (λ r. added ++ r) (take-last es last x h) ∙ sym (append_assoc added (take (last - 1) es) (x ∷ [])) in
+    let sizes = ap total_size split ∙ total_size-append rest (x ∷ []) in
+    let over_too : room < total_size (rest ++ x ∷ []) = omega (arith, ap total_size split) in
+    record {
+      counted = omega (arith, sizes);
+      same = sym (ap (λ r. fit r room) split ∙ fit-evict rest x room over_too);
+    }
+
+-- an entry that is not there
+pub no_entry : (es : List Field) (last : ℕ) → 0 < last → last ≤ length es → None ≡ entry_at last es → ⊥
+no_entry es zero h l e = omega arith
+no_entry [] (suc n) h l e = omega arith
+no_entry (x ∷ es) (suc zero) h l e = cc
+no_entry (x ∷ es) (suc (suc n)) h l e = no_entry es (suc n) (omega arith) (omega arith) e
+
+-- the oldest of what was added goes to the front of the others
+pub moved : (added ring : List Field) (x : Field) → Some x ≡ last_item added → take (length added - 1) added ++ x ∷ ring ≡ added ++ ring
+moved added ring x h = sym (append_assoc (take (length added - 1) added) (x ∷ []) ring) ∙ ap (λ a. a ++ ring) (sym (last-split added x (sym h)))
+
+-- ---- the table of a draft
+
+abbrev pub draft : LimitedTable → List Field → ℕ → Drafted
+draft base entries max = record { base = base; table = record { entries = entries; max = max } }
+
+pub resized-draft : (base : LimitedTable) (entries now : List Field) (max n : ℕ) (d : Drafted) → draft base entries max ≡ d → now ≡ fit entries n → draft base now n ≡ record d { table = resize d.table n }
+unfolding resize
+resized-draft base entries now max n d v e = ap (λ x. draft base x n) e ∙ ap (λ (y : Drafted). let r : Drafted = record y { table = resize y.table n } in r) v
+
+inserted-draft : (base : LimitedTable) (entries now : List Field) (max : ℕ) (f : Field) (d : Drafted) → draft base entries max ≡ d → now ≡ fit (f ∷ entries) max → draft base now max ≡ record d { table = insert d.table f }
+unfolding insert
+inserted-draft base entries now max f d v e = ap (λ x. draft base x max) e ∙ ap (λ (y : Drafted). let r : Drafted = record y { table = insert y.table f } in r) v
+
+-- a field that counts too much empties the table
+pub emptied-draft : (base : LimitedTable) (entries now : List Field) (max : ℕ) (f : Field) (d : Drafted) → draft base entries max ≡ d → now ≡ fit entries 0 → max < size f → draft base now max ≡ record d { table = insert d.table f }
+emptied-draft base entries now max f d v e over = inserted-draft base entries now max f d v (e ∙ fit-zero entries ∙ sym (fit-none f entries max over))
+
+-- a field that has room enters
+pub entered-draft : (base : LimitedTable) (entries left now : List Field) (max : ℕ) (f : Field) (d : Drafted) → draft base entries max ≡ d → left ≡ fit entries (max - size f) → now ≡ f ∷ left → size f ≤ max → draft base now max ≡ record d { table = insert d.table f }
+entered-draft base entries left now max f d v e k fits = inserted-draft base entries now max f d v (k ∙ ap (λ r. f ∷ r) e ∙ sym (fit-cons f entries max fits))
+
+-- what fits is no longer than what it is taken from
+pub length-fit : (es : List Field) (max : ℕ) → length (fit es max) ≤ length es
+length-fit es max =
+    let b = (fit-is_longest es max).begins in
+    omega (arith, ap length b.1, length-append (fit es max) b.0)
+
+-- entries within the limit have places
+pub have_places : (es : List Field) (limit : ℕ) → total_size es ≤ limit → length es ≤ places_for limit
+have_places es limit h = omega (arith, total_size-length es)

@@ -1,0 +1,26 @@
+use Rattle.std.proofs.Common.{arith, ◌≡◌, ◌-◌, ◌≤◌, ◌<◌, ◌++◌, ◌∙◌, ◌∷◌, ap, take}
+use Rattle.h2_spec.specs.DynamicTable.{fit}
+use Rattle.h2_spec.specs.Field.{field, size}
+use Rattle.h2_table.proofs.Editing.{emptied-draft, entered-draft}
+use Rattle.h2_table.proofs.edit.Draft.insert.Goals as goal
+
+pub returns-then-size-max-clause-ok : goal.returns-then-size-max-clause-ok
+returns-then-size-max-clause-ok g c =
+    let d = c.self.inside in
+    let e = c.evict_oldest-kept in
+    let own = d.base.now.table.entries in
+    let f = field c.args.name.now c.args.value.now in
+    emptied-draft d.base.now (d.added.items ++ take d.kept own) (e.new.added.items ++ take e.result.0 own) d.max f c.args.self.now c.self.view_is e.ensures.left (omega arith)
+
+pub returns-clause-ok : goal.returns-clause-ok
+returns-clause-ok g c =
+    let d = c.self.inside in
+    let e = c.evict_oldest-kept-2 in
+    let own = d.base.now.table.entries in
+    let f = field c.args.name.now c.args.value.now in
+    let left = e.new.added.items ++ take e.result.0 own in
+    let same : c.saturating_add-size.result ≡ size f = omega arith in
+    let was = ap (λ es. fit (es ++ take d.kept own) (d.max - c.saturating_add-size.result)) c.in_ok-make_place.ensures.items in
+    let kept = e.ensures.left ∙ was ∙ ap (λ n. fit (d.added.items ++ take d.kept own) (d.max - n)) same in
+    let now = ap (λ b. b.items ++ take e.result.0 own) c.put_newest.ensures ∙ ap (λ x. x ∷ left) c.in_ok-entry.ensures in
+    entered-draft d.base.now (d.added.items ++ take d.kept own) left _ d.max f c.args.self.now c.self.view_is kept now (omega arith)

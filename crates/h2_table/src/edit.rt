@@ -1,0 +1,290 @@
+//! An edit of a dynamic table (RFC 7541, 2.3.2 and 4): the entries that were added, and how many of the table's own
+//! remain.
+//! The table does not change until the edit is committed, which needs no memory; an edit that is never committed
+//! changes
+//! nothing. So a field block can be decoded without a copy of the table.
+//! The definitions are `Table`, `insert` and `resize` of `h2_spec`, specs/DynamicTable.antt, and those of
+//! `specs/Edits.antt`.
+
+ghost use Rattle.std.specs.Prelude.{◌≡◌, ◌<◌, ◌≤◌, [], ◌∷◌, ◌++◌, ◌↔◌, length, take, option_map, true, OnOk, OnErr, IfOk, IfErr, IsErr, IsOk};
+ghost use Rattle.circular_buffer.specs.Buffer.{buffer};
+ghost use Rattle.h2_spec.specs.DynamicTable.{fit, insert, resize, total_size, entry_at};
+ghost use Rattle.h2_spec.specs.Field.{field};
+ghost use Rattle.h2_table.specs.Edits.{IsEdit, edited};
+ghost use Rattle.h2_table.specs.Lent.{lent_field};
+ghost use Rattle.h2_table.specs.declared.fault.TableFault.TheVariants as faults;
+
+use crate::dynamic_table::{DynTable, evict, put_newest};
+use crate::entry::TableEntry;
+use crate::fault::TableFault;
+use circular_buffer::HeapCircularBuffer;
+use std::alloc::{AllocError, Allocator};
+use std::marker::Model;
+
+/// An edit of a dynamic table, without the table: the added entries, the newest first, how many of the table's own
+/// entries
+/// remain, what both count together, and the maximum.
+#[derive(Drop)]
+pub struct Edit<A: Allocator> {
+    pub(crate) added: HeapCircularBuffer<TableEntry<A>, A>,
+    pub(crate) kept: usize,
+    pub(crate) size: usize,
+    pub(crate) max: u32,
+}
+
+impl<A: Allocator> Model for Edit<A> {
+    ghost use Rattle.h2_table.specs.Edits.{EditOf};
+
+    ghost Value = { EditOf };
+
+    ghost view = { λ e. record { added = e.added.items; kept = e.kept; size = e.size; max = e.max } };
+}
+
+impl<A: Allocator> Edit<A> {
+    /// An edit for `Draft::start`, with places for its first entries.
+    ///
+    /// # Errors
+    ///
+    /// `AllocError` where the places were refused.
+    pub fn new(alloc: A) -> Result<Self, AllocError>
+        ensures { IfOk result (λ edit. edit ≡ record { added = []; kept = 0; size = 0; max = 0 }) }
+    {
+        let added = HeapCircularBuffer::with_capacity(alloc, 8)?;
+        Ok(Edit {
+            added,
+            kept: 0,
+            size: 0,
+            max: 0,
+        })
+    }
+}
+
+/// A dynamic table with an edit of it: look-ups and changes are those of the edited table, and the table itself does
+/// not
+/// change.
+#[derive(Drop)]
+pub struct Draft<'t, A: Allocator> {
+    base: &'t DynTable<A>,
+    added: HeapCircularBuffer<TableEntry<A>, A>,
+    kept: usize,
+    size: usize,
+    max: u32,
+}
+
+impl<'t, A: Allocator> Model for Draft<'t, A> {
+    ghost use Rattle.h2_table.specs.Edits.{Drafted, IsEdit, edited};
+
+    ghost Value = { Drafted };
+
+    ghost view = { λ d. record { base = d.base.now; table = edited d.base.now.table.entries (record { added = d.added.items; kept = d.kept; size = d.size; max = d.max }) } };
+
+    ghost invariant = { λ d. IsEdit d.base.now (record { added = d.added.items; kept = d.kept; size = d.size; max = d.max }) };
+}
+
+impl<'t, A: Allocator + Copy> Draft<'t, A> {
+    /// The table with no changes yet. `edit` may be of any table: its entries are dropped and its places are used
+    /// again.
+    /// Takes no memory.
+    pub fn start(base: &'t DynTable<A>, edit: Edit<A>) -> Self
+        ensures { result ≡ record { base = base.now; table = base.now.table } }
+    {
+        let mut added = edit.added;
+        added.clear();
+        Draft {
+            base,
+            added,
+            kept: base.len(),
+            size: base.size(),
+            max: base.max(),
+        }
+    }
+
+    /// The edit, which belongs to the table: `DynTable::commit` makes its changes there.
+    pub fn into_edit(self) -> Edit<A>
+        ensures same { edited self.entry.base.table.entries result ≡ self.entry.table }
+        ensures belongs { IsEdit self.entry.base result }
+    {
+        Edit {
+            added: self.added,
+            kept: self.kept,
+            size: self.size,
+            max: self.max,
+        }
+    }
+
+    /// The name and the value of the `i`-th entry, counted from 1, the newest; none past the oldest, and none for 0.
+    pub fn get(&self, i: usize) -> Option<(&[u8], &[u8])>
+        ensures { option_map lent_field result ≡ entry_at i self.now.table.entries }
+    {
+        if i == 0 {
+            return None;
+        }
+        let count = self.added.len();
+        if i <= count {
+            let entry = self.added.get(i - 1)?;
+            return Some((entry.name(), entry.value()));
+        }
+        if i - count > self.kept {
+            return None;
+        }
+        self.base.get(i - count)
+    }
+
+    /// Sets the maximum to `n` octets, and evicts the oldest entries until the others are within it (RFC 7541, 4.3).
+    ///
+    /// # Errors
+    ///
+    /// `OverLimit` where `n` is above the limit of the table; nothing has changed. No memory is taken.
+    pub fn set_max(&mut self, n: u64) -> Result<(), TableFault>
+        ensures over_limit { IsErr result ↔ (self.old.base.limit < n) }
+        ensures resized { OnOk result (self.new ≡ record self.old { table = resize self.old.table n }) }
+        ensures fault { IfErr result (λ fault. fault ≡ faults.OverLimit) }
+        ensures unchanged { OnErr result (self.new ≡ self.old) }
+    {
+        let is_over = n > u64::from(self.base.limit());
+        if is_over {
+            return Err(TableFault::OverLimit);
+        }
+        let max = n as u32;
+        let (kept, left) = evict_oldest(
+            &mut self.added,
+            self.base,
+            self.kept,
+            self.size,
+            max as usize,
+        );
+        self.kept = kept;
+        self.size = left;
+        self.max = max;
+        Ok(())
+    }
+
+    /// Adds a field as the newest entry, once the oldest ones have made room for it; one that counts more than the
+    /// maximum empties the table and is no error (RFC 7541, 4.4).
+    ///
+    /// # Errors
+    ///
+    /// `AllocError` where memory was refused; nothing has changed.
+    pub fn insert(&mut self, name: &[u8], value: &[u8]) -> Result<(), AllocError>
+        ensures ok { OnOk result (self.new ≡ record self.old { table = insert self.old.table (field name.now value.now) }) }
+        ensures err { OnErr result (self.new ≡ self.old) }
+    {
+        let size = name.len().saturating_add(value.len()).saturating_add(32);
+        let max = self.max as usize;
+        if size > max {
+            let (kept, left) = evict_oldest(&mut self.added, self.base, self.kept, self.size, 0);
+            self.kept = kept;
+            self.size = left;
+            return Ok(());
+        }
+        make_place(&mut self.added)?;
+        let entry = TableEntry::of(*self.added.allocator(), name, value)?;
+        let (kept, left) = evict_oldest(
+            &mut self.added,
+            self.base,
+            self.kept,
+            self.size,
+            max - size,
+        );
+        put_newest(&mut self.added, entry);
+        self.kept = kept;
+        self.size = left + size;
+        Ok(())
+    }
+}
+
+/// Makes a free place in a ring: one that is full gets twice its places.
+fn make_place<A: Allocator + Copy>(
+    ring: &mut HeapCircularBuffer<TableEntry<A>, A>,
+) -> Result<(), AllocError>
+    ensures items { ring.new.items ≡ ring.old.items }
+    ensures place { OnOk result (length ring.new.items < ring.new.capacity) }
+{
+    let places = ring.capacity();
+    if ring.len() < places {
+        return Ok(());
+    }
+    ring.resize(places.saturating_mul(2).max(8))
+}
+
+/// Evicts the oldest entries until the others count at most `room` octets: first the table's own, then those that
+/// were added.
+/// Returns how many of the table's own remain, and what all that remain count.
+fn evict_oldest<A: Allocator>(
+    added: &mut HeapCircularBuffer<TableEntry<A>, A>,
+    base: &DynTable<A>,
+    kept: usize,
+    size: usize,
+    room: usize,
+) -> (usize, usize)
+    requires counted { size ≡ total_size (added.old.items ++ take kept base.now.table.entries) }
+    requires held { kept ≤ length base.now.table.entries }
+    ensures left { added.new.items ++ take result.0 base.now.table.entries ≡ fit (added.old.items ++ take kept base.now.table.entries) room }
+    ensures held { result.0 ≤ length base.now.table.entries }
+    ensures counted { result.1 ≡ total_size (added.new.items ++ take result.0 base.now.table.entries) }
+    ensures within { result.1 ≤ room }
+    ensures fewer { length added.new.items ≤ length added.old.items }
+    ensures places { added.new.capacity ≡ added.old.capacity }
+{
+    let (kept, left) = evict_own(added, base, kept, size, room);
+    if left <= room {
+        return (kept, left);
+    }
+    (0, evict(added, left, room))
+}
+
+/// How many of the table's own entries remain where the oldest of them are evicted, until all count at most `room`
+/// octets or
+/// none of the table's own is left, and what all that remain count.
+fn evict_own<A: Allocator>(
+    added: &HeapCircularBuffer<TableEntry<A>, A>,
+    base: &DynTable<A>,
+    kept: usize,
+    size: usize,
+    room: usize,
+) -> (usize, usize)
+    requires counted { size ≡ total_size (added.now.items ++ take kept base.now.table.entries) }
+    requires held { kept ≤ length base.now.table.entries }
+    ensures same { fit (added.now.items ++ take result.0 base.now.table.entries) room ≡ fit (added.now.items ++ take kept base.now.table.entries) room }
+    ensures held { result.0 ≤ length base.now.table.entries }
+    ensures counted { result.1 ≡ total_size (added.now.items ++ take result.0 base.now.table.entries) }
+    ensures gone { room < result.1 → result.0 ≡ 0 }
+{
+    let mut last = kept;
+    let mut left = size;
+    while left > room && last > 0 {
+        match base.get(last) {
+            Some((name, value)) => left -= name.len() + value.len() + 32,
+            None => return (last, left),
+        }
+        last -= 1;
+    }
+    (last, left)
+}
+
+impl<A: Allocator> DynTable<A> {
+    /// Makes the changes of an edit that belongs to the table. Takes no memory; the places of the edit can be used
+    /// again.
+    pub fn commit(&mut self, edit: &mut Edit<A>)
+        requires belongs { IsEdit self.old edit.old }
+        ensures { self.new ≡ record self.old { table = edited self.old.table.entries edit.old } }
+    {
+        self.ring.truncate_back(edit.kept);
+        move_newest(&mut self.ring, &mut edit.added);
+        self.size = edit.size;
+        self.max = edit.max;
+    }
+}
+
+/// Moves all entries of a ring, the oldest first, to the front of another, which has places for them.
+fn move_newest<A: Allocator>(
+    ring: &mut HeapCircularBuffer<TableEntry<A>, A>,
+    added: &mut HeapCircularBuffer<TableEntry<A>, A>,
+)
+    requires { length (added.old.items ++ ring.old.items) ≤ ring.old.capacity }
+    ensures { ring.new ≡ buffer (added.old.items ++ ring.old.items) ring.old.capacity }
+{
+    while let Some(entry) = added.pop_back() {
+        put_newest(ring, entry);
+    }
+}
