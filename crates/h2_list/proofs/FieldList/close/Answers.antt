@@ -1,0 +1,35 @@
+use Rattle.std.proofs.Common.{arith, ◌≡◌, ◌+◌, ◌≤◌, ◌++◌, ◌∷◌, [], ℕ, List, length, take, drop, map, ◌∙◌, sym, ap, subst, refl, length-drop}
+use Rattle.h2_spec.specs.Field.{Field, field}
+use Rattle.h2_list.specs.Listed.{Listed}
+use Rattle.h2_list.specs.Spans.{AreSpans, field_in}
+use Rattle.h2_list.specs.declared.Span.{Span}
+use Rattle.h2_list.proofs.Closing.{closes, spans-push}
+use Rattle.h2_list.proofs.FieldList.close.Goals as goal
+
+listed : List Field → List ℕ → Listed
+listed fields next = record { fields = fields; next = next }
+
+pub invariant_of-self-2 : goal.invariant_of-self-2
+invariant_of-self-2 g c =
+    let l = c.self.inside in
+    let s : Span = record { start = l.start; split = l.start + c.args.name; end = c.len-end.result } in
+    let seen = ap (λ (o : Listed). length o.next) c.self.view_is in
+    let end = c.len-end.ensures ∙ l.octets.ok.0 in
+    let value : l.start + c.args.name ≤ c.len-end.result = omega (arith, seen, c.requires.within, end, c.self.invariant.0, length-drop l.start l.octets.items) in
+    let more = spans-push 0 l.spans.items l.start s c.self.invariant.1 refl (record { name = omega arith; value = value }) in
+    (omega (arith, end), subst (λ (spans : List Span). AreSpans 0 spans c.len-end.result) (sym c.in_ok-push.ensures.items) more)
+
+pub returns-clause-ok : goal.returns-clause-ok
+unfolding listed
+returns-clause-ok g c =
+    let l = c.self.inside in
+    let s : Span = record { start = l.start; split = l.start + c.args.name; end = c.len-end.result } in
+    let seen = ap (λ (o : Listed). length o.next) c.self.view_is in
+    let more = drop l.start l.octets.items in
+    let room : c.args.name ≤ length more = omega (arith, seen, c.requires.within) in
+    let fields = map (field_in (take l.start l.octets.items)) l.spans.items ++ field (take c.args.name more) (drop c.args.name more) ∷ [] in
+    let r = closes l.octets.items l.spans.items s l.start c.args.name c.self.invariant.0 c.self.invariant.1 refl refl (c.len-end.ensures ∙ l.octets.ok.0) room in
+    ap (λ (spans : List Span). listed (map (field_in (take c.len-end.result l.octets.items)) spans) (drop c.len-end.result l.octets.items)) c.in_ok-push.ensures.items
+    ∙ ap (λ (fs : List Field). listed fs (drop c.len-end.result l.octets.items)) r.fields
+    ∙ ap (λ (n : List ℕ). listed fields n) r.next
+    ∙ ap (λ (o : Listed). listed (o.fields ++ field (take c.args.name o.next) (drop c.args.name o.next) ∷ []) []) c.self.view_is
