@@ -1,5 +1,6 @@
 mod Appending
 mod Applying
+mod Drafting
 mod Lengths
 mod Reading
 mod Responding

@@ -1,5 +1,6 @@
 pub mod ResponseRead
 pub mod Blocks
+pub mod Drafts
 pub mod Faults
 pub mod Instructions
 pub mod Shapes

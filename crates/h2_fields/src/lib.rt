@@ -5,8 +5,11 @@
 
 mod apply;
 pub mod block;
+pub mod collected;
+mod effect;
 pub mod fault;
 pub mod field;
+pub mod fragment;
 mod gathered;
 pub mod instruction;
 pub mod laws;

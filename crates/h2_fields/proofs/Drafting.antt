@@ -1,0 +1,36 @@
+-- How far the loop over the instructions has come.
+use Rattle.std.proofs.Common.{◌≡◌, ◌≢◌, ℕ, List, [], ◌++◌, drop, Some, refl, ap, ◌∙◌, sym}
+use Rattle.std.proofs.lemmas.List.{append-nil, append_assoc}
+use Rattle.h2_spec.specs.Block.{FieldsSoFar, Progress, applied, decoded}
+use Rattle.h2_spec.specs.Instruction.{Shape, instr_at}
+use Rattle.h2_spec.specs.Read.{Whole, TooLong}
+use Rattle.h2_spec.proofs.BlockLaws.{Stands, stands-refused, stands-too_long}
+use Rattle.h2_fields.specs.Blocks.{faulted}
+use Rattle.h2_fields.specs.Drafts.{Grows, IsStopped}
+use Rattle.h2_fields.specs.Faults.{refusal}
+use Rattle.h2_fields.specs.declared.fault.BlockFault.{BlockFault}
+use Rattle.h2_fields.specs.declared.fault.BlockFault.TheVariants as faults
+use Rattle.h2_fields.proofs.Applying.{refused}
+
+pub grows-start : (s : FieldsSoFar) → Grows s s
+grows-start s = ([], sym (append-nil s.fields))
+
+pub grows-then : (a b c : FieldsSoFar) → Grows a b → Grows b c → Grows a c
+grows-then a b c h k = (h.0 ++ k.0, k.1 ∙ ap (λ fs. fs ++ k.0) h.1 ∙ append_assoc a.fields h.0 k.0)
+
+-- an instruction is refused
+pub refused-stopped : (limit m : ℕ) (p q now : Progress) (b : List ℕ) (at used : ℕ) (i : Shape) (f : BlockFault) → Stands limit p b at q → m ≡ limit → instr_at (drop at b) ≡ Whole i used →
+    (f ≢ faults.NoMemory → (now ≡ q) × (refusal (applied m q i) ≡ Some f)) → IsStopped limit p b now f
+refused-stopped limit m p q now b at used i f s same e k = record {
+  exact = λ h.
+      let t = k h in
+      let r = refused (applied limit q i) f (ap (λ l. refusal (applied l q i)) (sym same) ∙ t.1) in
+      let d = stands-refused limit p q b at used i r.fault s e r.is in
+      (ap (λ x. x.progress) d ∙ sym t.0, ap (λ x. faulted x.outcome) d ∙ ap Some r.named);
+}
+
+-- an integer is too long
+pub too_long-stopped : (limit : ℕ) (p q : Progress) (b : List ℕ) (at : ℕ) → Stands limit p b at q → instr_at (drop at b) ≡ TooLong → IsStopped limit p b q faults.Integer
+too_long-stopped limit p q b at s e = record {
+  exact = λ _. let d = stands-too_long limit p q b at s e in (ap (λ x. x.progress) d, ap (λ x. faulted x.outcome) d);
+}

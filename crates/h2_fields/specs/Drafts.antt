@@ -1,0 +1,27 @@
+-- What the decoder does over a draft of the table.
+use Rattle.std.specs.Prelude.{◌≡◌, ◌≢◌, ℕ, List, ◌++◌, Option, Some, Result, Ok, Err}
+use Rattle.h2_fields.specs.Faults.{refusal}
+use Rattle.h2_fields.specs.Blocks.{faulted}
+use Rattle.h2_fields.specs.declared.fault.BlockFault.{BlockFault}
+use Rattle.h2_fields.specs.declared.fault.BlockFault.TheVariants as fault
+use Rattle.h2_spec.specs.Block.{Progress, FieldsSoFar, applied, decoded, progress_with}
+use Rattle.h2_spec.specs.Field.{Field}
+use Rattle.h2_spec.specs.Instruction.{Shape}
+use Rattle.h2_table.specs.Edits.{Drafted}
+
+-- how far a block has come over a draft
+abbrev pub progress_in : FieldsSoFar → Drafted → Progress
+progress_in s d = progress_with d.table s
+
+-- one instruction was done, or refused; where memory was refused nothing is said
+abbrev pub IsApplied : ℕ → Progress → Shape → Progress → Result (Unit {0}) BlockFault → Type 0
+IsApplied limit before shape now (Ok u) = applied limit before shape ≡ Ok now
+IsApplied limit before shape now (Err f) = f ≢ fault.NoMemory → (now ≡ before) × (refusal (applied limit before shape) ≡ Some f)
+
+-- the fields are still there, and others may be behind them
+abbrev pub Grows : FieldsSoFar → FieldsSoFar → Type 0
+Grows old new = (more : List Field) × (new.fields ≡ old.fields ++ more)
+
+-- the octets were decoded up to an instruction that is refused for this fault; where memory was refused nothing is said
+pub record IsStopped (limit : ℕ) (before : Progress) (b : List ℕ) (now : Progress) (f : BlockFault) : Type 0 where
+  pub exact : f ≢ fault.NoMemory → ((decoded limit before b).progress ≡ now) × (faulted (decoded limit before b).outcome ≡ Some f)

@@ -1,0 +1,173 @@
+//! The fields that a field block has given so far, in a list whose memory is kept from block to block.
+//! It uses `FieldList` of h2_list; contracts see it as the record `FieldsSoFar` of `h2_spec`, specs/Block.antt.
+
+ghost use Rattle.std.specs.Prelude.{◌≡◌, ◌-◌, ◌^◌, [], ◌∷◌, ◌++◌, false, not, min, length, take, slice_get, option_map, IfOk, OnOk, OnErr};
+ghost use Rattle.h2_spec.specs.Block.{has_fields, list_size};
+ghost use Rattle.h2_spec.specs.Field.{field, size};
+ghost use Rattle.h2_table.specs.Lent.{lent_field};
+
+use h2_list::FieldList;
+use std::alloc::{AllocError, Allocator};
+use std::marker::Model;
+
+/// The fields of a block so far, their size together, and whether the block must still begin with a table size update
+/// (RFC 7541, 4.2).
+#[derive(Drop, Debug)]
+pub struct Collected<A: Allocator> {
+    list: FieldList<A>,
+    size: u64,
+    due: bool,
+}
+
+impl<A: Allocator> Model for Collected<A> {
+    ghost use Rattle.std.specs.Prelude.{◌≡◌};
+    ghost use Rattle.h2_spec.specs.Block.{FieldsSoFar, list_size};
+
+    ghost Value = { FieldsSoFar };
+
+    ghost view = { λ c. record { fields = c.list.fields; due = c.due } };
+
+    ghost invariant = { λ c. c.size ≡ list_size c.list.fields };
+}
+
+/// A place in a field block to which `Collected::restore` goes back; plain data.
+#[derive(Clone, Copy, Debug)]
+pub struct Mark {
+    /// How many fields there were.
+    pub count: usize,
+    /// Their size together, as `Collected::list_size` has it.
+    pub size: u64,
+    /// Whether a table size update was due.
+    pub due: bool,
+}
+
+impl<A: Allocator + Copy> Collected<A> {
+    /// No field, and no table size update is due. Takes no memory.
+    pub fn new(alloc: A) -> Self
+        ensures { result ≡ record { fields = []; due = false } }
+    {
+        Collected {
+            list: FieldList::new(alloc),
+            size: 0,
+            due: false,
+        }
+    }
+
+    /// Removes all fields, for a new block; `due` says whether it must begin with a table size update. The memory is
+    /// kept.
+    pub fn clear(&mut self, due: bool)
+        ensures { self.new ≡ record { fields = []; due = due } }
+    {
+        self.list.clear();
+        self.size = 0;
+        self.due = due;
+    }
+
+    /// How many fields there are.
+    pub fn len(&self) -> usize
+        ensures { result ≡ length self.now.fields }
+    {
+        self.list.len()
+    }
+
+    /// Whether there is no field.
+    pub fn is_empty(&self) -> bool
+        ensures { result ≡ not (has_fields self.now.fields) }
+    {
+        self.list.len() == 0
+    }
+
+    /// The name and the value of the field at a place, counted from 0; none at `len()` and above.
+    pub fn get(&self, place: usize) -> Option<(&[u8], &[u8])>
+        ensures { option_map lent_field result ≡ slice_get self.now.fields place }
+    {
+        self.list.get(place)
+    }
+
+    /// The size of the fields together, in octets: 32 each beside those of their names and values (RFC 9113, 6.5.2);
+    /// 2^64 - 1 where it is more.
+    pub fn list_size(&self) -> u64
+        ensures { result ≡ list_size self.now.fields }
+    {
+        self.size
+    }
+
+    /// Whether a table size update is still due.
+    pub fn is_due(&self) -> bool
+        ensures { result ≡ self.now.due }
+    {
+        self.due
+    }
+
+    /// A table size update was read: none is due any more.
+    pub fn update_came(&mut self)
+        ensures { self.new ≡ record self.old { due = false } }
+    {
+        self.due = false;
+    }
+
+    /// The place behind the fields so far.
+    pub fn mark(&self) -> Mark
+        ensures { result ≡ record { count = length self.now.fields; size = list_size self.now.fields; due = self.now.due } }
+    {
+        Mark {
+            count: self.list.len(),
+            size: self.size,
+            due: self.due,
+        }
+    }
+
+    /// Removes the fields behind a mark that was taken of the fields before them. Takes no memory.
+    pub fn restore(&mut self, mark: Mark)
+        requires size { mark.size ≡ list_size (take mark.count self.old.fields) }
+        ensures { self.new ≡ record { fields = take mark.count self.old.fields; due = mark.due } }
+    {
+        self.list.truncate(mark.count);
+        self.size = mark.size;
+        self.due = mark.due;
+    }
+
+    /// Adds a field behind the others.
+    ///
+    /// # Errors
+    ///
+    /// `AllocError` where memory was refused; the fields are as they were.
+    pub fn add(&mut self, name: &[u8], value: &[u8]) -> Result<(), AllocError>
+        ensures ok { OnOk result (self.new ≡ record self.old { fields = self.old.fields ++ field name.now value.now ∷ [] }) }
+        ensures err { OnErr result (self.new ≡ self.old) }
+    {
+        let size = size_of(name, value);
+        self.list.append(name, value)?;
+        self.size = self.size.saturating_add(size);
+        Ok(())
+    }
+
+    /// The allocator of the fields.
+    pub fn allocator(&self) -> A {
+        self.list.allocator()
+    }
+
+    /// The same fields in memory of their own.
+    ///
+    /// # Errors
+    ///
+    /// `AllocError` where memory was refused; `self` is as it was.
+    pub fn try_clone(&self) -> Result<Collected<A>, AllocError>
+        ensures same { IfOk result (λ copy. copy ≡ self.now) }
+    {
+        Ok(Collected {
+            list: self.list.try_clone()?,
+            size: self.size,
+            due: self.due,
+        })
+    }
+}
+
+/// The size of a field: its octets and 32 more; 2^64 - 1 where it is more.
+fn size_of(name: &[u8], value: &[u8]) -> u64
+    ensures { result ≡ min (size (field name.now value.now)) (2 ^ 64 - 1) }
+{
+    (name.len() as u64)
+        .saturating_add(value.len() as u64)
+        .saturating_add(32)
+}
