@@ -1,14 +1,12 @@
 -- What an edited table evicts, and what a commit moves.
 use Rattle.std.proofs.Common.{◌≡◌, ℕ, zero, suc, ◌+◌, ◌-◌, ◌<◌, ◌≤◌, List, [], ◌∷◌, ◌++◌, length, take, Some, None, get_or, refl, ap, ◌∙◌, sym, arith}
-use Rattle.std.proofs.lemmas.List.{take_more, append_assoc, length-append}
+use Rattle.std.proofs.lemmas.List.{take_more, append_assoc}
 use Rattle.std.proofs.lemmas.Option.{slice_get_within, get_or_from_slice_get}
-use Rattle.circular_buffer.specs.Buffer.{last_item}
 use Rattle.h2_spec.specs.Field.{Field, size}
 use Rattle.h2_spec.specs.DynamicTable.{Table, LimitedTable, total_size, fit, entry_at, insert, resize}
-use Rattle.h2_spec.proofs.TableLaws.{fit-cons, fit-none, fit-zero, fit-evict, total_size-append, total_size-length, fit-is_longest}
+use Rattle.h2_spec.proofs.TableLaws.{fit-cons, fit-none, fit-zero, fit-evict, total_size-append, total_size-length}
 use Rattle.h2_table.specs.Edits.{Drafted}
 use Rattle.h2_table.specs.Held.{places_for}
-use Rattle.h2_table.proofs.Popped.{last-split}
 
 -- the last of the entries that are still there
 take-last : (es : List Field) (last : ℕ) (x : Field) → Some x ≡ entry_at last es → take last es ≡ take (last - 1) es ++ x ∷ []
@@ -44,8 +42,8 @@ no_entry (x ∷ es) (suc zero) h l e = cc
 no_entry (x ∷ es) (suc (suc n)) h l e = no_entry es (suc n) (omega arith) (omega arith) e
 
 -- the oldest of what was added goes to the front of the others
-pub moved : (added ring : List Field) (x : Field) → Some x ≡ last_item added → take (length added - 1) added ++ x ∷ ring ≡ added ++ ring
-moved added ring x h = sym (append_assoc (take (length added - 1) added) (x ∷ []) ring) ∙ ap (λ a. a ++ ring) (sym (last-split added x (sym h)))
+pub moved : (added rest ring : List Field) (x : Field) → added ≡ rest ++ x ∷ [] → rest ++ x ∷ ring ≡ added ++ ring
+moved added rest ring x split = sym (append_assoc rest (x ∷ []) ring) ∙ ap (λ a. a ++ ring) (sym split)
 
 -- ---- the table of a draft
 
@@ -67,12 +65,6 @@ emptied-draft base entries now max f d v e over = inserted-draft base entries no
 -- a field that has room enters
 pub entered-draft : (base : LimitedTable) (entries left now : List Field) (max : ℕ) (f : Field) (d : Drafted) → draft base entries max ≡ d → left ≡ fit entries (max - size f) → now ≡ f ∷ left → size f ≤ max → draft base now max ≡ record d { table = insert d.table f }
 entered-draft base entries left now max f d v e k fits = inserted-draft base entries now max f d v (k ∙ ap (λ r. f ∷ r) e ∙ sym (fit-cons f entries max fits))
-
--- what fits is no longer than what it is taken from
-pub length-fit : (es : List Field) (max : ℕ) → length (fit es max) ≤ length es
-length-fit es max =
-    let b = (fit-is_longest es max).begins in
-    omega (arith, ap length b.1, length-append (fit es max) b.0)
 
 -- entries within the limit have places
 pub have_places : (es : List Field) (limit : ℕ) → total_size es ≤ limit → length es ≤ places_for limit

@@ -8,7 +8,7 @@ use Rattle.h2_spec.specs.DynamicTable.{total_size, fit}
 use Rattle.h2_spec.proofs.TableLaws.{fit-evict, total_size-append, total_size-length}
 use Rattle.h2_table.specs.Held.{places_for}
 
-pub last-split : {X : Type 0} (xs : List X) (x : X) → last_item xs ≡ Some x → xs ≡ take (length xs - 1) xs ++ x ∷ []
+last-split : {X : Type 0} (xs : List X) (x : X) → last_item xs ≡ Some x → xs ≡ take (length xs - 1) xs ++ x ∷ []
 last-split xs x h =
     let i = length xs - 1 in
     let inside : i < length xs = slice_get_within xs i x h in
@@ -25,16 +25,17 @@ pub record Evicts (xs rest : List Field) (x : Field) (room : ℕ) : Type 0 where
   pub counted : total_size xs ≡ total_size rest + size x
   pub same : fit rest room ≡ fit xs room
 
-pub evicts : (xs : List Field) (x : Field) (room : ℕ) → Some x ≡ last_item xs → room < total_size xs → Evicts xs (take (length xs - 1) xs) x room
-evicts xs x room h over =
-    let rest = take (length xs - 1) xs in
-    let split : xs ≡ rest ++ x ∷ [] = last-split xs x (sym h) in
+pub evicts-split : (xs rest : List Field) (x : Field) (room : ℕ) → xs ≡ rest ++ x ∷ [] → room < total_size xs → Evicts xs rest x room
+evicts-split xs rest x room split over =
     let sizes = ap total_size split ∙ total_size-append rest (x ∷ []) in
     let over_too : room < total_size (rest ++ x ∷ []) = omega (arith, ap total_size split) in
     record {
       counted = omega (arith, sizes);
       same = sym (ap (λ es. fit es room) split ∙ fit-evict rest x room over_too);
     }
+
+pub evicts : (xs : List Field) (x : Field) (room : ℕ) → Some x ≡ last_item xs → room < total_size xs → Evicts xs (take (length xs - 1) xs) x room
+evicts xs x room h over = evicts-split xs (take (length xs - 1) xs) x room (last-split xs x (sym h)) over
 
 -- where one more entry is within the limit, a place is free
 pub has_place : (es : List Field) (limit : ℕ) → total_size es + 32 ≤ limit → length es < places_for limit

@@ -163,7 +163,7 @@ impl<A: Allocator + Copy> DynTable<A> {
 
 /// Takes out the oldest entries until those left, which count `size` together, count at most `room`; what is left
 /// counts the answer.
-pub(crate) fn evict<A: Allocator>(
+fn evict<A: Allocator>(
     ring: &mut HeapCircularBuffer<TableEntry<A>, A>,
     size: usize,
     room: usize,

@@ -6,7 +6,8 @@
 //! The definitions are `Table`, `insert` and `resize` of `h2_spec`, specs/DynamicTable.antt, and those of
 //! `specs/Edits.antt`.
 
-ghost use Rattle.std.specs.Prelude.{◌≡◌, ◌<◌, ◌≤◌, [], ◌∷◌, ◌++◌, ◌↔◌, length, take, option_map, true, OnOk, OnErr, IfOk, IfErr, IsErr, IsOk};
+ghost use Rattle.std.specs.Prelude.{◌≡◌, ◌<◌, ◌≤◌, [], ◌∷◌, ◌++◌, ◌↔◌, length, take, option_map, true, OnOk, OnErr, IfErr, IsErr};
+ghost use Rattle.std.specs.VecDeque.{deque_len, deque_capacity};
 ghost use Rattle.circular_buffer.specs.Buffer.{buffer};
 ghost use Rattle.h2_spec.specs.DynamicTable.{fit, insert, resize, total_size, entry_at};
 ghost use Rattle.h2_spec.specs.Field.{field};
@@ -14,11 +15,12 @@ ghost use Rattle.h2_table.specs.Edits.{IsEdit, edited};
 ghost use Rattle.h2_table.specs.Lent.{lent_field};
 ghost use Rattle.h2_table.specs.declared.fault.TableFault.TheVariants as faults;
 
-use crate::dynamic_table::{DynTable, evict, put_newest};
+use crate::dynamic_table::{DynTable, put_newest};
 use crate::entry::TableEntry;
 use crate::fault::TableFault;
 use circular_buffer::HeapCircularBuffer;
 use std::alloc::{AllocError, Allocator};
+use std::collections::VecDeque;
 use std::marker::Model;
 
 /// An edit of a dynamic table, without the table: the added entries, the newest first, how many of the table's own
@@ -26,7 +28,7 @@ use std::marker::Model;
 /// remain, what both count together, and the maximum.
 #[derive(Drop)]
 pub struct Edit<A: Allocator> {
-    pub(crate) added: HeapCircularBuffer<TableEntry<A>, A>,
+    pub(crate) added: VecDeque<TableEntry<A>, A>,
     pub(crate) kept: usize,
     pub(crate) size: usize,
     pub(crate) max: u32,
@@ -41,21 +43,16 @@ impl<A: Allocator> Model for Edit<A> {
 }
 
 impl<A: Allocator> Edit<A> {
-    /// An edit for `Draft::start`, with places for its first entries.
-    ///
-    /// # Errors
-    ///
-    /// `AllocError` where the places were refused.
-    pub fn new(alloc: A) -> Result<Self, AllocError>
-        ensures { IfOk result (λ edit. edit ≡ record { added = []; kept = 0; size = 0; max = 0 }) }
+    /// An edit for `Draft::start`. Takes no memory.
+    pub fn new(alloc: A) -> Self
+        ensures { result ≡ record { added = []; kept = 0; size = 0; max = 0 } }
     {
-        let added = HeapCircularBuffer::with_capacity(alloc, 8)?;
-        Ok(Edit {
-            added,
+        Edit {
+            added: VecDeque::new(alloc),
             kept: 0,
             size: 0,
             max: 0,
-        })
+        }
     }
 }
 
@@ -65,7 +62,7 @@ impl<A: Allocator> Edit<A> {
 #[derive(Drop)]
 pub struct Draft<'t, A: Allocator> {
     base: &'t DynTable<A>,
-    added: HeapCircularBuffer<TableEntry<A>, A>,
+    added: VecDeque<TableEntry<A>, A>,
     kept: usize,
     size: usize,
     max: u32,
@@ -177,7 +174,7 @@ impl<'t, A: Allocator + Copy> Draft<'t, A> {
             self.size = left;
             return Ok(());
         }
-        make_place(&mut self.added)?;
+        self.added.reserve(1)?;
         let entry = TableEntry::of(*self.added.allocator(), name, value)?;
         let (kept, left) = evict_oldest(
             &mut self.added,
@@ -186,32 +183,18 @@ impl<'t, A: Allocator + Copy> Draft<'t, A> {
             self.size,
             max - size,
         );
-        put_newest(&mut self.added, entry);
+        self.added.push_front_reserved(entry);
         self.kept = kept;
         self.size = left + size;
         Ok(())
     }
 }
 
-/// Makes a free place in a ring: one that is full gets twice its places.
-fn make_place<A: Allocator + Copy>(
-    ring: &mut HeapCircularBuffer<TableEntry<A>, A>,
-) -> Result<(), AllocError>
-    ensures items { ring.new.items ≡ ring.old.items }
-    ensures place { OnOk result (length ring.new.items < ring.new.capacity) }
-{
-    let places = ring.capacity();
-    if ring.len() < places {
-        return Ok(());
-    }
-    ring.resize(places.saturating_mul(2).max(8))
-}
-
 /// Evicts the oldest entries until the others count at most `room` octets: first the table's own, then those that
 /// were added.
 /// Returns how many of the table's own remain, and what all that remain count.
 fn evict_oldest<A: Allocator>(
-    added: &mut HeapCircularBuffer<TableEntry<A>, A>,
+    added: &mut VecDeque<TableEntry<A>, A>,
     base: &DynTable<A>,
     kept: usize,
     size: usize,
@@ -223,21 +206,46 @@ fn evict_oldest<A: Allocator>(
     ensures held { result.0 ≤ length base.now.table.entries }
     ensures counted { result.1 ≡ total_size (added.new.items ++ take result.0 base.now.table.entries) }
     ensures within { result.1 ≤ room }
-    ensures fewer { length added.new.items ≤ length added.old.items }
-    ensures places { added.new.capacity ≡ added.old.capacity }
+    ensures fewer { deque_len added.new ≤ deque_len added.old }
+    ensures places { deque_capacity added.new ≡ deque_capacity added.old }
 {
     let (kept, left) = evict_own(added, base, kept, size, room);
     if left <= room {
         return (kept, left);
     }
-    (0, evict(added, left, room))
+    (0, evict_added(added, left, room))
+}
+
+/// Evicts the oldest of the entries until the others, all of which count `size` octets, count at most `room`; returns
+/// what they
+/// count.
+fn evict_added<A: Allocator>(
+    added: &mut VecDeque<TableEntry<A>, A>,
+    size: usize,
+    room: usize,
+) -> usize
+    requires { size ≡ total_size added.old.items }
+    ensures kept { added.new.items ≡ fit added.old.items room }
+    ensures counted { result ≡ total_size added.new.items }
+    ensures within { result ≤ room }
+    ensures fewer { deque_len added.new ≤ deque_len added.old }
+    ensures places { deque_capacity added.new ≡ deque_capacity added.old }
+{
+    let mut left = size;
+    while left > room {
+        match added.pop_back() {
+            Some(entry) => left -= entry.name().len() + entry.value().len() + 32,
+            None => return left,
+        }
+    }
+    left
 }
 
 /// How many of the table's own entries remain where the oldest of them are evicted, until all count at most `room`
 /// octets or
 /// none of the table's own is left, and what all that remain count.
 fn evict_own<A: Allocator>(
-    added: &HeapCircularBuffer<TableEntry<A>, A>,
+    added: &VecDeque<TableEntry<A>, A>,
     base: &DynTable<A>,
     kept: usize,
     size: usize,
@@ -279,7 +287,7 @@ impl<A: Allocator> DynTable<A> {
 /// Moves all entries of a ring, the oldest first, to the front of another, which has places for them.
 fn move_newest<A: Allocator>(
     ring: &mut HeapCircularBuffer<TableEntry<A>, A>,
-    added: &mut HeapCircularBuffer<TableEntry<A>, A>,
+    added: &mut VecDeque<TableEntry<A>, A>,
 )
     requires { length (added.old.items ++ ring.old.items) ≤ ring.old.capacity }
     ensures { ring.new ≡ buffer (added.old.items ++ ring.old.items) ring.old.capacity }

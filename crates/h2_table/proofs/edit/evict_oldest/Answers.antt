@@ -1,12 +1,8 @@
-use Rattle.std.proofs.Common.{arith, ◌∙◌, ◌++◌, sym, ap, length, take}
+use Rattle.std.proofs.Common.{arith, ◌∙◌, ◌++◌, sym, ap, take}
 use Rattle.h2_spec.proofs.TableLaws.{fit-all}
-use Rattle.h2_table.proofs.Editing.{length-fit}
 use Rattle.h2_table.proofs.edit.evict_oldest.Goals as goal
 
 pub returns-then-left-room-clause-left : goal.returns-then-left-room-clause-left
 returns-then-left-room-clause-left g c =
     let now = c.args.added.now.items ++ take c.evict_own-kept.result.0 c.args.base.now.table.entries in
     sym (fit-all now c.args.room (omega arith)) ∙ c.evict_own-kept.ensures.same
-
-pub returns-clause-fewer : goal.returns-clause-fewer
-returns-clause-fewer g c = omega (arith, length-fit c.args.added.now.items c.args.room, ap length c.evict.ensures.kept)

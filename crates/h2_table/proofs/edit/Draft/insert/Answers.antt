@@ -20,7 +20,7 @@ returns-clause-ok g c =
     let f = field c.args.name.now c.args.value.now in
     let left = e.new.added.items ++ take e.result.0 own in
     let same : c.saturating_add-size.result ≡ size f = omega arith in
-    let was = ap (λ es. fit (es ++ take d.kept own) (d.max - c.saturating_add-size.result)) c.in_ok-make_place.ensures.items in
+    let was = ap (λ es. fit (es ++ take d.kept own) (d.max - c.saturating_add-size.result)) c.in_ok-reserve.ensures.items in
     let kept = e.ensures.left ∙ was ∙ ap (λ n. fit (d.added.items ++ take d.kept own) (d.max - n)) same in
-    let now = ap (λ b. b.items ++ take e.result.0 own) c.put_newest.ensures ∙ ap (λ x. x ∷ left) c.in_ok-entry.ensures in
+    let now = ap (λ es. es ++ take e.result.0 own) c.push_front_reserved.ensures.items ∙ ap (λ x. x ∷ left) c.in_ok-entry.ensures in
     entered-draft d.base.now (d.added.items ++ take d.kept own) left _ d.max f c.args.self.now c.self.view_is kept now (omega arith)
