@@ -41,9 +41,11 @@ pub struct Mark {
     pub due: bool,
 }
 
-impl<A: Allocator + Copy> Collected<A> {
+impl<A: Allocator> Collected<A> {
     /// No field, and no table size update is due. Takes no memory.
     pub fn new(alloc: A) -> Self
+    where
+        A: Copy,
         ensures { result ≡ record { fields = []; due = false } }
     {
         Collected {
@@ -141,7 +143,9 @@ impl<A: Allocator + Copy> Collected<A> {
         self.size = self.size.saturating_add(size);
         Ok(())
     }
+}
 
+impl<A: Allocator + Copy> Collected<A> {
     /// The allocator of the fields.
     pub fn allocator(&self) -> A {
         self.list.allocator()
