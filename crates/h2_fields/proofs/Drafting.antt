@@ -1,6 +1,7 @@
 -- How far the loop over the instructions has come.
-use Rattle.std.proofs.Common.{◌≡◌, ◌≢◌, ℕ, List, [], ◌++◌, drop, Some, refl, ap, ◌∙◌, sym}
+use Rattle.std.proofs.Common.{◌≡◌, ◌≢◌, ℕ, List, [], ◌++◌, length, take, drop, Some, refl, ap, ◌∙◌, sym}
 use Rattle.std.proofs.lemmas.List.{append-nil, append_assoc}
+use Rattle.std.proofs.Math.Seq.{take-append_seam}
 use Rattle.h2_spec.specs.Block.{FieldsSoFar, Progress, applied, decoded}
 use Rattle.h2_spec.specs.Instruction.{Shape, instr_at}
 use Rattle.h2_spec.specs.Read.{Whole, TooLong}
@@ -17,6 +18,11 @@ grows-start s = ([], sym (append-nil s.fields))
 
 pub grows-then : (a b c : FieldsSoFar) → Grows a b → Grows b c → Grows a c
 grows-then a b c h k = (h.0 ++ k.0, k.1 ∙ ap (λ fs. fs ++ k.0) h.1 ∙ append_assoc a.fields h.0 k.0)
+
+-- the fields are taken back to those before
+pub grows-restored : (old mid new : FieldsSoFar) (count : ℕ) → Grows old mid → count ≡ length old.fields → new.fields ≡ take count mid.fields → Grows old new
+grows-restored old mid new count h n e =
+    ([], e ∙ ap (λ k. take k mid.fields) n ∙ ap (take (length old.fields)) h.1 ∙ take-append_seam old.fields h.0 ∙ sym (append-nil old.fields))
 
 -- an instruction is refused
 pub refused-stopped : (limit m : ℕ) (p q now : Progress) (b : List ℕ) (at used : ℕ) (i : Shape) (f : BlockFault) → Stands limit p b at q → m ≡ limit → instr_at (drop at b) ≡ Whole i used →

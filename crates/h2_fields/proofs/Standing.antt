@@ -1,19 +1,17 @@
 -- Where a decoder is after some of its octets, and what it represents after a fragment.
-use Rattle.std.proofs.Common.{◌≡◌, ◌≢◌, ℕ, ◌+◌, ◌-◌, ◌<◌, ◌≤◌, List, [], ◌++◌, length, drop, take, Some, None, option_map, Result, Err, refl, ap, ◌∙◌, sym, arith, length-drop}
-use Rattle.std.proofs.lemmas.List.{append-nil, take_all}
-use Rattle.h2_spec.specs.Block.{Fault, Index, Integer, Huffman, SizeUpdate, Outcome, Unfinished, Faulty, Progress, Decoded, BlockSoFar, StandsWithin, applied, decoded, decoded_with, carried_on}
+use Rattle.std.proofs.Common.{◌≡◌, ◌≢◌, ℕ, ◌+◌, ◌-◌, ◌<◌, ◌≤◌, List, ◌++◌, length, drop, Some, None, option_map, Err, refl, ap, ◌∙◌, sym, arith, length-drop}
+use Rattle.h2_spec.specs.Block.{Fault, Index, Integer, Huffman, SizeUpdate, Outcome, Unfinished, Faulty, Progress, Decoded, BlockSoFar, decoded, decoded_with, carried_on}
 use Rattle.h2_spec.specs.DynamicTable.{Table}
 use Rattle.h2_spec.specs.Instruction.{Shape, instr_at}
-use Rattle.h2_spec.specs.Read.{Whole, More, TooLong}
-use Rattle.h2_spec.proofs.BlockLaws.{Stands, stands-start, stands-refused, stands-too_long, stands-within, stands-more, decoded-more}
+use Rattle.h2_spec.specs.Read.{Whole}
 use Rattle.h2_spec.proofs.InstructionLaws.{whole-takes}
-use Rattle.h2_fields.specs.Blocks.{IsFaulted, answer_of, faulted, outcome_of, progress_so_far}
-use Rattle.h2_fields.specs.Faults.{refusal, fault_of}
+use Rattle.h2_fields.specs.Blocks.{answer_of, faulted, outcome_of, progress_so_far}
+use Rattle.h2_fields.specs.Drafts.{IsStopped}
+use Rattle.h2_fields.specs.Faults.{fault_of}
 use Rattle.h2_fields.specs.declared.fault.BlockFault.{BlockFault}
 use Rattle.h2_fields.specs.declared.fault.BlockFault.TheVariants as faults
-use Rattle.h2_fields.proofs.Applying.{refused}
 
--- ---- a fault in the loop over the instructions
+-- ---- the loop over the instructions
 
 not_truncated : (f : Fault) → fault_of f ≢ faults.Truncated
 not_truncated Index e = cc
@@ -21,58 +19,15 @@ not_truncated Integer e = cc
 not_truncated Huffman e = cc
 not_truncated SizeUpdate e = cc
 
-named : {X : Type 0} (r : Result X Fault) (f : BlockFault) → (f ≢ faults.NoMemory → refusal r ≡ Some f) → f ≢ faults.Truncated
-named r f k e =
+not_faulted : (o : Outcome) → faulted o ≡ Some faults.Truncated → ⊥
+not_faulted (Unfinished r) e = cc
+not_faulted (Faulty f) e = not_truncated f (cc)
+
+-- a block that stops at a fault of its octets has no other
+pub stopped-named : (limit : ℕ) (p now : Progress) (b : List ℕ) (f : BlockFault) → IsStopped limit p b now f → f ≢ faults.Truncated
+stopped-named limit p now b f s e =
     let other : f ≢ faults.NoMemory = λ m. let clash : faults.Truncated ≡ faults.NoMemory = sym e ∙ m in cc in
-    let x = refused r f (k other) in
-    not_truncated x.fault (x.named ∙ e)
-
--- an instruction is refused
-pub refused-faulted : (limit m : ℕ) (p q now : Progress) (b : List ℕ) (at used : ℕ) (i : Shape) (f : BlockFault) → Stands limit p b at q → m ≡ limit → instr_at (drop at b) ≡ Whole i used → now ≡ q →
-    (f ≢ faults.NoMemory → refusal (applied m q i) ≡ Some f) → IsFaulted limit p b now f
-refused-faulted limit m p q now b at used i f s same e n k = rw n (record {
-  named = named (applied m q i) f k;
-  exact = λ h.
-      let r = refused (applied limit q i) f (ap (λ l. refusal (applied l q i)) (sym same) ∙ k h) in
-      let d = stands-refused limit p q b at used i r.fault s e r.is in
-      (ap (λ x. x.progress) d, ap (λ x. faulted x.outcome) d ∙ ap Some r.named);
-  within = λ _. stands-within limit p q b at s;
-})
-
--- an integer is too long
-pub too_long-faulted : (limit : ℕ) (p q : Progress) (b : List ℕ) (at : ℕ) → Stands limit p b at q → instr_at (drop at b) ≡ TooLong → IsFaulted limit p b q faults.Integer
-too_long-faulted limit p q b at s e = record {
-  named = not_truncated Integer;
-  exact = λ _. let d = stands-too_long limit p q b at s e in (ap (λ x. x.progress) d, ap (λ x. faulted x.outcome) d);
-  within = λ _. stands-within limit p q b at s;
-}
-
--- memory is refused where some of the instructions were done
-pub short-faulted : (limit : ℕ) (p now : Progress) (b : List ℕ) (f : BlockFault) → StandsWithin limit p b now → f ≡ faults.NoMemory → IsFaulted limit p b now f
-short-faulted limit p now b f s e = record {
-  named = λ k. let clash : faults.NoMemory ≡ faults.Truncated = sym e ∙ k in cc;
-  exact = λ h. absurd (h e);
-  within = λ _. s;
-}
-
--- memory is refused behind whole instructions
-pub refused-memory : (limit : ℕ) (p q : Progress) (b : List ℕ) (at : ℕ) (f : BlockFault) → Stands limit p b at q → f ≡ faults.NoMemory → IsFaulted limit p b q f
-refused-memory limit p q b at f s e = short-faulted limit p q b f (stands-within limit p q b at s) e
-
--- or before anything was done
-pub refused-at_once : (limit : ℕ) (p : Progress) (b : List ℕ) (f : BlockFault) → f ≡ faults.NoMemory → IsFaulted limit p b p f
-refused-at_once limit p b f e = refused-memory limit p p b 0 f (stands-start limit p b) e
-
--- ---- the octets that leave the table as it is
-
--- up to an instruction of which nothing was done
-pub still-front : (limit : ℕ) (p q now : Progress) (b : List ℕ) (at : ℕ) (rest : List ℕ) → Stands limit p b at q → now ≡ q → rest ≡ [] → (at ≤ length b) × (decoded limit p (take at b) ≡ record { progress = now; outcome = Unfinished rest })
-still-front limit p q now b at rest s n e = rw (n, e) (s.within, s.front)
-
--- up to their end
-pub still-whole : (limit : ℕ) (p q : Progress) (b : List ℕ) (at : ℕ) (rest : List ℕ) → Stands limit p b at q → instr_at (drop at b) ≡ More → rest ≡ drop at b →
-    (length b ≤ length b) × (decoded limit p (take (length b) b) ≡ record { progress = q; outcome = Unfinished rest })
-still-whole limit p q b at rest s m e = rw (e, take_all (length b) b (omega arith)) (omega arith, stands-more limit p q b at s m)
+    not_faulted (decoded limit p b).outcome ((s.exact other).1 ∙ ap Some e)
 
 -- a whole instruction leaves fewer octets
 pub fewer : (b : List ℕ) (at used : ℕ) (i : Shape) → at ≤ length b → instr_at (drop at b) ≡ Whole i used → length b - (at + used) < length b - at
@@ -118,13 +73,6 @@ carried-faulty limit table s piece x e = rw e refl
 pub carried-open : (limit : ℕ) (table : Table) (s : BlockSoFar) (rest piece : List ℕ) → s.outcome ≡ Some (Unfinished rest) → Some (decoded limit (progress_so_far table s) (rest ++ piece)) ≡ option_map (λ d. carried_on limit d piece) (decoded_with table s)
 unfolding carried_on
 carried-open limit table s rest piece e = rw e refl
-
--- one that takes nothing of a piece stays as it is
-pub carried-nothing : (limit : ℕ) (table : Table) (s : BlockSoFar) (rest : List ℕ) → s.outcome ≡ Some (Unfinished rest) → instr_at rest ≡ More → decoded_with table s ≡ option_map (λ d. carried_on limit d []) (decoded_with table s)
-carried-nothing limit table s rest e m =
-    ap (option_map (λ (o : Outcome). let d : Decoded = record { progress = progress_so_far table s; outcome = o } in d)) e
-    ∙ ap Some (sym (ap (decoded limit (progress_so_far table s)) (append-nil rest) ∙ decoded-more limit (progress_so_far table s) rest m))
-    ∙ carried-open limit table s rest [] e
 
 -- the outcome that a decoder shows for its fault
 pub faulted-outcome : (rest : List ℕ) (o : Outcome) (f : BlockFault) → faulted o ≡ Some f → outcome_of rest (Some f) ≡ Some o

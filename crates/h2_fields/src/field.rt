@@ -37,6 +37,19 @@ impl<A: Allocator> Field<A> {
 }
 
 impl<A: Allocator + Copy> Field<A> {
+    /// The field of this name and this value, in memory of its own.
+    ///
+    /// # Errors
+    ///
+    /// `AllocError` where the memory was refused.
+    pub fn of(alloc: A, name: &[u8], value: &[u8]) -> Result<Field<A>, AllocError>
+        ensures { IfOk result (λ field. field ≡ record { name = name.now; value = value.now }) }
+    {
+        let name = Vec::from_slice(alloc, name)?;
+        let value = Vec::from_slice(alloc, value)?;
+        Ok(Field::new(name, value))
+    }
+
     /// The same field once more, in memory of its own.
     ///
     /// # Errors

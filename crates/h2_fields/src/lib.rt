@@ -3,14 +3,12 @@
 //! Instruction and Block.
 #![tactic(auto)]
 
-mod apply;
 pub mod block;
 pub mod collected;
 mod effect;
 pub mod fault;
 pub mod field;
 pub mod fragment;
-mod gathered;
 pub mod instruction;
 pub mod laws;
 pub mod octets;

@@ -1,10 +1,7 @@
 //! An edit of a dynamic table (RFC 7541, 2.3.2 and 4): the entries that were added, and how many of the table's own
-//! remain.
-//! The table does not change until the edit is committed, which needs no memory; an edit that is never committed
-//! changes
-//! nothing. So a field block can be decoded without a copy of the table.
-//! The definitions are `Table`, `insert` and `resize` of `h2_spec`, specs/DynamicTable.antt, and those of
-//! `specs/Edits.antt`.
+//! remain. The table does not change until the edit is committed, which needs no memory; an edit that is never
+//! committed changes nothing. So a field block can be decoded without a copy of the table. The definitions are `Table`,
+//! `insert` and `resize` of `h2_spec`, specs/DynamicTable.antt, and those of `specs/Edits.antt`.
 
 ghost use Rattle.std.specs.Prelude.{◌≡◌, ◌<◌, ◌≤◌, [], ◌∷◌, ◌++◌, ◌↔◌, length, take, option_map, true, OnOk, OnErr, IfErr, IsErr};
 ghost use Rattle.std.specs.VecDeque.{deque_len, deque_capacity};
@@ -24,8 +21,7 @@ use std::collections::VecDeque;
 use std::marker::Model;
 
 /// An edit of a dynamic table, without the table: the added entries, the newest first, how many of the table's own
-/// entries
-/// remain, what both count together, and the maximum.
+/// entries remain, what both count together, and the maximum.
 #[derive(Drop)]
 pub struct Edit<A: Allocator> {
     pub(crate) added: VecDeque<TableEntry<A>, A>,
@@ -57,8 +53,7 @@ impl<A: Allocator> Edit<A> {
 }
 
 /// A dynamic table with an edit of it: look-ups and changes are those of the edited table, and the table itself does
-/// not
-/// change.
+/// not change.
 #[derive(Drop)]
 pub struct Draft<'t, A: Allocator> {
     base: &'t DynTable<A>,
@@ -80,8 +75,7 @@ impl<'t, A: Allocator> Model for Draft<'t, A> {
 
 impl<'t, A: Allocator + Copy> Draft<'t, A> {
     /// The table with no changes yet. `edit` may be of any table: its entries are dropped and its places are used
-    /// again.
-    /// Takes no memory.
+    /// again. Takes no memory.
     pub fn start(base: &'t DynTable<A>, edit: Edit<A>) -> Self
         ensures { result ≡ record { base = base.now; table = base.now.table } }
     {
@@ -190,9 +184,8 @@ impl<'t, A: Allocator + Copy> Draft<'t, A> {
     }
 }
 
-/// Evicts the oldest entries until the others count at most `room` octets: first the table's own, then those that
-/// were added.
-/// Returns how many of the table's own remain, and what all that remain count.
+/// Evicts the oldest entries until the others count at most `room` octets: first the table's own, then those that were
+/// added. Returns how many of the table's own remain, and what all that remain count.
 fn evict_oldest<A: Allocator>(
     added: &mut VecDeque<TableEntry<A>, A>,
     base: &DynTable<A>,
@@ -217,8 +210,7 @@ fn evict_oldest<A: Allocator>(
 }
 
 /// Evicts the oldest of the entries until the others, all of which count `size` octets, count at most `room`; returns
-/// what they
-/// count.
+/// what they count.
 fn evict_added<A: Allocator>(
     added: &mut VecDeque<TableEntry<A>, A>,
     size: usize,
@@ -242,8 +234,7 @@ fn evict_added<A: Allocator>(
 }
 
 /// How many of the table's own entries remain where the oldest of them are evicted, until all count at most `room`
-/// octets or
-/// none of the table's own is left, and what all that remain count.
+/// octets or none of the table's own is left, and what all that remain count.
 fn evict_own<A: Allocator>(
     added: &VecDeque<TableEntry<A>, A>,
     base: &DynTable<A>,

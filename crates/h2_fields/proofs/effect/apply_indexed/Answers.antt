@@ -1,4 +1,4 @@
-use Rattle.std.proofs.Common.{Some, Ok, refl, ap, sym, ◌∙◌}
+use Rattle.std.proofs.Common.{Ok, refl, ap, sym, ◌∙◌}
 use Rattle.h2_spec.specs.Field.{field}
 use Rattle.h2_spec.proofs.BlockLaws.{applied-indexed_due, applied-indexed, applied-no_index}
 use Rattle.h2_fields.specs.Drafts.{progress_in}

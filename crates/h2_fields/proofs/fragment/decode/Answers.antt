@@ -3,7 +3,6 @@ use Rattle.std.proofs.lemmas.Result.{err_from_is_err_and}
 use Rattle.h2_spec.specs.Block.{applied}
 use Rattle.h2_spec.specs.Instruction.{instr_at}
 use Rattle.h2_spec.proofs.BlockLaws.{stands-start, stands-step, stands-more}
-use Rattle.h2_table.specs.Edits.{Drafted}
 use Rattle.h2_fields.specs.Drafts.{progress_in}
 use Rattle.h2_fields.specs.Shapes.{shape_of, read_of}
 use Rattle.h2_fields.proofs.Drafting.{grows-start, grows-then, refused-stopped, too_long-stopped}

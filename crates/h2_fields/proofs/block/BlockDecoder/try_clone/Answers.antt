@@ -8,11 +8,11 @@ pub invariant_of-result : goal.invariant_of-result
 invariant_of-result g c =
     let d = c.self.inside in
     let rest = each_same d.rest.items c.in_ok-clone.field-0.items c.in_ok-clone.ensures.cases.0 in
-    subst (λ (r : List ℕ). CanStand r d.fault) (sym rest) c.self.invariant
+    (c.in_ok-copy_rest.ensures.copied ∙ sym (ap (λ (s : FieldsSoFar). s.fields) c.in_ok-try_clone.ensures.same), subst (λ (r : List ℕ). CanStand r d.fault) (sym rest) c.self.invariant.1)
 
 pub returns : goal.returns
 returns g c =
     let d = c.self.inside in
     let rest = each_same d.rest.items c.in_ok-clone.field-0.items c.in_ok-clone.ensures.cases.0 in
     let so_far = λ (s : FieldsSoFar) (r : List ℕ). let now : BlockSoFar = record { fields = s.fields; due = s.due; outcome = outcome_of r d.fault } in now in
-    record { same = ap (λ (s : FieldsSoFar). so_far s c.in_ok-clone.field-0.items) c.in_ok-try_clone.ensures.same ∙ ap (so_far d.gathered) rest ∙ c.self.view_is }
+    record { same = ap (λ (s : FieldsSoFar). so_far s c.in_ok-clone.field-0.items) c.in_ok-try_clone.ensures.same ∙ ap (so_far d.collected) rest ∙ c.self.view_is }
