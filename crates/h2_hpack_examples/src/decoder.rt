@@ -30,14 +30,6 @@ fn pushed(
     decoder.push(table, piece)
 }
 
-fn pushed_still(
-    decoder: &mut BlockDecoder<Global>,
-    table: &DynTable<Global>,
-    piece: &[u8],
-) -> Result<usize, BlockFault> {
-    decoder.push_still(table, piece)
-}
-
 fn finished(decoder: &BlockDecoder<Global>) -> Result<(), BlockFault> {
     decoder.finish()
 }
@@ -647,91 +639,5 @@ fn a_copy_goes_its_own_way(rt: HostRuntime) -> Result<(), Fail> {
     let want =
         b":method: GET\na: bc\n:scheme: http\nok\n:method: GET\n8\n:method: GET\na: bd\nok\n";
     same(&rt, &text.as_slice(), &want.as_slice(), &"a copy");
-    Ok(())
-}
-
-/// A block of Appendix C on an empty table: how many of its octets leave the table as it is, their fields, and all
-/// its fields.
-struct Still {
-    name: &'static str,
-    block: &'static str,
-    used: usize,
-    front: &'static [u8],
-    fields: &'static [u8],
-}
-
-static STILL: [Still; 4] = [
-    Still {
-        name: "C.2.1, a literal with indexing",
-        block: "400a637573746f6d2d6b65790d637573746f6d2d686561646572",
-        used: 0,
-        front: b"",
-        fields: b"custom-key: custom-header\n",
-    },
-    Still {
-        name: "C.2.2, a literal without indexing",
-        block: "040c2f73616d706c652f70617468",
-        used: 14,
-        front: b":path: /sample/path\n",
-        fields: b":path: /sample/path\n",
-    },
-    Still {
-        name: "C.2.3, a literal never indexed",
-        block: "100870617373776f726406736563726574",
-        used: 17,
-        front: b"password: secret\n",
-        fields: b"password: secret\n",
-    },
-    Still {
-        name: "C.3.1, three indexed fields and a literal with indexing",
-        block: "828684410f7777772e6578616d706c652e636f6d",
-        used: 3,
-        front: b":method: GET\n:scheme: http\n:path: /\n",
-        fields: b":method: GET\n:scheme: http\n:path: /\n:authority: www.example.com\n",
-    },
-];
-
-/// Pushes what follows so many octets of a block, and ends it.
-fn end_behind(
-    decoder: &mut BlockDecoder<Global>,
-    table: &mut DynTable<Global>,
-    block: &[u8],
-    used: usize,
-) -> Result<(), Fail> {
-    let (_, rest) = block.split_at_checked(used).ok_or("octets of the block")?;
-    pushed(decoder, table, rest)?;
-    Ok(finished(decoder)?)
-}
-
-/// How many octets leave the table as it is, their fields, and all fields.
-type StillAndWhole = (usize, Vec<u8>, Vec<u8>);
-
-fn push_in_two(
-    alloc: Global,
-    decoder: &mut BlockDecoder<Global>,
-    table: &mut DynTable<Global>,
-    block: &[u8],
-) -> Result<StillAndWhole, Fail> {
-    let used = pushed_still(decoder, table, block)?;
-    let front = fields(alloc, decoder)?;
-    end_behind(decoder, table, block, used)?;
-    Ok((used, front, fields(alloc, decoder)?))
-}
-
-fn still_and_whole(alloc: Global, block: &str) -> Result<StillAndWhole, Fail> {
-    let block = octets_of(alloc, block)?;
-    let mut table = empty_table(alloc, 4096)?;
-    let mut decoder = started(alloc);
-    push_in_two(alloc, &mut decoder, &mut table, block.as_slice())
-}
-
-#[test]
-fn the_front_of_a_block_leaves_the_table(rt: HostRuntime) -> Result<(), Fail> {
-    for case in &STILL {
-        let (used, front, fields) = still_and_whole(rt.alloc(), case.block)?;
-        let found = (used, front.as_slice(), fields.as_slice());
-        let wanted = (case.used, case.front, case.fields);
-        same(&rt, &found, &wanted, &case.name);
-    }
     Ok(())
 }
