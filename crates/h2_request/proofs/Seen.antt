@@ -1,10 +1,11 @@
 -- What a walk has noted once it has seen a list of fields: the tests of the definitions, of the whole list.
 use Rattle.std.proofs.Common.{◌≡◌, ℕ, ◌+◌, ◌<◌, Bool, true, false, not, ◌&&◌, ◌||◌, cond, List, [], ◌∷◌, ◌++◌, Option, Some, None, codes, length, take, get_or, refl, sym, ◌∙◌, ap, subst, arith}
-use Rattle.std.specs.Prelude.{◌==◌, bytes_eq, is_some, unwrap_or}
+use Rattle.std.specs.Prelude.{◌==◌, bytes_eq, slice_get, is_some, unwrap_or}
 use Rattle.std.specs.Option.{option_map}
 use Rattle.std.specs.List.{list_any}
 use Rattle.std.proofs.lemmas.Slice.Eq.{bytes_eq-Decides}
 use Rattle.std.proofs.lemmas.List.{take_more}
+use Rattle.std.proofs.lemmas.Option.{get_or_from_slice_get, slice_get_within}
 use Rattle.std.proofs.lemmas.List.Folds.{list_any-append}
 use Rattle.std.proofs.lemmas.Bool.Decides.{nat_tests}
 use Rattle.h2_spec.specs.Field.{Field, field}
@@ -375,23 +376,23 @@ length-more fs g l h = at (is_content_length g) refl
 -- ---- a turn of the walk
 
 -- the list up to the next field ends with it
-up_to : (fields : List Field) (i : ℕ) (f : Field) → i < length fields → f ≡ get_or fields i f → take i fields ++ f ∷ [] ≡ take (i + 1) fields
-up_to fields i f within is = ap (λ x. take i fields ++ x ∷ []) is ∙ sym (take_more fields i f within)
+up_to : (fields : List Field) (i : ℕ) (f : Field) → slice_get fields i ≡ Some f → take i fields ++ f ∷ [] ≡ take (i + 1) fields
+up_to fields i f is = ap (λ x. take i fields ++ x ∷ []) (sym (get_or_from_slice_get fields i f f is)) ∙ sym (take_more fields i f (slice_get_within fields i f is))
 
-pub marks-walked : (fields : List Field) (i : ℕ) (f g : Field) (m after : Marks) → i < length fields → f ≡ get_or fields i f → g ≡ f → after ≡ marked m g → AreMarks (take i fields) m → AreMarks (take (i + 1) fields) after
-marks-walked fields i f g m after within is same step h =
-    subst (λ (x : Marks). AreMarks (take (i + 1) fields) x) (ap (marked m) (sym same) ∙ sym step)
-    (subst (λ (xs : List Field). AreMarks xs (marked m f)) (up_to fields i f within is) (marks-more (take i fields) f m h))
+pub marks-walked : (fields : List Field) (i : ℕ) (f : Field) (m after : Marks) → slice_get fields i ≡ Some f → after ≡ marked m f → AreMarks (take i fields) m → AreMarks (take (i + 1) fields) after
+marks-walked fields i f m after is step h =
+    subst (λ (x : Marks). AreMarks (take (i + 1) fields) x) (sym step)
+    (subst (λ (xs : List Field). AreMarks xs (marked m f)) (up_to fields i f is) (marks-more (take i fields) f m h))
 
-pub pseudo-walked : (fields : List Field) (i : ℕ) (f g : Field) (p after : Pseudo) → i < length fields → f ≡ get_or fields i f → g ≡ f → after ≡ noted p g → ArePseudo (take i fields) p → ArePseudo (take (i + 1) fields) after
-pseudo-walked fields i f g p after within is same step h =
-    subst (λ (x : Pseudo). ArePseudo (take (i + 1) fields) x) (ap (noted p) (sym same) ∙ sym step)
-    (subst (λ (xs : List Field). ArePseudo xs (noted p f)) (up_to fields i f within is) (pseudo-more (take i fields) f p h))
+pub pseudo-walked : (fields : List Field) (i : ℕ) (f : Field) (p after : Pseudo) → slice_get fields i ≡ Some f → after ≡ noted p f → ArePseudo (take i fields) p → ArePseudo (take (i + 1) fields) after
+pseudo-walked fields i f p after is step h =
+    subst (λ (x : Pseudo). ArePseudo (take (i + 1) fields) x) (sym step)
+    (subst (λ (xs : List Field). ArePseudo xs (noted p f)) (up_to fields i f is) (pseudo-more (take i fields) f p h))
 
-pub length-walked : (fields : List Field) (i : ℕ) (f g : Field) (l after : ContentLength) → i < length fields → f ≡ get_or fields i f → g ≡ f → after ≡ measured l g → IsLength (take i fields) l → IsLength (take (i + 1) fields) after
-length-walked fields i f g l after within is same step h =
-    subst (λ (x : ContentLength). IsLength (take (i + 1) fields) x) (ap (measured l) (sym same) ∙ sym step)
-    (subst (λ (xs : List Field). IsLength xs (measured l f)) (up_to fields i f within is) (length-more (take i fields) f l h))
+pub length-walked : (fields : List Field) (i : ℕ) (f : Field) (l after : ContentLength) → slice_get fields i ≡ Some f → after ≡ measured l f → IsLength (take i fields) l → IsLength (take (i + 1) fields) after
+length-walked fields i f l after is step h =
+    subst (λ (x : ContentLength). IsLength (take (i + 1) fields) x) (sym step)
+    (subst (λ (xs : List Field). IsLength xs (measured l f)) (up_to fields i f is) (length-more (take i fields) f l h))
 
 -- ---- the reason at the end
 

@@ -1,6 +1,7 @@
 pub mod Asked
 pub mod BlockLength
 pub mod Fault
+pub mod Fields
 pub mod Lent
 pub mod ReasonNumber
 pub mod Seen

@@ -7,6 +7,7 @@
 mod block_length;
 pub mod book;
 pub mod fault;
+pub mod fields;
 mod octets;
 pub mod reason;
 mod walk;

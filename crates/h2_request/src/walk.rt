@@ -5,11 +5,12 @@
 ghost use Rattle.std.specs.Prelude.{◌≡◌, ◌||◌, false, Some, is_some, unwrap_or};
 ghost use Rattle.std.specs.Option.{option_copied};
 ghost use Rattle.h2_spec.specs.Field.{field};
+ghost use Rattle.h2_request.specs.Fields.{fields_in};
 ghost use Rattle.h2_request.specs.Walk.{marked, noted, measured, pseudo_of, with_pseudo};
 ghost use Rattle.h2_request.specs.Seen.{AreSeen};
 
+use crate::fields::Fields;
 use crate::octets;
-use h2_fields::field::Field;
 use std::alloc::Allocator;
 
 /// Which tests of a field alone some field has passed.
@@ -65,7 +66,7 @@ pub struct PseudoFields<'a> {
 
 impl<'a> PseudoFields<'a> {
     /// Of no field; the values are lent by these.
-    pub fn none<A: Allocator>(_lender: &'a [Field<A>]) -> Self
+    pub fn none<A: Allocator>(_lender: &Fields<'a, A>) -> Self
         ensures { pseudo_of result ≡ record { regular = false; late = false; unknown = false; double = false; method = None; scheme = None; path = None; authority = None } }
     {
         PseudoFields {
@@ -200,18 +201,19 @@ pub struct Seen<'a> {
 
 impl<'a> Seen<'a> {
     /// Of these fields, in one walk over them.
-    pub fn of<A: Allocator>(fields: &'a [Field<A>]) -> Self
-        ensures { AreSeen fields.now result }
+    pub fn of<A: Allocator>(fields: &Fields<'a, A>) -> Self
+        ensures { AreSeen (fields_in fields.now) result }
     {
+        let count = fields.len();
         let mut marks = Marks::none();
         let mut pseudo = PseudoFields::none(fields);
         let mut length = ContentLength::none();
-        for field in fields {
-            let name = field.name.as_slice();
-            let value = field.value.as_slice();
-            marks = marks.with(name, value);
-            pseudo = pseudo.with(name, value);
-            length = length.with(name, value);
+        for place in 0..count {
+            if let Some((name, value)) = fields.get(place) {
+                marks = marks.with(name, value);
+                pseudo = pseudo.with(name, value);
+                length = length.with(name, value);
+            }
         }
         Seen {
             marks,

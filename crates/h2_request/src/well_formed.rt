@@ -6,10 +6,12 @@ ghost use Rattle.std.specs.Prelude.{◌≡◌, ◌==◌, [], length, unwrap_or, 
 ghost use Rattle.std.specs.Option.{option_map, option_copied};
 ghost use Rattle.h2_spec.specs.Request.{malformed, malformed_trailers, request_of};
 ghost use Rattle.h2_request.specs.Asked.{asked, request_seen};
+ghost use Rattle.h2_request.specs.Fields.{fields_in};
 ghost use Rattle.h2_request.specs.ReasonNumber.{reason_number};
 ghost use Rattle.h2_request.specs.Seen.{seen_reason, seen_trailers_reason, is_lacking};
 ghost use Rattle.h2_request.specs.Walk.{pseudo_of};
 
+use crate::fields::Fields;
 use crate::octets;
 use crate::reason::{Malformed, Reason};
 use crate::walk::{Marks, PseudoFields, Seen};
@@ -39,6 +41,19 @@ pub fn check<A: Allocator>(fields: &[Field<A>]) -> Result<Request<'_>, Malformed
     ensures request { IfOk result (λ request. asked request ≡ request_of fields.now) }
     ensures refused { IfErr result (λ e. malformed fields.now ≡ Some (reason_number e.0)) }
 {
+    check_fields(&Fields::Slice(fields))
+}
+
+/// As `check`, over fields in either form.
+///
+/// # Errors
+///
+/// As `check`.
+pub fn check_fields<'a, A: Allocator>(fields: &Fields<'a, A>) -> Result<Request<'a>, Malformed>
+    ensures accepted { OnOk result (malformed (fields_in fields.now) ≡ None) }
+    ensures request { IfOk result (λ request. asked request ≡ request_of (fields_in fields.now)) }
+    ensures refused { IfErr result (λ e. malformed (fields_in fields.now) ≡ Some (reason_number e.0)) }
+{
     let seen = Seen::of(fields);
     match request_reason(seen) {
         Some(reason) => Err(Malformed(reason)),
@@ -56,6 +71,18 @@ pub fn check<A: Allocator>(fields: &[Field<A>]) -> Result<Request<'_>, Malformed
 pub fn check_trailers<A: Allocator>(fields: &[Field<A>]) -> Result<(), Malformed>
     ensures accepted { OnOk result (malformed_trailers fields.now ≡ None) }
     ensures refused { IfErr result (λ e. malformed_trailers fields.now ≡ Some (reason_number e.0)) }
+{
+    check_trailer_fields(&Fields::Slice(fields))
+}
+
+/// As `check_trailers`, over fields in either form.
+///
+/// # Errors
+///
+/// As `check_trailers`.
+pub fn check_trailer_fields<A: Allocator>(fields: &Fields<'_, A>) -> Result<(), Malformed>
+    ensures accepted { OnOk result (malformed_trailers (fields_in fields.now) ≡ None) }
+    ensures refused { IfErr result (λ e. malformed_trailers (fields_in fields.now) ≡ Some (reason_number e.0)) }
 {
     match trailers_reason(Seen::of(fields).marks) {
         Some(reason) => Err(Malformed(reason)),

@@ -1,28 +1,32 @@
-use Rattle.std.proofs.Common.{◌≡◌, ◌∙◌, List, take, ap, subst}
+use Rattle.std.proofs.Common.{◌≡◌, ◌∙◌, ◌+◌, List, Some, None, [], arith, get_or, take, ap, sym, subst}
+use Rattle.std.specs.Prelude.{slice_get}
 use Rattle.std.proofs.lemmas.List.{take_all}
+use Rattle.std.proofs.lemmas.Option.{none-some, slice_get-get_or}
 use Rattle.h2_spec.specs.Field.{Field, field}
+use Rattle.h2_request.specs.Fields.{fields_in}
 use Rattle.h2_request.specs.Seen.{AreMarks, ArePseudo, IsLength}
 use Rattle.h2_request.specs.Walk.{pseudo_of}
 use Rattle.h2_request.proofs.Seen.{marks-walked, pseudo-walked, length-walked}
 use Rattle.h2_request.proofs.walk.Seen.of.Goals as goal
+use Rattle.h2_request.proofs.walk.Seen.of.Goals.{in-Some, in_default}
 
-pub loop-field-preserved : goal.loop-field-preserved
-loop-field-preserved g c =
-    let name = c.as_slice-name.result.now in
-    let value = c.as_slice-value.result.now in
-    let same : field name value ≡ c.field-item.result = ap (λ n. field n value) c.as_slice-name.ensures ∙ ap (λ v. field c.field.inside.name v) c.as_slice-value.ensures ∙ c.field.view_is in
-    record {
-      marks = marks-walked c.args.fields.now c.loop-field.field-index c.field-item.result (field name value) _ _ c.loop-field-test.true c.field-item.is same c.with-marks.ensures c.loop-field.invariant.marks;
-      pseudo = pseudo-walked c.args.fields.now c.loop-field.field-index c.field-item.result (field name value) _ _ c.loop-field-test.true c.field-item.is same c.with-pseudo.ensures c.loop-field.invariant.pseudo;
-      length = length-walked c.args.fields.now c.loop-field.field-index c.field-item.result (field name value) _ _ c.loop-field-test.true c.field-item.is same c.with-length.ensures c.loop-field.invariant.length;
-    }
-
-pub returns : goal.returns
-returns g c =
-    let l = c.loop-field in
-    let all : take l.field-index c.args.fields.now ≡ c.args.fields.now = take_all l.field-index c.args.fields.now c.loop-field-test.false in
-    record {
-      marks = subst (λ (xs : List Field). AreMarks xs l.marks) all l.invariant.marks;
-      pseudo = subst (λ (xs : List Field). ArePseudo xs (pseudo_of l.pseudo)) all l.invariant.pseudo;
-      length = subst (λ (xs : List Field). IsLength xs l.length) all l.invariant.length;
-    }
+pub loop-place-preserved : goal.loop-place-preserved
+loop-place-preserved g c =
+    let fields = fields_in c.args.fields.now in
+    let i = c.loop-place.place in
+    let before = c.loop-place.invariant in
+    let now = c.match-get in
+    elim now.branch [
+      | in-Some w ↦
+          let f : Field = field w.in-Some.name.now w.in-Some.value.now in
+          let at : slice_get fields i ≡ Some f = sym w.in-Some.ensures in
+          record {
+            marks = marks-walked fields i f _ now.marks at (w.marks-is ∙ w.with-marks.ensures) before.marks;
+            pseudo = pseudo-walked fields i f _ (pseudo_of now.pseudo) at (ap pseudo_of w.pseudo-is ∙ w.with-pseudo.ensures) before.pseudo;
+            length = length-walked fields i f _ now.length at (w.length-is ∙ w.with-length.ensures) before.length;
+          }
+      | in_default w ↦
+          let inside : slice_get fields i ≡ Some (get_or fields i (field [] [])) = slice_get-get_or fields i (field [] []) (omega (arith, c.loop-place-test.true, c.len-count.ensures)) in
+          let none : None ≡ slice_get fields i = w.in_default.ensures in
+          absurd (none-some (get_or fields i (field [] [])) (none ∙ inside))
+    ]
