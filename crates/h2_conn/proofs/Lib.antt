@@ -14,3 +14,4 @@ pub mod Runs
 pub mod Shortest
 mod SentLaws
 mod ShortLaws
+mod TentativeLaws

@@ -1,5 +1,5 @@
 -- Runs of items, one item after another and one piece of octets after another.
-use Rattle.std.proofs.Common.{◌≡◌, ◌∙◌, ℕ, zero, suc, Bool, true, false, List, [], ◌∷◌, ◌++◌, length, drop, ◌<◌, ◌≤◌, ◌+◌, take, arith, length-drop, refl, sym, ap, subst, append_assoc, true≢false, Option, Some, None, Result, Ok, Err, IfOk, OnOk, OnErr}
+use Rattle.std.proofs.Common.{◌≡◌, ◌∙◌, ℕ, zero, suc, Bool, true, false, List, [], ◌∷◌, ◌++◌, length, drop, ◌<◌, ◌≤◌, ◌+◌, take, arith, length-drop, refl, sym, ap, subst, append_assoc, true≢false, Result, Ok, Err, IfOk, OnOk, OnErr}
 use Rattle.std.proofs.lemmas.List.{append-nil}
 use Rattle.h2_spec.specs.Debug.{state_at}
 use Rattle.h2_spec.specs.Frame.{frames_octets}
@@ -9,15 +9,13 @@ use Rattle.h2_spec.specs.declared.connection.Config.{Config}
 use Rattle.h2_spec.specs.declared.connection.Phase.{Phase}
 use Rattle.h2_spec.specs.declared.connection.Phase.TheVariants as phase
 use Rattle.h2_spec.specs.Answer.{Entry}
-use Rattle.h2_spec.specs.Change.{only_shown}
 use Rattle.h2_spec.specs.Frame.{Next, NoItem, Got, next}
-use Rattle.h2_spec.specs.State.{OpenBlock, opening}
+use Rattle.h2_spec.specs.State.{opening}
 use Rattle.h2_spec.specs.Trace.{Event, Run, event_on, left_by, next_event, next_item, sent_octets, trace}
-use Rattle.h2_spec.specs.View.{shown_block, view}
+use Rattle.h2_spec.specs.View.{view}
 use Rattle.h2_spec.proofs.ParseLaws.{Uses, parse_all-step}
 use Rattle.h2_spec.proofs.TraceLaws.{event-uses}
 use Rattle.h2_conn.specs.Connection.{connection, going, halted, is_ended}
-use Rattle.h2_conn.specs.Does.{stopped}
 use Rattle.h2_conn.specs.Runs.{Feeds, Halted, Halts, Leads, Ran, Takes}
 use Rattle.h2_conn.proofs.Items.{none-after}
 
@@ -180,18 +178,10 @@ opening-none book config = refl
 
 -- ---- what is shown
 
-same-block : (b : Option OpenBlock) → shown_block (only_shown b) ≡ shown_block b
-same-block None = refl
-same-block (Some b) = refl
-
-stopped-view : (s : State) → view (stopped s) ≡ view s
-unfolding view
-stopped-view s = rw (same-block s.block) refl
-
 -- what is shown of a connection is what its state shows
 pub connection-view : (failed : Bool) (s : State) (octets : List ℕ) → view (connection failed s octets).state ≡ view s
 connection-view false s octets = refl
-connection-view true s octets = stopped-view s
+connection-view true s octets = refl
 
 -- ---- results
 

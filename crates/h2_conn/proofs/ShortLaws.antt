@@ -1,5 +1,5 @@
 -- Every frame that is sent has a payload whose length fits a head (RFC 9113, 4.1).
-use Rattle.std.proofs.Common.{ℕ, zero, suc, ◌+◌, ◌-◌, ◌<◌, ◌≤◌, ◌^◌, List, [], ◌∷◌, ◌++◌, Bool, false, length, take, drop, leb-true, arith, length-take}
+use Rattle.std.proofs.Common.{ℕ, zero, suc, ◌-◌, ◌<◌, ◌^◌, List, [], ◌∷◌, ◌++◌, Bool, false, length, take, drop, leb-true, arith, length-take}
 use Rattle.std.proofs.lemmas.Bool.{cond_both}
 use Rattle.std.specs.Prelude.{nat_le}
 use Rattle.h2_spec.specs.declared.connection.ConnectionState.{ConnectionState}

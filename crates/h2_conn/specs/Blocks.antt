@@ -1,27 +1,19 @@
 -- Field blocks that are not at their end.
-use Rattle.std.specs.Prelude.{◌≡◌, ℕ, false, List, [], ◌∷◌, Option, Some, None, Result, Ok, Err}
+use Rattle.std.specs.Prelude.{◌≡◌, ℕ, List, Option, Some, None, Result, Ok, Err}
 use Rattle.h2_spec.specs.declared.connection.BlockView.{BlockView}
 use Rattle.h2_spec.specs.declared.connection.Purpose.{Purpose}
 use Rattle.h2_spec.specs.declared.errors.ErrorCode.{ErrorCode}
-use Rattle.h2_spec.specs.declared.errors.ErrorCode.TheVariants.{CompressionError}
 use Rattle.h2_spec.specs.Answer.{Entry}
-use Rattle.h2_spec.specs.Block.{BlockSoFar, Decoded, Fault, Faulty, Progress, Unfinished}
-use Rattle.h2_spec.specs.DynamicTable.{Table}
+use Rattle.h2_spec.specs.DynamicTable.{LimitedTable, Table}
 use Rattle.h2_spec.specs.Headers as headers
 use Rattle.h2_spec.specs.State.{Decoding, OpenBlock, State}
 use Rattle.h2_spec.specs.Stream.{Records}
 use Rattle.h2_spec.specs.ReactionTable.{Cell, Error, Rule}
 pub use Rattle.h2_rules.specs.Open.{IsOpenAt, state_of}
-use Rattle.h2_fields.specs.Blocks.{unfinished}
 use Rattle.h2_rules.specs.Sound.{IsSoundChange, updated_records}
+use Rattle.h2_table.specs.Edits.{EditOf, IsEdit, edited}
 use Rattle.h2_conn.specs.declared.block.FragmentEffect.{FragmentEffect}
 use Rattle.h2_conn.specs.declared.block.FragmentEffect.TheVariants.{Breaks, Makes}
-use Rattle.h2_conn.specs.declared.block.TableAfter.{TableAfter}
-use Rattle.h2_conn.specs.declared.block.TableAfter.TheVariants.{Unchanged, Changed}
-
--- a block whose decoder has met no fault and has not run out of memory, and need not begin with a size update
-abbrev pub IsGoing : BlockSoFar → Type 0
-IsGoing b = (b.due ≡ false) × (b.outcome ≡ Some (Unfinished (unfinished b.outcome)))
 
 -- ---- the stream of an open block
 
@@ -44,48 +36,32 @@ abbrev pub cell_of : Result Purpose ErrorCode → Cell Purpose
 cell_of (Ok purpose) = Rule purpose
 cell_of (Err code) = Error code
 
--- ---- a fragment that is decoded
-
--- how far the block has come before it
-abbrev pub before_fragment : Table → BlockSoFar → Progress
-before_fragment table b = record { fields = b.fields; table = table; due = false }
-
--- and after it, up to the beginning of an instruction
-abbrev pub after_fragment : Table → BlockSoFar → Decoded
-after_fragment table b = record { progress = record { fields = b.fields; table = table; due = false }; outcome = Unfinished (unfinished b.outcome) }
-
--- it has a fault
-abbrev pub IsFaulty : Decoded → Type 0
-IsFaulty d = (f : Fault) × (d.outcome ≡ Faulty f)
-
--- the connection error of a block that ends with these octets left: it ends inside an instruction (RFC 9113, 4.3)
-abbrev pub end_error : List ℕ → Option ErrorCode
-end_error [] = None
-end_error (octet ∷ rest) = Some CompressionError
-
 -- ---- what a fragment results in
 
--- the header table after a fragment, by the one before it
-abbrev pub table_by : {A : Type 0} → Table → TableAfter A → Table
-table_by before Unchanged = before
-table_by before (Changed table) = table.table
+-- the block that is open after it, as it is shown and decoded
+abbrev pub block_after : Option BlockView → Decoding → Option OpenBlock
+block_after None d = None
+block_after (Some shown) d = Some (record { shown = shown; decoding = Some d })
 
--- another table has this limit
-abbrev pub HasLimit : {A : Type 0} → ℕ → TableAfter A → Type 0
-HasLimit limit Unchanged = Unit {0}
-HasLimit limit (Changed table) = table.limit ≡ limit
+-- in a state with the header table after it, with how far the block is decoded
+abbrev pub effect_in : State → Decoding → FragmentEffect → headers.FrameEffect
+effect_in s d (Breaks code) = headers.Breaks code
+effect_in s d (Makes shown change) = headers.Makes (record s { block = block_after shown d }) change
 
--- in a state
-abbrev pub effect_seen : {A : Type 0} → State → FragmentEffect A → headers.FrameEffect
-effect_seen s (Breaks code) = headers.Breaks code
-effect_seen s (Makes block table change) = headers.Makes (record s { block = block; table = table_by s.table table }) change
+-- in a state with the header table before it, and the edit that makes it the one after it
+abbrev pub effect_seen : State → EditOf → Decoding → FragmentEffect → headers.FrameEffect
+effect_seen s edit d e = effect_in (record s { table = edited s.table.entries edit }) d e
 
--- the change keeps what is true of every connection, the table its limit, and an open block is known by its stream,
--- with the records after the change
-abbrev pub IsSoundEffect : {A : Type 0} → List Entry → Records → ℕ → ℕ → FragmentEffect A → Type 0
-IsSoundEffect book r window limit (Breaks code) = Unit {0}
-IsSoundEffect book r window limit (Makes block table change) =
-    IsSoundChange book r window change × HasLimit limit table × IsOpenFor (updated_records change.record_update r) block
+-- the change keeps what is true of every connection, the edit is one of the table, and an open block is known by its
+-- stream, with the records after the change
+abbrev pub IsSoundEffect : List Entry → Records → ℕ → LimitedTable → EditOf → Decoding → FragmentEffect → Type 0
+IsSoundEffect book r window base edit d (Breaks code) = Unit {0}
+IsSoundEffect book r window base edit d (Makes shown change) =
+    IsSoundChange book r window change × IsEdit base edit × IsOpenFor (updated_records change.record_update r) (block_after shown d)
+
+-- the header table of a state, with its limit
+abbrev pub limited : ℕ → Table → LimitedTable
+limited limit table = record { table = table; limit = limit }
 
 -- what is shown of the open block, and how far it is decoded, if it is decoded further
 abbrev pub decoding_in : BlockView → Option Decoding → Option (BlockView × Decoding)

@@ -7,7 +7,6 @@ use Rattle.h2_spec.specs.declared.connection.Phase.TheVariants.{Preface, Setting
 use Rattle.h2_spec.specs.Frame.{NoItem}
 use Rattle.h2_spec.specs.State.{State}
 use Rattle.h2_spec.specs.Trace.{left_by, next_item}
-use Rattle.h2_conn.specs.Does.{stopped}
 
 -- a state, the octets that wait for more, and whether memory was refused
 pub record Connection : Type 0 where
@@ -18,9 +17,9 @@ pub record Connection : Type 0 where
 abbrev pub going : State → List ℕ → Connection
 going s rest = record { state = s; rest = rest; failed = false }
 
--- no more is decoded of an open block, and no octets wait
+-- memory was refused: the state is that before the item, its open block included, and no octets wait
 abbrev pub halted : State → Connection
-halted s = record { state = stopped s; rest = []; failed = true }
+halted s = record { state = s; rest = []; failed = true }
 
 -- what a state and the octets that are held represent
 abbrev pub connection : Bool → State → List ℕ → Connection

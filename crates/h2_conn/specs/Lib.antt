@@ -3,6 +3,7 @@ pub mod Blocks
 pub mod Connection
 pub mod Does
 pub mod Faults
+pub mod Fragments
 pub mod Parted
 pub mod Preview
 pub mod Runs

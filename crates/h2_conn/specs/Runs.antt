@@ -11,7 +11,7 @@ use Rattle.h2_spec.specs.Trace.{Event, Run, left_by, next_event, sent_octets, tr
 use Rattle.h2_spec.specs.View.{View, view}
 use Rattle.h2_conn.specs.declared.one.One as code
 use Rattle.h2_conn.specs.Connection.{Connection, going, halted}
-use Rattle.h2_conn.specs.Does.{AreShort, stopped}
+use Rattle.h2_conn.specs.Does.{AreShort}
 
 -- the run over more octets
 abbrev pub fed : Connection → List ℕ → Run
@@ -90,11 +90,11 @@ pub record Ran (s : State) (b out : List ℕ) (t : State) (c out' : List ℕ) (n
   pub sent : out' ≡ out ++ sent_octets (parse_all next_event s b).elements
   pub stops : next_event t c ≡ Stop
 
--- some first items were taken, and of the next one no more than what nothing shows
+-- some first items were taken, and nothing of the next one
 pub record Halted (s : State) (b out : List ℕ) (t : State) (out' : List ℕ) : Type 0 where
   pub items : ℕ
   pub within : items ≤ length (parse_all next_event s b).elements
-  pub after : stopped t ≡ stopped (state_at s (parse_all next_event s b).elements items)
+  pub after : t ≡ state_at s (parse_all next_event s b).elements items
   pub sent : out' ≡ out ++ sent_octets (take items (parse_all next_event s b).elements)
 
 -- ---- whole runs

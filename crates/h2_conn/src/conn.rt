@@ -13,7 +13,6 @@ ghost use Rattle.h2_spec.specs.Trace.{left_by};
 ghost use Rattle.h2_spec.specs.View.{view};
 ghost use Rattle.h2_conn.specs.Connection.{Fits, going, halted, is_allowed, is_ended, IsAtRest};
 ghost use Rattle.h2_conn.specs.declared.fault.ConnFault.TheVariants.{Failed, NoMemory};
-ghost use Rattle.h2_conn.specs.Does.{stopped};
 ghost use Rattle.h2_conn.specs.Faults.{refusal_after, refusal_for};
 ghost use Rattle.h2_conn.specs.Runs.{Advances, Feeds, FeedsOne, Halted, Halts, Ran};
 
@@ -62,7 +61,7 @@ fn advance<'b, A: Allocator + Copy>(
     requires { Fits splitter.old state.old.core.phase }
     ensures ok { IfOk result (Advances state.old splitter.old.octets out.old.items state.new splitter.new.octets out.new.items) }
     ensures fits { OnOk result (Fits splitter.new state.new.core.phase) }
-    ensures err { OnErr result ((stopped state.new ≡ stopped state.old) × (out.new.items ≡ out.old.items)) }
+    ensures err { OnErr result ((state.new ≡ state.old) × (out.new.items ≡ out.old.items)) }
 {
     if is_ended(state.phase()) {
         return Ok(false);
@@ -129,7 +128,7 @@ fn offer<'b, A: Allocator + Copy>(
     requires { Fits splitter.old state.old.core.phase }
     ensures ok { IfOk result (Advances state.old (splitter.old.octets ++ octet ∷ []) out.old.items state.new splitter.new.octets out.new.items) }
     ensures fits { OnOk result (Fits splitter.new state.new.core.phase) }
-    ensures err { OnErr result ((stopped state.new ≡ stopped state.old) × (out.new.items ≡ out.old.items)) }
+    ensures err { OnErr result ((state.new ≡ state.old) × (out.new.items ≡ out.old.items)) }
 {
     splitter.push(&[octet])?;
     advance(splitter, state, out)
@@ -146,7 +145,7 @@ fn take_one<'b, A: Allocator + Copy>(
     requires { IsAtRest false state.old splitter.old }
     ensures ok { IfOk result (FeedsOne (going state.old (left_by state.old.core.phase splitter.old.octets)) piece.now out.old.items (going state.new (left_by state.new.core.phase splitter.new.octets)) out.new.items) }
     ensures rest { OnOk result (IsAtRest false state.new splitter.new) }
-    ensures err { OnErr result ((stopped state.new ≡ stopped state.old) × (out.new.items ≡ out.old.items)) }
+    ensures err { OnErr result ((state.new ≡ state.old) × (out.new.items ≡ out.old.items)) }
     ensures over { is_ended state.old.core.phase ≡ true → IsOk result }
 {
     let all = piece.len();

@@ -3,7 +3,7 @@
 //! Rests on `block` and on `apply_change`; definitions: `on_headers` of h2_spec's `specs/Effect.antt`, `continuation`
 //! of `specs/Headers.antt`.
 
-ghost use Rattle.std.specs.Prelude.{◌≡◌, ◌<◌, ◌^◌, length, IfOk, IfSome, OnOk, OnErr};
+ghost use Rattle.std.specs.Prelude.{◌≡◌, ◌<◌, ◌^◌, length, Some, IfErr, IfNone, IfOk, IfSome, OnOk, OnErr};
 ghost use Rattle.h2_frame.specs.Parts.{headers_seen};
 ghost use Rattle.h2_spec.specs.Change.{broken};
 ghost use Rattle.h2_spec.specs.Effect as rule;
@@ -12,47 +12,77 @@ ghost use Rattle.h2_spec.specs.Headers as headers;
 ghost use Rattle.h2_spec.specs.Stream.{stream_at};
 ghost use Rattle.h2_spec.specs.ReactionTable.{headers_cell};
 ghost use Rattle.h2_spec.specs.declared.errors.ErrorCode.TheVariants.{ProtocolError};
-ghost use Rattle.h2_conn.specs.Blocks.{IsOpenAt, IsSoundEffect, IsStopped, cell_of, decoding_of, effect_seen};
+ghost use Rattle.h2_conn.specs.Blocks.{IsOpenAt, IsSoundEffect, IsStopped, block_after, cell_of, decoding_of, effect_seen, limited};
 ghost use Rattle.h2_conn.specs.Does.{Does, stepped, stopped};
 ghost use Rattle.h2_conn.specs.Sending.{records};
 
-use crate::block::{FragmentEffect, fragment, headers_purpose, opens};
+use crate::block::{FragmentEffect, fragment, fresh_block, headers_purpose};
 use crate::state::{Decoding, OpenBlock, State};
+use crate::tentative::Tentative;
 use h2_frame::HeadersPart;
 use h2_spec::connection::{BlockView, Purpose};
 use h2_spec::errors::ErrorCode;
 use h2_spec::frames::{END_HEADERS, Head};
+use h2_table::Edit;
 use std::alloc::{AllocError, Allocator};
+
+/// The block that is open after a fragment, as it is shown and decoded.
+fn block_after<A: Allocator + Copy>(
+    shown: Option<BlockView>,
+    tentative: Tentative<A>,
+) -> Option<OpenBlock<A>>
+    ensures { result ≡ block_after shown tentative.after }
+{
+    match shown {
+        None => None,
+        Some(shown) => Some(OpenBlock {
+            shown,
+            decoding: Some(tentative.take_over()),
+        }),
+    }
+}
 
 impl<'b, A: Allocator + Copy> State<'b, A> {
     /// What a fragment results in is made: a connection error, or the change, and then block and table; or nothing.
+    ///
+    /// # Errors
+    ///
+    /// The block as it was before the fragment, where memory was refused.
     fn finish(
         &mut self,
-        effect: FragmentEffect<A>,
+        effect: FragmentEffect,
+        tentative: Tentative<A>,
+        edit: &mut Edit<A>,
         payload: &[u8],
         out: &mut Vec<u8, A>,
-    ) -> Result<(), AllocError>
+    ) -> Result<(), Decoding<A>>
         requires fits { length payload.now < 2 ^ 24 }
         requires stopped { IsStopped self.old.block }
-        requires sound { IsSoundEffect self.old.book (records self.old) self.old.core.peer.window 4096 effect }
-        ensures ok { OnOk result (Does (stepped (rule.concluded self.old payload.now (effect_seen self.old effect))) out.old.items self.new out.new.items) }
-        ensures err { OnErr result ((self.new ≡ self.old) × (out.new.items ≡ out.old.items)) }
+        requires sound { IsSoundEffect self.old.book (records self.old) self.old.core.peer.window (limited 4096 self.old.table) edit.old tentative.after effect }
+        ensures ok { OnOk result (Does (stepped (rule.concluded self.old payload.now (effect_seen self.old edit.old tentative.after effect))) out.old.items self.new out.new.items) }
+        ensures err { IfErr result (λ before. (before ≡ tentative.before) × (self.new ≡ self.old) × (out.new.items ≡ out.old.items)) }
     {
         match effect {
-            FragmentEffect::Breaks(code) => self.fail(code, out),
-            FragmentEffect::Makes(block, table, change) => {
-                self.apply_change(change, payload, out)?;
-                self.block = block;
-                table.replace(&mut self.table);
-                Ok(())
-            }
+            FragmentEffect::Breaks(code) => match self.fail(code, out) {
+                Ok(()) => Ok(()),
+                Err(_) => Err(tentative.give_up()),
+            },
+            FragmentEffect::Makes(shown, change) => match self.apply_change(change, payload, out) {
+                Ok(()) => {
+                    self.block = block_after(shown, tentative);
+                    self.table.commit(edit);
+                    Ok(())
+                }
+                Err(_) => Err(tentative.give_up()),
+            },
         }
     }
 
-    /// The open block's decoding, taken out of the state: it is only shown from then on.
+    /// The open block's decoding, taken out of the state: it is only shown until the block is put in again.
     fn take_decoding(&mut self) -> Option<(BlockView, Decoding<A>)>
         ensures taken { result ≡ decoding_of self.old.block }
         ensures stopped { self.new ≡ stopped self.old }
+        ensures unchanged { IfNone result (self.new ≡ self.old) }
         ensures known { IfSome result (λ x. IsOpenAt (records self.old) x.0.stream x.1.purpose) }
     {
         match self.block.take() {
@@ -71,7 +101,39 @@ impl<'b, A: Allocator + Copy> State<'b, A> {
         }
     }
 
-    /// What a fragment of the open block results in.
+    /// The block that was taken out of the state, as it was.
+    fn put_back(&mut self, shown: BlockView, decoding: Decoding<A>)
+        requires known { IsOpenAt (records self.old) shown.stream decoding.purpose }
+        ensures { self.new ≡ record self.old { block = Some (record { shown = shown; decoding = Some decoding }) } }
+    {
+        self.block = Some(OpenBlock {
+            shown,
+            decoding: Some(decoding),
+        });
+    }
+
+    /// The memory of an edit.
+    fn take_edit(&mut self, alloc: A) -> Edit<A>
+        ensures { self.new ≡ self.old }
+    {
+        match self.edit.take() {
+            Some(edit) => edit,
+            None => Edit::new(alloc),
+        }
+    }
+
+    /// Keeps the memory of an edit for the next fragment.
+    fn keep_edit(&mut self, edit: Edit<A>)
+        ensures { self.new ≡ self.old }
+    {
+        self.edit = Some(edit);
+    }
+
+    /// What a fragment of a block results in.
+    ///
+    /// # Errors
+    ///
+    /// The block as it was before the fragment, where memory was refused.
     fn on_fragment(
         &mut self,
         shown: BlockView,
@@ -80,25 +142,37 @@ impl<'b, A: Allocator + Copy> State<'b, A> {
         end_headers: bool,
         payload: &[u8],
         out: &mut Vec<u8, A>,
-    ) -> Result<(), AllocError>
+    ) -> Result<(), Decoding<A>>
         requires fits { length payload.now < 2 ^ 24 }
         requires stopped { IsStopped self.old.block }
         requires known { IsOpenAt (records self.old) shown.stream decoding.purpose }
         ensures ok { OnOk result (Does (stepped (rule.concluded self.old payload.now (headers.fragment self.old shown decoding octets.now end_headers))) out.old.items self.new out.new.items) }
-        ensures err { OnErr result ((self.new ≡ self.old) × (out.new.items ≡ out.old.items)) }
+        ensures err { IfErr result (λ before. (before ≡ decoding) × (self.new ≡ self.old) × (out.new.items ≡ out.old.items)) }
     {
-        let effect = fragment(
+        let edit = self.take_edit(*out.allocator());
+        let (tentative, mut edit, effect) = fragment(
             self.book,
             self.config,
             self.core,
             &self.streams,
             &self.table,
+            edit,
             shown,
             decoding,
             octets,
             end_headers,
-        )?;
-        self.finish(effect, payload, out)
+        );
+        match effect {
+            Ok(effect) => {
+                let result = self.finish(effect, tentative, &mut edit, payload, out);
+                self.keep_edit(edit);
+                result
+            }
+            Err(_) => {
+                self.keep_edit(edit);
+                Err(tentative.give_up())
+            }
+        }
     }
 
     /// CONTINUATION where no block is open (RFC 9113, 6.10).
@@ -119,13 +193,19 @@ impl<'b, A: Allocator + Copy> State<'b, A> {
     ) -> Result<(), AllocError>
         requires fits { length payload.now < 2 ^ 24 }
         ensures ok { OnOk result (Does (stepped (rule.concluded self.old payload.now (headers.continuation self.old self.old.block octets.now (frames.has head.now.flags frames.END_HEADERS)))) out.old.items self.new out.new.items) }
-        ensures err { OnErr result ((stopped self.new ≡ stopped self.old) × (out.new.items ≡ out.old.items)) }
+        ensures err { OnErr result ((self.new ≡ self.old) × (out.new.items ≡ out.old.items)) }
     {
         match self.take_decoding() {
             None => self.not_open(out),
             Some((shown, decoding)) => {
                 let end_headers = head.has(END_HEADERS);
-                self.on_fragment(shown, decoding, octets, end_headers, payload, out)
+                match self.on_fragment(shown, decoding, octets, end_headers, payload, out) {
+                    Ok(()) => Ok(()),
+                    Err(before) => {
+                        self.put_back(shown, before);
+                        Err(AllocError)
+                    }
+                }
             }
         }
     }
@@ -155,18 +235,13 @@ impl<'b, A: Allocator + Copy> State<'b, A> {
         match self.purpose_at(head.stream) {
             Err(code) => self.fail(code, out),
             Ok(purpose) => {
-                let effect = opens(
-                    *out.allocator(),
-                    self.book,
-                    self.config,
-                    self.core,
-                    &self.streams,
-                    &self.table,
-                    purpose,
-                    head,
-                    part.fragment,
-                )?;
-                self.finish(effect, payload, out)
+                let decoding = Decoding::fresh(*out.allocator(), purpose);
+                let end_headers = head.has(END_HEADERS);
+                let shown = fresh_block(head);
+                match self.on_fragment(shown, decoding, part.fragment, end_headers, payload, out) {
+                    Ok(()) => Ok(()),
+                    Err(_) => Err(AllocError),
+                }
             }
         }
     }

@@ -20,7 +20,7 @@ ghost use Rattle.h2_spec.specs.declared.connection.Phase.TheVariants as phase;
 ghost use Rattle.h2_spec.specs.declared.errors.ErrorCode.TheVariants.{ProtocolError};
 ghost use Rattle.h2_spec.specs.declared.reactions.Reaction.TheVariants.{ConnectionError};
 ghost use Rattle.h2_conn.specs.Blocks.{IsStopped};
-ghost use Rattle.h2_conn.specs.Does.{Does, IsShort, stepped, stopped};
+ghost use Rattle.h2_conn.specs.Does.{Does, IsShort, stepped};
 ghost use Rattle.h2_conn.specs.Parted.{IsPlain};
 ghost use Rattle.h2_conn.specs.Sending.{records};
 ghost use Rattle.h2_rules.specs.Sound.{HasBody, IsSound, IsSoundState, IsSoundStream};
@@ -201,7 +201,7 @@ impl<'b, A: Allocator + Copy> State<'b, A> {
         requires part { part_of head.now payload.now ≡ Ok (part_seen part) }
         requires passed { checks.refusal (rule.block_stream self.old.block) self.old.core.phase head.now ≡ None }
         ensures ok { OnOk result (Does (stepped (rule.concluded self.old payload.now (rule.frame_effect self.old head.now payload.now (part_seen part.entry)))) out.old.items self.new out.new.items) }
-        ensures err { OnErr result ((stopped self.new ≡ stopped self.old) × (out.new.items ≡ out.old.items)) }
+        ensures err { OnErr result ((self.new ≡ self.old) × (out.new.items ≡ out.old.items)) }
     {
         match part {
             Part::Headers(part) => self.on_headers(head, payload, part, out),
@@ -227,7 +227,7 @@ impl<'b, A: Allocator + Copy> State<'b, A> {
     fn on_frame(&mut self, frame: FrameRef<'_>, out: &mut Vec<u8, A>) -> Result<(), AllocError>
         requires fits { length frame.payload.now < 2 ^ 24 }
         ensures ok { OnOk result (Does (stepped (rule.effect self.old (WholeFrame frame.entry.head frame.entry.payload.now))) out.old.items self.new out.new.items) }
-        ensures err { OnErr result ((stopped self.new ≡ stopped self.old) × (out.new.items ≡ out.old.items)) }
+        ensures err { OnErr result ((self.new ≡ self.old) × (out.new.items ≡ out.old.items)) }
     {
         match refusal(self.block_stream(), self.core.phase, &frame.head) {
             Some(code) => self.fail(code, out),
@@ -255,14 +255,12 @@ impl<'b, A: Allocator + Copy> State<'b, A> {
     ///
     /// # Errors
     ///
-    /// `AllocError` where memory was refused: the state and `out` are as before the item, but for an open block,
-    /// which can't
-    /// be decoded further.
+    /// `AllocError` where memory was refused: the state, its open block included, and `out` are as before the item.
     #[tactic(auto, unfolding(h2_spec::specs::Effect::effect, h2_spec::specs::Trace::step))]
     pub fn item(&mut self, item: &Item<'_>, out: &mut Vec<u8, A>) -> Result<(), AllocError>
         requires short { IsShort (item_of item.now) }
         ensures ok { OnOk result (Does (step self.old (item_of item.now)) out.old.items self.new out.new.items) }
-        ensures err { OnErr result ((stopped self.new ≡ stopped self.old) × (out.new.items ≡ out.old.items)) }
+        ensures err { OnErr result ((self.new ≡ self.old) × (out.new.items ≡ out.old.items)) }
     {
         match item {
             Item::Preface => self.on_preface(out),

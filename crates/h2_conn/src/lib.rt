@@ -14,6 +14,7 @@ pub mod play;
 mod preview;
 mod send_pending;
 mod state;
+mod tentative;
 pub mod view;
 mod write;
 

@@ -2,34 +2,36 @@
 //! Rests on h2_request, h2_fields and h2_streams; definition: h2_spec's `specs/State.antt`.
 
 ghost use Rattle.std.specs.Prelude.{◌≡◌, IfOk};
+ghost use Rattle.h2_spec.specs.Headers.{fresh_decoding};
 ghost use Rattle.h2_spec.specs.State.{opening, opening_core};
 
-use h2_fields::block::BlockDecoder;
+use h2_fields::collected::Collected;
 use h2_request::book::Book;
 use h2_spec::connection::{BlockView, Config, ConnectionState, Phase, Purpose};
 use h2_spec::flow::{Credit, LocalSettings, Settings, Window};
 use h2_streams::Streams;
-use h2_table::DynTable;
+use h2_table::{DynTable, Edit};
 use std::alloc::{AllocError, Allocator};
 use std::marker::Model;
 
-/// How far a field block is decoded, and what it is for.
+/// How far a field block is decoded, and what it is for: its fields, and the octets that begin an instruction and do
+/// not end it.
 #[derive(Drop)]
 pub struct Decoding<A: Allocator> {
     pub purpose: Purpose,
-    pub decoder: BlockDecoder<A>,
+    pub collected: Collected<A>,
+    pub rest: Vec<u8, A>,
 }
 
 impl<A: Allocator> Model for Decoding<A> {
+    ghost use Rattle.std.specs.Prelude.{◌≡◌, false};
     ghost use Rattle.h2_spec.specs.State as state;
-    ghost use Rattle.h2_fields.specs.Blocks.{unfinished};
-    ghost use Rattle.h2_conn.specs.Blocks.{IsGoing};
 
     ghost Value = { state.Decoding };
 
-    ghost view = { λ d. record { purpose = d.purpose; fields = d.decoder.fields; rest = unfinished d.decoder.outcome } };
+    ghost view = { λ d. record { purpose = d.purpose; fields = d.collected.fields; rest = d.rest.items } };
 
-    ghost invariant = { λ d. IsGoing d.decoder };
+    ghost invariant = { λ d. d.collected.due ≡ false };
 }
 
 /// A field block that has begun; after the end of the connection it is shown, and decoded no more.
@@ -48,14 +50,27 @@ impl<A: Allocator> Model for OpenBlock<A> {
 }
 
 impl<A: Allocator + Copy> Decoding<A> {
+    /// Nothing of a block is decoded yet. No memory is taken.
+    pub fn fresh(alloc: A, purpose: Purpose) -> Self
+        ensures { result ≡ fresh_decoding purpose }
+    {
+        Decoding {
+            purpose,
+            collected: Collected::new(alloc),
+            rest: Vec::new(alloc),
+        }
+    }
+
     /// The same once more, in memory of its own.
     fn try_clone(&self) -> Result<Decoding<A>, AllocError>
         ensures { IfOk result (λ copy. copy ≡ self.now) }
     {
-        let decoder = self.decoder.try_clone()?;
+        let collected = self.collected.try_clone()?;
+        let rest = self.rest.clone()?;
         Ok(Decoding {
             purpose: self.purpose,
-            decoder,
+            collected,
+            rest,
         })
     }
 }
@@ -97,7 +112,9 @@ impl<A: Allocator> OpenBlock<A> {
     }
 }
 
-/// All that an item can change, and the book and the limits that it is changed by.
+/// All that an item can change, and the book and the limits that it is changed by. `edit` is memory that is used
+/// again for each
+/// fragment; between two items it means nothing.
 #[derive(Drop)]
 pub struct State<'b, A: Allocator> {
     pub book: &'b Book<A>,
@@ -105,6 +122,7 @@ pub struct State<'b, A: Allocator> {
     pub core: ConnectionState,
     pub block: Option<OpenBlock<A>>,
     pub table: DynTable<A>,
+    pub edit: Option<Edit<A>>,
     pub streams: Streams<A>,
 }
 
@@ -152,6 +170,7 @@ impl<'b, A: Allocator + Copy> State<'b, A> {
             core: opening_core(),
             block: None,
             table,
+            edit: None,
             streams: Streams::new(alloc),
         })
     }
@@ -171,6 +190,7 @@ impl<'b, A: Allocator + Copy> State<'b, A> {
             core: self.core,
             block,
             table,
+            edit: None,
             streams,
         })
     }

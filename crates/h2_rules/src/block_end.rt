@@ -18,10 +18,10 @@ ghost use Rattle.h2_rules.specs.Sound.{HasBody, IsSoundChange, IsSoundConnection
 
 use crate::change::{only_counts, stream_error, with_outcome};
 use crate::headers::{request_outcome, trailers_outcome};
-use h2_fields::block::BlockDecoder;
-use h2_fields::field::Field;
+use h2_fields::collected::Collected;
 use h2_request::book::Book;
-use h2_request::well_formed::{check, check_trailers};
+use h2_request::fields::Fields;
+use h2_request::well_formed::{check_fields, check_trailer_fields};
 use h2_spec::connection::{BlockView, Config, ConnectionState, Purpose};
 use h2_spec::errors::ErrorCode;
 use h2_spec::reactions::{BlockSummary, Change, StreamOutcome};
@@ -29,15 +29,16 @@ use h2_spec::streams::Pick;
 use h2_streams::Streams;
 use std::alloc::Allocator;
 
-/// What the fields of a request result in, with the size of their list.
+/// What the fields of a request result in.
 /// Of malformed fields nothing but the size is looked at, so they declare nothing and pick nothing here.
-fn request_summary<A: Allocator>(book: &Book<A>, fields: &[Field<A>], size: u64) -> BlockSummary
-    ensures size { result.size ≡ size }
-    ensures malformed { result.malformed ≡ is_some (malformed fields.now) }
-    ensures well_formed { malformed fields.now ≡ None → size ≡ list_size fields.now → result ≡ rule.request_summary book.now fields.now }
+fn request_summary<A: Allocator>(book: &Book<A>, fields: &Collected<A>) -> BlockSummary
+    ensures size { result.size ≡ list_size fields.now.fields }
+    ensures malformed { result.malformed ≡ is_some (malformed fields.now.fields) }
+    ensures well_formed { malformed fields.now.fields ≡ None → result ≡ rule.request_summary book.now fields.now.fields }
     ensures pick { IsPickOf book.now result.pick }
 {
-    match check(fields) {
+    let size = fields.list_size();
+    match check_fields(&Fields::Block(fields)) {
         Ok(request) => BlockSummary {
             size,
             malformed: false,
@@ -89,14 +90,14 @@ fn request_ends<A: Allocator + Copy>(
     core: ConnectionState,
     streams: &Streams<A>,
     shown: &BlockView,
-    decoder: &BlockDecoder<A>,
+    fields: &Collected<A>,
 ) -> Change
     requires sound { IsSoundState book.now core streams.now }
     requires open { IsOpenAt streams.now shown.now.stream Request }
-    ensures rule { (b : Option OpenBlock) (table : Table) → result ≡ rule.request_ends (state_of book.now config core b table streams.now.streams) shown.now.stream shown.now.ends decoder.now.fields }
+    ensures rule { (b : Option OpenBlock) (table : Table) → result ≡ rule.request_ends (state_of book.now config core b table streams.now.streams) shown.now.stream shown.now.ends fields.now.fields }
     ensures sound { IsSoundChange book.now streams.now core.peer.window result }
 {
-    let summary = request_summary(book, decoder.fields(), decoder.list_size());
+    let summary = request_summary(book, fields);
     let live = streams.live_count();
     let id = shown.stream;
     let opened = only_counts(ConnectionState { last: id, ..core });
@@ -111,16 +112,16 @@ fn trailers_end<A: Allocator + Copy>(
     core: ConnectionState,
     streams: &Streams<A>,
     shown: &BlockView,
-    decoder: &BlockDecoder<A>,
+    fields: &Collected<A>,
 ) -> Change
     requires sound { IsSoundState book.now core streams.now }
     requires open { IsOpenAt streams.now shown.now.stream Trailers }
-    ensures rule { (config : Config) (b : Option OpenBlock) (table : Table) → result ≡ rule.trailers_end (state_of book.now config core b table streams.now.streams) shown.now.stream shown.now.ends decoder.now.fields }
+    ensures rule { (config : Config) (b : Option OpenBlock) (table : Table) → result ≡ rule.trailers_end (state_of book.now config core b table streams.now.streams) shown.now.stream shown.now.ends fields.now.fields }
     ensures sound { IsSoundChange book.now streams.now core.peer.window result }
 {
     let stream = streams.stream_at(shown.stream);
-    let malformed = are_no_trailers(decoder.fields());
-    let size = decoder.list_size();
+    let malformed = are_no_trailers(fields);
+    let size = fields.list_size();
     let body = body_length(book, stream.pick);
     let size_update_pending = core.peer.size_update_pending;
     let outcome = trailers_outcome(
@@ -135,10 +136,10 @@ fn trailers_end<A: Allocator + Copy>(
 }
 
 /// Whether a reason stands against fields as trailers (RFC 9113, 8.1).
-fn are_no_trailers<A: Allocator>(fields: &[Field<A>]) -> bool
-    ensures { result ≡ is_some (malformed_trailers fields.now) }
+fn are_no_trailers<A: Allocator>(fields: &Collected<A>) -> bool
+    ensures { result ≡ is_some (malformed_trailers fields.now.fields) }
 {
-    match check_trailers(fields) {
+    match check_trailer_fields(&Fields::Block(fields)) {
         Ok(()) => false,
         Err(_) => true,
     }
@@ -171,16 +172,16 @@ pub fn block_ends<A: Allocator + Copy>(
     streams: &Streams<A>,
     shown: &BlockView,
     purpose: Purpose,
-    decoder: &BlockDecoder<A>,
+    fields: &Collected<A>,
 ) -> Change
     requires sound { IsSoundState book.now core streams.now }
     requires open { IsOpenAt streams.now shown.now.stream purpose }
-    ensures rule { (b : Option OpenBlock) (table : Table) → result ≡ rule.block_ends (state_of book.now config core b table streams.now.streams) shown.now.stream shown.now.ends decoder.now.fields purpose }
+    ensures rule { (b : Option OpenBlock) (table : Table) → result ≡ rule.block_ends (state_of book.now config core b table streams.now.streams) shown.now.stream shown.now.ends fields.now.fields purpose }
     ensures sound { IsSoundChange book.now streams.now core.peer.window result }
 {
     match purpose {
-        Purpose::Request => request_ends(book, config, core, streams, shown, decoder),
-        Purpose::Trailers => trailers_end(book, core, streams, shown, decoder),
+        Purpose::Request => request_ends(book, config, core, streams, shown, fields),
+        Purpose::Trailers => trailers_end(book, core, streams, shown, fields),
         Purpose::Closed => closed_end(book, core, streams, shown.stream),
         Purpose::TableOnly => only_counts(core),
     }

@@ -10,25 +10,25 @@ pub returns-in-Request-clause-rule : goal.returns-in-Request-clause-rule
 returns-in-Request-clause-rule g c = λ b table.
     let a = c.args in
     let s = state_of a.book.now a.config a.core b table a.streams.now.streams in
-    c.request_ends.ensures.rule b table ∙ ap (λ (p : Purpose). rule.block_ends s a.shown.now.stream a.shown.now.ends a.decoder.now.fields p) (sym c.in-Request.is)
+    c.request_ends.ensures.rule b table ∙ ap (λ (p : Purpose). rule.block_ends s a.shown.now.stream a.shown.now.ends a.fields.now.fields p) (sym c.in-Request.is)
 
 pub returns-in-Trailers-clause-rule : goal.returns-in-Trailers-clause-rule
 returns-in-Trailers-clause-rule g c = λ b table.
     let a = c.args in
     let s = state_of a.book.now a.config a.core b table a.streams.now.streams in
-    c.trailers_end.ensures.rule a.config b table ∙ ap (λ (p : Purpose). rule.block_ends s a.shown.now.stream a.shown.now.ends a.decoder.now.fields p) (sym c.in-Trailers.is)
+    c.trailers_end.ensures.rule a.config b table ∙ ap (λ (p : Purpose). rule.block_ends s a.shown.now.stream a.shown.now.ends a.fields.now.fields p) (sym c.in-Trailers.is)
 
 pub returns-in-Closed-clause-rule : goal.returns-in-Closed-clause-rule
 returns-in-Closed-clause-rule g c = λ b table.
     let a = c.args in
     let s = state_of a.book.now a.config a.core b table a.streams.now.streams in
-    c.closed_end.ensures.rule ∙ ap (λ (p : Purpose). rule.block_ends s a.shown.now.stream a.shown.now.ends a.decoder.now.fields p) (sym c.in-Closed.is)
+    c.closed_end.ensures.rule ∙ ap (λ (p : Purpose). rule.block_ends s a.shown.now.stream a.shown.now.ends a.fields.now.fields p) (sym c.in-Closed.is)
 
 pub returns-in-TableOnly-clause-rule : goal.returns-in-TableOnly-clause-rule
 returns-in-TableOnly-clause-rule g c = λ b table.
     let a = c.args in
     let s = state_of a.book.now a.config a.core b table a.streams.now.streams in
-    c.only_counts.ensures ∙ ap (λ (p : Purpose). rule.block_ends s a.shown.now.stream a.shown.now.ends a.decoder.now.fields p) (sym c.in-TableOnly.is)
+    c.only_counts.ensures ∙ ap (λ (p : Purpose). rule.block_ends s a.shown.now.stream a.shown.now.ends a.fields.now.fields p) (sym c.in-TableOnly.is)
 
 pub returns-in-Closed-clause-sound : goal.returns-in-Closed-clause-sound
 returns-in-Closed-clause-sound g c = c.closed_end.ensures.sound

@@ -1,12 +1,10 @@
-use Rattle.std.proofs.Common.{refl, sym, ap, subst, ◌∙◌, length, is_some}
+use Rattle.std.proofs.Common.{refl, sym, ap, subst, ◌∙◌, length}
 use Rattle.h2_spec.specs.declared.connection.ConnectionState.{ConnectionState}
 use Rattle.h2_spec.specs.declared.reactions.Change.{Change}
 use Rattle.h2_spec.specs.declared.reactions.StreamOutcome.{StreamOutcome}
 use Rattle.h2_spec.specs.Answer.{picked}
-use Rattle.h2_spec.specs.Block.{list_size}
 use Rattle.h2_spec.specs.Change.{only_counts, with_outcome}
-use Rattle.h2_spec.specs.Headers.{request_summary, request_outcome}
-use Rattle.h2_spec.specs.Request.{malformed}
+use Rattle.h2_spec.specs.Headers.{request_outcome}
 use Rattle.h2_spec.specs.Stream.{live_count}
 use Rattle.h2_rules.specs.Sound.{IsCalm}
 use Rattle.h2_rules.proofs.BlockLaws.{opening-put, same-opening}
@@ -16,19 +14,16 @@ pub returns-clause-rule : goal.returns-clause-rule
 returns-clause-rule g c = λ b table.
     let a = c.args in
     let book = a.book.now in
-    let fields = a.decoder.now.fields in
+    let fields = a.fields.now.fields in
     let id = a.shown.now.stream in
     let ends = a.shown.now.ends in
     let opened : ConnectionState = record a.core { last = id } in
     let f = c.request_summary-summary.result in
     let made = c.request_summary-summary.ensures in
-    let same = c.fields.ensures in
-    let size = made.size ∙ c.list_size.ensures in
-    let bad = made.malformed ∙ ap (λ fs. is_some (malformed fs)) same in
     let live = live_count a.streams.now.streams in
     let outcome =
     c.opening_outcome-outcome.ensures.rule ∙ ap (λ n. request_outcome a.config n (length (picked book f.pick).body) a.core id ends f) c.live_count-live.ensures
-    ∙ same-opening book a.config live a.core id ends fields f size bad (λ none. made.well_formed (ap malformed same ∙ none) (c.list_size.ensures ∙ ap list_size (sym same)) ∙ ap (request_summary book) same) in
+    ∙ same-opening book a.config live a.core id ends fields f made.size made.malformed made.well_formed in
     c.with_outcome.ensures.rule ∙ ap (λ (x : Change). with_outcome x c.opening_outcome-outcome.result) c.only_counts-opened.ensures ∙ ap (λ (t : StreamOutcome). with_outcome (only_counts opened) t) outcome
 
 pub returns-clause-sound : goal.returns-clause-sound

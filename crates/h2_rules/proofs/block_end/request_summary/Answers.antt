@@ -12,13 +12,13 @@ summary size malformed declared pick = record { size = size; malformed = malform
 
 pub returns-in-Ok-clause-well_formed : goal.returns-in-Ok-clause-well_formed
 unfolding request_of
-returns-in-Ok-clause-well_formed g c = λ none same.
-    let fields = c.args.fields.now in
+returns-in-Ok-clause-well_formed g c = λ none.
+    let fields = c.args.fields.now.fields in
     let book = c.args.book.now in
     let declared = c.in-Ok.request.declared in
     let pick = c.find.result in
     let asked_is : asked c.in-Ok.request ≡ request_of fields = c.in-Ok.ensures.request in
-    ap (λ n. summary n false declared pick) same
+    ap (λ n. summary n false declared pick) c.list_size-size.ensures
     ∙ ap (λ b. summary (list_size fields) b declared pick) (sym (ap is_some none))
     ∙ ap (λ d. summary (list_size fields) (is_some (malformed fields)) d pick) (ap (λ (r : Request). r.declared) asked_is)
     ∙ ap (λ p. summary (list_size fields) (is_some (malformed fields)) (declared_length fields) p) (c.find.ensures.first ∙ ap (pick_of book) asked_is)

@@ -1,33 +1,53 @@
-use Rattle.std.proofs.Common.{ℕ, sym, ap, subst, ◌∙◌}
+use Rattle.std.proofs.Common.{◌≡◌, ℕ, Option, sym, ap, subst, ◌∙◌}
 use Rattle.h2_spec.specs.Change.{made}
+use Rattle.h2_spec.specs.DynamicTable.{LimitedTable, Table}
 use Rattle.h2_spec.specs.Effect as rule
-use Rattle.h2_spec.specs.State.{State}
+use Rattle.h2_spec.specs.State.{OpenBlock, State}
 use Rattle.h2_spec.specs.Trace.{then_sent}
-use Rattle.h2_conn.specs.Blocks.{HasLimit, IsSoundEffect, effect_seen, table_by}
+use Rattle.h2_table.specs.Edits.{IsEdit, edited}
+use Rattle.h2_conn.specs.Blocks.{IsOpenFor, IsSoundEffect, block_after, effect_seen, limited}
 use Rattle.h2_conn.specs.Does.{Does, stepped}
 use Rattle.h2_conn.specs.Sending.{records}
 use Rattle.h2_conn.proofs.FinishLaws.{open-then, rebound, same-table}
 use Rattle.h2_conn.proofs.state.State.finish.Goals as goal
 
+pub commit-requires : goal.commit-requires
+commit-requires g c =
+    let s = c.args.self.now in
+    let edit = c.args.edit.now in
+    let table = c.self.inside.table in
+    let effect = subst (λ e. IsSoundEffect s.book (records s) s.core.peer.window (limited 4096 s.table) edit c.args.tentative.after e) c.in-Makes.is c.requires.sound in
+    let same : table.table ≡ s.table = ap (λ (x : State). x.table) c.self.view_is ∙ same-table s c.apply_change.new.self c.args.payload.now c.in-Makes.change c.args.out.now.items c.apply_change.new.out.items c.in-Ok-apply_change.ensures.ok in
+    let limit : table.limit ≡ 4096 = c.self.invariant.1 ∙ c.self.invariant.0.counts.6 in
+    record { belongs = subst (λ (l : ℕ). IsEdit (limited l table.table) edit) (sym limit) (subst (λ (t : Table). IsEdit (limited 4096 t) edit) (sym same) effect.1) }
+
 pub invariant_of-self : goal.invariant_of-self
 invariant_of-self g c =
     let s = c.args.self.now in
     let inside = c.self.inside in
-    let effect = subst (λ e. IsSoundEffect s.book (records s) s.core.peer.window 4096 e) c.in-Makes.is c.requires.sound in
+    let after = c.args.tentative.after in
+    let effect = subst (λ e. IsSoundEffect s.book (records s) s.core.peer.window (limited 4096 s.table) c.args.edit.now after e) c.in-Makes.is c.requires.sound in
     let held = ap (λ (x : State). x.streams) (sym c.self.view_is) in
-    let opened = open-then s c.apply_change.new.self inside.streams c.args.payload.now c.in-Makes.change c.in-Makes.block c.args.out.now.items c.apply_change.new.out.items effect.0 effect.2 c.in_ok-apply_change-in-Makes.ensures.ok
+    let opened = open-then s c.apply_change.new.self inside.streams c.args.payload.now c.in-Makes.change (block_after c.in-Makes.shown after) c.args.out.now.items c.apply_change.new.out.items effect.0 effect.2 c.in-Ok-apply_change.ensures.ok
     held (c.self.invariant.0.last ∙ ap (λ (x : State). x.core.last) c.self.view_is) in
-    (c.self.invariant.0, c.replace.ensures.limit (subst (λ (l : ℕ). HasLimit l c.in-Makes.table) (sym (c.self.invariant.1 ∙ c.self.invariant.0.counts.6)) effect.1) ∙ c.self.invariant.1, opened)
+    (c.self.invariant.0, ap (λ (t : LimitedTable). t.limit) c.commit.ensures ∙ c.self.invariant.1, subst (λ (b : Option OpenBlock). IsOpenFor inside.streams b) (sym c.block_after.ensures) opened)
 
-pub returns-in_ok-apply_change-in-Makes-clause-ok : goal.returns-in_ok-apply_change-in-Makes-clause-ok
-returns-in_ok-apply_change-in-Makes-clause-ok g c =
+pub returns-in-Ok-apply_change-clause-ok : goal.returns-in-Ok-apply_change-clause-ok
+returns-in-Ok-apply_change-clause-ok g c =
     let s = c.args.self.now in
-    let held : State = record { book = c.self.inside.book.now; config = c.self.inside.config; core = c.self.inside.core; block = c.self.inside.block; table = c.self.inside.table.table; streams = c.self.inside.streams.streams } in
-    let did = subst (λ (x : State). Does (then_sent c.in-Makes.change.core.phase (made s c.args.payload.now c.in-Makes.change)) c.args.out.now.items x c.apply_change.new.out.items) (sym c.self.view_is) c.in_ok-apply_change-in-Makes.ensures.ok in
-    let after = table_by s.table c.in-Makes.table in
-    let replaced = c.replace.new.table.table in
-    let kept = c.replace.ensures.table ∙ ap (λ t. table_by t c.in-Makes.table) (same-table s held c.args.payload.now c.in-Makes.change c.args.out.now.items c.apply_change.new.out.items did) in
-    let changed : State = record s { block = c.in-Makes.block; table = after } in
-    subst (λ e. Does (stepped (rule.concluded s c.args.payload.now (effect_seen s e))) c.args.out.now.items (record held { block = c.in-Makes.block; table = replaced }) c.apply_change.new.out.items) (sym c.in-Makes.is)
-    (subst (λ t. Does (then_sent c.in-Makes.change.core.phase (made changed c.args.payload.now c.in-Makes.change)) c.args.out.now.items (record held { block = c.in-Makes.block; table = t }) c.apply_change.new.out.items) (sym kept)
-    (rebound s held c.args.payload.now c.in-Makes.change c.in-Makes.block after c.args.out.now.items c.apply_change.new.out.items did))
+    let edit = c.args.edit.now in
+    let tentative = c.args.tentative in
+    let payload = c.args.payload.now in
+    let change = c.in-Makes.change in
+    let out = c.args.out.now.items in
+    let inside = c.self.inside in
+    let held : State = record { book = inside.book.now; config = inside.config; core = inside.core; block = inside.block; table = inside.table.table; streams = inside.streams.streams } in
+    let did = subst (λ (x : State). Does (then_sent change.core.phase (made s payload change)) out x c.apply_change.new.out.items) (sym c.self.view_is) c.in-Ok-apply_change.ensures.ok in
+    let after = edited s.table.entries edit in
+    let block = block_after c.in-Makes.shown tentative.after in
+    let kept : c.commit.new.self.table ≡ after = ap (λ (t : LimitedTable). t.table) c.commit.ensures ∙ ap (λ (t : Table). edited t.entries edit) (same-table s held payload change out c.apply_change.new.out.items did) in
+    let changed : State = record s { block = block; table = after } in
+    subst (λ e. Does (stepped (rule.concluded s payload (effect_seen s edit tentative.after e))) out (record held { block = c.block_after.result; table = c.commit.new.self.table }) c.apply_change.new.out.items) (sym c.in-Makes.is)
+    (subst (λ (b : Option OpenBlock). Does (then_sent change.core.phase (made changed payload change)) out (record held { block = b; table = c.commit.new.self.table }) c.apply_change.new.out.items) (sym c.block_after.ensures)
+    (subst (λ (t : Table). Does (then_sent change.core.phase (made changed payload change)) out (record held { block = block; table = t }) c.apply_change.new.out.items) (sym kept)
+    (rebound s held payload change block after out c.apply_change.new.out.items did)))

@@ -1,24 +1,39 @@
-use Rattle.std.proofs.Common.{◌≡◌, ℕ, subst, ◌∙◌}
-use Rattle.std.specs.Prelude.{OnOk}
+use Rattle.std.proofs.Common.{◌≡◌, ℕ, sym, subst, ◌∙◌}
+use Rattle.std.specs.Prelude.{IfOk, OnOk}
 use Rattle.h2_spec.specs.Effect as rule
 use Rattle.h2_spec.specs.Headers as headers
 use Rattle.h2_spec.specs.Headers.{FrameEffect}
 use Rattle.h2_spec.specs.State.{State}
-use Rattle.h2_conn.specs.Blocks.{IsSoundEffect, effect_seen}
+use Rattle.h2_conn.specs.Blocks.{IsSoundEffect, effect_seen, limited}
 use Rattle.h2_conn.specs.Does.{Does, stepped}
 use Rattle.h2_conn.specs.Sending.{records}
 use Rattle.h2_conn.proofs.state.State.on_fragment.Goals as goal
 
-pub finish-requires-clause-sound : goal.finish-requires-clause-sound
-finish-requires-clause-sound g c =
+pub finish-result-requires-clause-sound : goal.finish-result-requires-clause-sound
+finish-result-requires-clause-sound g c =
     let inside = c.self.inside in
     let state = c.self.invariant.0 in
-    subst (λ (s : State). IsSoundEffect s.book (records s) s.core.peer.window 4096 c.in_ok-effect.effect) c.self.view_is
-    (subst (λ (l : ℕ). IsSoundEffect inside.book.now (record { streams = inside.streams.streams; last = l }) inside.core.peer.window 4096 c.in_ok-effect.effect) state.last
-    (subst (λ (limit : ℕ). IsSoundEffect inside.book.now inside.streams inside.core.peer.window limit c.in_ok-effect.effect) (c.self.invariant.1 ∙ state.counts.6) c.in_ok-effect.ensures.sound))
+    let effect = c.in-Ok.effect in
+    let after = c.fragment-tentative.result.0.after in
+    let edit = c.fragment-tentative.result.1 in
+    let sound = subst (λ r. IfOk r (λ e. IsSoundEffect inside.book.now inside.streams inside.core.peer.window inside.table edit after e)) c.in-Ok.is c.fragment-tentative.ensures.sound in
+    subst (λ (s : State). IsSoundEffect s.book (records s) s.core.peer.window (limited 4096 s.table) edit after effect) c.self.view_is
+    (subst (λ (l : ℕ). IsSoundEffect inside.book.now (record { streams = inside.streams.streams; last = l }) inside.core.peer.window (limited 4096 inside.table.table) edit after effect) state.last
+    (subst (λ (limit : ℕ). IsSoundEffect inside.book.now inside.streams inside.core.peer.window (limited limit inside.table.table) edit after effect) (c.self.invariant.1 ∙ state.counts.6) sound))
 
-pub returns-clause-ok : goal.returns-clause-ok
-returns-clause-ok g c =
-    let effect = c.in_ok-effect.effect in
-    let is = subst (λ (s : State). effect_seen s effect ≡ headers.fragment s c.args.shown c.args.decoding c.args.octets.now c.args.end_headers) c.self.view_is (c.in_ok-effect.ensures.effect c.self.inside.block) in
-    subst (λ (e : FrameEffect). OnOk c.finish.result (Does (stepped (rule.concluded c.args.self.now c.args.payload.now e)) c.args.out.now.items c.finish.new.self c.finish.new.out.items)) is c.finish.ensures.ok
+pub returns-in-Ok-clause-ok : goal.returns-in-Ok-clause-ok
+returns-in-Ok-clause-ok g c =
+    let a = c.args in
+    let inside = c.self.inside in
+    let effect = c.in-Ok.effect in
+    let after = c.fragment-tentative.result.0.after in
+    let edit = c.fragment-tentative.result.1 in
+    let mid = c.take_edit-edit.new.self in
+    let frag : State → FrameEffect = λ s. headers.fragment s a.shown a.decoding a.octets.now a.end_headers in
+    let all = subst (λ r. IfOk r (λ e. (b : _) → effect_seen (record { book = inside.book.now; config = inside.config; core = inside.core; block = b; table = inside.table.table; streams = inside.streams.streams }) edit after e ≡ frag (record { book = inside.book.now; config = inside.config; core = inside.core; block = b; table = inside.table.table; streams = inside.streams.streams }))) c.in-Ok.is c.fragment-tentative.ensures.effect in
+    let is : effect_seen mid edit after effect ≡ frag mid = subst (λ (s : State). effect_seen s edit after effect ≡ frag s) c.self.view_is (all inside.block) in
+    let out = c.finish-result.new.out.items in
+    let P : State → FrameEffect → State → Type 0 = λ s e now. OnOk c.finish-result.result (Does (stepped (rule.concluded s a.payload.now e)) a.out.now.items now out) in
+    subst (λ (t : State). P a.self.now (frag a.self.now) t) (sym c.keep_edit.ensures)
+    (subst (λ (s : State). P s (frag s) c.finish-result.new.self) c.take_edit-edit.ensures
+    (subst (λ (e : FrameEffect). P mid e c.finish-result.new.self) is c.finish-result.ensures.ok))

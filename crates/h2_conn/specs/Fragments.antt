@@ -1,0 +1,22 @@
+-- A fragment that is decoded over an edit of the table, and not taken over yet.
+use Rattle.std.specs.Prelude.{◌≡◌, false}
+use Rattle.h2_spec.specs.Block.{Decoded, Fault, Faulty, Progress, Unfinished}
+use Rattle.h2_spec.specs.DynamicTable.{Table}
+use Rattle.h2_spec.specs.State.{Decoding}
+
+-- how far a block is decoded before a fragment and after it
+pub record BeforeAfter : Type 0 where
+  pub before : Decoding
+  pub after : Decoding
+
+-- how far the block has come before it
+abbrev pub before_fragment : Table → Decoding → Progress
+before_fragment table d = record { fields = d.fields; table = table; due = false }
+
+-- and after it, up to the beginning of an instruction
+abbrev pub after_fragment : Table → Decoding → Decoded
+after_fragment table d = record { progress = record { fields = d.fields; table = table; due = false }; outcome = Unfinished d.rest }
+
+-- it has a fault
+abbrev pub IsFaulty : Decoded → Type 0
+IsFaulty d = (f : Fault) × (d.outcome ≡ Faulty f)
