@@ -1,0 +1,360 @@
+#!/usr/bin/env bash
+# What a hostile peer can make `play` cost: time of the processor and peak of memory for floods of n, 2n and 4n octets, where 4n is the longest input
+# that `play` takes (16 MiB of hex, 8,388,608 octets). It prints a table in Markdown and says which floods are linear in both.
+#
+#   tests/floods.sh [--program FILE] [--limit SECONDS] [--most OCTETS] [--only WORD] [--list]
+#
+# --program is the proved one of this repository unless it is named. A run above the limit (60 seconds of the processor) is ended, and its longer ones are not
+# tried. --only takes the floods with this word in their name. A flood counts as linear where twice the octets take at most 2.6 times what is above the
+# program's start, in time and in memory, at both steps; times below 0.05 s are not compared. The status is 1 where a run crashes or prints a fault.
+# It is no part of the gate, and takes some minutes.
+set -eu
+top=$(cd "$(dirname "$0")/.." && pwd)
+case " $* " in
+*" --program "* | *" --list "*) ;;
+*)
+    "$top/h2_bench" play < "$top/examples/ping.hex" > /dev/null
+    set -- --program "$top/crates/h2_program/out/h2_program" "$@"
+    ;;
+esac
+made=$(mktemp -d)
+trap 'rm -rf "$made"' EXIT
+cat > "$made/floods.py" <<'PYTHON'
+import argparse
+import os
+import resource
+import subprocess
+import sys
+
+DATA, HEADERS, RST_STREAM, SETTINGS, PING, WINDOW_UPDATE, CONTINUATION = 0, 1, 3, 4, 6, 8, 9
+END_STREAM, END_HEADERS = 1, 4
+GET = bytes.fromhex("828684")  # :method GET, :scheme http, :path /
+
+
+def frame(kind, flags, stream, payload=b""):
+    return len(payload).to_bytes(3, "big") + bytes([kind, flags]) + stream.to_bytes(4, "big") + payload
+
+
+def setting(identifier, value):
+    return identifier.to_bytes(2, "big") + value.to_bytes(4, "big")
+
+
+START = b"PRI * HTTP/2.0\r\n\r\nSM\r\n\r\n" + frame(SETTINGS, 0, 0)
+
+
+def integer(prefix, bits, value):
+    """An integer of RFC 7541, 5.1, behind the bits above its prefix."""
+    most = (1 << bits) - 1
+    if value < most:
+        return bytes([prefix | value])
+    octets, value = [prefix | most], value - most
+    while value >= 128:
+        octets.append(value % 128 + 128)
+        value //= 128
+    return bytes([*octets, value])
+
+
+def string(text):
+    return integer(0, 7, len(text)) + text
+
+
+def entry(name, value):
+    """A literal that enters the header table."""
+    return b"\x40" + string(name) + string(value)
+
+
+def put(room, front, items):
+    """The front, and as many items as there is room for."""
+    parts, left = [front], room - len(front)
+    for item in items:
+        if len(item) > left:
+            break
+        parts.append(item)
+        left -= len(item)
+    return b"".join(parts)
+
+
+def streams():
+    return range(1, 1 << 31, 2)
+
+
+def forever(item):
+    while True:
+        yield item
+
+
+# The header table with 120 entries of 34 octets, put there by a request on stream 1.
+FULL_TABLE = START + frame(HEADERS, END_STREAM | END_HEADERS, 1, GET + b"".join(entry(b"a", bytes([97 + i % 26])) for i in range(120)))
+
+
+def one_octet_continuations(room):
+    """A literal of 60,000 octets in each block, one octet a frame."""
+    def items():
+        for stream in streams():
+            if stream > 1:
+                yield frame(HEADERS, END_STREAM, stream, GET + b"\x00" + string(b"b") + integer(0, 7, 60000))
+                yield from [frame(CONTINUATION, 0, stream, b"x")] * 59999
+                yield frame(CONTINUATION, END_HEADERS, stream, b"x")
+    return put(room, FULL_TABLE, items())
+
+
+def one_entry_continuations(room):
+    """Blocks of 13,000 frames, each with one literal that enters the full table."""
+    def items():
+        for stream in streams():
+            if stream > 1:
+                yield frame(HEADERS, END_STREAM, stream, GET)
+                yield from [frame(CONTINUATION, 0, stream, entry(b"a", b"b"))] * 13000
+                yield frame(CONTINUATION, END_HEADERS, stream)
+    return put(room, FULL_TABLE, items())
+
+
+def empty_continuations(room):
+    """A block that never ends: CONTINUATION of no octets."""
+    return put(room, START + frame(HEADERS, 0, 1, GET), forever(frame(CONTINUATION, 0, 1)))
+
+
+def open_blocks(room):
+    """A block that never ends, within its limit: indexed fields, one a frame, and then frames of no octets."""
+    def items():
+        yield from [frame(CONTINUATION, 0, 1, b"\x82")] * 65000
+        yield from forever(frame(CONTINUATION, 0, 1))
+    return put(room, START + frame(HEADERS, 0, 1, GET), items())
+
+
+def table_churn(room):
+    """Full HEADERS of literals, each of which enters the table and evicts one."""
+    block = GET + entry(b"a", b"b") * 3276
+    return put(room, FULL_TABLE, (frame(HEADERS, END_STREAM | END_HEADERS, stream, block) for stream in streams() if stream > 1))
+
+
+def table_churn_of_one(room):
+    """Requests with one entry of 4,000 octets each, which evicts all others."""
+    block = GET + entry(b"a", b"b" * 4000)
+    return put(room, FULL_TABLE, (frame(HEADERS, END_STREAM | END_HEADERS, stream, block) for stream in streams() if stream > 1))
+
+
+def table_resized(room):
+    """Requests that empty the table by a size update and fill it again."""
+    block = b"\x20\x3f\xe1\x1f" + GET + b"".join(entry(b"a", b"b") for _ in range(120))
+    return put(room, FULL_TABLE, (frame(HEADERS, END_STREAM | END_HEADERS, stream, block) for stream in streams() if stream > 1))
+
+
+def header_bomb(room):
+    """Blocks of 65,000 octets, each octet a field of 4,000 octets of the table."""
+    def items():
+        yield frame(HEADERS, END_STREAM | END_HEADERS, 1, GET + entry(b"a", b"b" * 4000))
+        for stream in streams():
+            if stream > 1:
+                yield frame(HEADERS, END_STREAM, stream, b"\xbe" * 16250)
+                yield from [frame(CONTINUATION, 0, stream, b"\xbe" * 16250)] * 2
+                yield frame(CONTINUATION, END_HEADERS, stream, b"\xbe" * 16250)
+    return put(room, START, items())
+
+
+def rapid_reset(room):
+    """A stream is opened and at once reset."""
+    return put(room, START, (frame(HEADERS, END_HEADERS, stream, GET) + frame(RST_STREAM, 0, stream, b"\0\0\0\x08") for stream in streams()))
+
+
+def rapid_reset_of_answers(room):
+    """A stream is answered, with an answer that waits for a window, and at once reset."""
+    front = START + frame(SETTINGS, 0, 0, setting(4, 0))
+    return put(room, front, (frame(HEADERS, END_STREAM | END_HEADERS, stream, GET) + frame(RST_STREAM, 0, stream, b"\0\0\0\x08") for stream in streams()))
+
+
+def refused_requests(room):
+    """Requests of one field, each malformed and reset by the server."""
+    return put(room, START, (frame(HEADERS, END_STREAM | END_HEADERS, stream, b"\x82") for stream in streams()))
+
+
+def small_requests(room):
+    return put(room, START, (frame(HEADERS, END_STREAM | END_HEADERS, stream, GET) for stream in streams()))
+
+
+def crowding_identifiers(room):
+    """Requests of one field on identifiers whose hashes all begin at the same few groups of the records' map."""
+    # A hash is a product by an odd number with its halves exchanged: chosen upper halves, turned back into identifiers.
+    inverse, found = pow(0x9E3779B9, -1, 1 << 32), []
+    for upper in range(48):
+        for lower in range(1 << 16):
+            turned = (upper << 16 | lower) * inverse % (1 << 32)
+            if 1 << 31 <= turned < 3 << 30:
+                found.append(2 * (turned - (1 << 31)) + 1)
+    count = min(len(found), (room - len(START)) // 10)
+    chosen = sorted(found[:count])
+    return put(room, START, (frame(HEADERS, END_STREAM | END_HEADERS, stream, b"\x82") for stream in chosen))
+
+
+def pings(room):
+    return put(room, START, forever(frame(PING, 0, 0, bytes(8))))
+
+
+def empty_settings(room):
+    return put(room, START, forever(frame(SETTINGS, 0, 0)))
+
+
+# 1,000 streams that are open for content.
+LIVE = START + b"".join(frame(HEADERS, END_HEADERS, stream, GET) for stream in range(1, 2001, 2))
+
+
+def settings_beside_live_streams(room):
+    """SETTINGS of 2,730 initial windows, beside 1,000 live streams."""
+    values = b"".join(setting(4, 1 + i % 2) for i in range(2730))
+    return put(room, LIVE, forever(frame(SETTINGS, 0, 0, values)))
+
+
+def short_settings_beside_live_streams(room):
+    """SETTINGS of one initial window, beside 1,000 live streams."""
+    def items():
+        while True:
+            yield frame(SETTINGS, 0, 0, setting(4, 1))
+            yield frame(SETTINGS, 0, 0, setting(4, 2))
+    return put(room, LIVE, items())
+
+
+def one_octet_data(room):
+    return put(room, START + frame(HEADERS, END_HEADERS, 1, GET), forever(frame(DATA, 0, 1, b"x")))
+
+
+def padded_data(room):
+    """DATA of no content and 255 octets of padding."""
+    return put(room, START + frame(HEADERS, END_HEADERS, 1, GET), forever(frame(DATA, 8, 1, b"\xff" + bytes(255))))
+
+
+# 1,000 streams whose answers wait for their own windows, or for the connection's.
+WAITING = START + frame(SETTINGS, 0, 0, setting(4, 0)) + b"".join(frame(HEADERS, END_STREAM | END_HEADERS, stream, GET) for stream in range(1, 2001, 2))
+HELD = START + b"".join(frame(HEADERS, END_STREAM | END_HEADERS, stream, GET) for stream in range(1, 2001, 2))
+
+
+def pings_beside_waiting_streams(room):
+    """PING, beside 1,000 streams that wait for their own windows."""
+    return put(room, WAITING, forever(frame(PING, 0, 0, bytes(8))))
+
+
+def pings_beside_held_streams(room):
+    """PING, beside 1,000 streams that wait for the connection's window."""
+    return put(room, HELD, forever(frame(PING, 0, 0, bytes(8))))
+
+
+def stream_increments(room):
+    """WINDOW_UPDATE of 1 on each of 1,000 waiting streams in turn: one octet of DATA each."""
+    def items():
+        while True:
+            for stream in range(1, 2001, 2):
+                yield frame(WINDOW_UPDATE, 0, stream, b"\0\0\0\x01")
+    return put(room, WAITING, items())
+
+
+def connection_increments(room):
+    """WINDOW_UPDATE of 1 on the connection, beside 1,000 streams that wait for it: one octet of DATA each."""
+    return put(room, HELD, forever(frame(WINDOW_UPDATE, 0, 0, b"\0\0\0\x01")))
+
+
+def last_increments(room):
+    """WINDOW_UPDATE of 1 on the last of 1,000 waiting streams."""
+    return put(room, WAITING, forever(frame(WINDOW_UPDATE, 0, 1999, b"\0\0\0\x01")))
+
+
+MANY = ["--streams", "1000"]
+BODY = "GET|/|200|" + "78" * 60000
+FLOODS = [
+    ("CONTINUATION of one octet, full table", one_octet_continuations, []),
+    ("CONTINUATION of one entry, full table", one_entry_continuations, []),
+    ("CONTINUATION of no octets, without end", empty_continuations, []),
+    ("CONTINUATION of one field, without end", open_blocks, []),
+    ("table churn, entries of 34 octets", table_churn, []),
+    ("table churn, entries of 4,033 octets", table_churn_of_one, []),
+    ("table emptied and filled again", table_resized, []),
+    ("header bomb, fields of 4,000 octets", header_bomb, []),
+    ("rapid reset of open streams", rapid_reset, []),
+    ("rapid reset of waiting answers", rapid_reset_of_answers, ["GET|/|200|7878"]),
+    ("small requests", small_requests, []),
+    ("refused requests", refused_requests, []),
+    ("refused requests, chosen identifiers", crowding_identifiers, []),
+    ("PING", pings, []),
+    ("SETTINGS of no value", empty_settings, []),
+    ("SETTINGS of 2,730 values, 1,000 live streams", settings_beside_live_streams, MANY),
+    ("SETTINGS of one value, 1,000 live streams", short_settings_beside_live_streams, MANY),
+    ("DATA of one octet", one_octet_data, []),
+    ("DATA of padding alone", padded_data, []),
+    ("PING, 1,000 streams wait for their windows", pings_beside_waiting_streams, [*MANY, BODY]),
+    ("PING, 1,000 streams wait for the connection's", pings_beside_held_streams, [*MANY, BODY]),
+    ("WINDOW_UPDATE of 1 on each of 1,000 streams", stream_increments, [*MANY, BODY]),
+    ("WINDOW_UPDATE of 1 on the last of 1,000", last_increments, [*MANY, BODY]),
+    ("WINDOW_UPDATE of 1 on the connection", connection_increments, [*MANY, BODY]),
+]
+
+
+def measured(program, words, path, limit):
+    """Seconds of the processor and KiB of memory, or None where the limit was reached; the status, and the first octets printed."""
+    with open(path, "rb") as hex_text:
+        ran = subprocess.Popen(
+            [program, "play", *words], stdin=hex_text, stdout=subprocess.PIPE, preexec_fn=lambda: resource.setrlimit(resource.RLIMIT_CPU, (limit, limit))
+        )
+        front = ran.stdout.read(8)
+        while ran.stdout.read(1 << 16):
+            pass
+        _, status, used = os.wait4(ran.pid, 0)
+    ran.returncode = os.waitstatus_to_exitcode(status)
+    return used.ru_utime + used.ru_stime, used.ru_maxrss, ran.returncode, front
+
+
+def is_linear(values, floor, least):
+    """Whether each doubling of the octets at most times 2.6 what is above the floor."""
+    above = [value - floor for value in values]
+    return all(b < least or b <= 2.6 * max(a, least / 2) for a, b in zip(above, above[1:]))
+
+
+def main():
+    parser = argparse.ArgumentParser()
+    parser.add_argument("--program")
+    parser.add_argument("--limit", type=int, default=60)
+    parser.add_argument("--most", type=int, default=8 * 1024 * 1024)  # octets, two hex digits each
+    parser.add_argument("--only", default="")
+    parser.add_argument("--list", action="store_true")
+    parser.add_argument("--make", nargs=3, help=argparse.SUPPRESS)
+    words = parser.parse_args()
+    if words.make:
+        # In a process of its own, so that the measuring one stays small: a child begins with its memory.
+        number, room, path = words.make
+        made = FLOODS[int(number)][1](int(room))
+        with open(path, "w") as file:
+            file.write(made.hex())
+        print(len(made))
+        return
+    if words.list:
+        print(*(flood[0] for flood in FLOODS), sep="\n")
+        return
+    path = os.path.join(os.path.dirname(__file__), "input")
+    with open(path, "w") as file:
+        file.write(START.hex())
+    began = measured(words.program, [], path, words.limit)
+    print("| Flood | Octets | Time, at a quarter, a half, all | Memory | Linear |")
+    print("|---|---|---|---|---|", flush=True)
+    wrong = 0
+    for number, (name, _, options) in enumerate(FLOODS):
+        if words.only not in name:
+            continue
+        times, sizes, ended = [], [], None
+        for room in (words.most // 4, words.most // 2, words.most):
+            octets = subprocess.run([sys.executable, __file__, "--make", str(number), str(room), path], check=True, capture_output=True, text=True).stdout.strip()
+            seconds, size, status, front = measured(words.program, options, path, words.limit)
+            if status in (-9, -24):
+                ended = f"> {words.limit} s"
+                break
+            if status != 0 or not front.startswith(b"sent "):
+                ended = f"status {status}, {front!r}"
+                wrong += 1
+                break
+            times.append(seconds)
+            sizes.append(size)
+        linear = not ended and is_linear(times, began[0], 0.05) and is_linear(sizes, began[1], 4096)
+        shown = [f"{t:.2f} s" for t in times] + ([ended] if ended else [])
+        print(f"| {name} | {int(octets):,} | {', '.join(shown)} | {', '.join(f'{s / 1024:.0f}' for s in sizes)} MiB | {'yes' if linear else '**no**'} |", flush=True)
+    sys.exit(1 if wrong else 0)
+
+
+main()
+PYTHON
+python3 -B "$made/floods.py" "$@"
