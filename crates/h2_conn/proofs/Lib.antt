@@ -1,6 +1,7 @@
 mod AboveLaws
 mod FinishLaws
 mod FragmentLaws
+mod GrantedLaws
 pub mod Items
 mod InsideLaws
 mod KindLaws

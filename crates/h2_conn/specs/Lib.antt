@@ -4,6 +4,7 @@ pub mod Connection
 pub mod Does
 pub mod Faults
 pub mod Fragments
+pub mod Granted
 pub mod Parted
 pub mod Preview
 pub mod Runs

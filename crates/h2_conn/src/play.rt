@@ -6,6 +6,7 @@ ghost use Rattle.h2_spec.specs.State.{opening};
 ghost use Rattle.h2_spec.specs.View.{view};
 ghost use Rattle.h2_conn.specs.Connection.{going, is_allowed};
 ghost use Rattle.h2_conn.specs.Faults.{refusal_for};
+ghost use Rattle.h2_conn.specs.Granted.{SendsWithinGrants};
 ghost use Rattle.h2_conn.specs.Runs.{Fed, Opens, Plays};
 ghost use Rattle.h2_conn.specs.declared.fault.ConnFault.TheVariants.{NoMemory};
 
@@ -86,6 +87,7 @@ pub fn open_and_feed<'b, A: Allocator + Copy>(
     out: &mut Vec<u8, A>,
 ) -> Result<Conn<'b, A>, ConnFault>
     ensures ok { IfOk result (λ conn. Opens book.now config octets.now out.old.items conn out.new.items) }
+    ensures grants { OnOk result (SendsWithinGrants book.now config octets.now out.old.items out.new.items) }
     ensures allowed { OnOk result (is_allowed config ≡ true) }
     ensures fault { IfErr result (λ fault. fault ≡ refusal_for (is_allowed config)) }
     ensures unchanged { OnErr result (out.new.items ≡ out.old.items) }
@@ -135,6 +137,7 @@ pub fn play<A: Allocator + Copy>(
     out: &mut Vec<u8, A>,
 ) -> Result<View<A>, ConnFault>
     ensures ok { IfOk result (λ shown. Plays book.now config octets.now out.old.items shown out.new.items) }
+    ensures grants { OnOk result (SendsWithinGrants book.now config octets.now out.old.items out.new.items) }
     ensures allowed { OnOk result (is_allowed config ≡ true) }
     ensures fault { IfErr result (λ fault. fault ≡ refusal_for (is_allowed config)) }
     ensures unchanged { OnErr result (out.new.items ≡ out.old.items) }
