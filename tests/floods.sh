@@ -5,8 +5,9 @@
 #   tests/floods.sh [--program FILE] [--limit SECONDS] [--most OCTETS] [--only WORD] [--list]
 #
 # --program is the proved one of this repository unless it is named. A run above the limit (60 seconds of the processor) is ended, and its longer ones are not
-# tried. --only takes the floods with this word in their name. A flood counts as linear where twice the octets take at most 2.6 times what is above the
-# program's start, in time and in memory, at both steps; times below 0.05 s are not compared. The status is 1 where a run crashes or prints a fault.
+# tried. --only takes the floods with this word in their name. A flood counts as linear where four times the octets take at most 8 times the time (of which
+# the first counts as 0.1 s at least) and 5 times the memory. Memory is what the kernel counts, and never below the 12 MiB of the measuring process. The
+# status is 1 where a run crashes or prints a fault.
 # It is no part of the gate, and takes some minutes.
 set -eu
 top=$(cd "$(dirname "$0")/.." && pwd)
@@ -300,10 +301,9 @@ def measured(program, words, path, limit):
     return used.ru_utime + used.ru_stime, used.ru_maxrss, ran.returncode, front
 
 
-def is_linear(values, floor, least):
-    """Whether each doubling of the octets at most times 2.6 what is above the floor."""
-    above = [value - floor for value in values]
-    return all(b < least or b <= 2.6 * max(a, least / 2) for a, b in zip(above, above[1:]))
+def is_linear(times, sizes):
+    """Whether four times the octets take at most 8 times the time and 5 times the memory."""
+    return times[-1] <= 8 * max(times[0], 0.1) and sizes[-1] <= 5 * sizes[0]
 
 
 def main():
@@ -327,9 +327,6 @@ def main():
         print(*(flood[0] for flood in FLOODS), sep="\n")
         return
     path = os.path.join(os.path.dirname(__file__), "input")
-    with open(path, "w") as file:
-        file.write(START.hex())
-    began = measured(words.program, [], path, words.limit)
     print("| Flood | Octets | Time, at a quarter, a half, all | Memory | Linear |")
     print("|---|---|---|---|---|", flush=True)
     wrong = 0
@@ -349,7 +346,7 @@ def main():
                 break
             times.append(seconds)
             sizes.append(size)
-        linear = not ended and is_linear(times, began[0], 0.05) and is_linear(sizes, began[1], 4096)
+        linear = not ended and is_linear(times, sizes)
         shown = [f"{t:.2f} s" for t in times] + ([ended] if ended else [])
         print(f"| {name} | {int(octets):,} | {', '.join(shown)} | {', '.join(f'{s / 1024:.0f}' for s in sizes)} MiB | {'yes' if linear else '**no**'} |", flush=True)
     sys.exit(1 if wrong else 0)
