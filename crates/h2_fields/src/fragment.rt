@@ -14,7 +14,8 @@ ghost use Rattle.h2_fields.specs.declared.fault.BlockFault.TheVariants as faults
 use crate::collected::Collected;
 use crate::effect::apply;
 use crate::fault::BlockFault;
-use crate::shape::{ShapeFault, octets_from, shape_at};
+use crate::shape::{ShapeFault, shape_at};
+use h2_spec::octets::octets_from;
 use h2_table::{Draft, DynTable, Edit};
 use std::alloc::Allocator;
 
