@@ -13,7 +13,7 @@ ghost use Rattle.h2_conn.specs.Fragments.{IsFaulty, after_fragment, before_fragm
 use crate::state::Decoding;
 use h2_fields::collected::{Collected, Mark};
 use h2_fields::fault::BlockFault;
-use h2_fields::fragment::attempt;
+use h2_fields::fragment::decode_piece;
 use h2_spec::connection::Purpose;
 use h2_table::{DynTable, Edit};
 use std::alloc::Allocator;
@@ -183,27 +183,4 @@ fn drop_front<A: Allocator>(octets: &mut Vec<u8, A>, count: usize)
     ensures { octets.new.items ≡ drop count octets.old.items }
 {
     octets.drain(..count);
-}
-
-/// Decodes what was left and a piece behind it, over an edit of the table. Answers the edit, and how many octets at
-/// the front of
-/// what is left are decoded; what was left before stays at the front.
-fn decode_piece<A: Allocator + Copy>(
-    collected: &mut Collected<A>,
-    table: &DynTable<A>,
-    edit: Edit<A>,
-    rest: &mut Vec<u8, A>,
-    piece: &[u8],
-) -> (Edit<A>, Result<usize, BlockFault>)
-    ensures belongs { OnOk result.1 (IsEdit table.now result.0) }
-    ensures used { IfOk result.1 (λ used. (used ≤ length rest.new.items) × (block.decoded table.now.limit (progress_with table.now.table collected.old) (rest.old.items ++ piece.now) ≡ record { progress = progress_with (edited table.now.table.entries result.0) collected.new; outcome = Unfinished (drop used rest.new.items) })) }
-    ensures fault { IfErr result.1 (λ fault. IsStopped table.now.limit (progress_with table.now.table collected.old) (rest.old.items ++ piece.now) (progress_with (edited table.now.table.entries result.0) collected.new) fault) }
-    ensures unchanged { IsErrOf result.1 NoMemory → collected.new ≡ collected.old }
-    ensures grows { Grows collected.old collected.new }
-    ensures begins { take (length rest.old.items) rest.new.items ≡ rest.old.items }
-{
-    match rest.extend_from_slice(piece) {
-        Ok(()) => attempt(collected, table, edit, rest.as_slice()),
-        Err(_) => (edit, Err(BlockFault::NoMemory)),
-    }
 }

@@ -42,7 +42,7 @@ invariant_of-tentative-in-Err g c =
     let fields = front old now c.mark-mark.result.count (ap (λ (m : Mark). m.count) mark) piece.ensures.grows in (
       ap (λ (m : Mark). m.size) mark ∙ ap list_size (sym fields),
       ap (λ (m : Mark). m.due) mark ∙ c.decoding.invariant,
-      refused-not-due f table.limit table.table after old now octets c.decoding.invariant stopped (λ e. piece.ensures.unchanged (c.in-Err.is ∙ ap (λ (x : BlockFault). let r : Result ℕ BlockFault = Err x in r) e)),
+      refused-not-due f table.limit table.table after old now octets c.decoding.invariant stopped (λ e. (piece.ensures.unchanged (c.in-Err.is ∙ ap (λ (x : BlockFault). let r : Result ℕ BlockFault = Err x in r) e)).0),
       omega arith,
     )
 
