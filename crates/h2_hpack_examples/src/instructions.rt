@@ -115,27 +115,27 @@ static SPELLINGS: [Spelling; 9] = [
     },
     Spelling {
         octets: "400a637573746f6d2d6b65790d637573746f6d2d686561646572",
-        meaning: "Add \"custom-key\" \"custom-header\"",
+        meaning: "IncrementalIndexing \"custom-key\" \"custom-header\"",
         shortest: "400a637573746f6d2d6b65790d637573746f6d2d686561646572",
     },
     Spelling {
         octets: "040c2f73616d706c652f70617468",
-        meaning: "Without 4 \"/sample/path\"",
+        meaning: "WithoutIndexing 4 \"/sample/path\"",
         shortest: "040c2f73616d706c652f70617468",
     },
     Spelling {
         octets: "100870617373776f726406736563726574",
-        meaning: "Never \"password\" \"secret\"",
+        meaning: "NeverIndexed \"password\" \"secret\"",
         shortest: "100870617373776f726406736563726574",
     },
     Spelling {
         octets: "410f7777772e6578616d706c652e636f6d",
-        meaning: "Add 1 \"www.example.com\"",
+        meaning: "IncrementalIndexing 1 \"www.example.com\"",
         shortest: "410f7777772e6578616d706c652e636f6d",
     },
     Spelling {
         octets: "418cf1e3c2e5f23a6ba0ab90f4ff",
-        meaning: "Add 1 'www.example.com'",
+        meaning: "IncrementalIndexing 1 'www.example.com'",
         shortest: "418cf1e3c2e5f23a6ba0ab90f4ff",
     },
     Spelling {
