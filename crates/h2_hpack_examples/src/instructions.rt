@@ -140,7 +140,7 @@ static SPELLINGS: [Spelling; 9] = [
     },
     Spelling {
         octets: "408825a849e95ba97d7f8925a849e95bb8e8b4bf",
-        meaning: "Add 'custom-key' 'custom-value'",
+        meaning: "IncrementalIndexing 'custom-key' 'custom-value'",
         shortest: "408825a849e95ba97d7f8925a849e95bb8e8b4bf",
     },
 ];
