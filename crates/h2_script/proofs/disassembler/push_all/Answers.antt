@@ -4,17 +4,17 @@ use Rattle.h2_script.specs.Texts.{said_text}
 use Rattle.h2_script.proofs.Written.{said_one}
 use Rattle.h2_script.proofs.disassembler.push_all.Goals as goal
 
-pub loop-outcome-preserved : goal.loop-outcome-preserved
-loop-outcome-preserved g c =
+pub loop-turn-preserved : goal.loop-turn-preserved
+loop-turn-preserved g c =
     let all = c.args.octets.now in
-    let rest = c.loop-outcome.rest.now in
-    let old = string_bytes c.loop-outcome.out in
-    let n = length all - (c.loop-outcome._turn + 1) in
-    let fuel : length all - c.loop-outcome._turn ≡ suc n = omega (arith, c.loop-outcome-test.true) in
+    let rest = c.loop-turn.rest.now in
+    let old = string_bytes c.loop-turn.out in
+    let n = length all - (c.loop-turn._turn + 1) in
+    let fuel : length all - c.loop-turn._turn ≡ suc n = omega (arith, c.loop-turn-test.true) in
     let next = rw c.in-Some.is at c.in_ok-used.ensures.next in
     ap (λ (x : List ℕ). x ++ said_text n false c.octets_from-rest.result.now) next.2
     ∙ append_assoc old (line_text next.0) (said_text n false c.octets_from-rest.result.now)
     ∙ ap (λ (b : List ℕ). old ++ (line_text next.0 ++ said_text n false b)) c.octets_from-rest.ensures
-    ∙ ap (λ (x : List ℕ). old ++ x) (sym (said_one n c.loop-outcome.first rest next.0 c.in-Some.used next.1))
-    ∙ ap (λ (k : ℕ). old ++ said_text k c.loop-outcome.first rest) (sym fuel)
-    ∙ c.loop-outcome.invariant
+    ∙ ap (λ (x : List ℕ). old ++ x) (sym (said_one n c.loop-turn.first rest next.0 c.in-Some.used next.1))
+    ∙ ap (λ (k : ℕ). old ++ said_text k c.loop-turn.first rest) (sym fuel)
+    ∙ c.loop-turn.invariant

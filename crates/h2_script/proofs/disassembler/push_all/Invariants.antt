@@ -2,6 +2,6 @@ use Rattle.std.proofs.Common.{◌≡◌, ◌-◌, ◌++◌, length, string_bytes
 use Rattle.h2_script.specs.Texts.{said_text}
 use Rattle.h2_script.proofs.disassembler.push_all.Given as goal
 
-abbrev pub invariant-loop-outcome : goal.invariant-loop-outcome
-invariant-loop-outcome g l =
+abbrev pub invariant-loop-turn : goal.invariant-loop-turn
+invariant-loop-turn g l =
     string_bytes l.out ++ said_text (length l.octets - l._turn) l.first l.rest ≡ string_bytes l.fn.out ++ said_text (length l.octets) true l.octets
