@@ -4,8 +4,8 @@ use Rattle.h2_spec.specs.Assemble.{behind, each_at}
 use Rattle.h2_script.specs.Each.{behind_each}
 
 -- a turn is left
-pub outcome : (n k : ℕ) → k < n → n - k ≡ suc (n - (k + 1))
-outcome n k h = omega (arith, h)
+pub turn : (n k : ℕ) → k < n → n - k ≡ suc (n - (k + 1))
+turn n k h = omega (arith, h)
 
 -- nothing is left, or something
 pub none_left : (e : Bool) (n : ℕ) → e ≡ (n == 0) → e ≡ true → n ≡ 0

@@ -65,7 +65,7 @@ both true b e = (refl, e)
 both false b e = absurd (true≢false (sym e))
 
 name_writable : (s : NameRef Str) (name : NameRef TextStr) (mode : Mode) (value : TextStr) → IsWholeName IsSmall s → name_text s ≡ Some name → is_writable (Literal mode name value) ≡ true → IsWritableName name
-name_writable s (Ref i) mode value h e w = let summary = both (nat_lt 0 i) (nat_lt i (2 ^ 32)) w in (ltb-true 0 i summary.0, ltb-true i (2 ^ 32) summary.1)
+name_writable s (Ref i) mode value h e w = let facts = both (nat_lt 0 i) (nat_lt i (2 ^ 32)) w in (ltb-true 0 i facts.0, ltb-true i (2 ^ 32) facts.1)
 name_writable (Ref i) (Named t) mode value h e w = absurd (cc)
 name_writable (Named s) (Named t) mode value h e w = go (text_str s) refl e
   where
