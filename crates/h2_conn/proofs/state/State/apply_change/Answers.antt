@@ -12,16 +12,16 @@ use Rattle.h2_conn.proofs.PreviewLaws.{can_send}
 use Rattle.h2_rules.proofs.SoundLaws.{changed-sound}
 use Rattle.h2_conn.proofs.state.State.apply_change.Goals as goal
 
-pub send_and_touch-requires-clause-sends : goal.send_and_update-requires-clause-sends
-send_and_touch-requires-clause-sends g c =
+pub send_and_update-requires-clause-sends : goal.send_and_update-requires-clause-sends
+send_and_update-requires-clause-sends g c =
     let inside = c.self.inside in
     let state = c.self.invariant.0 in
     let change = c.args.change in
     let sound = inside-sound inside.book.now inside.core inside.streams change state (subst (λ (s : State). IsSoundChange s.book (records s) s.core.peer.window change) (sym c.self.view_is) c.requires.sound) in
     can_send inside.book.now inside.core inside.streams change state sound
 
-pub send_and_touch-requires-clause-touches : goal.send_and_update-requires-clause-touches
-send_and_touch-requires-clause-touches g c =
+pub send_and_update-requires-clause-touches : goal.send_and_update-requires-clause-touches
+send_and_update-requires-clause-touches g c =
     let inside = c.self.inside in
     let state = c.self.invariant.0 in
     let change = c.args.change in
