@@ -128,7 +128,7 @@ test_nghttp() {
     served nghttp "connection "{1..7}" end input"
     serve 1 "$hello" "$large"
     url=http://127.0.0.1:$port
-    check "nghttp: small windows" "60000" "$($nghttp -w8 -W8 $url/large | wc -c)"
+    check "nghttp: small windows" "60000" "$($nghttp --window-bits=8 --connection-window-bits=8 $url/large | wc -c)"
     served "nghttp, small windows" "connection 1 end input"
 }
 

@@ -8,7 +8,11 @@
 #   - as with ample memory, the same output and status: the allocation was one that the run can do without;
 #   - with status 1 and the one line `fault 0`;
 #   - `play --each`: with status 1 and `fault 0` behind the first places, each of them whole;
-#   - `debug`: with the one line `fault 0` as the answer to one command, and all other answers as if that command were not there.
+#   - `table`: with status 1 and `fault 0` behind the first lines of its output, each of them whole;
+#   - `debug`: with the one line `fault 0` as the answer to one command other than `show` and `clear`, and all other answers as if that command were not
+#     there;
+#   - `serve`: with `fault 0` behind `listening PORT`, or with `connection 1 fault 0`; the client has received the first octets of what it
+#     receives with ample memory.
 # Nothing may be written to standard error. It is no part of the gate, and takes about a minute.
 set -eu
 top=$(cd "$(dirname "$0")/.." && pwd)
@@ -75,12 +79,22 @@ is_cut_between_places() {
     [ "$(tail -c "+$((length + 1))" "$made/whole" | head -c 5)" = 'item ' ] || [ "$length" = "$(wc -c < "$made/whole")" ]
 }
 
-# What a session prints where one of its commands is refused memory: a file for each command.
+# Whether the output is some first lines of the whole, and then the fault.
+is_cut_between_lines() {
+    local length
+    [ "$(tail -n 1 "$made/output")" = 'fault 0' ] || return 1
+    length=$(($(wc -c < "$made/output") - 8))
+    head -c "$length" "$made/output" | cmp -s - <(head -c "$length" "$made/whole") || return 1
+    [ -z "$(head -c "$length" "$made/output" | tail -c 1)" ]
+}
+
+# What a session prints where one of its commands is refused memory: a file for each command that takes some.
 refused_sessions() {
     local lines line length
     lines=$(wc -l < "$made/input")
     cp "$made/input" "$made/session"
     for line in $(seq 2 "$lines"); do
+        case $(sed -n "${line}p" "$made/session") in show | clear) continue ;; esac
         head -n $((line - 1)) "$made/session" > "$made/input"
         run 0 debug
         length=$(wc -c < "$made/output")
@@ -108,6 +122,8 @@ ends_well() {
     elif [ "$status" = 1 ] && cmp -s "$made/output" "$made/fault"; then
         alone=$((alone + 1))
     elif [ "$kind" = places ] && [ "$status" = 1 ] && is_cut_between_places; then
+        behind=$((behind + 1))
+    elif [ "$kind" = lines ] && [ "$status" = 1 ] && is_cut_between_lines; then
         behind=$((behind + 1))
     elif [ "$kind" = session ] && [ "$status" = 0 ] && is_session_with_a_refusal; then
         behind=$((behind + 1))
@@ -139,6 +155,87 @@ refuse_each() {
     if [ "$alone" = 0 ]; then fail 1 "no run ended in 'fault 0': is the malloc of this script loaded?"; fi
 }
 
+cat > "$made/client.py" <<'PYTHON'
+"""client.py PORT PROCESS: sends standard input to a server of this process, ends its side, and prints what it receives."""
+import socket
+import sys
+import time
+
+port, process = int(sys.argv[1]), sys.argv[2]
+
+
+def has_ended():
+    try:
+        with open(f"/proc/{process}/stat", encoding="ascii") as stat:
+            return stat.read().rsplit(")", 1)[1].split()[0] == "Z"
+    except FileNotFoundError:
+        return True
+
+
+while not has_ended():
+    try:
+        peer = socket.create_connection(("127.0.0.1", port), timeout=10)
+        break
+    except ConnectionRefusedError:
+        time.sleep(0.002)
+else:
+    sys.exit(0)
+try:
+    peer.sendall(sys.stdin.buffer.read())
+    peer.shutdown(socket.SHUT_WR)
+    while octets := peer.recv(65536):
+        sys.stdout.buffer.write(octets)
+except ConnectionError:
+    pass
+PYTHON
+
+# Serves one connection, whose client sends $made/input as octets; leaves as `run` does, and what the client received.
+serve() {
+    local call=$1 server
+    shift
+    : > "$made/refused"
+    status=0
+    port=$((20000 + RANDOM % 20000))
+    REFUSED_CALL=$call LD_PRELOAD=$made/refuse.so "$program" serve "$port" 1 "$@" > "$made/output" 2> "$made/errors" 9> "$made/refused" &
+    server=$!
+    python3 "$made/client.py" "$port" "$server" < "$made/octets" > "$made/received"
+    wait "$server" || status=$?
+}
+
+# Whether a server whose memory was refused ended as it may end.
+serves_well() {
+    local lines received
+    lines=$(tr '\n' ' ' < "$made/output")
+    received=$(wc -c < "$made/received")
+    head -c "$received" "$made/whole" | cmp -s - "$made/received" || return 1
+    case "$status $lines" in
+    "0 listening $port connection 1 end input ") cmp -s "$made/received" "$made/whole" && spared=$((spared + 1)) ;;
+    "1 fault 0 ") alone=$((alone + 1)) ;;
+    "1 listening $port fault 0 " | "0 listening $port connection 1 fault 0 ") behind=$((behind + 1)) ;;
+    *) return 1 ;;
+    esac
+}
+
+# refuse_each_served NAME ANSWER..: all runs of a server with these answers.
+refuse_each_served() {
+    name=$1
+    shift
+    python3 -c 'import sys; sys.stdout.buffer.write(bytes.fromhex(sys.stdin.read()))' < "$made/input" > "$made/octets"
+    serve 0 "$@"
+    cp "$made/received" "$made/whole"
+    alone=0 behind=0 spared=0
+    serves_well || fail 0 "status $status with ample memory"
+    alone=0 behind=0 spared=0
+    local call
+    for ((call = 1; ; call++)); do
+        serve "$call" "$@"
+        [ -s "$made/refused" ] || break
+        serves_well || fail "$call" "status $status, output: $(head -c 300 "$made/output")"
+        [ ! -s "$made/errors" ] || fail "$call" "standard error: $(head -c 300 "$made/errors")"
+    done
+    echo "$name: $((call - 1)) allocations; refused: $alone end in 'fault 0' alone, $behind behind 'listening', $spared are done without"
+}
+
 cd "$top"
 cp examples/ping.hex "$made/input"
 refuse_each whole 'play, three items' play
@@ -151,9 +248,11 @@ refuse_each whole 'dis' dis
 cp examples/upload.h2 "$made/input"
 refuse_each whole 'asm' asm
 printf 'add a b\nadd c d\nadd e f\nmax 40\nmax 101\n' > "$made/input"
-refuse_each whole 'table' table 100
+refuse_each lines 'table' table 100
 (cat examples/get.hex; printf 'step 2\nshow\nbreak type 1\nbreak at 1\nrun\nshow\nback 2\nshow\ngo 3\nclear\nshow\n') > "$made/input"
 refuse_each session 'debug' debug 'GET|/|200|6869'
+cp examples/get.hex "$made/input"
+refuse_each_served 'serve' 'GET|/|200|6869'
 
 if [ "$wrong" != 0 ]; then
     echo "$wrong runs ended otherwise" >&2

@@ -1,14 +1,15 @@
 -- The words of an answer cut at their signs, and the fields that parts say one after another.
 use Rattle.std.proofs.Common.{◌≡◌, ◌∙◌, ◌+◌, ◌≤◌, ◌%◌, ℕ, suc, Bool, true, false, cond, List, [], ◌∷◌, ◌++◌, Option, Some, None, Result, Ok, Err, length, take, drop, refl, sym, ap, arith, is_some, option_map, append_assoc, nat_lt, ltb-false}
 use Rattle.std.specs.List.{list_all, list_any, position_or_len, before_first, after_first}
-use Rattle.std.specs.Prelude.{position}
+use Rattle.std.specs.Prelude.{codes, position}
+use Rattle.std.proofs.lemmas.Slice.Eq.{bytes_eq-Decides}
 use Rattle.std.proofs.lemmas.List.Sums.{AllPass-from_list_all, list_all-from_AllPass}
 use Rattle.std.proofs.lemmas.List.{drop_all, take_all}
 use Rattle.std.proofs.lemmas.Bool.Decides.{nat_tests}
 use Rattle.hex.specs.Hex.{decode_of, is_hex_digit}
 use Rattle.hex.specs.declared.error.FromHexError.{FromHexError}
 use Rattle.hex.proofs.HexLemmas.{decode_of-digits, decode_of-ok}
-use Rattle.h2_spec.specs.AnswerWords.{body_of, field_of, fields_of, is_bar, is_equals_sign, ok_or_none, parts_of, with_field}
+use Rattle.h2_spec.specs.AnswerWords.{body_of, entry_with, field_of, fields_of, is_bar, is_early_word, is_equals_sign, ok_or_none, parts_of, with_field}
 use Rattle.h2_spec.specs.Field.{Field, field}
 use Rattle.h2_bench.specs.AnswerParts.{parts_behind}
 
@@ -69,13 +70,33 @@ field-cut part = rw (any-inside is_equals_sign part) (go (nat_lt (position_or_le
 abbrev pub fields_after : List Field → List (List ℕ) → Option (List Field)
 fields_after fields parts = option_map (λ fs. fields ++ fs) (fields_of parts)
 
+-- the word of an early answer is no field: it has no sign
+word-no-field : (part : List ℕ) → is_early_word part ≡ true → field_of part ≡ None
+word-no-field part e = ap field_of ((bytes_eq-Decides part (codes "early")).0 e)
+
+pub field-no-word : (part : List ℕ) (f : Field) → Some f ≡ field_of part → is_early_word part ≡ false
+field-no-word part f e = at (is_early_word part) refl
+  where
+    at : (t : Bool) → is_early_word part ≡ t → t ≡ false
+    at false w = refl
+    at true w = let none : Some f ≡ None = e ∙ word-no-field part w in cc
+
 pub fields-next : (fields : List Field) (part : List ℕ) (parts : List (List ℕ)) (f : Field) → Some f ≡ field_of part
     → fields_after fields (part ∷ parts) ≡ fields_after (fields ++ f ∷ []) parts
-fields-next fields part parts f e = rw (← e) (go (fields_of parts))
+fields-next fields part parts f e = rw (field-no-word part f e, ← e) (go (fields_of parts))
   where
     go : (o : Option (List Field)) → option_map (λ fs. fields ++ fs) (with_field (Some f) o) ≡ option_map (λ fs. (fields ++ f ∷ []) ++ fs) o
     go None = refl
     go (Some fs) = ap Some (sym (append_assoc fields (f ∷ []) fs))
+
+-- ---- the word of an early answer
+
+-- words with two of them are no entry, whatever the other parts are
+pub entry-twice-early : (method path : List ℕ) (status : Option ℕ) (body : Option (List ℕ)) (fields : Option (List Field)) → entry_with method path status body fields None ≡ None
+entry-twice-early method path None body fields = refl
+entry-twice-early method path (Some status) None fields = refl
+entry-twice-early method path (Some status) (Some body) None = refl
+entry-twice-early method path (Some status) (Some body) (Some fields) = refl
 
 -- ---- the body
 

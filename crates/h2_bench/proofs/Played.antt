@@ -42,7 +42,7 @@ pub printed-opened : (each : Bool) (book : List Entry) (config : Config) (octets
 printed-opened true book config octets sent c t allowed opened x =
     let new = new-opened book config sent c opened in
     of-opened book config octets sent c t allowed new.0 new.1 x
-printed-opened false book config octets sent c t allowed opened x = subst (λ (u : Printed). OrCutShort [] u t) (whole-played book config octets sent c allowed opened) x
+printed-opened false book config octets sent c t allowed opened x = inl (x ∙ whole-played book config octets sent c allowed opened)
 
 pub fresh-opened : (each : Bool) (book : List Entry) (config : Config) (octets sent : List ℕ) (c : Connection) → Opens book config (fed_first each octets) [] c sent → each ≡ true → c ≡ going c.state []
 fresh-opened true book config octets sent c opened e =

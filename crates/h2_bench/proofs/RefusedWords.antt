@@ -8,8 +8,9 @@ use Rattle.h2_words.specs.Grammar.{BookAsked}
 use Rattle.h2_bench.specs.Books.{added_by, book_filed, book_of, book_said, unless_refused, with_answer}
 use Rattle.h2_bench.specs.ProgramEnd.{KnowsFile}
 use Rattle.h2_bench.specs.Faults.{fault_number}
+use Rattle.h2_request.specs.declared.fault.EntryFault.TheVariants.{BadStatus, BadField, BodyNotAllowed, TooLong}
 use Rattle.h2_bench.specs.declared.fault.BenchFault.{BenchFault}
-use Rattle.h2_bench.specs.declared.fault.BenchFault.TheVariants.{NoMemory, BadStatus, BadField, BodyNotAllowed, TooLong, BadConfig, Read, BadHex, BadAnswer, BadCommand, Socket}
+use Rattle.h2_bench.specs.declared.fault.BenchFault.TheVariants.{NoMemory, BadEntry, BadConfig, Read, BadHex, BadAnswer, BadCommand, Socket}
 
 by_entry : (b : List Entry) (e : Option Entry) (fault : BenchFault) → fault ≡ refusal_of e → (fault ≡ NoMemory) ⊎ (added_by b e ≡ Err (fault_number fault))
 by_entry b None fault h = inr (rw h refl)
@@ -54,10 +55,10 @@ file-not-added files path is_printed book fault e none known refused above =
 -- a fault that is not 0 is not for memory
 pub memory-or-number : (fault : BenchFault) → (fault ≡ NoMemory) ⊎ (0 < fault_number fault)
 memory-or-number NoMemory = inl refl
-memory-or-number BadStatus = inr (lit< tt)
-memory-or-number BadField = inr (lit< tt)
-memory-or-number BodyNotAllowed = inr (lit< tt)
-memory-or-number TooLong = inr (lit< tt)
+memory-or-number (BadEntry BadStatus) = inr (lit< tt)
+memory-or-number (BadEntry BadField) = inr (lit< tt)
+memory-or-number (BadEntry BodyNotAllowed) = inr (lit< tt)
+memory-or-number (BadEntry TooLong) = inr (lit< tt)
 memory-or-number BadConfig = inr (lit< tt)
 memory-or-number Read = inr (lit< tt)
 memory-or-number BadHex = inr (lit< tt)

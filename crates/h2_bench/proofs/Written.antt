@@ -48,6 +48,12 @@ with-start start items held before after (Err why) well is o e = stopped (start 
 
 -- a text was written whole where no write failed
 pub written-whole : (r : Result (Unit {0}) PlacesFault) (text held : List ℕ) (before after : Option (List ℕ)) (broken : Bool) → broken ≡ is_err r → broken ≡ false → OnOk r (Appends before after text) → before ≡ Some held
-    → (t : List ℕ) × (after ≡ Some (held ++ t)) × OrCutShort [] (done text) (printed_after t r)
-written-whole (Ok u) text held before after broken flag well o is = (text, appended held text before after is o, inl refl)
+    → (t : List ℕ) × (after ≡ Some (held ++ t)) × (printed_after t r ≡ done text)
+written-whole (Ok u) text held before after broken flag well o is = (text, appended held text before after is o, refl)
 written-whole (Err why) text held before after broken flag well o is = cc
+
+-- the last of some parts was written whole where no write failed
+pub whole-parts : {A : Type 0} → (r : Result (Unit {0}) PlacesFault) (ps : List (List ℕ)) (held : List ℕ) (after : Option (List ℕ)) (broken : Bool) → broken ≡ is_err r → broken ≡ false
+    → (A → after ≡ Some (held ++ concat ps)) → OnOk r A → (t : List ℕ) × (after ≡ Some (held ++ t)) × OrCutShort ps (done (concat ps)) (printed_after t r)
+whole-parts (Ok u) ps held after broken flag well whole o = (concat ps, whole o, inl refl)
+whole-parts (Err why) ps held after broken flag well whole o = cc

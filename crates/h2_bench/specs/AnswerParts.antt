@@ -1,7 +1,7 @@
 -- The words of an answer as they are read: part after part, and why they are refused.
-use Rattle.std.specs.Prelude.{ℕ, List, [], ◌∷◌, Option, Some, None}
+use Rattle.std.specs.Prelude.{ℕ, Bool, List, [], ◌∷◌, Option, Some, None}
 use Rattle.h2_spec.specs.Answer.{Entry}
-use Rattle.h2_spec.specs.AnswerWords.{parts_of, status_of, body_of, fields_of, entry_with}
+use Rattle.h2_spec.specs.AnswerWords.{parts_of, status_of, body_of, fields_of, early_of, early_words, entry_with}
 use Rattle.h2_bench.specs.declared.answer.Parts.{Parts}
 use Rattle.h2_bench.specs.declared.fault.BenchFault.{BenchFault}
 use Rattle.h2_bench.specs.declared.fault.BenchFault.TheVariants.{NoMemory, BadAnswer}
@@ -11,13 +11,13 @@ abbrev pub parts_behind : List ℕ → List (List ℕ)
 parts_behind [] = []
 parts_behind (bar ∷ text) = parts_of text
 
--- the entry of these parts with this status
-abbrev pub entry_from : Option ℕ → Parts → Option Entry
-entry_from status parts = entry_with parts.method.now parts.path.now status (body_of parts.body.now) (fields_of (parts_behind parts.fields.now))
+-- the entry of these parts with this status, early or not
+abbrev pub entry_from : Option ℕ → Option Bool → Parts → Option Entry
+entry_from status early parts = entry_with parts.method.now parts.path.now status (body_of parts.body.now) (fields_of (parts_behind parts.further.now)) early
 
 -- the entry of these parts
 abbrev pub entry_in : Parts → Option Entry
-entry_in parts = entry_from (status_of parts.status.now) parts
+entry_in parts = entry_from (status_of parts.status.now) (early_of (early_words (parts_behind parts.further.now))) parts
 
 -- the one refusal: words that say no entry are refused before memory is needed
 abbrev pub refusal_of : Option Entry → BenchFault

@@ -57,4 +57,4 @@ fed_first false octets = octets
 -- or what was sent, and the state
 abbrev pub PrintsRun : Bool → State → List ℕ → List ℕ → Printed → Type 0
 PrintsRun true s sent octets t = let places = places_from (item_text 0 sent (view s)) s octets in OrCutShort places (done (concat places)) t
-PrintsRun false s sent octets t = OrCutShort [] (done (sent_and_state sent (view s))) t
+PrintsRun false s sent octets t = t ≡ done (sent_and_state sent (view s))

@@ -1,15 +1,13 @@
 -- The faults of programs: their numbers, and the line that reports one.
 use Rattle.std.specs.Prelude.{ℕ, List, [], ◌∷◌, codes, decimal}
 use Rattle.h2_spec.specs.Show.{joined}
+use Rattle.h2_request.specs.Fault.{entry_number}
 use Rattle.h2_bench.specs.declared.fault.BenchFault.{BenchFault}
-use Rattle.h2_bench.specs.declared.fault.BenchFault.TheVariants.{NoMemory, BadStatus, BadField, BodyNotAllowed, TooLong, BadConfig, Read, BadHex, BadAnswer, BadCommand, Socket}
+use Rattle.h2_bench.specs.declared.fault.BenchFault.TheVariants.{NoMemory, BadEntry, BadConfig, Read, BadHex, BadAnswer, BadCommand, Socket}
 
 abbrev pub fault_number : BenchFault → ℕ
 fault_number NoMemory = 0
-fault_number BadStatus = 12
-fault_number BadField = 13
-fault_number BodyNotAllowed = 14
-fault_number TooLong = 15
+fault_number (BadEntry fault) = entry_number fault
 fault_number BadConfig = 16
 fault_number Read = 22
 fault_number BadHex = 25

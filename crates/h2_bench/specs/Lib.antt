@@ -10,5 +10,6 @@ pub mod Limits
 pub mod Pieces
 pub mod ScriptPrograms
 pub mod TableProgram
+pub mod TableReplies
 pub mod Printing
 pub mod Printed

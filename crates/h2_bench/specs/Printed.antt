@@ -16,7 +16,7 @@ use Rattle.h2_book.specs.Entries.{Directory}
 use Rattle.h2_words.specs.Grammar.{BatchAsked, play, asm, dis, table}
 use Rattle.h2_bench.specs.Input.{most, octets_spelled}
 use Rattle.h2_bench.specs.ScriptPrograms.{printed_asm, printed_dis}
-use Rattle.h2_bench.specs.TableProgram.{table_text}
+use Rattle.h2_bench.specs.TableProgram.{table_parts, table_text}
 pub use Rattle.h2_bench.specs.Printing.{OrCutShort, Printed, cut_short, done, failed, refused}
 use Rattle.h2_bench.specs.declared.fault.BenchFault.TheVariants.{BadConfig, Read, BadHex}
 
@@ -72,12 +72,12 @@ printed book asm input = printed_asm input
 printed book dis input = printed_dis (octets_spelled input)
 printed book (table limit) input = done (table_text limit input)
 
--- the places of a command: those of `play` alone
+-- the parts of what a command prints that are written while it runs: the places of `play`, the parts of `table`
 abbrev pub places : List Entry → BatchAsked → List ℕ → List (List ℕ)
 places book (play config cut each said) input = places_play each book config (octets_spelled input)
 places book asm input = []
 places book dis input = []
-places book (table limit) input = []
+places book (table limit) input = table_parts limit input
 
 -- an input that is too long is not read
 abbrev pub printed_read : List Entry → BatchAsked → List ℕ → Printed

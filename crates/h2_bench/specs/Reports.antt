@@ -5,10 +5,14 @@ use Rattle.h2_bench.specs.Printing.{Printed, done, failed}
 use Rattle.h2_bench.specs.declared.fault.BenchFault.{BenchFault}
 use Rattle.h2_bench.specs.declared.fault.BenchFault.TheVariants.{NoMemory}
 use Rattle.h2_bench.specs.declared.report.Report.{Report}
+use Rattle.h2_bench.specs.declared.report.Report.TheVariants as report
+use Rattle.h2_bench.specs.ScriptPrograms.{hex_line, syntax_line}
 
 -- what a report says
 abbrev pub printed_by : Report → Printed
-printed_by r = record { text = string_bytes r.text; status = r.status }
+printed_by (report.Octets octets) = done (hex_line octets.items)
+printed_by (report.Syntax line kind) = record { text = syntax_line line kind; status = 1 }
+printed_by (report.Script text) = done (string_bytes text)
 
 -- the same where a fault may take its place
 abbrev pub seen : Result Report BenchFault → Printed

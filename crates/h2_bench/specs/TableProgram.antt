@@ -95,3 +95,11 @@ printed_lines t (line ∷ lines) = printed_of t (command_of line) ++ printed_lin
 unfoldable pub table_text : ℕ → List ℕ → List ℕ
 unfolding lines_of printed_lines
 table_text limit input = printed_lines (record { table = record { entries = []; max = limit }; limit = limit }) (lines_of input)
+
+-- the same in parts, which are printed one after another: a part for each line, and the entries
+unfoldable pub printed_parts : LimitedTable → List (List ℕ) → List (List ℕ)
+printed_parts t [] = entry_lines 62 t.table.entries ∷ []
+printed_parts t (line ∷ lines) = printed_of t (command_of line) ∷ printed_parts (obeyed t (command_of line)) lines
+
+abbrev pub table_parts : ℕ → List ℕ → List (List ℕ)
+table_parts limit input = printed_parts (record { table = record { entries = []; max = limit }; limit = limit }) (lines_of input)

@@ -1,4 +1,4 @@
-//! The answers of the command line: METHOD|PATH|STATUS|BODYHEX, and any number of parts |NAME=VALUE.
+//! The answers of the command line: METHOD|PATH|STATUS|BODYHEX, any number of parts |NAME=VALUE, and at most one |early.
 //! Rests on h2_request's entries, on `table` for cutting texts, and on the crate `hex`.
 //! Definitions: `h2_spec/specs/AnswerWords.antt` (`entry_of`), and `specs/AnswerParts.antt`.
 
@@ -23,14 +23,14 @@ struct Parts<'a> {
     path: &'a [u8],
     status: &'a [u8],
     body: &'a [u8],
-    fields: &'a [u8],
+    further: &'a [u8],
 }
 
 /// The entry of the book that the words say: METHOD|PATH|STATUS|BODYHEX|NAME=VALUE|..
 ///
 /// METHOD and PATH are any octets but a bar, STATUS three decimal digits, BODYHEX pairs of hex digits in either case
-/// or nothing, and each further
-/// part a field, cut at its first `=`. Whether a book takes the entry is reported by `Book::add` alone.
+/// or nothing. Each further part is a field, cut at its first `=`, or the word `early`, at most once and in any place,
+/// which makes the answer early. Whether a book takes the entry is reported by `Book::add` alone.
 ///
 /// # Errors
 ///
@@ -55,42 +55,51 @@ fn entry_of(alloc: Global, parts: Parts<'_>) -> Result<Entry<Global>, BenchFault
     let Some(status) = status_in(parts.status) else {
         return Err(BenchFault::BadAnswer);
     };
-    if !is_hex(parts.body) || !are_fields(parts.fields) {
+    let Some(early) = early_in(parts.further) else {
+        return Err(BenchFault::BadAnswer);
+    };
+    if !is_hex(parts.body) || !are_fields(parts.further) {
         return Err(BenchFault::BadAnswer);
     }
-    Ok(entry_from(alloc, parts, status)?)
+    Ok(entry_from(alloc, parts, status, early)?)
 }
 
-/// The entry of these parts with this status.
-fn entry_from(alloc: Global, parts: Parts<'_>, status: u16) -> Result<Entry<Global>, AllocError>
+/// The entry of these parts with this status, early or not.
+fn entry_from(
+    alloc: Global,
+    parts: Parts<'_>,
+    status: u16,
+    early: bool,
+) -> Result<Entry<Global>, AllocError>
     requires body { IsTrue (is_some (words.body_of parts.body.now)) }
-    requires fields { IsTrue (is_some (words.fields_of (parts_behind parts.fields.now))) }
-    ensures { IfOk result (λ entry. entry_from (Some status) parts.entry ≡ Some entry) }
+    requires fields { IsTrue (is_some (words.fields_of (parts_behind parts.further.now))) }
+    ensures { IfOk result (λ entry. entry_from (Some status) (Some early) parts.entry ≡ Some entry) }
 {
     Ok(Entry {
         method: Octets::new(parts.method.to_vec(alloc)?),
         path: Octets::new(parts.path.to_vec(alloc)?),
         status,
-        fields: read_fields(alloc, parts.fields)?,
+        fields: read_fields(alloc, parts.further)?,
         body: read_body(alloc, parts.body)?,
+        early,
     })
 }
 
 /// The parts of a text; `None` where it has less than four.
 fn parts_in(text: &[u8]) -> Option<Parts<'_>>
-    ensures four { IfSome result (λ p. words.parts_of text.now ≡ p.method.now ∷ p.path.now ∷ p.status.now ∷ p.body.now ∷ parts_behind p.fields.now) }
+    ensures four { IfSome result (λ p. words.parts_of text.now ≡ p.method.now ∷ p.path.now ∷ p.status.now ∷ p.body.now ∷ parts_behind p.further.now) }
     ensures fewer { IfNone result (words.entry_of_parts (words.parts_of text.now) ≡ None) }
 {
     let (method, rest) = cut(text);
     let (path, rest) = next_part(rest)?;
     let (status, rest) = next_part(rest)?;
-    let (body, fields) = next_part(rest)?;
+    let (body, further) = next_part(rest)?;
     Some(Parts {
         method,
         path,
         status,
         body,
-        fields,
+        further,
     })
 }
 
@@ -155,13 +164,13 @@ fn read_body(alloc: Global, digits: &[u8]) -> Result<Octets<Global>, AllocError>
     }
 }
 
-/// Whether each of these parts is NAME=VALUE.
+/// Whether each of these parts is NAME=VALUE or the word of an early answer.
 fn are_fields(parts: &[u8]) -> bool
     ensures { result ≡ is_some (words.fields_of (parts_behind parts.now)) }
 {
     let mut rest = parts;
     while let Some((part, more)) = next_part(rest) {
-        if field_in(part).is_none() {
+        if !is_early_word(part) && field_in(part).is_none() {
             return false;
         }
         rest = more;
@@ -169,7 +178,7 @@ fn are_fields(parts: &[u8]) -> bool
     true
 }
 
-/// The fields that these parts say.
+/// The fields that these parts say. The word of an early answer is none, since it has no `=`.
 fn read_fields(alloc: Global, parts: &[u8]) -> Result<Vec<Field<Global>>, AllocError>
     requires { IsTrue (is_some (words.fields_of (parts_behind parts.now))) }
     ensures { IfOk result (λ fields. words.fields_of (parts_behind parts.now) ≡ Some fields.items) }
@@ -183,6 +192,36 @@ fn read_fields(alloc: Global, parts: &[u8]) -> Result<Vec<Field<Global>>, AllocE
         rest = more;
     }
     Ok(fields)
+}
+
+/// Whether the answer of these further parts is early; `None` where two or more of them are the word.
+fn early_in(parts: &[u8]) -> Option<bool>
+    ensures { result ≡ words.early_of (words.early_words (parts_behind parts.now)) }
+{
+    let count = early_words(parts);
+    if count > 1 { None } else { Some(count == 1) }
+}
+
+/// How many of these parts are the word of an early answer.
+fn early_words(parts: &[u8]) -> usize
+    ensures { result ≡ words.early_words (parts_behind parts.now) }
+{
+    let mut count = 0;
+    let mut rest = parts;
+    while let Some((part, more)) = next_part(rest) {
+        if is_early_word(part) {
+            count += 1;
+        }
+        rest = more;
+    }
+    count
+}
+
+/// Whether a part is the word of an early answer.
+fn is_early_word(part: &[u8]) -> bool
+    ensures { result ≡ words.is_early_word part.now }
+{
+    part == b"early".as_slice()
 }
 
 /// The field of this name and this value.

@@ -15,7 +15,7 @@ use crate::fault::BenchFault;
 use h2_book::{BookFileFault, Cause, Files, add_book};
 use h2_device::Output;
 use h2_request::book::Book;
-use h2_request::fault::BookFault;
+use h2_request::fault::{BookFault, EntryFault};
 use h2_words::command::BookWords;
 use std::alloc::{AllocError, Global};
 
@@ -26,10 +26,7 @@ fn refused_by(fault: BookFault) -> BenchFault
 {
     match fault {
         BookFault::NoMemory => BenchFault::NoMemory,
-        BookFault::BadStatus => BenchFault::BadStatus,
-        BookFault::BadField => BenchFault::BadField,
-        BookFault::BodyNotAllowed => BenchFault::BodyNotAllowed,
-        BookFault::TooLong => BenchFault::TooLong,
+        BookFault::BadEntry(fault) => BenchFault::BadEntry(fault),
     }
 }
 
@@ -57,8 +54,8 @@ fn file_refused(fault: &BookFileFault) -> BenchFault
     match fault.cause() {
         Cause::NoMemory => BenchFault::NoMemory,
         Cause::Unread | Cause::FileUnread => BenchFault::Read,
-        Cause::FileTooLong | Cause::FillTooLong => BenchFault::TooLong,
-        Cause::Refused(fault) => refused_by(*fault),
+        Cause::FileTooLong | Cause::FillTooLong => BenchFault::BadEntry(EntryFault::TooLong),
+        Cause::BadEntry(fault) => BenchFault::BadEntry(*fault),
         Cause::NoText
         | Cause::NoToml(_)
         | Cause::UnknownTop(_)

@@ -2,10 +2,9 @@
 //! made, so that its text takes no memory.
 //! Rests on h2_device and h2_conn; definitions: `specs/Printed.antt`, `specs/Each.antt`.
 
-ghost use Rattle.std.specs.Prelude.{◌≡◌, ◌⊎◌, ◌≤◌, ◌<◌, ◌^◌, ◌++◌, ℕ, List, [], Some, false, drop, length, IfOk, IfErr, OnOk, is_err, string_bytes};
+ghost use Rattle.std.specs.Prelude.{◌≡◌, ◌<◌, ◌^◌, ◌++◌, ℕ, List, [], Some, false, length, IfOk, IfErr, OnOk, is_err};
 ghost use Rattle.std.specs.Io.KnownBytes.{Appends};
-ghost use Rattle.h2_bench.specs.declared.each.PlacesFault.TheVariants.{Fault, NotWritten};
-ghost use Rattle.h2_bench.specs.declared.fault.BenchFault.TheVariants.{NoMemory};
+ghost use Rattle.h2_bench.specs.declared.each.PlacesFault.TheVariants.{NotWritten};
 ghost use Rattle.std.specs.List.{concat};
 ghost use Rattle.h2_spec.specs.Trace.{trace};
 ghost use Rattle.h2_spec.specs.View.{view};
@@ -15,11 +14,10 @@ ghost use Rattle.h2_bench.specs.Printed.{OrCutShort, done, item_text, item_texts
 
 use crate::fault::BenchFault;
 use h2_conn::Conn;
-use h2_device::Output;
+use h2_device::{DeviceFault, Number, Output, Text, texts};
 use h2_spec::octets::octets_from;
 use h2_text::hex_text::OctetsText;
-use std::alloc::{AllocError, Global};
-use std::fmt;
+use std::alloc::Global;
 
 /// Why places were not all written.
 #[derive(Clone, Copy)]
@@ -45,48 +43,36 @@ struct PlaceText<'p, 'b> {
     conn: &'p Conn<'b, Global>,
 }
 
-#[tactic(auto, unfolding(crate::specs::Printed::item_text))]
-impl fmt::Display for PlaceText<'_, '_> {
-    ghost output = { λ x. Some (item_text x.place x.sent.now (view x.conn.now.state)) };
+#[tactic(auto, using(h2_device::proofs::Appending::both), unfolding(crate::specs::Printed::item_text))]
+impl Text for PlaceText<'_, '_> {
+    ghost text = { λ x. item_text x.place x.sent.now (view x.conn.now.state) };
 
-    fn fmt<W: fmt::Write>(&self, f: &mut fmt::Formatter<W>) -> fmt::Result {
-        let place = self.place;
+    fn write_to<O: Output>(&self, output: &mut O) -> Result<(), DeviceFault> {
+        let place = Number(self.place as u64);
         let sent = OctetsText(self.sent);
-        let conn = self.conn;
-        write!(f, "item {place}\nsent {sent}\n{conn}")
+        texts!("item ", place, "\nsent ", sent, "\n").write_to(output)?;
+        self.conn.write_to(output)
     }
 }
 
 /// Writes a text, or says that it was not written.
-pub fn write_text<O: Output>(output: &mut O, text: &str) -> Result<(), PlacesFault>
-    ensures octets { OnOk result (Appends (O.written output.old) (O.written output.new) text.now) }
+pub fn write_text<O: Output, T: Text>(output: &mut O, text: &T) -> Result<(), PlacesFault>
+    requires { O.has_failed output.old ≡ false }
+    ensures octets { OnOk result (Appends (O.written output.old) (O.written output.new) (T.text text.now)) }
     ensures err { IfErr result (λ why. why ≡ NotWritten) }
     ensures flag { O.has_failed output.new ≡ is_err result }
     ensures name { O.name output.new ≡ O.name output.old }
 {
-    match output.write(text.as_bytes()) {
+    match text.write_to(output) {
         Ok(()) => Ok(()),
         Err(_) => Err(PlacesFault::NotWritten),
     }
 }
 
-/// The text of a place, whole before any of it is written, so that running out of memory cuts no place.
-fn place_text(
-    alloc: Global,
-    place: usize,
-    sent: &[u8],
-    conn: &Conn<'_, Global>,
-) -> Result<String, AllocError>
-    ensures { IfOk result (λ text. string_bytes text ≡ item_text place sent.now (view conn.now.state)) }
-{
-    PlaceText { place, sent, conn }.to_string(alloc)
-}
-
-/// Writes the text of a place, which is made whole before any of it is written.
+/// Writes the text of a place. Takes no memory.
 ///
-/// `Fault` where memory for the text is refused: nothing is written. `NotWritten` where the write failed.
+/// `NotWritten` where the output failed, and only then.
 fn write_place<O: Output>(
-    alloc: Global,
     output: &mut O,
     place: usize,
     sent: &[u8],
@@ -94,14 +80,11 @@ fn write_place<O: Output>(
 ) -> Result<(), PlacesFault>
     requires { O.has_failed output.old ≡ false }
     ensures octets { OnOk result (Appends (O.written output.old) (O.written output.new) (item_text place sent.now (view conn.now.state))) }
-    ensures err { IfErr result (λ why. (why ≡ NotWritten) ⊎ ((why ≡ Fault NoMemory) × (O.written output.new ≡ O.written output.old))) }
+    ensures err { IfErr result (λ why. why ≡ NotWritten) }
     ensures flag { O.has_failed output.new ≡ not_written result }
     ensures name { O.name output.new ≡ O.name output.old }
 {
-    match place_text(alloc, place, sent, conn) {
-        Ok(text) => write_text(output, text.as_str()),
-        Err(_) => Err(PlacesFault::Fault(BenchFault::NoMemory)),
-    }
+    write_text(output, &PlaceText { place, sent, conn })
 }
 
 /// Takes the next item of the octets; `None` where there is none.
@@ -152,7 +135,7 @@ fn write_items<O: Output>(
                 at += taken.used;
                 place += 1;
                 let sent = taken.sent.as_slice();
-                match write_place(alloc, output, place, sent, conn) {
+                match write_place(output, place, sent, conn) {
                     Ok(()) => {}
                     Err(why) => return Err(why),
                 }
@@ -182,7 +165,7 @@ pub fn write_places<O: Output>(
     ensures name { O.name output.new ≡ O.name output.old }
 {
     let place = 0;
-    match write_place(alloc, output, place, sent, conn) {
+    match write_place(output, place, sent, conn) {
         Ok(()) => write_items(alloc, conn, octets, output),
         Err(why) => Err(why),
     }

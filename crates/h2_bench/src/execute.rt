@@ -5,13 +5,13 @@ ghost use Rattle.std.specs.Prelude.{◌≡◌, ◌==◌, ◌<◌, ◌⊎◌, ◌
 ghost use Rattle.h2_spec.specs.declared.connection.Config.{Config};
 ghost use Rattle.h2_words.specs.Grammar.{BatchAsked, BookAsked, asked_of, batch, debug};
 ghost use Rattle.h2_words.specs.Plans.{batch_asked, book_asked};
-ghost use Rattle.h2_bench.specs.Reports.{Gives, seen};
+ghost use Rattle.h2_bench.specs.Reports.{seen};
 ghost use Rattle.h2_bench.specs.Books.{book_in};
 ghost use Rattle.h2_bench.specs.Each.{not_written, printed_after};
 ghost use Rattle.h2_bench.specs.ProgramEnd.{EndsBatch, EndsServe, EndsSession, EndsSomehow, KnowsFile, Prints, PrintsRefusal, PrintsSome, asks_why, asks_why_batch, file_of, is_reader, is_serve, no_files};
 ghost use Rattle.h2_bench.specs.Faults.{fault_number};
 ghost use Rattle.h2_bench.specs.Input.{octets_spelled};
-ghost use Rattle.h2_bench.specs.TableProgram.{table_text};
+ghost use Rattle.h2_bench.specs.TableProgram.{table_parts, table_text};
 ghost use Rattle.h2_bench.specs.Printed.{OrCutShort, done, failed, places, places_play, printed, printed_play};
 ghost use Rattle.h2_bench.specs.declared.fault.BenchFault.TheVariants.{NoMemory};
 
@@ -23,9 +23,9 @@ use crate::fault::BenchFault;
 use crate::input::read_all;
 use crate::play::write_play;
 use crate::report::{Report, whole};
-use crate::table::table_text;
+use crate::table::write_table;
 use h2_book::{Files, FilesInMemory};
-use h2_device::{FromRead, Input, IntoWrite, Output};
+use h2_device::{FromRead, Input, IntoWrite, Output, Text};
 use h2_request::book::Book;
 use h2_session::debug_session;
 use h2_words::Words;
@@ -57,11 +57,11 @@ fn book_for<F: Files, E: Output>(
 }
 
 /// Writes a text, and gives its status, or 3 where that failed.
-fn print<O: Output>(output: &mut O, text: &str, status: u8) -> u8
+fn print<O: Output, T: Text>(output: &mut O, text: &T, status: u8) -> u8
     requires writer { O.has_failed output.old ≡ false }
     requires status { status < 3 }
     ensures printed { O.has_failed output.new ≡ false → (held : List ℕ) → O.written output.old ≡ Some held
-        → Prints (record { text = text.now; status = status }) held (O.written output.new) result }
+        → Prints (record { text = T.text text.now; status = status }) held (O.written output.new) result }
     ensures flag { O.has_failed output.new ≡ (result == 3) }
     ensures name { O.name output.new ≡ O.name output.old }
 {
@@ -79,20 +79,19 @@ fn print_fault<O: Output>(output: &mut O, fault: BenchFault) -> u8
     ensures flag { O.has_failed output.new ≡ (result == 3) }
     ensures name { O.name output.new ≡ O.name output.old }
 {
-    print(output, fault.line(), 1)
+    print(output, &fault.line(), 1)
 }
 
-/// Writes an answer: a text with its status, or the line of a fault with status 1.
+/// Writes an answer: the text of a report with its status, or the line of a fault with status 1.
 fn print_answer<O: Output>(output: &mut O, answer: Result<Report, BenchFault>) -> u8
-    requires writer { O.has_failed output.old ≡ false }
-    requires status { IfOk answer (λ report. report.status < 3) }
+    requires { O.has_failed output.old ≡ false }
     ensures printed { O.has_failed output.new ≡ false → (held : List ℕ) → O.written output.old ≡ Some held
         → Prints (seen answer) held (O.written output.new) result }
     ensures flag { O.has_failed output.new ≡ (result == 3) }
     ensures name { O.name output.new ≡ O.name output.old }
 {
     match answer {
-        Ok(report) => print(output, report.text.as_str(), report.status),
+        Ok(report) => print(output, &report, report.status()),
         Err(fault) => print_fault(output, fault),
     }
 }
@@ -134,15 +133,17 @@ fn print_played<O: Output>(
     print_end(output, ended)
 }
 
-/// What `table` answers to a whole input.
-fn table_report(alloc: Global, limit: u32, input: &[u8]) -> Result<Report, BenchFault>
-    ensures gives { Gives result (done (table_text limit input.now)) }
-    ensures status { IfOk result (λ report. report.status < 3) }
+/// Does what the lines of a whole input ask of a dynamic table, and reports it.
+fn print_table<O: Output>(alloc: Global, limit: u32, input: Vec<u8>, output: &mut O) -> u8
+    requires { O.has_failed output.old ≡ false }
+    ensures printed { O.has_failed output.new ≡ false
+        → PrintsSome (OrCutShort (table_parts limit input.items) (done (table_text limit input.items)))
+        (O.written output.old) (O.written output.new) result }
+    ensures flag { O.has_failed output.new ≡ (result == 3) }
+    ensures name { O.name output.new ≡ O.name output.old }
 {
-    match table_text(alloc, limit, input) {
-        Ok(text) => Ok(Report { text, status: 0 }),
-        Err(_) => Err(BenchFault::NoMemory),
-    }
+    let ended = write_table(alloc, limit, input.as_slice(), output);
+    print_end(output, ended)
 }
 
 /// Does a command over a whole input, with its book. The input is given back once it is read.
@@ -165,7 +166,7 @@ fn print_input<O: Output>(
         Batch::Play(play) => print_played(alloc, play, book, input, output),
         Batch::Asm => print_answer(output, asm_report(alloc, input.as_slice())),
         Batch::Dis => print_answer(output, whole(dis_text(alloc, input.as_slice()))),
-        Batch::Table(limit) => print_answer(output, table_report(alloc, *limit, input.as_slice())),
+        Batch::Table(limit) => print_table(alloc, *limit, input, output),
     }
 }
 
@@ -268,7 +269,7 @@ pub fn run_on<F: Files, I: Input, O: Output, E: Output>(
         Ok(Plan::Batch(batch)) => respond(alloc, &batch, files, input, output, errors),
         Ok(Plan::Debug(plan)) => debug(alloc, &plan, files, input, output, errors),
         Ok(Plan::Serve(_)) => 2,
-        Err(Refusal::Words(text)) => print(output, text.as_str(), 2),
+        Err(Refusal::Words(text)) => print(output, &text.as_str(), 2),
         Err(Refusal::NoMemory) => print_fault(output, BenchFault::NoMemory),
     }
 }

@@ -1,10 +1,12 @@
 //! Why a program is refused, each cause with its number, and the line that reports it.
-//! Rests on nothing; definitions: `specs/Faults.antt`.
+//! It uses the faults of an entry of h2_request; definitions: `specs/Faults.antt`.
 
 ghost use Rattle.std.specs.Prelude.{◌≡◌};
 ghost use Rattle.h2_bench.specs.Faults.{fault_line, fault_number};
+ghost use Rattle.h2_request.specs.Fault.{entry_number};
 ghost use Rattle.h2_bench.specs.declared.fault.BenchFault.TheVariants.{NoMemory};
 
+use h2_request::fault::EntryFault;
 use std::alloc::{AllocError, AllocFailed};
 use thiserror::Error;
 
@@ -14,19 +16,9 @@ pub enum BenchFault {
     /// A growth was refused.
     #[error("out of memory")]
     NoMemory,
-    /// The status of an answer is outside 200 to 599.
-    #[error("the status is outside 200 to 599")]
-    BadStatus,
-    /// A field of an answer is ill-formed, of a connection, a pseudo-field, or `content-length` (RFC 9113, 8.2 and
-    /// 8.3).
-    #[error("a field may not stand in an answer")]
-    BadField,
-    /// An answer has a body with status 204, 205 or 304, or for the method HEAD.
-    #[error("a body may not stand in this answer")]
-    BodyNotAllowed,
-    /// There are more than 1000 answers, or a body or a response's field block is too long.
-    #[error("the answers, a body or its fields would pass their limit")]
-    TooLong,
+    /// An answer is refused, or there are more than 1000.
+    #[error("{0}")]
+    BadEntry(EntryFault),
     /// The limit of streams is outside 1 to 1000, or the credit outside 1 to 65535.
     #[error("a limit is out of range")]
     BadConfig,
@@ -54,10 +46,7 @@ impl BenchFault {
     {
         match self {
             BenchFault::NoMemory => 0,
-            BenchFault::BadStatus => 12,
-            BenchFault::BadField => 13,
-            BenchFault::BodyNotAllowed => 14,
-            BenchFault::TooLong => 15,
+            BenchFault::BadEntry(fault) => fault.number(),
             BenchFault::BadConfig => 16,
             BenchFault::Read => 22,
             BenchFault::BadHex => 25,
@@ -73,10 +62,7 @@ impl BenchFault {
     {
         match self {
             BenchFault::NoMemory => "fault 0\n",
-            BenchFault::BadStatus => "fault 12\n",
-            BenchFault::BadField => "fault 13\n",
-            BenchFault::BodyNotAllowed => "fault 14\n",
-            BenchFault::TooLong => "fault 15\n",
+            BenchFault::BadEntry(fault) => entry_line(fault),
             BenchFault::BadConfig => "fault 16\n",
             BenchFault::Read => "fault 22\n",
             BenchFault::BadHex => "fault 25\n",
@@ -84,6 +70,18 @@ impl BenchFault {
             BenchFault::BadCommand => "fault 27\n",
             BenchFault::Socket => "fault 28\n",
         }
+    }
+}
+
+/// The line `fault N` of what is wrong with an entry.
+fn entry_line(fault: EntryFault) -> &'static str
+    ensures { result.now ≡ fault_line (entry_number fault) }
+{
+    match fault {
+        EntryFault::BadStatus => "fault 12\n",
+        EntryFault::BadField => "fault 13\n",
+        EntryFault::BodyNotAllowed => "fault 14\n",
+        EntryFault::TooLong => "fault 15\n",
     }
 }
 

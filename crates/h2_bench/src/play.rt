@@ -1,7 +1,7 @@
 //! The program `play`: a connection over the octets that hex text spells.
 //! Rests on `each` and h2_conn; definitions: `specs/Printed.antt`.
 
-ghost use Rattle.std.specs.Prelude.{◌≡◌, ◌⊎◌, ◌<◌, ◌^◌, [], Ok, Err, Some, true, false, length, map, is_some, string_bytes, IfErr, IfOk, OnOk};
+ghost use Rattle.std.specs.Prelude.{◌≡◌, ◌⊎◌, ◌<◌, ◌^◌, [], Ok, Err, Some, true, false, length, map, is_some, IfErr, IfOk, OnOk};
 ghost use Rattle.h2_spec.specs.View.{view};
 ghost use Rattle.h2_conn.specs.Connection.{going, is_allowed};
 ghost use Rattle.h2_conn.specs.Runs.{Opens};
@@ -18,13 +18,11 @@ use crate::fault::BenchFault;
 use crate::input::{is_hex_text, read_hex};
 use h2_conn::play::open_and_feed;
 use h2_conn::{Conn, ConnFault};
-use h2_device::Output;
+use h2_device::{DeviceFault, HexText, Output, Text, texts};
 use h2_request::book::Book;
 use h2_spec::connection::Config;
-use h2_text::hex_text::HexText;
 use h2_words::command::Play;
 use std::alloc::{AllocError, Global};
-use std::fmt;
 
 /// The line of the octets sent, and the text of the state.
 #[derive(Drop)]
@@ -33,14 +31,13 @@ struct PlayedText<'p, 'b> {
     conn: &'p Conn<'b, Global>,
 }
 
-#[tactic(auto, unfolding(crate::specs::Printed::sent_and_state))]
-impl fmt::Display for PlayedText<'_, '_> {
-    ghost output = { λ x. Some (sent_and_state x.sent.now (view x.conn.now.state)) };
+#[tactic(auto, using(h2_device::proofs::Appending::both), unfolding(crate::specs::Printed::sent_and_state))]
+impl Text for PlayedText<'_, '_> {
+    ghost text = { λ x. sent_and_state x.sent.now (view x.conn.now.state) };
 
-    fn fmt<W: fmt::Write>(&self, f: &mut fmt::Formatter<W>) -> fmt::Result {
-        let sent = HexText(self.sent);
-        let conn = self.conn;
-        write!(f, "sent {sent}\n{conn}")
+    fn write_to<O: Output>(&self, output: &mut O) -> Result<(), DeviceFault> {
+        texts!("sent ", HexText(self.sent), "\n").write_to(output)?;
+        self.conn.write_to(output)
     }
 }
 
@@ -85,34 +82,25 @@ fn played<'b>(
     }
 }
 
-/// The line of the octets sent, and the text of the state.
-fn played_text(alloc: Global, conn: &Conn<'_, Global>, sent: &[u8]) -> Result<String, AllocError>
-    ensures { IfOk result (λ text. string_bytes text ≡ sent_and_state sent.now (view conn.now.state)) }
-{
-    PlayedText { sent, conn }.to_string(alloc)
-}
-
-/// Writes the line of the octets sent, and the text of the state, which is made whole before any of it is written.
+/// Writes the line of the octets sent, and the text of the state. Takes no memory.
+///
+/// `NotWritten` where the output failed, and only then.
 fn write_sent<O: Output>(
-    alloc: Global,
     conn: &Conn<'_, Global>,
     sent: &[u8],
     output: &mut O,
 ) -> Result<(), PlacesFault>
     requires { O.has_failed output.old ≡ false }
-    ensures printed { O.has_failed output.new ≡ false → WritesSome (OrCutShort [] (done (sent_and_state sent.now (view conn.now.state))))
+    ensures printed { O.has_failed output.new ≡ false → WritesSome (λ t. t ≡ done (sent_and_state sent.now (view conn.now.state)))
         result (O.written output.old) (O.written output.new) }
     ensures flag { O.has_failed output.new ≡ not_written result }
     ensures name { O.name output.new ≡ O.name output.old }
 {
-    match played_text(alloc, conn, sent) {
-        Ok(text) => write_text(output, text.as_str()),
-        Err(_) => Err(PlacesFault::Fault(BenchFault::NoMemory)),
-    }
+    write_text(output, &PlayedText { sent, conn })
 }
 
-/// Writes what `play` prints of a connection: each place of its run over the octets; or what was sent, and its state,
-/// for which no memory is needed.
+/// Writes what `play` prints of a connection: each place of its run over the octets, for which items are taken one by
+/// one; or what was sent, and its state, for which no memory is needed.
 fn write_conn<O: Output>(
     alloc: Global,
     each: bool,
@@ -131,7 +119,7 @@ fn write_conn<O: Output>(
     if each {
         write_places(alloc, conn, sent, octets, output)
     } else {
-        write_sent(alloc, conn, sent, output)
+        write_sent(conn, sent, output)
     }
 }
 

@@ -1,21 +1,27 @@
 //! The program `table`: changes a dynamic table by the lines of its input (RFC 7541, 2.3.2 and 4).
-//! Rests on h2_table, h2_text and h2_script's numbers; definitions: `specs/TableProgram.antt`.
+//! Rests on `each`, h2_table, h2_text, h2_device and h2_script's numbers; definitions: `specs/TableProgram.antt`.
 
-ghost use Rattle.std.specs.Prelude.{◌≡◌, ◌==◌, ◌+◌, ◌<◌, ◌≤◌, ◌++◌, length, take, drop, position, option_map, IfOk, IfSome, OnOk};
-ghost use Rattle.std.specs.String.{string_bytes};
-ghost use Rattle.h2_spec.specs.Show.{entry_lines};
+ghost use Rattle.std.specs.Prelude.{◌≡◌, ◌==◌, ◌⊎◌, ◌<◌, ◌≤◌, false, length, take, drop, position, option_map, IfOk, IfErr, IfSome, OnOk};
+ghost use Rattle.std.specs.List.{concat};
+ghost use Rattle.std.specs.Io.KnownBytes.{Appends};
 ghost use Rattle.h2_bench.specs.Commands.{asked_by};
 ghost use Rattle.h2_spec.specs.DynamicTable.{insert};
 ghost use Rattle.h2_spec.specs.Field.{field};
 ghost use Rattle.h2_bench.specs.Faults.{fault_line};
-ghost use Rattle.h2_bench.specs.TableProgram.{behind_line, command_of, counts_line, first_line, obeyed, table_text, printed_of};
+ghost use Rattle.h2_bench.specs.TableProgram.{behind_line, command_of, counts_line, first_line, lines_of, obeyed, printed_of, printed_parts, table_parts, table_text};
+ghost use Rattle.h2_bench.specs.TableReplies.{reply_text};
+ghost use Rattle.h2_bench.specs.Each.{WritesSome, not_written};
+ghost use Rattle.h2_bench.specs.Printing.{OrCutShort, done};
+ghost use Rattle.h2_bench.specs.declared.each.PlacesFault.TheVariants.{Fault, NotWritten};
+ghost use Rattle.h2_bench.specs.declared.fault.BenchFault.TheVariants.{NoMemory};
 
+use crate::each::{PlacesFault, write_text};
 use crate::fault::BenchFault;
+use h2_device::{DeviceFault, Number, Output, Text, texts};
 use h2_script::number_at;
 use h2_table::DynTable;
 use h2_text::show::EntriesText;
 use std::alloc::{AllocError, Allocator, Global};
-use std::fmt::Write;
 
 /// What a line asks for.
 #[derive(Clone, Copy)]
@@ -63,23 +69,61 @@ fn command_of(line: &[u8]) -> Option<TableCommand<'_>>
     }
 }
 
-/// The line of how many entries there are, what they count, and the maximum.
+/// The line of how many entries a table has, what they count, and its maximum.
+#[derive(Clone, Copy)]
+struct CountsLine<'t>(&'t DynTable<Global>);
+
 #[tactic(auto, unfolding(crate::specs::TableProgram::counts_line))]
-fn write_counts<A: Allocator>(text: &mut String<A>, table: &DynTable<A>) -> Result<(), AllocError>
-    ensures { OnOk result (string_bytes text.new ≡ string_bytes text.old ++ counts_line table.now.table) }
-{
-    let count = table.len();
-    let size = table.size();
-    let max = table.max();
-    writeln!(text, "{count} {size} {max}")
+impl Text for CountsLine<'_> {
+    ghost text = { λ l. counts_line l.0.now.table };
+
+    fn write_to<O: Output>(&self, output: &mut O) -> Result<(), DeviceFault> {
+        let count = Number(self.0.len() as u64);
+        let size = Number(self.0.size() as u64);
+        let max = Number(u64::from(self.0.max()));
+        texts!(count, " ", size, " ", max, "\n").write_to(output)
+    }
 }
 
-/// The line of a fault of the table.
+/// The line of a fault, by its number.
+#[derive(Clone, Copy)]
+struct FaultLine(u8);
+
 #[tactic(auto, unfolding(crate::specs::Faults::fault_line))]
-fn write_fault<A: Allocator>(text: &mut String<A>, number: u8) -> Result<(), AllocError>
-    ensures { OnOk result (string_bytes text.new ≡ string_bytes text.old ++ fault_line number) }
-{
-    writeln!(text, "fault {number}")
+impl Text for FaultLine {
+    ghost text = { λ l. fault_line l.0 };
+
+    fn write_to<O: Output>(&self, output: &mut O) -> Result<(), DeviceFault> {
+        texts!("fault ", Number(u64::from(self.0)), "\n").write_to(output)
+    }
+}
+
+/// What is printed for a line.
+#[derive(Clone, Copy)]
+pub enum TableReply {
+    /// What the table counts now.
+    Counts,
+    /// The number of a fault.
+    Refused(u8),
+}
+
+/// The reply to a line that asked for a change of this table.
+#[derive(Clone, Copy)]
+struct ReplyText<'t> {
+    reply: TableReply,
+    /// The table behind the line.
+    table: &'t DynTable<Global>,
+}
+
+impl Text for ReplyText<'_> {
+    ghost text = { λ r. reply_text r.table.now r.reply };
+
+    fn write_to<O: Output>(&self, output: &mut O) -> Result<(), DeviceFault> {
+        match self.reply {
+            TableReply::Counts => CountsLine(self.table).write_to(output),
+            TableReply::Refused(fault) => FaultLine(fault).write_to(output),
+        }
+    }
 }
 
 fn add<A: Allocator + Copy>(
@@ -96,34 +140,44 @@ fn add<A: Allocator + Copy>(
     Ok(())
 }
 
-/// Does what a line asks for, and reports it.
-fn obey<A: Allocator + Copy>(
-    table: &mut DynTable<A>,
-    line: &[u8],
-    text: &mut String<A>,
-) -> Result<(), AllocError>
+/// Does what a line asks for; `AllocError` where memory is refused.
+fn obey(alloc: Global, table: &mut DynTable<Global>, line: &[u8]) -> Result<TableReply, AllocError>
     ensures table { OnOk result (table.new ≡ obeyed table.old (command_of line.now)) }
-    ensures text { OnOk result (string_bytes text.new ≡ string_bytes text.old ++ printed_of table.old (command_of line.now)) }
+    ensures reply { IfOk result (λ reply. reply_text table.new reply ≡ printed_of table.old (command_of line.now)) }
 {
     match command_of(line) {
         Some(TableCommand::Add(name, value)) => {
-            add(table, name, value, *text.allocator())?;
-            write_counts(text, table)
+            add(table, name, value, alloc)?;
+            Ok(TableReply::Counts)
         }
         Some(TableCommand::Max(max)) => match table.set_max(u64::from(max)) {
-            Ok(()) => write_counts(text, table),
-            Err(fault) => write_fault(text, fault.number()),
+            Ok(()) => Ok(TableReply::Counts),
+            Err(fault) => Ok(TableReply::Refused(fault.number())),
         },
-        None => write_fault(text, BenchFault::BadCommand.number()),
+        None => Ok(TableReply::Refused(BenchFault::BadCommand.number())),
     }
 }
 
-/// The lines of the entries, the newest first.
-fn write_entries<A: Allocator>(text: &mut String<A>, table: &DynTable<A>) -> Result<(), AllocError>
-    ensures { OnOk result (string_bytes text.new ≡ string_bytes text.old ++ entry_lines 62 table.now.table.entries) }
+/// Does what a line asks for, and writes what is printed for it.
+///
+/// `Fault` where memory is refused: nothing is written. `NotWritten` where the output failed.
+fn write_line<O: Output>(
+    alloc: Global,
+    table: &mut DynTable<Global>,
+    line: &[u8],
+    output: &mut O,
+) -> Result<(), PlacesFault>
+    requires { O.has_failed output.old ≡ false }
+    ensures table { OnOk result (table.new ≡ obeyed table.old (command_of line.now)) }
+    ensures octets { OnOk result (Appends (O.written output.old) (O.written output.new) (printed_of table.old (command_of line.now))) }
+    ensures err { IfErr result (λ why. (why ≡ NotWritten) ⊎ ((why ≡ Fault NoMemory) × (O.written output.new ≡ O.written output.old))) }
+    ensures flag { O.has_failed output.new ≡ not_written result }
+    ensures name { O.name output.new ≡ O.name output.old }
 {
-    let entries = EntriesText(table);
-    write!(text, "{entries}")
+    match obey(alloc, table, line) {
+        Ok(reply) => write_text(output, &ReplyText { reply, table }),
+        Err(_) => Err(PlacesFault::Fault(BenchFault::NoMemory)),
+    }
 }
 
 /// The first line, without its line feed, and what follows it.
@@ -136,24 +190,57 @@ fn first_line(text: &[u8]) -> (&[u8], &[u8])
     }
 }
 
-/// What `table` prints: an empty dynamic table of this limit and maximum is changed by each line of the input.
+/// Does what each line asks for, and writes what is printed for it; then the entries, the newest first.
 ///
-/// A line is `add NAME VALUE`, where NAME has no space, or `max N`; it prints the number of entries, what they count
-/// and the maximum,
-/// or the line of its fault: 3 for a maximum above the limit, 27 where it is no command. At the end the entries are
-/// printed.
-/// `AllocError` where memory is refused.
-pub fn table_text(alloc: Global, limit: u32, input: &[u8]) -> Result<String, AllocError>
-    ensures { IfOk result (λ text. string_bytes text ≡ table_text limit input.now) }
+/// `Fault` where memory is refused: what is printed for some first lines was written. `NotWritten` where the output
+/// failed.
+fn write_lines<O: Output>(
+    alloc: Global,
+    table: &mut DynTable<Global>,
+    input: &[u8],
+    output: &mut O,
+) -> Result<(), PlacesFault>
+    requires { O.has_failed output.old ≡ false }
+    ensures printed { O.has_failed output.new ≡ false → let parts = printed_parts table.old (lines_of input.now) in
+        WritesSome (OrCutShort parts (done (concat parts))) result (O.written output.old) (O.written output.new) }
+    ensures flag { O.has_failed output.new ≡ not_written result }
+    ensures name { O.name output.new ≡ O.name output.old }
 {
-    let mut table = DynTable::new(alloc, limit)?;
-    let mut text = String::new(alloc);
     let mut rest = input;
     while !rest.is_empty() {
         let (line, more) = first_line(rest);
-        obey(&mut table, line, &mut text)?;
+        match write_line(alloc, table, line, output) {
+            Ok(()) => {}
+            Err(why) => return Err(why),
+        }
         rest = more;
     }
-    write_entries(&mut text, &table)?;
-    Ok(text)
+    write_text(output, &EntriesText(table))
+}
+
+/// Writes what `table` prints: an empty dynamic table of this limit and maximum is changed by each line of the input.
+///
+/// A line is `add NAME VALUE`, where NAME has no space, or `max N`; it prints the number of entries, what they count
+/// and the maximum, or the line of its fault: 3 for a maximum above the limit, 27 where it is no command. At the end
+/// the entries are printed.
+///
+/// `Fault` where memory is refused: what is printed for some first lines was written. `NotWritten` where the output
+/// failed.
+pub fn write_table<O: Output>(
+    alloc: Global,
+    limit: u32,
+    input: &[u8],
+    output: &mut O,
+) -> Result<(), PlacesFault>
+    requires { O.has_failed output.old ≡ false }
+    ensures printed { O.has_failed output.new ≡ false
+        → WritesSome (OrCutShort (table_parts limit input.now) (done (table_text limit input.now)))
+        result (O.written output.old) (O.written output.new) }
+    ensures flag { O.has_failed output.new ≡ not_written result }
+    ensures name { O.name output.new ≡ O.name output.old }
+{
+    match DynTable::new(alloc, limit) {
+        Ok(mut table) => write_lines(alloc, &mut table, input, output),
+        Err(_) => Err(PlacesFault::Fault(BenchFault::NoMemory)),
+    }
 }

@@ -17,7 +17,7 @@ Directory = List ℕ → Option (List ℕ)
 
 -- the entry of an answer, where its body has octets
 abbrev pub entry_with : Said → Result (List ℕ) ℕ → Result Entry ℕ
-entry_with s (Ok body) = Ok (record { method = s.method; path = s.path; answer = answer s.status s.fields body })
+entry_with s (Ok body) = Ok (record { method = s.method; path = s.path; answer = record (answer s.status s.fields body) { early = s.early } })
 entry_with s (Err fault) = Err fault
 
 -- the entry that an answer says; one that is malformed is fault 26

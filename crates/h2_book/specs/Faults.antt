@@ -1,8 +1,8 @@
 -- The numbers of what makes a book's file refused.
 use Rattle.std.specs.Prelude.{ℕ}
-use Rattle.h2_request.specs.Fault.{fault_number}
+use Rattle.h2_request.specs.Fault.{entry_number}
 use Rattle.h2_book.specs.declared.fault.Cause.{Cause}
-use Rattle.h2_book.specs.declared.fault.Cause.TheVariants.{NoMemory, Unread, NoText, NoToml, UnknownTop, NoTable, UnknownKey, Missing, Malformed, ManyBodies, FileUnread, FileTooLong, FillTooLong, Refused}
+use Rattle.h2_book.specs.declared.fault.Cause.TheVariants.{NoMemory, Unread, NoText, NoToml, UnknownTop, NoTable, UnknownKey, Missing, Malformed, ManyBodies, FileUnread, FileTooLong, FillTooLong, BadEntry}
 
 -- the number of a cause
 abbrev pub cause_number : Cause → ℕ
@@ -19,4 +19,4 @@ cause_number ManyBodies = 26
 cause_number FileUnread = 22
 cause_number FileTooLong = 15
 cause_number FillTooLong = 15
-cause_number (Refused fault) = fault_number fault
+cause_number (BadEntry fault) = entry_number fault

@@ -30,6 +30,7 @@ pub struct Said<'v> {
     status: u16,
     headers: &'v [Value],
     body: Contents<'v>,
+    early: bool,
 }
 
 /// The entry that a value of the array `answer` says; a body's file is looked for from the directory of the book at
@@ -78,6 +79,7 @@ fn entry_from<F: Files>(
         status: said.status,
         fields: read_headers(alloc, said.headers)?,
         body,
+        early: said.early,
     })
 }
 
@@ -103,12 +105,14 @@ fn said_in(alloc: Global, table: &Table) -> Result<Said<'_>, Cause>
         return Err(Cause::Malformed(Key::Headers));
     };
     let body = contents_in(table)?;
+    let early = early_in(value_at(table, "early"))?;
     Ok(Said {
         method,
         path,
         status,
         headers,
         body,
+        early,
     })
 }
 
@@ -137,6 +141,22 @@ fn is_key_of_answer(key: &str) -> bool
         || key == "body-hex"
         || key == "body-file"
         || key == "body-fill"
+        || key == "early"
+}
+
+/// Whether the answer is early; without the key it is not.
+fn early_in(value: Option<&Value>) -> Result<bool, Cause>
+    ensures said { IfOk result (λ early. spec.early_said (data_at value.entry) ≡ Some early) }
+    ensures refused { IfErr result (λ cause.
+        (cause_number cause ≡ 26) × (spec.early_said (data_at value.entry) ≡ None)) }
+{
+    let Some(value) = value else {
+        return Ok(false);
+    };
+    match value.as_bool() {
+        Some(early) => Ok(early),
+        None => Err(Cause::Malformed(Key::Early)),
+    }
 }
 
 /// The string of a key that has to be there.

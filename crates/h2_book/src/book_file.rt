@@ -18,6 +18,7 @@ use crate::files::{Files, FilesFault};
 use crate::line::{line_at, line_of_answer};
 use crate::table::value_at;
 use h2_request::book::Book;
+use h2_request::fault::BookFault;
 use std::alloc::Global;
 use toml::{Table, Value};
 
@@ -201,6 +202,7 @@ fn add_answer<F: Files>(
     let entry = entry_in(alloc, files, path, answer)?;
     match book.add(entry) {
         Ok(()) => Ok(()),
-        Err(fault) => Err(Cause::Refused(fault)),
+        Err(BookFault::NoMemory) => Err(Cause::NoMemory),
+        Err(BookFault::BadEntry(fault)) => Err(Cause::BadEntry(fault)),
     }
 }

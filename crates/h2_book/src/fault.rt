@@ -6,7 +6,7 @@ ghost use Rattle.h2_book.specs.Faults.{cause_number};
 ghost use Rattle.h2_book.specs.Said.{key_name};
 ghost use Rattle.h2_book.specs.declared.fault.Cause.TheVariants.{NoMemory};
 
-use h2_request::fault::BookFault;
+use h2_request::fault::EntryFault;
 use std::alloc::{AllocError, Global};
 use std::marker::Model;
 use std::{error, fmt};
@@ -24,6 +24,7 @@ pub enum Key {
     BodyHex,
     BodyFile,
     BodyFill,
+    Early,
 }
 
 impl Key {
@@ -41,6 +42,7 @@ impl Key {
             Key::BodyHex => "body-hex",
             Key::BodyFile => "body-file",
             Key::BodyFill => "body-fill",
+            Key::Early => "early",
         }
     }
 
@@ -55,6 +57,7 @@ impl Key {
             Key::BodyFill => {
                 "[count, text], a count that is not negative and a text that is not empty"
             }
+            Key::Early => "true or false",
         }
     }
 }
@@ -89,7 +92,7 @@ pub enum Cause {
     /// A repeated text is too long for a body.
     FillTooLong,
     /// The book refuses the entry.
-    Refused(BookFault),
+    BadEntry(EntryFault),
 }
 
 impl Cause {
@@ -101,7 +104,7 @@ impl Cause {
             Cause::NoMemory => 0,
             Cause::Unread | Cause::FileUnread => 22,
             Cause::FileTooLong | Cause::FillTooLong => 15,
-            Cause::Refused(fault) => fault.number(),
+            Cause::BadEntry(fault) => fault.number(),
             Cause::NoText
             | Cause::NoToml(_)
             | Cause::UnknownTop(_)
@@ -242,7 +245,7 @@ fn write_cause<W: fmt::Write>(cause: &Cause, f: &mut fmt::Formatter<W>) -> fmt::
         Cause::FileUnread => f.write_str("the file of `body-file` can't be read"),
         Cause::FileTooLong => f.write_str("the file of `body-file` has more than 1048576 octets"),
         Cause::FillTooLong => f.write_str("the count of `body-fill` is above 1048576"),
-        Cause::Refused(fault) => write!(f, "{fault}"),
+        Cause::BadEntry(fault) => write!(f, "{fault}"),
     }
 }
 

@@ -59,6 +59,39 @@ static ANSWERS: [(&str, u16, &[u8], usize); 8] = [
     ("/other", 404, b"", 0),
 ];
 
+/// Answers that are early or not, and one that says nothing of it.
+static EARLY: &str = "answer = [
+  { method = 'GET', path = '/early', status = 200, early = true },
+  { method = 'GET', path = '/late', status = 200, early = false },
+  { method = 'GET', path = '/none', status = 200 },
+]";
+
+/// Whether the answer to a GET of a path is early.
+fn is_early(book: &Book<Global>, path: &str) -> bool {
+    let request = Request {
+        connect: false,
+        method: b"GET",
+        path: path.as_bytes(),
+        declared: None,
+    };
+    book.answer(book.find(&request)).early
+}
+
+#[test]
+fn early_answers(rt: HostRuntime) -> Result<(), Fail> {
+    let mut book = Book::new(rt.alloc());
+    add(rt.alloc(), EARLY, &mut book)?;
+    for (path, early) in [
+        ("/early", true),
+        ("/late", false),
+        ("/none", false),
+        ("/other", false),
+    ] {
+        assert_eq!(rt; is_early(&book, path), early, "{path}");
+    }
+    Ok(())
+}
+
 #[test]
 fn bodies(rt: HostRuntime) -> Result<(), Fail> {
     let mut book = Book::new(rt.alloc());

@@ -29,7 +29,7 @@ fn printed(alloc: Global, document: &[u8]) -> Result<(u8, String), AllocError> {
 }
 
 /// The document, the number of the fault, and the sentence.
-static DOCUMENTS: [(&str, u8, &str); 27] = [
+static DOCUMENTS: [(&str, u8, &str); 32] = [
     ("", 0, ""),
     ("# nothing but a comment\n", 0, ""),
     ("answer = []\n", 0, ""),
@@ -94,6 +94,31 @@ static DOCUMENTS: [(&str, u8, &str); 27] = [
         "dir/book.toml, line 1, answer 1: the key `body-fill` has to be [count, text], a count that is not negative and a text that is not empty.",
     ),
     (
+        "[[answer]]\nmethod = \"GET\"\npath = \"/\"\nstatus = 200\nearly = \"true\"\n",
+        26,
+        "dir/book.toml, line 1, answer 1: the key `early` has to be true or false.",
+    ),
+    (
+        "[[answer]]\nmethod = \"GET\"\npath = \"/\"\nstatus = 200\nearly = 1\n",
+        26,
+        "dir/book.toml, line 1, answer 1: the key `early` has to be true or false.",
+    ),
+    (
+        "[[answer]]\nmethod = \"GET\"\npath = \"/\"\nstatus = 200\nearly = [true]\n",
+        26,
+        "dir/book.toml, line 1, answer 1: the key `early` has to be true or false.",
+    ),
+    (
+        "[[answer]]\nmethod = \"GET\"\npath = \"/\"\nstatus = 200\nearly = true\n",
+        0,
+        "",
+    ),
+    (
+        "[[answer]]\nmethod = \"GET\"\npath = \"/\"\nstatus = 199\nearly = false\n",
+        12,
+        "dir/book.toml, line 1, answer 1: the status is outside 200 to 599.",
+    ),
+    (
         "title = \"a site\"\n",
         26,
         "dir/book.toml: the key `title` is unknown, a book has nothing but [[answer]].",
@@ -126,12 +151,12 @@ static DOCUMENTS: [(&str, u8, &str); 27] = [
     (
         "[[answer]]\nmethod = \"GET\"\npath = \"/\"\nstatus = 200\nheaders = [[\"Server\", \"b\"]]\n",
         13,
-        "dir/book.toml, line 1, answer 1: a field may not stand in an answer.",
+        "dir/book.toml, line 1, answer 1: a field is not allowed in an answer.",
     ),
     (
         "[[answer]]\nmethod = \"HEAD\"\npath = \"/\"\nstatus = 200\nbody = \"hi\"\n",
         14,
-        "dir/book.toml, line 1, answer 1: a body may not stand in this answer.",
+        "dir/book.toml, line 1, answer 1: a body is not allowed in this answer.",
     ),
     (
         "[[answer]]\nmethod = \"GET\"\npath = \"/\"\nstatus = 200\nbody-fill = [1048577, \"x\"]\n",

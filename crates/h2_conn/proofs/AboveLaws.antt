@@ -1,5 +1,5 @@
--- How sending in the order of the identifiers goes forward by one stream that waits.
-use Rattle.std.proofs.Common.{◌≡◌, ℕ, zero, suc, ◌-◌, ◌%◌, ◌<◌, ◌≤◌, Bool, true, false, cond, List, [], ◌∷◌, ◌++◌, length, take, drop, refl, sym, ap, subst, ◌∙◌, arith, ltb-false, eqb, eqb-true, Option, Some, None, min, max}
+-- How sending in the order of the identifiers goes forward by one stream that can send.
+use Rattle.std.proofs.Common.{◌≡◌, ℕ, zero, suc, ◌-◌, ◌%◌, ◌<◌, ◌≤◌, Bool, true, false, cond, List, [], ◌∷◌, ◌++◌, length, take, drop, refl, sym, ap, subst, ◌∙◌, arith, ltb-false, eqb, eqb-true, Option, Some, None, min, max, ℤ, pos, negsuc, ◌≤ℤ◌, int_lt}
 use Rattle.std.proofs.lemmas.Bool.{false≢true}
 use Rattle.std.proofs.lemmas.Bool.Decides.{nat_tests}
 use Rattle.std.specs.Prelude.{Result, Ok, Err, IsOk, OnOk, find, nat_lt, ◌&&◌, ◌||◌, not, ◌==◌}
@@ -10,8 +10,10 @@ use Rattle.h2_spec.specs.StreamEnds.{server_ended_as, with_body_remaining}
 use Rattle.h2_spec.specs.Answer.{Entry, picked}
 use Rattle.h2_spec.specs.Window.{sendable}
 use Rattle.h2_streams.specs.Put.{CanPut, is_closed}
-use Rattle.h2_spec.specs.Stream.{AreRising, Records, put, record_of, stream_at, waits_above, octets_waiting, octets_left, next_waiting, id_of, is_live}
+use Rattle.h2_streams.specs.Kept.{is_ready, ready_above, next_ready}
+use Rattle.h2_spec.specs.Stream.{AreRising, Records, put, record_of, stream_at, octets_waiting, octets_left, id_of, is_live}
 use Rattle.h2_spec.specs.SendPending.{allowance, allowance_frames, data_frames, after_sending, sent_frames, all_after_sending, window_left, with_paid}
+use Rattle.std.specs.List.{AllByRecursion}
 use Rattle.std.specs.Option.{option_map}
 use Rattle.h2_conn.specs.Above.{IsWaiting, allowance_above, frames_above, streams_above, left_above}
 
@@ -27,7 +29,7 @@ pub body_frames : (book : List Entry) (size n : ℕ) (st : Stream) (body : List 
 unfolding allowance_frames
 body_frames book size n st body e = ap (λ b. data_frames st.id (octets_waiting st == n) size (take n (drop (length b - octets_waiting st) b))) e
 
-same_stream : (st : Stream) → after_sending 0 st ≡ st
+pub same_stream : (st : Stream) → after_sending 0 st ≡ st
 unfolding after_sending
 same_stream st = refl
 
@@ -35,19 +37,34 @@ no_allowance : (window : ℕ) (st : Stream) → octets_waiting st ≡ 0 → allo
 unfolding allowance
 no_allowance window st e = rw e (omega arith)
 
-less_nothing : (n : ℕ) → n - 0 ≡ n
+shut_allowance : (window : ℕ) (st : Stream) → sendable st.numbers.send ≡ 0 → allowance window st ≡ 0
+unfolding allowance
+shut_allowance window st e = rw e (omega arith)
+
+pub less_nothing : (n : ℕ) → n - 0 ≡ n
 less_nothing n = omega arith
 
-idle : (after window : ℕ) (st : Stream) → waits_above after st ≡ false → allowance_above after window st ≡ 0
+not_above : (z : ℤ) → int_lt (pos 0) z ≡ false → z ≤ℤ pos 0
+not_above z h = grind (arith, h)
+
+shut_at : (z : ℤ) → z ≤ℤ pos 0 → sendable z ≡ 0
+shut_at (pos n) h = grind (arith, h)
+shut_at (negsuc n) h = refl
+
+-- a stream that cannot send has no share
+pub not_ready : (window : ℕ) (st : Stream) → is_ready st ≡ false → allowance window st ≡ 0
+not_ready window st h = by (nat_lt 0 (octets_waiting st)) refl h
+  where
+    by : (t : Bool) → nat_lt 0 (octets_waiting st) ≡ t → (t && int_lt (pos 0) st.numbers.send) ≡ false → allowance window st ≡ 0
+    by false e k = no_allowance window st (grind (arith, nat_tests, e))
+    by true e k = shut_allowance window st (shut_at st.numbers.send (not_above st.numbers.send k))
+
+idle : (after window : ℕ) (st : Stream) → ready_above after st ≡ false → allowance_above after window st ≡ 0
 idle after window st e = at (nat_lt after st.id) e
   where
-    none : (n : ℕ) → nat_lt 0 n ≡ false → n ≡ 0
-    none zero e = refl
-    none (suc n) e = absurd (let h = ltb-false 0 (suc n) e in omega (arith, h))
-
-    at : (t : Bool) → (t && nat_lt 0 (octets_waiting st)) ≡ false → cond t (allowance window st) 0 ≡ 0
+    at : (t : Bool) → (t && is_ready st) ≡ false → cond t (allowance window st) 0 ≡ 0
     at false e = refl
-    at true e = no_allowance window st (none (octets_waiting st) e)
+    at true e = not_ready window st e
 
 -- ---- the order of the records
 
@@ -118,29 +135,29 @@ all_left low last window (x ∷ xs) r =
     let l = r.0 in
     rw over (same_left low x.id x.id last (window - allowance window x) xs r.3 (omega arith) (omega arith) ∙ all_left x.id last (window - allowance window x) xs r.3)
 
--- ---- where none waits, nothing is sent
+-- ---- where none can send, nothing is sent
 
-pub none_frames : (book : List Entry) (size after window : ℕ) (ss : List Stream) → find (waits_above after) ss ≡ None → frames_above book size after window ss ≡ []
+pub none_frames : (book : List Entry) (size after window : ℕ) (ss : List Stream) → find (ready_above after) ss ≡ None → frames_above book size after window ss ≡ []
 none_frames book size after window [] e = refl
-none_frames book size after window (x ∷ xs) e = at (λ g. none_frames book size after window xs g) (waits_above after x) refl e
+none_frames book size after window (x ∷ xs) e = at (λ g. none_frames book size after window xs g) (ready_above after x) refl e
   where
-    at : (find (waits_above after) xs ≡ None → frames_above book size after window xs ≡ []) → (t : Bool) → waits_above after x ≡ t → cond t (Some x) (find (waits_above after) xs) ≡ None → frames_above book size after window (x ∷ xs) ≡ []
+    at : (find (ready_above after) xs ≡ None → frames_above book size after window xs ≡ []) → (t : Bool) → ready_above after x ≡ t → cond t (Some x) (find (ready_above after) xs) ≡ None → frames_above book size after window (x ∷ xs) ≡ []
     at more true w e = absurd (none_some x (sym e))
     at more false w e = rw (idle after window x w, no_frames book size x, less_nothing window) (more e)
 
-pub none_streams : (after window : ℕ) (ss : List Stream) → find (waits_above after) ss ≡ None → streams_above after window ss ≡ ss
+pub none_streams : (after window : ℕ) (ss : List Stream) → find (ready_above after) ss ≡ None → streams_above after window ss ≡ ss
 none_streams after window [] e = refl
-none_streams after window (x ∷ xs) e = at (λ g. none_streams after window xs g) (waits_above after x) refl e
+none_streams after window (x ∷ xs) e = at (λ g. none_streams after window xs g) (ready_above after x) refl e
   where
-    at : (find (waits_above after) xs ≡ None → streams_above after window xs ≡ xs) → (t : Bool) → waits_above after x ≡ t → cond t (Some x) (find (waits_above after) xs) ≡ None → streams_above after window (x ∷ xs) ≡ x ∷ xs
+    at : (find (ready_above after) xs ≡ None → streams_above after window xs ≡ xs) → (t : Bool) → ready_above after x ≡ t → cond t (Some x) (find (ready_above after) xs) ≡ None → streams_above after window (x ∷ xs) ≡ x ∷ xs
     at more true w e = absurd (none_some x (sym e))
     at more false w e = rw (idle after window x w, same_stream x, less_nothing window) (ap (λ sts. x ∷ sts) (more e))
 
-pub none_left : (after window : ℕ) (ss : List Stream) → find (waits_above after) ss ≡ None → left_above after window ss ≡ window
+pub none_left : (after window : ℕ) (ss : List Stream) → find (ready_above after) ss ≡ None → left_above after window ss ≡ window
 none_left after window [] e = refl
-none_left after window (x ∷ xs) e = at (λ g. none_left after window xs g) (waits_above after x) refl e
+none_left after window (x ∷ xs) e = at (λ g. none_left after window xs g) (ready_above after x) refl e
   where
-    at : (find (waits_above after) xs ≡ None → left_above after window xs ≡ window) → (t : Bool) → waits_above after x ≡ t → cond t (Some x) (find (waits_above after) xs) ≡ None → left_above after window (x ∷ xs) ≡ window
+    at : (find (ready_above after) xs ≡ None → left_above after window xs ≡ window) → (t : Bool) → ready_above after x ≡ t → cond t (Some x) (find (ready_above after) xs) ≡ None → left_above after window (x ∷ xs) ≡ window
     at more true w e = absurd (none_some x (sym e))
     at more false w e = rw (idle after window x w, less_nothing window) (more e)
 
@@ -166,22 +183,22 @@ pub spent_left : (after : ℕ) (ss : List Stream) → left_above after 0 ss ≡ 
 spent_left after [] = refl
 spent_left after (x ∷ xs) = rw (no_window after x) (spent_left after xs)
 
--- ---- the first that waits sends its share
+-- ---- the first that can send sends its share
 
 not_above_itself : (n : ℕ) → nat_lt n n ≡ false
 not_above_itself n = grind (arith, nat_tests)
 
-pub waits_is_above : (after : ℕ) (st : Stream) → waits_above after st ≡ true → nat_lt after st.id ≡ true
-waits_is_above after st e = at (nat_lt after st.id) e
+pub ready_is_above : (after : ℕ) (st : Stream) → ready_above after st ≡ true → nat_lt after st.id ≡ true
+ready_is_above after st e = at (nat_lt after st.id) e
   where
-    at : (t : Bool) → (t && nat_lt 0 (octets_waiting st)) ≡ true → t ≡ true
+    at : (t : Bool) → (t && is_ready st) ≡ true → t ≡ true
     at true e = refl
     at false e = absurd (false≢true e)
 
-pub next_frames : (book : List Entry) (size after low last window : ℕ) (ss : List Stream) (st : Stream) → AreRising low last ss → find (waits_above after) ss ≡ Some st →
+pub next_frames : (book : List Entry) (size after low last window : ℕ) (ss : List Stream) (st : Stream) → AreRising low last ss → find (ready_above after) ss ≡ Some st →
     frames_above book size after window ss ≡ allowance_frames book size (allowance window st) st ++ frames_above book size st.id (window - allowance window st) ss
 next_frames book size after low last window [] st r e = absurd (none_some st e)
-next_frames book size after low last window (x ∷ xs) st r e = at (λ g. next_frames book size after x.id last window xs st r.3 g) (waits_above after x) refl e
+next_frames book size after low last window (x ∷ xs) st r e = at (λ g. next_frames book size after x.id last window xs st r.3 g) (ready_above after x) refl e
   where
     v : ℕ
     v = window - allowance window x
@@ -191,21 +208,21 @@ next_frames book size after low last window (x ∷ xs) st r e = at (λ g. next_f
         let same = same_frames book size after x.id x.id last v xs r.3 (grind (arith, nat_tests, over)) (omega arith) in
         rw (over, not_above_itself x.id, no_frames book size x, less_nothing v) (ap (λ fs. allowance_frames book size (allowance window x) x ++ fs) same)
 
-    at : (find (waits_above after) xs ≡ Some st → frames_above book size after window xs ≡ allowance_frames book size (allowance window st) st ++ frames_above book size st.id (window - allowance window st) xs) →
-        (t : Bool) → waits_above after x ≡ t → cond t (Some x) (find (waits_above after) xs) ≡ Some st →
+    at : (find (ready_above after) xs ≡ Some st → frames_above book size after window xs ≡ allowance_frames book size (allowance window st) st ++ frames_above book size st.id (window - allowance window st) xs) →
+        (t : Bool) → ready_above after x ≡ t → cond t (Some x) (find (ready_above after) xs) ≡ Some st →
         frames_above book size after window (x ∷ xs) ≡ allowance_frames book size (allowance window st) st ++ frames_above book size st.id (window - allowance window st) (x ∷ xs)
     at more true w e =
         let P : Stream → Type 0 = λ y. frames_above book size after window (x ∷ xs) ≡ allowance_frames book size (allowance window y) y ++ frames_above book size y.id (window - allowance window y) (x ∷ xs) in
-        subst P (some_same x st e) (here (waits_is_above after x w))
+        subst P (some_same x st e) (here (ready_is_above after x w))
     at more false w e =
-        let behind = found_above (waits_above after) x.id last xs st r.3 e in
+        let behind = found_above (ready_above after) x.id last xs st r.3 e in
         let under : nat_lt st.id x.id ≡ false = grind (arith, nat_tests, behind) in
         rw (idle after window x w, under, no_frames book size x, less_nothing window, less_nothing (window - allowance window st)) (more e)
 
-pub next_left : (after low last window : ℕ) (ss : List Stream) (st : Stream) → AreRising low last ss → find (waits_above after) ss ≡ Some st →
+pub next_left : (after low last window : ℕ) (ss : List Stream) (st : Stream) → AreRising low last ss → find (ready_above after) ss ≡ Some st →
     left_above after window ss ≡ left_above st.id (window - allowance window st) ss
 next_left after low last window [] st r e = absurd (none_some st e)
-next_left after low last window (x ∷ xs) st r e = at (λ g. next_left after x.id last window xs st r.3 g) (waits_above after x) refl e
+next_left after low last window (x ∷ xs) st r e = at (λ g. next_left after x.id last window xs st r.3 g) (ready_above after x) refl e
   where
     v : ℕ
     v = window - allowance window x
@@ -215,13 +232,13 @@ next_left after low last window (x ∷ xs) st r e = at (λ g. next_left after x.
         let same = same_left after x.id x.id last v xs r.3 (grind (arith, nat_tests, over)) (omega arith) in
         rw (over, not_above_itself x.id, less_nothing v) same
 
-    at : (find (waits_above after) xs ≡ Some st → left_above after window xs ≡ left_above st.id (window - allowance window st) xs) →
-        (t : Bool) → waits_above after x ≡ t → cond t (Some x) (find (waits_above after) xs) ≡ Some st → left_above after window (x ∷ xs) ≡ left_above st.id (window - allowance window st) (x ∷ xs)
+    at : (find (ready_above after) xs ≡ Some st → left_above after window xs ≡ left_above st.id (window - allowance window st) xs) →
+        (t : Bool) → ready_above after x ≡ t → cond t (Some x) (find (ready_above after) xs) ≡ Some st → left_above after window (x ∷ xs) ≡ left_above st.id (window - allowance window st) (x ∷ xs)
     at more true w e =
         let P : Stream → Type 0 = λ y. left_above after window (x ∷ xs) ≡ left_above y.id (window - allowance window y) (x ∷ xs) in
-        subst P (some_same x st e) (here (waits_is_above after x w))
+        subst P (some_same x st e) (here (ready_is_above after x w))
     at more false w e =
-        let behind = found_above (waits_above after) x.id last xs st r.3 e in
+        let behind = found_above (ready_above after) x.id last xs st r.3 e in
         let under : nat_lt st.id x.id ≡ false = grind (arith, nat_tests, behind) in
         rw (idle after window x w, under, less_nothing window, less_nothing (window - allowance window st)) (more e)
 
@@ -246,10 +263,10 @@ id-after_sending n st = at (n == 0) (octets_waiting st == n) st.kind
     at false true kind = ended kind
     at false false kind = refl
 
-pub next_streams : (after low last window : ℕ) (ss : List Stream) (st : Stream) → AreRising low last ss → find (waits_above after) ss ≡ Some st →
+pub next_streams : (after low last window : ℕ) (ss : List Stream) (st : Stream) → AreRising low last ss → find (ready_above after) ss ≡ Some st →
     streams_above after window ss ≡ streams_above st.id (window - allowance window st) (put (after_sending (allowance window st) st) ss)
 next_streams after low last window [] st r e = absurd (none_some st e)
-next_streams after low last window (x ∷ xs) st r e = at (λ g. next_streams after x.id last window xs st r.3 g) (waits_above after x) refl e
+next_streams after low last window (x ∷ xs) st r e = at (λ g. next_streams after x.id last window xs st r.3 g) (ready_above after x) refl e
   where
     v : ℕ
     v = window - allowance window x
@@ -266,14 +283,14 @@ next_streams after low last window (x ∷ xs) st r e = at (λ g. next_streams af
         let under : nat_lt x.id new.id ≡ false = let e = id-after_sending (allowance window x) x in grind (arith, nat_tests, e) in
         rw (over, same_id, under, same_stream new, less_nothing v) (ap (λ sts. new ∷ sts) same)
 
-    at : (find (waits_above after) xs ≡ Some st → streams_above after window xs ≡ streams_above st.id (window - allowance window st) (put (after_sending (allowance window st) st) xs)) →
-        (t : Bool) → waits_above after x ≡ t → cond t (Some x) (find (waits_above after) xs) ≡ Some st →
+    at : (find (ready_above after) xs ≡ Some st → streams_above after window xs ≡ streams_above st.id (window - allowance window st) (put (after_sending (allowance window st) st) xs)) →
+        (t : Bool) → ready_above after x ≡ t → cond t (Some x) (find (ready_above after) xs) ≡ Some st →
         streams_above after window (x ∷ xs) ≡ streams_above st.id (window - allowance window st) (put (after_sending (allowance window st) st) (x ∷ xs))
     at more true w e =
         let P : Stream → Type 0 = λ y. streams_above after window (x ∷ xs) ≡ streams_above y.id (window - allowance window y) (put (after_sending (allowance window y) y) (x ∷ xs)) in
-        subst P (some_same x st e) (here (waits_is_above after x w))
+        subst P (some_same x st e) (here (ready_is_above after x w))
     at more false w e =
-        let behind = found_above (waits_above after) x.id last xs st r.3 e in
+        let behind = found_above (ready_above after) x.id last xs st r.3 e in
         let under : nat_lt st.id x.id ≡ false = grind (arith, nat_tests, behind) in
         let other : eqb x.id (after_sending (allowance window st) st).id ≡ false = let i = id-after_sending (allowance window st) st in grind (arith, nat_tests, behind, i) in
         rw (idle after window x w, other, under, same_stream x, less_nothing window, less_nothing (window - allowance window st)) (ap (λ sts. x ∷ sts) (more e))
@@ -291,7 +308,7 @@ put_left after window (y ∷ ys) x under = at (put_left after (window - allowanc
     at more true same = behind (ap (λ i. nat_lt after i) (same refl) ∙ under)
     at more false same = more
 
-pub next_left_put : (after low last window : ℕ) (ss : List Stream) (st : Stream) → AreRising low last ss → find (waits_above after) ss ≡ Some st →
+pub next_left_put : (after low last window : ℕ) (ss : List Stream) (st : Stream) → AreRising low last ss → find (ready_above after) ss ≡ Some st →
     left_above after window ss ≡ left_above st.id (window - allowance window st) (put (after_sending (allowance window st) st) ss)
 next_left_put after low last window ss st r e =
     let n = allowance window st in
@@ -326,20 +343,19 @@ found_stream p last ss st r e =
     let known : nat_lt last st.id ≡ false = let w = m.2 in grind (arith, nat_tests, w) in
     rw (odd, known, m.0) refl
 
--- the first that waits is the stream with the identifier that is found
-pub next_is : (after last : ℕ) (ss : List Stream) (id : ℕ) → AreRising 0 last ss → next_waiting after ss ≡ Some id → find (waits_above after) ss ≡ Some (stream_at last ss id)
-unfolding next_waiting
-next_is after last ss id r e = at (find (waits_above after) ss) refl e
+-- the first that can send is the stream with the identifier that is found
+pub next_is : (after last : ℕ) (ss : List Stream) (id : ℕ) → AreRising 0 last ss → next_ready after ss ≡ Some id → find (ready_above after) ss ≡ Some (stream_at last ss id)
+next_is after last ss id r e = at (find (ready_above after) ss) refl e
   where
-    at : (o : Option Stream) → find (waits_above after) ss ≡ o → option_map id_of o ≡ Some id → o ≡ Some (stream_at last ss id)
+    at : (o : Option Stream) → find (ready_above after) ss ≡ o → option_map id_of o ≡ Some id → o ≡ Some (stream_at last ss id)
     at None f e = absurd (none_some id e)
-    at (Some st) f e = ap (λ x. Some x) (sym (ap (λ i. stream_at last ss i) (sym (some_same st.id id e)) ∙ found_stream (waits_above after) last ss st r f))
+    at (Some st) f e = ap (λ x. Some x) (sym (ap (λ i. stream_at last ss i) (sym (some_same st.id id e)) ∙ found_stream (ready_above after) last ss st r f))
 
-waits_is_live : (after : ℕ) (st : Stream) → waits_above after st ≡ true → is_live st.kind ≡ true
+ready_is_live : (after : ℕ) (st : Stream) → ready_above after st ≡ true → is_live st.kind ≡ true
 unfolding octets_waiting
-waits_is_live after st e = at (nat_lt after st.id) (is_live st.kind) e
+ready_is_live after st e = at (nat_lt after st.id) (is_live st.kind) e
   where
-    at : (a b : Bool) → (a && nat_lt 0 (cond b (octets_left st.numbers.body_remaining) 0)) ≡ true → b ≡ true
+    at : (a b : Bool) → (a && (nat_lt 0 (cond b (octets_left st.numbers.body_remaining) 0) && int_lt (pos 0) st.numbers.send)) ≡ true → b ≡ true
     at true true e = refl
     at true false e = absurd (false≢true e)
     at false b e = absurd (false≢true e)
@@ -352,15 +368,15 @@ found_passes p (x ∷ xs) st e = at (λ g. found_passes p xs st g) (p x) refl e
     at more true w e = let P : Stream → Type 0 = λ y. p y ≡ true in subst P (some_same x st e) w
     at more false w e = more e
 
--- what is known of the first that waits
-pub next_known : (after last : ℕ) (ss : List Stream) (st : Stream) → AreRising 0 last ss → find (waits_above after) ss ≡ Some st → IsWaiting last ss st
+-- what is known of the first that can send
+pub next_known : (after last : ℕ) (ss : List Stream) (st : Stream) → AreRising 0 last ss → find (ready_above after) ss ≡ Some st → IsWaiting last ss st
 next_known after last ss st r e =
-    let m = found_record (waits_above after) 0 last ss st r e in
-    let w = found_passes (waits_above after) ss st e in
-    record { within = m.2; odd = m.1; live = waits_is_live after st w; found = found_stream (waits_above after) last ss st r e }
+    let m = found_record (ready_above after) 0 last ss st r e in
+    let w = found_passes (ready_above after) ss st e in
+    record { within = m.2; odd = m.1; live = ready_is_live after st w; found = found_stream (ready_above after) last ss st r e }
 
-pub next_above : (after : ℕ) (ss : List Stream) (st : Stream) → find (waits_above after) ss ≡ Some st → after < st.id
-next_above after ss st e = let w = waits_is_above after st (found_passes (waits_above after) ss st e) in grind (arith, nat_tests, w)
+pub next_above : (after : ℕ) (ss : List Stream) (st : Stream) → find (ready_above after) ss ≡ Some st → after < st.id
+next_above after ss st e = let w = ready_is_above after st (found_passes (ready_above after) ss st e) in grind (arith, nat_tests, w)
 
 -- the record after it has sent can be put in its place
 pub can_put : (n last : ℕ) (ss : List Stream) (st x : Stream) → IsWaiting last ss st → x ≡ after_sending n st → CanPut x (record { streams = ss; last = last })
@@ -392,7 +408,7 @@ on_ok (Err e) P h o = absurd (false≢true h)
 
 -- ---- what is left of the window
 
-allowance_within : (window : ℕ) (st : Stream) → allowance window st ≤ window
+pub allowance_within : (window : ℕ) (st : Stream) → allowance window st ≤ window
 unfolding allowance
 allowance_within window st = omega arith
 
@@ -400,3 +416,18 @@ pub left_within : (window : ℕ) (ss : List Stream) → window_left window ss �
 unfolding window_left
 left_within window [] = omega arith
 left_within window (st ∷ sts) = let m = left_within (window - allowance window st) sts in omega (arith, m, allowance_within window st)
+
+-- ---- what is found
+
+-- what is true of all is true of the one that is found
+pub found_all : (P : Stream → Type 0) (p : Stream → Bool) (ss : List Stream) (st : Stream) → AllByRecursion P ss → find p ss ≡ Some st → P st
+found_all P p [] st all e = absurd (none_some st e)
+found_all P p (x ∷ xs) st all e = at (λ g. found_all P p xs st all.1 g) (p x) e
+  where
+    at : (find p xs ≡ Some st → P st) → (t : Bool) → cond t (Some x) (find p xs) ≡ Some st → P st
+    at more true e = subst P (some_same x st e) all.0
+    at more false e = more e
+
+-- what is found is not above the last stream
+pub found_within : (p : Stream → Bool) (last : ℕ) (ss : List Stream) (st : Stream) → AreRising 0 last ss → find p ss ≡ Some st → st.id ≤ last
+found_within p last ss st r e = (found_record p 0 last ss st r e).2

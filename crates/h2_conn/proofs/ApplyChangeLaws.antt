@@ -1,7 +1,8 @@
--- A change is made: what the records have to be for it, and what its two passes result in.
-use Rattle.std.proofs.Common.{◌≡◌, ℕ, ◌++◌, List, refl, sym, ap, subst, ◌∙◌, append-nil, append_assoc}
+-- A change is made: what the records have to be for it, and what it results in.
+use Rattle.std.proofs.Common.{◌≡◌, ℕ, ◌-◌, ◌++◌, List, [], ◌∷◌, refl, sym, ap, subst, ◌∙◌, arith, append-nil, append_assoc, ℤ, pos, ◌-ℤ◌}
 use Rattle.std.proofs.lemmas.Grind.{flat_map-append}
 use Rattle.std.specs.Prelude.{Option}
+use Rattle.std.specs.List.{AllByRecursion}
 use Rattle.h2_spec.specs.declared.connection.ConnectionState.{ConnectionState}
 use Rattle.h2_spec.specs.declared.connection.Phase.{Phase}
 use Rattle.h2_spec.specs.declared.connection.Phase.TheVariants as phase
@@ -12,17 +13,18 @@ use Rattle.h2_spec.specs.declared.streams.Stream.{Stream}
 use Rattle.h2_spec.specs.Answer.{Entry}
 use Rattle.h2_spec.specs.Change.{Step, frames_of, made, updated_streams}
 use Rattle.h2_spec.specs.Frame.{Frame, frame_octets, frames_octets}
-use Rattle.h2_spec.specs.SendPending.{send_pending}
+use Rattle.h2_spec.specs.SendPending.{all_after_sending, send_pending, sent_frames, window_left}
 use Rattle.h2_spec.specs.State.{OpenBlock, State}
 use Rattle.h2_spec.specs.Stream.{Records}
 use Rattle.h2_spec.specs.Trace.{then_sent}
-use Rattle.h2_spec.specs.Window.{sendable}
 use Rattle.h2_conn.specs.Blocks.{IsOpenFor}
 use Rattle.h2_conn.specs.Does.{AreShort, Does}
-use Rattle.h2_conn.specs.Sending.{all_frames, core_after, core_after_as, records_after, streams_after, streams_after_as, waiting_frames_as, CanApply}
-use Rattle.h2_rules.specs.Sound.{IsSoundChange, IsSoundState, IsSoundRecordUpdate, updated_records}
+use Rattle.h2_conn.specs.Sending.{all_frames, core_after, open_window, open_window_as, records_after, sent_count, streams_after, CanApply, CanSend, CanUndo}
+use Rattle.h2_rules.specs.Sound.{AreSound, HasBody, IsSoundChange, IsSoundState, IsSoundRecordUpdate, updated_records}
+use Rattle.h2_conn.proofs.AloneLaws.{after-none, none-spent, sent-none}
 use Rattle.h2_conn.proofs.KindLaws.{open-after-sending}
-use Rattle.h2_rules.proofs.SoundLaws.{update-can-shift, updated-streams}
+use Rattle.h2_conn.proofs.UndoLaws.{can-shift-back, overflow-back}
+use Rattle.h2_rules.proofs.SoundLaws.{changed-sound, update-can-shift, updated-streams}
 
 -- frames, and then others
 pub in-outcome : (out out' out'' : List ℕ) (fs gs : List Frame) → out' ≡ out ++ frames_octets fs → out'' ≡ out' ++ frames_octets gs → out'' ≡ out ++ frames_octets (fs ++ gs)
@@ -35,7 +37,7 @@ pub inside-sound : (book : List Entry) (core : ConnectionState) (r : Records) (c
     IsSoundChange book (record { streams = r.streams; last = core.last }) core.peer.window c → IsSoundChange book r core.peer.window c
 inside-sound book core r c state sound = subst (λ (l : ℕ). IsSoundChange book (record { streams = r.streams; last = l }) core.peer.window c) (sym state.last) sound
 
-pub can-apply : (book : List Entry) (core : ConnectionState) (r : Records) (c : Change) → IsSoundState book core r → IsSoundChange book r core.peer.window c → CanApply r c.record_update
+can-apply : (book : List Entry) (core : ConnectionState) (r : Records) (c : Change) → IsSoundState book core r → IsSoundChange book r core.peer.window c → CanApply r c.record_update
 can-apply book core r c state sound = at c.record_update sound.1
   where
     at : (t : RecordUpdate) → IsSoundRecordUpdate book r core.peer.window c.core t → CanApply r t
@@ -43,15 +45,39 @@ can-apply book core r c state sound = at c.record_update sound.1
     at (Put st) h = h.3
     at (Shift from to) h = update-can-shift book core c.core r from to state h
 
+can-undo : (book : List Entry) (core : ConnectionState) (r : Records) (c : Change) → IsSoundState book core r → IsSoundChange book r core.peer.window c → CanUndo r c.record_update
+can-undo book core r c state sound = at c.record_update sound.1
+  where
+    at : (t : RecordUpdate) → IsSoundRecordUpdate book r core.peer.window c.core t → CanUndo r t
+    at Unchanged h = tt
+    at (Put st) h = tt
+    at (Shift from to) h =
+        let before : AreSound book from r.streams = subst (λ w. AreSound book w r.streams) (sym h.1) state.records in
+        (can-shift-back book from to r.streams before, overflow-back book from to r.streams before)
+
+sound-bodies : (book : List Entry) (w : ℕ) (ss : List Stream) → AreSound book w ss → AllByRecursion (HasBody book) ss
+sound-bodies book w [] s = tt
+sound-bodies book w (x ∷ xs) s = (s.0.1, sound-bodies book w xs s.1)
+
+-- a sound change of the records can be made and undone, and what waits after it can be sent
+pub can-send : (book : List Entry) (core : ConnectionState) (r : Records) (c : Change) → IsSoundState book core r → IsSoundChange book r core.peer.window c → CanSend book r c.record_update
+can-send book core r c state sound =
+    let after = changed-sound book core r c state sound in
+    record {
+      made = can-apply book core r c state sound;
+      undone = can-undo book core r c state sound;
+      bodies = subst (AllByRecursion (HasBody book)) (updated-streams c.record_update r) (sound-bodies book c.core.peer.window (updated_records c.record_update r).streams after.records);
+    }
+
 -- what is known of an open block is known of it after sending
 pub open-after : (core : ConnectionState) (r : Records) (b : Option OpenBlock) → IsOpenFor r b → IsOpenFor (records_after core r) b
-open-after core r b h = at core.phase
-  where
-    at : (ph : Phase) → IsOpenFor (record r { streams = streams_after_as ph core r.streams }) b
-    at phase.Preface = open-after-sending r (sendable core.send) b h
-    at phase.Settings = open-after-sending r (sendable core.send) b h
-    at phase.Running = open-after-sending r (sendable core.send) b h
-    at (phase.Ended code) = h
+open-after core r b h = open-after-sending r (open_window core) b h
+
+no-count : (n : ℕ) → 0 - n ≡ 0
+no-count n = omega arith
+
+not-less : (z : ℤ) → z -ℤ pos 0 ≡ z
+not-less z = grind arith
 
 -- a change, and then what waits is sent, by the parts of the state
 pub made-then : (s : State) (p : List ℕ) (c : Change) → then_sent c.core.phase (made s p c) ≡
@@ -62,24 +88,42 @@ made-then s p c = at c.core.phase
     now : List Stream
     now = updated_streams c.record_update s.streams
 
-    at : (ph : Phase) → then_sent ph (made s p c) ≡
-        record { state = record s { core = core_after_as ph c.core now; streams = streams_after_as ph c.core now }; sent = frames_of s.book p c ++ waiting_frames_as ph s.book c.core now }
+    counted : ℕ → ConnectionState
+    counted n = record c.core { send = c.core.send -ℤ pos n }
+
+    parts : ConnectionState → List Stream → List Frame → Step
+    parts core streams frames = record { state = record s { core = core; streams = streams }; sent = frames_of s.book p c ++ frames }
+
+    sending : ℕ → Step
+    sending w = parts (counted (w - window_left w now)) (all_after_sending w now) (sent_frames s.book c.core.peer.frame w now)
+
+    nothing : counted (0 - window_left 0 now) ≡ c.core
+    nothing = ap counted (no-count (window_left 0 now)) ∙ ap (λ (z : ℤ). let k : ConnectionState = record c.core { send = z } in k) (not-less c.core.send)
+
+    at : (ph : Phase) → then_sent ph (made s p c) ≡ sending (open_window_as ph c.core)
     at phase.Preface = refl
     at phase.Settings = refl
     at phase.Running = refl
-    at (phase.Ended code) = ap (λ (fs : List Frame). record { state = record s { core = c.core; streams = now }; sent = fs }) (sym (append-nil (frames_of s.book p c)))
+    at (phase.Ended code) =
+        ap (λ (fs : List Frame). let t : Step = record { state = record s { core = c.core; streams = now }; sent = fs } in t) (sym (append-nil (frames_of s.book p c)))
+        ∙ ap (λ (k : ConnectionState). parts k now []) (sym nothing)
+        ∙ ap (λ (ss : List Stream). parts (counted (0 - window_left 0 now)) ss []) (sym (after-none 0 now (none-spent now)))
+        ∙ ap (λ (fs : List Frame). parts (counted (0 - window_left 0 now)) (all_after_sending 0 now) fs) (sym (sent-none s.book c.core.peer.frame 0 now (none-spent now)))
 
--- what the passes leave is what the definitions say
-pub did : (s : State) (p : List ℕ) (c : Change) (r mid now : Records) (core : ConnectionState) (out out' : List ℕ) → s.streams ≡ r.streams → mid ≡ updated_records c.record_update r → core ≡ core_after c.core mid.streams →
-    now ≡ records_after c.core mid → out' ≡ out ++ frames_octets (all_frames s.book p c s.streams) → AreShort (all_frames s.book p c s.streams) →
+-- the counts with so many octets taken
+pub counts-sent : (core : ConnectionState) (streams : List Stream) (n : ℕ) (now : ConnectionState) → n ≡ sent_count core streams → now ≡ record core { send = core.send -ℤ pos n } → now ≡ core_after core streams
+counts-sent core streams n now count is = is ∙ ap (λ (k : ℕ). let x : ConnectionState = record core { send = core.send -ℤ pos k } in x) count
+
+-- what is done is what the definitions say
+pub did : (s : State) (p : List ℕ) (c : Change) (r now : Records) (core : ConnectionState) (out out' : List ℕ) → s.streams ≡ r.streams → core ≡ core_after c.core (updated_streams c.record_update s.streams) →
+    now ≡ records_after c.core (updated_records c.record_update r) → out' ≡ out ++ frames_octets (all_frames s.book p c s.streams) → AreShort (all_frames s.book p c s.streams) →
     Does (then_sent c.core.phase (made s p c)) out (record s { core = core; streams = now.streams }) out'
-did s p c r mid now core out out' held touching counts sending sent short =
-    let streams : mid.streams ≡ updated_streams c.record_update s.streams = ap (λ (x : Records). x.streams) touching ∙ updated-streams c.record_update r ∙ ap (updated_streams c.record_update) (sym held) in
+did s p c r now core out out' held counts sending sent short =
+    let streams : (updated_records c.record_update r).streams ≡ updated_streams c.record_update s.streams = updated-streams c.record_update r ∙ ap (updated_streams c.record_update) (sym held) in
     let after = ap (λ (x : Records). x.streams) sending ∙ ap (streams_after c.core) streams in
-    let paid = counts ∙ ap (core_after c.core) streams in
     subst (λ (step : Step). Does step out (record s { core = core; streams = now.streams }) out') (sym (made-then s p c))
     (record {
-      state = ap (λ (k : ConnectionState). record s { core = k; streams = now.streams }) paid ∙ ap (λ (ss : List Stream). record s { core = core_after c.core (updated_streams c.record_update s.streams); streams = ss }) after;
+      state = ap (λ (k : ConnectionState). record s { core = k; streams = now.streams }) counts ∙ ap (λ (ss : List Stream). record s { core = core_after c.core (updated_streams c.record_update s.streams); streams = ss }) after;
       sent = sent;
       short = short;
     })

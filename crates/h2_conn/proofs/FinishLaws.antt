@@ -2,8 +2,6 @@
 use Rattle.std.proofs.Common.{◌≡◌, ℕ, List, ◌++◌, refl, sym, ap, subst, ◌∙◌}
 use Rattle.std.specs.Prelude.{Option}
 use Rattle.h2_spec.specs.declared.connection.ConnectionState.{ConnectionState}
-use Rattle.h2_spec.specs.declared.connection.Phase.{Phase}
-use Rattle.h2_spec.specs.declared.connection.Phase.TheVariants as phase
 use Rattle.h2_spec.specs.declared.reactions.Change.{Change}
 use Rattle.h2_spec.specs.declared.reactions.RecordUpdate.{RecordUpdate}
 use Rattle.h2_spec.specs.declared.reactions.RecordUpdate.TheVariants.{Unchanged, Put, Shift}
@@ -17,7 +15,7 @@ use Rattle.h2_spec.specs.Stream.{Records}
 use Rattle.h2_spec.specs.Trace.{then_sent}
 use Rattle.h2_conn.specs.Blocks.{IsOpenFor}
 use Rattle.h2_conn.specs.Does.{AreShort, Does}
-use Rattle.h2_conn.specs.Sending.{core_after, core_after_as, records, records_after, streams_after}
+use Rattle.h2_conn.specs.Sending.{core_after, records, records_after, streams_after}
 use Rattle.h2_rules.specs.Sound.{IsSoundChange, IsSoundRecordUpdate, updated_records}
 use Rattle.h2_conn.proofs.ApplyChangeLaws.{made-then, open-after}
 use Rattle.h2_rules.proofs.SoundLaws.{updated-streams}
@@ -51,15 +49,6 @@ updated-last book r window now Unchanged h = sym h.1
 updated-last book r window now (Put st) h = sym h.4
 updated-last book r window now (Shift from to) h = sym h.3
 
-after-last : (core : ConnectionState) (streams : List Stream) → (core_after core streams).last ≡ core.last
-after-last core streams = at core.phase
-  where
-    at : (ph : Phase) → (core_after_as ph core streams).last ≡ core.last
-    at phase.Preface = refl
-    at phase.Settings = refl
-    at phase.Running = refl
-    at (phase.Ended code) = refl
-
 -- an open block that is known with the records after the change is known with those after sending
 pub open-then : (s now : State) (r : Records) (p : List ℕ) (c : Change) (b : Option OpenBlock) (out out' : List ℕ) → IsSoundChange s.book (records s) s.core.peer.window c →
     IsOpenFor (updated_records c.record_update (records s)) b → Does (then_sent c.core.phase (made s p c)) out now out' → now.streams ≡ r.streams → r.last ≡ now.core.last → IsOpenFor r b
@@ -69,7 +58,7 @@ open-then s now r p c b out out' sound opened d held last =
     let streams : (records_after c.core mid).streams ≡ r.streams =
     ap (streams_after c.core) (updated-streams c.record_update (records s)) ∙ sym (ap (λ (x : State). x.streams) is) ∙ held in
     let counts : mid.last ≡ r.last =
-    updated-last s.book (records s) s.core.peer.window c.core c.record_update sound.1 ∙ sym (after-last c.core (updated_streams c.record_update s.streams)) ∙ sym (ap (λ (x : State). x.core.last) is) ∙ sym last in
+    updated-last s.book (records s) s.core.peer.window c.core c.record_update sound.1 ∙ sym (ap (λ (x : State). x.core.last) is) ∙ sym last in
     let same : records_after c.core mid ≡ r =
     ap (λ (ss : List Stream). record (records_after c.core mid) { streams = ss }) streams ∙ ap (λ (l : ℕ). record { streams = r.streams; last = l }) counts in
     subst (λ (x : Records). IsOpenFor x b) same (open-after c.core mid b opened)

@@ -1,4 +1,5 @@
 mod AboveLaws
+mod AloneLaws
 mod FinishLaws
 mod FragmentLaws
 mod GrantedLaws
@@ -10,9 +11,9 @@ mod PartLaws
 pub mod Phases
 mod PiecesLaws
 mod Plays
-mod PreviewLaws
 pub mod Runs
 pub mod Shortest
 mod SentLaws
 mod ShortLaws
 mod TentativeLaws
+mod UndoLaws

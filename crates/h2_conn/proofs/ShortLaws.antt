@@ -2,9 +2,6 @@
 use Rattle.std.proofs.Common.{ℕ, zero, suc, ◌-◌, ◌<◌, ◌^◌, List, [], ◌∷◌, ◌++◌, Bool, false, length, take, drop, leb-true, arith, length-take}
 use Rattle.std.proofs.lemmas.Bool.{cond_both}
 use Rattle.std.specs.Prelude.{nat_le}
-use Rattle.h2_spec.specs.declared.connection.ConnectionState.{ConnectionState}
-use Rattle.h2_spec.specs.declared.connection.Phase.{Phase}
-use Rattle.h2_spec.specs.declared.connection.Phase.TheVariants as phase
 use Rattle.h2_spec.specs.declared.reactions.ConnectionFrame.{ConnectionFrame}
 use Rattle.h2_spec.specs.declared.reactions.ConnectionFrame.TheVariants.{NoConnectionFrame, SettingsAck, PingAck, Credit}
 use Rattle.h2_spec.specs.declared.reactions.StreamFrame.{StreamFrame}
@@ -14,9 +11,7 @@ use Rattle.h2_spec.specs.Answer.{Entry}
 use Rattle.h2_spec.specs.Change.{first_frames, second_frames}
 use Rattle.h2_spec.specs.Frame.{Frame}
 use Rattle.h2_spec.specs.SendPending.{data_frames, data_upto, piece, sent_frames, allowance, allowance_frames}
-use Rattle.h2_spec.specs.Window.{sendable}
 use Rattle.h2_conn.specs.Does.{AreShort}
-use Rattle.h2_conn.specs.Sending.{waiting_frames, waiting_frames_as}
 
 pub short-append : (fs gs : List Frame) → AreShort fs → AreShort gs → AreShort (fs ++ gs)
 short-append [] gs h k = k
@@ -46,18 +41,9 @@ share_frames-short : (book : List Entry) (size n : ℕ) (st : Stream) → size <
 unfolding allowance_frames data_frames
 share_frames-short book size n st h = data_upto-short _ _ _ size _ h
 
-sent_frames-short : (book : List Entry) (size window : ℕ) (sts : List Stream) → size < 2 ^ 24 → AreShort (sent_frames book size window sts)
+pub sent_frames-short : (book : List Entry) (size window : ℕ) (sts : List Stream) → size < 2 ^ 24 → AreShort (sent_frames book size window sts)
 unfolding sent_frames
 sent_frames-short book size window [] h = tt
 sent_frames-short book size window (st ∷ sts) h =
     short-append (allowance_frames book size (allowance window st) st) (sent_frames book size (window - allowance window st) sts)
     (share_frames-short book size (allowance window st) st h) (sent_frames-short book size (window - allowance window st) sts h)
-
-pub waiting_frames-short : (book : List Entry) (core : ConnectionState) (sts : List Stream) → core.peer.frame < 2 ^ 24 → AreShort (waiting_frames book core sts)
-waiting_frames-short book core sts h = at core.phase
-  where
-    at : (ph : Phase) → AreShort (waiting_frames_as ph book core sts)
-    at phase.Preface = sent_frames-short book core.peer.frame (sendable core.send) sts h
-    at phase.Settings = sent_frames-short book core.peer.frame (sendable core.send) sts h
-    at phase.Running = sent_frames-short book core.peer.frame (sendable core.send) sts h
-    at (phase.Ended code) = tt

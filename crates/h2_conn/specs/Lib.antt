@@ -6,6 +6,5 @@ pub mod Faults
 pub mod Fragments
 pub mod Granted
 pub mod Parted
-pub mod Preview
 pub mod Runs
 pub mod Sending

@@ -1,5 +1,5 @@
 -- What a change and the sending behind it result in.
-use Rattle.std.specs.Prelude.{◌≡◌, ℕ, false, List, [], ◌++◌, ◌-◌, pos, ◌-ℤ◌}
+use Rattle.std.specs.Prelude.{◌≡◌, ℕ, false, List, ◌++◌, ◌-◌, pos, ◌-ℤ◌}
 use Rattle.std.specs.List.{AllByRecursion}
 use Rattle.h2_spec.specs.declared.connection.ConnectionState.{ConnectionState}
 use Rattle.h2_spec.specs.declared.connection.Phase.{Phase}
@@ -11,46 +11,39 @@ use Rattle.h2_spec.specs.declared.streams.Stream.{Stream}
 use Rattle.h2_streams.specs.Put.{CanPut}
 use Rattle.h2_streams.specs.Shift.{CanShift}
 use Rattle.h2_spec.specs.Answer.{Entry}
-use Rattle.h2_spec.specs.Change.{frames_of, moved_by, overflows, updated_streams}
+use Rattle.h2_spec.specs.Change.{frames_of, moved_by, overflows, shifted, updated_streams}
 use Rattle.h2_spec.specs.Frame.{Frame}
-use Rattle.h2_spec.specs.SendPending.{sent_frames, all_after_sending, window_left}
+use Rattle.h2_spec.specs.SendPending.{allowance, sent_frames, all_after_sending, window_left}
 use Rattle.h2_spec.specs.State.{State}
 use Rattle.h2_spec.specs.Stream.{Records}
 use Rattle.h2_spec.specs.Window.{sendable}
+use Rattle.h2_rules.specs.Sound.{HasBody}
 
--- what waits on records is sent with these counts, unless the connection has ended
-abbrev pub waiting_frames_as : Phase → List Entry → ConnectionState → List Stream → List Frame
-waiting_frames_as phase.Preface book core streams = sent_frames book core.peer.frame (sendable core.send) streams
-waiting_frames_as phase.Settings book core streams = sent_frames book core.peer.frame (sendable core.send) streams
-waiting_frames_as phase.Running book core streams = sent_frames book core.peer.frame (sendable core.send) streams
-waiting_frames_as (phase.Ended code) book core streams = []
+-- the octets that the connection's window lets pass: none once the connection has ended
+abbrev pub open_window_as : Phase → ConnectionState → ℕ
+open_window_as phase.Preface core = sendable core.send
+open_window_as phase.Settings core = sendable core.send
+open_window_as phase.Running core = sendable core.send
+open_window_as (phase.Ended code) core = 0
 
+abbrev pub open_window : ConnectionState → ℕ
+open_window core = open_window_as core.phase core
+
+-- what waits on records is sent with these counts
 abbrev pub waiting_frames : List Entry → ConnectionState → List Stream → List Frame
-waiting_frames book core streams = waiting_frames_as core.phase book core streams
+waiting_frames book core streams = sent_frames book core.peer.frame (open_window core) streams
 
 -- the records after it
-abbrev pub streams_after_as : Phase → ConnectionState → List Stream → List Stream
-streams_after_as phase.Preface core streams = all_after_sending (sendable core.send) streams
-streams_after_as phase.Settings core streams = all_after_sending (sendable core.send) streams
-streams_after_as phase.Running core streams = all_after_sending (sendable core.send) streams
-streams_after_as (phase.Ended code) core streams = streams
-
 abbrev pub streams_after : ConnectionState → List Stream → List Stream
-streams_after core streams = streams_after_as core.phase core streams
+streams_after core streams = all_after_sending (open_window core) streams
 
--- the counts with what was sent taken from the connection's window
-abbrev pub core_paid : ConnectionState → List Stream → ConnectionState
-core_paid core streams = record core { send = core.send -ℤ pos (sendable core.send - window_left (sendable core.send) streams) }
+-- how many octets of the connection's window it takes
+abbrev pub sent_count : ConnectionState → List Stream → ℕ
+sent_count core streams = open_window core - window_left (open_window core) streams
 
 -- the counts after it
-abbrev pub core_after_as : Phase → ConnectionState → List Stream → ConnectionState
-core_after_as phase.Preface core streams = core_paid core streams
-core_after_as phase.Settings core streams = core_paid core streams
-core_after_as phase.Running core streams = core_paid core streams
-core_after_as (phase.Ended code) core streams = core
-
 abbrev pub core_after : ConnectionState → List Stream → ConnectionState
-core_after core streams = core_after_as core.phase core streams
+core_after core streams = record core { send = core.send -ℤ pos (sent_count core streams) }
 
 -- all that is sent for a change, with the item's payload, and behind it
 abbrev pub all_frames : List Entry → List ℕ → Change → List Stream → List Frame
@@ -60,12 +53,32 @@ all_frames book p c streams = frames_of book p c ++ waiting_frames book c.core (
 abbrev pub records : State → Records
 records s = record { streams = s.streams; last = s.core.last }
 
--- the records after what waits on them is sent
+-- the records after what waits on them is sent with this much of the connection's window
+abbrev pub sent_records : ℕ → Records → Records
+sent_records window r = record r { streams = all_after_sending window r.streams }
+
 abbrev pub records_after : ConnectionState → Records → Records
-records_after core r = record r { streams = streams_after core r.streams }
+records_after core r = sent_records (open_window core) r
+
+-- with this much of the connection's window no stream sends anything
+abbrev pub NoneSends : ℕ → List Stream → Type 0
+NoneSends window streams = AllByRecursion (λ st. allowance window st ≡ 0) streams
 
 -- what becomes of records can be done: a record can be put, windows can be moved
 abbrev pub CanApply : Records → RecordUpdate → Type 0
 CanApply r Unchanged = Unit {0}
 CanApply r (Put st) = CanPut st r
 CanApply r (Shift from to) = AllByRecursion (CanShift (moved_by from to)) r.streams × (overflows (moved_by from to) r.streams ≡ false)
+
+-- what becomes of records can be undone: moved windows can be moved back
+abbrev pub CanUndo : Records → RecordUpdate → Type 0
+CanUndo r Unchanged = Unit {0}
+CanUndo r (Put st) = Unit {0}
+CanUndo r (Shift from to) = CanApply (record r { streams = shifted (moved_by from to) r.streams }) (Shift to from)
+
+-- what becomes of records can be done and undone, and what waits on them then can be sent: each stream has its body in
+-- the book
+pub record CanSend (book : List Entry) (r : Records) (record_update : RecordUpdate) : Type 0 where
+  pub made : CanApply r record_update
+  pub undone : CanUndo r record_update
+  pub bodies : AllByRecursion (HasBody book) (updated_streams record_update r.streams)

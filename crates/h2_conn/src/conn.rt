@@ -21,13 +21,12 @@ use crate::one::One;
 use crate::opening::write_opening;
 use crate::state::State;
 use crate::view::View;
+use h2_device::{DeviceFault, Output, Text, string_of};
 use h2_frame::Splitter;
 use h2_request::book::Book;
 use h2_spec::connection::{Config, Phase};
 use std::alloc::{AllocError, Allocator};
-use std::fmt;
 use std::marker::Model;
-use std::string::ToString;
 
 /// Whether a connection error has ended the connection.
 fn is_ended(phase: Phase) -> bool
@@ -315,16 +314,16 @@ impl<'b, A: Allocator + Copy> Conn<'b, A> {
     pub fn show(&self, alloc: A) -> Result<String<A>, AllocError>
         ensures { IfOk result (λ text. string_bytes text ≡ show (view self.now.state)) }
     {
-        self.to_string(alloc)
+        string_of(alloc, self)
     }
 }
 
 /// The text of what is shown of the state, line by line. It takes no memory.
-impl<'b, A: Allocator> fmt::Display for Conn<'b, A> {
-    ghost output = { λ c. Some (show (view c.state)) };
+impl<'b, A: Allocator> Text for Conn<'b, A> {
+    ghost text = { λ c. show (view c.state) };
 
-    fn fmt<W: fmt::Write>(&self, f: &mut fmt::Formatter<W>) -> fmt::Result {
-        f.write(self.state.shown())
+    fn write_to<O: Output>(&self, output: &mut O) -> Result<(), DeviceFault> {
+        self.state.shown().write_to(output)
     }
 }
 

@@ -26,19 +26,24 @@ use h2_spec::frames::{END_HEADERS, Head};
 use h2_table::Edit;
 use std::alloc::{AllocError, Allocator};
 
-/// The block that is open after a fragment, as it is shown and decoded.
+/// The block that is open after a fragment, as it is shown and decoded; where none is, the memory for the next one.
 fn block_after<A: Allocator + Copy>(
     shown: Option<BlockView>,
     tentative: Tentative<A>,
-) -> Option<OpenBlock<A>>
-    ensures { result ≡ block_after shown tentative.after }
+) -> (Option<OpenBlock<A>>, Option<Decoding<A>>)
+    ensures { result.0 ≡ block_after shown tentative.after }
 {
+    let purpose = tentative.purpose();
+    let decoding = tentative.take_over();
     match shown {
-        None => None,
-        Some(shown) => Some(OpenBlock {
-            shown,
-            decoding: Some(tentative.take_over()),
-        }),
+        None => (None, Some(decoding.renewed(purpose))),
+        Some(shown) => {
+            let block = OpenBlock {
+                shown,
+                decoding: Some(decoding),
+            };
+            (Some(block), None)
+        }
     }
 }
 
@@ -69,7 +74,9 @@ impl<'b, A: Allocator + Copy> State<'b, A> {
             },
             FragmentEffect::Makes(shown, change) => match self.apply_change(change, payload, out) {
                 Ok(()) => {
-                    self.block = block_after(shown, tentative);
+                    let (block, spare) = block_after(shown, tentative);
+                    self.block = block;
+                    self.spare = spare;
                     self.table.commit(edit);
                     Ok(())
                 }
@@ -127,6 +134,24 @@ impl<'b, A: Allocator + Copy> State<'b, A> {
         ensures { self.new ≡ self.old }
     {
         self.edit = Some(edit);
+    }
+
+    /// The decoding of a block of which nothing has come, in the memory that is kept for it.
+    fn begin_decoding(&mut self, alloc: A, purpose: Purpose) -> Decoding<A>
+        ensures same { self.new ≡ self.old }
+        ensures fresh { result ≡ headers.fresh_decoding purpose }
+    {
+        match self.spare.take() {
+            Some(spare) => spare.renewed(purpose),
+            None => Decoding::fresh(alloc, purpose),
+        }
+    }
+
+    /// Keeps the memory of a block's decoding for the next block.
+    fn keep_decoding(&mut self, decoding: Decoding<A>)
+        ensures { self.new ≡ self.old }
+    {
+        self.spare = Some(decoding);
     }
 
     /// What a fragment of a block results in.
@@ -235,12 +260,15 @@ impl<'b, A: Allocator + Copy> State<'b, A> {
         match self.purpose_at(head.stream) {
             Err(code) => self.fail(code, out),
             Ok(purpose) => {
-                let decoding = Decoding::fresh(*out.allocator(), purpose);
+                let decoding = self.begin_decoding(*out.allocator(), purpose);
                 let end_headers = head.has(END_HEADERS);
                 let shown = fresh_block(head);
                 match self.on_fragment(shown, decoding, part.fragment, end_headers, payload, out) {
                     Ok(()) => Ok(()),
-                    Err(_) => Err(AllocError),
+                    Err(before) => {
+                        self.keep_decoding(before);
+                        Err(AllocError)
+                    }
                 }
             }
         }

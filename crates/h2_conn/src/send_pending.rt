@@ -1,49 +1,77 @@
 //! Sending what waits, as far as the windows go (RFC 9113, 5.2 and 6.9).
-//! First the frames are written, as the records will be after a touch, and then the shares are taken, which wants no
-//! memory.
-//! Rests on `pieces`, `preview` and `ends`; definition: h2_spec's `specs/SendPending.antt`.
+//! Only streams that can send are looked at. First the frames are written, and then the shares are taken, which takes
+//! no memory.
+//! Rests on `pieces` and h2_streams; definition: h2_spec's `specs/SendPending.antt`.
 
-ghost use Rattle.std.specs.Prelude.{◌≡◌, List, ◌-◌, ◌<◌, ◌≤◌, ◌++◌, IfOk, OnOk, take, vec_len, ◌^◌, pos, ◌-ℤ◌, ◌≤ℤ◌};
+ghost use Rattle.std.specs.Prelude.{◌≡◌, ◌-◌, ◌<◌, ◌≤◌, ◌++◌, find, IfOk, IfSome, IsTrue, OnErr, OnOk, take, vec_len, ◌^◌, pos, ◌-ℤ◌, ◌≤ℤ◌};
+ghost use Rattle.std.specs.List.{AllByRecursion};
 ghost use Rattle.h2_request.specs.Lent.{IsPickOf};
-ghost use Rattle.h2_spec.specs.Answer.{Entry, picked};
-ghost use Rattle.h2_spec.specs.Change as changes;
+ghost use Rattle.h2_spec.specs.Answer.{picked};
 ghost use Rattle.h2_spec.specs.Frame.{frames_octets};
 ghost use Rattle.h2_spec.specs.SendPending as rule;
-ghost use Rattle.h2_spec.specs.Stream.{octets_waiting, put};
+ghost use Rattle.h2_spec.specs.Stream.{octets_waiting, put, AreRising};
 ghost use Rattle.h2_conn.specs.Above.{IsWaiting};
-ghost use Rattle.h2_conn.specs.Preview.{CanSend};
-ghost use Rattle.h2_rules.specs.Sound.{HasBody, IsSoundState};
+ghost use Rattle.h2_conn.specs.Sending.{sent_records, NoneSends};
+ghost use Rattle.h2_rules.specs.Sound.{HasBody};
 ghost use Rattle.h2_spec.specs.Window.{sendable};
+ghost use Rattle.h2_streams.specs.Kept.{ready_above};
 
 use crate::pieces::write_allowance;
-use crate::preview::{next_after, next_stream};
 use h2_request::book::Book;
 use h2_rules::ends::{server_ended, with_body_remaining};
-use h2_spec::connection::ConnectionState;
 use h2_spec::flow::Window;
-use h2_spec::reactions::RecordUpdate;
 use h2_spec::streams::{Numbers, Pick, Stream};
 use h2_streams::{Streams, octets_waiting};
 use std::alloc::{AllocError, Allocator};
 
-/// Writes the frames of each stream's share, as the records will be after the touch, whole or in part.
-pub fn write_allowances<A: Allocator>(
+/// Whether no stream can send with this much of the connection's window.
+pub fn none_sends<A: Allocator>(streams: &Streams<A>, window: u64) -> bool
+    ensures { IsTrue result → NoneSends window streams.now.streams }
+{
+    window == 0 || streams.none_ready()
+}
+
+/// Each stream that can send sends its share of this much of the connection's window: the frames are written whole, or
+/// in part and then the records stay. Answers how many octets are sent.
+pub fn send_ready<A: Allocator>(
+    book: &Book<A>,
+    streams: &mut Streams<A>,
+    size: usize,
+    window: u64,
+    out: &mut Vec<u8, A>,
+) -> Result<u64, AllocError>
+    requires size { (0 < size) × (size < 2 ^ 24) }
+    requires bodies { AllByRecursion (HasBody book.now) streams.old.streams }
+    ensures count { IfOk result (λ count. (count ≡ window - rule.window_left window streams.old.streams) × (count ≤ window)) }
+    ensures sent { OnOk result (out.new.items ≡ out.old.items ++ frames_octets (rule.sent_frames book.now size window streams.old.streams)) }
+    ensures records { OnOk result (streams.new ≡ sent_records window streams.old) }
+    ensures err { OnErr result (streams.new ≡ streams.old) }
+    ensures kept { take (vec_len out.old) out.new.items ≡ out.old.items }
+{
+    if none_sends(streams, window) {
+        return Ok(0);
+    }
+    write_ready(book, streams, size, window, out)?;
+    Ok(window - take_allowances(window, streams))
+}
+
+/// Writes the frames of each stream's share, whole or in part.
+fn write_ready<A: Allocator>(
     book: &Book<A>,
     streams: &Streams<A>,
-    record_update: RecordUpdate,
     size: usize,
     window: u64,
     out: &mut Vec<u8, A>,
 ) -> Result<(), AllocError>
     requires size { (0 < size) × (size < 2 ^ 24) }
-    requires sends { CanSend book.now streams.now record_update }
-    ensures ok { OnOk result (out.new.items ≡ out.old.items ++ frames_octets (rule.sent_frames book.now size window (changes.updated_streams record_update streams.now.streams))) }
+    requires bodies { AllByRecursion (HasBody book.now) streams.now.streams }
+    ensures ok { OnOk result (out.new.items ≡ out.old.items ++ frames_octets (rule.sent_frames book.now size window streams.now.streams)) }
     ensures kept { take (vec_len out.old) out.new.items ≡ out.old.items }
 {
     let _last = streams.last();
     let mut after = 0;
     let mut left = window;
-    while let Some(stream) = next_after(streams, record_update, after) {
+    while let Some(stream) = next_stream(streams, after) {
         if left == 0 {
             return Ok(());
         }
@@ -53,9 +81,21 @@ pub fn write_allowances<A: Allocator>(
     Ok(())
 }
 
+/// The first stream above this one that can send.
+fn next_stream<A: Allocator>(streams: &Streams<A>, after: u32) -> Option<Stream>
+    ensures first { result ≡ find (ready_above after) streams.now.streams }
+    ensures above { IfSome result (λ stream. after < stream.id) }
+    ensures known { IfSome result (λ stream. IsWaiting streams.now.last streams.now.streams stream) }
+    ensures rising { AreRising 0 streams.now.last streams.now.streams }
+{
+    let _last = streams.last();
+    let id = streams.next_ready(after)?;
+    Some(streams.stream_at(id))
+}
+
 /// Writes the frames of one stream's share of what is left of the connection's window, whole or in part; answers the
 /// share.
-fn write_next<A: Allocator>(
+pub fn write_next<A: Allocator>(
     book: &Book<A>,
     stream: &Stream,
     size: usize,
@@ -83,26 +123,8 @@ fn body_of<A: Allocator>(book: &Book<A>, pick: Pick) -> &[u8]
     book.answer(pick).body
 }
 
-/// Each stream's share is taken from it, and all of them from the connection's send window: the counts after it.
-pub fn commit_allowances<A: Allocator>(
-    core: ConnectionState,
-    streams: &mut Streams<A>,
-) -> ConnectionState
-    ensures paid { result ≡ record core { send = core.send -ℤ pos (sendable core.send - rule.window_left (sendable core.send) streams.old.streams) } }
-    ensures sent { streams.new ≡ record streams.old { streams = rule.all_after_sending (sendable core.send) streams.old.streams } }
-    ensures sound { (book : List Entry) → IsSoundState book core streams.old → IsSoundState book result streams.new }
-{
-    let send = core.send;
-    let window = sendable(send);
-    let left = take_allowances(window, streams);
-    ConnectionState {
-        send: without(send, window - left),
-        ..core
-    }
-}
-
 /// A send window without octets that it let pass.
-fn without(window: Window, count: u64) -> Window
+pub fn without(window: Window, count: u64) -> Window
     requires { count ≤ sendable window }
     ensures { result ≡ window -ℤ pos count }
 {
@@ -143,7 +165,7 @@ fn take_allowance<A: Allocator>(window: u64, stream: &Stream, streams: &mut Stre
 
 /// The stream after it sent its share.
 #[tactic(auto, unfolding(h2_spec::specs::SendPending::after_sending))]
-fn after_sending(allowance: u64, stream: &Stream) -> Stream
+pub fn after_sending(allowance: u64, stream: &Stream) -> Stream
     requires waits { allowance ≤ octets_waiting stream.now }
     requires within { (allowance ≤ sendable stream.now.numbers.send) × (allowance ≤ 2147483647) }
     ensures { result ≡ rule.after_sending allowance stream.now }

@@ -6,6 +6,7 @@ ghost use Rattle.h2_spec.specs.Headers.{fresh_decoding};
 ghost use Rattle.h2_spec.specs.State.{opening, opening_core};
 
 use h2_fields::collected::Collected;
+use h2_fields::rest::Rest;
 use h2_request::book::Book;
 use h2_spec::connection::{BlockView, Config, ConnectionState, Phase, Purpose};
 use h2_spec::flow::{Credit, LocalSettings, Settings, Window};
@@ -20,7 +21,7 @@ use std::marker::Model;
 pub struct Decoding<A: Allocator> {
     pub purpose: Purpose,
     pub collected: Collected<A>,
-    pub rest: Vec<u8, A>,
+    pub rest: Rest<A>,
 }
 
 impl<A: Allocator> Model for Decoding<A> {
@@ -29,7 +30,7 @@ impl<A: Allocator> Model for Decoding<A> {
 
     ghost Value = { state.Decoding };
 
-    ghost view = { λ d. record { purpose = d.purpose; fields = d.collected.fields; rest = d.rest.items } };
+    ghost view = { λ d. record { purpose = d.purpose; fields = d.collected.fields; rest = d.rest } };
 
     ghost invariant = { λ d. d.collected.due ≡ false };
 }
@@ -57,7 +58,25 @@ impl<A: Allocator + Copy> Decoding<A> {
         Decoding {
             purpose,
             collected: Collected::new(alloc),
-            rest: Vec::new(alloc),
+            rest: Rest::new(alloc),
+        }
+    }
+
+    /// Nothing of another block is decoded yet. The memory is used again, unless it is of a large block.
+    pub fn renewed(self, purpose: Purpose) -> Self
+        ensures { result ≡ fresh_decoding purpose }
+    {
+        let Decoding {
+            purpose: _,
+            mut collected,
+            mut rest,
+        } = self;
+        collected.clear(false);
+        rest.clear();
+        Decoding {
+            purpose,
+            collected,
+            rest,
         }
     }
 
@@ -66,7 +85,7 @@ impl<A: Allocator + Copy> Decoding<A> {
         ensures { IfOk result (λ copy. copy ≡ self.now) }
     {
         let collected = self.collected.try_clone()?;
-        let rest = self.rest.clone()?;
+        let rest = self.rest.try_clone()?;
         Ok(Decoding {
             purpose: self.purpose,
             collected,
@@ -113,8 +132,8 @@ impl<A: Allocator> OpenBlock<A> {
 }
 
 /// All that an item can change, and the book and the limits that it is changed by. `edit` is memory that is used
-/// again for each
-/// fragment; between two items it means nothing.
+/// again for each fragment, and `spare` memory that is used again for each field block, while none is open; between
+/// two items they mean nothing.
 #[derive(Drop)]
 pub struct State<'b, A: Allocator> {
     pub book: &'b Book<A>,
@@ -123,6 +142,7 @@ pub struct State<'b, A: Allocator> {
     pub block: Option<OpenBlock<A>>,
     pub table: DynTable<A>,
     pub edit: Option<Edit<A>>,
+    pub spare: Option<Decoding<A>>,
     pub streams: Streams<A>,
 }
 
@@ -171,6 +191,7 @@ impl<'b, A: Allocator + Copy> State<'b, A> {
             block: None,
             table,
             edit: None,
+            spare: None,
             streams: Streams::new(alloc),
         })
     }
@@ -191,6 +212,7 @@ impl<'b, A: Allocator + Copy> State<'b, A> {
             block,
             table,
             edit: None,
+            spare: None,
             streams,
         })
     }

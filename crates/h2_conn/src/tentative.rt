@@ -2,10 +2,8 @@
 //! Rests on h2_fields and h2_table; definitions: `decoded` of h2_spec's `specs/Block.antt`, and `specs/Blocks.antt`
 //! here.
 
-ghost use Rattle.std.specs.Prelude.{◌≡◌, ◌≢◌, ◌≤◌, ◌++◌, ◌==◌, length, drop, take, vec_len, IfOk, IfErr, IsErrOf, OnOk};
+ghost use Rattle.std.specs.Prelude.{◌≡◌, ◌≢◌, ◌++◌, ◌==◌, length, IfErr, OnOk};
 ghost use Rattle.h2_spec.specs.Block as block;
-ghost use Rattle.h2_spec.specs.Block.{Unfinished, progress_with};
-ghost use Rattle.h2_fields.specs.Drafts.{Grows, IsStopped};
 ghost use Rattle.h2_fields.specs.declared.fault.BlockFault.TheVariants.{NoMemory};
 ghost use Rattle.h2_table.specs.Edits.{IsEdit, edited};
 ghost use Rattle.h2_conn.specs.Fragments.{IsFaulty, after_fragment, before_fragment};
@@ -14,6 +12,7 @@ use crate::state::Decoding;
 use h2_fields::collected::{Collected, Mark};
 use h2_fields::fault::BlockFault;
 use h2_fields::fragment::decode_piece;
+use h2_fields::rest::RestChange;
 use h2_spec::connection::Purpose;
 use h2_table::{DynTable, Edit};
 use std::alloc::Allocator;
@@ -24,28 +23,25 @@ use std::marker::Model;
 pub struct Tentative<A: Allocator> {
     purpose: Purpose,
     collected: Collected<A>,
-    rest: Vec<u8, A>,
+    /// The octets that are left before the fragment and after it.
+    rest: RestChange<A>,
     /// The end of the fields before the fragment.
     mark: Mark,
-    /// The length of `rest` before the fragment.
-    kept: usize,
-    /// How many octets at the front of `rest` are decoded.
-    used: usize,
 }
 
 impl<A: Allocator> Model for Tentative<A> {
-    ghost use Rattle.std.specs.Prelude.{◌≡◌, ◌≤◌, false, length, take, drop};
+    ghost use Rattle.std.specs.Prelude.{◌≡◌, false, take};
     ghost use Rattle.h2_spec.specs.Block.{list_size};
     ghost use Rattle.h2_conn.specs.Fragments.{BeforeAfter};
 
     ghost Value = { BeforeAfter };
 
     ghost view = { λ t. record {
-      before = record { purpose = t.purpose; fields = take t.mark.count t.collected.fields; rest = take t.kept t.rest.items };
-      after = record { purpose = t.purpose; fields = t.collected.fields; rest = drop t.used t.rest.items };
+      before = record { purpose = t.purpose; fields = take t.mark.count t.collected.fields; rest = t.rest.before };
+      after = record { purpose = t.purpose; fields = t.collected.fields; rest = t.rest.after };
     } };
 
-    ghost invariant = { λ t. (t.mark.size ≡ list_size (take t.mark.count t.collected.fields)) × (t.mark.due ≡ false) × (t.collected.due ≡ false) × (t.used ≤ length t.rest.items) };
+    ghost invariant = { λ t. (t.mark.size ≡ list_size (take t.mark.count t.collected.fields)) × (t.mark.due ≡ false) × (t.collected.due ≡ false) };
 }
 
 impl<A: Allocator + Copy> Tentative<A> {
@@ -59,14 +55,11 @@ impl<A: Allocator + Copy> Tentative<A> {
             rest,
         } = decoding;
         let mark = collected.mark();
-        let kept = rest.len();
         Tentative {
             purpose,
             collected,
-            rest,
+            rest: RestChange::unchanged(rest),
             mark,
-            kept,
-            used: 0,
         }
     }
 
@@ -74,7 +67,7 @@ impl<A: Allocator + Copy> Tentative<A> {
     ///
     /// # Errors
     ///
-    /// As those of `attempt`; `NoMemory` also where memory for the octets that are left was refused.
+    /// As those of `decode_piece`.
     pub fn decoded(
         decoding: Decoding<A>,
         table: &DynTable<A>,
@@ -90,26 +83,17 @@ impl<A: Allocator + Copy> Tentative<A> {
         let Decoding {
             purpose,
             mut collected,
-            mut rest,
+            rest,
         } = decoding;
         let mark = collected.mark();
-        let kept = rest.len();
-        let (edit, result) = decode_piece(&mut collected, table, edit, &mut rest, octets);
-        let mut tentative = Tentative {
+        let (edit, rest, result) = decode_piece(&mut collected, table, edit, rest, octets);
+        let tentative = Tentative {
             purpose,
             collected,
             rest,
             mark,
-            kept,
-            used: 0,
         };
-        match result {
-            Ok(used) => {
-                tentative.used = used;
-                (tentative, edit, Ok(()))
-            }
-            Err(fault) => (tentative, edit, Err(fault)),
-        }
+        (tentative, edit, result)
     }
 
     /// The block as it was before the fragment.
@@ -119,17 +103,14 @@ impl<A: Allocator + Copy> Tentative<A> {
         let Tentative {
             purpose,
             mut collected,
-            mut rest,
+            rest,
             mark,
-            kept,
-            used: _,
         } = self;
         collected.restore(mark);
-        rest.truncate(kept);
         Decoding {
             purpose,
             collected,
-            rest,
+            rest: rest.give_up(),
         }
     }
 
@@ -140,16 +121,13 @@ impl<A: Allocator + Copy> Tentative<A> {
         let Tentative {
             purpose,
             collected,
-            mut rest,
+            rest,
             mark: _,
-            kept: _,
-            used,
         } = self;
-        drop_front(&mut rest, used);
         Decoding {
             purpose,
             collected,
-            rest,
+            rest: rest.take_over(),
         }
     }
 }
@@ -173,14 +151,6 @@ impl<A: Allocator> Tentative<A> {
     pub fn is_whole(&self) -> bool
         ensures { result ≡ (length self.now.after.rest == 0) }
     {
-        self.used == self.rest.len()
+        self.rest.is_whole()
     }
-}
-
-/// Takes out the first octets, this many.
-fn drop_front<A: Allocator>(octets: &mut Vec<u8, A>, count: usize)
-    requires { count ≤ vec_len octets.old }
-    ensures { octets.new.items ≡ drop count octets.old.items }
-{
-    octets.drain(..count);
 }

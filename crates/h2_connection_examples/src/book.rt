@@ -5,7 +5,7 @@ use crate::same::same;
 use h2_fields::field::Field;
 use h2_fields::octets::Octets;
 use h2_request::book::{Book, Entry, Pick};
-use h2_request::fault::BookFault;
+use h2_request::fault::{BookFault, EntryFault};
 use h2_request::well_formed::check;
 use std::alloc::{AllocError, Global};
 use std::process::Abort;
@@ -31,6 +31,7 @@ fn entry(
         status,
         fields: fields_of(alloc, &[(name, "b")])?,
         body: octets(alloc, body)?,
+        early: false,
     })
 }
 
@@ -82,6 +83,7 @@ fn long_entry(alloc: Global) -> Result<Entry<Global>, AllocError> {
         status: 200,
         fields: Vec::new(alloc),
         body: Octets::new(vec![in alloc; 0u8; 1_048_577]?),
+        early: false,
     })
 }
 
@@ -95,7 +97,7 @@ fn long_bodies(rt: HostRuntime) {
     same(
         &rt,
         &long_body_refused(rt.alloc()),
-        &Ok(Some(BookFault::TooLong)),
+        &Ok(Some(BookFault::BadEntry(EntryFault::TooLong))),
         &"an octet too long",
     );
 }
@@ -106,18 +108,25 @@ fn picked(book: &Book<Global>, fields: &[Field<Global>]) -> Option<(Option<u64>,
     Some((asked.declared, book.find(&asked)))
 }
 
-/// The status of an answer, its body, how many fields it has, and its field block.
-fn answer_of(book: &Book<Global>, pick: Pick) -> (u16, &[u8], usize, &[u8]) {
+/// The status of an answer, its body, how many fields it has, its field block, and whether it is early.
+fn answer_of(book: &Book<Global>, pick: Pick) -> (u16, &[u8], usize, &[u8], bool) {
     let answer = book.answer(pick);
     let block = book.block(pick);
-    (answer.status, answer.body, answer.fields.len(), block)
+    let fields = answer.fields.len();
+    (answer.status, answer.body, fields, block, answer.early)
 }
 
-/// A book of one answer.
+/// A book of one answer, which is early.
 fn book_of_one(alloc: Global) -> Result<Book<Global>, Fail> {
     let mut book = Book::new(alloc);
     let entry = entry(alloc, "GET", 200, "a", "hi")?;
-    added(&mut book, entry)?;
+    added(
+        &mut book,
+        Entry {
+            early: true,
+            ..entry
+        },
+    )?;
     Ok(book)
 }
 
@@ -143,18 +152,19 @@ fn requests_pick_answers(rt: HostRuntime) -> Result<(), Fail> {
     Ok(())
 }
 
-/// What is picked, the status of its answer, its body, how many fields it has, and its field block (RFC 7541, 6.1 and
-/// 6.2.2).
-static ANSWERS: [(Pick, u16, &[u8], usize, &[u8]); 3] = [
-    (Pick::Listed(0), 200, b"hi", 1, b"\x88\x00\x01a\x01b"),
-    (Pick::NotFound, 404, b"", 0, b"\x8d"),
-    (Pick::Connect, 501, b"", 0, b"\x08\x03501"),
+/// What is picked, the status of its answer, its body, how many fields it has, its field block (RFC 7541, 6.1 and
+/// 6.2.2), and whether it is early.
+static ANSWERS: [(Pick, u16, &[u8], usize, &[u8], bool); 3] = [
+    (Pick::Listed(0), 200, b"hi", 1, b"\x88\x00\x01a\x01b", true),
+    (Pick::NotFound, 404, b"", 0, b"\x8d", false),
+    (Pick::Connect, 501, b"", 0, b"\x08\x03501", false),
 ];
 
 fn compare_answers(rt: &impl Abort, book: &Book<Global>) {
-    for (pick, status, body, fields, block) in &ANSWERS {
+    for (pick, status, body, fields, block, early) in &ANSWERS {
         let answer = answer_of(book, *pick);
-        same(rt, &answer, &(*status, *body, *fields, *block), pick);
+        let wanted = (*status, *body, *fields, *block, *early);
+        same(rt, &answer, &wanted, pick);
     }
 }
 

@@ -4,6 +4,7 @@ use crate::same::same;
 use h2_conn::play::play;
 use h2_conn::view::View;
 use h2_conn::{Conn, ConnFault};
+use h2_device::{Gathered, Text};
 use h2_request::book::Book;
 use h2_script::assemble;
 use h2_spec::connection::{Config, Phase};
@@ -232,9 +233,13 @@ fn one_item_is_taken_at_a_time(rt: HostRuntime) {
 }
 
 /// The text of a connection's state, and the same as the connection writes it between two words.
-fn texts(alloc: Global, conn: &Conn<'_, Global>) -> Result<(String, String), AllocError> {
+fn texts(alloc: Global, conn: &Conn<'_, Global>) -> Result<(String, Vec<u8>), Fail> {
     let text = conn.show(alloc)?;
-    Ok((text, format!(in alloc; "state\n{conn}end")?))
+    let mut output = Gathered::new(alloc);
+    "state\n".write_to(&mut output)?;
+    conn.write_to(&mut output)?;
+    "end".write_to(&mut output)?;
+    Ok((text, output.octets))
 }
 
 fn phase_of(alloc: Global, conn: &Conn<'_, Global>) -> Result<Phase, AllocError> {
@@ -245,21 +250,21 @@ fn phase_of(alloc: Global, conn: &Conn<'_, Global>) -> Result<Phase, AllocError>
 fn phase_and_texts(
     alloc: Global,
     conn: &Conn<'_, Global>,
-) -> Result<(Phase, (String, String)), AllocError> {
+) -> Result<(Phase, (String, Vec<u8>)), Fail> {
     let phase = phase_of(alloc, conn)?;
     Ok((phase, texts(alloc, conn)?))
 }
 
 /// The same of a new connection.
-fn shown(alloc: Global) -> Option<(Phase, (String, String))> {
+fn shown(alloc: Global) -> Result<(Phase, (String, Vec<u8>)), Fail> {
     let book = no_answers(alloc);
-    let conn = opened_over(alloc, &book)?;
-    phase_and_texts(alloc, &conn).ok()
+    let conn = opened_over(alloc, &book).ok_or("a connection")?;
+    phase_and_texts(alloc, &conn)
 }
 
 #[test]
 fn the_state_is_shown(rt: HostRuntime) -> Result<(), Fail> {
-    let (phase, (text, written)) = shown(rt.alloc()).ok_or("a connection")?;
+    let (phase, (text, written)) = shown(rt.alloc())?;
     let state = "phase preface last 0\n\
                  window recv 65535 owed 0 send 65535\n\
                  peer table 4096 push 1 streams - window 65535 frame 16384 list - signal 0\n\
@@ -267,8 +272,8 @@ fn the_state_is_shown(rt: HostRuntime) -> Result<(), Fail> {
                  block -\n\
                  table 0 0 4096\n";
     let between = format!(in rt.alloc(); "state\n{state}end")?;
-    let found = (text.as_str(), written.as_str(), phase);
-    let wanted = (state, between.as_str(), Phase::Preface);
+    let found = (text.as_str(), written.as_slice(), phase);
+    let wanted = (state, between.as_bytes(), Phase::Preface);
     same(&rt, &found, &wanted, &"a new connection");
     Ok(())
 }
@@ -309,6 +314,51 @@ fn runs_are_played(rt: HostRuntime) -> Result<(), Fail> {
         let streams = [(1, Kind::WeReset)];
         let wanted = (Phase::Running, 1, streams.as_slice(), answers.as_slice());
         same(&rt, &found, &wanted, &lengths);
+    }
+    Ok(())
+}
+
+/// A frame of one octet on stream 1: CONTINUATION (RFC 9113, 6.10).
+fn push_one(octets: &mut Vec<u8>, octet: u8, flags: u8) -> Result<(), AllocError> {
+    octets.extend_from_slice(&[0, 0, 1, 9, flags, 0, 0, 0, 1, octet])
+}
+
+/// The client's preface and its SETTINGS, HEADERS of 16384 octets, and CONTINUATION of one octet each, 65536 octets of
+/// a block in all: `start`, and then `octet` again and again.
+fn in_single_octets(alloc: Global, start: &[u8], octet: u8) -> Result<Vec<u8>, Fail> {
+    let mut octets = assemble(alloc, "PREFACE\nSETTINGS 00 0 -")?;
+    octets.extend_from_slice(&[0, 64, 0, 1, 1, 0, 0, 0, 1])?;
+    octets.extend_from_slice(start)?;
+    for _ in start.len()..16_384 {
+        octets.push(octet)?;
+    }
+    for _ in 16_384..65_535 {
+        push_one(&mut octets, octet, 0)?;
+    }
+    push_one(&mut octets, octet, 4)?;
+    Ok(octets)
+}
+
+/// Blocks whose fields count more than 65536 octets: `:method: GET` again and again, and one literal with a value of
+/// 65530 octets, which goes on in each fragment.
+static LONG_BLOCKS: [(&str, &[u8], u8); 2] = [
+    ("indexed fields", &[0x82], 0x82),
+    ("a literal", &[0x0f, 0x00, 0x7f, 0xfb, 0xfe, 0x03], b'a'),
+];
+
+#[test]
+fn long_blocks_may_come_octet_by_octet(rt: HostRuntime) -> Result<(), Fail> {
+    let alloc = rt.alloc();
+    let answers = "SETTINGS 00 0 s3=100,6=65536\nSETTINGS 01 0 -\nRST_STREAM 00 1 c11";
+    let answers = assemble(alloc, answers)?;
+    for (name, start, octet) in &LONG_BLOCKS {
+        let octets = in_single_octets(alloc, start, *octet)?;
+        let mut sent = Vec::new(alloc);
+        let (phase, last, streams) = played(alloc, octets.as_slice(), &[], &mut sent)?;
+        let found = (phase, last, streams.as_slice(), sent.as_slice());
+        let streams = [(1, Kind::WeReset)];
+        let wanted = (Phase::Running, 1, streams.as_slice(), answers.as_slice());
+        same(&rt, &found, &wanted, name);
     }
     Ok(())
 }

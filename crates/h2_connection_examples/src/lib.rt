@@ -26,4 +26,6 @@ mod same;
 #[cfg(test)]
 mod script_calls;
 #[cfg(test)]
+mod shared_octets;
+#[cfg(test)]
 mod windows;

@@ -386,3 +386,43 @@ fn streams_wait_to_send_by_rising_identifier(rt: HostRuntime) {
     let compared = compare_before_and_after(&rt, &mut streams);
     same(&rt, &compared, &Ok(()), &"memory for the records");
 }
+
+/// Whether no stream can send, and the first that can.
+type Ready = (bool, Option<u32>);
+
+fn ready(streams: &Streams<Global>) -> Ready {
+    (streams.none_ready(), streams.next_ready(0))
+}
+
+/// Opens stream 1 with nothing to send and stream 3 with 5 octets, both without a window, and moves the windows: which
+/// can send before it, and after it.
+fn ready_around_shift(streams: &mut Streams<Global>, delta: i64) -> Result<[Ready; 2], AllocError>
+    requires new { streams.old ≡ no_records }
+    requires delta { negsuc 2147483647 ≤ℤ delta }
+{
+    streams.open_stream(1, numbers(0, None), Pick::NotFound, false)?;
+    streams.open_stream(3, numbers(0, Some(5)), Pick::NotFound, true)?;
+    let before = ready(streams);
+    let _ = streams.shift_send(delta);
+    Ok([before, ready(streams)])
+}
+
+fn ready_around(alloc: Global, delta: i64) -> Option<[Ready; 2]> {
+    if delta < -2_147_483_648 {
+        return None;
+    }
+    let mut streams = Streams::new(alloc);
+    ready_around_shift(&mut streams, delta).ok()
+}
+
+#[test]
+fn a_stream_can_send_once_it_has_octets_and_a_window(rt: HostRuntime) {
+    for (delta, after) in [
+        (10, (false, Some(3))),
+        (0, (true, None)),
+        (-1, (true, None)),
+    ] {
+        let ready = ready_around(rt.alloc(), delta);
+        same(&rt, &ready, &Some([(true, None), after]), &delta);
+    }
+}

@@ -345,7 +345,7 @@ fn requested(live: usize, size: u64, declared: Option<u64>) -> (Kind, StreamFram
         declared,
         pick: Pick::NotFound,
     };
-    let outcome = request_outcome(config, live, 0, running(), 1, true, summary);
+    let outcome = request_outcome(config, live, 0, false, running(), 1, true, summary);
     (outcome.stream.kind, outcome.frame, outcome.answer.is_some())
 }
 
@@ -366,6 +366,43 @@ fn requests_at_their_limits(rt: HostRuntime) {
     ] {
         let answer = requested(live, size, declared);
         same(&rt, &answer, &wanted, &(live, size, declared));
+    }
+}
+
+/// The kind of the stream that a request opens, how much of its answer waits, and whether the answer begins; the
+/// answer has a body of so many octets.
+fn opened(body: u64, early: bool, ends: bool) -> (Kind, Option<u64>, bool) {
+    let config = Config {
+        streams: 1,
+        credit: 1,
+    };
+    let summary = BlockSummary {
+        size: 42,
+        malformed: false,
+        declared: None,
+        pick: Pick::Listed(0),
+    };
+    let outcome = request_outcome(config, 0, body, early, running(), 1, ends, summary);
+    let stream = outcome.stream;
+    let remaining = stream.numbers.body_remaining;
+    (stream.kind, remaining, outcome.answer.is_some())
+}
+
+#[test]
+fn early_answers_begin_at_the_end_of_the_fields(rt: HostRuntime) {
+    for (body, early, ends, wanted) in [
+        // Half-closed (local) where END_STREAM is sent first (5.1).
+        (0, true, false, (Kind::HalfLocal, None, true)),
+        (2, true, false, (Kind::BothOpen, Some(2), true)),
+        (0, false, false, (Kind::BothOpen, None, false)),
+        (2, false, false, (Kind::BothOpen, None, false)),
+        // Where the request has ended there is no difference.
+        (0, true, true, (Kind::Ended, None, true)),
+        (2, true, true, (Kind::HalfRemote, Some(2), true)),
+        (2, false, true, (Kind::HalfRemote, Some(2), true)),
+    ] {
+        let found = opened(body, early, ends);
+        same(&rt, &found, &wanted, &(body, early, ends));
     }
 }
 
@@ -456,7 +493,7 @@ static HEADS: [(Option<u32>, Phase, u8, u8, u32, bool); 13] = [
     (None, Phase::Settings, 4, 0, 0, false),
     (None, Phase::Settings, 4, 1, 0, true),
     (None, Phase::Settings, 6, 0, 0, true),
-    // Only CONTINUATION of the same stream stands inside a block (6.10).
+    // Only CONTINUATION of the same stream is allowed inside a block (6.10).
     (Some(1), Phase::Running, 9, 0, 1, false),
     (Some(1), Phase::Running, 9, 0, 3, true),
     (Some(1), Phase::Running, 0, 0, 1, true),

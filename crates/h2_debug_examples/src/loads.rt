@@ -36,16 +36,28 @@ fn text_octets<A: Allocator + Copy>(alloc: A, text: &[u8]) -> Result<Octets<A>, 
     Ok(Octets::new(Vec::from_slice(alloc, text)?))
 }
 
-/// A book with one answer, to `GET /`, with a body of 300 octets.
-pub(crate) fn book_of<A: Allocator + Copy>(alloc: A) -> Result<Book<A>, BookFault> {
-    let mut book = Book::new(alloc);
-    book.add(Entry {
+/// The answer 200 with this body to `GET` of this path.
+fn entry_of<A: Allocator + Copy>(
+    alloc: A,
+    path: &[u8],
+    body: &[u8],
+    early: bool,
+) -> Result<Entry<A>, AllocError> {
+    Ok(Entry {
         method: text_octets(alloc, b"GET")?,
-        path: text_octets(alloc, b"/")?,
+        path: text_octets(alloc, path)?,
         status: 200,
         fields: Vec::new(alloc),
-        body: text_octets(alloc, &[b'x'; 300])?,
-    })?;
+        body: text_octets(alloc, body)?,
+        early,
+    })
+}
+
+/// A book with an answer to `GET /` with a body of 300 octets, and an early one to `GET /early` with a body of two.
+pub(crate) fn book_of<A: Allocator + Copy>(alloc: A) -> Result<Book<A>, BookFault> {
+    let mut book = Book::new(alloc);
+    book.add(entry_of(alloc, b"/", &[b'x'; 300], false)?)?;
+    book.add(entry_of(alloc, b"/early", b"hi", true)?)?;
     Ok(book)
 }
 

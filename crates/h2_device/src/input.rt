@@ -16,7 +16,7 @@ pub trait Input {
 
     ghost name: { Self → ℕ };
 
-    /// Reads some octets to the front of the room, and says how many; 0 are the end of the input.
+    /// Reads some octets to the front of the buffer, and says how many; 0 are the end of the input.
     ///
     /// `DeviceFault` where the read failed, an interruption too: nothing was read.
     fn read(&mut self, room: &mut [u8]) -> Result<usize, DeviceFault>

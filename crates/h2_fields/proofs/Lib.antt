@@ -1,9 +1,12 @@
 mod Appending
 mod Applying
+mod Counting
 mod Drafting
 mod Lengths
 mod Reading
 mod Responding
 mod ResponseReading
+mod Resting
+mod Resuming
 mod Standing
 mod Writing

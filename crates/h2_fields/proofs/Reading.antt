@@ -1,27 +1,13 @@
 -- What the code reads at the front of octets is what the definitions have there.
-use Rattle.std.proofs.Common.{◌≡◌, ℕ, ◌≤◌, List, [], ◌∷◌, length, Option, Some, None, IsSome, refl, ap, ◌∙◌, sym, subst, arith}
-use Rattle.h2_spec.specs.Integer.{int_at}
-use Rattle.h2_spec.specs.Instruction.{Str, Shape, Instruction, string_at, instr_by, instr_at, instruction_of, instruction_at}
+use Rattle.std.proofs.Common.{◌≡◌, ℕ, List, [], ◌∷◌, length, Option, Some, None, IsSome, refl, ap, ◌∙◌, sym, subst, arith}
+use Rattle.h2_spec.specs.Instruction.{Shape, Instruction, instr_at, instruction_of, instruction_at}
 use Rattle.h2_spec.specs.Read.{Whole, More, TooLong, read_map}
 use Rattle.h2_fields.specs.Instructions.{HasInstruction}
-use Rattle.h2_spec.proofs.InstructionLaws.{Within, number-reader, string-reader}
 
 pub instr-none : (b : List ℕ) → length b ≡ 0 → More ≡ instr_at b
 unfolding instr_at
 instr-none [] e = refl
 instr-none (o ∷ b) e = absurd (omega arith)
-
-pub instr-first : (b rest : List ℕ) (o : ℕ) → b ≡ o ∷ rest → instr_by o b ≡ instr_at b
-unfolding instr_at
-instr-first b rest o e = rw e refl
-
--- an integer that is whole is within the octets
-pub number-within : (n : ℕ) (b : List ℕ) (v used : ℕ) → Whole v used ≡ int_at n b → used ≤ length b
-number-within n b v used e = subst (Within (length b)) (sym e) ((number-reader n).within b)
-
--- and so is a string
-pub string-within : (b : List ℕ) (s : Str) (used : ℕ) → Whole s used ≡ string_at b → used ≤ length b
-string-within b s used e = subst (Within (length b)) (sym e) (string-reader.within b)
 
 -- ---- an instruction by its texts
 

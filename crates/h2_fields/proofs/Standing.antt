@@ -1,11 +1,11 @@
 -- Where a decoder is after some of its octets, and what it represents after a fragment.
 use Rattle.std.proofs.Common.{◌≡◌, ◌≢◌, ℕ, ◌+◌, ◌-◌, ◌<◌, ◌≤◌, List, ◌++◌, length, drop, Some, None, option_map, Err, refl, ap, ◌∙◌, sym, arith, length-drop}
-use Rattle.h2_spec.specs.Block.{Fault, Index, Integer, Huffman, SizeUpdate, Outcome, Unfinished, Faulty, Progress, Decoded, BlockSoFar, decoded, decoded_with, carried_on}
+use Rattle.h2_spec.specs.Block.{Fault, Index, Integer, Huffman, SizeUpdate, Outcome, Unfinished, Faulty, Progress, Decoded, decoded, carried_on}
 use Rattle.h2_spec.specs.DynamicTable.{Table}
 use Rattle.h2_spec.specs.Instruction.{Shape, instr_at}
 use Rattle.h2_spec.specs.Read.{Whole}
 use Rattle.h2_spec.proofs.InstructionLaws.{whole-takes}
-use Rattle.h2_fields.specs.Blocks.{answer_of, faulted, outcome_of, progress_so_far}
+use Rattle.h2_fields.specs.Blocks.{BlockSoFar, answer_of, decoded_with, faulted, outcome_of, progress_so_far}
 use Rattle.h2_fields.specs.Drafts.{IsStopped}
 use Rattle.h2_fields.specs.Faults.{fault_of}
 use Rattle.h2_fields.specs.declared.fault.BlockFault.{BlockFault}

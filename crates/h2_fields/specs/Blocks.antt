@@ -1,13 +1,48 @@
 -- What the decoder holds, and what it answers, by the definitions.
-use Rattle.std.specs.Prelude.{◌≡◌, ◌≢◌, ℕ, List, [], ◌∷◌, ◌++◌, Option, Some, None, Result, Ok, Err}
+use Rattle.std.specs.Prelude.{◌≡◌, ◌≢◌, ℕ, ◌+◌, ◌*◌, ◌<◌, ◌≤◌, Bool, false, List, [], ◌∷◌, ◌++◌, length, Option, Some, None, option_map, Result, Ok, Err}
 use Rattle.h2_fields.specs.Faults.{fault_of}
+use Rattle.h2_fields.specs.Rests.{most_ticks}
 use Rattle.h2_fields.specs.declared.fault.BlockFault.{BlockFault}
 use Rattle.h2_fields.specs.declared.fault.BlockFault.TheVariants as fault
-use Rattle.h2_spec.specs.Block.{Index, Integer, Huffman, SizeUpdate, Outcome, Unfinished, Faulty, Progress, BlockSoFar, table_after}
+use Rattle.h2_spec.specs.Block.{Index, Integer, Huffman, SizeUpdate, Outcome, Unfinished, Faulty, Progress, Decoded, table_after}
 use Rattle.h2_spec.specs.DynamicTable.{Table}
 use Rattle.h2_spec.specs.Field.{Field}
 use Rattle.h2_spec.specs.Instruction.{Mode, instr_at}
 use Rattle.h2_spec.specs.Read.{More}
+
+-- what a decoder holds of a block: the fields so far, whether a size update is still due, how the block ends so far,
+-- nothing where memory was refused, and how many steps its decoding took
+pub record BlockSoFar : Type 0 where
+  pub fields : List Field
+  pub due : Bool
+  pub outcome : Option Outcome
+  pub ticks : ℕ
+
+-- with the table, the block decoded so far; none where memory was refused
+abbrev pub decoded_with : Table → BlockSoFar → Option Decoded
+decoded_with table s = option_map (λ o. let d : Decoded = record { progress = record { fields = s.fields; table = table; due = s.due }; outcome = o } in d) s.outcome
+
+-- the octets that begin an instruction and do not end it
+abbrev pub unfinished : Option Outcome → List ℕ
+unfinished (Some (Unfinished rest)) = rest
+unfinished (Some (Faulty f)) = []
+unfinished None = []
+
+-- a decoder of which nothing has come
+abbrev pub fresh : BlockSoFar
+fresh = record { fields = []; due = false; outcome = Some (Unfinished []); ticks = 0 }
+
+-- how a fragment that is answered Ok is counted: at least a tick for each of its octets, and no more than pays for them
+-- and for the octets that are left no longer
+abbrev pub TicksRise : BlockSoFar → List ℕ → BlockSoFar → Type 0
+TicksRise old piece new =
+    (new.ticks < most_ticks → old.ticks + length piece ≤ new.ticks)
+    × (new.ticks + 2 * length (unfinished new.outcome) ≤ old.ticks + 2 * length (unfinished old.outcome) + 4 * length piece + 8)
+
+-- fragments, one after another, each counted so
+abbrev pub ArePushed : BlockSoFar → List (List ℕ) → BlockSoFar → Type 0
+ArePushed old [] new = old ≡ new
+ArePushed old (piece ∷ pieces) new = (mid : BlockSoFar) × TicksRise old piece mid × ArePushed mid pieces new
 
 -- how far a block has come
 abbrev pub progress_so_far : Table → BlockSoFar → Progress

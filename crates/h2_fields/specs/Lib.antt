@@ -1,4 +1,6 @@
 pub mod ResponseRead
+pub mod Rests
+pub mod Resume
 pub mod Blocks
 pub mod Drafts
 pub mod Faults

@@ -29,11 +29,8 @@ shape_of (shape.Indexed i) = spec.Indexed i
 shape_of (shape.Update n) = spec.Update n
 shape_of (shape.Literal m n v) = spec.Literal (mode_of m) (name_of n) (string_of v)
 
-abbrev pub same_number : ℕ → ℕ
-same_number n = n
-
 -- a thing and how many octets it takes, or why there is none
 abbrev pub read_of : {X Y : Type 0} → (X → Y) → Result (X × ℕ) ShapeFault → Read Y
 read_of view (Ok r) = Whole (view r.0) r.1
-read_of view (Err cut.More) = More
+read_of view (Err (cut.More next)) = More
 read_of view (Err cut.TooLong) = TooLong

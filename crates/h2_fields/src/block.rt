@@ -1,61 +1,66 @@
 //! The decoder of a field block, which comes in fragments (RFC 7541, 3; RFC 9113, 4.3), with fields that own their
 //! memory. It uses `fragment`, and commits what a fragment changes of the table only once no memory is needed any more.
 //! The definitions are `decoded` and `carried_on` of `h2_spec`, specs/Block.antt; contracts see a decoder as
-//! `BlockSoFar`.
+//! `BlockSoFar` of specs/Blocks.antt.
 
-ghost use Rattle.std.specs.Prelude.{◌≡◌, ◌≢◌, ◌≤◌, [], ◌++◌, true, false, drop, take, vec_len, length, Some, None, option_map, IfOk, IfErr, IsErr, IsErrOf, OnOk};
+ghost use Rattle.std.specs.Prelude.{◌≡◌, ◌≢◌, ◌≤◌, ◌<◌, ◌+◌, ◌*◌, [], ◌++◌, true, false, take, length, Some, None, option_map, IfOk, IfErr, IsErr, IsErrOf, OnOk};
 ghost use Rattle.h2_spec.specs.Block as block;
-ghost use Rattle.h2_spec.specs.Block.{Unfinished, carried_on, decoded_with, progress_with};
+ghost use Rattle.h2_spec.specs.Block.{Unfinished, carried_on, progress_with};
 ghost use Rattle.h2_spec.specs.Instruction.{instr_at};
 ghost use Rattle.h2_spec.specs.Read.{More};
-ghost use Rattle.h2_fields.specs.Blocks.{answer_of, finish_of};
+ghost use Rattle.h2_fields.specs.Blocks.{TicksRise, answer_of, decoded_with, finish_of};
 ghost use Rattle.h2_fields.specs.Drafts.{IsStopped};
+ghost use Rattle.h2_fields.specs.Rests.{most_ticks};
 ghost use Rattle.h2_fields.specs.declared.fault.BlockFault.TheVariants as faults;
 
 use crate::collected::Collected;
 use crate::fault::BlockFault;
 use crate::field::Field;
 use crate::fragment::decode_piece;
+use crate::rest::Rest;
 use h2_table::{DynTable, Edit};
 use std::alloc::{AllocError, Allocator};
 use std::marker::Model;
+use std::mem;
 
-/// A decoder of one field block: the fields so far, the octets that begin an instruction and do not end it, and the
-/// fault, if there was one.
+/// A decoder of one field block: the fields so far, the octets that begin an instruction and do not end it, the fault,
+/// if there was one, and the ticks.
 #[derive(Drop)]
 pub struct BlockDecoder<A: Allocator> {
     collected: Collected<A>,
     fields: Vec<Field<A>, A>,
-    rest: Vec<u8, A>,
+    rest: Rest<A>,
     fault: Option<BlockFault>,
+    ticks: u64,
 }
 
 impl<A: Allocator> Model for BlockDecoder<A> {
     ghost use Rattle.std.specs.Prelude.{◌≡◌};
-    ghost use Rattle.h2_spec.specs.Block.{BlockSoFar};
-    ghost use Rattle.h2_fields.specs.Blocks.{CanStand, outcome_of};
+    ghost use Rattle.h2_fields.specs.Blocks.{BlockSoFar, CanStand, outcome_of};
 
     ghost Value = { BlockSoFar };
 
-    ghost view = { λ d. record { fields = d.collected.fields; due = d.collected.due; outcome = outcome_of d.rest.items d.fault } };
+    ghost view = { λ d. record { fields = d.collected.fields; due = d.collected.due; outcome = outcome_of d.rest d.fault; ticks = d.ticks } };
 
-    ghost invariant = { λ d. (d.fields.items ≡ d.collected.fields) × CanStand d.rest.items d.fault };
+    ghost invariant = { λ d. (d.fields.items ≡ d.collected.fields) × CanStand d.rest d.fault };
 }
 
 impl<A: Allocator + Copy> BlockDecoder<A> {
     /// A decoder of a block of which nothing has come. No memory is taken.
     pub fn start(alloc: A) -> Self
-        ensures { result ≡ record { fields = []; due = false; outcome = Some (Unfinished []) } }
+        ensures { result ≡ record { fields = []; due = false; outcome = Some (Unfinished []); ticks = 0 } }
     {
         BlockDecoder {
             collected: Collected::new(alloc),
             fields: Vec::new(alloc),
-            rest: Vec::new(alloc),
+            rest: Rest::new(alloc),
             fault: None,
+            ticks: 0,
         }
     }
 
-    /// Decodes a fragment more: what was left of those before it, and then its octets, instruction by instruction.
+    /// Decodes a fragment more: what was left of those before it, and then its octets, instruction by instruction. It
+    /// goes on where the octets stopped: at the first octet of an integer that is not whole, or inside a string.
     ///
     /// # Errors
     ///
@@ -70,6 +75,7 @@ impl<A: Allocator + Copy> BlockDecoder<A> {
         ensures spent { self.old.outcome ≡ None → (self.new ≡ self.old) × (table.new ≡ table.old) }
         ensures stays { IsErr (answer_of self.old.outcome) → (result ≡ answer_of self.old.outcome) × (self.new ≡ self.old) × (table.new ≡ table.old) }
         ensures limit { table.new.limit ≡ table.old.limit }
+        ensures ticks { OnOk result (TicksRise self.old piece.now self.new) }
     {
         if let Some(repeated) = self.fault {
             return Err(repeated);
@@ -78,6 +84,7 @@ impl<A: Allocator + Copy> BlockDecoder<A> {
             &mut self.collected,
             &mut self.fields,
             &mut self.rest,
+            &mut self.ticks,
             table,
             piece,
         ) {
@@ -122,6 +129,16 @@ impl<A: Allocator + Copy> BlockDecoder<A> {
         self.collected.list_size()
     }
 
+    /// The steps so far: one for each octet that was passed, and one more each time it was passed again; one for each
+    /// octet of a Huffman string that was decoded; one for each instruction that was done; and one for each fragment.
+    /// A fragment that answers a fault counts the instructions before the one that is refused, and itself; one that
+    /// repeats a fault, or is refused memory, counts nothing. The count stays at 2^64 - 1 once there.
+    pub fn ticks(&self) -> u64
+        ensures { result ≡ self.now.ticks }
+    {
+        self.ticks
+    }
+
     /// The same decoder once more, in memory of its own.
     ///
     /// # Errors
@@ -135,53 +152,53 @@ impl<A: Allocator + Copy> BlockDecoder<A> {
         Ok(BlockDecoder {
             collected: self.collected.try_clone()?,
             fields,
-            rest: self.rest.clone()?,
+            rest: self.rest.try_clone()?,
             fault: self.fault,
+            ticks: self.ticks,
         })
     }
 }
 
-/// Decodes what was left and a piece behind it, copies the new fields, and commits the changes of the table; all or
-/// none of it where memory was refused.
+/// Decodes what was left and a piece behind it, copies the new fields, commits the changes of the table, and counts the
+/// ticks; all or none of it where memory was refused.
 fn advance<A: Allocator + Copy>(
     collected: &mut Collected<A>,
     fields: &mut Vec<Field<A>, A>,
-    rest: &mut Vec<u8, A>,
+    rest: &mut Rest<A>,
+    ticks: &mut u64,
     table: &mut DynTable<A>,
     piece: &[u8],
 ) -> Result<(), BlockFault>
     requires copied { fields.old.items ≡ collected.old.fields }
     ensures copied { fields.new.items ≡ collected.new.fields }
-    ensures ok { OnOk result (block.decoded table.old.limit (progress_with table.old.table collected.old) (rest.old.items ++ piece.now) ≡ record { progress = progress_with table.new.table collected.new; outcome = Unfinished rest.new.items }) }
-    ensures cut { OnOk result (instr_at rest.new.items ≡ More) }
-    ensures fault { IfErr result (λ fault. IsStopped table.old.limit (progress_with table.old.table collected.old) (rest.old.items ++ piece.now) (progress_with table.new.table collected.new) fault) }
-    ensures unchanged { IsErrOf result faults.NoMemory → (collected.new ≡ collected.old) × (rest.new.items ≡ rest.old.items) × (table.new ≡ table.old) }
+    ensures ok { OnOk result (block.decoded table.old.limit (progress_with table.old.table collected.old) (rest.old ++ piece.now) ≡ record { progress = progress_with table.new.table collected.new; outcome = Unfinished rest.new }) }
+    ensures cut { OnOk result (instr_at rest.new ≡ More) }
+    ensures ticks { OnOk result ((ticks.new < most_ticks → ticks.old + length piece.now ≤ ticks.new) × (ticks.new + 2 * length rest.new ≤ ticks.old + 2 * length rest.old + 4 * length piece.now + 8)) }
+    ensures fault { IfErr result (λ fault. IsStopped table.old.limit (progress_with table.old.table collected.old) (rest.old ++ piece.now) (progress_with table.new.table collected.new) fault) }
+    ensures unchanged { IsErrOf result faults.NoMemory → (collected.new ≡ collected.old) × (rest.new ≡ rest.old) × (ticks.new ≡ ticks.old) × (table.new ≡ table.old) }
     ensures limit { table.new.limit ≡ table.old.limit }
 {
     let mark = collected.mark();
-    let before = rest.len();
     let edit = Edit::new(collected.allocator());
-    let (mut edit, answer) = decode_piece(collected, table, edit, rest, piece);
+    let before = mem::replace(rest, Rest::new(collected.allocator()));
+    let (mut edit, change, answer) = decode_piece(collected, table, edit, before, piece);
     if answer == Err(BlockFault::NoMemory) {
+        *rest = change.give_up();
         return Err(BlockFault::NoMemory);
     }
     if !has_copied(fields, collected) {
         collected.restore(mark);
-        rest.truncate(before);
+        *rest = change.give_up();
         return Err(BlockFault::NoMemory);
     }
     table.commit(&mut edit);
-    let used = answer?;
-    drop_front(rest, used);
-    Ok(())
-}
-
-/// Takes out the first octets, this many.
-fn drop_front<A: Allocator>(octets: &mut Vec<u8, A>, count: usize)
-    requires { count ≤ vec_len octets.old }
-    ensures { octets.new.items ≡ drop count octets.old.items }
-{
-    octets.drain(..count);
+    *ticks = ticks.saturating_add(change.ticks()).saturating_add(1);
+    *rest = if answer.is_ok() {
+        change.take_over()
+    } else {
+        change.give_up()
+    };
+    answer
 }
 
 /// Copies the fields behind those that are copied already; false where memory was refused, and then the copies are as

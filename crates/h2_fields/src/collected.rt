@@ -6,15 +6,20 @@ ghost use Rattle.h2_spec.specs.Block.{has_fields, list_size};
 ghost use Rattle.h2_spec.specs.Field.{field, size};
 ghost use Rattle.h2_table.specs.Lent.{lent_field};
 
+use crate::hints::Hints;
 use h2_list::FieldList;
 use std::alloc::{AllocError, Allocator};
 use std::marker::Model;
+
+/// The most octets of a field that is not shared: to look for them costs more than to copy them.
+const MAX_COPIED: usize = 32;
 
 /// The fields of a block so far, their size together, and whether the block must still begin with a table size update
 /// (RFC 7541, 4.2).
 #[derive(Drop, Debug)]
 pub struct Collected<A: Allocator> {
     list: FieldList<A>,
+    hints: Hints<A>,
     size: u64,
     due: bool,
 }
@@ -50,6 +55,7 @@ impl<A: Allocator> Collected<A> {
     {
         Collected {
             list: FieldList::new(alloc),
+            hints: Hints::new(alloc),
             size: 0,
             due: false,
         }
@@ -143,6 +149,82 @@ impl<A: Allocator> Collected<A> {
         self.size = self.size.saturating_add(size);
         Ok(())
     }
+
+    /// Adds the field of an index of the tables behind the others, `limit` being the most octets of the dynamic table.
+    /// Where the index was added before, the octets of its name and value are shared, unless they are at most 32.
+    ///
+    /// # Errors
+    ///
+    /// `AllocError` where memory was refused; the fields before it stay.
+    pub fn add_indexed(
+        &mut self,
+        index: u64,
+        limit: u32,
+        name: &[u8],
+        value: &[u8],
+    ) -> Result<(), AllocError>
+        ensures ok { OnOk result (self.new ≡ record self.old { fields = self.old.fields ++ field name.now value.now ∷ [] }) }
+        ensures err { OnErr result (self.new ≡ self.old) }
+    {
+        if is_short(name, value) {
+            return self.add(name, value);
+        }
+        let key = self.hints.key(index, limit);
+        let place = self.hints.place(key);
+        self.hints.set(key, limit, self.list.len())?;
+        let size = size_of(name, value);
+        self.list.append_like(place, name, value)?;
+        self.size = self.size.saturating_add(size);
+        Ok(())
+    }
+
+    /// Adds a field with the name of an index of the tables behind the others, `limit` being the most octets of the
+    /// dynamic table. Where a field with the name of the index was added before, the octets of the name are shared,
+    /// unless the field has at most 32.
+    ///
+    /// # Errors
+    ///
+    /// `AllocError` where memory was refused; the fields are as they were.
+    pub fn add_named(
+        &mut self,
+        index: u64,
+        limit: u32,
+        name: &[u8],
+        value: &[u8],
+    ) -> Result<(), AllocError>
+        ensures ok { OnOk result (self.new ≡ record self.old { fields = self.old.fields ++ field name.now value.now ∷ [] }) }
+        ensures err { OnErr result (self.new ≡ self.old) }
+    {
+        if is_short(name, value) {
+            return self.add(name, value);
+        }
+        let key = self.hints.key(index, limit);
+        let like = self.hints.place(key);
+        let named = if has_name(&self.list, like, name) {
+            like
+        } else {
+            self.list.len()
+        };
+        self.hints.set(key, limit, named)?;
+        let size = size_of(name, value);
+        self.list.append_like(like, name, value)?;
+        self.size = self.size.saturating_add(size);
+        Ok(())
+    }
+
+    /// The last field was added to the dynamic table, whose limit is `limit` octets: its octets are shared from now on.
+    ///
+    /// # Errors
+    ///
+    /// `AllocError` where memory was refused; the fields are as they were.
+    pub fn entry_added(&mut self, limit: u32) -> Result<(), AllocError>
+        ensures { self.new ≡ self.old }
+    {
+        self.hints.entry_added(limit);
+        let key = self.hints.key(62, limit);
+        let place = self.list.len().saturating_sub(1);
+        self.hints.set(key, limit, place)
+    }
 }
 
 impl<A: Allocator + Copy> Collected<A> {
@@ -161,9 +243,23 @@ impl<A: Allocator + Copy> Collected<A> {
     {
         Ok(Collected {
             list: self.list.try_clone()?,
+            hints: Hints::new(self.list.allocator()),
             size: self.size,
             due: self.due,
         })
+    }
+}
+
+/// Whether a field is copied in any case.
+fn is_short(name: &[u8], value: &[u8]) -> bool {
+    name.len().saturating_add(value.len()) <= MAX_COPIED
+}
+
+/// Whether the field at a place has this name.
+fn has_name<A: Allocator>(list: &FieldList<A>, place: usize, name: &[u8]) -> bool {
+    match list.get(place) {
+        Some((other, _)) => other == name,
+        None => false,
     }
 }
 

@@ -54,7 +54,7 @@ fn apply_indexed<A: Allocator + Copy>(
     }
     match field_found(draft, index) {
         Some((name, value)) => {
-            collected.add(name, value)?;
+            collected.add_indexed(index, draft.limit(), name, value)?;
             Ok(())
         }
         None => Err(BlockFault::Index),
@@ -95,8 +95,16 @@ fn apply_literal<A: Allocator + Copy>(
     ensures base { draft.new.base ≡ draft.old.base }
     ensures grows { Grows collected.old collected.new }
 {
+    let index = index_of(name);
     let (name, value) = literal_texts(collected, draft, name, value)?;
-    add_literal(collected, draft, mode, name.as_slice(), value.as_slice())?;
+    add_literal(
+        collected,
+        draft,
+        mode,
+        index,
+        name.as_slice(),
+        value.as_slice(),
+    )?;
     Ok(())
 }
 
@@ -137,11 +145,20 @@ fn literal_name<A: Allocator + Copy>(
     }
 }
 
-/// Adds a literal field, to the table too where its mode says so.
+/// The index that a literal's name is given by, if it is.
+fn index_of(name: RawName<'_>) -> Option<u64> {
+    match name {
+        RawName::Ref(index) => Some(index),
+        RawName::Named(_) => None,
+    }
+}
+
+/// Adds a literal field, to the table too where its mode says so. Its name may be that of an index.
 fn add_literal<A: Allocator + Copy>(
     collected: &mut Collected<A>,
     draft: &mut Draft<'_, A>,
     mode: Mode,
+    index: Option<u64>,
     name: &[u8],
     value: &[u8],
 ) -> Result<(), AllocError>
@@ -150,9 +167,15 @@ fn add_literal<A: Allocator + Copy>(
     ensures base { draft.new.base ≡ draft.old.base }
     ensures grows { Grows collected.old collected.new }
 {
-    collected.add(name, value)?;
+    match index {
+        Some(index) => collected.add_named(index, draft.limit(), name, value)?,
+        None => collected.add(name, value)?,
+    }
     match mode {
-        Mode::IncrementalIndexing => draft.insert(name, value),
+        Mode::IncrementalIndexing => {
+            draft.insert(name, value)?;
+            collected.entry_added(draft.limit())
+        }
         Mode::WithoutIndexing | Mode::NeverIndexed => Ok(()),
     }
 }

@@ -1,5 +1,5 @@
 //! Instructions of a field block with the texts of their strings: reading one, and writing one (RFC 7541, 6).
-//! It rests on `shape` for what stands at the front of octets, and on the integers and Huffman strings of `h2_prim`.
+//! It uses `shape` for what is at the front of octets, and the integers and Huffman strings of `h2_prim`.
 //! The definitions are `instruction_at`, `shape_of` and `spell` of `h2_spec`, specs/Instruction.antt.
 
 ghost use Rattle.std.specs.Prelude.{◌≡◌, ◌≢◌, ◌≤◌, ◌++◌, true, false, length, Some, None, IfOk, IfErr, IsErrOf, IsSome, OnOk, OnErr, take};
@@ -15,7 +15,7 @@ ghost use Rattle.h2_fields.specs.declared.fault.BlockFault.TheVariants as faults
 
 use crate::fault::BlockFault;
 use crate::octets::Octets;
-use crate::shape::{RawName, RawString, Shape, ShapeFault, shape_at};
+use crate::shape::{Point, RawName, RawString, Shape, ShapeFault, shape_from};
 use h2_prim::{huff_len, huff_read, huff_write, write_int};
 use std::alloc::{AllocError, Allocator};
 use std::marker::Model;
@@ -36,7 +36,7 @@ pub enum Mode {
 pub struct Text<A: Allocator> {
     /// The octets that the string means.
     pub octets: Octets<A>,
-    /// Whether it stands as a Huffman string.
+    /// Whether it is written as a Huffman string.
     pub huffman: bool,
 }
 
@@ -75,7 +75,7 @@ pub enum Instr<A: Allocator> {
     },
 }
 
-/// What stands at the front of octets.
+/// What is at the front of octets.
 #[derive(Drop, Debug)]
 pub enum InstrRead<A: Allocator> {
     /// A whole instruction, and how many octets it takes.
@@ -122,9 +122,9 @@ pub fn read_instr<A: Allocator + Copy>(alloc: A, octets: &[u8]) -> Result<InstrR
     ensures no_memory { IsErrOf result faults.NoMemory → HasInstruction (spec.instruction_at octets.now) }
     ensures literal { IsErrOf result faults.NoMemory → HasLiteral (spec.instr_at octets.now) }
 {
-    match shape_at(octets) {
+    match shape_from(Point::start(), octets) {
         Ok((shape, used)) => Ok(InstrRead::Whole(with_texts(alloc, shape)?, used)),
-        Err(ShapeFault::More) => Ok(InstrRead::More),
+        Err(ShapeFault::More(_)) => Ok(InstrRead::More),
         Err(ShapeFault::TooLong) => Err(BlockFault::Integer),
     }
 }

@@ -18,7 +18,7 @@ use std::alloc::{AllocError, Allocator};
 ///
 /// With `size_update_pending` the block begins with a table size update to 0: the peer gave up its dynamic table (RFC
 /// 7541, 4.2). The
-/// status stands by its index where the static table has it; each field stands as a literal that does not enter the
+/// status is an index where the static table has it; each field is a literal that does not enter the
 /// dynamic
 /// table, its strings as they are. Names and values have at most 33,554,432 octets each.
 ///

@@ -1,24 +1,64 @@
-//! Reading one instruction at the front of octets, its strings lent as they stand (RFC 7541, 5.2 and 6).
+//! Reading one instruction at the front of octets, its strings lent as they stand (RFC 7541, 5.2 and 6), and reading it
+//! on from where its octets stopped.
 //! It rests on the integers of `h2_prim` and takes no memory.
-//! The definitions are `string_at`, `literal_at` and `instr_at` of `h2_spec`, specs/Instruction.antt.
+//! The definition is `instr_at` of `h2_spec`, specs/Instruction.antt; what is known of an instruction that is cut is in
+//! `specs/Resume.antt`.
 
-ghost use Rattle.std.specs.Prelude.{◌≡◌, ◌≤◌, length, drop, IfOk};
+ghost use Rattle.std.specs.Prelude.{◌≡◌, ◌≤◌, ◌+◌, ◌-◌, ◌^◌, ℕ, List, ◌++◌, length, drop, min, IfOk};
+ghost use Rattle.h2_prim.specs.Readings.{int_read};
 ghost use Rattle.h2_spec.specs.Integer.{int_at};
 ghost use Rattle.h2_spec.specs.Instruction as spec;
-ghost use Rattle.h2_spec.specs.Instruction.{mode_prefix};
-ghost use Rattle.h2_fields.specs.Shapes.{mode_of, string_of, name_of, shape_of, read_of, same_number};
+ghost use Rattle.h2_spec.specs.Read.{read_map};
+ghost use Rattle.h2_fields.specs.Resume.{BeginsLiteral, Nothing, NameLength, NameOctets, ValueLength, ValueOctets, IfMore, IsIntegerAt, IsNameBefore, IsPoint, IsReadOn, IsRest, IsTaken, huffman_flag, huffman_octets, name_at, string_octets};
+ghost use Rattle.h2_fields.specs.Shapes.{mode_of, string_of, name_of, shape_of, read_of};
 
 use crate::instruction::Mode;
-use h2_prim::{IntRead, StrAt, find_str, read_int};
-use h2_spec::octets::octets_from;
+use h2_prim::{IntRead, read_int};
+use h2_spec::octets::{octets_from, octets_up_to};
 
-/// Why nothing whole stands at the front of octets.
+/// Why there is no whole instruction at the front of octets.
 #[derive(Clone, Copy)]
 pub enum ShapeFault {
-    /// It goes on in octets that are not there.
-    More,
+    /// It goes on in octets that are not there; with them, reading goes on from this point.
+    More(Point),
     /// An integer of it is too long.
     TooLong,
+}
+
+/// The name of a literal: an index of the tables, or a string by its place in the octets of the instruction.
+#[derive(Clone, Copy, Debug)]
+pub enum KnownName {
+    /// The index, above 0.
+    Ref(u64),
+    /// Whether the octets are a Huffman string, where they begin, and how many they are.
+    Named(bool, usize, usize),
+}
+
+/// What is known of an instruction that is cut.
+#[derive(Clone, Copy, Debug)]
+pub enum Known {
+    /// Nothing: its first integer is not whole.
+    Nothing,
+    /// A literal whose name is spelled; the length of the name comes next.
+    NameLength(Mode),
+    /// The same with the flag and the length of the name; its octets come next.
+    NameOctets(Mode, bool, u64),
+    /// A literal and its name; the length of the value comes next.
+    ValueLength(Mode, KnownName),
+    /// The same with the flag and the length of the value; its octets come next.
+    ValueOctets(Mode, KnownName, bool, u64),
+}
+
+/// Where reading goes on in an instruction whose octets stopped: at the first octet of the integer that is not whole,
+/// or inside the string that is not.
+#[derive(Clone, Copy, Debug)]
+pub struct Point {
+    /// What is known of the instruction.
+    pub known: Known,
+    /// How many of its octets that took.
+    pub at: usize,
+    /// How many of its octets are not passed again: `at`, or all that have come of a string.
+    pub passed: usize,
 }
 
 /// A string as it stands: whether its octets are a Huffman string, and its octets.
@@ -43,84 +83,262 @@ pub enum Shape<'a> {
     Literal(Mode, RawName<'a>, RawString<'a>),
 }
 
-/// The instruction at the front of the octets, and how many octets it takes (RFC 7541, 6).
-pub fn shape_at(octets: &[u8]) -> Result<(Shape<'_>, usize), ShapeFault>
+impl Point {
+    /// The beginning of an instruction.
+    pub fn start() -> Self
+        ensures anywhere { (octets : List ℕ) → IsPoint octets result }
+        ensures passed { result.passed ≡ 0 }
+    {
+        Point {
+            known: Known::Nothing,
+            at: 0,
+            passed: 0,
+        }
+    }
+}
+
+/// The instruction at the front of the octets, and how many octets it takes (RFC 7541, 6); reading goes on from a point
+/// of it.
+pub fn shape_from(point: Point, octets: &[u8]) -> Result<(Shape<'_>, usize), ShapeFault>
+    requires point { IsPoint octets.now point }
     ensures read { read_of shape_of result ≡ spec.instr_at octets.now }
-    ensures within { IfOk result (λ read. read.1 ≤ length octets.now) }
+    ensures taken { IfOk result (λ read. IsTaken octets.now point.passed (shape_of read.0) read.1) }
+    ensures rest { IfMore result (λ next. IsRest octets.now next) }
+{
+    match point.known {
+        Known::Nothing => from_first(octets),
+        Known::NameLength(mode) => from_name_length(mode, point.at, octets),
+        Known::NameOctets(mode, huffman, count) => {
+            from_name(mode, huffman, count, point.at, octets)
+        }
+        Known::ValueLength(mode, name) => from_value_length(mode, name, point.at, octets),
+        Known::ValueOctets(mode, name, huffman, count) => {
+            from_value(mode, name, huffman, count, point.at, octets)
+        }
+    }
+}
+
+/// The instruction at the front of the octets, from its first octet.
+fn from_first(octets: &[u8]) -> Result<(Shape<'_>, usize), ShapeFault>
+    ensures { IsReadOn octets.now Nothing 0 0 result }
+{
+    let Some((first, _)) = octets.split_first() else {
+        return Err(ShapeFault::More(Point::start()));
+    };
+    if *first >= 128 {
+        return indexed(octets);
+    }
+    if *first >= 64 {
+        return literal(Mode::IncrementalIndexing, octets);
+    }
+    if *first >= 32 {
+        return update(octets);
+    }
+    if *first >= 16 {
+        literal(Mode::NeverIndexed, octets)
+    } else {
+        literal(Mode::WithoutIndexing, octets)
+    }
+}
+
+/// A field of the tables (RFC 7541, 6.1).
+fn indexed(octets: &[u8]) -> Result<(Shape<'_>, usize), ShapeFault>
+    requires announced { (more : List ℕ) → spec.instr_at (octets.now ++ more) ≡ read_map spec.Indexed (int_at 7 (octets.now ++ more)) }
+    ensures { IsReadOn octets.now Nothing 0 0 result }
+{
+    match integer_at(7, 0, octets) {
+        IntRead::Whole(index, used) => Ok((Shape::Indexed(index), used)),
+        IntRead::More => Err(ShapeFault::More(Point::start())),
+        IntRead::TooLong => Err(ShapeFault::TooLong),
+    }
+}
+
+/// A new maximum of the dynamic table (RFC 7541, 6.3).
+fn update(octets: &[u8]) -> Result<(Shape<'_>, usize), ShapeFault>
+    requires announced { (more : List ℕ) → spec.instr_at (octets.now ++ more) ≡ read_map spec.Update (int_at 5 (octets.now ++ more)) }
+    ensures { IsReadOn octets.now Nothing 0 0 result }
+{
+    match integer_at(5, 0, octets) {
+        IntRead::Whole(max, used) => Ok((Shape::Update(max), used)),
+        IntRead::More => Err(ShapeFault::More(Point::start())),
+        IntRead::TooLong => Err(ShapeFault::TooLong),
+    }
+}
+
+/// A literal, from the index of its name: 0 means that the name is the string behind it (RFC 7541, 6.2).
+fn literal(mode: Mode, octets: &[u8]) -> Result<(Shape<'_>, usize), ShapeFault>
+    requires announced { BeginsLiteral octets.now (mode_of mode) }
+    ensures { IsReadOn octets.now Nothing 0 0 result }
+{
+    match integer_at(mode.prefix(), 0, octets) {
+        IntRead::Whole(0, used) => from_name_length(mode, used, octets),
+        IntRead::Whole(index, used) => {
+            from_value_length(mode, KnownName::Ref(index), used, octets)
+        }
+        IntRead::More => Err(ShapeFault::More(Point::start())),
+        IntRead::TooLong => Err(ShapeFault::TooLong),
+    }
+}
+
+/// A literal whose name is spelled, from the length of the name, which begins at `at`.
+fn from_name_length(mode: Mode, at: usize, octets: &[u8]) -> Result<(Shape<'_>, usize), ShapeFault>
+    requires begins { (1 ≤ at) × (at ≤ length octets.now) }
+    ensures { IsReadOn octets.now (NameLength (mode_of mode)) at at result }
+{
+    match integer_at(7, at, octets) {
+        IntRead::Whole(count, used) => {
+            let huffman = is_huffman(octets_from(octets, at));
+            from_name(mode, huffman, count, at + used, octets)
+        }
+        IntRead::More => Err(ShapeFault::More(Point {
+            known: Known::NameLength(mode),
+            at,
+            passed: at,
+        })),
+        IntRead::TooLong => Err(ShapeFault::TooLong),
+    }
+}
+
+/// A literal whose name is spelled, from the octets of the name, which begin at `at`.
+fn from_name(
+    mode: Mode,
+    huffman: bool,
+    count: u64,
+    at: usize,
+    octets: &[u8],
+) -> Result<(Shape<'_>, usize), ShapeFault>
+    requires begins { (1 ≤ at) × (at ≤ length octets.now) }
+    ensures { IsReadOn octets.now (NameOctets (mode_of mode) huffman count) at (at + count) result }
+{
+    if count <= octets_from(octets, at).len() as u64 {
+        let count = count as usize;
+        return from_value_length(
+            mode,
+            KnownName::Named(huffman, at, count),
+            at + count,
+            octets,
+        );
+    }
+    Err(ShapeFault::More(Point {
+        known: Known::NameOctets(mode, huffman, count),
+        at,
+        passed: octets.len(),
+    }))
+}
+
+/// A literal with its name, from the length of the value, which begins at `at`.
+fn from_value_length(
+    mode: Mode,
+    name: KnownName,
+    at: usize,
+    octets: &[u8],
+) -> Result<(Shape<'_>, usize), ShapeFault>
+    requires begins { IsNameBefore at name × (at ≤ length octets.now) }
+    ensures { IsReadOn octets.now (ValueLength (mode_of mode) (name_at octets.now name)) at at result }
+{
+    match integer_at(7, at, octets) {
+        IntRead::Whole(count, used) => {
+            let huffman = is_huffman(octets_from(octets, at));
+            from_value(mode, name, huffman, count, at + used, octets)
+        }
+        IntRead::More => Err(ShapeFault::More(Point {
+            known: Known::ValueLength(mode, name),
+            at,
+            passed: at,
+        })),
+        IntRead::TooLong => Err(ShapeFault::TooLong),
+    }
+}
+
+/// A literal with its name, from the octets of the value, which begin at `at`.
+fn from_value(
+    mode: Mode,
+    name: KnownName,
+    huffman: bool,
+    count: u64,
+    at: usize,
+    octets: &[u8],
+) -> Result<(Shape<'_>, usize), ShapeFault>
+    requires begins { IsNameBefore at name × (at ≤ length octets.now) }
+    ensures { IsReadOn octets.now (ValueOctets (mode_of mode) (name_at octets.now name) huffman count) at (at + count) result }
+{
+    let value = octets_from(octets, at);
+    if count <= value.len() as u64 {
+        let count = count as usize;
+        let value = RawString {
+            huffman,
+            octets: octets_up_to(value, count),
+        };
+        return Ok((
+            Shape::Literal(mode, name_in(name, octets), value),
+            at + count,
+        ));
+    }
+    Err(ShapeFault::More(Point {
+        known: Known::ValueOctets(mode, name, huffman, count),
+        at,
+        passed: octets.len(),
+    }))
+}
+
+/// A name that is known, with its octets.
+fn name_in(name: KnownName, octets: &[u8]) -> RawName<'_>
+    requires within { IsNameBefore (length octets.now) name }
+    ensures { name_of result ≡ name_at octets.now name }
+{
+    match name {
+        KnownName::Ref(index) => RawName::Ref(index),
+        KnownName::Named(huffman, start, count) => RawName::Named(RawString {
+            huffman,
+            octets: octets_up_to(octets_from(octets, start), count),
+        }),
+    }
+}
+
+/// The integer that begins at `at`, with a prefix of `prefix` bits (RFC 7541, 5.1).
+fn integer_at(prefix: u8, at: usize, octets: &[u8]) -> IntRead
+    requires prefix { (1 ≤ prefix) × (prefix ≤ 8) }
+    requires within { at ≤ length octets.now }
+    ensures value { int_read result ≡ int_at prefix (drop at octets.now) }
+    ensures place { IsIntegerAt at (length octets.now) result }
+{
+    read_int(prefix, octets_from(octets, at))
+}
+
+/// Whether the string that the octets begin is a Huffman string (RFC 7541, 5.2).
+fn is_huffman(octets: &[u8]) -> bool
+    ensures { result ≡ huffman_flag octets.now }
 {
     match octets.split_first() {
-        Some((first, _)) => shape_by(*first, octets),
-        None => Err(ShapeFault::More),
+        Some((first, _)) => *first >= 128,
+        None => false,
     }
 }
 
-/// The instruction that the first octet announces.
-fn shape_by(first: u8, octets: &[u8]) -> Result<(Shape<'_>, usize), ShapeFault>
-    ensures read { read_of shape_of result ≡ spec.instr_by first octets.now }
-    ensures within { IfOk result (λ read. read.1 ≤ length octets.now) }
-{
-    if first >= 128 {
-        let (index, used) = number_at(7, octets)?;
-        return Ok((Shape::Indexed(index), used));
-    }
-    if first >= 64 {
-        return literal_at(Mode::IncrementalIndexing, octets);
-    }
-    if first >= 32 {
-        let (max, used) = number_at(5, octets)?;
-        return Ok((Shape::Update(max), used));
-    }
-    if first >= 16 {
-        literal_at(Mode::NeverIndexed, octets)
-    } else {
-        literal_at(Mode::WithoutIndexing, octets)
+impl Shape<'_> {
+    /// How many octets of the instruction are Huffman strings; 2^64 - 1 where there are more.
+    pub fn huffman_octets(&self) -> u64
+        ensures { result ≡ min (huffman_octets (shape_of self.entry.now)) (2 ^ 64 - 1) }
+    {
+        match self {
+            Shape::Literal(_, RawName::Named(name), value) => {
+                name.huffman_octets().saturating_add(value.huffman_octets())
+            }
+            Shape::Literal(_, RawName::Ref(_), value) => value.huffman_octets(),
+            Shape::Indexed(_) | Shape::Update(_) => 0,
+        }
     }
 }
 
-/// A literal: an index, a name where the index is 0, and a value (RFC 7541, 6.2).
-fn literal_at(mode: Mode, octets: &[u8]) -> Result<(Shape<'_>, usize), ShapeFault>
-    ensures read { read_of shape_of result ≡ spec.literal_at (mode_of mode) octets.now }
-    ensures within { IfOk result (λ read. read.1 ≤ length octets.now) }
-{
-    let (name, used) = name_at(mode, octets)?;
-    let (value, more) = string_at(octets_from(octets, used))?;
-    Ok((Shape::Literal(mode, name, value), used + more))
-}
-
-/// The name of a literal: an index, or the string behind the index 0.
-fn name_at(mode: Mode, octets: &[u8]) -> Result<(RawName<'_>, usize), ShapeFault>
-    ensures read { read_of name_of result ≡ spec.read_then octets.now (int_at (mode_prefix (mode_of mode)) octets.now) spec.name_by }
-    ensures within { IfOk result (λ read. read.1 ≤ length octets.now) }
-{
-    let (index, used) = number_at(mode.prefix(), octets)?;
-    if index > 0 {
-        return Ok((RawName::Ref(index), used));
-    }
-    let (name, more) = string_at(octets_from(octets, used))?;
-    Ok((RawName::Named(name), used + more))
-}
-
-/// A string: a flag, a length, and its octets (RFC 7541, 5.2).
-fn string_at(octets: &[u8]) -> Result<(RawString<'_>, usize), ShapeFault>
-    ensures read { read_of string_of result ≡ spec.string_at octets.now }
-    ensures within { IfOk result (λ read. read.1 ≤ length octets.now) }
-{
-    match find_str(octets) {
-        StrAt::Whole(huffman, octets, used) => Ok((RawString { huffman, octets }, used)),
-        StrAt::More => Err(ShapeFault::More),
-        StrAt::TooLong => Err(ShapeFault::TooLong),
-    }
-}
-
-/// An integer with a prefix of `prefix` bits, 1 to 8 (RFC 7541, 5.1).
-fn number_at(prefix: u8, octets: &[u8]) -> Result<(u64, usize), ShapeFault>
-    requires { (1 ≤ prefix) × (prefix ≤ 8) }
-    ensures read { read_of same_number result ≡ int_at prefix octets.now }
-    ensures within { IfOk result (λ read. read.1 ≤ length octets.now) }
-{
-    match read_int(prefix, octets) {
-        IntRead::Whole(value, used) => Ok((value, used)),
-        IntRead::More => Err(ShapeFault::More),
-        IntRead::TooLong => Err(ShapeFault::TooLong),
+impl RawString<'_> {
+    /// How many octets of the string are to be decoded: all, or none.
+    fn huffman_octets(&self) -> u64
+        ensures { result ≡ string_octets (string_of self.entry.now) }
+    {
+        if self.huffman {
+            self.octets.len() as u64
+        } else {
+            0
+        }
     }
 }

@@ -42,6 +42,10 @@ fn list_size(decoder: &BlockDecoder<Global>) -> u64 {
     decoder.list_size()
 }
 
+fn ticks(decoder: &BlockDecoder<Global>) -> u64 {
+    decoder.ticks()
+}
+
 fn table_size(table: &DynTable<Global>) -> usize {
     table.size()
 }
@@ -399,6 +403,69 @@ fn blocks_give_their_fields_and_tables(rt: HostRuntime) -> Result<(), Fail> {
 #[test]
 fn blocks_may_come_octet_by_octet(rt: HostRuntime) -> Result<(), Fail> {
     compare_blocks(&rt, rt.alloc(), true)
+}
+
+/// The ticks of a block that comes in fragments of a length.
+struct Counted {
+    name: &'static str,
+    block: &'static str,
+    length: usize,
+    ticks: u64,
+}
+
+static COUNTED: [Counted; 5] = [
+    Counted {
+        name: "C.4.1 with plain strings: 20 octets, 4 instructions, 1 fragment",
+        block: "828684410f7777772e6578616d706c652e636f6d",
+        length: 20,
+        ticks: 25,
+    },
+    Counted {
+        name: "the same in 20 fragments: no octet is passed again",
+        block: "828684410f7777772e6578616d706c652e636f6d",
+        length: 1,
+        ticks: 44,
+    },
+    Counted {
+        name: "C.4.1: 17 octets, 12 of them a Huffman string, 4 instructions, 1 fragment",
+        block: "828684418cf1e3c2e5f23a6ba0ab90f4ff",
+        length: 17,
+        ticks: 34,
+    },
+    Counted {
+        name: "the same in 17 fragments",
+        block: "828684418cf1e3c2e5f23a6ba0ab90f4ff",
+        length: 1,
+        ticks: 50,
+    },
+    // 3f, then 3f e1, then 3f e1 1f
+    Counted {
+        name: "an integer of 3 octets is passed from its first octet at each fragment",
+        block: "3fe11f",
+        length: 1,
+        ticks: 10,
+    },
+];
+
+/// The ticks of a new decoder on an empty table that takes a block in fragments of a length.
+fn ticks_of(alloc: Global, block: &str, length: usize) -> Result<u64, Fail> {
+    let block = octets_of(alloc, block)?;
+    let mut table = empty_table(alloc, 4096)?;
+    let mut decoder = started(alloc);
+    for piece in block.as_slice().chunks(length.max(1)) {
+        pushed(&mut decoder, &mut table, piece)?;
+    }
+    finished(&decoder)?;
+    Ok(ticks(&decoder))
+}
+
+#[test]
+fn steps_are_counted(rt: HostRuntime) -> Result<(), Fail> {
+    for case in &COUNTED {
+        let found = ticks_of(rt.alloc(), case.block, case.length)?;
+        same(&rt, &found, &case.ticks, &case.name);
+    }
+    Ok(())
 }
 
 /// A block that is refused, on an empty table of limit 4096: its fragments; what each of them and then the end is

@@ -173,6 +173,28 @@ octet_by_octet : tests short 1 granted_by_one ≡ [] ∷ [] ∷ [] ∷ [] ∷ []
 unfolding tests short granted_by_one
 octet_by_octet = refl
 
+-- an answer that begins before its request has ended
+early : List Entry
+early = record { method = codes "GET"; path = codes "/"; answer = record (answer 200 [] (codes "hi")) { early = true } } ∷ []
+
+-- SETTINGS, the fields of a GET, which is answered at once, and DATA
+answered_early : List Event
+unfolding events early
+answered_early = events early "000000040000000000000003010400000001828684000003000000000001616263"
+
+early_answer : tests early 1 answered_early ≡ [] ∷ [] ∷ [] ∷ [] ∷ []
+unfolding tests early answered_early
+early_answer = refl
+
+-- the initial window 0, the fields of a GET, DATA that ends it, WINDOW_UPDATE of 2
+granted_behind_its_request : List Event
+unfolding events early
+granted_behind_its_request = events early "00000604000000000000040000000000000301040000000182868400000000010000000100000408000000000100000002"
+
+body_behind_its_request : tests early 1 granted_behind_its_request ≡ [] ∷ [] ∷ [] ∷ [] ∷ [] ∷ []
+unfolding tests early granted_behind_its_request
+body_behind_its_request = refl
+
 long : List Entry
 long = get (replicate 70000 120)
 
@@ -215,6 +237,14 @@ body_again_from_its_start = refl
 second_response : refused_by short 1 (edited 3 (headers_on 1 ∷ data_on 1 0 (codes "h") ∷ []) granted_by_one) ≡ (3, AnswersOnce) ∷ []
 unfolding refused_by short granted_by_one
 second_response = refl
+
+second_response_at_the_end_of_the_request : refused_by early 1 (edited 3 (headers_on 1 ∷ []) granted_behind_its_request) ≡ (3, AnswersOnce) ∷ []
+unfolding refused_by early granted_behind_its_request
+second_response_at_the_end_of_the_request = refl
+
+data_behind_an_early_answer : refused_by early 1 (edited 3 (data_on 1 0 [] ∷ []) answered_early) ≡ (3, SilentAfterEnd) ∷ []
+unfolding refused_by early answered_early
+data_behind_an_early_answer = refl
 
 data_before_headers : refused_by short 1 (edited 2 (data_on 1 END_STREAM (codes "hi") ∷ []) answered) ≡ (2, AnswersOnce) ∷ []
 unfolding refused_by short answered

@@ -3,6 +3,7 @@ mod BeginningLaws
 mod BlockRows
 mod CuttingLaws
 mod DebugRows
+mod EarlyRows
 mod FlowLaws
 mod FormLaws
 mod FrameLaws
@@ -21,6 +22,6 @@ mod RequestRows
 pub mod ReadingLines
 mod ReadingParts
 mod Rows
-mod Runs
+pub mod Runs
 mod ScriptRows
 mod SplitLaws

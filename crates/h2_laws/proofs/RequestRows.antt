@@ -157,6 +157,10 @@ literal_field = refl
 
 -- ---- the words of an answer
 
+-- an entry whose answer is early
+abbrev early : Entry → Entry
+early e = record e { answer = record e.answer { early = true } }
+
 abbrev texts : List (List ℕ × Option Entry)
 texts =
     (codes "GET|/|200|6869", Some (to_get 200 [] (codes "hi"))) ∷
@@ -170,6 +174,15 @@ texts =
     (codes "GET|/|200|6g", None) ∷
     (codes "GET|/|200||", None) ∷
     (codes "GET|/|200||late", None) ∷
+    (codes "GET|/|200||early", Some (early (to_get 200 [] []))) ∷
+    (codes "GET|/|200||a=b|early", Some (early (to_get 200 (pair "a" "b" ∷ []) []))) ∷
+    (codes "GET|/|200|6869|early|a=b", Some (early (to_get 200 (pair "a" "b" ∷ []) (codes "hi")))) ∷
+    (codes "GET|/|200||early=1", Some (to_get 200 (pair "early" "1" ∷ []) [])) ∷
+    (codes "GET|/|200||early|early", None) ∷
+    (codes "GET|/|200||early|a=b|early", None) ∷
+    (codes "GET|/|200||Early", None) ∷
+    (codes "GET|/|200||early|late", None) ∷
+    (codes "GET|/|200|early", None) ∷
     (codes "", None) ∷ []
 
 texts_are_read : map (λ (row : List ℕ × Option Entry). entry_of row.0) texts ≡ map (λ (row : List ℕ × Option Entry). row.1) texts

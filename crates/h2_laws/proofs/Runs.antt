@@ -13,10 +13,10 @@ use Rattle.h2_spec.specs.View.{view}
 use Rattle.h2_spec.specs.Show.{show}
 use Rattle.h2_laws.proofs.Hex.{hex}
 
-abbrev limits : ℕ → ℕ → Config
+abbrev pub limits : ℕ → ℕ → Config
 limits streams credit = record { streams = streams; credit = credit }
 
-abbrev default : Config
+abbrev pub default : Config
 default = limits 100 32768
 
 -- an entry without fields
@@ -46,7 +46,7 @@ replies_to : List Entry → Config → List ℕ → List ℕ
 unfolding ready sent_octets
 replies_to book config octets = sent_octets (trace (ready book config) octets).events
 
-replies : List Entry → Config → String → List ℕ
+unfoldable pub replies : List Entry → Config → String → List ℕ
 unfolding replies_to
 replies book config octets = replies_to book config (hex (codes octets))
 
@@ -55,7 +55,7 @@ shown_after : List Entry → Config → List ℕ → List ℕ
 unfolding ready show view digits encode_with
 shown_after book config octets = show (view (trace (ready book config) octets).state)
 
-shown : List Entry → Config → String → List ℕ
+unfoldable pub shown : List Entry → Config → String → List ℕ
 unfolding shown_after
 shown book config octets = shown_after book config (hex (codes octets))
 

@@ -23,8 +23,8 @@ pub fn grants_are_kept()
     ensures { (book : List Entry) (config : Config) (octets : List ℕ) → KeepsGrants book config octets }
 {}
 
-/// After each item the records of the streams stand by rising identifier, up to the last stream that was opened; so
-/// what waits is sent in that order.
+/// After each item the records of the streams are in the order of rising identifiers, up to the last stream that was
+/// opened; so pending output is sent in that order.
 pub fn records_are_in_order()
     ensures { (book : List Entry) (config : Config) (octets : List ℕ) → KeepsOrder book config octets }
 {}

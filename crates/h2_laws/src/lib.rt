@@ -1,9 +1,8 @@
-//! The laws of the definitions: each is the contract of a public function with an empty body, and nothing depends on
-//! them.
-//! It rests on `h2_spec`, which has the definitions, and those lemmas that code is proved with too, and on the
-//! definitions of `hex`.
-//! Beside the laws stand worked examples, computed from the definitions (`proofs/Runs.antt`,
-//! `proofs/LongBodies.antt`, `proofs/..Rows.antt`).
+//! The laws of the definitions: each is the contract of a public function with an empty body. No code calls them; a
+//! contract of h2_conn cites one, the law of grants.
+//! It uses h2_spec, which has the definitions and those lemmas that proofs of code need too, and the definitions of
+//! `hex`. It also has worked examples, computed from the definitions (`proofs/Runs.antt`, `proofs/LongBodies.antt`,
+//! `proofs/..Rows.antt`).
 #![tactic(auto)]
 
 pub mod block_laws;

@@ -7,8 +7,8 @@ ghost use Rattle.h2_spec.specs.Request.{malformed, malformed_trailers, value_nam
 ghost use Rattle.h2_spec.specs.Answer.{response_block};
 ghost use Rattle.h2_laws.specs.Reasons.{IsReason, IsTrailersReason, IsLeast, IsValueNamed};
 
-/// What is answered of the fields of a request is the least reason that stands against them, said of the places of
-/// fields in their list, and nothing is answered where no reason does (RFC 9113, 8.1.1, 8.2, 8.3 and 8.5).
+/// The reason that makes a request malformed is the least one that the places of its fields in their list give, and
+/// there is none where no place gives one (RFC 9113, 8.1.1, 8.2, 8.3 and 8.5).
 pub fn malformed_is_the_least_reason()
     ensures { (fields : List Field) → IsLeast (IsReason fields) (malformed fields) }
 {}

@@ -2,23 +2,50 @@
 //! It uses the definition `Field` of `h2_spec`; a field is a span of the octets, as `specs/Spans.antt` has it.
 #![tactic(auto)]
 
-ghost use Rattle.std.specs.Prelude.{◌≡◌, ◌≤◌, [], ◌∷◌, ◌++◌, take, drop, length, slice_get, option_map, IfOk, OnOk, OnErr};
+ghost use Rattle.std.specs.Prelude.{◌≡◌, ℕ, ◌≤◌, [], ◌∷◌, ◌++◌, take, drop, length, slice_get, option_map, IfOk, OnOk, OnErr};
 ghost use Rattle.h2_spec.specs.Field.{field};
 ghost use Rattle.h2_table.specs.Lent.{lent_field};
-ghost use Rattle.h2_list.specs.Spans.{IsOrdered, field_in};
+ghost use Rattle.h2_list.specs.Spans.{AreSpans, IsOrdered, IsPart, field_in};
 
 use std::alloc::{AllocError, Allocator};
 use std::marker::Model;
 
-/// A field as places in a list of octets: where its name begins, where its value begins, and where the value ends.
+/// The most octets whose memory an empty list keeps.
+const MAX_KEPT_OCTETS: usize = 16_384;
+
+/// The most fields for whose places an empty list keeps the memory.
+const MAX_KEPT_FIELDS: usize = 512;
+
+/// The most octets of a list: places in it are numbers of 32 bits.
+const MAX_OCTETS: usize = 4_294_967_295;
+
+/// A part of a list of octets: from a place up to another.
 #[derive(Clone, Copy, Debug)]
-struct Span {
-    start: usize,
-    split: usize,
-    end: usize,
+struct Part {
+    start: u32,
+    end: u32,
 }
 
-/// A list of header fields, and behind them the octets of a next field that is not complete yet.
+/// A field as two parts of a list of octets, and how long the list was before the field was added and with it. A part
+/// may be that of an earlier field.
+#[derive(Clone, Copy, Debug)]
+struct Span {
+    name: Part,
+    value: Part,
+    start: u32,
+    end: u32,
+}
+
+/// A span of no octets.
+const NOTHING: Span = Span {
+    name: Part { start: 0, end: 0 },
+    value: Part { start: 0, end: 0 },
+    start: 0,
+    end: 0,
+};
+
+/// A list of header fields, and behind them the octets of a next field that is not complete yet. Fields can share
+/// octets: `append_like` and `close_named` do not add those of a name or a value that an earlier field has.
 #[derive(Drop, Debug)]
 pub struct FieldList<A: Allocator> {
     octets: Vec<u8, A>,
@@ -52,12 +79,19 @@ impl<A: Allocator> FieldList<A> {
         }
     }
 
-    /// Removes all fields and the octets of the next one; the memory is kept for other fields.
+    /// Removes all fields and the octets of the next one. The memory is kept for other fields, except that a list of
+    /// more than 16,384 octets is freed, and so is one of places for more than 512 fields.
     pub fn clear(&mut self)
         ensures { self.new ≡ record { fields = []; next = [] } }
     {
         self.octets.clear();
+        if self.octets.capacity() > MAX_KEPT_OCTETS {
+            self.octets.shrink_to_fit();
+        }
         self.spans.clear();
+        if self.spans.capacity() > MAX_KEPT_FIELDS {
+            self.spans.shrink_to_fit();
+        }
         self.start = 0;
     }
 
@@ -116,12 +150,78 @@ impl<A: Allocator> FieldList<A> {
         ensures ok { OnOk result (self.new ≡ record { fields = self.old.fields ++ field (take name self.old.next) (drop name self.old.next) ∷ []; next = [] }) }
         ensures err { OnErr result (self.new ≡ self.old) }
     {
-        let start = self.start;
+        let split = self.start + name;
+        let end = self.octets.len();
+        if end > MAX_OCTETS {
+            return Err(AllocError);
+        }
+        self.spans.push(Span {
+            name: Part {
+                start: self.start as u32,
+                end: split as u32,
+            },
+            value: Part {
+                start: split as u32,
+                end: end as u32,
+            },
+            start: self.start as u32,
+            end: end as u32,
+        })?;
+        self.start = end;
+        Ok(())
+    }
+
+    /// Makes the octets of the next field the value of a field with this name. `like` is the place of a field that may
+    /// have the same name: then its octets are shared; any number is allowed.
+    ///
+    /// # Errors
+    ///
+    /// `AllocError` where memory was refused; the fields are as they were.
+    pub fn close_named(&mut self, like: usize, name: &[u8]) -> Result<(), AllocError>
+        ensures ok { OnOk result (self.new ≡ record { fields = self.old.fields ++ field name.now self.old.next ∷ []; next = [] }) }
+        ensures err { OnErr result (self.new.fields ≡ self.old.fields) }
+    {
+        let before = self.octets.len();
+        if before > MAX_OCTETS {
+            return Err(AllocError);
+        }
+        let value = Part {
+            start: self.start as u32,
+            end: before as u32,
+        };
+        let earlier = span_at(self.spans.as_slice(), like);
+        let name = put_part(&mut self.octets, earlier.name, name)?;
         let end = self.octets.len();
         self.spans.push(Span {
-            start,
-            split: start + name,
-            end,
+            name,
+            value,
+            start: self.start as u32,
+            end: end as u32,
+        })?;
+        self.start = end;
+        Ok(())
+    }
+
+    /// Adds a field behind the others, in place of octets of a next field. `like` is the place of a field that may have
+    /// the same name or the same value: then their octets are shared; any number is allowed.
+    ///
+    /// # Errors
+    ///
+    /// `AllocError` where memory was refused; the fields are as they were.
+    pub fn append_like(&mut self, like: usize, name: &[u8], value: &[u8]) -> Result<(), AllocError>
+        ensures ok { OnOk result (self.new ≡ record { fields = self.old.fields ++ field name.now value.now ∷ []; next = [] }) }
+        ensures err { OnErr result (self.new.fields ≡ self.old.fields) }
+    {
+        self.octets.truncate(self.start);
+        let earlier = span_at(self.spans.as_slice(), like);
+        let name = put_part(&mut self.octets, earlier.name, name)?;
+        let value = put_part(&mut self.octets, earlier.value, value)?;
+        let end = self.octets.len();
+        self.spans.push(Span {
+            name,
+            value,
+            start: self.start as u32,
+            end: end as u32,
         })?;
         self.start = end;
         Ok(())
@@ -147,7 +247,7 @@ impl<A: Allocator> FieldList<A> {
         ensures { self.new ≡ record { fields = take count self.old.fields; next = [] } }
     {
         if count < self.spans.len() {
-            let start = self.spans[count].start;
+            let start = self.spans[count].start as usize;
             self.octets.truncate(start);
             self.spans.truncate(count);
             self.start = start;
@@ -186,7 +286,45 @@ fn parts(octets: &[u8], span: Span) -> (&[u8], &[u8])
     ensures { lent_field result ≡ field_in octets.now span }
 {
     (
-        &octets[span.start..span.split],
-        &octets[span.split..span.end],
+        &octets[span.name.start as usize..span.name.end as usize],
+        &octets[span.value.start as usize..span.value.end as usize],
     )
+}
+
+/// The span at a place, or one of no octets where there is none.
+fn span_at(spans: &[Span], place: usize) -> Span
+    ensures { (end : ℕ) → AreSpans 0 spans.now end → IsOrdered result × (result.end ≤ end) }
+{
+    if place < spans.len() {
+        spans[place]
+    } else {
+        NOTHING
+    }
+}
+
+/// The part that is these octets: an earlier one where it is the same, or else what is added at the end.
+fn put_part<A: Allocator>(
+    octets: &mut Vec<u8, A>,
+    earlier: Part,
+    text: &[u8],
+) -> Result<Part, AllocError>
+    requires ordered { earlier.start ≤ earlier.end }
+    requires within { earlier.end ≤ length octets.old.items }
+    ensures ok { IfOk result (λ part. IsPart part octets.new.items text.now) }
+    ensures short { OnOk result (length octets.new.items ≤ 4294967295) }
+    ensures kept { take (length octets.old.items) octets.new.items ≡ octets.old.items }
+{
+    let start = octets.len();
+    let end = start.saturating_add(text.len());
+    if end > MAX_OCTETS {
+        return Err(AllocError);
+    }
+    if &octets[earlier.start as usize..earlier.end as usize] == text {
+        return Ok(earlier);
+    }
+    octets.extend_from_slice(text)?;
+    Ok(Part {
+        start: start as u32,
+        end: end as u32,
+    })
 }

@@ -14,7 +14,7 @@ pub enum HuffFault {
     #[error("out of memory")]
     NoMemory,
     /// The whole code of the end of a string is in the octets.
-    #[error("the end of a Huffman string stands inside it")]
+    #[error("the end-of-string code is inside a Huffman string")]
     Eos,
     /// What is left behind the last whole code is longer than seven bits, or has a zero in it.
     #[error("a Huffman string ends in what is neither a code nor padding")]

@@ -96,7 +96,7 @@ fn move_at(state: usize, nibble: u8) -> (usize, u16)
     (usize::from(NEXT[place]), SYMBOLS[place])
 }
 
-/// Takes four bits: writes the octet that they may make whole at `len`, and answers the text's length and the state
+/// Takes four bits: writes the octet that they may make whole at `len`, and returns the text's length and the state
 /// behind them.
 fn step(text: &mut [u8], len: usize, state: usize, nibble: u8) -> (usize, usize)
     requires room { len < length text.now }
@@ -114,7 +114,7 @@ fn step(text: &mut [u8], len: usize, state: usize, nibble: u8) -> (usize, usize)
     }
 }
 
-/// Decodes the octets to the front of `text`; answers how many octets that is, and the state behind them.
+/// Decodes the octets to the front of `text`; returns how many octets that is, and the state behind them.
 fn decode(octets: &[u8], text: &mut [u8]) -> (usize, usize)
     requires { 8 * length octets.now ≤ 5 * length text.now }
     ensures read { Stands (bits octets.now) (take result.0 text.new) result.1 }
@@ -190,7 +190,7 @@ fn power(bits: u8) -> u64
     1 << bits
 }
 
-/// Appends the whole octets of a number of `count` bits, for which there is room; answers what is left, and how many
+/// Appends the whole octets of a number of `count` bits, for which there is room; returns what is left, and how many
 /// bits it has.
 fn flush<A: Allocator>(out: &mut Vec<u8, A>, number: u64, count: u8) -> (u64, u8)
     requires few { count ≤ 40 }

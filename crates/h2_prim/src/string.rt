@@ -15,7 +15,7 @@ use crate::huffman::huff_read;
 use crate::integer::{IntRead, read_int};
 use std::alloc::Allocator;
 
-/// What stands at the front of octets, as a string with its octets as they are (RFC 7541, 5.2).
+/// What is at the front of octets, as a string with its octets as they are (RFC 7541, 5.2).
 #[derive(Clone, Copy, Debug, PartialEq, Eq)]
 pub enum StrAt<'a> {
     /// A whole string: whether it is a Huffman string, its octets, and how many octets it takes with its length.
@@ -26,7 +26,7 @@ pub enum StrAt<'a> {
     TooLong,
 }
 
-/// What stands at the front of octets, as a string by its text (RFC 7541, 5.2).
+/// What is at the front of octets, as a string by its text (RFC 7541, 5.2).
 #[derive(Debug, Drop)]
 pub enum StrRead<A: Allocator> {
     /// A whole string: its text, whether it is a Huffman string, and how many octets it takes with its length.
@@ -37,7 +37,7 @@ pub enum StrRead<A: Allocator> {
     TooLong,
 }
 
-/// The string at the front of the octets, with its octets as they stand. Takes no memory.
+/// The string at the front of the octets, with its octets as they are. Takes no memory.
 pub fn find_str(octets: &[u8]) -> StrAt<'_>
     ensures { str_at result ≡ string_at octets.now }
 {

@@ -8,13 +8,13 @@ use std::alloc::{AllocError, Global};
 
 // These have no clause, so that the proof of a test does not carry what the words say.
 
-/// Appends the method, path, body and fields of an entry, line by line, and gives its status.
-fn write_entry(lines: &mut Vec<u8>, entry: &Entry<Global>) -> Result<u16, AllocError> {
+/// Appends the method, path, body and fields of an entry, line by line, and gives its status and whether it is early.
+fn write_entry(lines: &mut Vec<u8>, entry: &Entry<Global>) -> Result<(u16, bool), AllocError> {
     let (method, path) = (entry.method.as_slice(), entry.path.as_slice());
     let body = entry.body.as_slice();
     join(lines, &[method, b"\n", path, b"\n", body, b"\n"])?;
     write_fields(lines, entry)?;
-    Ok(entry.status)
+    Ok((entry.status, entry.early))
 }
 
 fn write_fields(lines: &mut Vec<u8>, entry: &Entry<Global>) -> Result<(), AllocError> {
@@ -27,8 +27,8 @@ fn write_fields(lines: &mut Vec<u8>, entry: &Entry<Global>) -> Result<(), AllocE
     Ok(())
 }
 
-/// The status of the answer that the words say, whose other parts are appended to `lines`.
-fn said(alloc: Global, text: &str, lines: &mut Vec<u8>) -> Option<u16> {
+/// The status of the answer that the words say, and whether it is early; its other parts are appended to `lines`.
+fn said(alloc: Global, text: &str, lines: &mut Vec<u8>) -> Option<(u16, bool)> {
     let entry = parse_answer(alloc, text).ok()?;
     write_entry(lines, &entry).ok()
 }
@@ -40,7 +40,7 @@ fn refused(alloc: Global, text: &str) -> Option<u8> {
 }
 
 /// Words that say no answer, and why.
-static REFUSED: [(&str, &str); 11] = [
+static REFUSED: [(&str, &str); 17] = [
     ("", "no part"),
     ("GET|/|200", "three parts"),
     ("GET|/|20|", "a status of two digits"),
@@ -52,6 +52,15 @@ static REFUSED: [(&str, &str); 11] = [
     ("GET|/|200|68|", "an empty further part"),
     ("GET|/|200|68|a=b|c", "a further part without a sign"),
     ("|||", "no status"),
+    ("GET|/|200||early|early", "the word early twice"),
+    (
+        "GET|/|200||early|a=b|early",
+        "the same with a field between",
+    ),
+    ("GET|/|200||late", "another word"),
+    ("GET|/|200||Early", "a capital letter"),
+    ("GET|/|200||early ", "a space behind the word"),
+    ("GET|/|200|early", "the word in place of the body"),
 ];
 
 #[test]
@@ -61,23 +70,59 @@ fn words_that_say_no_answer_are_refused(rt: HostRuntime) {
     }
 }
 
-/// Words, the status that they say, the other parts line by line, and a name.
-static SAID: [(&str, u16, &[u8], &str); 2] = [
+/// Words, the status that they say, whether the answer is early, the other parts line by line, and a name.
+static SAID: [(&str, u16, bool, &[u8], &str); 7] = [
     (
         "GET|/|999|6aF0|a=b=c|=|x=",
         999,
+        false,
         b"GET\n/\n\x6a\xf0\na: b=c\n: \nx: \n",
         "an answer of three fields",
     ),
-    ("||000|", 0, b"\n\n\n", "empty parts"),
+    ("||000|", 0, false, b"\n\n\n", "empty parts"),
+    (
+        "GET|/|200||early",
+        200,
+        true,
+        b"GET\n/\n\n",
+        "the word alone",
+    ),
+    (
+        "GET|/|200||a=b|early",
+        200,
+        true,
+        b"GET\n/\n\na: b\n",
+        "the word behind a field",
+    ),
+    (
+        "GET|/|200|68|early|a=b",
+        200,
+        true,
+        b"GET\n/\nh\na: b\n",
+        "the word before a field",
+    ),
+    (
+        "GET|/|200||early=1",
+        200,
+        false,
+        b"GET\n/\n\nearly: 1\n",
+        "a field of that name",
+    ),
+    (
+        "early|early|200||a=early",
+        200,
+        false,
+        b"early\nearly\n\na: early\n",
+        "the word in other parts",
+    ),
 ];
 
 #[test]
 fn words_say_answers_whose_parts_may_be_empty(rt: HostRuntime) {
-    for (text, status, lines, name) in &SAID {
+    for (text, status, early, lines, name) in &SAID {
         let mut found = Vec::new(rt.alloc());
         let said = said(rt.alloc(), text, &mut found);
-        let wanted = (Some(*status), *lines);
+        let wanted = (Some((*status, *early)), *lines);
         same(&rt, &(said, found.as_slice()), &wanted, name);
     }
 }

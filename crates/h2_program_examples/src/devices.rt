@@ -1,4 +1,4 @@
-//! Runs whose reader or writer fails.
+//! Runs whose reader or writer fails, or takes one octet at a time.
 
 use crate::program::{PREFACE, SETTINGS, filled, ran, words_of};
 use crate::same::same;
@@ -129,6 +129,92 @@ fn places_are_written_until_a_write_fails(rt: HostRuntime) -> Result<(), Fail> {
     assert!(rt; length > 65536, "it takes two writes at least");
     for room in [0, 1, 1000, 40000, 65536, length - 1, length] {
         compare_room(&rt, rt.alloc(), input.as_slice(), whole, room);
+    }
+    Ok(())
+}
+
+/// A reader that gives one octet at each call.
+#[derive(Drop)]
+struct OctetReader<'t> {
+    octets: &'t [u8],
+    at: usize,
+}
+
+impl Read for OctetReader<'_> {
+    fn read(&mut self, buffer: &mut [u8]) -> io::Result<usize> {
+        if self.at >= self.octets.len() || buffer.is_empty() {
+            return Ok(0);
+        }
+        buffer[0] = self.octets[self.at];
+        self.at += 1;
+        Ok(1)
+    }
+}
+
+/// A writer that takes one octet at each call.
+#[derive(Drop)]
+struct OctetWriter {
+    taken: Vec<u8>,
+}
+
+impl Write for OctetWriter {
+    fn write(&mut self, text: &[u8]) -> io::Result<usize> {
+        if text.is_empty() {
+            return Ok(0);
+        }
+        match self.taken.push(text[0]) {
+            Ok(()) => Ok(1),
+            Err(_) => Err(io::Error::from(ErrorKind::OutOfMemory)),
+        }
+    }
+
+    fn flush(&mut self) -> io::Result<()> {
+        Ok(())
+    }
+}
+
+/// The exit status of a run octet by octet, and what it prints.
+fn ran_by_octets(alloc: Global, texts: &[&str], octets: &[u8]) -> Result<(u8, Vec<u8>), Fail> {
+    let words = words_of(alloc, texts)?;
+    let mut reader = OctetReader { octets, at: 0 };
+    let mut writer = OctetWriter {
+        taken: Vec::new(alloc),
+    };
+    let status = run(alloc, &words, &mut reader, &mut writer);
+    Ok((status, writer.taken))
+}
+
+/// Words and inputs of each command that reads its standard input.
+static COMMANDS: [(&[&str], &[u8]); 6] = [
+    (
+        &["play", "GET|/|200|6869"],
+        b"505249202a20485454502f322e300d0a0d0a534d0d0a0d0a 000000040000000000 000003010500000001828684",
+    ),
+    (
+        &["play", "--each"],
+        b"505249202a20485454502f322e300d0a0d0a534d0d0a0d0a 000000040000000000",
+    ),
+    (&["asm"], b"PREFACE\nSETTINGS 00 0 s4=1\nPING 00 0 x0102030405060708\n"),
+    (&["dis"], b"0000080600000000000102030405060708 00"),
+    (&["table", "4096"], b"add a b\nmax 0\n"),
+    (
+        &["debug"],
+        b"505249202a20485454502f322e300d0a0d0a534d0d0a0d0a000000040000000000\nrun\nshow\nback 1\n",
+    ),
+];
+
+#[test]
+fn devices_of_one_octet_change_nothing(rt: HostRuntime) -> Result<(), Fail> {
+    for (words, input) in &COMMANDS {
+        let (status, whole) = ran(rt.alloc(), words, input)?;
+        let (found, text) = ran_by_octets(rt.alloc(), words, input)?;
+        assert!(rt; !whole.is_empty(), "each prints something");
+        same(
+            &rt,
+            &(found, text.as_slice()),
+            &(status, whole.as_slice()),
+            &words[0],
+        );
     }
     Ok(())
 }

@@ -1,9 +1,9 @@
-//! `play` told item by item.
+//! `play --each`, which shows each item.
 
 use crate::program::Run;
 
-/// Runs told item by item.
-pub(crate) static TOLD: [Run; 2] = [
+/// Runs that show each item.
+pub(crate) static EACH: [Run; 2] = [
     (
         "one octet that is no preface",
         &["play", "--each"],

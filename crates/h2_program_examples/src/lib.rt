@@ -18,6 +18,8 @@ mod devices;
 #[cfg(test)]
 mod digits;
 #[cfg(test)]
+mod early;
+#[cfg(test)]
 mod faults;
 #[cfg(test)]
 mod flow;

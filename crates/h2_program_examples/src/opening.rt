@@ -1,179 +1,101 @@
 //! The preface, the first frames, and heads of frames (RFC 9113, 3.4 and 4).
 
-use crate::program::{Exchange, Run, compare_exchange, filled};
+use crate::program::{Exchange, Opening, compare_exchange, filled};
 use std::test::Fail;
 
 /// Openings, also those that end the connection, and one that is not whole.
-pub(crate) static OPENINGS: [Run; 13] = [
+pub(crate) static OPENINGS: [Opening; 13] = [
     (
         "no octets",
         &["play"],
-        b"",
-        b"sent 00000c040000000000000300000064000600010000\n\
-         phase preface last 0\n\
-         window recv 65535 owed 0 send 65535\n\
-         peer table 4096 push 1 streams - window 65535 frame 16384 list - signal 0\n\
-         acked 0 goaway -\n\
-         block -\n\
-         table 0 0 4096\n",
-        0,
+        "",
+        "",
+        &["phase preface last 0"],
     ),
     (
         "preface and SETTINGS",
         &["play"],
-        b"505249202a20485454502f322e300d0a0d0a534d0d0a0d0a 000000040000000000",
-        b"sent 00000c040000000000000300000064000600010000000000040100000000\n\
-         phase running last 0\n\
-         window recv 65535 owed 0 send 65535\n\
-         peer table 4096 push 1 streams - window 65535 frame 16384 list - signal 0\n\
-         acked 0 goaway -\n\
-         block -\n\
-         table 0 0 4096\n",
-        0,
+        "505249202a20485454502f322e300d0a0d0a534d0d0a0d0a 000000040000000000",
+        "SETTINGS 01 0 -",
+        &[],
     ),
     (
         "preface and SETTINGS, octet by octet",
         &["play", "--cut", "1"],
-        b"505249202a20485454502f322e300d0a0d0a534d0d0a0d0a 000000040000000000",
-        b"sent 00000c040000000000000300000064000600010000000000040100000000\n\
-         phase running last 0\n\
-         window recv 65535 owed 0 send 65535\n\
-         peer table 4096 push 1 streams - window 65535 frame 16384 list - signal 0\n\
-         acked 0 goaway -\n\
-         block -\n\
-         table 0 0 4096\n",
-        0,
+        "505249202a20485454502f322e300d0a0d0a534d0d0a0d0a 000000040000000000",
+        "SETTINGS 01 0 -",
+        &[],
     ),
     (
         "acknowledgement of the settings",
         &["play"],
-        b"505249202a20485454502f322e300d0a0d0a534d0d0a0d0a 000000040000000000 000000040100000000",
-        b"sent 00000c040000000000000300000064000600010000000000040100000000\n\
-         phase running last 0\n\
-         window recv 65535 owed 0 send 65535\n\
-         peer table 4096 push 1 streams - window 65535 frame 16384 list - signal 0\n\
-         acked 1 goaway -\n\
-         block -\n\
-         table 0 0 4096\n",
-        0,
+        "505249202a20485454502f322e300d0a0d0a534d0d0a0d0a 000000040000000000 000000040100000000",
+        "SETTINGS 01 0 -",
+        &["acked 1 goaway -"],
     ),
     (
         "the same over lines",
         &["play"],
-        b"50 5249202a20485454502f322e300d0a0d0a534d0d0a0d0a\r\n000000040000000000\n\t000000040100000000\n",
-        b"sent 00000c040000000000000300000064000600010000000000040100000000\n\
-         phase running last 0\n\
-         window recv 65535 owed 0 send 65535\n\
-         peer table 4096 push 1 streams - window 65535 frame 16384 list - signal 0\n\
-         acked 1 goaway -\n\
-         block -\n\
-         table 0 0 4096\n",
-        0,
+        "50 5249202a20485454502f322e300d0a0d0a534d0d0a0d0a\r\n000000040000000000\n\t000000040100000000\n",
+        "SETTINGS 01 0 -",
+        &["acked 1 goaway -"],
     ),
     (
         "PING",
         &["play"],
-        b"505249202a20485454502f322e300d0a0d0a534d0d0a0d0a 000000040000000000 0000080600000000000102030405060708",
-        b"sent 00000c0400000000000003000000640006000100000000000401000000000000080601000000000102030405060708\n\
-         phase running last 0\n\
-         window recv 65535 owed 0 send 65535\n\
-         peer table 4096 push 1 streams - window 65535 frame 16384 list - signal 0\n\
-         acked 0 goaway -\n\
-         block -\n\
-         table 0 0 4096\n",
-        0,
+        "505249202a20485454502f322e300d0a0d0a534d0d0a0d0a 000000040000000000 0000080600000000000102030405060708",
+        "SETTINGS 01 0 -\nPING 01 0 x0102030405060708",
+        &[],
     ),
     // Openings that end the connection, and one that is not whole.
     (
         "preface without its last octet",
         &["play"],
-        b"505249202a20485454502f322e300d0a0d0a534d0d0a0d",
-        b"sent 00000c040000000000000300000064000600010000\n\
-         phase preface last 0\n\
-         window recv 65535 owed 0 send 65535\n\
-         peer table 4096 push 1 streams - window 65535 frame 16384 list - signal 0\n\
-         acked 0 goaway -\n\
-         block -\n\
-         table 0 0 4096\n",
-        0,
+        "505249202a20485454502f322e300d0a0d0a534d0d0a0d",
+        "",
+        &["phase preface last 0"],
     ),
     (
         "preface whose last octet differs",
         &["play"],
-        b"505249202a20485454502f322e300d0a0d0a534d0d0a0d0b",
-        b"sent 00000c0400000000000003000000640006000100000000080700000000000000000000000001\n\
-         phase ended 1 last 0\n\
-         window recv 65535 owed 0 send 65535\n\
-         peer table 4096 push 1 streams - window 65535 frame 16384 list - signal 0\n\
-         acked 0 goaway -\n\
-         block -\n\
-         table 0 0 4096\n",
-        0,
+        "505249202a20485454502f322e300d0a0d0a534d0d0a0d0b",
+        "GOAWAY 00 0 x0000000000000001",
+        &["phase ended 1 last 0"],
     ),
     (
         "more octets behind it",
         &["play"],
-        b"505249202a20485454502f322e300d0a0d0a534d0d0a0d0b 000000040000000000 0000080600000000000102030405060708",
-        b"sent 00000c0400000000000003000000640006000100000000080700000000000000000000000001\n\
-         phase ended 1 last 0\n\
-         window recv 65535 owed 0 send 65535\n\
-         peer table 4096 push 1 streams - window 65535 frame 16384 list - signal 0\n\
-         acked 0 goaway -\n\
-         block -\n\
-         table 0 0 4096\n",
-        0,
+        "505249202a20485454502f322e300d0a0d0a534d0d0a0d0b 000000040000000000 0000080600000000000102030405060708",
+        "GOAWAY 00 0 x0000000000000001",
+        &["phase ended 1 last 0"],
     ),
     (
         "the same, octet by octet",
         &["play", "--cut", "1"],
-        b"505249202a20485454502f322e300d0a0d0a534d0d0a0d0b 000000040000000000 0000080600000000000102030405060708",
-        b"sent 00000c0400000000000003000000640006000100000000080700000000000000000000000001\n\
-         phase ended 1 last 0\n\
-         window recv 65535 owed 0 send 65535\n\
-         peer table 4096 push 1 streams - window 65535 frame 16384 list - signal 0\n\
-         acked 0 goaway -\n\
-         block -\n\
-         table 0 0 4096\n",
-        0,
+        "505249202a20485454502f322e300d0a0d0a534d0d0a0d0b 000000040000000000 0000080600000000000102030405060708",
+        "GOAWAY 00 0 x0000000000000001",
+        &["phase ended 1 last 0"],
     ),
     (
         "one octet that is no preface",
         &["play"],
-        b"47",
-        b"sent 00000c0400000000000003000000640006000100000000080700000000000000000000000001\n\
-         phase ended 1 last 0\n\
-         window recv 65535 owed 0 send 65535\n\
-         peer table 4096 push 1 streams - window 65535 frame 16384 list - signal 0\n\
-         acked 0 goaway -\n\
-         block -\n\
-         table 0 0 4096\n",
-        0,
+        "47",
+        "GOAWAY 00 0 x0000000000000001",
+        &["phase ended 1 last 0"],
     ),
     (
         "first frame SETTINGS on stream 1",
         &["play"],
-        b"505249202a20485454502f322e300d0a0d0a534d0d0a0d0a 000000040000000001",
-        b"sent 00000c0400000000000003000000640006000100000000080700000000000000000000000001\n\
-         phase ended 1 last 0\n\
-         window recv 65535 owed 0 send 65535\n\
-         peer table 4096 push 1 streams - window 65535 frame 16384 list - signal 0\n\
-         acked 0 goaway -\n\
-         block -\n\
-         table 0 0 4096\n",
-        0,
+        "505249202a20485454502f322e300d0a0d0a534d0d0a0d0a 000000040000000001",
+        "GOAWAY 00 0 x0000000000000001",
+        &["phase ended 1 last 0"],
     ),
     (
         "first frame PING",
         &["play"],
-        b"505249202a20485454502f322e300d0a0d0a534d0d0a0d0a 0000080600000000000102030405060708",
-        b"sent 00000c0400000000000003000000640006000100000000080700000000000000000000000001\n\
-         phase ended 1 last 0\n\
-         window recv 65535 owed 0 send 65535\n\
-         peer table 4096 push 1 streams - window 65535 frame 16384 list - signal 0\n\
-         acked 0 goaway -\n\
-         block -\n\
-         table 0 0 4096\n",
-        0,
+        "505249202a20485454502f322e300d0a0d0a534d0d0a0d0a 0000080600000000000102030405060708",
+        "GOAWAY 00 0 x0000000000000001",
+        &["phase ended 1 last 0"],
     ),
 ];
 

@@ -3,7 +3,7 @@
 
 use crate::digits::digits_of;
 use crate::same::same;
-use crate::{blocks, faults, flow, items, opening, order, requests, sessions, tables};
+use crate::{blocks, early, faults, flow, items, opening, order, requests, sessions, tables};
 use h2_bench::{Words, run};
 use h2_script::assemble;
 use std::alloc::{AllocError, Global};
@@ -35,6 +35,16 @@ pub(crate) type Run = (
 /// preface and SETTINGS of no setting, the script of those that are sent behind the opening SETTINGS and the
 /// acknowledgement, and the lines of the state that are not those of `RUNNING`, in their order.
 pub(crate) type Exchange = (
+    &'static str,
+    &'static [&'static str],
+    &'static str,
+    &'static str,
+    &'static [&'static str],
+);
+
+/// An opening of `play`: its name, the words behind the program's name, the hex text that comes, the script of the
+/// frames that are sent behind the opening SETTINGS, and the lines of the state that are not those of `RUNNING`.
+pub(crate) type Opening = (
     &'static str,
     &'static [&'static str],
     &'static str,
@@ -173,12 +183,12 @@ fn print_more(lines: &[&str], text: &mut Vec<u8>) -> Result<(), AllocError> {
     Ok(())
 }
 
-/// Appends what `play` prints where these frames are sent behind the opening SETTINGS and the acknowledgement, and
-/// the state has these lines.
-fn print(sent: &[u8], lines: &[&str], text: &mut Vec<u8>) -> Result<(), AllocError> {
-    let front = [b"sent ", OPENING.as_bytes(), ACKNOWLEDGEMENT.as_bytes()];
-    join(text, &front)?;
-    close_up(sent, text)?;
+/// Appends what `play` prints where these frames are sent behind the opening SETTINGS, and the state has these lines.
+fn print(sent: &[&[u8]], lines: &[&str], text: &mut Vec<u8>) -> Result<(), AllocError> {
+    join(text, &[b"sent ", OPENING.as_bytes()])?;
+    for frames in sent {
+        close_up(frames, text)?;
+    }
     join(text, &[b"\n"])?;
     print_running(lines, text)?;
     print_more(lines, text)
@@ -235,7 +245,8 @@ pub(crate) fn compare_exchange(
     let mut text = Vec::new(alloc);
     let status = status_of_play(alloc, words, frames, &mut text);
     let mut printed = Vec::new(alloc);
-    let is_printed = print(sent, lines, &mut printed);
+    let sent = [ACKNOWLEDGEMENT.as_bytes(), sent];
+    let is_printed = print(&sent, lines, &mut printed);
     let wanted = (Ok(0), Ok(()), printed.as_slice());
     same(rt, &(status, is_printed, text.as_slice()), &wanted, &name);
 }
@@ -258,12 +269,29 @@ fn compare_exchanges(rt: &impl Abort, alloc: Global, cases: &[Exchange]) -> Resu
     Ok(())
 }
 
+/// Runs the program for an opening, and compares the frames that are sent and the state; the exit status is 0.
+fn compare_opening(rt: &impl Abort, alloc: Global, case: &Opening) -> Result<(), Fail> {
+    let (name, words, input, sent, lines) = case;
+    let sent = assembled(alloc, sent)?;
+    let mut printed = Vec::new(alloc);
+    print(&[sent.as_bytes()], lines, &mut printed)?;
+    compare(rt, alloc, name, words, input.as_bytes(), (0, printed.as_slice()));
+    Ok(())
+}
+
+#[test]
+fn openings_are_as_the_table_says(rt: HostRuntime) -> Result<(), Fail> {
+    for case in &opening::OPENINGS {
+        compare_opening(&rt, rt.alloc(), case)?;
+    }
+    Ok(())
+}
+
 #[test]
 fn runs_print_what_the_tables_say(rt: HostRuntime) {
-    let tables: [&[Run]; 6] = [
-        &opening::OPENINGS,
+    let tables: [&[Run]; 5] = [
         &order::ABOVE_THE_LIMIT,
-        &items::TOLD,
+        &items::EACH,
         &faults::REFUSED,
         &tables::LINES,
         &sessions::SESSIONS,
@@ -275,9 +303,10 @@ fn runs_print_what_the_tables_say(rt: HostRuntime) {
 
 #[test]
 fn exchanges_are_as_the_tables_say(rt: HostRuntime) -> Result<(), Fail> {
-    let tables: [&[Exchange]; 5] = [
+    let tables: [&[Exchange]; 6] = [
         &opening::HEADS,
         &requests::REQUESTS,
+        &early::EARLY,
         &blocks::DECODED,
         &flow::WINDOWS,
         &order::IN_ORDER,

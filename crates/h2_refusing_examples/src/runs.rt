@@ -2,6 +2,7 @@
 
 use crate::same::same;
 use h2_conn::{Conn, ConnFault};
+use h2_device::string_of;
 use h2_fields::octets::Octets;
 use h2_request::book::{Book, Entry};
 use h2_spec::connection::Config;
@@ -129,6 +130,7 @@ pub(crate) fn entry<A: Allocator + Copy>(
         status: 200,
         fields: Vec::new(alloc),
         body: octets(alloc, body)?,
+        early: false,
     })
 }
 
@@ -183,7 +185,7 @@ pub(crate) fn place<A: Allocator>(
     conn: &Conn<'_, A>,
     sent: &[u8],
 ) -> Result<Place, Fail> {
-    Ok((hex::encode(alloc, sent)?, format!(in alloc; "{conn}")?))
+    Ok((hex::encode(alloc, sent)?, string_of(alloc, conn)?))
 }
 
 /// The place of a new connection, and those after each item.

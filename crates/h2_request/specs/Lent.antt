@@ -7,7 +7,7 @@ use Rattle.h2_request.specs.declared.book.Answer as declared
 
 -- the answer that is lent
 abbrev pub answered : {A : Type 0} → declared.Answer A → Answer
-answered a = answer a.status a.fields.now a.body.now
+answered a = record (answer a.status a.fields.now a.body.now) { early = a.early }
 
 -- a pick of this book: an entry that is there, or none
 abbrev pub IsPickOf : List Entry → Pick → Type 0

@@ -1,4 +1,4 @@
-//! Whether the field block of a response is within its limit, told without writing it.
+//! Whether the field block of a response is within its limit, found without writing it.
 //! It rests on nothing; the block is `response_block` of `h2_spec`, specs/Answer.antt, and the lengths of its parts
 //! are in
 //! specs/BlockLength.antt.

@@ -3,19 +3,18 @@
 //! `pick_of` and
 //! `picked` of specs/Answer.antt.
 
-ghost use Rattle.std.specs.Prelude.{None, ◌≡◌, ◌≢◌, ◌≤◌, ◌==◌, ◌&&◌, ◌||◌, [], ◌∷◌, ◌++◌, OnOk, OnErr, IfOk, IfErr, MatchOption, codes, length, nat_lt, position, bytes_eq, take};
+ghost use Rattle.std.specs.Prelude.{None, ◌≡◌, ◌≤◌, ◌==◌, ◌&&◌, ◌||◌, [], ◌∷◌, ◌++◌, OnOk, OnErr, IfOk, IfErr, option_map, codes, length, nat_lt, position, bytes_eq, take};
 ghost use Rattle.std.specs.List.{list_any};
 ghost use Rattle.h2_spec.specs.Answer.{bare as bare_answer, pick_of, picked};
 ghost use Rattle.h2_spec.specs.Book.{entry_fault};
 ghost use Rattle.h2_spec.specs.Book as spec;
 ghost use Rattle.h2_request.specs.Asked.{asked};
-ghost use Rattle.h2_request.specs.Fault.{IsRefusal};
+ghost use Rattle.h2_request.specs.Fault.{IsRefusal, entry_number};
 ghost use Rattle.h2_request.specs.Lent.{answered, block_of_answer, IsPickOf};
-ghost use Rattle.h2_request.specs.declared.fault.BookFault.TheVariants.{NoMemory};
 ghost use Rattle.h2_spec.specs.declared.streams.Pick.TheVariants.{Listed};
 
 use crate::block_length::is_block_too_long;
-use crate::fault::BookFault;
+use crate::fault::{BookFault, EntryFault};
 use crate::octets;
 use crate::well_formed::Request;
 use h2_fields::field::Field;
@@ -44,6 +43,9 @@ pub struct Entry<A: Allocator> {
     pub fields: Vec<Field<A>, A>,
     /// The body of the answer; may be empty.
     pub body: Octets<A>,
+    /// Whether the answer begins at the end of the request's fields, although the request may go on (RFC 9113, 8.1);
+    /// otherwise it begins at the end of the request.
+    pub early: bool,
 }
 
 impl<A: Allocator> Model for Entry<A> {
@@ -51,7 +53,7 @@ impl<A: Allocator> Model for Entry<A> {
 
     ghost Value = { spec.Entry };
 
-    ghost view = { λ e. record { method = e.method; path = e.path; answer = spec.answer e.status e.fields.items e.body } };
+    ghost view = { λ e. record { method = e.method; path = e.path; answer = record (spec.answer e.status e.fields.items e.body) { early = e.early } } };
 }
 
 /// An answer, lent by its book.
@@ -63,6 +65,8 @@ pub struct Answer<'a, A: Allocator> {
     pub fields: &'a [Field<A>],
     /// The body.
     pub body: &'a [u8],
+    /// Whether it begins at the end of the request's fields, although the request may go on.
+    pub early: bool,
 }
 
 /// An entry, and the field block of its answer, without a table size update.
@@ -103,14 +107,11 @@ impl<A: Allocator + Copy> Book<A> {
     ///
     /// # Errors
     ///
-    /// The first of these that holds; the entry is dropped and the book stays as it was. `BadStatus`: the status is
-    /// outside
-    /// 200 to 599. `BadField`: a name or value is ill-formed, or a field is one of a connection, a pseudo-field or
-    /// `content-length` (RFC 9113, 8.2 and 8.3). `BodyNotAllowed`: a body with status 204, 205 or 304, or for the
-    /// method
-    /// HEAD. `TooLong`: the book has 1000 entries, the body is above 1,048,576 octets, or the response's field block
-    /// is above
-    /// 16,383. `NoMemory`: the growth was refused.
+    /// The entry is dropped and the book is as it was. `BadEntry` with the first of these that holds. `BadStatus`: the
+    /// status is outside 200 to 599. `BadField`: a name or value is ill-formed, or a field is one of a connection, a
+    /// pseudo-field or `content-length` (RFC 9113, 8.2 and 8.3). `BodyNotAllowed`: a body with status 204, 205 or 304,
+    /// or for the method HEAD. `TooLong`: the book has 1000 entries, the body is above 1,048,576 octets, or the
+    /// response's field block is above 16,383. Where the entry is allowed: `NoMemory`, the growth was refused.
     pub fn add(&mut self, entry: Entry<A>) -> Result<(), BookFault>
         ensures added { OnOk result (self.new ≡ self.old ++ entry ∷ []) }
         ensures allowed { OnOk result (entry_fault self.old entry ≡ None) }
@@ -130,7 +131,7 @@ impl<A: Allocator + Copy> Book<A> {
         ensures refused { IfErr result (λ fault. IsRefusal (entry_fault self.now entry.now) fault) }
     {
         match self.fault_of(entry) {
-            Some(fault) => Err(fault),
+            Some(fault) => Err(BookFault::BadEntry(fault)),
             None => {
                 let alloc = *self.entries.allocator();
                 let block = response_block(alloc, false, entry.status, entry.fields.as_slice())?;
@@ -167,17 +168,17 @@ impl<A: Allocator> Book<A> {
 
     /// Why the entry is refused, if it is for another cause than memory.
     #[tactic(auto, unfolding(h2_spec::specs::Book::entry_fault))]
-    fn fault_of(&self, entry: &Entry<A>) -> Option<BookFault>
-        ensures { MatchOption result (entry_fault self.now entry.now ≡ None) (λ fault. IsRefusal (entry_fault self.now entry.now) fault × (fault ≢ NoMemory)) }
+    fn fault_of(&self, entry: &Entry<A>) -> Option<EntryFault>
+        ensures { entry_fault self.now entry.now ≡ option_map entry_number result }
     {
         if is_bad_status(entry.status) {
-            Some(BookFault::BadStatus)
+            Some(EntryFault::BadStatus)
         } else if has_bad_field(entry.fields.as_slice()) {
-            Some(BookFault::BadField)
+            Some(EntryFault::BadField)
         } else if has_body_not_allowed(entry) {
-            Some(BookFault::BodyNotAllowed)
+            Some(EntryFault::BodyNotAllowed)
         } else if self.is_too_long(entry) {
-            Some(BookFault::TooLong)
+            Some(EntryFault::TooLong)
         } else {
             None
         }
@@ -263,7 +264,7 @@ impl<A: Allocator> Book<A> {
         }
     }
 
-    /// A status alone.
+    /// A status alone, once the request has ended.
     fn bare(&self, status: u16) -> Answer<'_, A>
         ensures { answered result ≡ bare_answer status }
     {
@@ -271,6 +272,7 @@ impl<A: Allocator> Book<A> {
             status,
             fields: &[],
             body: b"".as_slice(),
+            early: false,
         }
     }
 }
@@ -290,6 +292,7 @@ fn answer_of<A: Allocator>(stored: &Stored<A>) -> Answer<'_, A>
         status: entry.status,
         fields: entry.fields.as_slice(),
         body: entry.body.as_slice(),
+        early: entry.early,
     }
 }
 

@@ -1,32 +1,54 @@
-//! What a book of answers refuses, numbered as the faults of all crates are.
-//! It rests on nothing; which entries are refused is in `h2_spec`, specs/Book.antt.
+//! Why a book refuses an entry, numbered as the faults of all crates are.
+//! It uses nothing; which entries are refused is in `h2_spec`, specs/Book.antt.
 
 ghost use Rattle.std.specs.Prelude.{◌≡◌};
-ghost use Rattle.h2_request.specs.Fault.{fault_number};
+ghost use Rattle.h2_request.specs.Fault.{entry_number, fault_number};
 ghost use Rattle.h2_request.specs.declared.fault.BookFault.TheVariants.{NoMemory};
 
 use std::alloc::{AllocError, AllocFailed};
 use thiserror::Error;
 
-/// Why a book refused an entry, in the order in which the reasons are looked for; `NoMemory` comes last.
+/// What is wrong with an entry, in the order in which it is looked for.
 #[derive(Clone, Copy, Debug, PartialEq, Eq, Error)]
-pub enum BookFault {
-    /// 0: the growth of the book's memory was refused.
-    #[error("out of memory")]
-    NoMemory,
+pub enum EntryFault {
     /// 12: the status is outside 200 to 599.
     #[error("the status is outside 200 to 599")]
     BadStatus,
     /// 13: a field is ill-formed (RFC 9113, 8.2.1), of a connection (RFC 9113, 8.2.2), a pseudo-field, or
     /// `content-length`.
-    #[error("a field may not stand in an answer")]
+    #[error("a field is not allowed in an answer")]
     BadField,
     /// 14: there is a body with status 204, 205 or 304, or for the method HEAD.
-    #[error("a body may not stand in this answer")]
+    #[error("a body is not allowed in this answer")]
     BodyNotAllowed,
     /// 15: the book is full, or the body or the response's field block is above its limit.
     #[error("the book, the body or the fields would pass their limit")]
     TooLong,
+}
+
+impl EntryFault {
+    /// The number of the fault, the same in all crates: 12 to 15.
+    pub fn number(self) -> u8
+        ensures { result ≡ entry_number self }
+    {
+        match self {
+            EntryFault::BadStatus => 12,
+            EntryFault::BadField => 13,
+            EntryFault::BodyNotAllowed => 14,
+            EntryFault::TooLong => 15,
+        }
+    }
+}
+
+/// Why a book did not take an entry.
+#[derive(Clone, Copy, Debug, PartialEq, Eq, Error)]
+pub enum BookFault {
+    /// 0: the growth of the book's memory was refused.
+    #[error("out of memory")]
+    NoMemory,
+    /// 12 to 15: the entry is refused.
+    #[error("{0}")]
+    BadEntry(EntryFault),
 }
 
 impl BookFault {
@@ -36,10 +58,7 @@ impl BookFault {
     {
         match self {
             BookFault::NoMemory => 0,
-            BookFault::BadStatus => 12,
-            BookFault::BadField => 13,
-            BookFault::BodyNotAllowed => 14,
-            BookFault::TooLong => 15,
+            BookFault::BadEntry(fault) => fault.number(),
         }
     }
 }

@@ -15,7 +15,7 @@ pub enum Reason {
     BadName,
     /// 2: a value has an octet 00, 0a or 0d, or begins or ends with a space or a tab (RFC 9113, 8.2.1).
     BadValue,
-    /// 3: a pseudo-field stands after a regular field (RFC 9113, 8.3).
+    /// 3: a pseudo-field is after a regular field (RFC 9113, 8.3).
     LatePseudoField,
     /// 4: a pseudo-field is none of a request's; in trailers, there is one at all (RFC 9113, 8.1 and 8.3).
     UnknownPseudoField,

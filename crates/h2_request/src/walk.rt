@@ -51,7 +51,7 @@ impl Marks {
     }
 }
 
-/// The pseudo-fields of a request: the first value of each, and what stands against them.
+/// The pseudo-fields of a request: the first value of each, and the reason against them.
 #[derive(Clone, Copy)]
 pub struct PseudoFields<'a> {
     pub regular: bool,

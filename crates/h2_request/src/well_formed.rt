@@ -35,7 +35,7 @@ pub struct Request<'a> {
 ///
 /// # Errors
 ///
-/// `Malformed` with the least reason that stands against the fields (RFC 9113, 8.1.1, 8.2, 8.3 and 8.5).
+/// `Malformed` with the least reason against the fields (RFC 9113, 8.1.1, 8.2, 8.3 and 8.5).
 pub fn check<A: Allocator>(fields: &[Field<A>]) -> Result<Request<'_>, Malformed>
     ensures accepted { OnOk result (malformed fields.now ≡ None) }
     ensures request { IfOk result (λ request. asked request ≡ request_of fields.now) }
@@ -65,7 +65,7 @@ pub fn check_fields<'a, A: Allocator>(fields: &Fields<'a, A>) -> Result<Request<
 ///
 /// # Errors
 ///
-/// `Malformed` with the least reason that stands against the fields: `BadName`, `BadValue`, `UnknownPseudoField` for
+/// `Malformed` with the least reason against the fields: `BadName`, `BadValue`, `UnknownPseudoField` for
 /// any
 /// pseudo-field, `ConnectionField` or `BadTe` (RFC 9113, 8.1 and 8.2).
 pub fn check_trailers<A: Allocator>(fields: &[Field<A>]) -> Result<(), Malformed>

@@ -49,11 +49,11 @@ opening-put r id st above odd same = ((λ over. ap (λ n. n % 2) same ∙ odd, �
 -- facts that agree with those of the fields as far as these are looked at do the same
 pub same-opening : (book : List Entry) (config : Config) (live : ℕ) (core : ConnectionState) (id : ℕ) (ends : Bool) (fields : List Field) (f : BlockSummary) →
     f.size ≡ list_size fields → f.malformed ≡ is_some (malformed fields) → (malformed fields ≡ None → f ≡ request_summary book fields) →
-    request_outcome config live (length (picked book f.pick).body) core id ends f ≡ (let g = request_summary book fields in request_outcome config live (length (picked book g.pick).body) core id ends g)
+    request_outcome config live (length (picked book f.pick).body) (picked book f.pick).early core id ends f ≡ (let g = request_summary book fields in request_outcome config live (length (picked book g.pick).body) (picked book g.pick).early core id ends g)
 same-opening book config live core id ends fields f size bad well = at (malformed fields) refl
   where
-    at : (o : Option ℕ) → malformed fields ≡ o → request_outcome config live (length (picked book f.pick).body) core id ends f ≡ (let g = request_summary book fields in request_outcome config live (length (picked book g.pick).body) core id ends g)
-    at None e = ap (λ (g : BlockSummary). request_outcome config live (length (picked book g.pick).body) core id ends g) (well e)
+    at : (o : Option ℕ) → malformed fields ≡ o → request_outcome config live (length (picked book f.pick).body) (picked book f.pick).early core id ends f ≡ (let g = request_summary book fields in request_outcome config live (length (picked book g.pick).body) (picked book g.pick).early core id ends g)
+    at None e = ap (λ (g : BlockSummary). request_outcome config live (length (picked book g.pick).body) (picked book g.pick).early core id ends g) (well e)
     at (Some k) e =
         let g = request_summary book fields in
-        malformed-turn config live (length (picked book f.pick).body) (length (picked book g.pick).body) core id ends f g size (bad ∙ ap is_some e) (ap is_some e)
+        malformed-turn config live (length (picked book f.pick).body) (length (picked book g.pick).body) (picked book f.pick).early (picked book g.pick).early core id ends f g size (bad ∙ ap is_some e) (ap is_some e)

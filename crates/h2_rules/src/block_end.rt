@@ -73,14 +73,15 @@ fn opening_outcome<A: Allocator>(
 ) -> StreamOutcome
     requires core { IsSoundConnectionState core }
     requires pick { IsPickOf book.now summary.pick }
-    ensures rule { result ≡ rule.request_outcome config live (length (picked book.now summary.pick).body) core id ends summary }
+    ensures rule { let a = picked book.now summary.pick in result ≡ rule.request_outcome config live (length a.body) a.early core id ends summary }
     ensures id { result.stream.id ≡ id }
     ensures sound { IsSoundStream core.peer.window result.stream }
     ensures waits { HasBody book.now result.stream }
     ensures recorded { is_recorded result.stream.kind ≡ true }
 {
     let body = body_length(book, summary.pick);
-    request_outcome(config, live, body, core, id, ends, summary)
+    let early = book.answer(summary.pick).early;
+    request_outcome(config, live, body, early, core, id, ends, summary)
 }
 
 /// The end of a request's block, on a client's stream above the others: it opens the stream, or refuses it.
@@ -135,7 +136,7 @@ fn trailers_end<A: Allocator + Copy>(
     with_outcome(only_counts(core), outcome)
 }
 
-/// Whether a reason stands against fields as trailers (RFC 9113, 8.1).
+/// Whether there is a reason against fields as trailers (RFC 9113, 8.1).
 fn are_no_trailers<A: Allocator>(fields: &Collected<A>) -> bool
     ensures { result ≡ is_some (malformed_trailers fields.now.fields) }
 {

@@ -56,9 +56,9 @@ fn begun(body: u64, stream: Stream) -> Stream
     }
 }
 
-/// The answer begins.
+/// The answer begins, `body` being the length of its body in octets.
 #[tactic(auto, unfolding(h2_spec::specs::StreamEnds::answered))]
-fn answered(size_update_pending: bool, body: u64, stream: Stream) -> StreamOutcome
+pub fn answered(size_update_pending: bool, body: u64, stream: Stream) -> StreamOutcome
     ensures rule { result ≡ rule.answered size_update_pending body stream }
     ensures id { result.stream.id ≡ stream.id }
     ensures sound { (window : ℕ) → window ≤ 2147483647 → IsSoundStream window stream → IsSoundStream window result.stream }

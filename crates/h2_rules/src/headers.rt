@@ -8,7 +8,7 @@ ghost use Rattle.h2_request.specs.Lent.{IsPickOf};
 ghost use Rattle.h2_rules.specs.Sound.{HasBody, IsSoundConnectionState, IsSoundStream, is_recorded};
 
 use crate::change::{outcome_without_frame, stream_error};
-use crate::ends::{breaks_length, peer_ended};
+use crate::ends::{answered, breaks_length, peer_ended};
 use h2_spec::connection::{Config, ConnectionState};
 use h2_spec::errors::ErrorCode;
 use h2_spec::flow::{Credit, Window};
@@ -75,9 +75,9 @@ fn is_malformed(ends: bool, summary: BlockSummary) -> bool
     summary.malformed || (ends && declares_content(summary.declared))
 }
 
-/// What becomes of the stream that a request opens (RFC 9113, 8.1): it is answered where the request has ended, and
-/// waits for content and trailers where it has not. `live` is the number of live streams, `body` the length of the
-/// answer's body in octets.
+/// What becomes of the stream that a request opens (RFC 9113, 8.1): it is answered where the request has ended or its
+/// answer is `early`, and otherwise waits for content and trailers. `live` is the number of live streams, `body` the
+/// length of the answer's body in octets.
 ///
 /// # Errors
 ///
@@ -91,13 +91,14 @@ pub fn request_outcome(
     config: Config,
     live: usize,
     body: u64,
+    early: bool,
     core: ConnectionState,
     id: u32,
     ends: bool,
     summary: BlockSummary,
 ) -> StreamOutcome
     requires core { IsSoundConnectionState core }
-    ensures rule { result ≡ rule.request_outcome config live body core id ends summary }
+    ensures rule { result ≡ rule.request_outcome config live body early core id ends summary }
     ensures id { result.stream.id ≡ id }
     ensures sound { IsSoundStream core.peer.window result.stream }
     ensures waits { (book : List Entry) → body ≡ length (picked book summary.pick).body → IsPickOf book summary.pick → HasBody book result.stream }
@@ -116,6 +117,8 @@ pub fn request_outcome(
     let stream = new_stream(core, id, summary);
     if ends {
         peer_ended(size_update_pending, body, stream)
+    } else if early {
+        answered(size_update_pending, body, stream)
     } else {
         outcome_without_frame(size_update_pending, stream)
     }

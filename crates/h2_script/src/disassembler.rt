@@ -53,7 +53,7 @@ fn push_all<A: Allocator + Copy>(
     push_rest(alloc, rest, out)
 }
 
-/// Appends the line of what stands at the front of octets, if it is whole; answers how many octets it takes.
+/// Appends the line of what is at the front of octets, if it is whole; returns how many octets it takes.
 #[tactic(auto, unfolding(h2_spec::specs::Frame::preface))]
 fn push_next<A: Allocator + Copy>(
     alloc: A,
@@ -89,7 +89,7 @@ fn first_frame(octets: &[u8]) -> Option<(Head, &[u8])>
     Some((head, octets_up_to(rest, head.length as usize)))
 }
 
-/// Whether octets begin with the client's preface, where it may stand (RFC 9113, 3.4).
+/// Whether octets begin with the client's preface, where it is allowed (RFC 9113, 3.4).
 #[tactic(auto, unfolding(h2_spec::specs::Frame::preface))]
 fn begins_with_preface(first: bool, octets: &[u8]) -> bool
     ensures { result ≡ (first && starts_with nat_eq octets.now preface) }

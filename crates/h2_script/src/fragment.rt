@@ -63,7 +63,7 @@ fn if_spelled<A: Allocator>(text: String<A>, octets: &[u8], payload: &[u8]) -> O
     (octets == payload).then_some(text)
 }
 
-/// Appends the text and the octets of the instruction at the front, if a script can say it; answers how many octets
+/// Appends the text and the octets of the instruction at the front, if a script can say it; returns how many octets
 /// it takes.
 fn push_first<A: Allocator + Copy>(
     alloc: A,
@@ -137,7 +137,7 @@ fn is_writable_name<A: Allocator>(name: &Name<A>) -> bool
     }
 }
 
-/// Appends an instruction, and a comma before it where others stand there.
+/// Appends an instruction, and a comma before it where others precede it.
 fn push_behind<A: Allocator, B: Allocator>(
     instr: &Instr<B>,
     out: &mut String<A>,

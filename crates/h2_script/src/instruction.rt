@@ -54,7 +54,7 @@ fn built<A: Allocator>(octets: Vec<u8, A>, long: bool) -> Built<A>
     }
 }
 
-/// Appends the instruction at the front of a text, if there is one; answers what follows it.
+/// Appends the instruction at the front of a text, if there is one; returns what follows it.
 fn push_first<'a, A: Allocator + Copy>(
     alloc: A,
     text: &'a [u8],

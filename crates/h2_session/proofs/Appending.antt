@@ -1,12 +1,6 @@
--- What an output has after one text and then another.
+-- What an output has after a text.
 use Rattle.std.proofs.Common.{◌≡◌, ◌∙◌, ℕ, List, ◌++◌, Option, Some, None, ap, append_assoc}
 use Rattle.std.specs.Io.KnownBytes.{Appends, Keeps}
-
-pub both : (old mid new : Option (List ℕ)) (xs ys : List ℕ) → Appends old mid xs → Appends mid new ys → Appends old new (xs ++ ys)
-both None mid new xs ys x y = tt
-both (Some a) None new xs ys x y = absurd x
-both (Some a) (Some b) None xs ys x y = absurd y
-both (Some a) (Some b) (Some c) xs ys x y = y ∙ ap (λ (t : List ℕ). t ++ ys) x ∙ append_assoc a xs ys
 
 -- a text, and nothing behind it
 pub kept : (old mid new : Option (List ℕ)) (xs : List ℕ) → Appends old mid xs → Keeps mid new → Appends old new xs

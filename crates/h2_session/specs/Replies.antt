@@ -1,6 +1,5 @@
 -- What a command does to a debugger, and what is printed for it.
 use Rattle.std.specs.Prelude.{◌≡◌, ◌⊎◌, ℕ, ◌+◌, ◌-◌, ◌++◌, ◌==◌, ◌&&◌, Bool, true, false, nat_lt, min, if◌then◌else◌, List, [], ◌∷◌, codes, decimal, Option, Some, None, Result, Ok, Err}
-use Rattle.std.specs.String.{string_bytes}
 use Rattle.h2_spec.specs.Debug.{stop}
 use Rattle.h2_spec.specs.Show.{joined, octets_text, show}
 use Rattle.h2_spec.specs.View.{view}
@@ -62,7 +61,7 @@ answer d (Some (BreakOn b)) = done (record d { breaks = d.breaks ++ b ∷ [] })
 answer d (Some Clear) = done (record d { breaks = [] })
 answer d (Some Show) = record { text = shown_text d; after = d }
 
--- whether a command takes memory
+-- whether a command takes memory: no text does
 abbrev pub takes_memory : Option Command → Bool
 takes_memory None = false
 takes_memory (Some (Step n)) = true
@@ -71,19 +70,19 @@ takes_memory (Some (Go p)) = true
 takes_memory (Some Run) = true
 takes_memory (Some (BreakOn b)) = true
 takes_memory (Some Clear) = false
-takes_memory (Some Show) = true
+takes_memory (Some Show) = false
 
 -- the answer, or memory was refused and the debugger is as it was
 abbrev pub Obeys : Debugging → Option Command → List ℕ → Debugging → Type 0
 Obeys d command text after = ((text ≡ (answer d command).text) × (after ≡ (answer d command).after))
     ⊎ ((takes_memory command ≡ true) × (text ≡ fault_line 0) × (after ≡ d))
 
--- the text of a reply
-abbrev pub reply_text : Reply → List ℕ
-reply_text (code.At position) = at_line position
-reply_text code.Done = codes "ok\n"
-reply_text (code.Refused fault) = fault_line fault
-reply_text (code.Shown text) = string_bytes text
+-- the text of a reply of this debugger
+abbrev pub reply_text : Debugging → Reply → List ℕ
+reply_text d (code.At position) = at_line position
+reply_text d code.Done = codes "ok\n"
+reply_text d (code.Refused fault) = fault_line fault
+reply_text d code.Shown = shown_text d
 
 -- the reply to a move, and to a breakpoint
 abbrev pub moved_reply : Result ℕ DebugFault → Reply

@@ -55,7 +55,7 @@ fn room_for(passed: usize) -> usize
     ROOM.min(LIMIT - passed)
 }
 
-/// Reads up to this many octets to the front of the room, and says how many; 0 are the end of the input.
+/// Reads up to this many octets to the front of the buffer, and says how many; 0 are the end of the input.
 fn read_some<I: Input>(input: &mut I, room: &mut [u8], count: usize) -> Result<usize, DeviceFault>
     requires some { 0 < count }
     requires within { count ≤ length room.old }

@@ -1,15 +1,18 @@
-//! Replies to commands, and how they are written: whole, and then flushed, before the next command is read.
-//! Rests on h2_device and on the crate `itoa`; definitions: `specs/Replies.antt`.
+//! Replies to commands, and how they are written: whole, and then flushed, before the next command is read. No memory
+//! is taken for them.
+//! Rests on h2_debug, h2_text and h2_device; definitions: `specs/Replies.antt`.
 
-ghost use Rattle.std.specs.Prelude.{◌≡◌, ℕ, List, OnOk, is_err};
+ghost use Rattle.std.specs.Prelude.{◌≡◌, ℕ, List, OnOk, false, is_err};
 ghost use Rattle.std.specs.Io.KnownBytes.{Appends};
-ghost use Rattle.h2_session.specs.Replies.{number_line, reply_text};
+ghost use Rattle.h2_session.specs.Replies.{fault_line, number_line, reply_text, shown_text};
 
-use h2_device::{DeviceFault, Output};
-use itoa::Buffer;
+use h2_debug::Debugger;
+use h2_device::{DeviceFault, Number, Output, Text, texts};
+use h2_text::hex_text::OctetsText;
+use std::alloc::Global;
 
 /// What is printed for a command.
-#[derive(Drop)]
+#[derive(Clone, Copy)]
 pub enum Reply {
     /// The new position.
     At(usize),
@@ -17,46 +20,91 @@ pub enum Reply {
     Done,
     /// The number of a fault.
     Refused(u8),
-    /// The text of a position.
-    Shown(String),
+    /// The debugger's position, what its item sent, and the state.
+    Shown,
 }
 
-/// Writes a word, a number and a line feed. Takes no memory.
-#[tactic(auto, using(crate::proofs::Appending::both), unfolding(crate::specs::Replies::number_line))]
-fn write_line<O: Output>(output: &mut O, word: &str, number: u64) -> Result<(), DeviceFault>
-    ensures octets { OnOk result (Appends (O.written output.old) (O.written output.new) (number_line word.now number)) }
-    ensures flag { O.has_failed output.new ≡ is_err result }
-    ensures name { O.name output.new ≡ O.name output.old }
-{
-    let mut digits = Buffer::new();
-    output.write(word.as_bytes())?;
-    output.write(digits.format(number).as_bytes())?;
-    output.write(b"\n")
+/// A word, a number and a line feed.
+#[derive(Clone, Copy)]
+struct NumberLine<'w> {
+    word: &'w str,
+    number: u64,
 }
 
-/// Writes the text of a reply. Takes no memory.
-fn write_text<O: Output>(output: &mut O, reply: &Reply) -> Result<(), DeviceFault>
-    ensures octets { OnOk result (Appends (O.written output.old) (O.written output.new) (reply_text reply.now)) }
-    ensures flag { O.has_failed output.new ≡ is_err result }
-    ensures name { O.name output.new ≡ O.name output.old }
-{
-    match reply {
-        Reply::At(position) => write_line(output, "at ", *position as u64),
-        Reply::Done => output.write(b"ok\n"),
-        Reply::Refused(fault) => write_line(output, "fault ", u64::from(*fault)),
-        Reply::Shown(text) => output.write(text.as_bytes()),
+#[tactic(auto, unfolding(crate::specs::Replies::number_line))]
+impl Text for NumberLine<'_> {
+    ghost text = { λ l. number_line l.word.now l.number };
+
+    fn write_to<O: Output>(&self, output: &mut O) -> Result<(), DeviceFault> {
+        texts!(self.word, Number(self.number), "\n").write_to(output)
     }
 }
 
-/// Writes the text of a reply, and flushes the output. Takes no memory.
+/// The line of a fault, by its number.
+#[derive(Clone, Copy)]
+pub struct FaultLine(pub u8);
+
+impl Text for FaultLine {
+    ghost text = { λ l. fault_line l.0 };
+
+    fn write_to<O: Output>(&self, output: &mut O) -> Result<(), DeviceFault> {
+        let word = "fault ";
+        let number = u64::from(self.0);
+        NumberLine { word, number }.write_to(output)
+    }
+}
+
+/// The position of a debugger, the octets that its item sent, and the text of the state.
+#[derive(Clone, Copy)]
+struct PlaceText<'d, 'b>(&'d Debugger<'b, Global>);
+
+#[tactic(auto, using(h2_device::proofs::Appending::both), unfolding(crate::specs::Replies::place_text))]
+impl Text for PlaceText<'_, '_> {
+    ghost text = { λ p. shown_text p.0.now };
+
+    fn write_to<O: Output>(&self, output: &mut O) -> Result<(), DeviceFault> {
+        let position = Number(self.0.pos() as u64);
+        let sent = OctetsText(self.0.sent());
+        texts!("at ", position, "\nsent ", sent, "\n").write_to(output)?;
+        self.0.conn().write_to(output)
+    }
+}
+
+/// A reply of a debugger.
+#[derive(Clone, Copy)]
+pub struct ReplyText<'d, 'b> {
+    pub reply: Reply,
+    /// The debugger behind the command.
+    pub debugger: &'d Debugger<'b, Global>,
+}
+
+impl Text for ReplyText<'_, '_> {
+    ghost text = { λ r. reply_text r.debugger.now r.reply };
+
+    fn write_to<O: Output>(&self, output: &mut O) -> Result<(), DeviceFault> {
+        match self.reply {
+            Reply::At(position) => {
+                let word = "at ";
+                let number = position as u64;
+                NumberLine { word, number }.write_to(output)
+            }
+            Reply::Done => "ok\n".write_to(output),
+            Reply::Refused(fault) => FaultLine(fault).write_to(output),
+            Reply::Shown => PlaceText(self.debugger).write_to(output),
+        }
+    }
+}
+
+/// Writes a text, and flushes the output. Takes no memory.
 ///
 /// `DeviceFault` where the output failed; some first octets may be written then.
 #[tactic(auto, using(crate::proofs::Appending::kept))]
-pub fn write_reply<O: Output>(output: &mut O, reply: &Reply) -> Result<(), DeviceFault>
-    ensures octets { OnOk result (Appends (O.written output.old) (O.written output.new) (reply_text reply.now)) }
+pub fn write_flushed<O: Output, T: Text>(output: &mut O, text: &T) -> Result<(), DeviceFault>
+    requires { O.has_failed output.old ≡ false }
+    ensures octets { OnOk result (Appends (O.written output.old) (O.written output.new) (T.text text.now)) }
     ensures flag { O.has_failed output.new ≡ is_err result }
     ensures name { O.name output.new ≡ O.name output.old }
 {
-    write_text(output, reply)?;
+    text.write_to(output)?;
     output.flush()
 }

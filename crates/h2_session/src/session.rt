@@ -16,7 +16,7 @@ use crate::fault::SessionFault;
 use crate::line::{End, Line, next_line, spelled, take_digits};
 use crate::obey::obey;
 use crate::reader::Reader;
-use crate::reply::{Reply, write_reply};
+use crate::reply::{FaultLine, Reply, ReplyText, write_flushed};
 use h2_debug::{DebugFault, Debugger};
 use h2_device::{DeviceFault, Input, Output};
 use h2_request::book::Book;
@@ -25,41 +25,41 @@ use std::alloc::Global;
 
 /// Writes the line of a fault, and gives status 1, or 3 where that failed.
 fn refuse<O: Output>(output: &mut O, fault: SessionFault) -> u8
+    requires { O.has_failed output.old ≡ false }
     ensures printed { O.has_failed output.new ≡ false → (held : List ℕ) → O.written output.old ≡ Some held → Prints (failed (fault_number fault)) held (O.written output.new) result }
     ensures flag { O.has_failed output.new ≡ (result == 3) }
     ensures name { O.name output.new ≡ O.name output.old }
 {
-    match write_reply(output, &Reply::Refused(fault.number())) {
+    match write_flushed(output, &FaultLine(fault.number())) {
         Ok(()) => 1,
         Err(_) => 3,
     }
 }
 
 /// Does what a line asks for.
-fn obey_line(alloc: Global, debugger: &mut Debugger<'_, Global>, line: &[u8]) -> Reply
-    ensures { Obeys debugger.old (command_of line.now) (reply_text result) debugger.new }
+fn obey_line(debugger: &mut Debugger<'_, Global>, line: &[u8]) -> Reply
+    ensures { Obeys debugger.old (command_of line.now) (reply_text debugger.new result) debugger.new }
 {
-    obey(alloc, debugger, command_of(line))
+    obey(debugger, command_of(line))
 }
 
 /// Does what a line asks for, writes the reply, and flushes the output.
 fn answer<O: Output>(
-    alloc: Global,
     debugger: &mut Debugger<'_, Global>,
     line: &[u8],
     output: &mut O,
 ) -> Result<(), DeviceFault>
+    requires { O.has_failed output.old ≡ false }
     ensures printed { OnOk result (AnswersLine debugger.old (command_of line.now) debugger.new (O.written output.old) (O.written output.new)) }
     ensures flag { O.has_failed output.new ≡ is_err result }
     ensures name { O.name output.new ≡ O.name output.old }
 {
-    let reply = obey_line(alloc, debugger, line);
-    write_reply(output, &reply)
+    let reply = obey_line(debugger, line);
+    write_flushed(output, &ReplyText { reply, debugger })
 }
 
 /// RespondsWith each line until the input ends, and gives the exit status.
 fn follow<I: Input, O: Output>(
-    alloc: Global,
     debugger: &mut Debugger<'_, Global>,
     reader: &mut Reader,
     input: &mut I,
@@ -80,7 +80,7 @@ fn follow<I: Input, O: Output>(
             Ok(None) => return 0,
             Err(_) => return refuse(output, SessionFault::Read),
         };
-        let Ok(()) = answer(alloc, debugger, line.as_slice(), output) else {
+        let Ok(()) = answer(debugger, line.as_slice(), output) else {
             return 3;
         };
         if let End::Input = end {
@@ -144,6 +144,6 @@ pub fn debug_session<I: Input, O: Output>(
     };
     match end {
         End::Input => 0,
-        End::LineFeed => follow(alloc, &mut debugger, &mut reader, input, output),
+        End::LineFeed => follow(&mut debugger, &mut reader, input, output),
     }
 }

@@ -6,15 +6,17 @@ use Rattle.h2_spec.specs.Request.{Request}
 use Rattle.h2_spec.specs.declared.streams.Pick.{Pick}
 use Rattle.h2_spec.specs.declared.streams.Pick.TheVariants.{Listed, NotFound, Connect}
 
--- a response: its status, its fields besides that, and its content
+-- a response: its status, its fields besides that, its content, and whether it is early: whether it begins at the end
+-- of the request's fields, although the request may go on
 pub record Answer : Type 0 where
   pub status : ℕ
   pub fields : List Field
   pub body : List ℕ
+  pub early : Bool
 
--- a response of this status, these fields and this content
+-- a response of this status, these fields and this content, which begins when the request has ended
 abbrev pub answer : ℕ → List Field → List ℕ → Answer
-answer status fields body = record { status = status; fields = fields; body = body }
+answer status fields body = record { status = status; fields = fields; body = body; early = false }
 
 -- an entry of the book: the requests that it is for, and their answer
 pub record Entry : Type 0 where

@@ -1,5 +1,5 @@
--- The words of an answer: METHOD|PATH|STATUS|BODYHEX, and any number of parts |NAME=VALUE.
-use Rattle.std.specs.Prelude.{ℕ, Bool, ◌&&◌, ◌==◌, List, [], ◌∷◌, length, if◌then◌else◌, Option, Some, None, Result, Ok, Err}
+-- The words of an answer: METHOD|PATH|STATUS|BODYHEX, and any number of parts |NAME=VALUE, and at most one part |early.
+use Rattle.std.specs.Prelude.{ℕ, ◌+◌, Bool, ◌&&◌, ◌==◌, List, [], ◌∷◌, length, nat_lt, codes, bytes_eq, if◌then◌else◌, Option, Some, None, Result, Ok, Err}
 use Rattle.std.specs.List.{list_any, list_all, before_first, after_first}
 use Rattle.hex.specs.Hex.{decode_of, decode_pairs}
 use Rattle.hex.specs.declared.error.FromHexError.{FromHexError}
@@ -48,17 +48,32 @@ with_field (Some f) (Some fs) = Some (f ∷ fs)
 with_field (Some f) None = None
 with_field None fs = None
 
--- the fields that parts say, if each says one
+-- the word of an early answer
+abbrev pub is_early_word : List ℕ → Bool
+is_early_word part = bytes_eq part (codes "early")
+
+-- how many of the parts are that word
+abbrev pub early_words : List (List ℕ) → ℕ
+early_words [] = 0
+early_words (part ∷ parts) = if is_early_word part then early_words parts + 1 else early_words parts
+
+-- whether the answer is early, by how many parts are the word: at most one may be
+abbrev pub early_of : ℕ → Option Bool
+early_of count = if nat_lt 1 count then None else Some (count == 1)
+
+-- the fields that the other parts say, if each says one
 abbrev pub fields_of : List (List ℕ) → Option (List Field)
 fields_of [] = Some []
-fields_of (part ∷ parts) = with_field (field_of part) (fields_of parts)
+fields_of (part ∷ parts) = if is_early_word part then fields_of parts else with_field (field_of part) (fields_of parts)
 
 -- the entry, where each part is what it has to be
-abbrev pub entry_with : List ℕ → List ℕ → Option ℕ → Option (List ℕ) → Option (List Field) → Option Entry
-entry_with method path (Some status) (Some body) (Some fields) = Some (record { method = method; path = path; answer = answer status fields body })
-entry_with method path (Some status) (Some body) None = None
-entry_with method path (Some status) None fields = None
-entry_with method path None body fields = None
+abbrev pub entry_with : List ℕ → List ℕ → Option ℕ → Option (List ℕ) → Option (List Field) → Option Bool → Option Entry
+entry_with method path (Some status) (Some body) (Some fields) (Some early) =
+    Some (record { method = method; path = path; answer = record (answer status fields body) { early = early } })
+entry_with method path (Some status) (Some body) (Some fields) None = None
+entry_with method path (Some status) (Some body) None early = None
+entry_with method path (Some status) None fields early = None
+entry_with method path None body fields early = None
 
 -- the entry that these parts make: there are four or more
 abbrev pub entry_of_parts : List (List ℕ) → Option Entry
@@ -66,7 +81,7 @@ entry_of_parts [] = None
 entry_of_parts (method ∷ []) = None
 entry_of_parts (method ∷ path ∷ []) = None
 entry_of_parts (method ∷ path ∷ status ∷ []) = None
-entry_of_parts (method ∷ path ∷ status ∷ body ∷ parts) = entry_with method path (status_of status) (body_of body) (fields_of parts)
+entry_of_parts (method ∷ path ∷ status ∷ body ∷ parts) = entry_with method path (status_of status) (body_of body) (fields_of parts) (early_of (early_words parts))
 
 -- the entry that a text says, if it says one
 unfoldable pub entry_of : List ℕ → Option Entry

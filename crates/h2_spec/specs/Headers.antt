@@ -24,7 +24,7 @@ use Rattle.h2_spec.specs.Answer.{Entry, pick_of, picked}
 use Rattle.h2_spec.specs.Stream.{stream_at, live_count}
 use Rattle.h2_spec.specs.State.{State, OpenBlock, Decoding, is_due}
 use Rattle.h2_spec.specs.Change.{only_counts, with_outcome, outcome_without_frame, stream_error}
-use Rattle.h2_spec.specs.StreamEnds.{peer_ended}
+use Rattle.h2_spec.specs.StreamEnds.{answered, peer_ended}
 use Rattle.h2_spec.specs.Data.{breaks_length}
 
 -- the most octets of a block's fragments
@@ -55,14 +55,16 @@ abbrev pub declares_content : Option ℕ → Bool
 declares_content None = false
 declares_content (Some n) = not (n == 0)
 
--- the stream that a request opens, with the number of live streams and the length of its answer's body
-unfoldable pub request_outcome : Config → ℕ → ℕ → ConnectionState → ℕ → Bool → BlockSummary → StreamOutcome
-unfolding peer_ended
-request_outcome config live body core id ends f =
+-- the stream that a request opens, with the number of live streams, the length of its answer's body, and whether that
+-- answer is early
+unfoldable pub request_outcome : Config → ℕ → ℕ → Bool → ConnectionState → ℕ → Bool → BlockSummary → StreamOutcome
+unfolding answered peer_ended
+request_outcome config live body early core id ends f =
     if nat_le config.streams live then stream_error core.peer.size_update_pending id RefusedStream
     else if nat_lt max_list f.size then stream_error core.peer.size_update_pending id EnhanceYourCalm
     else if f.malformed || (ends && declares_content f.declared) then stream_error core.peer.size_update_pending id ProtocolError
     else if ends then peer_ended core.peer.size_update_pending body (new_stream core id f)
+    else if early then answered core.peer.size_update_pending body (new_stream core id f)
     else outcome_without_frame core.peer.size_update_pending (new_stream core id f)
 
 -- what trailers do to their stream: the size of their list, whether a reason holds against them, and the length of
@@ -78,7 +80,8 @@ trailers_outcome size malformed body size_update_pending ends st =
 abbrev pub request_ends : State → ℕ → Bool → List Field → Change
 request_ends s id ends fields =
     let f = request_summary s.book fields in
-    with_outcome (only_counts (record s.core { last = id })) (request_outcome s.config (live_count s.streams) (length (picked s.book f.pick).body) s.core id ends f)
+    let a = picked s.book f.pick in
+    with_outcome (only_counts (record s.core { last = id })) (request_outcome s.config (live_count s.streams) (length a.body) a.early s.core id ends f)
 
 -- the end of a block of trailers
 abbrev pub trailers_end : State → ℕ → Bool → List Field → Change

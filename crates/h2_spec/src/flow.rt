@@ -91,9 +91,7 @@ impl Window {
         if delta > i64::from(MAX_WINDOW) - size {
             return Err(FlowFault::Overflow);
         }
-        *self = Window {
-            size: (size + delta) as i32,
-        };
+        *self = self.shifted(delta);
         Ok(())
     }
 }
@@ -112,7 +110,7 @@ impl Window {
         requires { pos count ≤ℤ self }
         ensures { result ≡ self -ℤ pos count }
     {
-        self.lowered(count)
+        self.shifted(-i64::from(count))
     }
 
     /// Whether it would pass 2147483647 with these octets.
@@ -127,9 +125,7 @@ impl Window {
         requires { (self +ℤ pos count) ≤ℤ pos max_window }
         ensures { result ≡ self +ℤ pos count }
     {
-        Window {
-            size: (i64::from(self.size) + i64::from(count)) as i32,
-        }
+        self.shifted(i64::from(count))
     }
 
     /// Whether it would pass 2147483647 where the initial window goes from one value to another (RFC 9113, 6.9.2).
@@ -145,20 +141,18 @@ impl Window {
         requires least { pos from ≤ℤ (self +ℤ pos max_window) }
         ensures { result ≡ self +ℤ (pos to -ℤ pos from) }
     {
-        if from <= to {
-            self.plus(to - from)
-        } else {
-            self.lowered(from - to)
-        }
+        self.shifted(i64::from(to) - i64::from(from))
     }
 
-    /// Without these octets, whether it holds them or not.
-    fn lowered(self, count: u32) -> Window
-        requires { pos count ≤ℤ (self +ℤ pos max_window) }
-        ensures { result ≡ self -ℤ pos count }
+    /// With this many octets more, or fewer where the number is negative; it may become negative, not below
+    /// -2147483648.
+    fn shifted(self, delta: i64) -> Window
+        requires most { (self +ℤ delta) ≤ℤ pos max_window }
+        requires least { negsuc max_window ≤ℤ (self +ℤ delta) }
+        ensures { result ≡ self +ℤ delta }
     {
         Window {
-            size: (i64::from(self.size) - i64::from(count)) as i32,
+            size: (i64::from(self.size) + delta) as i32,
         }
     }
 }
@@ -187,20 +181,20 @@ impl Credit {
         Credit { octets: 0 }
     }
 
-    /// Owes the peer these octets too, and answers how many are to be given back now: all that are owed, once they
+    /// Owes the peer these octets too, and returns how many are to be given back now: all that are owed, once they
     /// reach the threshold.
     pub fn owe(&mut self, count: u32, threshold: u32) -> Option<u32>
         requires { self.old + count < 2 ^ 32 }
         ensures answer { result ≡ given_back threshold (self.old + count) }
         ensures owed { self.new ≡ still_owed threshold (self.old + count) }
     {
-        let owed = self.octets + count;
+        *self = self.plus(count);
+        let owed = self.octets;
         let keeps = owed < threshold;
         if keeps {
-            self.octets = owed;
             return None;
         }
-        self.octets = 0;
+        *self = Credit::none();
         Some(owed)
     }
 

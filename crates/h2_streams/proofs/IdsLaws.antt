@@ -4,13 +4,13 @@ use Rattle.std.proofs.lemmas.Bool.Decides.{nat_tests}
 use Rattle.std.proofs.lemmas.List.Recursion.{is_count_by}
 use Rattle.std.proofs.lemmas.List.Sorted.{searched}
 use Rattle.std.specs.Prelude.{slice_get}
-use Rattle.std.specs.List.{AllWithin, insert}
+use Rattle.std.specs.List.{AllWithin, insert, list_any}
 use Rattle.std.specs.List.Sorted.{IsBinarySearchResult}
 use Rattle.std.specs.Option.{option_map}
 use Rattle.h2_spec.specs.declared.streams.Stream.{Stream}
 use Rattle.h2_spec.specs.Stream.{record_of, put, AreRising, is_live, octets_waiting, live_count, id_of}
 use Rattle.h2_streams.specs.Put.{can_become, is_closed}
-use Rattle.h2_streams.specs.Kept.{ids_of, lives, waits, IdsRise, without, placed, listed, above, IsKept}
+use Rattle.h2_streams.specs.Kept.{ids_of, lives, is_ready, IdsRise, without, placed, listed, above, IsKept}
 use Rattle.h2_streams.proofs.PlaceLaws.{rising-push, rising-put}
 
 eqb-same : (a b : ℕ) → eqb a b ≡ true → a ≡ b
@@ -131,24 +131,37 @@ length-lives rs = is_count_by (λ (xs : List Stream). length (ids_of lives xs)) 
   by true id ids = omega arith
   by false id ids = refl
 
--- a stream that has octets to send is live
-waits-lives : (st : Stream) → waits st ≡ true → lives st ≡ true
+-- a stream that can send is live
+ready-lives : (st : Stream) → is_ready st ≡ true → lives st ≡ true
 unfolding octets_waiting
-waits-lives st h = by (is_live st.kind) refl
+ready-lives st h = by (is_live st.kind) refl
   where
     by : (t : Bool) → is_live st.kind ≡ t → t ≡ true
     by true e = refl
     by false e = let g : false ≡ true = rw e at h in absurd (true≢false (sym g))
 
-pub waits-fewer : (rs : List Stream) → length (ids_of waits rs) ≤ length (ids_of lives rs)
-waits-fewer [] = omega arith
-waits-fewer (x ∷ xs) = by (waits x) (lives x) (waits-lives x) (waits-fewer xs)
+pub idle-ready : (st : Stream) → is_live st.kind ≡ false → is_ready st ≡ false
+unfolding octets_waiting
+idle-ready st e = rw e refl
+
+pub ready-fewer : (rs : List Stream) → length (ids_of is_ready rs) ≤ length (ids_of lives rs)
+ready-fewer [] = omega arith
+ready-fewer (x ∷ xs) = by (is_ready x) (lives x) (ready-lives x) (ready-fewer xs)
   where
-    by : (s t : Bool) → (s ≡ true → t ≡ true) → length (ids_of waits xs) ≤ length (ids_of lives xs) → length (cond s (x.id ∷ ids_of waits xs) (ids_of waits xs)) ≤ length (cond t (x.id ∷ ids_of lives xs) (ids_of lives xs))
+    by : (s t : Bool) → (s ≡ true → t ≡ true) → length (ids_of is_ready xs) ≤ length (ids_of lives xs) → length (cond s (x.id ∷ ids_of is_ready xs) (ids_of is_ready xs)) ≤ length (cond t (x.id ∷ ids_of lives xs) (ids_of lives xs))
     by true true f h = omega (arith, h)
     by true false f h = absurd (true≢false (sym (f refl)))
     by false true f h = omega (arith, h)
     by false false f h = h
+
+-- none is listed where none passes
+pub none-listed : (p : Stream → Bool) (rs : List Stream) → eqb (length (ids_of p rs)) 0 ≡ not (list_any p rs)
+none-listed p [] = refl
+none-listed p (x ∷ xs) = by (p x) (none-listed p xs)
+  where
+    by : (t : Bool) → eqb (length (ids_of p xs)) 0 ≡ not (list_any p xs) → eqb (length (cond t (x.id ∷ ids_of p xs) (ids_of p xs))) 0 ≡ not (t || list_any p xs)
+    by true h = grind (arith, nat_tests)
+    by false h = h
 
 -- the first of the listed ones above a number is the first record that passes the test there
 pub first-above : (p : Stream → Bool) (after : ℕ) (rs : List Stream) → slice_get (above after (ids_of p rs)) 0 ≡ option_map id_of (find (λ (st : Stream). nat_lt after st.id && p st) rs)
@@ -229,25 +242,25 @@ above-point (x ∷ xs) (suc k) after le below from =
 one-listed : (p : Stream → Bool) (st : Stream) (t : Bool) → p st ≡ t → ids_of p (st ∷ []) ≡ cond t (st.id ∷ []) []
 one-listed p st t e = rw e refl
 
-pub kept-added : (rs : List Stream) (live waiting : List ℕ) (last : ℕ) (st : Stream) → IsKept rs live waiting last → last < st.id → st.id % 2 ≡ 1 →
-    IsKept (rs ++ st ∷ []) (live ++ cond (is_live st.kind) (st.id ∷ []) []) (waiting ++ cond (waits st) (st.id ∷ []) []) st.id
-kept-added rs live waiting last st kept above odd = record {
+pub kept-added : (rs : List Stream) (live ready : List ℕ) (last : ℕ) (st : Stream) → IsKept rs live ready last → last < st.id → st.id % 2 ≡ 1 →
+    IsKept (rs ++ st ∷ []) (live ++ cond (is_live st.kind) (st.id ∷ []) []) (ready ++ cond (is_ready st) (st.id ∷ []) []) st.id
+kept-added rs live ready last st kept above odd = record {
   rising = rising-push 0 last rs st kept.rising (omega arith) above odd;
   live_listed = ap (λ (ids : List ℕ). ids ++ cond (is_live st.kind) (st.id ∷ []) []) kept.live_listed ∙ sym (ids_of-append lives rs (st ∷ []));
-  waiting_listed = ap (λ (ids : List ℕ). ids ++ cond (waits st) (st.id ∷ []) []) kept.waiting_listed ∙ sym (ids_of-append waits rs (st ∷ []));
+  ready_listed = ap (λ (ids : List ℕ). ids ++ cond (is_ready st) (st.id ∷ []) []) kept.ready_listed ∙ sym (ids_of-append is_ready rs (st ∷ []));
 }
 
-pub kept-put : (rs : List Stream) (live waiting : List ℕ) (last : ℕ) (st old : Stream) → IsKept rs live waiting last → record_of rs st.id ≡ Some old → can_become old.kind st.kind ≡ true →
-    IsKept (put st rs) (cond (is_live st.kind) live (without st.id live)) (listed (waits st) st.id waiting) last
-kept-put rs live waiting last st old kept found can = record {
+pub kept-put : (rs : List Stream) (live ready : List ℕ) (last : ℕ) (st old : Stream) → IsKept rs live ready last → record_of rs st.id ≡ Some old → can_become old.kind st.kind ≡ true →
+    IsKept (put st rs) (cond (is_live st.kind) live (without st.id live)) (listed (is_ready st) st.id ready) last
+kept-put rs live ready last st old kept found can = record {
   rising = rising-put 0 last rs st old kept.rising found;
   live_listed = ap (λ (ids : List ℕ). cond (is_live st.kind) ids (without st.id ids)) kept.live_listed ∙ sym (live-put 0 last rs st old kept.rising found can);
-  waiting_listed = ap (listed (waits st) st.id) kept.waiting_listed ∙ sym (ids_of-put waits 0 last rs st old kept.rising found);
+  ready_listed = ap (listed (is_ready st) st.id) kept.ready_listed ∙ sym (ids_of-put is_ready 0 last rs st old kept.rising found);
 }
 
--- no more streams have octets to send than are live
-pub kept-fewer : (rs : List Stream) (live waiting : List ℕ) (last : ℕ) → IsKept rs live waiting last → length waiting ≤ length live
-kept-fewer rs live waiting last kept = rw (kept.live_listed, kept.waiting_listed) (waits-fewer rs)
+-- no more streams can send than are live
+pub kept-fewer : (rs : List Stream) (live ready : List ℕ) (last : ℕ) → IsKept rs live ready last → length ready ≤ length live
+kept-fewer rs live ready last kept = rw (kept.live_listed, kept.ready_listed) (ready-fewer rs)
 
 without-fewer : (id : ℕ) (ids : List ℕ) → length (without id ids) ≤ length ids
 without-fewer id [] = omega arith

@@ -1,10 +1,10 @@
 -- What holds of the live streams alone, and what is found or changed by way of them.
-use Rattle.std.proofs.Common.{◌≡◌, ℕ, suc, ◌<◌, ◌≤◌, Bool, true, false, ◌||◌, cond, eqb, List, [], ◌∷◌, find, Some, None, IfSome, Option, refl, ap, ◌∙◌, sym, arith, true≢false}
+use Rattle.std.proofs.Common.{◌≡◌, ℕ, suc, ◌<◌, ◌≤◌, Bool, true, false, ◌&&◌, ◌||◌, nat_lt, filter, cond, eqb, List, [], ◌∷◌, find, Some, None, IfSome, Option, refl, ap, ◌∙◌, sym, arith, true≢false}
 use Rattle.std.proofs.lemmas.Bool.Decides.{nat_tests}
 use Rattle.std.specs.List.{AllByRecursion, list_any}
 use Rattle.std.specs.Option.{option_map, option_map_or}
 use Rattle.h2_spec.specs.declared.streams.Stream.{Stream}
-use Rattle.h2_spec.specs.Stream.{is_live, record_of, id_of, AreRising}
+use Rattle.h2_spec.specs.Stream.{is_live, octets_waiting, waits_above, record_of, id_of, AreRising}
 use Rattle.h2_streams.specs.Kept.{ids_of, lives, passes_at}
 use Rattle.h2_streams.proofs.IdsLaws.{eqb-refl}
 
@@ -48,3 +48,36 @@ any-live test idle rs (x ∷ xs) f = by (is_live x.kind) refl (any-live test idl
   by : (b : Bool) → is_live x.kind ≡ b → list_any (passes_at test rs) (ids_of lives xs) ≡ list_any test xs → list_any (passes_at test rs) (cond (is_live x.kind) (x.id ∷ ids_of lives xs) (ids_of lives xs)) ≡ list_any test (x ∷ xs)
   by true live rest = rw (live, passes-found test rs x f.0) (ap (λ b. test x || b) rest)
   by false live rest = rw (live, idle x live) rest
+
+-- those of the live ones that pass such a test are all that pass it
+pub filter-live : (test : Stream → Bool) → ((st : Stream) → is_live st.kind ≡ false → test st ≡ false) → (rs parts : List Stream) → AllFound rs parts
+    → filter (passes_at test rs) (ids_of lives parts) ≡ ids_of test parts
+filter-live test idle rs [] f = refl
+filter-live test idle rs (x ∷ xs) f = by (is_live x.kind) refl (filter-live test idle rs xs f.1) where
+  by : (b : Bool) → is_live x.kind ≡ b → filter (passes_at test rs) (ids_of lives xs) ≡ ids_of test xs
+      → filter (passes_at test rs) (cond (is_live x.kind) (x.id ∷ ids_of lives xs) (ids_of lives xs)) ≡ ids_of test (x ∷ xs)
+  by true live rest = rw (live, passes-found test rs x f.0) (ap (λ ys. cond (test x) (x.id ∷ ys) ys) rest)
+  by false live rest = rw (live, idle x live) rest
+
+-- and the first of them is the first of all
+pub find-live : (test : Stream → Bool) → ((st : Stream) → is_live st.kind ≡ false → test st ≡ false) → (rs parts : List Stream) → AllFound rs parts
+    → find (passes_at test rs) (ids_of lives parts) ≡ option_map id_of (find test parts)
+find-live test idle rs [] f = refl
+find-live test idle rs (x ∷ xs) f = by (is_live x.kind) refl (find-live test idle rs xs f.1) where
+  found : (t : Bool) → find (passes_at test rs) (ids_of lives xs) ≡ option_map id_of (find test xs) → cond t (Some x.id) (find (passes_at test rs) (ids_of lives xs)) ≡ option_map id_of (cond t (Some x) (find test xs))
+  found true rest = refl
+  found false rest = rest
+
+  by : (b : Bool) → is_live x.kind ≡ b → find (passes_at test rs) (ids_of lives xs) ≡ option_map id_of (find test xs)
+      → find (passes_at test rs) (cond (is_live x.kind) (x.id ∷ ids_of lives xs) (ids_of lives xs)) ≡ option_map id_of (find test (x ∷ xs))
+  by true live rest = rw (live, passes-found test rs x f.0) (found (test x) rest)
+  by false live rest = rw (live, idle x live) rest
+
+-- a stream that has octets to send is live
+pub idle-waits : (after : ℕ) (st : Stream) → is_live st.kind ≡ false → waits_above after st ≡ false
+unfolding octets_waiting
+idle-waits after st e = rw e (by (nat_lt after st.id))
+  where
+    by : (t : Bool) → (t && false) ≡ false
+    by true = refl
+    by false = refl

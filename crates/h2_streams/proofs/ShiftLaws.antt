@@ -1,5 +1,5 @@
 -- Laws of the send windows that settings move.
-use Rattle.std.proofs.Common.{◌≡◌, ℕ, ◌<◌, ◌≤◌, ◌%◌, Bool, true, false, ◌&&◌, ◌||◌, not, cond, eqb, ℤ, negsuc, ◌+ℤ◌, ◌≤ℤ◌, int_lt, List, [], ◌∷◌, map, Some, None, Option, refl, ap, ◌∙◌, sym, arith, subst, true≢false, unwrap_or}
+use Rattle.std.proofs.Common.{◌≡◌, ℕ, ◌<◌, ◌≤◌, ◌%◌, Bool, true, false, ◌&&◌, ◌||◌, not, cond, eqb, ℤ, negsuc, ◌+ℤ◌, ◌≤ℤ◌, int_lt, List, [], ◌∷◌, filter, map, Some, None, Option, refl, ap, ◌∙◌, sym, arith, subst, true≢false, unwrap_or}
 use Rattle.std.proofs.lemmas.Bool.Decides.{nat_tests}
 use Rattle.std.proofs.lemmas.Int.{ints}
 use Rattle.std.specs.List.{AllByRecursion, list_any}
@@ -9,11 +9,11 @@ use Rattle.h2_spec.specs.declared.streams.Kind.TheVariants.{Idle, Skipped, BothO
 use Rattle.h2_spec.specs.declared.streams.Stream.{Stream}
 use Rattle.h2_spec.specs.Change.{follows_initial_window, shifted, shifted_one, overflows, overflows_one, with_send}
 use Rattle.h2_spec.specs.Window.{max_window, is_above_max}
-use Rattle.h2_spec.specs.Stream.{is_live, octets_waiting, record_of, put, AreRising}
-use Rattle.h2_streams.specs.Kept.{ids_of, lives, waits, passes_at, IdsRise, Rise, IsKept}
+use Rattle.h2_spec.specs.Stream.{is_live, record_of, put, AreRising}
+use Rattle.h2_streams.specs.Kept.{ids_of, lives, is_ready, passes_at, IdsRise, Rise, IsKept}
 use Rattle.h2_streams.specs.Shift.{CanShift, is_window, moved, moved_or_same, is_stuck, update, update_each}
-use Rattle.h2_streams.proofs.IdsLaws.{rise-ids_of, rise-weaken, eqb-refl}
-use Rattle.h2_streams.proofs.LiveLaws.{all-found, any-live}
+use Rattle.h2_streams.proofs.IdsLaws.{rise-ids_of, rise-weaken, eqb-refl, idle-ready}
+use Rattle.h2_streams.proofs.LiveLaws.{all-found, any-live, filter-live}
 
 -- what a function makes of an element, where there is one
 pub mapped-found : (f : Stream → Stream) (o : Option Stream) (st : Stream) → option_map f o ≡ Some st → (old : Stream) × (o ≡ Some old) × (f old ≡ st)
@@ -109,10 +109,6 @@ module _ (d : ℤ) (st : Stream) where
   pub kind-moved : (moved_or_same d st).kind ≡ st.kind
   kind-moved = part-moved (λ s. s.kind) (λ w. refl)
 
-  pub waits-moved : waits (moved_or_same d st) ≡ waits st
-  unfolding octets_waiting
-  waits-moved = part-moved waits (λ w. refl)
-
   -- one that is not stuck moves
   pub moved-free : is_stuck d st ≡ false → moved_or_same d st ≡ shifted_one d st
   moved-free = by (follows_initial_window st.kind) (is_window (st.numbers.send +ℤ d)) where
@@ -166,13 +162,7 @@ lives-map f ids kinds (x ∷ xs) =
     ap (λ k. cond (is_live k) ((f x).id ∷ ids_of lives (map f xs)) (ids_of lives (map f xs))) (kinds x) ∙ ap (λ n. cond (is_live x.kind) (n ∷ ids_of lives (map f xs)) (ids_of lives (map f xs))) (ids x)
     ∙ ap (λ ys. cond (is_live x.kind) (x.id ∷ ys) ys) (lives-map f ids kinds xs)
 
-waits-map : (f : Stream → Stream) → ((st : Stream) → (f st).id ≡ st.id) → ((st : Stream) → waits (f st) ≡ waits st) → (rs : List Stream) → ids_of waits (map f rs) ≡ ids_of waits rs
-waits-map f ids same [] = refl
-waits-map f ids same (x ∷ xs) =
-    ap (λ b. cond b ((f x).id ∷ ids_of waits (map f xs)) (ids_of waits (map f xs))) (same x) ∙ ap (λ n. cond (waits x) (n ∷ ids_of waits (map f xs)) (ids_of waits (map f xs))) (ids x)
-    ∙ ap (λ ys. cond (waits x) (x.id ∷ ys) ys) (waits-map f ids same xs)
-
-module _ (d : ℤ) (rs : List Stream) (live waiting : List ℕ) (last : ℕ) (kept : IsKept rs live waiting last) where
+module _ (d : ℤ) (rs : List Stream) (live ready : List ℕ) (last : ℕ) (kept : IsKept rs live ready last) where
   each-moved : update_each (moved_or_same d) live rs ≡ map (moved_or_same d) rs
   each-moved = ap (λ ids. update_each (moved_or_same d) ids rs) kept.live_listed ∙ update_each-live (moved_or_same d) (id-moved d) (same-ended d) 0 last rs kept.rising
 
@@ -182,11 +172,13 @@ module _ (d : ℤ) (rs : List Stream) (live waiting : List ℕ) (last : ℕ) (ke
   live-moved : live ≡ ids_of lives (update_each (moved_or_same d) live rs)
   live-moved = kept.live_listed ∙ sym (lives-map (moved_or_same d) (id-moved d) (kind-moved d) rs) ∙ ap (ids_of lives) (sym each-moved)
 
-  waiting-moved : waiting ≡ ids_of waits (update_each (moved_or_same d) live rs)
-  waiting-moved = kept.waiting_listed ∙ sym (waits-map (moved_or_same d) (id-moved d) (waits-moved d) rs) ∙ ap (ids_of waits) (sym each-moved)
+  ready-moved : filter (passes_at is_ready (update_each (moved_or_same d) live rs)) live ≡ ids_of is_ready (update_each (moved_or_same d) live rs)
+  ready-moved =
+      let now = update_each (moved_or_same d) live rs in
+      ap (filter (passes_at is_ready now)) live-moved ∙ filter-live is_ready idle-ready now now (all-found 0 last now rising-moved)
 
-  pub kept-moved : IsKept (update_each (moved_or_same d) live rs) live waiting last
-  kept-moved = record { rising = rising-moved; live_listed = live-moved; waiting_listed = waiting-moved }
+  pub kept-moved : IsKept (update_each (moved_or_same d) live rs) live (filter (passes_at is_ready (update_each (moved_or_same d) live rs)) live) last
+  kept-moved = record { rising = rising-moved; live_listed = live-moved; ready_listed = ready-moved }
 
   pub stuck-listed : list_any (passes_at (is_stuck d) rs) live ≡ list_any (is_stuck d) rs
   stuck-listed = ap (list_any (passes_at (is_stuck d) rs)) kept.live_listed ∙ any-live (is_stuck d) (stuck-ended d) rs rs (all-found 0 last rs kept.rising)
@@ -211,6 +203,6 @@ any-overflows d (x ∷ xs) = by (overflows_one d x) (any-overflows d xs) where
   by false rest = rest
 
 -- whether a window would pass its limit is asked of the live streams
-pub overflows-listed : (d : ℤ) (rs : List Stream) (live waiting : List ℕ) (last : ℕ) → IsKept rs live waiting last → list_any (passes_at (overflows_one d) rs) live ≡ overflows d rs
-overflows-listed d rs live waiting last kept =
+pub overflows-listed : (d : ℤ) (rs : List Stream) (live ready : List ℕ) (last : ℕ) → IsKept rs live ready last → list_any (passes_at (overflows_one d) rs) live ≡ overflows d rs
+overflows-listed d rs live ready last kept =
     ap (list_any (passes_at (overflows_one d) rs)) kept.live_listed ∙ any-live (overflows_one d) (overflows-ended d) rs rs (all-found 0 last rs kept.rising) ∙ any-overflows d rs

@@ -1,12 +1,20 @@
--- What the records, the identifiers of the live streams and those of the streams that have octets to send keep.
-use Rattle.std.specs.Prelude.{◌≡◌, ℕ, suc, ◌<◌, Bool, false, List, [], ◌∷◌, nat_lt, ◌==◌, if◌then◌else◌}
-use Rattle.std.specs.Option.{option_map_or}
+-- What the records, the identifiers of the live streams and those of the streams that can send keep.
+use Rattle.std.specs.Prelude.{◌≡◌, ℕ, suc, ◌<◌, Bool, false, ◌&&◌, List, [], ◌∷◌, nat_lt, ◌==◌, if◌then◌else◌, Option, find, pos, int_lt}
+use Rattle.std.specs.Option.{option_map, option_map_or}
 use Rattle.h2_spec.specs.declared.streams.Stream.{Stream}
-use Rattle.h2_spec.specs.Stream.{is_live, octets_waiting, record_of, AreRising}
+use Rattle.h2_spec.specs.Stream.{id_of, is_live, octets_waiting, record_of, AreRising}
 
--- whether the stream has octets to send
-abbrev pub waits : Stream → Bool
-waits st = nat_lt 0 (octets_waiting st)
+-- whether the stream can send: it has octets to send, and a send window that lets some of them pass (RFC 9113, 6.9)
+abbrev pub is_ready : Stream → Bool
+is_ready st = nat_lt 0 (octets_waiting st) && int_lt (pos 0) st.numbers.send
+
+-- a stream above this one that can send
+abbrev pub ready_above : ℕ → Stream → Bool
+ready_above after st = nat_lt after st.id && is_ready st
+
+-- the first stream above this one that can send
+abbrev pub next_ready : ℕ → List Stream → Option ℕ
+next_ready after streams = option_map id_of (find (ready_above after) streams)
 
 -- whether one side of the stream or both are open
 abbrev pub lives : Stream → Bool
@@ -55,9 +63,8 @@ above after (x ∷ xs) = if nat_lt after x then x ∷ xs else above after xs
 abbrev pub passes_at : (Stream → Bool) → List Stream → ℕ → Bool
 passes_at test records id = option_map_or test (record_of records id) false
 
--- the records, the identifiers of the live streams and of those that have octets to send, and the last stream that
--- was opened
-pub record IsKept (records : List Stream) (live waiting : List ℕ) (last : ℕ) : Type 0 where
+-- the records, the identifiers of the live streams and of those that can send, and the last stream that was opened
+pub record IsKept (records : List Stream) (live ready : List ℕ) (last : ℕ) : Type 0 where
   pub rising : AreRising 0 last records
   pub live_listed : live ≡ ids_of lives records
-  pub waiting_listed : waiting ≡ ids_of waits records
+  pub ready_listed : ready ≡ ids_of is_ready records

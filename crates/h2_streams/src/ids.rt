@@ -1,7 +1,7 @@
-//! Rising lists of identifiers: of the live streams, and of those that have octets to send.
+//! Rising lists of identifiers: of the live streams, and of those that can send.
 //! Definitions: `specs/Kept.antt`.
 
-ghost use Rattle.std.specs.Prelude.{◌≡◌, ◌<◌, ◌≤◌, ◌++◌, ◌∷◌, [], length, if◌then◌else◌};
+ghost use Rattle.std.specs.Prelude.{◌≡◌, ◌+◌, ◌<◌, ◌≤◌, ◌++◌, ◌∷◌, [], length, if◌then◌else◌};
 ghost use Rattle.std.specs.Vec.{vec_len, vec_capacity};
 ghost use Rattle.h2_streams.specs.Kept as kept;
 
@@ -58,6 +58,7 @@ fn place<A: Allocator>(ids: &mut Vec<u32, A>, id: u32)
 pub(crate) fn append<A: Allocator>(ids: &mut Vec<u32, A>, id: u32, is_in: bool)
     requires { vec_len ids.old < vec_capacity ids.old }
     ensures items { ids.new.items ≡ ids.old.items ++ (if is_in then id ∷ [] else []) }
+    ensures len { vec_len ids.new ≤ vec_len ids.old + 1 }
     ensures capacity { vec_capacity ids.old ≤ vec_capacity ids.new }
 {
     if is_in {

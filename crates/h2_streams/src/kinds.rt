@@ -1,5 +1,5 @@
 //! What the kind of a stream says (RFC 9113, 5.1).
-//! Rests on the types of `h2_spec`; definitions: its `specs/Stream.antt`, and `waits` of `specs/Kept.antt`.
+//! Rests on the types of `h2_spec`; definitions: its `specs/Stream.antt`, and `is_ready` of `specs/Kept.antt`.
 
 ghost use Rattle.std.specs.Prelude.{◌≡◌};
 ghost use Rattle.h2_spec.specs.Stream as spec;
@@ -30,11 +30,11 @@ pub fn octets_waiting(stream: &Stream) -> u64
     }
 }
 
-/// Whether the stream has octets to send.
-pub(crate) fn waits(stream: &Stream) -> bool
-    ensures { result ≡ kept.waits stream.now }
+/// Whether the stream can send: it has octets to send, and a send window that lets some of them pass (RFC 9113, 6.9).
+pub(crate) fn is_ready(stream: &Stream) -> bool
+    ensures { result ≡ kept.is_ready stream.now }
 {
-    octets_waiting(stream) > 0
+    octets_waiting(stream) > 0 && stream.numbers.send.value() > 0
 }
 
 /// A stream that is not live: its identifier and its state alone.

@@ -9,6 +9,7 @@ mod kinds;
 mod places;
 mod records;
 mod shift;
+mod walks;
 
 pub use h2_spec::errors::FlowFault;
 pub use h2_spec::streams::{Kind, Numbers, Pick, Stream};

@@ -2,22 +2,24 @@
 //! Rests on `kinds`, `places` (the search by identifier) and `ids` (rising lists of identifiers).
 //! Definitions: `h2_spec/specs/Stream.antt`; what the fields keep: `specs/Kept.antt`.
 
-ghost use Rattle.std.specs.Prelude.{◌≡◌, ◌<◌, ◌≤◌, ◌%◌, ◌==◌, ◌||◌, nat_lt, length, IsOk, OnOk, OnErr, IfOk, IfErr, IfSome, IsTrue, is_err, slice_get};
-ghost use Rattle.std.specs.List.{AllByRecursion};
+ghost use Rattle.std.specs.Prelude.{◌≡◌, not, ◌<◌, ◌≤◌, ◌%◌, ◌==◌, ◌||◌, nat_lt, length, IsOk, OnOk, OnErr, IfOk, IfErr, IfSome, IsTrue, is_err, slice_get};
+ghost use Rattle.std.specs.List.{AllByRecursion, list_any};
 ghost use Rattle.std.specs.Option.{option_copied};
 ghost use Rattle.std.specs.Vec.{vec_capacity};
 ghost use Rattle.h2_spec.specs.Stream as spec;
 ghost use Rattle.h2_spec.specs.StreamEnds as ends;
 ghost use Rattle.h2_spec.specs.Change as changes;
 ghost use Rattle.h2_streams.specs.Greatest.{IsGreatest};
+ghost use Rattle.h2_streams.specs.Kept as kept;
 ghost use Rattle.h2_streams.specs.Put.{CanPut, can_become};
 ghost use Rattle.h2_streams.specs.Shift as shift;
 
 use crate::greatest::greatest_of;
 use crate::ids::{append, ids_above, keep, list};
-use crate::kinds::{is_live, not_live, peer_closed, reset_kind, server_ended, waits};
+use crate::kinds::{is_live, is_ready, not_live, peer_closed, reset_kind, server_ended};
 use crate::places::{record_of, write};
 use crate::shift::{any_is_stuck, move_each};
+use crate::walks::{first_waiting, list_ready};
 use h2_spec::errors::FlowFault;
 use h2_spec::flow::Window;
 use h2_spec::streams::{Kind, Numbers, Pick, Stream};
@@ -34,8 +36,8 @@ pub struct Streams<A: Allocator> {
     records: Vec<Stream, A>,
     /// The identifiers of the live streams, rising.
     live: Vec<u32, A>,
-    /// The identifiers of the streams that have octets to send, rising; it has room for all live ones.
-    waiting: Vec<u32, A>,
+    /// The identifiers of the streams that can send, rising; it has room for all live ones.
+    ready: Vec<u32, A>,
     last: u32,
 }
 
@@ -49,7 +51,7 @@ impl<A: Allocator> Model for Streams<A> {
 
     ghost view = { λ s. record { streams = s.records.items; last = s.last } };
 
-    ghost invariant = { λ s. IsKept s.records.items s.live.items s.waiting.items s.last × (length s.live.items ≤ vec_capacity s.waiting) };
+    ghost invariant = { λ s. IsKept s.records.items s.live.items s.ready.items s.last × (length s.live.items ≤ vec_capacity s.ready) };
 }
 
 impl<A: Allocator + Copy> Streams<A> {
@@ -60,7 +62,7 @@ impl<A: Allocator + Copy> Streams<A> {
         Streams {
             records: Vec::new(alloc),
             live: Vec::new(alloc),
-            waiting: Vec::new(alloc),
+            ready: Vec::new(alloc),
             last: 0,
         }
     }
@@ -71,11 +73,11 @@ impl<A: Allocator + Copy> Streams<A> {
     {
         let records = copy_of(&self.records)?;
         let live = self.live.clone()?;
-        let waiting = copy_with_room(&self.waiting, live.as_slice().len())?;
+        let ready = copy_with_room(&self.ready, live.as_slice().len())?;
         Ok(Streams {
             records,
             live,
-            waiting,
+            ready,
             last: self.last,
         })
     }
@@ -222,12 +224,27 @@ impl<A: Allocator> Streams<A> {
         Ok(())
     }
 
-    /// The first live stream above this one that has octets to send, if there is one, by binary search.
+    /// The first live stream above this one that has octets to send, if there is one. All live ones may be looked at.
     pub fn next_waiting(&self, after: u32) -> Option<u32>
         ensures first { result ≡ spec.next_waiting after self.now.streams }
         ensures least { IfSome result (λ id. AllByRecursion (λ st. IsTrue (spec.waits_above after st) → id ≤ st.id) self.now.streams) }
     {
-        first(ids_above(self.waiting.as_slice(), after))
+        first_waiting(self.records.as_slice(), self.live.as_slice(), after)
+    }
+
+    /// The first stream above this one that can send, if there is one, by binary search: it has octets to send, and a
+    /// send window above 0 (RFC 9113, 6.9).
+    pub fn next_ready(&self, after: u32) -> Option<u32>
+        ensures { result ≡ kept.next_ready after self.now.streams }
+    {
+        first(ids_above(self.ready.as_slice(), after))
+    }
+
+    /// Whether no stream can send: none has both octets to send and a send window above 0 (RFC 9113, 6.9).
+    pub fn none_ready(&self) -> bool
+        ensures { result ≡ not (list_any kept.is_ready self.now.streams) }
+    {
+        self.ready.as_slice().is_empty()
     }
 
     /// The greatest of the send windows that settings move, if there is one: it alone decides whether a move takes a
@@ -252,6 +269,11 @@ impl<A: Allocator> Streams<A> {
             return Err(FlowFault::Overflow);
         }
         move_each(&mut self.records, self.live.as_slice(), delta);
+        list_ready(
+            self.records.as_slice(),
+            self.live.as_slice(),
+            &mut self.ready,
+        );
         Ok(())
     }
 
@@ -263,13 +285,13 @@ impl<A: Allocator> Streams<A> {
         ensures err { OnErr result (self.new ≡ self.old) }
     {
         let live = is_live(stream.kind);
-        let waits = waits(&stream);
+        let ready = is_ready(&stream);
         self.live.reserve(1)?;
-        let more = self.live.as_slice().len() - self.waiting.as_slice().len() + 1;
-        self.waiting.reserve(more)?;
+        let more = self.live.as_slice().len() - self.ready.as_slice().len() + 1;
+        self.ready.reserve(more)?;
         self.records.push(stream)?;
         append(&mut self.live, stream.id, live);
-        append(&mut self.waiting, stream.id, waits);
+        append(&mut self.ready, stream.id, ready);
         self.last = stream.id;
         Ok(())
     }
@@ -280,10 +302,10 @@ impl<A: Allocator> Streams<A> {
         ensures { self.new ≡ record self.old { streams = spec.put stream self.old.streams } }
     {
         let live = is_live(stream.kind);
-        let waits = waits(&stream);
+        let ready = is_ready(&stream);
         write(&mut self.records, stream);
         keep(&mut self.live, stream.id, live);
-        list(&mut self.waiting, stream.id, waits);
+        list(&mut self.ready, stream.id, ready);
     }
 }
 

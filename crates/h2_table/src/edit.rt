@@ -103,6 +103,13 @@ impl<'t, A: Allocator + Copy> Draft<'t, A> {
         }
     }
 
+    /// The most that the maximum may be set to, in octets.
+    pub fn limit(&self) -> u32
+        ensures { result ≡ self.now.base.limit }
+    {
+        self.base.limit()
+    }
+
     /// The name and the value of the `i`-th entry, counted from 1, the newest; none past the oldest, and none for 0.
     pub fn get(&self, i: usize) -> Option<(&[u8], &[u8])>
         ensures { option_map lent_field result ≡ entry_at i self.now.table.entries }

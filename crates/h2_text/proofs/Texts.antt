@@ -1,27 +1,15 @@
 -- Texts that are written part after part.
-use Rattle.std.proofs.Common.{◌≡◌, ◌∙◌, ℕ, zero, suc, Bool, true, ◌&&◌, ltb, IsAscii, ◌+◌, ◌<◌, List, [], ◌∷◌, ◌++◌, codes, decimal, drop, length, map, Some, None, refl, sym, ap, arith, append_assoc, append-nil}
+use Rattle.std.proofs.Common.{◌≡◌, ◌∙◌, ℕ, zero, suc, ◌+◌, ◌<◌, List, [], ◌∷◌, ◌++◌, codes, decimal, drop, length, map, Some, None, refl, ap, arith, append_assoc}
 use Rattle.std.specs.Prelude.{slice_get}
-use Rattle.std.proofs.lemmas.Bool.Decides.{Decides-by_and, Decides-ltb}
 use Rattle.std.proofs.lemmas.List.{drop_more}
 use Rattle.std.proofs.lemmas.Option.{get_or_from_slice_get, slice_get_within}
-use Rattle.std.proofs.lemmas.Str.Ascii.{IsAscii-from_all}
-use Rattle.hex.proofs.HexLemmas.{IsAscii-encode_with}
-use Rattle.hex.specs.Hex.{encode_lower, encode_with, lower_digits}
 use Rattle.h2_spec.specs.declared.streams.Stream.{Stream}
 use Rattle.h2_spec.specs.declared.streams.StreamView.{StreamView}
 use Rattle.h2_spec.specs.Field.{Field}
 use Rattle.h2_spec.specs.Show.{acked_line, block_line, entry_line, entry_lines, joined, peer_line, phase_line, show, stream_line, stream_lines, table_line, window_line}
 use Rattle.h2_spec.specs.Stream.{AreRising}
 use Rattle.h2_spec.specs.View.{View, shown_stream}
-use Rattle.std.specs.Fmt.{signed_decimal}
-
--- a part more is done
-pub text-next : (done part rest more all : List ℕ) → rest ≡ part ++ more → done ++ rest ≡ all → (done ++ part) ++ more ≡ all
-text-next done part rest more all e q = append_assoc done part more ∙ ap (λ (t : List ℕ). done ++ t) (sym e) ∙ q
-
--- all is done
-pub text-end : (done rest all : List ℕ) → rest ≡ [] → done ++ rest ≡ all → done ≡ all
-text-end done rest all e q = sym (append-nil done) ∙ ap (λ (t : List ℕ). done ++ t) (sym e) ∙ q
+use Rattle.h2_text.specs.Lines.{window_text}
 
 -- ---- places of a list
 
@@ -33,27 +21,6 @@ drop-past zero [] h = refl
 drop-past (suc k) [] h = refl
 drop-past zero (y ∷ ys) h = cc
 drop-past (suc k) (y ∷ ys) h = drop-past k ys h
-
--- ---- octets in hex
-
-abbrev are_ascii : List ℕ → Bool
-are_ascii [] = true
-are_ascii (x ∷ xs) = ltb x 128 && are_ascii xs
-
-digits-ascii : IsAscii lower_digits
-digits-ascii = IsAscii-from_all lower_digits ((Decides-by_and (λ x. ltb x 128) (λ x. x < 128) are_ascii (λ x. Decides-ltb x 128) refl (λ _ _. refl) lower_digits).0 refl)
-
-pub hex-ascii : (xs : List ℕ) → IsAscii (encode_lower xs)
-hex-ascii xs = IsAscii-encode_with lower_digits xs digits-ascii
-
-pub hex-none : encode_lower [] ≡ []
-unfolding encode_with
-hex-none = refl
-
-pub hex-append : (xs ys : List ℕ) → encode_lower (xs ++ ys) ≡ encode_lower xs ++ encode_lower ys
-unfolding encode_with
-hex-append [] ys = refl
-hex-append (x ∷ xs) ys = ap (λ (t : List ℕ). encode_lower (x ∷ []) ++ t) (hex-append xs ys)
 
 -- ---- entries of the header table
 
@@ -99,23 +66,20 @@ place-below low last (suc k) (st ∷ sts) x r h = omega (arith, r.0, place-below
 
 -- ---- the whole text
 
-abbrev window_pieces : View → List ℕ
-window_pieces v = joined (codes "window recv " ∷ signed_decimal v.recv ∷ codes " owed " ∷ decimal v.owed ∷ codes " send " ∷ signed_decimal v.send ∷ codes "\n" ∷ [])
-
 -- eight texts one after another
 one-by-one : (a b c d e f g h : List ℕ) → a ++ (b ++ (c ++ (d ++ (e ++ (f ++ (g ++ h)))))) ≡ a ++ b ++ c ++ d ++ e ++ f ++ g ++ h
 one-by-one a b c d e f g h = simp append_assoc
 
 -- the lines in their order
-all-lines : (v : View) → phase_line v.phase v.last ++ window_pieces v ++ peer_line v.peer ++ acked_line v.acked v.goaway ++ block_line v.block
+all-lines : (v : View) → phase_line v.phase v.last ++ window_text v.recv v.owed v.send ++ peer_line v.peer ++ acked_line v.acked v.goaway ++ block_line v.block
     ++ table_line (length v.table) v.table_size v.table_max ++ entry_lines 62 v.table ++ stream_lines v.streams ≡ show v
-unfolding show window_line
+unfolding show window_line window_text
 all-lines v = refl
 
 -- the text of a view, line by line
-pub viewed-lines : (v : View) → phase_line v.phase v.last ++ (window_pieces v ++ (peer_line v.peer ++ (acked_line v.acked v.goaway ++ (block_line v.block
+pub viewed-lines : (v : View) → phase_line v.phase v.last ++ (window_text v.recv v.owed v.send ++ (peer_line v.peer ++ (acked_line v.acked v.goaway ++ (block_line v.block
     ++ (table_line (length v.table) v.table_size v.table_max ++ (entry_lines 62 v.table ++ stream_lines v.streams)))))) ≡ show v
 viewed-lines v =
-    one-by-one (phase_line v.phase v.last) (window_pieces v) (peer_line v.peer) (acked_line v.acked v.goaway) (block_line v.block)
+    one-by-one (phase_line v.phase v.last) (window_text v.recv v.owed v.send) (peer_line v.peer) (acked_line v.acked v.goaway) (block_line v.block)
     (table_line (length v.table) v.table_size v.table_max) (entry_lines 62 v.table) (stream_lines v.streams)
     ∙ all-lines v

@@ -1,30 +1,30 @@
 //! The lines of the text of a connection's state, as values that write themselves.
 //! Rests on `hex_text`; definition: h2_spec's `specs/Show.antt`.
 
-ghost use Rattle.std.specs.Prelude.{◌≡◌, ◌∷◌, [], codes, decimal, true, Some};
-ghost use Rattle.std.specs.Fmt.{signed_decimal};
+ghost use Rattle.std.specs.Prelude.{◌≡◌, true};
 ghost use Rattle.h2_spec.specs.Field.{field};
-ghost use Rattle.h2_spec.specs.Show.{joined, phase_line, phase_text, peer_line, acked_line, goaway_text, block_line, table_line, entry_line, stream_line, stream_line_as, kind_text, option_text, flag_text};
+ghost use Rattle.h2_text.specs.Lines.{window_text};
+ghost use Rattle.h2_spec.specs.Show.{phase_line, phase_text, peer_line, acked_line, goaway_text, block_line, table_line, entry_line, stream_line, stream_line_as, kind_text, option_text, flag_text};
 
 use crate::hex_text::OctetsText;
+use h2_device::{DeviceFault, Number, Output, SignedNumber, Text, texts};
 use h2_spec::connection::{BlockView, ConnectionState, Phase};
-use h2_spec::flow::Settings;
+use h2_spec::flow::{Settings, Window};
 use h2_spec::streams::{Kind, StreamView};
 use h2_streams::is_live;
-use std::fmt;
 
 /// A number, and a dash where there is none.
 #[derive(Drop)]
 struct OptionText(Option<u64>);
 
 #[tactic(auto, unfolding(h2_spec::specs::Show::option_text))]
-impl fmt::Display for OptionText {
-    ghost output = { λ x. Some (option_text x.0) };
+impl Text for OptionText {
+    ghost text = { λ x. option_text x.0 };
 
-    fn fmt<W: fmt::Write>(&self, f: &mut fmt::Formatter<W>) -> fmt::Result {
+    fn write_to<O: Output>(&self, output: &mut O) -> Result<(), DeviceFault> {
         match self.0 {
-            None => f.write_str("-"),
-            Some(number) => f.write(number),
+            None => "-".write_to(output),
+            Some(number) => Number(number).write_to(output),
         }
     }
 }
@@ -34,14 +34,14 @@ impl fmt::Display for OptionText {
 struct FlagText(bool);
 
 #[tactic(auto, unfolding(h2_spec::specs::Show::flag_text))]
-impl fmt::Display for FlagText {
-    ghost output = { λ x. Some (flag_text x.0) };
+impl Text for FlagText {
+    ghost text = { λ x. flag_text x.0 };
 
-    fn fmt<W: fmt::Write>(&self, f: &mut fmt::Formatter<W>) -> fmt::Result {
+    fn write_to<O: Output>(&self, output: &mut O) -> Result<(), DeviceFault> {
         if self.0 {
-            f.write_str("1")
+            "1".write_to(output)
         } else {
-            f.write_str("0")
+            "0".write_to(output)
         }
     }
 }
@@ -51,15 +51,17 @@ impl fmt::Display for FlagText {
 struct PhaseText(Phase);
 
 #[tactic(auto, unfolding(h2_spec::specs::Show::phase_text))]
-impl fmt::Display for PhaseText {
-    ghost output = { λ x. Some (phase_text x.0) };
+impl Text for PhaseText {
+    ghost text = { λ x. phase_text x.0 };
 
-    fn fmt<W: fmt::Write>(&self, f: &mut fmt::Formatter<W>) -> fmt::Result {
+    fn write_to<O: Output>(&self, output: &mut O) -> Result<(), DeviceFault> {
         match self.0 {
-            Phase::Preface => f.write_str("preface"),
-            Phase::Settings => f.write_str("settings"),
-            Phase::Running => f.write_str("running"),
-            Phase::Ended(code) => write!(f, "ended {}", code.number()),
+            Phase::Preface => "preface".write_to(output),
+            Phase::Settings => "settings".write_to(output),
+            Phase::Running => "running".write_to(output),
+            Phase::Ended(code) => {
+                texts!("ended ", Number(u64::from(code.number()))).write_to(output)
+            },
         }
     }
 }
@@ -69,13 +71,15 @@ impl fmt::Display for PhaseText {
 struct GoawayText(Option<(u32, u32)>);
 
 #[tactic(auto, unfolding(h2_spec::specs::Show::goaway_text))]
-impl fmt::Display for GoawayText {
-    ghost output = { λ x. Some (goaway_text x.0) };
+impl Text for GoawayText {
+    ghost text = { λ x. goaway_text x.0 };
 
-    fn fmt<W: fmt::Write>(&self, f: &mut fmt::Formatter<W>) -> fmt::Result {
+    fn write_to<O: Output>(&self, output: &mut O) -> Result<(), DeviceFault> {
         match self.0 {
-            None => f.write_str("-"),
-            Some((last, code)) => write!(f, "{last} {code}"),
+            None => "-".write_to(output),
+            Some((last, code)) => {
+                texts!(Number(u64::from(last)), " ", Number(u64::from(code))).write_to(output)
+            }
         }
     }
 }
@@ -85,26 +89,36 @@ impl fmt::Display for GoawayText {
 pub struct PhaseLine<'c>(pub &'c ConnectionState);
 
 #[tactic(auto, unfolding(h2_spec::specs::Show::phase_line))]
-impl fmt::Display for PhaseLine<'_> {
-    ghost output = { λ x. Some (phase_line x.0.now.phase x.0.now.last) };
+impl Text for PhaseLine<'_> {
+    ghost text = { λ x. phase_line x.0.now.phase x.0.now.last };
 
-    fn fmt<W: fmt::Write>(&self, f: &mut fmt::Formatter<W>) -> fmt::Result {
-        writeln!(f, "phase {} last {}", PhaseText(self.0.phase), self.0.last)
+    fn write_to<O: Output>(&self, output: &mut O) -> Result<(), DeviceFault> {
+        let phase = PhaseText(self.0.phase);
+        let last = Number(u64::from(self.0.last));
+        texts!("phase ", phase, " last ", last, "\n").write_to(output)
     }
+}
+
+/// What is left of a window (RFC 9113, 6.9).
+fn window_number(window: Window) -> SignedNumber
+    ensures { result.0 ≡ window }
+{
+    SignedNumber(window.value())
 }
 
 /// The windows of the connection, and what is owed on it.
 #[derive(Drop)]
 pub struct WindowLine<'c>(pub &'c ConnectionState);
 
-impl fmt::Display for WindowLine<'_> {
-    ghost output = { λ x. Some (joined (codes "window recv " ∷ signed_decimal x.0.now.recv ∷ codes " owed " ∷ decimal x.0.now.owed ∷ codes " send " ∷ signed_decimal x.0.now.send ∷ codes "\n" ∷ [])) };
+#[tactic(auto, unfolding(crate::specs::Lines::window_text))]
+impl Text for WindowLine<'_> {
+    ghost text = { λ x. window_text x.0.now.recv x.0.now.owed x.0.now.send };
 
-    fn fmt<W: fmt::Write>(&self, f: &mut fmt::Formatter<W>) -> fmt::Result {
-        let recv = self.0.recv.value();
-        let owed = self.0.owed.owed();
-        let send = self.0.send.value();
-        writeln!(f, "window recv {recv} owed {owed} send {send}")
+    fn write_to<O: Output>(&self, output: &mut O) -> Result<(), DeviceFault> {
+        let recv = window_number(self.0.recv);
+        let owed = Number(u64::from(self.0.owed.owed()));
+        let send = window_number(self.0.send);
+        texts!("window recv ", recv, " owed ", owed, " send ", send, "\n").write_to(output)
     }
 }
 
@@ -120,21 +134,28 @@ fn widened(number: Option<u32>) -> Option<u64>
 pub struct PeerLine<'c>(pub &'c Settings);
 
 #[tactic(auto, unfolding(h2_spec::specs::Show::peer_line))]
-impl fmt::Display for PeerLine<'_> {
-    ghost output = { λ x. Some (peer_line x.0.now) };
+impl Text for PeerLine<'_> {
+    ghost text = { λ x. peer_line x.0.now };
 
-    fn fmt<W: fmt::Write>(&self, f: &mut fmt::Formatter<W>) -> fmt::Result {
-        writeln!(
-            f,
-            "peer table {} push {} streams {} window {} frame {} list {} signal {}",
-            self.0.header_table,
-            self.0.push,
+    fn write_to<O: Output>(&self, output: &mut O) -> Result<(), DeviceFault> {
+        texts!(
+            "peer table ",
+            Number(u64::from(self.0.header_table)),
+            " push ",
+            Number(u64::from(self.0.push)),
+            " streams ",
             OptionText(widened(self.0.streams)),
-            self.0.window,
-            self.0.frame,
+            " window ",
+            Number(u64::from(self.0.window)),
+            " frame ",
+            Number(u64::from(self.0.frame)),
+            " list ",
             OptionText(widened(self.0.list)),
-            FlagText(self.0.size_update_pending)
+            " signal ",
+            FlagText(self.0.size_update_pending),
+            "\n",
         )
+        .write_to(output)
     }
 }
 
@@ -143,16 +164,13 @@ impl fmt::Display for PeerLine<'_> {
 pub struct AckedLine<'c>(pub &'c ConnectionState);
 
 #[tactic(auto, unfolding(h2_spec::specs::Show::acked_line))]
-impl fmt::Display for AckedLine<'_> {
-    ghost output = { λ x. Some (acked_line x.0.now.acked x.0.now.goaway) };
+impl Text for AckedLine<'_> {
+    ghost text = { λ x. acked_line x.0.now.acked x.0.now.goaway };
 
-    fn fmt<W: fmt::Write>(&self, f: &mut fmt::Formatter<W>) -> fmt::Result {
-        writeln!(
-            f,
-            "acked {} goaway {}",
-            FlagText(self.0.acked),
-            GoawayText(self.0.goaway)
-        )
+    fn write_to<O: Output>(&self, output: &mut O) -> Result<(), DeviceFault> {
+        let acked = FlagText(self.0.acked);
+        let goaway = GoawayText(self.0.goaway);
+        texts!("acked ", acked, " goaway ", goaway, "\n").write_to(output)
     }
 }
 
@@ -161,21 +179,29 @@ impl fmt::Display for AckedLine<'_> {
 pub struct BlockLine(pub Option<BlockView>);
 
 #[tactic(auto, unfolding(h2_spec::specs::Show::block_line))]
-impl fmt::Display for BlockLine {
-    ghost output = { λ x. Some (block_line x.0) };
+impl Text for BlockLine {
+    ghost text = { λ x. block_line x.0 };
 
-    fn fmt<W: fmt::Write>(&self, f: &mut fmt::Formatter<W>) -> fmt::Result {
+    fn write_to<O: Output>(&self, output: &mut O) -> Result<(), DeviceFault> {
         let Some(block) = &self.0 else {
-            return f.write_str("block -\n");
+            return "block -\n".write_to(output);
         };
-        writeln!(
-            f,
-            "block stream {} octets {} list {} ends {}",
-            block.stream,
-            block.octets,
-            block.list_size,
-            FlagText(block.ends)
+        let stream = Number(u64::from(block.stream));
+        let octets = Number(block.octets as u64);
+        let list = Number(block.list_size);
+        let ends = FlagText(block.ends);
+        texts!(
+            "block stream ",
+            stream,
+            " octets ",
+            octets,
+            " list ",
+            list,
+            " ends ",
+            ends,
+            "\n"
         )
+        .write_to(output)
     }
 }
 
@@ -188,11 +214,14 @@ pub struct TableLine {
 }
 
 #[tactic(auto, unfolding(h2_spec::specs::Show::table_line))]
-impl fmt::Display for TableLine {
-    ghost output = { λ x. Some (table_line x.count x.size x.max) };
+impl Text for TableLine {
+    ghost text = { λ x. table_line x.count x.size x.max };
 
-    fn fmt<W: fmt::Write>(&self, f: &mut fmt::Formatter<W>) -> fmt::Result {
-        writeln!(f, "table {} {} {}", self.count, self.size, self.max)
+    fn write_to<O: Output>(&self, output: &mut O) -> Result<(), DeviceFault> {
+        let count = Number(self.count as u64);
+        let size = Number(self.size as u64);
+        let max = Number(u64::from(self.max));
+        texts!("table ", count, " ", size, " ", max, "\n").write_to(output)
     }
 }
 
@@ -205,13 +234,14 @@ pub struct EntryLine<'t> {
 }
 
 #[tactic(auto, unfolding(h2_spec::specs::Show::entry_line))]
-impl fmt::Display for EntryLine<'_> {
-    ghost output = { λ x. Some (entry_line x.index (field x.name.now x.value.now)) };
+impl Text for EntryLine<'_> {
+    ghost text = { λ x. entry_line x.index (field x.name.now x.value.now) };
 
-    fn fmt<W: fmt::Write>(&self, f: &mut fmt::Formatter<W>) -> fmt::Result {
+    fn write_to<O: Output>(&self, output: &mut O) -> Result<(), DeviceFault> {
         let name = OctetsText(self.name);
         let value = OctetsText(self.value);
-        writeln!(f, "entry {} {name} {value}", self.index)
+        let index = Number(self.index as u64);
+        texts!("entry ", index, " ", name, " ", value, "\n").write_to(output)
     }
 }
 
@@ -237,23 +267,31 @@ fn kind_name(kind: Kind) -> &'static str
 struct LiveLine(StreamView);
 
 #[tactic(auto, unfolding(h2_spec::specs::Show::stream_line_as))]
-impl fmt::Display for LiveLine {
-    ghost output = { λ x. Some (stream_line_as true x.0) };
+impl Text for LiveLine {
+    ghost text = { λ x. stream_line_as true x.0 };
 
-    fn fmt<W: fmt::Write>(&self, f: &mut fmt::Formatter<W>) -> fmt::Result {
+    fn write_to<O: Output>(&self, output: &mut O) -> Result<(), DeviceFault> {
         let numbers = &self.0.numbers;
-        writeln!(
-            f,
-            "stream {} {} recv {} owed {} send {} got {} of {} left {}",
-            self.0.id,
+        texts!(
+            "stream ",
+            Number(u64::from(self.0.id)),
+            " ",
             kind_name(self.0.kind),
-            numbers.recv.value(),
-            numbers.owed.owed(),
-            numbers.send.value(),
-            numbers.content_received,
+            " recv ",
+            window_number(numbers.recv),
+            " owed ",
+            Number(u64::from(numbers.owed.owed())),
+            " send ",
+            window_number(numbers.send),
+            " got ",
+            Number(numbers.content_received),
+            " of ",
             OptionText(numbers.declared),
-            OptionText(numbers.body_remaining)
+            " left ",
+            OptionText(numbers.body_remaining),
+            "\n",
         )
+        .write_to(output)
     }
 }
 
@@ -262,15 +300,15 @@ impl fmt::Display for LiveLine {
 pub struct StreamLine(pub StreamView);
 
 #[tactic(auto, unfolding(h2_spec::specs::Show::stream_line, h2_spec::specs::Show::stream_line_as))]
-impl fmt::Display for StreamLine {
-    ghost output = { λ x. Some (stream_line x.0) };
+impl Text for StreamLine {
+    ghost text = { λ x. stream_line x.0 };
 
-    fn fmt<W: fmt::Write>(&self, f: &mut fmt::Formatter<W>) -> fmt::Result {
+    fn write_to<O: Output>(&self, output: &mut O) -> Result<(), DeviceFault> {
         if is_live(self.0.kind) {
-            return f.write(LiveLine(self.0));
+            return LiveLine(self.0).write_to(output);
         }
-        let id = self.0.id;
+        let id = Number(u64::from(self.0.id));
         let kind = kind_name(self.0.kind);
-        writeln!(f, "stream {id} {kind}")
+        texts!("stream ", id, " ", kind, "\n").write_to(output)
     }
 }

@@ -1,7 +1,7 @@
 //! The text of what is shown of a state, as values that write themselves: no memory is taken for it.
 //! Rests on `lines` and `view`; definition: h2_spec's `specs/Show.antt`.
 
-ghost use Rattle.std.specs.Prelude.{◌≡◌, ◌+◌, ◌<◌, ◌^◌, map, Some};
+ghost use Rattle.std.specs.Prelude.{◌≡◌, ◌+◌, ◌<◌, ◌^◌, map};
 ghost use Rattle.h2_spec.specs.Show.{entry_lines, show, stream_lines};
 ghost use Rattle.h2_spec.specs.View.{shown_stream};
 
@@ -9,25 +9,25 @@ use crate::lines::{
     AckedLine, BlockLine, EntryLine, PeerLine, PhaseLine, StreamLine, TableLine, WindowLine,
 };
 use crate::view::{Shown, count_of, entry_at, shown_stream};
+use h2_device::{DeviceFault, Output, Text, texts};
 use h2_streams::Streams;
 use h2_table::DynTable;
 use std::alloc::Allocator;
-use std::fmt;
 
 /// The entries of a dynamic table, a line each, the newest first (RFC 7541, 2.3.3).
 #[derive(Drop)]
 pub struct EntriesText<'t, A: Allocator>(pub &'t DynTable<A>);
 
-impl<A: Allocator> fmt::Display for EntriesText<'_, A> {
-    ghost output = { λ x. Some (entry_lines 62 x.0.now.table.entries) };
+impl<A: Allocator> Text for EntriesText<'_, A> {
+    ghost text = { λ x. entry_lines 62 x.0.now.table.entries };
 
-    fn fmt<W: fmt::Write>(&self, f: &mut fmt::Formatter<W>) -> fmt::Result {
+    fn write_to<O: Output>(&self, output: &mut O) -> Result<(), DeviceFault> {
         // The places stay below this number, which is small.
         let _count = count_of(self.0);
         let mut place = 0usize;
         while let Some((name, value)) = entry_at(self.0, place) {
             let index = index_of(place);
-            f.write(EntryLine { index, name, value })?;
+            EntryLine { index, name, value }.write_to(output)?;
             place += 1;
         }
         Ok(())
@@ -46,15 +46,15 @@ fn index_of(place: usize) -> usize
 #[derive(Drop)]
 struct StreamsText<'s, A: Allocator>(&'s Streams<A>);
 
-impl<A: Allocator> fmt::Display for StreamsText<'_, A> {
-    ghost output = { λ x. Some (stream_lines (map shown_stream x.0.now.streams)) };
+impl<A: Allocator> Text for StreamsText<'_, A> {
+    ghost text = { λ x. stream_lines (map shown_stream x.0.now.streams) };
 
-    fn fmt<W: fmt::Write>(&self, f: &mut fmt::Formatter<W>) -> fmt::Result {
+    fn write_to<O: Output>(&self, output: &mut O) -> Result<(), DeviceFault> {
         // Identifiers rise up to this one, so the places stay below it.
         let _last = self.0.last();
         let mut place = 0usize;
         while let Some(stream) = self.0.at(place) {
-            f.write(StreamLine(shown_stream(stream)))?;
+            StreamLine(shown_stream(stream)).write_to(output)?;
             place += 1;
         }
         Ok(())
@@ -62,10 +62,10 @@ impl<A: Allocator> fmt::Display for StreamsText<'_, A> {
 }
 
 /// Line by line.
-impl<A: Allocator> fmt::Display for Shown<'_, A> {
-    ghost output = { λ x. Some (show x) };
+impl<A: Allocator> Text for Shown<'_, A> {
+    ghost text = { λ x. show x };
 
-    fn fmt<W: fmt::Write>(&self, f: &mut fmt::Formatter<W>) -> fmt::Result {
+    fn write_to<O: Output>(&self, output: &mut O) -> Result<(), DeviceFault> {
         let core = &self.core;
         let phase = PhaseLine(core);
         let window = WindowLine(core);
@@ -79,9 +79,6 @@ impl<A: Allocator> fmt::Display for Shown<'_, A> {
         };
         let entries = EntriesText(self.table);
         let streams = StreamsText(self.streams);
-        write!(
-            f,
-            "{phase}{window}{peer}{acked}{block}{table}{entries}{streams}"
-        )
+        texts!(phase, window, peer, acked, block, table, entries, streams).write_to(output)
     }
 }

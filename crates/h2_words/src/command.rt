@@ -167,7 +167,7 @@ fn answer_words<'a>(alloc: Global) -> Arg<'a>
     ensures { IsArg answer_rule result }
 {
     Arg::new(alloc, "ANSWER")
-        .help("METHOD|PATH|STATUS|BODYHEX, and any number of |NAME=VALUE")
+        .help("METHOD|PATH|STATUS|BODYHEX, any number of |NAME=VALUE, and at most one |early")
         .action(ArgAction::Append)
 }
 

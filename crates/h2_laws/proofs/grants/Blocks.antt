@@ -68,7 +68,7 @@ request-kept id s t p j ends fields pos_id x none above =
     st = new_stream s.core j f
 
     outcome : StreamOutcome
-    outcome = request_outcome s.config (live_count s.streams) (body_length s.book st) s.core j ends f
+    outcome = request_outcome s.config (live_count s.streams) (body_length s.book st) (picked s.book f.pick).early s.core j ends f
 
     core : ConnectionState
     core = record s.core { last = j }

@@ -175,12 +175,23 @@ answered-proper book size_update_pending st = at (eqb (body_length book st) 0) s
     at true PeerReset = record { same_id = refl; only = (refl, refl, tt); has_body = λ h. h }
     at true WeReset = record { same_id = refl; only = (refl, refl, tt); has_body = λ h. h }
 
--- on a stream that nothing was sent on, and that the peer has ended
-answered-good : (book : List Entry) (window : ℕ) (m : Mark) (size_update_pending : Bool) (i : ℕ) (x : Numbers) (pick : Pick) → Sends (picked book pick).body window x.send None m →
-    let st : Stream = record { id = i; kind = HalfRemote; numbers = x; pick = pick } in
+-- where the server's side is open
+abbrev pub IsAnswerable : Kind → Type 0
+IsAnswerable BothOpen = Unit {0}
+IsAnswerable HalfRemote = Unit {0}
+IsAnswerable Idle = ⊥
+IsAnswerable Skipped = ⊥
+IsAnswerable HalfLocal = ⊥
+IsAnswerable Ended = ⊥
+IsAnswerable PeerReset = ⊥
+IsAnswerable WeReset = ⊥
+
+-- on a stream that nothing was sent on
+answered-good : (book : List Entry) (window : ℕ) (m : Mark) (size_update_pending : Bool) (k : Kind) (i : ℕ) (x : Numbers) (pick : Pick) → IsAnswerable k → Sends (picked book pick).body window x.send None m →
+    let st : Stream = record { id = i; kind = k; numbers = x; pick = pick } in
     Good book window m (answered size_update_pending (body_length book st) st)
 unfolding answered begun server_ended
-answered-good book window m size_update_pending i x pick f = at (eqb (length body) 0) refl
+answered-good book window m size_update_pending k i x pick may f = at k may (eqb (length body) 0) refl
   where
     body : List ℕ
     body = (picked book pick).body
@@ -210,12 +221,20 @@ answered-good book window m size_update_pending i x pick f = at (eqb (length bod
       reset = f.reset;
     }
 
-    st : Stream
-    st = record { id = i; kind = HalfRemote; numbers = x; pick = pick }
+    st : Kind → Stream
+    st k = record { id = i; kind = k; numbers = x; pick = pick }
 
-    at : (b : Bool) → eqb (length body) 0 ≡ b → Good book window m (record (answered size_update_pending (length body) st) { stream = cond b (server_ended st) (with_body_remaining st (length body)) })
-    at true e = record { in_turn = (((f.waits.0, f.ended), f.reset), tt); fits = rw e (ends e) }
-    at false e = record { in_turn = (((f.waits.0, f.ended), f.reset), tt); fits = rw e (goes_on e) }
+    at : (k : Kind) → IsAnswerable k → (b : Bool) → eqb (length body) 0 ≡ b → Good book window m (record (answered size_update_pending (length body) (st k)) { stream = cond b (server_ended (st k)) (with_body_remaining (st k) (length body)) })
+    at HalfRemote o true e = record { in_turn = (((f.waits.0, f.ended), f.reset), tt); fits = rw e (ends e) }
+    at HalfRemote o false e = record { in_turn = (((f.waits.0, f.ended), f.reset), tt); fits = rw e (goes_on e) }
+    at BothOpen o true e = record { in_turn = (((f.waits.0, f.ended), f.reset), tt); fits = rw e (ends e, f.reset, refl) }
+    at BothOpen o false e = record { in_turn = (((f.waits.0, f.ended), f.reset), tt); fits = rw e (goes_on e) }
+    at Idle o b e = absurd o
+    at Skipped o b e = absurd o
+    at HalfLocal o b e = absurd o
+    at Ended o b e = absurd o
+    at PeerReset o b e = absurd o
+    at WeReset o b e = absurd o
 
 -- ---- the peer's side ends
 
@@ -251,7 +270,7 @@ peer_ended-good book window m size_update_pending st f = at st.kind f
     begins : (o : Option ℕ) → Sends (picked book st.pick).body window st.numbers.send o m →
         let after : Stream = record st { kind = HalfRemote; numbers = record st.numbers { body_remaining = o } } in
         Good book window m (answered_unless (is_some o) size_update_pending (body_length book st) after)
-    begins None f = answered-good book window m size_update_pending st.id (record st.numbers { body_remaining = None }) st.pick f
+    begins None f = answered-good book window m size_update_pending HalfRemote st.id (record st.numbers { body_remaining = None }) st.pick tt f
     begins (Some l) f = record { in_turn = tt; fits = f }
 
     at : (k : Kind) → Fits book window (record st { kind = k }) m → Good book window m (peer_ended size_update_pending (body_length book st) (record st { kind = k }))
@@ -406,21 +425,22 @@ trailers_turn-good book window m size malformed size_update_pending ends st f r 
     (either-good book window m _ _ _ (error-good book window m size_update_pending st.id ProtocolError u) (peer_ended-good book window m size_update_pending st f))
 
 pub request_turn-proper : (book : List Entry) (config : Config) (live : ℕ) (core : ConnectionState) (id : ℕ) (ends : Bool) (f : BlockSummary) →
-    Proper book (new_stream core id f) (request_outcome config live (body_length book (new_stream core id f)) core id ends f)
+    Proper book (new_stream core id f) (request_outcome config live (body_length book (new_stream core id f)) (picked book f.pick).early core id ends f)
 unfolding request_outcome
 request_turn-proper book config live core id ends f =
     let st : Stream = new_stream core id f in
     either-proper book st _ _ _ (error-proper book core.peer.size_update_pending st RefusedStream)
     (either-proper book st _ _ _ (error-proper book core.peer.size_update_pending st EnhanceYourCalm)
     (either-proper book st _ _ _ (error-proper book core.peer.size_update_pending st ProtocolError)
-    (either-proper book st ends _ _ (peer_ended-proper book core.peer.size_update_pending st) (quiet-proper book core.peer.size_update_pending st))))
+    (either-proper book st ends _ _ (peer_ended-proper book core.peer.size_update_pending st)
+    (either-proper book st (picked book f.pick).early _ _ (answered-proper book core.peer.size_update_pending st) (quiet-proper book core.peer.size_update_pending st)))))
 
 -- the mark of a stream whose request has just come
 abbrev pub just_asked : List ℕ → Mark
 just_asked body = record blank { promised = Some body }
 
 pub request_turn-good : (book : List Entry) (config : Config) (live : ℕ) (core : ConnectionState) (id : ℕ) (ends : Bool) (f : BlockSummary) →
-    Good book core.peer.window (just_asked (picked book f.pick).body) (request_outcome config live (body_length book (new_stream core id f)) core id ends f)
+    Good book core.peer.window (just_asked (picked book f.pick).body) (request_outcome config live (body_length book (new_stream core id f)) (picked book f.pick).early core id ends f)
 unfolding request_outcome
 request_turn-good book config live core id ends f =
     let st : Stream = new_stream core id f in
@@ -432,4 +452,5 @@ request_turn-good book config live core id ends f =
     either-good book w m _ _ _ (error-good book w m core.peer.size_update_pending id RefusedStream u)
     (either-good book w m _ _ _ (error-good book w m core.peer.size_update_pending id EnhanceYourCalm u)
     (either-good book w m _ _ _ (error-good book w m core.peer.size_update_pending id ProtocolError u)
-    (either-good book w m ends _ _ (peer_ended-good book w m core.peer.size_update_pending st g) (quiet-good book w m core.peer.size_update_pending st g))))
+    (either-good book w m ends _ _ (peer_ended-good book w m core.peer.size_update_pending st g)
+    (either-good book w m (picked book f.pick).early _ _ (answered-good book w m core.peer.size_update_pending BothOpen id st.numbers f.pick tt g) (quiet-good book w m core.peer.size_update_pending st g)))))

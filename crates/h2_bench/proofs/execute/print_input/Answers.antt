@@ -10,17 +10,11 @@ use Rattle.h2_bench.proofs.execute.print_input.Goals as goal
 pub returns-in-Asm-clause-printed : goal.returns-in-Asm-clause-printed
 returns-in-Asm-clause-printed g c = λ well held is.
     let such = subst (λ (b : Batch). OrCutShort (places c.args.book.now (batch_asked b) c.args.input.items) (printed c.args.book.now (batch_asked b) c.args.input.items) (seen c.asm_report.result)) (sym c.in-Asm.is)
-    (given c.asm_report.result _ _ (rw c.as_slice.ensures.value at c.asm_report.ensures.gives)) in
+    (given c.asm_report.result _ _ (rw c.as_slice.ensures.value at c.asm_report.ensures)) in
     (seen c.asm_report.result, such, c.print_answer.ensures.printed well held is)
 
 pub returns-in-Dis-clause-printed : goal.returns-in-Dis-clause-printed
 returns-in-Dis-clause-printed g c = λ well held is.
     let such = subst (λ (b : Batch). OrCutShort (places c.args.book.now (batch_asked b) c.args.input.items) (printed c.args.book.now (batch_asked b) c.args.input.items) (seen c.whole.result)) (sym c.in-Dis.is)
-    (given c.whole.result _ _ (c.whole.ensures.gives _ (rw c.as_slice-in-Dis.ensures.value at c.dis_text.ensures))) in
+    (given c.whole.result _ _ (c.whole.ensures _ (rw c.as_slice-in-Dis.ensures.value at c.dis_text.ensures))) in
     (seen c.whole.result, such, c.print_answer-in-Dis.ensures.printed well held is)
-
-pub returns-in-Table-clause-printed : goal.returns-in-Table-clause-printed
-returns-in-Table-clause-printed g c = λ well held is.
-    let such = subst (λ (b : Batch). OrCutShort (places c.args.book.now (batch_asked b) c.args.input.items) (printed c.args.book.now (batch_asked b) c.args.input.items) (seen c.table_report.result)) (sym c.in-Table.is)
-    (given c.table_report.result _ _ (rw c.as_slice-in-Table.ensures.value at c.table_report.ensures.gives)) in
-    (seen c.table_report.result, such, c.print_answer-in-Table.ensures.printed well held is)

@@ -1,7 +1,7 @@
 use Rattle.std.proofs.Common.{◌≡◌, ◌∙◌, Option, Some, true, false, codes, sym, ap, refl, option_and_then}
-use Rattle.toml.specs.Data.{Data, as_str}
+use Rattle.toml.specs.Data.{Data, as_str, get_member}
 use Rattle.toml.specs.View.{items_view, table_view}
-use Rattle.h2_book.specs.Said.{has_other_key, is_key_of_answer, text_at, status_at, status_said, headers_in, headers_said}
+use Rattle.h2_book.specs.Said.{has_other_key, is_key_of_answer, text_at, status_at, status_said, headers_in, headers_said, early_said}
 use Rattle.h2_book.proofs.Keys.{has_other_key-keys}
 use Rattle.h2_book.proofs.answer.said_in.Goals as goal
 
@@ -24,4 +24,6 @@ returns-clause-said c =
     let status : status_at (table_view table) ≡ Some c.in_ok-status.status =
     ap (λ (o : Option Data). option_and_then status_said o) (sym c.value_at-3.ensures) ∙ c.in_ok-status.ensures.said in
     let headers = ap (λ (o : Option Data). headers_said o) (sym c.value_at-4.ensures) ∙ sym c.in-Some.ensures.said in
-    rw (other, method, path, status, headers, c.in_ok-body.ensures.said) refl
+    let early : early_said (get_member (codes "early") (table_view table)) ≡ Some c.in_ok-early.early =
+    ap (λ (o : Option Data). early_said o) (sym c.value_at-5.ensures) ∙ c.in_ok-early.ensures.said in
+    rw (other, method, path, status, headers, c.in_ok-body.ensures.said, early) refl

@@ -1,17 +1,33 @@
+use Rattle.std.proofs.Common.{◌≡◌, ◌-◌, ◌≤◌, ◌++◌, ◌∙◌, ap, sym, subst, arith, ℕ}
 use Rattle.std.proofs.lemmas.Result.{on_ok_weaker}
 use Rattle.h2_spec.specs.Change.{frames_of, updated_streams}
-use Rattle.h2_conn.specs.Sending.{waiting_frames}
+use Rattle.h2_spec.specs.Frame.{frames_octets}
+use Rattle.h2_spec.specs.SendPending.{sent_frames, window_left}
+use Rattle.h2_spec.specs.Stream.{Records}
+use Rattle.h2_conn.specs.Sending.{sent_records, waiting_frames}
+use Rattle.h2_rules.specs.Sound.{updated_records}
 use Rattle.h2_conn.proofs.ApplyChangeLaws.{in-outcome}
-use Rattle.h2_conn.proofs.ShortLaws.{short-append, waiting_frames-short}
+use Rattle.h2_conn.proofs.ShortLaws.{short-append, sent_frames-short}
 use Rattle.h2_conn.proofs.apply_change.write_and_update.Goals as goal
 
 pub returns-clause-sent : goal.returns-clause-sent
-returns-clause-sent g c = on_ok_weaker c.record_update.result (λ _. in-outcome c.args.out.now.items _ _ _ _ c.in_ok-write_change.ensures.ok c.in_ok-write_waiting.ensures.ok) c.record_update.ensures.ok
+returns-clause-sent g c =
+    let a = c.args in
+    let change = a.change.now in
+    let now = updated_streams change.record_update a.streams.now.streams in
+    on_ok_weaker c.update_and_send.result (λ sent. in-outcome a.out.now.items c.write_change.new.out.items c.update_and_send.new.out.items (frames_of a.book.now a.payload.now change) (waiting_frames a.book.now change.core now) c.in_ok-write_change.ensures.ok
+    (sent ∙ ap (λ w. c.write_change.new.out.items ++ frames_octets (sent_frames a.book.now change.core.peer.frame w now)) c.open_window-window.ensures.window.0)) c.update_and_send.ensures.sent
 
 pub returns-clause-short : goal.returns-clause-short
 returns-clause-short g c =
     let change = c.args.change.now in
     let book = c.args.book.now in
-    let streams = c.args.streams.now.streams in
-    on_ok_weaker c.record_update.result (λ _. short-append (frames_of book c.args.payload.now change) (waiting_frames book change.core (updated_streams change.record_update streams))
-    c.in_ok-write_change.ensures.short (waiting_frames-short book change.core (updated_streams change.record_update streams) c.requires.frame.1)) c.record_update.ensures.ok
+    let now = updated_streams change.record_update c.args.streams.now.streams in
+    on_ok_weaker c.update_and_send.result (λ _. short-append (frames_of book c.args.payload.now change) (waiting_frames book change.core now)
+    c.in_ok-write_change.ensures.short (sent_frames-short book change.core.peer.frame _ now c.requires.frame.1)) c.update_and_send.ensures.sent
+
+pub returns-clause-records : goal.returns-clause-records
+returns-clause-records g c =
+    let a = c.args in
+    let r = updated_records a.change.now.record_update a.streams.now in
+    on_ok_weaker c.update_and_send.result (λ e. e ∙ ap (λ w. sent_records w r) c.open_window-window.ensures.window.0) c.update_and_send.ensures.records

@@ -15,8 +15,8 @@ returns-in-None-clause-applied g c = λ _.
     let p = progress_in c.args.collected.now c.args.draft.now in
     (refl, ap refusal (applied-no_index c.args.draft.now.base.limit p c.args.index (sym c.if-is_due.ensures) (sym c.in-None.ensures)))
 
-pub returns-in_ok-add-in-Some-clause-applied : goal.returns-in_ok-add-in-Some-clause-applied
-returns-in_ok-add-in-Some-clause-applied g c =
+pub returns-in_ok-add_indexed-in-Some-clause-applied : goal.returns-in_ok-add_indexed-in-Some-clause-applied
+returns-in_ok-add_indexed-in-Some-clause-applied g c =
     let p = progress_in c.args.collected.now c.args.draft.now in
     applied-indexed c.args.draft.now.base.limit p c.args.index (field c.in-Some.name.now c.in-Some.value.now) (sym c.if-is_due.ensures) (sym c.in-Some.ensures)
-    ∙ ap (λ s. Ok (progress_in s c.args.draft.now)) (sym c.in_ok-add-in-Some.ensures.ok)
+    ∙ ap (λ s. Ok (progress_in s c.args.draft.now)) (sym c.in_ok-add_indexed-in-Some.ensures.ok)

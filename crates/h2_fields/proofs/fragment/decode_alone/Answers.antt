@@ -4,6 +4,6 @@ use Rattle.h2_fields.specs.declared.collected.Mark.{Mark}
 use Rattle.h2_fields.proofs.Drafting.{grows-restored}
 use Rattle.h2_fields.proofs.fragment.decode_alone.Goals as goal
 
-pub returns-in-Err-extend_from_slice-clause-grows : goal.returns-in-Err-extend_from_slice-clause-grows
-returns-in-Err-extend_from_slice-clause-grows g c =
+pub returns-in_default-Err-clause-grows : goal.returns-in_default-Err-clause-grows
+returns-in_default-Err-clause-grows g c =
     grows-restored c.args.collected.now c.attempt-edit.new.collected c.restore.new.self c.mark-before.result.count c.attempt-edit.ensures.grows (ap (λ (m : Mark). m.count) c.mark-before.ensures) (ap (λ (s : FieldsSoFar). s.fields) c.restore.ensures)

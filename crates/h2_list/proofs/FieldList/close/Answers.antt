@@ -1,9 +1,11 @@
-use Rattle.std.proofs.Common.{arith, ◌≡◌, ◌+◌, ◌≤◌, ◌++◌, ◌∷◌, [], ℕ, List, length, take, drop, map, ◌∙◌, sym, ap, subst, refl, length-drop}
+use Rattle.std.proofs.Common.{arith, ◌≡◌, ◌+◌, ◌≤◌, ◌++◌, ◌∷◌, [], ℕ, List, length, take, drop, map, ◌∙◌, sym, ap, subst, refl, length-drop, length-take-le}
+use Rattle.std.proofs.lemmas.List.{take_all, take-take}
 use Rattle.h2_spec.specs.Field.{Field, field}
 use Rattle.h2_list.specs.Listed.{Listed}
-use Rattle.h2_list.specs.Spans.{AreSpans, field_in}
+use Rattle.h2_list.specs.Spans.{AreSpans, IsPart, field_in}
+use Rattle.h2_list.specs.declared.Part.{Part}
 use Rattle.h2_list.specs.declared.Span.{Span}
-use Rattle.h2_list.proofs.Closing.{closes, spans-push}
+use Rattle.h2_list.proofs.Closing.{Begins, adds, front-part, last-part, part-stays, spans-push}
 use Rattle.h2_list.proofs.FieldList.close.Goals as goal
 
 listed : List Field → List ℕ → Listed
@@ -12,23 +14,31 @@ listed fields next = record { fields = fields; next = next }
 pub invariant_of-self-2 : goal.invariant_of-self-2
 invariant_of-self-2 g c =
     let l = c.self.inside in
-    let s : Span = record { start = l.start; split = l.start + c.args.name; end = c.len-end.result } in
+    let split = l.start + c.args.name in
+    let s : Span = record { name = record { start = l.start; end = split }; value = record { start = split; end = c.len-end.result }; start = l.start; end = c.len-end.result } in
     let seen = ap (λ (o : Listed). length o.next) c.self.view_is in
     let end = c.len-end.ensures ∙ l.octets.ok.0 in
-    let value : l.start + c.args.name ≤ c.len-end.result = omega (arith, seen, c.requires.within, end, c.self.invariant.0, length-drop l.start l.octets.items) in
-    let more = spans-push 0 l.spans.items l.start s c.self.invariant.1 refl (record { name = omega arith; value = value }) in
+    let value : split ≤ c.len-end.result = omega (arith, seen, c.requires.within, end, c.self.invariant.0, length-drop l.start l.octets.items) in
+    let more = spans-push 0 l.spans.items l.start s c.self.invariant.1 refl (record { start = omega (arith, value); name = omega arith; name_within = value; value = value; value_within = omega arith }) in
     (omega (arith, end), subst (λ (spans : List Span). AreSpans 0 spans c.len-end.result) (sym c.in_ok-push.ensures.items) more)
 
 pub returns-clause-ok : goal.returns-clause-ok
 unfolding listed
 returns-clause-ok g c =
     let l = c.self.inside in
-    let s : Span = record { start = l.start; split = l.start + c.args.name; end = c.len-end.result } in
+    let split = l.start + c.args.name in
+    let first : Part = record { start = l.start; end = split } in
+    let second : Part = record { start = split; end = c.len-end.result } in
+    let s : Span = record { name = first; value = second; start = l.start; end = c.len-end.result } in
     let seen = ap (λ (o : Listed). length o.next) c.self.view_is in
     let more = drop l.start l.octets.items in
     let room : c.args.name ≤ length more = omega (arith, seen, c.requires.within) in
     let fields = map (field_in (take l.start l.octets.items)) l.spans.items ++ field (take c.args.name more) (drop c.args.name more) ∷ [] in
-    let r = closes l.octets.items l.spans.items s l.start c.args.name c.self.invariant.0 c.self.invariant.1 refl refl (c.len-end.ensures ∙ l.octets.ok.0) room in
+    let end = c.len-end.ensures ∙ l.octets.ok.0 in
+    let r = adds l.octets.items l.octets.items l.spans.items s l.start (take c.args.name more) (drop c.args.name more)
+    (record { held = c.self.invariant.0; within = c.self.invariant.0; same = refl }) c.self.invariant.1 end
+    (front-part first l.octets.items l.start c.args.name c.self.invariant.0 refl refl room)
+    (last-part second l.octets.items l.start c.args.name c.self.invariant.0 refl end room) in
     ap (λ (spans : List Span). listed (map (field_in (take c.len-end.result l.octets.items)) spans) (drop c.len-end.result l.octets.items)) c.in_ok-push.ensures.items
     ∙ ap (λ (fs : List Field). listed fs (drop c.len-end.result l.octets.items)) r.fields
     ∙ ap (λ (n : List ℕ). listed fields n) r.next

@@ -22,7 +22,7 @@ returns-clause-rule g c = λ b table.
     let made = c.request_summary-summary.ensures in
     let live = live_count a.streams.now.streams in
     let outcome =
-    c.opening_outcome-outcome.ensures.rule ∙ ap (λ n. request_outcome a.config n (length (picked book f.pick).body) a.core id ends f) c.live_count-live.ensures
+    c.opening_outcome-outcome.ensures.rule ∙ ap (λ n. request_outcome a.config n (length (picked book f.pick).body) (picked book f.pick).early a.core id ends f) c.live_count-live.ensures
     ∙ same-opening book a.config live a.core id ends fields f made.size made.malformed made.well_formed in
     c.with_outcome.ensures.rule ∙ ap (λ (x : Change). with_outcome x c.opening_outcome-outcome.result) c.only_counts-opened.ensures ∙ ap (λ (t : StreamOutcome). with_outcome (only_counts opened) t) outcome
 

@@ -1,6 +1,6 @@
 use Rattle.std.proofs.Common.{◌∙◌, ap, length, subst, sym}
 use Rattle.h2_spec.specs.Answer.{picked}
-use Rattle.h2_spec.specs.StreamEnds.{peer_ended}
+use Rattle.h2_spec.specs.StreamEnds.{answered, peer_ended}
 use Rattle.h2_spec.specs.Headers.{request_outcome}
 use Rattle.h2_spec.specs.Change.{outcome_without_frame}
 use Rattle.h2_spec.specs.declared.reactions.StreamOutcome.{StreamOutcome}
@@ -28,10 +28,16 @@ returns-then-ends-clause-rule c =
     rw (← c.is_full.ensures, c.if-is_full.false, ← c.is_too_large.ensures, c.if-is_too_large.false, ← c.is_malformed.ensures, c.if-is_malformed.false, c.if-ends.true)
     (c.peer_ended.ensures.rule ∙ ap (peer_ended c.args.core.peer.size_update_pending c.args.body) c.new_stream-stream.ensures.rule)
 
-pub returns-else-ends-clause-rule : goal.returns-else-ends-clause-rule
+pub returns-then-early-clause-rule : goal.returns-then-early-clause-rule
 unfolding request_outcome
-returns-else-ends-clause-rule c =
-    rw (← c.is_full.ensures, c.if-is_full.false, ← c.is_too_large.ensures, c.if-is_too_large.false, ← c.is_malformed.ensures, c.if-is_malformed.false, c.if-ends.false)
+returns-then-early-clause-rule c =
+    rw (← c.is_full.ensures, c.if-is_full.false, ← c.is_too_large.ensures, c.if-is_too_large.false, ← c.is_malformed.ensures, c.if-is_malformed.false, c.if-ends.false, c.if-early.true)
+    (c.answered.ensures.rule ∙ ap (answered c.args.core.peer.size_update_pending c.args.body) c.new_stream-stream.ensures.rule)
+
+pub returns-else-early-clause-rule : goal.returns-else-early-clause-rule
+unfolding request_outcome
+returns-else-early-clause-rule c =
+    rw (← c.is_full.ensures, c.if-is_full.false, ← c.is_too_large.ensures, c.if-is_too_large.false, ← c.is_malformed.ensures, c.if-is_malformed.false, c.if-ends.false, c.if-early.false)
     (c.outcome_without_frame.ensures.rule ∙ ap (outcome_without_frame c.args.core.peer.size_update_pending) c.new_stream-stream.ensures.rule)
 
 pub returns-then-ends-clause-sound : goal.returns-then-ends-clause-sound
@@ -41,9 +47,16 @@ pub returns-then-ends-clause-waits : goal.returns-then-ends-clause-waits
 returns-then-ends-clause-waits c = λ book same is.
     c.peer_ended.ensures.waits book (same ∙ ap (λ (st : Stream). length (picked book st.pick).body) (sym c.new_stream-stream.ensures.rule)) (c.new_stream-stream.ensures.waits book is)
 
-pub returns-else-ends-clause-sound : goal.returns-else-ends-clause-sound
-returns-else-ends-clause-sound c = subst (λ (t : StreamOutcome). IsSoundStream c.args.core.peer.window t.stream) (sym c.outcome_without_frame.ensures.rule) c.new_stream-stream.ensures.sound
+pub returns-then-early-clause-sound : goal.returns-then-early-clause-sound
+returns-then-early-clause-sound c = c.answered.ensures.sound c.args.core.peer.window c.requires.core.1 c.new_stream-stream.ensures.sound
 
-pub returns-else-ends-clause-waits : goal.returns-else-ends-clause-waits
-returns-else-ends-clause-waits c = λ book same is.
+pub returns-then-early-clause-waits : goal.returns-then-early-clause-waits
+returns-then-early-clause-waits c = λ book same is.
+    c.answered.ensures.waits book (same ∙ ap (λ (st : Stream). length (picked book st.pick).body) (sym c.new_stream-stream.ensures.rule)) (c.new_stream-stream.ensures.waits book is)
+
+pub returns-else-early-clause-sound : goal.returns-else-early-clause-sound
+returns-else-early-clause-sound c = subst (λ (t : StreamOutcome). IsSoundStream c.args.core.peer.window t.stream) (sym c.outcome_without_frame.ensures.rule) c.new_stream-stream.ensures.sound
+
+pub returns-else-early-clause-waits : goal.returns-else-early-clause-waits
+returns-else-early-clause-waits c = λ book same is.
     subst (λ (t : StreamOutcome). HasBody book t.stream) (sym c.outcome_without_frame.ensures.rule) (c.new_stream-stream.ensures.waits book is)

@@ -23,22 +23,6 @@ pub returns-in-BadCommand : goal.returns-in-BadCommand
 unfolding fault_line digits
 returns-in-BadCommand c = rw c.in-BadCommand.is refl
 
-pub returns-in-BadStatus : goal.returns-in-BadStatus
-unfolding fault_line digits
-returns-in-BadStatus c = rw c.in-BadStatus.is refl
-
-pub returns-in-BadField : goal.returns-in-BadField
-unfolding fault_line digits
-returns-in-BadField c = rw c.in-BadField.is refl
-
-pub returns-in-BodyNotAllowed : goal.returns-in-BodyNotAllowed
-unfolding fault_line digits
-returns-in-BodyNotAllowed c = rw c.in-BodyNotAllowed.is refl
-
-pub returns-in-TooLong : goal.returns-in-TooLong
-unfolding fault_line digits
-returns-in-TooLong c = rw c.in-TooLong.is refl
-
 pub returns-in-BadConfig : goal.returns-in-BadConfig
 unfolding fault_line digits
 returns-in-BadConfig c = rw c.in-BadConfig.is refl

@@ -1,14 +1,15 @@
-use Rattle.std.proofs.Common.{ℕ, refl, sym, subst, ◌∙◌}
+use Rattle.std.proofs.Common.{ℕ, refl, sym, ap, subst, ◌∙◌}
+use Rattle.h2_spec.specs.declared.connection.ConnectionState.{ConnectionState}
 use Rattle.h2_spec.specs.State.{State}
 use Rattle.h2_spec.specs.Stream.{Records}
-use Rattle.h2_spec.specs.Change.{made}
+use Rattle.h2_spec.specs.Change.{made, updated_streams}
 use Rattle.h2_spec.specs.Trace.{then_sent}
 use Rattle.h2_conn.specs.Blocks.{IsOpenFor}
 use Rattle.h2_conn.specs.Does.{Does}
-use Rattle.h2_conn.specs.Sending.{records}
+use Rattle.h2_conn.specs.Sending.{core_after, open_window, records, records_after}
 use Rattle.h2_rules.specs.Sound.{IsSoundChange, IsSoundState, updated_records}
-use Rattle.h2_conn.proofs.ApplyChangeLaws.{inside-sound, can-apply, open-after, did}
-use Rattle.h2_conn.proofs.PreviewLaws.{can_send}
+use Rattle.h2_conn.proofs.ApplyChangeLaws.{inside-sound, can-send, open-after, counts-sent, did}
+use Rattle.h2_conn.proofs.SentLaws.{sent-sound}
 use Rattle.h2_rules.proofs.SoundLaws.{changed-sound}
 use Rattle.h2_conn.proofs.state.State.apply_change.Goals as goal
 
@@ -18,36 +19,32 @@ send_and_update-requires-clause-sends g c =
     let state = c.self.invariant.0 in
     let change = c.args.change in
     let sound = inside-sound inside.book.now inside.core inside.streams change state (subst (λ (s : State). IsSoundChange s.book (records s) s.core.peer.window change) (sym c.self.view_is) c.requires.sound) in
-    can_send inside.book.now inside.core inside.streams change state sound
-
-pub send_and_update-requires-clause-touches : goal.send_and_update-requires-clause-touches
-send_and_update-requires-clause-touches g c =
-    let inside = c.self.inside in
-    let state = c.self.invariant.0 in
-    let change = c.args.change in
-    let sound = inside-sound inside.book.now inside.core inside.streams change state (subst (λ (s : State). IsSoundChange s.book (records s) s.core.peer.window change) (sym c.self.view_is) c.requires.sound) in
-    can-apply inside.book.now inside.core inside.streams change state sound
+    can-send inside.book.now inside.core inside.streams change state sound
 
 pub invariant_of-self : goal.invariant_of-self
 invariant_of-self g c =
     let inside = c.self.inside in
     let state = c.self.invariant.0 in
     let change = c.args.change in
-    let sound = inside-sound inside.book.now inside.core inside.streams change state (subst (λ (s : State). IsSoundChange s.book (records s) s.core.peer.window change) (sym c.self.view_is) c.requires.sound) in
-    let changed = subst (λ (r : Records). IsSoundState inside.book.now change.core r) (sym c.in-Ok.ensures.updated_streams) (changed-sound inside.book.now inside.core inside.streams change state sound) in
-    let after = c.take_waiting-self-inside.ensures.sound inside.book.now changed in
+    let book = inside.book.now in
+    let r = updated_records change.record_update inside.streams in
+    let sound = inside-sound book inside.core inside.streams change state (subst (λ (s : State). IsSoundChange s.book (records s) s.core.peer.window change) (sym c.self.view_is) c.requires.sound) in
+    let changed = changed-sound book inside.core inside.streams change state sound in
+    let sent = sent-sound book change.core r (open_window change.core) c.in-Ok.count changed in
+    let paid = subst (λ (k : ConnectionState). IsSoundState book k (records_after change.core r)) (sym c.with_sent-self-inside.ensures) sent in
+    let after = subst (λ (x : Records). IsSoundState book c.with_sent-self-inside.result x) (sym c.in-Ok.ensures.records) paid in
     let kept = subst (λ (s : State). IsOpenFor (updated_records change.record_update (records s)) s.block) (sym c.self.view_is) c.requires.kept in
     let held = subst (λ (l : ℕ). IsOpenFor (updated_records change.record_update (record { streams = inside.streams.streams; last = l })) inside.block) (sym state.last) kept in
-    let updated_streams = subst (λ (r : Records). IsOpenFor r inside.block) (sym c.in-Ok.ensures.updated_streams) held in
-    let sent = subst (λ (r : Records). IsOpenFor r inside.block) (sym c.take_waiting-self-inside.ensures.streams) (open-after change.core c.send_and_update.new.streams inside.block updated_streams) in
-    (after, c.self.invariant.1 ∙ state.counts.6 ∙ sym after.counts.6, sent)
+    let opened = subst (λ (x : Records). IsOpenFor x inside.block) (sym c.in-Ok.ensures.records) (open-after change.core r inside.block held) in
+    (after, c.self.invariant.1 ∙ state.counts.6 ∙ sym after.counts.6, opened)
 
 pub returns-in-Ok-clause-ok : goal.returns-in-Ok-clause-ok
 returns-in-Ok-clause-ok g c =
     let inside = c.self.inside in
     let change = c.args.change in
     let held : State = record { book = inside.book.now; config = inside.config; core = inside.core; block = inside.block; table = inside.table.table; streams = inside.streams.streams } in
+    let counts = counts-sent change.core (updated_streams change.record_update inside.streams.streams) c.in-Ok.count c.with_sent-self-inside.result c.in-Ok.ensures.count.0 c.with_sent-self-inside.ensures in
     subst (λ (s : State). Does (then_sent change.core.phase (made s c.args.payload.now change)) c.args.out.now.items
-    (record held { core = c.take_waiting-self-inside.result; streams = c.take_waiting-self-inside.new.streams.streams }) c.send_and_update.new.out.items) c.self.view_is
-    (did held c.args.payload.now change inside.streams c.send_and_update.new.streams c.take_waiting-self-inside.new.streams c.take_waiting-self-inside.result c.args.out.now.items c.send_and_update.new.out.items
-    refl c.in-Ok.ensures.updated_streams c.take_waiting-self-inside.ensures.core c.take_waiting-self-inside.ensures.streams c.in-Ok.ensures.sent c.in-Ok.ensures.short)
+    (record held { core = c.with_sent-self-inside.result; streams = c.send_and_update.new.streams.streams }) c.send_and_update.new.out.items) c.self.view_is
+    (did held c.args.payload.now change inside.streams c.send_and_update.new.streams c.with_sent-self-inside.result c.args.out.now.items c.send_and_update.new.out.items
+    refl counts c.in-Ok.ensures.records c.in-Ok.ensures.sent c.in-Ok.ensures.short)

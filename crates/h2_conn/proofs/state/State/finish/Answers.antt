@@ -30,7 +30,7 @@ invariant_of-self g c =
     let held = ap (λ (x : State). x.streams) (sym c.self.view_is) in
     let opened = open-then s c.apply_change.new.self inside.streams c.args.payload.now c.in-Makes.change (block_after c.in-Makes.shown after) c.args.out.now.items c.apply_change.new.out.items effect.0 effect.2 c.in-Ok-apply_change.ensures.ok
     held (c.self.invariant.0.last ∙ ap (λ (x : State). x.core.last) c.self.view_is) in
-    (c.self.invariant.0, ap (λ (t : LimitedTable). t.limit) c.commit.ensures ∙ c.self.invariant.1, subst (λ (b : Option OpenBlock). IsOpenFor inside.streams b) (sym c.block_after.ensures) opened)
+    (c.self.invariant.0, ap (λ (t : LimitedTable). t.limit) c.commit.ensures ∙ c.self.invariant.1, subst (λ (b : Option OpenBlock). IsOpenFor inside.streams b) (sym c.block_after-block.ensures) opened)
 
 pub returns-in-Ok-apply_change-clause-ok : goal.returns-in-Ok-apply_change-clause-ok
 returns-in-Ok-apply_change-clause-ok g c =
@@ -47,7 +47,7 @@ returns-in-Ok-apply_change-clause-ok g c =
     let block = block_after c.in-Makes.shown tentative.after in
     let kept : c.commit.new.self.table ≡ after = ap (λ (t : LimitedTable). t.table) c.commit.ensures ∙ ap (λ (t : Table). edited t.entries edit) (same-table s held payload change out c.apply_change.new.out.items did) in
     let changed : State = record s { block = block; table = after } in
-    subst (λ e. Does (stepped (rule.concluded s payload (effect_seen s edit tentative.after e))) out (record held { block = c.block_after.result; table = c.commit.new.self.table }) c.apply_change.new.out.items) (sym c.in-Makes.is)
-    (subst (λ (b : Option OpenBlock). Does (then_sent change.core.phase (made changed payload change)) out (record held { block = b; table = c.commit.new.self.table }) c.apply_change.new.out.items) (sym c.block_after.ensures)
+    subst (λ e. Does (stepped (rule.concluded s payload (effect_seen s edit tentative.after e))) out (record held { block = c.block_after-block.result.0; table = c.commit.new.self.table }) c.apply_change.new.out.items) (sym c.in-Makes.is)
+    (subst (λ (b : Option OpenBlock). Does (then_sent change.core.phase (made changed payload change)) out (record held { block = b; table = c.commit.new.self.table }) c.apply_change.new.out.items) (sym c.block_after-block.ensures)
     (subst (λ (t : Table). Does (then_sent change.core.phase (made changed payload change)) out (record held { block = block; table = t }) c.apply_change.new.out.items) (sym kept)
     (rebound s held payload change block after out c.apply_change.new.out.items did)))

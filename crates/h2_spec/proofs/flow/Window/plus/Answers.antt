@@ -1,6 +1,5 @@
-use Rattle.std.proofs.Common.{arith}
-use Rattle.std.proofs.lemmas.Int.{ints}
+use Rattle.std.proofs.Common.{rules}
 use Rattle.h2_spec.proofs.flow.Window.plus.Goals as goal
 
 pub returns : goal.returns
-returns c = omega (arith, ints)
+returns c = search rules

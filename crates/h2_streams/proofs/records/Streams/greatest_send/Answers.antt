@@ -13,4 +13,4 @@ pub returns : goal.returns
 returns g c = λ d.
     let s = c.self.inside in
     let asked = rw (c.as_slice.ensures.value, c.as_slice-2.ensures.value) at c.greatest_of.ensures d in
-    sym (asked ∙ overflows-listed d s.records.items s.live.items s.waiting.items s.last c.self.invariant.0 ∙ ap (λ (v : Records). overflows d v.streams) c.self.view_is)
+    sym (asked ∙ overflows-listed d s.records.items s.live.items s.ready.items s.last c.self.invariant.0 ∙ ap (λ (v : Records). overflows d v.streams) c.self.view_is)

@@ -1,4 +1,4 @@
-use Rattle.std.proofs.Common.{ap, ◌∙◌, sym, subst, List}
+use Rattle.std.proofs.Common.{arith, ap, ◌∙◌, sym, subst, List}
 use Rattle.std.proofs.Math.Facts.{to_z-of_z}
 use Rattle.std.specs.List.{AllByRecursion}
 use Rattle.h2_spec.specs.declared.streams.Stream.{Stream}
@@ -19,17 +19,31 @@ returns-then-any_is_stuck-clause-overflow g c =
     let d = c.args.delta in
     let can = let P : Records → Type 0 = λ v. AllByRecursion (CanShift d) v.streams in subst P (sym c.self.view_is) c.requires in
     let asked = rw (to_z-of_z c.ranges.delta, c.as_slice.ensures.value, c.as_slice-2.ensures.value) at c.any_is_stuck.ensures in
-    sym c.if-any_is_stuck.true ∙ asked ∙ overflow-listed d s.records.items s.live.items s.waiting.items s.last c.self.invariant.0 can ∙ ap (λ (v : Records). overflows d v.streams) c.self.view_is
+    sym c.if-any_is_stuck.true ∙ asked ∙ overflow-listed d s.records.items s.live.items s.ready.items s.last c.self.invariant.0 can ∙ ap (λ (v : Records). overflows d v.streams) c.self.view_is
 
 pub move_each-requires : goal.move_each-requires
 move_each-requires g c = rise 0 c.self.inside.last c.self.inside.records.items c.self.invariant.0.rising
+
+pub list_ready-requires-clause-rising : goal.list_ready-requires-clause-rising
+list_ready-requires-clause-rising g c =
+    let s = c.self.inside in
+    let d = c.args.delta in
+    let moved = rw (to_z-of_z c.ranges.delta, c.as_slice-3.ensures.value) at c.move_each.ensures in
+    let kept = kept-moved d s.records.items s.live.items s.ready.items s.last c.self.invariant.0 in
+    rw (c.as_slice-4.ensures.value, moved) (rise 0 s.last _ kept.rising)
+
+pub list_ready-requires-clause-room : goal.list_ready-requires-clause-room
+list_ready-requires-clause-room g c = rw c.as_slice-5.ensures.value c.self.invariant.1
 
 pub invariant_of-self : goal.invariant_of-self
 invariant_of-self g c =
     let s = c.self.inside in
     let d = c.args.delta in
     let moved = rw (to_z-of_z c.ranges.delta, c.as_slice-3.ensures.value) at c.move_each.ensures in
-    rw moved (kept-moved d s.records.items s.live.items s.waiting.items s.last c.self.invariant.0, c.self.invariant.1)
+    let listed = rw (c.as_slice-4.ensures.value, c.as_slice-5.ensures.value, moved) at c.list_ready.ensures.items in
+    let room = c.self.invariant.1 in
+    let more = c.list_ready.ensures.capacity in
+    rw (moved, listed) (kept-moved d s.records.items s.live.items s.ready.items s.last c.self.invariant.0, omega (arith, room, more))
 
 pub returns-clause-moved : goal.returns-clause-moved
 returns-clause-moved g c =
@@ -37,7 +51,7 @@ returns-clause-moved g c =
     let d = c.args.delta in
     let moved = rw (to_z-of_z c.ranges.delta, c.as_slice-3.ensures.value) at c.move_each.ensures in
     let asked = rw (to_z-of_z c.ranges.delta, c.as_slice.ensures.value, c.as_slice-2.ensures.value) at c.any_is_stuck.ensures in
-    let streams = moved ∙ records-moved d s.records.items s.live.items s.waiting.items s.last c.self.invariant.0 (sym asked ∙ c.if-any_is_stuck.false) in
+    let streams = moved ∙ records-moved d s.records.items s.live.items s.ready.items s.last c.self.invariant.0 (sym asked ∙ c.if-any_is_stuck.false) in
     ap (λ (xs : List Stream). let r : Records = record { streams = xs; last = s.last } in r) streams ∙ ap (λ (v : Records). let r : Records = record v { streams = shifted d v.streams } in r) c.self.view_is
 
 pub returns-clause-overflow : goal.returns-clause-overflow
@@ -46,4 +60,4 @@ returns-clause-overflow g c =
     let d = c.args.delta in
     let can = let P : Records → Type 0 = λ v. AllByRecursion (CanShift d) v.streams in subst P (sym c.self.view_is) c.requires in
     let asked = rw (to_z-of_z c.ranges.delta, c.as_slice.ensures.value, c.as_slice-2.ensures.value) at c.any_is_stuck.ensures in
-    sym c.if-any_is_stuck.false ∙ asked ∙ overflow-listed d s.records.items s.live.items s.waiting.items s.last c.self.invariant.0 can ∙ ap (λ (v : Records). overflows d v.streams) c.self.view_is
+    sym c.if-any_is_stuck.false ∙ asked ∙ overflow-listed d s.records.items s.live.items s.ready.items s.last c.self.invariant.0 can ∙ ap (λ (v : Records). overflows d v.streams) c.self.view_is

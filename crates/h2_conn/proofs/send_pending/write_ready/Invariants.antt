@@ -1,0 +1,16 @@
+use Rattle.std.proofs.Common.{◌≡◌, ◌-◌, ◌++◌, take, vec_len}
+use Rattle.h2_spec.specs.Frame.{frames_octets}
+use Rattle.h2_spec.specs.SendPending.{sent_frames}
+use Rattle.h2_conn.specs.Above.{frames_above}
+use Rattle.h2_conn.proofs.send_pending.write_ready.Given as goal
+
+abbrev pub invariant-loop-stream : goal.invariant-loop-stream
+invariant-loop-stream g l =
+    let ss = l.streams.streams in
+    record {
+      sent : l.out.items ++ frames_octets (frames_above l.book l.size l.after l.left ss) ≡ l.fn.out.items ++ frames_octets (sent_frames l.book l.size l.window ss);
+      kept : take (vec_len l.fn.out) l.out.items ≡ l.fn.out.items;
+    }
+
+abbrev pub decreases-loop-stream : goal.decreases-loop-stream
+decreases-loop-stream g l = l.streams.last - l.after

@@ -1,0 +1,44 @@
+use Rattle.std.proofs.Common.{arith, ◌≡◌, ◌+◌, ◌≤◌, ◌++◌, ◌∷◌, [], ℕ, List, length, take, drop, map, ◌∙◌, sym, ap, subst, refl, length-drop, length-take-le}
+use Rattle.std.proofs.lemmas.List.{take_all, take-take}
+use Rattle.h2_spec.specs.Field.{Field, field}
+use Rattle.h2_list.specs.Listed.{Listed}
+use Rattle.h2_list.specs.Spans.{AreSpans, IsPart, field_in}
+use Rattle.h2_list.specs.declared.Part.{Part}
+use Rattle.h2_list.specs.declared.Span.{Span}
+use Rattle.h2_list.proofs.Closing.{adds, begins-more, begins-whole, last-part, part-stays, spans-push, span-ordered}
+use Rattle.h2_list.proofs.FieldList.close_named.Goals as goal
+
+listed : List Field → List ℕ → Listed
+listed fields next = record { fields = fields; next = next }
+
+pub invariant_of-self-2 : goal.invariant_of-self-2
+invariant_of-self-2 g c =
+    let l = c.self.inside in
+    let o1 = l.octets.items in
+    let o2 = c.put_part.new.octets.items in
+    let last : Part = record { start = l.start; end = c.len-before.result } in
+    let s : Span = record { name = c.in_ok-name.name; value = last; start = l.start; end = c.len-end.result } in
+    let end = c.len-end.ensures ∙ c.put_part.new.octets.ok.0 in
+    let b = begins-more l.start o1 o1 o2 (begins-whole l.start o1 c.self.invariant.0) c.in_ok-name.ensures.kept in
+    let name : IsPart c.in_ok-name.name o2 c.args.name.now = c.in_ok-name.ensures.ok in
+    let value = part-stays last o1 o2 (drop l.start o1) (last-part last o1 l.start 0 c.self.invariant.0 (omega arith) (c.len-before.ensures ∙ l.octets.ok.0) (omega arith)) c.in_ok-name.ensures.kept in
+    let more = spans-push 0 l.spans.items l.start s c.self.invariant.1 refl (span-ordered s o2 c.args.name.now (drop l.start o1) (omega (arith, b.within, end)) end name value) in
+    (omega (arith, end), subst (λ (spans : List Span). AreSpans 0 spans c.len-end.result) (sym c.in_ok-push.ensures.items) more)
+
+pub returns-clause-ok : goal.returns-clause-ok
+unfolding listed
+returns-clause-ok g c =
+    let l = c.self.inside in
+    let o1 = l.octets.items in
+    let o2 = c.put_part.new.octets.items in
+    let last : Part = record { start = l.start; end = c.len-before.result } in
+    let s : Span = record { name = c.in_ok-name.name; value = last; start = l.start; end = c.len-end.result } in
+    let end = c.len-end.ensures ∙ c.put_part.new.octets.ok.0 in
+    let b = begins-more l.start o1 o1 o2 (begins-whole l.start o1 c.self.invariant.0) c.in_ok-name.ensures.kept in
+    let name : IsPart c.in_ok-name.name o2 c.args.name.now = c.in_ok-name.ensures.ok in
+    let value = part-stays last o1 o2 (drop l.start o1) (last-part last o1 l.start 0 c.self.invariant.0 (omega arith) (c.len-before.ensures ∙ l.octets.ok.0) (omega arith)) c.in_ok-name.ensures.kept in
+    let r = adds l.octets.items o2 l.spans.items s l.start c.args.name.now (drop l.start o1) b c.self.invariant.1 end name value in
+    ap (λ (spans : List Span). listed (map (field_in (take c.len-end.result o2)) spans) (drop c.len-end.result o2)) c.in_ok-push.ensures.items
+    ∙ ap (λ (fs : List Field). listed fs (drop c.len-end.result o2)) r.fields
+    ∙ ap (λ (n : List ℕ). listed (map (field_in (take l.start l.octets.items)) l.spans.items ++ field c.args.name.now (drop l.start o1) ∷ []) n) r.next
+    ∙ ap (λ (o : Listed). listed (o.fields ++ field c.args.name.now o.next ∷ []) []) c.self.view_is
