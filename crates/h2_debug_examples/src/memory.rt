@@ -91,6 +91,27 @@ fn asked_refused(
     Ok(refused)
 }
 
+/// Compares what is shown, but for the count of the items run again, with a new debugger at this position.
+fn compare_with_new(
+    rt: &impl Abort,
+    alloc: Global,
+    heap: &Heap,
+    debugger: &Debugger<'_, &Heap>,
+    (case, position): ((&str, u64), usize),
+) -> Result<(), Fail> {
+    let book = book_of(heap)?;
+    let mut fresh = Debugger::load(&book, USUAL, octets_of(heap, FIRST, 60, LAST)?)?;
+    asked(&mut fresh, Ask::Go(position))?;
+    let (found, wanted) = (seen(alloc, debugger)?, seen(alloc, &fresh)?);
+    same(
+        rt,
+        &(found.0, found.2, found.3),
+        &(wanted.0, wanted.2, wanted.3),
+        &case,
+    );
+    Ok(())
+}
+
 /// The call of a case with the nth allocation refused; what is shown after it is what is shown after one that was not
 /// refused.
 fn compare_call(
@@ -102,19 +123,11 @@ fn compare_call(
     let heap = Refusing::new(alloc, 0);
     let book = book_of(&heap)?;
     let mut debugger = Debugger::load(&book, USUAL, octets_of(&heap, FIRST, 60, LAST)?)?;
-    let mut fresh = Debugger::load(&book, USUAL, octets_of(&heap, FIRST, 60, LAST)?)?;
     for first in *before {
         asked(&mut debugger, *first)?;
     }
     let refused = asked_refused(rt, alloc, &heap, &mut debugger, (name, nth), *ask)?;
-    asked(&mut fresh, Ask::Go(*position))?;
-    let (found, wanted) = (seen(alloc, &debugger)?, seen(alloc, &fresh)?);
-    same(
-        rt,
-        &(found.0, found.2, found.3),
-        &(wanted.0, wanted.2, wanted.3),
-        &(*name, nth),
-    );
+    compare_with_new(rt, alloc, &heap, &debugger, ((name, nth), *position))?;
     Ok(refused)
 }
 
