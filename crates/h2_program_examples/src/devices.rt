@@ -194,7 +194,10 @@ static COMMANDS: [(&[&str], &[u8]); 6] = [
         &["play", "--each"],
         b"505249202a20485454502f322e300d0a0d0a534d0d0a0d0a 000000040000000000",
     ),
-    (&["asm"], b"PREFACE\nSETTINGS 00 0 s4=1\nPING 00 0 x0102030405060708\n"),
+    (
+        &["asm"],
+        b"PREFACE\nSETTINGS 00 0 s4=1\nPING 00 0 x0102030405060708\n",
+    ),
     (&["dis"], b"0000080600000000000102030405060708 00"),
     (&["table", "4096"], b"add a b\nmax 0\n"),
     (

@@ -5,13 +5,7 @@ use std::test::Fail;
 
 /// Openings, also those that end the connection, and one that is not whole.
 pub(crate) static OPENINGS: [Opening; 13] = [
-    (
-        "no octets",
-        &["play"],
-        "",
-        "",
-        &["phase preface last 0"],
-    ),
+    ("no octets", &["play"], "", "", &["phase preface last 0"]),
     (
         "preface and SETTINGS",
         &["play"],

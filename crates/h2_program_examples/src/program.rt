@@ -275,7 +275,14 @@ fn compare_opening(rt: &impl Abort, alloc: Global, case: &Opening) -> Result<(),
     let sent = assembled(alloc, sent)?;
     let mut printed = Vec::new(alloc);
     print(&[sent.as_bytes()], lines, &mut printed)?;
-    compare(rt, alloc, name, words, input.as_bytes(), (0, printed.as_slice()));
+    compare(
+        rt,
+        alloc,
+        name,
+        words,
+        input.as_bytes(),
+        (0, printed.as_slice()),
+    );
     Ok(())
 }
 
