@@ -100,6 +100,16 @@ test_curl() {
         "$($curl -H 'Expect:' --data-binary "@$work/upload" -w '%{http_code}' $url/upload)"
     check "curl: 60,000 octets" "60000" "$($curl $url/large | wc -c)"
     served curl "connection "{1..4}" end input"
+    local settings
+    for settings in '--table 0' '--table 65536' '--window 1000 --credit 500' '--window 2147483647' '--frame 65536'; do
+        # shellcheck disable=SC2086
+        serve 2 $settings "$hello" "$upload"
+        url=http://127.0.0.1:$port
+        check "curl: GET, $settings" "hello" "$($curl $url/)"
+        check "curl: POST of 1,000,000 octets, $settings" "took it!" \
+            "$($curl -H 'Expect:' --data-binary "@$work/upload" $url/upload)"
+        served "curl, $settings" "connection "{1..2}" end input"
+    done
     case $(curl --version) in
     "curl 7.88."*)
         echo "SKIP curl: 100 requests on one connection: curl 7.88 fails at the second one, against nghttpd too"
@@ -126,6 +136,11 @@ test_nghttp() {
     long=$(printf 'a%.0s' $(seq 9000))
     check "nghttp: CONTINUATION" "hello" "$($nghttp --continuation -H "a: $long" -H "b: $long" $url/)"
     served nghttp "connection "{1..7}" end input"
+    serve 2 --table 64 --window 1000 --credit 1000 --frame 65536 "$hello" "$upload"
+    url=http://127.0.0.1:$port
+    check "nghttp: 100 requests at once, settings of the server" "100" "$($nghttp -m100 $url/ | grep -c '^hello$')"
+    check "nghttp: an upload, settings of the server" "took it!" "$($nghttp -d "$work/upload" $url/upload)"
+    served "nghttp, settings of the server" "connection "{1..2}" end input"
     serve 1 "$hello" "$large"
     url=http://127.0.0.1:$port
     check "nghttp: small windows" "60000" "$($nghttp --window-bits=8 --connection-window-bits=8 $url/large | wc -c)"

@@ -2,9 +2,10 @@
 # What a hostile peer can make `play` cost: time of the processor and peak of memory for floods of n, 2n and 4n octets, where 4n is the longest input
 # that `play` takes (16 MiB of hex, 8,388,608 octets). It prints a table in Markdown and says which floods are linear in both.
 #
-#   tests/floods.sh [--program FILE] [--limit SECONDS] [--most OCTETS] [--only WORD] [--list]
+#   tests/floods.sh [--program FILE] [--peer FILE] [--limit SECONDS] [--most OCTETS] [--only WORD] [--list]
 #
-# --program is the proved one of this repository unless it is named. A run above the limit (60 seconds of the processor) is ended, and its longer ones are not
+# --program is the proved one of this repository unless it is named. With --peer, bench/peers/nghttp2.c as gcc builds it, the table has the time of a server's
+# session of nghttp2 over the longest input, in pieces of 65,536 octets; it answers each request with two octets. A run above the limit (60 seconds of the processor) is ended, and its longer ones are not
 # tried. --only takes the floods with this word in their name. A flood counts as linear where four times the octets take at most 8 times the time (of which
 # the first counts as 0.1 s at least) and 5 times the memory. Memory is what the kernel counts, and never below the 12 MiB of the measuring process. The
 # status is 1 where a run crashes or prints a fault.
@@ -301,6 +302,21 @@ def measured(program, words, path, limit):
     return used.ru_utime + used.ru_stime, used.ru_maxrss, ran.returncode, front
 
 
+def peer_time(peer, path, limit):
+    """Seconds of the processor that a session of nghttp2 takes for the octets of a file, or that it ends the connection."""
+    ran = subprocess.Popen(
+        [peer, "session", path, "65536"],
+        stdout=subprocess.DEVNULL,
+        stderr=subprocess.DEVNULL,
+        preexec_fn=lambda: resource.setrlimit(resource.RLIMIT_CPU, (limit, limit)),
+    )
+    _, status, used = os.wait4(ran.pid, 0)
+    ran.returncode = os.waitstatus_to_exitcode(status)
+    if ran.returncode in (-9, -24):
+        return f"> {limit} s"
+    return f"{used.ru_utime + used.ru_stime:.2f} s" if ran.returncode == 0 else "ends it"
+
+
 def is_linear(times, sizes):
     """Whether four times the octets take at most 8 times the time and 5 times the memory."""
     return times[-1] <= 8 * max(times[0], 0.1) and sizes[-1] <= 5 * sizes[0]
@@ -309,6 +325,7 @@ def is_linear(times, sizes):
 def main():
     parser = argparse.ArgumentParser()
     parser.add_argument("--program")
+    parser.add_argument("--peer")
     parser.add_argument("--limit", type=int, default=60)
     parser.add_argument("--most", type=int, default=8 * 1024 * 1024)  # octets, two hex digits each
     parser.add_argument("--only", default="")
@@ -321,14 +338,16 @@ def main():
         made = FLOODS[int(number)][1](int(room))
         with open(path, "w") as file:
             file.write(made.hex())
+        with open(path + ".octets", "wb") as file:
+            file.write(made)
         print(len(made))
         return
     if words.list:
         print(*(flood[0] for flood in FLOODS), sep="\n")
         return
     path = os.path.join(os.path.dirname(__file__), "input")
-    print("| Flood | Octets | Time, at a quarter, a half, all | Memory | Linear |")
-    print("|---|---|---|---|---|", flush=True)
+    print("| Flood | Octets | Time, at a quarter, a half, all | Memory | Linear |" + (" nghttp2 |" if words.peer else ""))
+    print("|---|---|---|---|---|" + ("---|" if words.peer else ""), flush=True)
     wrong = 0
     for number, (name, _, options) in enumerate(FLOODS):
         if words.only not in name:
@@ -348,7 +367,10 @@ def main():
             sizes.append(size)
         linear = not ended and is_linear(times, sizes)
         shown = [f"{t:.2f} s" for t in times] + ([ended] if ended else [])
-        print(f"| {name} | {int(octets):,} | {', '.join(shown)} | {', '.join(f'{s / 1024:.0f}' for s in sizes)} MiB | {'yes' if linear else '**no**'} |", flush=True)
+        row = f"| {name} | {int(octets):,} | {', '.join(shown)} | {', '.join(f'{s / 1024:.0f}' for s in sizes)} MiB | {'yes' if linear else '**no**'} |"
+        if words.peer:
+            row += f" {peer_time(words.peer, path + '.octets', words.limit)} |"
+        print(row, flush=True)
     sys.exit(1 if wrong else 0)
 
 

@@ -34,6 +34,8 @@ import tempfile
 
 PREFACE = b"PRI * HTTP/2.0\r\n\r\nSM\r\n\r\n"
 SETTINGS = bytes.fromhex("000000040000000000")
+ACKNOWLEDGEMENT = bytes.fromhex("000000040100000000")
+SIZE_UPDATE = bytes.fromhex("20")
 ANSWERS = ["GET|/|200|6869", "GET|/|200|" + "61" * 3000, "POST|/|201||x=y", "GET|/a|204|", "GET|/|500|" + "00ff" * 25000]
 BATCH = 25
 SECONDS = 30
@@ -120,6 +122,14 @@ def split_block(rng, frame):
     ]
 
 
+def with_update(frame):
+    """HEADERS whose block begins with a table size update to 0, as one must behind an acknowledgement that lowers the limit."""
+    if frame[3] != 1 or frame[4] & 40:
+        return frame
+    payload = SIZE_UPDATE + frame[9:]
+    return len(payload).to_bytes(3, "big") + frame[3:9] + payload
+
+
 def made(rng, runs):
     """The octets of an input."""
     frames = []
@@ -142,6 +152,9 @@ def made(rng, runs):
     for _ in range(rng.choice([0, 0, 1, 1, 2, 4])):
         at = rng.randrange(len(frames))
         frames[at] = changed(rng, frames[at])
+    if frames and rng.random() < 0.3:
+        at = rng.randrange(len(frames) + 1)
+        frames[at:] = [ACKNOWLEDGEMENT] + [with_update(frame) if rng.random() < 0.3 else frame for frame in frames[at:]]
     octets = b"".join(frames)
     opening = rng.random()
     if opening < 0.9:
@@ -163,6 +176,12 @@ def words_made(rng):
         words += ["--streams", str(rng.choice([1, 1, 2, 3, 1000]))]
     if rng.random() < 0.4:
         words += ["--credit", str(rng.choice([1, 2, 100, 65535]))]
+    if rng.random() < 0.3:
+        words += ["--table", str(rng.choice([0, 31, 57, 100, 65536]))]
+    if rng.random() < 0.3:
+        words += ["--window", str(rng.choice([0, 1, 10, 70000, 2147483647]))]
+    if rng.random() < 0.3:
+        words += ["--frame", str(rng.choice([16385, 65536]))]
     return words + rng.sample(ANSWERS, rng.randrange(len(ANSWERS) + 1))
 
 

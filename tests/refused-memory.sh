@@ -183,6 +183,9 @@ else:
 try:
     peer.sendall(sys.stdin.buffer.read())
     peer.shutdown(socket.SHUT_WR)
+except OSError:
+    pass  # the server has ended the connection
+try:
     while octets := peer.recv(65536):
         sys.stdout.buffer.write(octets)
 except ConnectionError:
@@ -244,6 +247,9 @@ refuse_each whole 'play, an answer' play 'GET|/|200|6869|server=x'
 refuse_each whole 'play in pieces' play --cut 7 'GET|/|200|6869'
 refuse_each whole 'play with a book' play --book examples/site.toml
 refuse_each places 'play --each' play --each 'GET|/|200|6869'
+(cat examples/get.hex; echo 000000040100000000 0000080105000000033fe1ff03828684be) > "$made/input"
+refuse_each places 'play --each, a larger header table' play --each --table 65536
+cp examples/get.hex "$made/input"
 refuse_each whole 'dis' dis
 cp examples/upload.h2 "$made/input"
 refuse_each whole 'asm' asm

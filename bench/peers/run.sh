@@ -1,8 +1,10 @@
 #!/usr/bin/env bash
 # run.sh [WORD]: instructions of an item, ours and nghttp2's, on the same octets: callgrind's counts for two numbers of
-# items, their difference over the items. With a word only the rows that have it in their name. It prints a table in
-# Markdown for docs/PERFORMANCE.md. It is no part of the gate, and needs libnghttp2-dev, python3-hpack and valgrind
-# (Debian). The benchmarks are built by bench/run.sh in the folder WORK, which is kept, so a second run is short.
+# items, their difference over the items. Ours are of a second connection that is fed the same octets, so that the
+# reading of the input is not counted; nghttp2's program reads its file at once, by the kernel alone. With a word only
+# the rows that have it in their name. It prints a table in Markdown for docs/PERFORMANCE.md. It is no part of the gate,
+# and needs libnghttp2-dev, python3-hpack and valgrind (Debian). The benchmarks are built by bench/run.sh in the folder
+# WORK, which is kept, so a second run is short.
 set -eu
 here=$(cd "$(dirname "$0")" && pwd)
 only=${1:-}
@@ -21,6 +23,14 @@ counted() {
         sed -n 's/^==[0-9]*== Collected : //p'
 }
 
+# Instructions of one connection that is fed a file in pieces of 8,000 octets, its octets in memory.
+connection() {
+    local one two
+    one=$(counted "$1" "$ours" 8000 1)
+    two=$(counted "$1" "$ours" 8000 2)
+    echo $((two - one))
+}
+
 # The difference of two counts over the items between them, or a dash where one is missing.
 each() {
     if [ -n "$1" ] && [ -n "$2" ]; then echo $((($2 - $1) / $3)); else echo -; fi
@@ -32,8 +42,8 @@ row() {
     /usr/bin/python3 "$here/octets.py" "$2" "$3" "$5" > "$made/few"
     /usr/bin/python3 "$here/octets.py" "$2" "$4" "$5" > "$made/many"
     local few many theirs_few theirs_many
-    few=$(counted "$made/few" "$ours" 8000 1)
-    many=$(counted "$made/many" "$ours" 8000 1)
+    few=$(connection "$made/few")
+    many=$(connection "$made/many")
     theirs_few=$(counted "$made/few" "$made/nghttp2" session "$made/few" 8000)
     theirs_many=$(counted "$made/many" "$made/nghttp2" session "$made/many" 8000)
     echo "| $1 | $(each "$few" "$many" $(($4 - $3))) | $(each "$theirs_few" "$theirs_many" $(($4 - $3))) |"

@@ -18,6 +18,11 @@ class Session:
         config = h2.config.H2Configuration(client_side=True, header_encoding=None)
         self.client = h2.connection.H2Connection(config)
         self.octets, self.sent, self.requests, self.ended = b"", b"", {}, set()
+        self.settings = {
+            "table": found.choice([4096, 0, 34, 100, 65536]),
+            "window": found.choice([65535, 0, 10, 1000, 1 << 20]),
+            "frame": found.choice([16384, 16385, 30000, 65536]),
+        }
         self.pings, self.events = [], []
         self.book = {
             "/": (200, b"hi", []),
@@ -29,15 +34,20 @@ class Session:
             "|".join(["GET", path, str(status), body.hex(), *(f"{name}={value}" for name, value in fields)])
             for path, (status, body, fields) in self.book.items()
         ]
+        self.words = [word for name, value in self.settings.items() for word in (f"--{name}", str(value))] + self.answers
 
     def start(self):
         self.client.initiate_connection()
         self.client.update_settings({h2.settings.SettingCodes.INITIAL_WINDOW_SIZE: self.found.choice([0, 1, 100, 65535, 1 << 20])})
+        # Under the initial settings: the client has not seen the server's yet.
+        for _ in range(self.found.choice([0, 0, 1, 4])):
+            self.request()
+            self.upload()
 
     def turn(self):
         """What the client has written goes to the server, and all that the server sends for it to the client."""
         self.octets += self.client.data_to_send()
-        place = self.program.play(self.octets, self.answers)
+        place = self.program.play(self.octets, self.words)
         fresh = place.sent[len(self.sent):]
         grew = place.sent.startswith(self.sent)
         self.sent = place.sent
@@ -62,7 +72,7 @@ class Session:
         for stream in self.requests:
             if stream in self.ended or self.found.random() < 0.5:
                 continue
-            room = min(self.client.local_flow_control_window(stream), 16000)
+            room = min(self.client.local_flow_control_window(stream), self.client.max_outbound_frame_size)
             pad = self.found.choice([None, None, 0, 7])
             size = self.found.randrange(0, max(room - 20, 1))
             ends = self.found.random() < 0.5
@@ -109,10 +119,11 @@ def sessions(program, found, count, report):
             try:
                 place, grew = session.turn()
             except h2.exceptions.ProtocolError as error:
-                report(False, "python3-h2 refuses what was sent", repr(error), session.octets.hex(), session.answers)
+                report(False, "python3-h2 refuses what was sent", repr(error), session.octets.hex(), session.words)
                 break
             report(grew and place.phase == "running", "what was sent stays, and the connection goes on", place.phase, session.octets.hex())
             compare_windows(session, place, report)
+            compare_settings(session, place, report)
         else:
             finish(session, report)
 
@@ -126,6 +137,14 @@ def compare_windows(session, place, report):
         if kind == "open":
             window = client._get_stream_by_id(stream).outbound_flow_control_window
             report(window == int(numbers["recv"]), "the window of a stream", stream, window, numbers)
+
+
+def compare_settings(session, place, report):
+    """From its acknowledgement on, which python3-h2 sends at once; its encoder has then begun a block with the size update, or has not begun one yet."""
+    found = {name: place.own[name] for name in session.settings}
+    report(found == session.settings, "the server's settings", session.settings, place.own)
+    if not place.own["due"]:
+        report(place.table[2] == session.client.encoder.header_table_size or place.table[2] == 4096, "the header table", place.table, session.settings)
 
 
 def finish(session, report):

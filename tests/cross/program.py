@@ -11,7 +11,7 @@ class Place:
 
     def __init__(self, lines):
         self.sent, self.phase, self.table, self.entries, self.streams = b"", None, None, [], {}
-        self.window, self.block = {}, {}
+        self.window, self.block, self.own = {}, {}, {}
         for line in lines:
             word, _, rest = line.partition(" ")
             if word == "sent":
@@ -21,6 +21,9 @@ class Place:
             elif word == "window":
                 parts = rest.split()
                 self.window = dict(zip(parts[::2], map(int, parts[1::2])))
+            elif word == "own":
+                parts = rest.split()
+                self.own = dict(zip(parts[::2], map(int, parts[1::2])))
             elif word == "table":
                 self.table = tuple(map(int, rest.split()))
             elif word == "entry":

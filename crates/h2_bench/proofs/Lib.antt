@@ -1,5 +1,7 @@
 pub mod AnswerTexts
 pub mod Assembled
+mod HexPairs
+mod HexTable
 pub mod HexTexts
 pub mod Inputs
 pub mod Places

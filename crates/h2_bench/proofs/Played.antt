@@ -7,7 +7,8 @@ use Rattle.h2_spec.specs.Answer.{Entry}
 use Rattle.h2_spec.specs.Opening.{opening_octets}
 use Rattle.h2_spec.specs.State.{State, opening}
 use Rattle.h2_spec.specs.View.{view}
-use Rattle.h2_conn.specs.Connection.{Connection, going, is_allowed}
+use Rattle.h2_conn.specs.Connection.{Connection, going}
+use Rattle.h2_spec.specs.State.{is_allowed}
 use Rattle.h2_conn.specs.Runs.{Opens}
 use Rattle.h2_spec.specs.Parse.{parse_all}
 use Rattle.h2_spec.specs.Trace.{sent_octets, trace}

@@ -1,4 +1,4 @@
--- The fault of `play` where a limit is out of range.
+-- The fault of `play` where a limit or a setting is out of range.
 use Rattle.std.specs.Prelude.{ℕ, List, Option, Some, None}
 use Rattle.h2_bench.specs.declared.fault.BenchFault.{BenchFault}
 use Rattle.h2_bench.specs.declared.fault.BenchFault.TheVariants.{BadConfig, BadHex}

@@ -3,7 +3,7 @@ use Rattle.std.specs.Prelude.{◌≡◌, ◌⊎◌, ◌++◌, ℕ, Bool, true, f
 use Rattle.h2_spec.specs.Answer.{Entry}
 use Rattle.h2_spec.specs.declared.connection.Config.{Config}
 use Rattle.h2_book.specs.Entries.{Directory}
-use Rattle.h2_conn.specs.Connection.{is_allowed}
+use Rattle.h2_spec.specs.State.{is_allowed}
 use Rattle.h2_serve.specs.Lines.{listening_line}
 use Rattle.h2_serve.specs.Serves.{GainsLines}
 use Rattle.h2_session.specs.Session as session

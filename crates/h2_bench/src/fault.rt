@@ -19,8 +19,8 @@ pub enum BenchFault {
     /// An answer is refused, or there are more than 1000.
     #[error("{0}")]
     BadEntry(EntryFault),
-    /// The limit of streams is outside 1 to 1000, or the credit outside 1 to 65535.
-    #[error("a limit is out of range")]
+    /// A limit or a setting is outside its range (`Config::is_allowed`).
+    #[error("a limit or a setting is out of range")]
     BadConfig,
     /// A read of the input failed, an interruption too, or the input has more than 16,777,216 octets.
     #[error("the input can't be read")]

@@ -3,7 +3,8 @@
 
 ghost use Rattle.std.specs.Prelude.{◌≡◌, ◌⊎◌, ◌<◌, ◌^◌, [], Ok, Err, Some, true, false, length, map, is_some, IfErr, IfOk, OnOk};
 ghost use Rattle.h2_spec.specs.View.{view};
-ghost use Rattle.h2_conn.specs.Connection.{going, is_allowed};
+ghost use Rattle.h2_conn.specs.Connection.{going};
+ghost use Rattle.h2_spec.specs.State.{is_allowed};
 ghost use Rattle.h2_conn.specs.Runs.{Opens};
 ghost use Rattle.h2_bench.specs.Each.{PrintsRun, WritesSome, fed_first, not_written};
 ghost use Rattle.h2_bench.specs.Input.{IsNoHex, octets_spelled};
@@ -158,14 +159,7 @@ fn octets_of(alloc: Global, input: Vec<u8>) -> Result<Vec<u8>, BenchFault>
     read_hex(alloc, input.as_slice())
 }
 
-/// Whether the limits of the streams and of the credit are in range.
-fn are_limits(config: Config) -> bool
-    ensures { result ≡ is_allowed config }
-{
-    1 <= config.streams && config.streams <= 1000 && 1 <= config.credit && config.credit <= 65535
-}
-
-/// Why an input is refused whose limits are out of range: it is no hex text, or it is for the limits. Takes no memory.
+/// Why an input is refused whose limits or settings are out of range: it is no hex text, or it is for them. Takes no memory.
 fn refused_limits(input: &[u8]) -> BenchFault
     ensures { result ≡ limits_fault (octets_spelled input.now) }
 {
@@ -179,7 +173,7 @@ fn refused_limits(input: &[u8]) -> BenchFault
 /// Writes what `play` prints of its input, however the octets are cut: the octets sent, and the state after all of
 /// them; or the same of each place.
 ///
-/// `BadHex` where the input is no hex text, then `BadConfig` where a limit is out of range; nothing is written then,
+/// `BadHex` where the input is no hex text, then `BadConfig` where a limit or a setting is out of range; nothing is written then,
 /// and no memory is needed. `NoMemory`
 /// where memory is refused: nothing was written, or some first places. `NotWritten` where a write failed.
 pub fn write_play<O: Output>(
@@ -197,7 +191,7 @@ pub fn write_play<O: Output>(
     ensures flag { O.has_failed output.new ≡ not_written result }
     ensures name { O.name output.new ≡ O.name output.old }
 {
-    if !are_limits(play.config) {
+    if !play.config.is_allowed() {
         return Err(PlacesFault::Fault(refused_limits(input.as_slice())));
     }
     match octets_of(alloc, input) {

@@ -6,8 +6,7 @@ use Rattle.h2_book.specs.declared.files.FilesFault.{FilesFault}
 use Rattle.h2_book.specs.declared.files.FilesFault.TheVariants.{Failed, TooLong, NoMemory}
 
 -- what a read of at most so many octets reports, by what is at the path: the octets, or the one refusal; memory is
--- taken only for a file that is there and
--- not too long
+-- taken only for a file that is there and not too long
 abbrev pub Reads : ℕ → Option (List ℕ) → Result (Vec ℕ Global) FilesFault → Type 0
 Reads most file (Ok octets) = file ≡ Some octets.items
 Reads most file (Err Failed) = file ≡ None

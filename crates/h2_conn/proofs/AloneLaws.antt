@@ -10,7 +10,7 @@ use Rattle.h2_spec.specs.Window.{sendable}
 use Rattle.h2_streams.specs.Kept.{is_ready}
 use Rattle.h2_streams.specs.Put.{CanPut, can_become, is_closed}
 use Rattle.h2_conn.specs.Sending.{sent_records, NoneSends}
-use Rattle.h2_conn.proofs.AboveLaws.{no_frames, same_stream, less_nothing, not_ready, id-after_sending, allowance_within}
+use Rattle.h2_conn.proofs.AboveLaws.{same_stream, less_nothing, not_ready, id-after_sending, allowance_within}
 
 -- ---- where none can send
 

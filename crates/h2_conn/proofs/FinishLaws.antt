@@ -1,10 +1,10 @@
 -- A fragment's effect is made: the change, with the block and the table after it.
-use Rattle.std.proofs.Common.{◌≡◌, ℕ, List, ◌++◌, refl, sym, ap, subst, ◌∙◌}
+use Rattle.std.proofs.Common.{◌≡◌, ℕ, List, ◌++◌, sym, ap, subst, ◌∙◌}
 use Rattle.std.specs.Prelude.{Option}
 use Rattle.h2_spec.specs.declared.connection.ConnectionState.{ConnectionState}
 use Rattle.h2_spec.specs.declared.reactions.Change.{Change}
 use Rattle.h2_spec.specs.declared.reactions.RecordUpdate.{RecordUpdate}
-use Rattle.h2_spec.specs.declared.reactions.RecordUpdate.TheVariants.{Unchanged, Put, Shift}
+use Rattle.h2_spec.specs.declared.reactions.RecordUpdate.TheVariants.{Unchanged, Put, Shift, Receive}
 use Rattle.h2_spec.specs.declared.streams.Stream.{Stream}
 use Rattle.h2_spec.specs.Answer.{Entry}
 use Rattle.h2_spec.specs.Change.{Step, made, updated_streams}
@@ -16,9 +16,9 @@ use Rattle.h2_spec.specs.Trace.{then_sent}
 use Rattle.h2_conn.specs.Blocks.{IsOpenFor}
 use Rattle.h2_conn.specs.Does.{AreShort, Does}
 use Rattle.h2_conn.specs.Sending.{core_after, records, records_after, streams_after}
-use Rattle.h2_rules.specs.Sound.{IsSoundChange, IsSoundRecordUpdate, updated_records}
+use Rattle.h2_rules.specs.Sound.{InForce, IsSoundChange, IsSoundRecordUpdate, in_force, updated_records}
 use Rattle.h2_conn.proofs.ApplyChangeLaws.{made-then, open-after}
-use Rattle.h2_rules.proofs.SoundLaws.{updated-streams}
+use Rattle.h2_rules.proofs.SoundLaws.{same-own, updated-streams}
 
 -- the state after a change and sending, by its parts
 abbrev after-step : State → Change → State
@@ -30,6 +30,10 @@ stands s now p c out out' d = d.state ∙ ap (λ (step : Step). step.state) (mad
 -- the table stays as it was
 pub same-table : (s now : State) (p : List ℕ) (c : Change) (out out' : List ℕ) → Does (then_sent c.core.phase (made s p c)) out now out' → now.table ≡ s.table
 same-table s now p c out out' d = ap (λ (x : State). x.table) (stands s now p c out out' d)
+
+-- the server's settings stay as they were
+pub same-settings : (s now : State) (p : List ℕ) (c : Change) (out out' : List ℕ) → IsSoundChange s.book (records s) (in_force s.core) c → Does (then_sent c.core.phase (made s p c)) out now out' → now.core.own ≡ s.core.own
+same-settings s now p c out out' sound d = ap (λ (x : State). x.core.own) (stands s now p c out out' d) ∙ same-own s.book (records s) (in_force s.core) c.core c.record_update sound.1
 
 -- with another block and another table
 pub rebound : (s now : State) (p : List ℕ) (c : Change) (b : Option OpenBlock) (t : Table) (out out' : List ℕ) → Does (then_sent c.core.phase (made s p c)) out now out' →
@@ -44,13 +48,14 @@ rebound s now p c b t out out' d =
     })
 
 -- the last stream that was opened is the one that the counts say
-updated-last : (book : List Entry) (r : Records) (window : ℕ) (now : ConnectionState) (t : RecordUpdate) → IsSoundRecordUpdate book r window now t → (updated_records t r).last ≡ now.last
-updated-last book r window now Unchanged h = sym h.1
-updated-last book r window now (Put st) h = sym h.4
-updated-last book r window now (Shift from to) h = sym h.3
+updated-last : (book : List Entry) (r : Records) (before : InForce) (now : ConnectionState) (t : RecordUpdate) → IsSoundRecordUpdate book r before now t → (updated_records t r).last ≡ now.last
+updated-last book r before now Unchanged h = sym h.1
+updated-last book r before now (Put st) h = sym h.4
+updated-last book r before now (Shift from to) h = sym h.3
+updated-last book r before now (Receive from to) h = absurd h
 
 -- an open block that is known with the records after the change is known with those after sending
-pub open-then : (s now : State) (r : Records) (p : List ℕ) (c : Change) (b : Option OpenBlock) (out out' : List ℕ) → IsSoundChange s.book (records s) s.core.peer.window c →
+pub open-then : (s now : State) (r : Records) (p : List ℕ) (c : Change) (b : Option OpenBlock) (out out' : List ℕ) → IsSoundChange s.book (records s) (in_force s.core) c →
     IsOpenFor (updated_records c.record_update (records s)) b → Does (then_sent c.core.phase (made s p c)) out now out' → now.streams ≡ r.streams → r.last ≡ now.core.last → IsOpenFor r b
 open-then s now r p c b out out' sound opened d held last =
     let mid = updated_records c.record_update (records s) in
@@ -58,7 +63,7 @@ open-then s now r p c b out out' sound opened d held last =
     let streams : (records_after c.core mid).streams ≡ r.streams =
     ap (streams_after c.core) (updated-streams c.record_update (records s)) ∙ sym (ap (λ (x : State). x.streams) is) ∙ held in
     let counts : mid.last ≡ r.last =
-    updated-last s.book (records s) s.core.peer.window c.core c.record_update sound.1 ∙ sym (ap (λ (x : State). x.core.last) is) ∙ sym last in
+    updated-last s.book (records s) (in_force s.core) c.core c.record_update sound.1 ∙ sym (ap (λ (x : State). x.core.last) is) ∙ sym last in
     let same : records_after c.core mid ≡ r =
     ap (λ (ss : List Stream). record (records_after c.core mid) { streams = ss }) streams ∙ ap (λ (l : ℕ). record { streams = r.streams; last = l }) counts in
     subst (λ (x : Records). IsOpenFor x b) same (open-after c.core mid b opened)

@@ -46,14 +46,14 @@ no-block (Some b) phase h passed other = absurd (none (subst (λ (t : Bool). (if
     none : (let r : Option ErrorCode = Some ProtocolError in r ≡ None) → ⊥
     none e = cc
 
--- what is no HEADERS and no CONTINUATION is no CONTINUATION
+-- what is plain is no CONTINUATION
 pub plain-other : (part : code.Part) (p : List ℕ) → IsPlain part → part_seen part ≡ OfContinuation p → ⊥
 plain-other (variants.Data d) p h e = cc
 plain-other (variants.Headers d) p h e = cc
 plain-other variants.Priority p h e = cc
 plain-other (variants.RstStream code) p h e = cc
 plain-other (variants.Settings s) p h e = cc
-plain-other variants.SettingsAck p h e = cc
+plain-other variants.SettingsAck p h e = h
 plain-other variants.PushPromise p h e = cc
 plain-other (variants.Ping octets) p h e = cc
 plain-other (variants.Goaway last code) p h e = cc
@@ -65,6 +65,12 @@ plain-other variants.Unknown p h e = cc
 pub plain-outside : (b : Option OpenBlock) (phase : Phase) (h : Head) (p : List ℕ) (part : code.Part) → refusal (block_stream b) phase h ≡ None →
     (let r : Result Part PayloadFault = Ok (part_seen part) in part_of h p ≡ r) → IsPlain part → IsStopped b
 plain-outside b phase h p part passed is plain = no-block b phase h passed (no-continuation h.kind h.flags p (part_seen part) is (plain-other part p plain))
+
+-- nor where an acknowledgement does
+pub acknowledged-outside : (b : Option OpenBlock) (phase : Phase) (h : Head) (p : List ℕ) (part : code.Part) → refusal (block_stream b) phase h ≡ None →
+    (let r : Result Part PayloadFault = Ok (part_seen part) in part_of h p ≡ r) → part ≡ variants.SettingsAck → IsStopped b
+acknowledged-outside b phase h p part passed is ack =
+    no-block b phase h passed (no-continuation h.kind h.flags p (part_seen part) is (λ e. let f : part_seen variants.SettingsAck ≡ OfContinuation p = subst (λ x. part_seen x ≡ OfContinuation p) ack e in cc))
 
 -- nor where HEADERS do
 pub headers-outside : (b : Option OpenBlock) (phase : Phase) (h : Head) (p : List ℕ) (part : code.Part) (d : HeadersPart) → refusal (block_stream b) phase h ≡ None →

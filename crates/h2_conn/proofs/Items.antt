@@ -20,7 +20,7 @@ use Rattle.h2_conn.proofs.Phases.{bad-phase, frame-phase, oversize-phase, prefac
 
 -- ---- what is found
 
-found-is : (r : Rest) (p : Phase) (limit : ℕ) → Fits r p → is_ended p ≡ false → found limit r ≡ trace.next_in p limit r.octets
+pub found-is : (r : Rest) (p : Phase) (limit : ℕ) → Fits r p → is_ended p ≡ false → found limit r ≡ trace.next_in p limit r.octets
 found-is r phase.Preface limit h e = rw (h.0, h.1) refl
 found-is r phase.Settings limit h e = rw (h.0, h.1) refl
 found-is r phase.Running limit h e = rw (h.0, h.1) refl
@@ -50,7 +50,7 @@ content_received : (n : Next) (x : Item) → Some x ≡ item_in n → (used : �
 content_received NoItem x h = cc
 content_received (Got item used) x h = (used, cc)
 
-not-got : (n : Next) → None ≡ item_in n → n ≡ NoItem
+pub not-got : (n : Next) → None ≡ item_in n → n ≡ NoItem
 not-got NoItem h = refl
 not-got (Got item used) h = cc
 
@@ -115,7 +115,7 @@ fits-past phase.Settings rest h = (refl, refl)
 fits-past phase.Running rest h = (refl, refl)
 fits-past (phase.Ended code) rest h = tt
 
-fits-ended : (p : Phase) (r : Rest) → is_ended p ≡ true → Fits r p
+pub fits-ended : (p : Phase) (r : Rest) → is_ended p ≡ true → Fits r p
 fits-ended phase.Preface r h = absurd (true≢false (sym h))
 fits-ended phase.Settings r h = absurd (true≢false (sym h))
 fits-ended phase.Running r h = absurd (true≢false (sym h))

@@ -1,16 +1,20 @@
 mod AboveLaws
 mod AloneLaws
+mod FeedingLaws
 mod FinishLaws
+mod FirstLaws
 mod FragmentLaws
 mod GrantedLaws
 pub mod Items
 mod InsideLaws
 mod KindLaws
+pub mod MarkLaws
 mod ApplyChangeLaws
 mod PartLaws
 pub mod Phases
 mod PiecesLaws
 mod Plays
+mod RestoreLaws
 pub mod Runs
 pub mod Shortest
 mod SentLaws

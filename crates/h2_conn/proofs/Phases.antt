@@ -1,5 +1,5 @@
 -- The phase after an item: the preface is awaited no more, and after what ends all items the connection has ended.
-use Rattle.std.proofs.Common.{◌≡◌, ◌∙◌, ℕ, Bool, true, false, List, Option, Some, None, Result, Ok, Err, refl, ap, ◌==◌}
+use Rattle.std.proofs.Common.{◌≡◌, ◌∙◌, ℕ, Bool, true, false, ◌&&◌, not, List, Option, Some, None, Result, Ok, Err, refl, ap, ◌==◌}
 use Rattle.std.proofs.lemmas.Bool.{cond_both}
 use Rattle.std.specs.Prelude.{if◌then◌else◌, length, nat_lt, int_lt, pos, ◌-ℤ◌, ◌+ℤ◌, ◌+◌}
 use Rattle.h2_spec.specs.declared.connection.BlockView.{BlockView}
@@ -33,8 +33,8 @@ use Rattle.h2_spec.specs.Payload.{HeadersPart, Part, OfData, OfHeaders, OfPriori
 use Rattle.h2_spec.specs.declared.frames.PayloadFault.{PayloadFault}
 use Rattle.h2_spec.specs.declared.frames.PayloadFault.TheVariants.{SizeFault, PadFault}
 use Rattle.h2_spec.specs.SendPending.{send_pending}
-use Rattle.h2_spec.specs.SettingsFrame.{settings_applied, settings_rule, settings_taken}
-use Rattle.h2_spec.specs.State.{Decoding, OpenBlock, State}
+use Rattle.h2_spec.specs.SettingsFrame.{acknowledged, comes_into_force, settings_applied, settings_rule, settings_taken}
+use Rattle.h2_spec.specs.State.{Decoding, OpenBlock, State, configured}
 use Rattle.h2_spec.specs.Stream.{stream_at}
 use Rattle.h2_spec.specs.ReactionTable.{Cell, headers_cell, DataRule, Take, Refuse, Count, ResetRule, PeerResets, WindowRule, MoveWindow, Error, Nothing, Rule, run_cell}
 use Rattle.h2_spec.specs.Trace.{step, then_sent}
@@ -134,14 +134,14 @@ ends-past s id ends fields TableOnly h = h
 
 read-past : (s : State) (b : BlockView) (d : Decoding) (end_headers : Bool) → Past s.core.phase → PastBy (fragment_read s b d end_headers)
 read-past s b d false h = h
-read-past s b d true h = cond_both (length d.rest == 0) (Makes _ _) (Breaks CompressionError) PastBy (λ e. ends-past s b.stream b.ends d.fields d.purpose h) (λ e. tt)
+read-past s b d true h = cond_both (length d.rest == 0 && not d.due) (Makes _ _) (Breaks CompressionError) PastBy (λ e. ends-past s b.stream b.ends d.fields d.purpose h) (λ e. tt)
 
 decoded-past : (s : State) (b : BlockView) (purpose : Purpose) (end_headers : Bool) (d : Decoded) → Past s.core.phase → PastBy (fragment_decoded s b purpose end_headers d)
 decoded-past s b purpose end_headers d h = elim d.outcome as (λ o. PastBy (elim o [
-  | Unfinished rest ↦ fragment_read (record s { table = d.progress.table }) (record b { list_size = list_size d.progress.fields }) (record { purpose = purpose; fields = d.progress.fields; rest = rest }) end_headers
+  | Unfinished rest ↦ fragment_read (record s { table = d.progress.table }) (record b { list_size = list_size d.progress.fields }) (record { purpose = purpose; fields = d.progress.fields; due = d.progress.due; rest = rest }) end_headers
   | Faulty fault ↦ Breaks CompressionError
 ])) [
-  | Unfinished rest ↦ read-past (record s { table = d.progress.table }) (record b { list_size = list_size d.progress.fields }) (record { purpose = purpose; fields = d.progress.fields; rest = rest }) end_headers h
+  | Unfinished rest ↦ read-past (record s { table = d.progress.table }) (record b { list_size = list_size d.progress.fields }) (record { purpose = purpose; fields = d.progress.fields; due = d.progress.due; rest = rest }) end_headers h
   | Faulty fault ↦ tt
 ]
 
@@ -158,7 +158,7 @@ continuation-past s None octets end_headers h = tt
 continuation-past s (Some b) octets end_headers h = continued-past s b.shown b.decoding octets end_headers h
 
 headers-past : (s : State) (head : Head) (part : HeadersPart) (cell : Cell Purpose) → Past s.core.phase → PastBy (on_headers s head part cell)
-headers-past s head part cell h = cell-past PastBy Breaks (Makes s (only_counts s.core)) (λ purpose. block_opens s purpose head part) cell (λ code. tt) h (λ purpose. fragment-past s (fresh_block head) (fresh_decoding purpose) part.fragment (has head.flags END_HEADERS) h)
+headers-past s head part cell h = cell-past PastBy Breaks (Makes s (only_counts s.core)) (λ purpose. block_opens s purpose head part) cell (λ code. tt) h (λ purpose. fragment-past s (fresh_block head) (fresh_decoding s purpose) part.fragment (has head.flags END_HEADERS) h)
 
 -- ---- frames
 
@@ -170,7 +170,7 @@ frame-past s head p (OfHeaders part) h = headers-past s head part (headers_cell 
 frame-past s head p OfPriority h = h
 frame-past s head p (OfRstStream code) h = let st = stream_at s.core.last s.streams head.stream in makes-past s (on_reset s.core st) (on_reset-past s.core st h)
 frame-past s head p (OfSettings pairs) h = makes-past s (settings_rule s.streams s.core pairs) (settings-past s.streams s.core pairs)
-frame-past s head p OfSettingsAck h = h
+frame-past s head p OfSettingsAck h = makes-past s (acknowledged s.config s.core) (cond_both s.core.acked (Continues (only_counts s.core)) (Continues (comes_into_force s.core (configured s.config))) PastIn (λ e. h) (λ e. h))
 frame-past s head p OfPushPromise h = tt
 frame-past s head p (OfPing octets) h =
     makes-past s (if has head.flags ACK then nothing s.core else Continues (record (only_counts s.core) { first = PingAck }))

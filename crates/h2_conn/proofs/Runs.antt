@@ -1,5 +1,5 @@
 -- Runs of items, one item after another and one piece of octets after another.
-use Rattle.std.proofs.Common.{◌≡◌, ◌∙◌, ℕ, zero, suc, Bool, true, false, List, [], ◌∷◌, ◌++◌, length, drop, ◌<◌, ◌≤◌, ◌+◌, take, arith, length-drop, refl, sym, ap, subst, append_assoc, true≢false, Result, Ok, Err, IfOk, OnOk, OnErr}
+use Rattle.std.proofs.Common.{◌≡◌, ◌∙◌, ℕ, zero, suc, Bool, true, false, List, [], ◌∷◌, ◌++◌, length, drop, ◌≤◌, ◌+◌, take, arith, length-drop, refl, sym, ap, append_assoc, true≢false, Result, Ok, Err, OnErr}
 use Rattle.std.proofs.lemmas.List.{append-nil}
 use Rattle.h2_spec.specs.Debug.{state_at}
 use Rattle.h2_spec.specs.Frame.{frames_octets}
@@ -13,17 +13,17 @@ use Rattle.h2_spec.specs.Frame.{Next, NoItem, Got, next}
 use Rattle.h2_spec.specs.State.{opening}
 use Rattle.h2_spec.specs.Trace.{Event, Run, event_on, left_by, next_event, next_item, sent_octets, trace}
 use Rattle.h2_spec.specs.View.{view}
-use Rattle.h2_spec.proofs.ParseLaws.{Uses, parse_all-step}
+use Rattle.h2_spec.proofs.ParseLaws.{parse_all-step}
 use Rattle.h2_spec.proofs.TraceLaws.{event-uses}
 use Rattle.h2_conn.specs.Connection.{connection, going, halted, is_ended}
 use Rattle.h2_conn.specs.Runs.{Feeds, Halted, Halts, Leads, Ran, Takes}
 use Rattle.h2_conn.proofs.Items.{none-after}
 
 -- the whole run
-abbrev whole : State → List ℕ → Parsed State Event
+abbrev pub whole : State → List ℕ → Parsed State Event
 whole s b = parse_all next_event s b
 
-sent-cons : (e : Event) (es : List Event) → sent_octets (e ∷ es) ≡ frames_octets e.sent ++ sent_octets es
+pub sent-cons : (e : Event) (es : List Event) → sent_octets (e ∷ es) ≡ frames_octets e.sent ++ sent_octets es
 unfolding sent_octets
 sent-cons e es = refl
 
@@ -36,10 +36,10 @@ sent-append [] fs = rw sent-none refl
 sent-append (e ∷ es) fs = rw (sent-cons e (es ++ fs), sent-cons e es, sent-append es fs) (sym (append_assoc (frames_octets e.sent) (sent_octets es) (sent_octets fs)))
 
 -- a run that is at its end, and one with a first item
-whole-stop : (s : State) (b : List ℕ) → next_event s b ≡ Stop → whole s b ≡ record { elements = []; state = s; rest = b }
+pub whole-stop : (s : State) (b : List ℕ) → next_event s b ≡ Stop → whole s b ≡ record { elements = []; state = s; rest = b }
 whole-stop s b e = parse_all-step next_event event-uses s b ∙ ap (λ (x : Front State Event). parse_first s b x (λ t rest. whole t rest)) e
 
-whole-one : (s t : State) (b : List ℕ) (event : Event) (used : ℕ) → next_event s b ≡ One event t used → whole s b ≡ after_one event (whole t (drop used b))
+pub whole-one : (s t : State) (b : List ℕ) (event : Event) (used : ℕ) → next_event s b ≡ One event t used → whole s b ≡ after_one event (whole t (drop used b))
 whole-one s t b event used e = parse_all-step next_event event-uses s b ∙ ap (λ (x : Front State Event). parse_first s b x (λ t rest. whole t rest)) e
 
 -- ---- some first events, and the next one
@@ -102,14 +102,9 @@ leads-stop s t n b c out out' l e =
       state = l.last ∙ ap (λ (r : Parsed State Event). r.state) none;
       rest = l.rest ∙ ap (λ (r : Parsed State Event). r.rest) none;
       sent = l.sent ∙ ap (λ (m : ℕ). out ++ sent_octets (take m (whole s b).elements)) all ∙ ap (λ (es : List Event). out ++ sent_octets es) (take-all (whole s b).elements);
+      after = l.after;
       stops = e;
     }
-
--- an item takes octets
-pub takes-shorter : (s t : State) (b c out out' : List ℕ) → Takes s b out t c out' → length c < length b
-takes-shorter s t b c out out' x =
-    let used : Uses b (One x.event t x.used) = subst (λ (n : Front State Event). Uses b n) x.comes (event-uses s b) in
-    rw x.rest (omega (arith, used, length-drop x.used b))
 
 -- ---- between two calls
 
@@ -124,6 +119,10 @@ left-ended phase.Preface b h = absurd (true≢false (sym h))
 left-ended phase.Settings b h = absurd (true≢false (sym h))
 left-ended phase.Running b h = absurd (true≢false (sym h))
 left-ended (phase.Ended code) b h = refl
+
+-- after the end no octets are left of any
+pub left-same : (p : Phase) (b c : List ℕ) → is_ended p ≡ true → left_by p b ≡ left_by p c
+left-same p b c h = left-ended p b h ∙ sym (left-ended p c h)
 
 pub trace-stop : (s : State) (b : List ℕ) → next_event s b ≡ Stop → trace s b ≡ record { events = []; state = s; rest = left_by s.core.phase b }
 unfolding trace
@@ -141,24 +140,37 @@ ended-feeds s octets q out h =
       sent = sym (ap (λ (r : Run). out ++ sent_octets r.events) none ∙ rw sent-none (append-nil out));
     }
 
-pub ran-feeds : (s t : State) (octets q out c out' : List ℕ) (n : ℕ) → is_ended s.core.phase ≡ false → Ran s (octets ++ q) out t c out' n
-    → Feeds (going s (left_by s.core.phase octets)) q out (going t (left_by t.core.phase c)) out' n
+pub ran-feeds : (s t : State) (rest q out c out' : List ℕ) (n : ℕ) → Ran s (rest ++ q) out t c out' n → Feeds (going s rest) q out (going t (left_by t.core.phase c)) out' n
 unfolding trace
-ran-feeds s t octets q out c out' n h x = rw (left-going s.core.phase octets h) (record {
-  items = x.items;
-  after = rw (x.state, x.rest) refl;
-  sent = x.sent;
-})
+ran-feeds s t rest q out c out' n x = record { items = x.items; after = rw (x.state, x.rest) refl; sent = x.sent }
 
-pub halted-halts : (s t : State) (octets q out out' : List ℕ) → is_ended s.core.phase ≡ false → Halted s (octets ++ q) out t out'
-    → Halts (going s (left_by s.core.phase octets)) q out (halted t) out'
+-- all items are some first ones
+pub ran-halted : (s t : State) (b out c out' : List ℕ) (n : ℕ) → Ran s b out t c out' n → Halted s b out t out'
+ran-halted s t b out c out' n x = record {
+  items = n;
+  within = omega (arith, x.items);
+  after = sym x.after;
+  sent = x.sent ∙ ap (λ (es : List Event). out ++ sent_octets es) (sym (ap (λ (m : ℕ). take m (whole s b).elements) x.items ∙ take-all (whole s b).elements));
+}
+
+pub halted-halts : (s t : State) (rest q out out' : List ℕ) → Halted s (rest ++ q) out t out' → Halts (going s rest) q out (halted t) out'
 unfolding trace
-halted-halts s t octets q out out' h x = rw (left-going s.core.phase octets h) (record {
+halted-halts s t rest q out out' x = record {
   items = x.items;
   within = x.within;
   after = ap (λ (u : State). record { state = u; rest = []; failed = true }) x.after;
   sent = x.sent;
-})
+}
+
+-- where the connection goes on after a run, it did before it
+pub ran-goes : (s t : State) (b out c out' : List ℕ) (n : ℕ) → Ran s b out t c out' n → is_ended t.core.phase ≡ false → is_ended s.core.phase ≡ false
+ran-goes s t b out c out' n x goes = at (is_ended s.core.phase) refl
+  where
+    at : (e : Bool) → is_ended s.core.phase ≡ e → is_ended s.core.phase ≡ false
+    at false e = e
+    at true e =
+        let same : s ≡ t = sym (ap (λ (r : Parsed State Event). r.state) (whole-stop s b (none-after s b e))) ∙ x.state in
+        absurd (true≢false (sym e ∙ ap (λ (u : State). is_ended u.core.phase) same ∙ goes))
 
 pub halts-at-once : (s : State) (rest q out : List ℕ) → Halts (going s rest) q out (halted s) out
 halts-at-once s rest q out = record { items = 0; within = omega arith; after = refl; sent = rw sent-none (sym (append-nil out)) }
@@ -188,7 +200,3 @@ connection-view true s octets = refl
 pub if_err : {T E P : Type 0} (r : Result T E) → P → OnErr r P
 if_err (Ok x) p = tt
 if_err (Err e) p = p
-
-pub ran-rest : {E : Type 0} (F : Type 0) (r : Result ℕ E) (s t : State) (b out c out' : List ℕ) → IfOk r (Ran s b out t c out') → OnOk r F → OnOk r (F × (next_item t c ≡ NoItem))
-ran-rest F (Ok n) s t b out c out' x f = (f, stop-none t c x.stops)
-ran-rest F (Err e) s t b out c out' x f = tt

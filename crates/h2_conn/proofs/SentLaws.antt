@@ -7,7 +7,7 @@ use Rattle.h2_spec.specs.StreamEnds.{server_ended, with_body_remaining}
 use Rattle.h2_spec.specs.SendPending.{after_sending, all_after_sending, allowance, with_paid}
 use Rattle.h2_spec.specs.Stream.{Records, is_live, octets_waiting}
 use Rattle.h2_spec.specs.Window.{sendable}
-use Rattle.h2_rules.specs.Sound.{AreSound, HasBody, IsSoundState, IsSoundStream, is_recorded}
+use Rattle.h2_rules.specs.Sound.{AreSound, HasBody, InForce, IsSoundState, IsSoundStream, in_force, is_recorded}
 use Rattle.h2_rules.proofs.SoundLaws.{ended-body, ended-sound}
 use Rattle.h2_conn.proofs.KindLaws.{sent-kind}
 
@@ -18,8 +18,8 @@ paid-above : (window n : ℕ) (z : ℤ) → window ≤ 2147483647 → n ≤ send
 paid-above window n (pos m) least within h = grind (arith, least, within)
 paid-above window n (negsuc m) least within h = grind (arith, within, h)
 
-paid-sound : (window n : ℕ) (st : Stream) → window ≤ 2147483647 → n ≤ sendable st.numbers.send → IsSoundStream window st → IsSoundStream window (with_paid st n)
-paid-sound window n st least within h = (h.0, paid-below st.numbers.send n h.1, λ follows. paid-above window n st.numbers.send least within (h.2 follows))
+paid-sound : (f : InForce) (n : ℕ) (st : Stream) → f.window ≤ 2147483647 → n ≤ sendable st.numbers.send → IsSoundStream f st → IsSoundStream f (with_paid st n)
+paid-sound f n st least within h = (h.0, paid-below st.numbers.send n h.1, λ follows. paid-above f.window n st.numbers.send least within (h.2 follows))
 
 paid-body : (book : List Entry) (n : ℕ) (st : Stream) → HasBody book st → HasBody book (with_paid st n)
 unfolding octets_waiting
@@ -34,39 +34,39 @@ left-body book n st h within = (h.0, by_test (is_live st.kind) (let most = h.1 i
     by_test false e = omega arith
 
 -- a stream that sends no more than waits on it, and no more than its window lets pass
-sent-sound-one : (book : List Entry) (window n : ℕ) (st : Stream) → window ≤ 2147483647 → n ≤ octets_waiting st → n ≤ sendable st.numbers.send → IsSoundStream window st × HasBody book st →
-    IsSoundStream window (after_sending n st) × HasBody book (after_sending n st)
+sent-sound-one : (book : List Entry) (f : InForce) (n : ℕ) (st : Stream) → f.window ≤ 2147483647 → n ≤ octets_waiting st → n ≤ sendable st.numbers.send → IsSoundStream f st × HasBody book st →
+    IsSoundStream f (after_sending n st) × HasBody book (after_sending n st)
 unfolding after_sending
-sent-sound-one book window n st least waits within h = by_tests (eqb n 0) (eqb (octets_waiting st) n)
+sent-sound-one book f n st least waits within h = by_tests (eqb n 0) (eqb (octets_waiting st) n)
   where
     paid : Stream
     paid = with_paid st n
 
-    sound : IsSoundStream window paid
-    sound = paid-sound window n st least within h.0
+    sound : IsSoundStream f paid
+    sound = paid-sound f n st least within h.0
 
     body : HasBody book paid
     body = paid-body book n st h.1
 
-    by_tests : (s t : Bool) → (let now = cond s st (cond t (server_ended paid) (with_body_remaining paid (octets_waiting st - n))) in IsSoundStream window now × HasBody book now)
+    by_tests : (s t : Bool) → (let now = cond s st (cond t (server_ended paid) (with_body_remaining paid (octets_waiting st - n))) in IsSoundStream f now × HasBody book now)
     by_tests true t = h
-    by_tests false true = (ended-sound window paid sound, ended-body book paid body)
+    by_tests false true = (ended-sound f paid sound, ended-body book paid body)
     by_tests false false = (sound, left-body book (octets_waiting st - n) paid body (omega arith))
 
 allowance-within : (window : ℕ) (st : Stream) → (allowance window st ≤ octets_waiting st) × (allowance window st ≤ sendable st.numbers.send)
 unfolding allowance
 allowance-within window st = (omega arith, omega arith)
 
-all-sent-sound : (book : List Entry) (initial window : ℕ) (streams : List Stream) → initial ≤ 2147483647 → AreSound book initial streams → AreSound book initial (all_after_sending window streams)
+all-sent-sound : (book : List Entry) (f : InForce) (window : ℕ) (streams : List Stream) → f.window ≤ 2147483647 → AreSound book f streams → AreSound book f (all_after_sending window streams)
 unfolding all_after_sending
-all-sent-sound book initial window [] least all = tt
-all-sent-sound book initial window (st ∷ sts) least all =
+all-sent-sound book f window [] least all = tt
+all-sent-sound book f window (st ∷ sts) least all =
     let n = allowance window st in
     let within = allowance-within window st in
-    let one = sent-sound-one book initial n st least within.0 within.1 (all.0.0, all.0.1) in
-    ((one.0, one.1, sent-kind is_recorded refl refl n st ∙ all.0.2), all-sent-sound book initial (window - n) sts least all.1)
+    let one = sent-sound-one book f n st least within.0 within.1 (all.0.0, all.0.1) in
+    ((one.0, one.1, sent-kind is_recorded refl refl n st ∙ all.0.2), all-sent-sound book f (window - n) sts least all.1)
 
 -- the state is sound after sending
 pub sent-sound : (book : List Entry) (core : ConnectionState) (r : Records) (window n : ℕ) → IsSoundState book core r →
     IsSoundState book (record core { send = core.send -ℤ pos n }) (record r { streams = all_after_sending window r.streams })
-sent-sound book core r window n state = record { counts = state.counts; records = all-sent-sound book core.peer.window window r.streams state.counts.1 state.records; last = state.last }
+sent-sound book core r window n state = record { counts = state.counts; records = all-sent-sound book (in_force core) window r.streams state.counts.1 state.records; last = state.last }

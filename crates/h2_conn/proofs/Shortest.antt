@@ -1,10 +1,9 @@
 -- An item exists as soon as its last octet is there, and no sooner.
-use Rattle.std.proofs.Common.{◌≡◌, ◌∙◌, ℕ, zero, suc, Some, ◌+◌, ◌<◌, ◌≤◌, Bool, true, false, cond, List, [], ◌∷◌, ◌++◌, length, take, drop, get_or, refl, sym, ap, subst, arith, length-append, length-take, ltb, ltb-true, ltb-false, lt-ltb, eqb, eqb-true, nat_eq, append_assoc, drop_of_length-le}
+use Rattle.std.proofs.Common.{◌≡◌, ◌∙◌, ℕ, zero, suc, Some, ◌+◌, ◌-◌, ◌<◌, ◌≤◌, Bool, true, false, cond, List, [], ◌∷◌, ◌++◌, length, take, drop, get_or, refl, sym, ap, subst, arith, length-append, length-take, ltb, ltb-true, ltb-false, lt-ltb, eqb, eqb-true, nat_eq, append_assoc, drop_of_length-le}
 use Rattle.std.proofs.lemmas.Bool.{cond_both}
-use Rattle.std.proofs.Math.ListN.{get_or-append}
 use Rattle.std.specs.List.{common_prefix_len}
 use Rattle.std.specs.Prelude.{slice_range, slice_get}
-use Rattle.std.proofs.lemmas.Option.{slice_get_within}
+use Rattle.std.proofs.lemmas.Option.{slice_get_within, slice_get-get_or}
 use Rattle.h2_spec.specs.declared.connection.Phase.{Phase}
 use Rattle.h2_spec.specs.declared.connection.Phase.TheVariants as phase
 use Rattle.h2_spec.specs.declared.frames.Head.{Head}
@@ -14,6 +13,7 @@ use Rattle.h2_spec.specs.State.{State}
 use Rattle.h2_spec.specs.Trace.{Event, event_on, left_by, next_event, next_in, next_item}
 use Rattle.h2_spec.proofs.ParseLaws as laws
 use Rattle.h2_spec.proofs.TraceLaws.{event-stays, event-uses}
+use Rattle.h2_frame.proofs.MissingLaws.{head_of-append}
 use Rattle.h2_conn.specs.Connection.{going, is_ended}
 use Rattle.h2_conn.specs.Runs.{Takes, TakesOne, Waits}
 use Rattle.h2_conn.proofs.Items.{none-after}
@@ -75,12 +75,6 @@ preface-later b c none =
             let content_received : preface_item same b ≡ Got BadPreface (more + 1) = rw (equal, e, lt-ltb more (length b) (omega (arith, long))) refl in
             absurd (no_got BadPreface (more + 1) (sym none ∙ content_received))
 
-head-append : (b c : List ℕ) → 9 ≤ length b → head_of (b ++ c) ≡ head_of b
-unfolding head_of
-head-append b c h =
-    let same : (i : ℕ) → i < 9 → get_or (b ++ c) i 0 ≡ get_or b i 0 = λ i g. get_or-append b c 0 i (omega arith) in
-    rw (same 0 (omega arith), same 1 (omega arith), same 2 (omega arith), same 3 (omega arith), same 4 (omega arith), same 5 (omega arith), same 6 (omega arith), same 7 (omega arith), same 8 (omega arith)) refl
-
 -- a frame uses its head, and then its payload
 abbrev UsesHead : Next → Type 0
 UsesHead NoItem = Unit {0}
@@ -116,7 +110,7 @@ next-later false limit b c none =
     go : (t : Bool) → ltb (length b) 9 ≡ t → Later b (frame_item limit (head_of (b ++ c)) (b ++ c))
     go true e = short-head b (frame_item limit (head_of (b ++ c)) (b ++ c)) (ltb-true (length b) 9 e) (frame-head limit (head_of (b ++ c)) (b ++ c))
     go false e =
-        let same = head-append b c (ltb-false (length b) 9 e) in
+        let same = head_of-append b c (ltb-false (length b) 9 e) in
         let here : frame_item limit (head_of b) b ≡ NoItem = rw e at none in
         subst (λ (h : Head). Later b (frame_item limit h (b ++ c))) (sym same) (frame-later limit (head_of b) b (b ++ c) here)
 
@@ -130,11 +124,15 @@ event-later : (s : State) (b : List ℕ) (n : Next) (e : Event) (t : State) (use
 event-later s b NoItem e t used h g = cc
 event-later s b (Got x u) e t used h g = let same : u ≡ used = cc in rw (← same) h
 
+-- an item uses more octets than were there without it
+pub used-more : (s t : State) (b c : List ℕ) (e : Event) (used : ℕ) → next_item s b ≡ NoItem → next_event s (b ++ c) ≡ One e t used → length b < used
+unfolding next_event next_item
+used-more s t b c e used none comes = event-later s b (next_in s.core.phase s.core.own.frame (b ++ c)) e t used (in-later s.core.phase s.core.own.frame b c none) comes
+
 -- the item that an octet completes uses all octets
 pub used-all : (s t : State) (b : List ℕ) (octet : ℕ) (e : Event) (used : ℕ) → next_item s b ≡ NoItem → next_event s (b ++ octet ∷ []) ≡ One e t used → used ≡ length b + 1
-unfolding next_event next_item
 used-all s t b octet e used none comes =
-    let late : length b < used = event-later s b (next_in s.core.phase s.core.own.frame (b ++ octet ∷ [])) e t used (in-later s.core.phase s.core.own.frame b (octet ∷ []) none) comes in
+    let late : length b < used = used-more s t b (octet ∷ []) e used none comes in
     let most : laws.Uses (b ++ octet ∷ []) (One e t used) = subst (λ (n : Front State Event). laws.Uses (b ++ octet ∷ []) n) comes (event-uses s (b ++ octet ∷ [])) in
     omega (arith, late, most.1, length-append b (octet ∷ []))
 
@@ -197,6 +195,18 @@ octet-taken s t octets q b c out out' i octet h held at none x =
       }),
       empty,
     )
+
+-- the item that some octets complete, and fewer of them don't
+pub octets-taken : (s t : State) (octets q c out out' : List ℕ) (n : ℕ) → is_ended s.core.phase ≡ false → 0 < n → n ≤ length q
+    → next_item s (octets ++ take (n - 1) q) ≡ NoItem → Takes s (octets ++ take n q) out t c out'
+    → TakesOne (going s (left_by s.core.phase octets)) q out (going t (left_by t.core.phase c)) out' n × (c ≡ [])
+octets-taken s t octets q c out out' n h some within none x =
+    let i : ℕ = n - 1 in
+    let next : i + 1 ≡ n = omega (arith, some) in
+    let at : slice_get q i ≡ Some (get_or q i 0) = slice_get-get_or q i 0 (omega (arith, some, within)) in
+    let all : (octets ++ take i q) ++ get_or q i 0 ∷ [] ≡ octets ++ take n q = held-more octets q (octets ++ take i q) i (get_or q i 0) refl at ∙ ap (λ (m : ℕ). octets ++ take m q) next in
+    subst (λ (m : ℕ). TakesOne (going s (left_by s.core.phase octets)) q out (going t (left_by t.core.phase c)) out' m × (c ≡ [])) next
+    (octet-taken s t octets q (octets ++ take i q) c out out' i (get_or q i 0) h refl at none (subst (λ (b : List ℕ). Takes s b out t c out') (sym all) x))
 
 pub octet-rest : (t : State) (c : List ℕ) → c ≡ [] → next_item t c ≡ NoItem
 octet-rest t c e = rw e (stop-none t [] (empty-stop t))

@@ -10,7 +10,7 @@ use Rattle.h2_spec.specs.State.{Decoding, OpenBlock, State}
 use Rattle.h2_spec.specs.Stream.{Records}
 use Rattle.h2_spec.specs.ReactionTable.{Cell, Error, Rule}
 pub use Rattle.h2_rules.specs.Open.{IsOpenAt, state_of}
-use Rattle.h2_rules.specs.Sound.{IsSoundChange, updated_records}
+use Rattle.h2_rules.specs.Sound.{InForce, IsSoundChange, updated_records}
 use Rattle.h2_table.specs.Edits.{EditOf, IsEdit, edited}
 use Rattle.h2_conn.specs.declared.block.FragmentEffect.{FragmentEffect}
 use Rattle.h2_conn.specs.declared.block.FragmentEffect.TheVariants.{Breaks, Makes}
@@ -54,10 +54,10 @@ effect_seen s edit d e = effect_in (record s { table = edited s.table.entries ed
 
 -- the change keeps what is true of every connection, the edit is one of the table, and an open block is known by its
 -- stream, with the records after the change
-abbrev pub IsSoundEffect : List Entry → Records → ℕ → LimitedTable → EditOf → Decoding → FragmentEffect → Type 0
-IsSoundEffect book r window base edit d (Breaks code) = Unit {0}
-IsSoundEffect book r window base edit d (Makes shown change) =
-    IsSoundChange book r window change × IsEdit base edit × IsOpenFor (updated_records change.record_update r) (block_after shown d)
+abbrev pub IsSoundEffect : List Entry → Records → InForce → LimitedTable → EditOf → Decoding → FragmentEffect → Type 0
+IsSoundEffect book r before base edit d (Breaks code) = Unit {0}
+IsSoundEffect book r before base edit d (Makes shown change) =
+    IsSoundChange book r before change × IsEdit base edit × IsOpenFor (updated_records change.record_update r) (block_after shown d)
 
 -- the header table of a state, with its limit
 abbrev pub limited : ℕ → Table → LimitedTable

@@ -1,7 +1,6 @@
 -- A connection between two calls: a state, and octets in which there is no item yet (RFC 9113, 3.4 and 5.4.1).
-use Rattle.std.specs.Prelude.{◌≡◌, ℕ, Bool, true, false, ◌&&◌, List, [], nat_le}
+use Rattle.std.specs.Prelude.{◌≡◌, ℕ, Bool, true, false, List, []}
 use Rattle.h2_frame.specs.Rest.{Rest}
-use Rattle.h2_spec.specs.declared.connection.Config.{Config}
 use Rattle.h2_spec.specs.declared.connection.Phase.{Phase}
 use Rattle.h2_spec.specs.declared.connection.Phase.TheVariants.{Preface, Settings, Running, Ended}
 use Rattle.h2_spec.specs.Frame.{NoItem}
@@ -51,7 +50,3 @@ Fits r (Ended code) = Unit {0}
 abbrev pub IsAtRest : Bool → State → Rest → Type 0
 IsAtRest false s r = Fits r s.core.phase × (next_item s r.octets ≡ NoItem)
 IsAtRest true s r = Unit {0}
-
--- limits that a connection takes: 1 to 1000 streams, and 1 to 65535 octets owed
-abbrev pub is_allowed : Config → Bool
-is_allowed config = nat_le 1 config.streams && nat_le config.streams 1000 && nat_le 1 config.credit && nat_le config.credit 65535

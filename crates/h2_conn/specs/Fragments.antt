@@ -1,5 +1,5 @@
 -- A fragment that is decoded over an edit of the table, and not taken over yet.
-use Rattle.std.specs.Prelude.{◌≡◌, false}
+use Rattle.std.specs.Prelude.{◌≡◌}
 use Rattle.h2_spec.specs.Block.{Decoded, Fault, Faulty, Progress, Unfinished}
 use Rattle.h2_spec.specs.DynamicTable.{Table}
 use Rattle.h2_spec.specs.State.{Decoding}
@@ -11,11 +11,11 @@ pub record BeforeAfter : Type 0 where
 
 -- how far the block has come before it
 abbrev pub before_fragment : Table → Decoding → Progress
-before_fragment table d = record { fields = d.fields; table = table; due = false }
+before_fragment table d = record { fields = d.fields; table = table; due = d.due }
 
 -- and after it, up to the beginning of an instruction
 abbrev pub after_fragment : Table → Decoding → Decoded
-after_fragment table d = record { progress = record { fields = d.fields; table = table; due = false }; outcome = Unfinished d.rest }
+after_fragment table d = record { progress = record { fields = d.fields; table = table; due = d.due }; outcome = Unfinished d.rest }
 
 -- it has a fault
 abbrev pub IsFaulty : Decoded → Type 0

@@ -3,8 +3,11 @@ pub mod Blocks
 pub mod Connection
 pub mod Does
 pub mod Faults
+pub mod First
 pub mod Fragments
 pub mod Granted
+pub mod Mark
+pub mod Marks
 pub mod Parted
 pub mod Runs
 pub mod Sending

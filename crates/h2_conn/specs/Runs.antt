@@ -88,6 +88,7 @@ pub record Ran (s : State) (b out : List ℕ) (t : State) (c out' : List ℕ) (n
   pub state : (parse_all next_event s b).state ≡ t
   pub rest : (parse_all next_event s b).rest ≡ c
   pub sent : out' ≡ out ++ sent_octets (parse_all next_event s b).elements
+  pub after : state_at s (parse_all next_event s b).elements n ≡ t
   pub stops : next_event t c ≡ Stop
 
 -- some first items were taken, and nothing of the next one

@@ -6,12 +6,12 @@ use Rattle.h2_spec.specs.declared.connection.Phase.{Phase}
 use Rattle.h2_spec.specs.declared.connection.Phase.TheVariants as phase
 use Rattle.h2_spec.specs.declared.reactions.Change.{Change}
 use Rattle.h2_spec.specs.declared.reactions.RecordUpdate.{RecordUpdate}
-use Rattle.h2_spec.specs.declared.reactions.RecordUpdate.TheVariants.{Unchanged, Put, Shift}
+use Rattle.h2_spec.specs.declared.reactions.RecordUpdate.TheVariants.{Unchanged, Put, Shift, Receive}
 use Rattle.h2_spec.specs.declared.streams.Stream.{Stream}
 use Rattle.h2_streams.specs.Put.{CanPut}
-use Rattle.h2_streams.specs.Shift.{CanShift}
+use Rattle.h2_streams.specs.Shift.{CanReceive, CanShift}
 use Rattle.h2_spec.specs.Answer.{Entry}
-use Rattle.h2_spec.specs.Change.{frames_of, moved_by, overflows, shifted, updated_streams}
+use Rattle.h2_spec.specs.Change.{frames_of, moved_by, overflows, received, shifted, updated_streams}
 use Rattle.h2_spec.specs.Frame.{Frame}
 use Rattle.h2_spec.specs.SendPending.{allowance, sent_frames, all_after_sending, window_left}
 use Rattle.h2_spec.specs.State.{State}
@@ -69,12 +69,14 @@ abbrev pub CanApply : Records → RecordUpdate → Type 0
 CanApply r Unchanged = Unit {0}
 CanApply r (Put st) = CanPut st r
 CanApply r (Shift from to) = AllByRecursion (CanShift (moved_by from to)) r.streams × (overflows (moved_by from to) r.streams ≡ false)
+CanApply r (Receive from to) = AllByRecursion (CanReceive (moved_by from to)) r.streams
 
 -- what becomes of records can be undone: moved windows can be moved back
 abbrev pub CanUndo : Records → RecordUpdate → Type 0
 CanUndo r Unchanged = Unit {0}
 CanUndo r (Put st) = Unit {0}
 CanUndo r (Shift from to) = CanApply (record r { streams = shifted (moved_by from to) r.streams }) (Shift to from)
+CanUndo r (Receive from to) = CanApply (record r { streams = received (moved_by from to) r.streams }) (Receive to from)
 
 -- what becomes of records can be done and undone, and what waits on them then can be sent: each stream has its body in
 -- the book

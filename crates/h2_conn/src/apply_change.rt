@@ -14,7 +14,7 @@ ghost use Rattle.h2_conn.specs.Blocks.{IsOpenFor};
 ghost use Rattle.h2_conn.specs.Does.{AreShort, Does};
 ghost use Rattle.h2_conn.specs.Sending as sending;
 ghost use Rattle.h2_conn.specs.Sending.{all_frames, records, records_after, sent_count, CanSend};
-ghost use Rattle.h2_rules.specs.Sound.{IsSoundChange, updated_records};
+ghost use Rattle.h2_rules.specs.Sound.{IsSoundChange, in_force, updated_records};
 
 use crate::send_pending::{sendable, without};
 use crate::send_update::update_and_send;
@@ -108,7 +108,7 @@ fn write_and_update<A: Allocator + Copy>(
 }
 
 /// The same whole, or nothing.
-fn send_and_update<A: Allocator + Copy>(
+pub fn send_and_update<A: Allocator + Copy>(
     book: &Book<A>,
     streams: &mut Streams<A>,
     change: &Change,
@@ -135,7 +135,7 @@ fn send_and_update<A: Allocator + Copy>(
 }
 
 /// The counts with octets taken from the connection's send window.
-fn with_sent(core: ConnectionState, count: u64) -> ConnectionState
+pub fn with_sent(core: ConnectionState, count: u64) -> ConnectionState
     requires { count ≤ sendable core.send }
     ensures { result ≡ record core { send = core.send -ℤ pos count } }
 {
@@ -167,6 +167,7 @@ fn ended_by(code: ErrorCode, core: ConnectionState) -> ConnectionState
 
 impl<'b, A: Allocator + Copy> State<'b, A> {
     /// Makes a change, and sends its frames and then what waits; or does nothing.
+    #[inline(always)]
     pub fn apply_change(
         &mut self,
         change: Change,
@@ -175,7 +176,7 @@ impl<'b, A: Allocator + Copy> State<'b, A> {
     ) -> Result<(), AllocError>
         requires fits { length payload.now < 2 ^ 24 }
         requires kept { IsOpenFor (updated_records change.record_update (records self.old)) self.old.block }
-        requires sound { IsSoundChange self.old.book (records self.old) self.old.core.peer.window change }
+        requires sound { IsSoundChange self.old.book (records self.old) (in_force self.old.core) change }
         ensures ok { OnOk result (Does (then_sent change.core.phase (changes.made self.old payload.now change)) out.old.items self.new out.new.items) }
         ensures err { OnErr result ((self.new ≡ self.old) × (out.new.items ≡ out.old.items)) }
     {

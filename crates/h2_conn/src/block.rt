@@ -11,7 +11,7 @@ ghost use Rattle.h2_spec.specs.ReactionTable.{headers_cell};
 ghost use Rattle.h2_fields.specs.declared.fault.BlockFault.TheVariants.{NoMemory};
 ghost use Rattle.h2_table.specs.Edits.{EditOf, IsEdit};
 ghost use Rattle.h2_conn.specs.Blocks.{IsOpenAt, IsOpenFor, IsSoundEffect, block_after, cell_of, effect_in, effect_seen, state_of};
-ghost use Rattle.h2_rules.specs.Sound.{AreSound, IsSoundState};
+ghost use Rattle.h2_rules.specs.Sound.{AreSound, InForce, IsSoundState, in_force};
 
 use crate::state::Decoding;
 use crate::tentative::Tentative;
@@ -65,7 +65,7 @@ fn read<A: Allocator + Copy>(
     requires sound { IsSoundState book.now core streams.now }
     requires open { IsOpenAt streams.now shown.stream tentative.now.after.purpose }
     ensures effect { (b : Option state.OpenBlock) (table : Table) → effect_in (state_of book.now config core b table streams.now.streams) tentative.now.after result ≡ rule.fragment_read (state_of book.now config core b table streams.now.streams) shown tentative.now.after end_headers }
-    ensures sound { (base : LimitedTable) (edit : EditOf) → IsEdit base edit → IsSoundEffect book.now streams.now core.peer.window base edit tentative.now.after result }
+    ensures sound { (base : LimitedTable) (edit : EditOf) → IsEdit base edit → IsSoundEffect book.now streams.now (in_force core) base edit tentative.now.after result }
 {
     if !end_headers {
         return FragmentEffect::Makes(Some(shown), only_counts(core));
@@ -85,10 +85,9 @@ fn read<A: Allocator + Copy>(
     FragmentEffect::Makes(None, change)
 }
 
-/// A fragment of a block whose stream is known by the block's purpose. The table does not change: the answer is how
-/// far the block
-/// is decoded before and after the fragment, the edit that makes the table the one after it, and what the fragment
-/// results in.
+/// A fragment of a block whose stream is known by the block's purpose. The table does not change: the answer is how far
+/// the block is decoded before and after the fragment, the edit that makes the table the one after it, and what the
+/// fragment results in.
 ///
 /// # Errors
 ///
@@ -110,15 +109,13 @@ pub fn fragment<A: Allocator + Copy>(
     requires open { IsOpenAt streams.now shown.stream decoding.purpose }
     ensures before { result.0.before ≡ decoding }
     ensures effect { IfOk result.2 (λ e. (b : Option state.OpenBlock) → effect_seen (state_of book.now config core b table.now.table streams.now.streams) result.1 result.0.after e ≡ rule.fragment (state_of book.now config core b table.now.table streams.now.streams) shown decoding octets.now end_headers) }
-    ensures sound { IfOk result.2 (λ e. IsSoundEffect book.now streams.now core.peer.window table.now result.1 result.0.after e) }
+    ensures sound { IfOk result.2 (λ e. IsSoundEffect book.now streams.now (in_force core) table.now result.1 result.0.after e) }
 {
     let count = shown.octets as usize + octets.len();
     if MAX_BLOCK < count {
         let breaks = FragmentEffect::Breaks(ErrorCode::EnhanceYourCalm);
         return (Tentative::unchanged(decoding), edit, Ok(breaks));
     }
-    // The table's maximum is within its limit: no block has to begin with a size update.
-    let _max = table.max();
     let (tentative, edit, result) = Tentative::decoded(decoding, table, edit, octets);
     match result {
         Ok(()) => {
@@ -145,7 +142,7 @@ pub fn fragment<A: Allocator + Copy>(
 /// An idle stream that a client may open is above the last one that was opened.
 pub fn headers_purpose(id: u32, kind: Kind) -> Result<Purpose, ErrorCode>
     ensures rule { cell_of result ≡ headers_cell id kind }
-    ensures known { (book : List Entry) (window : ℕ) (r : Records) → AreSound book window r.streams → kind ≡ kind_of r.last r.streams id → IfOk result (λ purpose. IsOpenAt r id purpose) }
+    ensures known { (book : List Entry) (f : InForce) (r : Records) → AreSound book f r.streams → kind ≡ kind_of r.last r.streams id → IfOk result (λ purpose. IsOpenAt r id purpose) }
 {
     match kind {
         Kind::Idle if id % 2 == 1 => Ok(Purpose::Request),

@@ -1,5 +1,5 @@
 //! A connection over octets: items off their front, each whole or not at all (RFC 9113, 3.4).
-//! Rests on h2_frame's splitter, on `item`, `opening` and `view`.
+//! Rests on h2_frame's splitter, on `feeding`, `first`, `opening` and `view`.
 //! Definitions: h2_spec's `specs/Trace.antt`; `specs/Connection.antt` for what a connection represents,
 //! `specs/Runs.antt` for what feeding it results in.
 
@@ -9,14 +9,18 @@ ghost use Rattle.h2_spec.specs.Errors.{code_number};
 ghost use Rattle.h2_spec.specs.Opening.{opening_octets};
 ghost use Rattle.h2_spec.specs.Show.{show};
 ghost use Rattle.h2_spec.specs.State.{ended_code, opening};
-ghost use Rattle.h2_spec.specs.Trace.{left_by};
 ghost use Rattle.h2_spec.specs.View.{view};
-ghost use Rattle.h2_conn.specs.Connection.{Fits, going, halted, is_allowed, is_ended, IsAtRest};
+ghost use Rattle.h2_conn.specs.Connection.{going, halted, is_ended};
+ghost use Rattle.h2_spec.specs.State.{is_allowed};
 ghost use Rattle.h2_conn.specs.declared.fault.ConnFault.TheVariants.{Failed, NoMemory};
 ghost use Rattle.h2_conn.specs.Faults.{refusal_after, refusal_for};
-ghost use Rattle.h2_conn.specs.Runs.{Advances, Feeds, FeedsOne, Halted, Halts, Ran};
+ghost use Rattle.h2_conn.specs.First.{TakesIfAny};
+ghost use Rattle.h2_conn.specs.Marks.{Follows};
+ghost use Rattle.h2_conn.specs.Runs.{Feeds, FeedsOne, Halts};
 
 use crate::fault::ConnFault;
+use crate::feeding::{take_one, take_piece};
+use crate::first::{empty_splitter, take_first_in_order};
 use crate::one::One;
 use crate::opening::write_opening;
 use crate::state::State;
@@ -29,150 +33,26 @@ use std::alloc::{AllocError, Allocator};
 use std::marker::Model;
 
 /// Whether a connection error has ended the connection.
-fn is_ended(phase: Phase) -> bool
+pub(crate) fn is_ended(phase: Phase) -> bool
     ensures { result ≡ is_ended phase }
 {
     matches!(phase, Phase::Ended(_))
 }
 
 impl<'b, A: Allocator> State<'b, A> {
-    fn phase(&self) -> Phase
+    pub(crate) fn phase(&self) -> Phase
         ensures { result ≡ self.now.core.phase }
     {
         self.core.phase
     }
 
     /// The longest payload of a frame that is taken (RFC 9113, 4.2).
-    fn limit(&self) -> u32
+    pub(crate) fn limit(&self) -> u32
         ensures value { result ≡ self.now.core.own.frame }
         ensures few { result < 2 ^ 24 }
     {
         self.core.own.frame
     }
-}
-
-/// Takes the next item, if there is one, and says whether. Where memory is refused nothing of it is done.
-fn advance<'b, A: Allocator + Copy>(
-    splitter: &mut Splitter<A>,
-    state: &mut State<'b, A>,
-    out: &mut Vec<u8, A>,
-) -> Result<bool, AllocError>
-    requires { Fits splitter.old state.old.core.phase }
-    ensures ok { IfOk result (Advances state.old splitter.old.octets out.old.items state.new splitter.new.octets out.new.items) }
-    ensures fits { OnOk result (Fits splitter.new state.new.core.phase) }
-    ensures err { OnErr result ((state.new ≡ state.old) × (out.new.items ≡ out.old.items)) }
-{
-    if is_ended(state.phase()) {
-        return Ok(false);
-    }
-    match splitter.next(state.limit()) {
-        None => Ok(false),
-        Some(item) => match state.item(&item, out) {
-            Ok(()) => Ok(true),
-            Err(error) => Err(error),
-        },
-    }
-}
-
-/// Takes all items that there are, and says how many. Where memory is refused, those before it are taken.
-fn drain<'b, A: Allocator + Copy>(
-    splitter: &mut Splitter<A>,
-    state: &mut State<'b, A>,
-    out: &mut Vec<u8, A>,
-) -> Result<usize, AllocError>
-    requires { Fits splitter.old state.old.core.phase }
-    ensures ok { IfOk result (Ran state.old splitter.old.octets out.old.items state.new splitter.new.octets out.new.items) }
-    ensures fits { OnOk result (Fits splitter.new state.new.core.phase) }
-    ensures err { OnErr result (Halted state.old splitter.old.octets out.old.items state.new out.new.items) }
-{
-    let total = splitter.rest_len();
-    let mut count = 0usize;
-    loop {
-        match advance(splitter, state, out) {
-            Ok(true) => count += 1,
-            Ok(false) => return Ok(count),
-            Err(error) => return Err(error),
-        }
-    }
-}
-
-/// Takes all items that there are with more octets, and says how many; none after the end. Where memory is refused,
-/// those before it are taken.
-fn take_piece<'b, A: Allocator + Copy>(
-    splitter: &mut Splitter<A>,
-    state: &mut State<'b, A>,
-    piece: &[u8],
-    out: &mut Vec<u8, A>,
-) -> Result<usize, AllocError>
-    requires { IsAtRest false state.old splitter.old }
-    ensures ok { IfOk result (Feeds (going state.old (left_by state.old.core.phase splitter.old.octets)) piece.now out.old.items (going state.new (left_by state.new.core.phase splitter.new.octets)) out.new.items) }
-    ensures rest { OnOk result (IsAtRest false state.new splitter.new) }
-    ensures err { OnErr result (Halts (going state.old (left_by state.old.core.phase splitter.old.octets)) piece.now out.old.items (halted state.new) out.new.items) }
-    ensures over { is_ended state.old.core.phase ≡ true → IsOk result }
-{
-    if is_ended(state.phase()) {
-        return Ok(0);
-    }
-    splitter.push(piece)?;
-    drain(splitter, state, out)
-}
-
-/// Takes the item that an octet completes, if it does, and says whether.
-fn offer<'b, A: Allocator + Copy>(
-    splitter: &mut Splitter<A>,
-    state: &mut State<'b, A>,
-    octet: u8,
-    out: &mut Vec<u8, A>,
-) -> Result<bool, AllocError>
-    requires { Fits splitter.old state.old.core.phase }
-    ensures ok { IfOk result (Advances state.old (splitter.old.octets ++ octet ∷ []) out.old.items state.new splitter.new.octets out.new.items) }
-    ensures fits { OnOk result (Fits splitter.new state.new.core.phase) }
-    ensures err { OnErr result ((state.new ≡ state.old) × (out.new.items ≡ out.old.items)) }
-{
-    splitter.push(&[octet])?;
-    advance(splitter, state, out)
-}
-
-/// Takes the next item with more octets, if there is one, and no octets behind it; none after the end. Where memory
-/// is refused nothing of it is done.
-fn take_one<'b, A: Allocator + Copy>(
-    splitter: &mut Splitter<A>,
-    state: &mut State<'b, A>,
-    piece: &[u8],
-    out: &mut Vec<u8, A>,
-) -> Result<One, AllocError>
-    requires { IsAtRest false state.old splitter.old }
-    ensures ok { IfOk result (FeedsOne (going state.old (left_by state.old.core.phase splitter.old.octets)) piece.now out.old.items (going state.new (left_by state.new.core.phase splitter.new.octets)) out.new.items) }
-    ensures rest { OnOk result (IsAtRest false state.new splitter.new) }
-    ensures err { OnErr result ((state.new ≡ state.old) × (out.new.items ≡ out.old.items)) }
-    ensures over { is_ended state.old.core.phase ≡ true → IsOk result }
-{
-    let all = piece.len();
-    if is_ended(state.phase()) {
-        return Ok(One {
-            used: all,
-            item: false,
-        });
-    }
-    for index in 0..all {
-        if offer(splitter, state, piece[index], out)? {
-            return Ok(One {
-                used: index + 1,
-                item: true,
-            });
-        }
-    }
-    Ok(One {
-        used: all,
-        item: false,
-    })
-}
-
-/// Whether a connection takes these limits.
-fn is_allowed(config: Config) -> bool
-    ensures { result ≡ is_allowed config }
-{
-    1 <= config.streams && config.streams <= 1000 && 1 <= config.credit && config.credit <= 65535
 }
 
 /// Memory was refused: from now on nothing is taken.
@@ -211,8 +91,8 @@ impl<'b, A: Allocator + Copy> Conn<'b, A> {
     ///
     /// # Errors
     ///
-    /// `BadConfig` where the most streams are not 1 to 1000, or the credit is not 1 to 65535; then `NoMemory`. Both
-    /// leave `out` as it was.
+    /// `BadConfig` where a limit or a setting is outside its range (`Config::is_allowed`); then `NoMemory`. Both leave
+    /// `out` as it was.
     pub fn new(book: &'b Book<A>, config: Config, out: &mut Vec<u8, A>) -> Result<Self, ConnFault>
         ensures opened { IfOk result (λ conn. conn ≡ going (opening book.now config) []) }
         ensures sent { OnOk result (out.new.items ≡ out.old.items ++ opening_octets config) }
@@ -220,7 +100,7 @@ impl<'b, A: Allocator + Copy> Conn<'b, A> {
         ensures fault { IfErr result (λ fault. fault ≡ refusal_for (is_allowed config)) }
         ensures unchanged { OnErr result (out.new.items ≡ out.old.items) }
     {
-        if !is_allowed(config) {
+        if !config.is_allowed() {
             return Err(ConnFault::BadConfig);
         }
         let alloc = *out.allocator();
@@ -264,9 +144,8 @@ impl<'b, A: Allocator + Copy> Conn<'b, A> {
     ///
     /// # Errors
     ///
-    /// `Failed` where an earlier call was refused memory; nothing changes. `NoMemory` where memory is refused: the
-    /// item is not taken, nothing is sent,
-    /// and from then on the answer is `Failed`.
+    /// `Failed` where an earlier call was refused memory; nothing changes. `NoMemory` where memory is refused: the item
+    /// is not taken, nothing is sent, and from then on the answer is `Failed`.
     pub fn feed_one(&mut self, piece: &[u8], out: &mut Vec<u8, A>) -> Result<One, ConnFault>
         ensures ok { IfOk result (FeedsOne self.old piece.now out.old.items self.new out.new.items) }
         ensures fault { IfErr result (λ fault. fault ≡ refusal_after self.old.failed) }
@@ -283,6 +162,30 @@ impl<'b, A: Allocator + Copy> Conn<'b, A> {
         }
     }
 
+    /// Takes the item that these octets begin with, if there is a whole one, and returns how many of them it takes;
+    /// none after the end of the connection. No octet is held. What is sent for it is appended to `out`.
+    ///
+    /// # Errors
+    ///
+    /// `AllocError` where memory is refused: nothing of the item is done, and the same item can be taken again.
+    pub fn take_first(
+        &mut self,
+        octets: &[u8],
+        out: &mut Vec<u8, A>,
+    ) -> Result<Option<usize>, AllocError>
+        requires ready { self.old ≡ going self.old.state [] }
+        ensures ok { IfOk result (λ used. TakesIfAny self.old.state octets.now out.old.items self.new.state out.new.items used) }
+        ensures ready { self.new ≡ going self.new.state [] }
+        ensures follows { OnOk result (Follows self.old.state self.new.state) }
+        ensures unchanged { OnErr result ((self.new ≡ self.old) × (out.new.items ≡ out.old.items)) }
+    {
+        let used = take_first_in_order(&mut self.state, octets, out)?;
+        if used.is_some() {
+            self.splitter.expect_preface(false);
+        }
+        Ok(used)
+    }
+
     /// The same connection once more, in memory of its own; the book is lent to both, and where one was refused
     /// memory, the copy was too.
     ///
@@ -297,6 +200,18 @@ impl<'b, A: Allocator + Copy> Conn<'b, A> {
             state,
             failed: self.failed,
         })
+    }
+
+    /// The connection in this state, without octets that wait for more. Takes no memory.
+    pub(crate) fn at_rest(state: State<'b, A>, alloc: A) -> Self
+        ensures { result ≡ going state.entry [] }
+    {
+        let splitter = empty_splitter(state.phase(), alloc);
+        Conn {
+            splitter,
+            state,
+            failed: false,
+        }
     }
 
     /// What is shown of the state; after it ran out of memory that of the items before it.
@@ -336,6 +251,13 @@ impl<'b, A: Allocator> Conn<'b, A> {
             Phase::Ended(code) => Some(code.number()),
             Phase::Preface | Phase::Settings | Phase::Running => None,
         }
+    }
+
+    /// Its state.
+    pub(crate) fn inside(&self) -> &State<'b, A>
+        ensures { result.now ≡ self.now.state }
+    {
+        &self.state
     }
 
     /// Whether a call was refused memory. Takes no memory.

@@ -14,8 +14,8 @@ pub enum ConnFault {
     /// 0: a growth was refused.
     #[error("out of memory")]
     NoMemory,
-    /// 16: the limit of streams is outside 1 to 1000, or the credit outside 1 to 65535.
-    #[error("a limit is out of range")]
+    /// 16: a limit or a setting is outside its range (`Config::is_allowed`).
+    #[error("a limit or a setting is out of range")]
     BadConfig,
     /// 17: memory was refused to an earlier call, and the octets that came then were lost.
     #[error("memory was refused earlier")]

@@ -9,12 +9,14 @@ ghost use Rattle.h2_spec.specs.Change.{broken};
 ghost use Rattle.h2_spec.specs.Effect as rule;
 ghost use Rattle.h2_spec.specs.FrameType as frames;
 ghost use Rattle.h2_spec.specs.Headers as headers;
+ghost use Rattle.h2_spec.specs.State.{is_due};
 ghost use Rattle.h2_spec.specs.Stream.{stream_at};
 ghost use Rattle.h2_spec.specs.ReactionTable.{headers_cell};
 ghost use Rattle.h2_spec.specs.declared.errors.ErrorCode.TheVariants.{ProtocolError};
 ghost use Rattle.h2_conn.specs.Blocks.{IsOpenAt, IsSoundEffect, IsStopped, block_after, cell_of, decoding_of, effect_seen, limited};
 ghost use Rattle.h2_conn.specs.Does.{Does, stepped, stopped};
 ghost use Rattle.h2_conn.specs.Sending.{records};
+ghost use Rattle.h2_rules.specs.Sound.{in_force};
 
 use crate::block::{FragmentEffect, fragment, fresh_block, headers_purpose};
 use crate::state::{Decoding, OpenBlock, State};
@@ -36,7 +38,7 @@ fn block_after<A: Allocator + Copy>(
     let purpose = tentative.purpose();
     let decoding = tentative.take_over();
     match shown {
-        None => (None, Some(decoding.renewed(purpose))),
+        None => (None, Some(decoding.renewed(purpose, false))),
         Some(shown) => {
             let block = OpenBlock {
                 shown,
@@ -63,7 +65,7 @@ impl<'b, A: Allocator + Copy> State<'b, A> {
     ) -> Result<(), Decoding<A>>
         requires fits { length payload.now < 2 ^ 24 }
         requires stopped { IsStopped self.old.block }
-        requires sound { IsSoundEffect self.old.book (records self.old) self.old.core.peer.window (limited 4096 self.old.table) edit.old tentative.after effect }
+        requires sound { IsSoundEffect self.old.book (records self.old) (in_force self.old.core) (limited self.old.core.own.table self.old.table) edit.old tentative.after effect }
         ensures ok { OnOk result (Does (stepped (rule.concluded self.old payload.now (effect_seen self.old edit.old tentative.after effect))) out.old.items self.new out.new.items) }
         ensures err { IfErr result (λ before. (before ≡ tentative.before) × (self.new ≡ self.old) × (out.new.items ≡ out.old.items)) }
     {
@@ -136,14 +138,22 @@ impl<'b, A: Allocator + Copy> State<'b, A> {
         self.edit = Some(edit);
     }
 
+    /// Whether the next block has to begin with a size update (RFC 7541, 4.2).
+    fn is_due(&self) -> bool
+        ensures { result ≡ is_due self.now }
+    {
+        self.table.due()
+    }
+
     /// The decoding of a block of which nothing has come, in the memory that is kept for it.
     fn begin_decoding(&mut self, alloc: A, purpose: Purpose) -> Decoding<A>
         ensures same { self.new ≡ self.old }
-        ensures fresh { result ≡ headers.fresh_decoding purpose }
+        ensures fresh { result ≡ headers.fresh_decoding self.old purpose }
     {
+        let due = self.is_due();
         match self.spare.take() {
-            Some(spare) => spare.renewed(purpose),
-            None => Decoding::fresh(alloc, purpose),
+            Some(spare) => spare.renewed(purpose, due),
+            None => Decoding::fresh(alloc, purpose, due),
         }
     }
 

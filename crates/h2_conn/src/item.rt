@@ -23,7 +23,7 @@ ghost use Rattle.h2_conn.specs.Blocks.{IsStopped};
 ghost use Rattle.h2_conn.specs.Does.{Does, IsShort, stepped};
 ghost use Rattle.h2_conn.specs.Parted.{IsPlain};
 ghost use Rattle.h2_conn.specs.Sending.{records};
-ghost use Rattle.h2_rules.specs.Sound.{HasBody, IsSound, IsSoundState, IsSoundStream};
+ghost use Rattle.h2_rules.specs.Sound.{HasBody, IsSound, IsSoundState, IsSoundStream, in_force};
 
 use crate::state::State;
 use h2_frame::{DataPart, FrameRef, Item, Part, PayloadFault, SettingsPart, part_of};
@@ -32,7 +32,7 @@ use h2_rules::checks::refusal;
 use h2_rules::control::{nothing, on_goaway, on_ping};
 use h2_rules::data::on_data;
 use h2_rules::reset::on_reset;
-use h2_rules::settings::{acknowledged, settings_rule};
+use h2_rules::settings::settings_rule;
 use h2_rules::window_update::{connection_window, on_window};
 use h2_spec::connection::{ConnectionState, Phase};
 use h2_spec::errors::ErrorCode;
@@ -68,7 +68,7 @@ impl<'b, A: Allocator + Copy> State<'b, A> {
     pub fn stream_at(&self, id: u32) -> Stream
         ensures value { result ≡ stream_at self.now.core.last self.now.streams id }
         ensures id { result.id ≡ id }
-        ensures sound { IsSoundStream self.now.core.peer.window result }
+        ensures sound { IsSoundStream (in_force self.now.core) result }
         ensures waits { HasBody self.now.book result }
     {
         self.streams.stream_at(id)
@@ -87,7 +87,7 @@ impl<'b, A: Allocator + Copy> State<'b, A> {
         requires fits { length payload.now < 2 ^ 24 }
         requires part { part_of head.now payload.now ≡ Ok (OfData (data_seen part)) }
         ensures rule { result ≡ rule.on_data self.now.config self.now.core (rule.body_length self.now.book (stream_at self.now.core.last self.now.streams head.now.stream)) (rule.incoming head.now payload.now (data_seen part.entry)) (stream_at self.now.core.last self.now.streams head.now.stream) }
-        ensures sound { IsSound self.now.book (records self.now) self.now.core.peer.window result }
+        ensures sound { IsSound self.now.book (records self.now) (in_force self.now.core) result }
     {
         let stream = self.stream_at(head.stream);
         let body = self.body_length(&stream);
@@ -98,7 +98,7 @@ impl<'b, A: Allocator + Copy> State<'b, A> {
     /// RST_STREAM.
     fn on_reset(&self, id: u32) -> Reaction
         ensures rule { result ≡ rule.on_reset self.now.core (stream_at self.now.core.last self.now.streams id) }
-        ensures sound { IsSound self.now.book (records self.now) self.now.core.peer.window result }
+        ensures sound { IsSound self.now.book (records self.now) (in_force self.now.core) result }
     {
         on_reset(self.core(), self.stream_at(id))
     }
@@ -106,7 +106,7 @@ impl<'b, A: Allocator + Copy> State<'b, A> {
     /// SETTINGS without ACK.
     fn on_settings(&self, part: SettingsPart<'_>) -> Reaction
         ensures rule { result ≡ settings.settings_rule self.now.streams self.now.core (settings_in part.entry) }
-        ensures sound { IsSound self.now.book (records self.now) self.now.core.peer.window result }
+        ensures sound { IsSound self.now.book (records self.now) (in_force self.now.core) result }
     {
         let greatest = self.streams.greatest_send();
         settings_rule(&greatest, self.core(), part)
@@ -115,7 +115,7 @@ impl<'b, A: Allocator + Copy> State<'b, A> {
     /// WINDOW_UPDATE on a stream.
     fn on_stream_window(&self, id: u32, increment: u32) -> Reaction
         ensures rule { result ≡ rule.on_window self.now.core increment (stream_at self.now.core.last self.now.streams id) }
-        ensures sound { IsSound self.now.book (records self.now) self.now.core.peer.window result }
+        ensures sound { IsSound self.now.book (records self.now) (in_force self.now.core) result }
     {
         on_window(self.core(), increment, self.stream_at(id))
     }
@@ -123,7 +123,7 @@ impl<'b, A: Allocator + Copy> State<'b, A> {
     /// WINDOW_UPDATE.
     fn on_window_update(&self, id: u32, increment: u32) -> Reaction
         ensures rule { result ≡ (if id == 0 then window.connection_window self.now.core increment else rule.on_window self.now.core increment (stream_at self.now.core.last self.now.streams id)) }
-        ensures sound { IsSound self.now.book (records self.now) self.now.core.peer.window result }
+        ensures sound { IsSound self.now.book (records self.now) (in_force self.now.core) result }
     {
         if id == 0 {
             return connection_window(self.core(), increment);
@@ -138,25 +138,24 @@ impl<'b, A: Allocator + Copy> State<'b, A> {
         Reaction::ConnectionError(ErrorCode::ProtocolError)
     }
 
-    /// What a frame results in that is no HEADERS and no CONTINUATION.
+    /// What a frame results in that is no HEADERS, no CONTINUATION and no acknowledgement of settings.
     fn react(&self, head: &Head, payload: &[u8], part: Part<'_>) -> Reaction
         requires fits { length payload.now < 2 ^ 24 }
         requires part { part_of head.now payload.now ≡ Ok (part_seen part) }
         requires plain { IsPlain part }
         ensures rule { makes self.now result ≡ rule.frame_effect self.now head.now payload.now (part_seen part.entry) }
-        ensures sound { IsSound self.now.book (records self.now) self.now.core.peer.window result }
+        ensures sound { IsSound self.now.book (records self.now) (in_force self.now.core) result }
     {
         match part {
             Part::Data(part) => self.on_data(head, payload, part),
             Part::RstStream(_) => self.on_reset(head.stream),
             Part::Settings(part) => self.on_settings(part),
-            Part::SettingsAck => acknowledged(self.core()),
             Part::Ping(_) => on_ping(self.core(), head.has(ACK)),
             Part::Goaway(last, code) => on_goaway(self.core(), last, code),
             Part::WindowUpdate(increment) => self.on_window_update(head.stream, increment),
             Part::Priority | Part::Unknown => nothing(self.core()),
             Part::PushPromise => self.on_push_promise(),
-            Part::Headers(_) | Part::Continuation(_) => unreachable!(),
+            Part::Headers(_) | Part::Continuation(_) | Part::SettingsAck => unreachable!(),
         }
     }
 
@@ -169,7 +168,7 @@ impl<'b, A: Allocator + Copy> State<'b, A> {
     ) -> Result<(), AllocError>
         requires fits { length payload.now < 2 ^ 24 }
         requires stopped { IsStopped self.old.block }
-        requires sound { IsSound self.old.book (records self.old) self.old.core.peer.window reaction }
+        requires sound { IsSound self.old.book (records self.old) (in_force self.old.core) reaction }
         ensures ok { OnOk result (Does (stepped (rule.concluded self.old payload.now (makes self.old reaction))) out.old.items self.new out.new.items) }
         ensures err { OnErr result ((self.new ≡ self.old) × (out.new.items ≡ out.old.items)) }
     {
@@ -206,11 +205,11 @@ impl<'b, A: Allocator + Copy> State<'b, A> {
         match part {
             Part::Headers(part) => self.on_headers(head, payload, part, out),
             Part::Continuation(octets) => self.on_continuation(head, octets, payload, out),
+            Part::SettingsAck => self.on_acknowledged(payload, out),
             Part::Data(_)
             | Part::Priority
             | Part::RstStream(_)
             | Part::Settings(_)
-            | Part::SettingsAck
             | Part::PushPromise
             | Part::Ping(_)
             | Part::Goaway(_, _)
@@ -256,6 +255,7 @@ impl<'b, A: Allocator + Copy> State<'b, A> {
     /// # Errors
     ///
     /// `AllocError` where memory was refused: the state, its open block included, and `out` are as before the item.
+    #[inline(always)]
     #[tactic(auto, unfolding(h2_spec::specs::Effect::effect, h2_spec::specs::Trace::step))]
     pub fn item(&mut self, item: &Item<'_>, out: &mut Vec<u8, A>) -> Result<(), AllocError>
         requires short { IsShort (item_of item.now) }

@@ -1,28 +1,65 @@
-//! What is sent before anything is read: SETTINGS with the server's limits (RFC 9113, 3.4 and 6.5.2).
+//! What is sent before anything is read: SETTINGS with the server's limits and settings (RFC 9113, 3.4 and 6.5.2).
 //! Rests on h2_frame; definition: h2_spec's `specs/Opening.antt`.
 
-ghost use Rattle.std.specs.Prelude.{◌≡◌, ◌++◌, OnOk, OnErr};
-ghost use Rattle.h2_spec.specs.Opening.{opening_octets, setting};
+ghost use Rattle.std.specs.Prelude.{◌≡◌, ◌++◌, IfOk, OnOk, OnErr};
+ghost use Rattle.h2_spec.specs.Opening.{opening_octets, opening_payload, setting, setting_unless};
 
 use h2_frame::append_frame;
 use h2_spec::connection::Config;
+use h2_spec::flow::LocalSettings;
 use h2_spec::frames::SETTINGS;
 use std::alloc::{AllocError, Allocator};
 
-/// The setting of the most streams at a time.
-fn streams_setting(streams: u32) -> [u8; 6]
-    ensures { result ≡ setting 3 streams }
+/// The octets of a setting: its identifier, and its value (RFC 9113, 6.5.1).
+fn setting_of(id: u16, value: u32) -> [u8; 6]
+    ensures { result ≡ setting id value }
 {
-    let octets = streams.to_be_bytes();
-    [0, 3, octets[0], octets[1], octets[2], octets[3]]
+    let name = id.to_be_bytes();
+    let octets = value.to_be_bytes();
+    [name[0], name[1], octets[0], octets[1], octets[2], octets[3]]
+}
+
+/// Appends a setting, unless it has the value that every connection begins with.
+#[tactic(auto, unfolding(h2_spec::specs::Opening::setting_unless))]
+fn append_unless<A: Allocator>(
+    first: u32,
+    id: u16,
+    value: u32,
+    payload: &mut Vec<u8, A>,
+) -> Result<(), AllocError>
+    ensures { OnOk result (payload.new.items ≡ payload.old.items ++ setting_unless first id value) }
+{
+    if value == first {
+        return Ok(());
+    }
+    payload.extend_from_slice(&setting_of(id, value))
+}
+
+/// The payload of the opening SETTINGS.
+#[tactic(auto, unfolding(h2_spec::specs::Opening::opening_payload))]
+fn opening_payload<A: Allocator>(alloc: A, config: Config) -> Result<Vec<u8, A>, AllocError>
+    ensures { IfOk result (λ payload. payload.items ≡ opening_payload config) }
+{
+    let first = LocalSettings::initial();
+    // Room for five settings.
+    let mut payload = Vec::with_capacity(alloc, 30)?;
+    append_unless(first.table, 1, config.table, &mut payload)?;
+    payload.extend_from_slice(&setting_of(3, config.streams))?;
+    append_unless(first.window, 4, config.window, &mut payload)?;
+    append_unless(first.frame, 5, config.frame, &mut payload)?;
+    payload.extend_from_slice(&[0, 6, 0, 1, 0, 0])?;
+    Ok(payload)
 }
 
 /// Appends the opening SETTINGS, or nothing where memory is refused.
 #[tactic(auto, unfolding(h2_spec::specs::Opening::opening_octets))]
-pub fn write_opening<A: Allocator>(config: Config, out: &mut Vec<u8, A>) -> Result<(), AllocError>
+pub fn write_opening<A: Allocator + Copy>(
+    config: Config,
+    out: &mut Vec<u8, A>,
+) -> Result<(), AllocError>
     ensures ok { OnOk result (out.new.items ≡ out.old.items ++ opening_octets config) }
     ensures no_memory { OnErr result (out.new.items ≡ out.old.items) }
 {
-    let streams = streams_setting(config.streams);
-    append_frame(SETTINGS, 0, 0, &streams, &[0, 6, 0, 1, 0, 0], out)
+    let payload = opening_payload(*out.allocator(), config)?;
+    append_frame(SETTINGS, 0, 0, payload.as_slice(), &[], out)
 }

@@ -4,7 +4,8 @@
 ghost use Rattle.std.specs.Prelude.{◌≡◌, true, ◌+◌, ◌≤◌, [], length, take, IfErr, IfOk, OnOk, OnErr};
 ghost use Rattle.h2_spec.specs.State.{opening};
 ghost use Rattle.h2_spec.specs.View.{view};
-ghost use Rattle.h2_conn.specs.Connection.{going, is_allowed};
+ghost use Rattle.h2_conn.specs.Connection.{going};
+ghost use Rattle.h2_spec.specs.State.{is_allowed};
 ghost use Rattle.h2_conn.specs.Faults.{refusal_for};
 ghost use Rattle.h2_conn.specs.Granted.{SendsWithinGrants};
 ghost use Rattle.h2_conn.specs.Runs.{Fed, Opens, Plays};
@@ -77,7 +78,7 @@ fn feed_or_cut<'b, A: Allocator + Copy>(
 ///
 /// # Errors
 ///
-/// `BadConfig` where the most streams are not 1 to 1000, or the credit is not 1 to 65535; then `NoMemory`. Both leave
+/// `BadConfig` where a limit or a setting is outside its range (`Config::is_allowed`); then `NoMemory`. Both leave
 /// `out` as it was.
 pub fn open_and_feed<'b, A: Allocator + Copy>(
     book: &'b Book<A>,
@@ -127,7 +128,7 @@ fn view_or_cut<A: Allocator + Copy>(
 ///
 /// # Errors
 ///
-/// `BadConfig` where the most streams are not 1 to 1000, or the credit is not 1 to 65535; then `NoMemory`. Both leave
+/// `BadConfig` where a limit or a setting is outside its range (`Config::is_allowed`); then `NoMemory`. Both leave
 /// `out` as it was.
 pub fn play<A: Allocator + Copy>(
     book: &Book<A>,

@@ -45,6 +45,9 @@ pub fn update_and_send<A: Allocator + Copy>(
         RecordUpdate::Shift(from, to) => {
             shift_and_send(book, streams, (from, to), size, window, out)
         }
+        RecordUpdate::Receive(from, to) => {
+            receive_and_send(book, streams, (from, to), size, window, out)
+        }
     }
 }
 
@@ -156,6 +159,46 @@ fn shift_and_send<A: Allocator>(
             Err(error)
         }
     }
+}
+
+/// The receive windows move, as the server's initial one goes from one value to another, and what waits then is sent;
+/// where memory is refused they move back (RFC 9113, 6.5.3 and 6.9.2).
+fn receive_and_send<A: Allocator>(
+    book: &Book<A>,
+    streams: &mut Streams<A>,
+    initial: (u32, u32),
+    size: usize,
+    window: u64,
+    out: &mut Vec<u8, A>,
+) -> Result<u64, AllocError>
+    requires size { (0 < size) × (size < 2 ^ 24) }
+    requires few { window ≤ 2147483647 }
+    requires made { CanApply streams.old (update.Receive initial.0 initial.1) }
+    requires undone { CanUndo streams.old (update.Receive initial.0 initial.1) }
+    requires bodies { AllByRecursion (HasBody book.now) (changes.received (changes.moved_by initial.0 initial.1) streams.old.streams) }
+    ensures count { IfOk result (λ count. (count ≡ window - rule.window_left window (changes.received (changes.moved_by initial.0 initial.1) streams.old.streams)) × (count ≤ window)) }
+    ensures sent { OnOk result (out.new.items ≡ out.old.items ++ frames_octets (rule.sent_frames book.now size window (changes.received (changes.moved_by initial.0 initial.1) streams.old.streams))) }
+    ensures records { OnOk result (streams.new ≡ sent_records window (updated_records (update.Receive initial.0 initial.1) streams.old)) }
+    ensures err { OnErr result (streams.new ≡ streams.old) }
+    ensures kept { take (vec_len out.old) out.new.items ≡ out.old.items }
+{
+    let (from, to) = initial;
+    receive(streams, from, to);
+    match send_ready(book, streams, size, window, out) {
+        Ok(count) => Ok(count),
+        Err(error) => {
+            receive(streams, to, from);
+            Err(error)
+        }
+    }
+}
+
+/// Moves the receive windows, as the server's initial one goes from one value to another (RFC 9113, 6.9.2).
+fn receive<A: Allocator>(streams: &mut Streams<A>, from: u32, to: u32)
+    requires { CanApply streams.old (update.Receive from to) }
+    ensures { streams.new ≡ updated_records (update.Receive from to) streams.old }
+{
+    streams.shift_recv(i64::from(to) - i64::from(from));
 }
 
 /// Moves the send windows, as the initial one goes from one value to another (RFC 9113, 6.9.2).

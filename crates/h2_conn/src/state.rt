@@ -1,9 +1,9 @@
 //! The state of a connection: all that an item can change (RFC 9113, 5, 6.5 and 6.9).
 //! Rests on h2_request, h2_fields and h2_streams; definition: h2_spec's `specs/State.antt`.
 
-ghost use Rattle.std.specs.Prelude.{◌≡◌, IfOk};
-ghost use Rattle.h2_spec.specs.Headers.{fresh_decoding};
-ghost use Rattle.h2_spec.specs.State.{opening, opening_core};
+ghost use Rattle.std.specs.Prelude.{◌≡◌, [], IfOk};
+ghost use Rattle.h2_rules.specs.Sound.{AreInRange};
+ghost use Rattle.h2_spec.specs.State.{configured, opening, opening_core};
 
 use h2_fields::collected::Collected;
 use h2_fields::rest::Rest;
@@ -15,8 +15,8 @@ use h2_table::{DynTable, Edit};
 use std::alloc::{AllocError, Allocator};
 use std::marker::Model;
 
-/// How far a field block is decoded, and what it is for: its fields, and the octets that begin an instruction and do
-/// not end it.
+/// How far a field block is decoded, and what it is for: its fields, whether it still has to begin with a size update,
+/// and the octets that begin an instruction and do not end it.
 #[derive(Drop)]
 pub struct Decoding<A: Allocator> {
     pub purpose: Purpose,
@@ -25,14 +25,11 @@ pub struct Decoding<A: Allocator> {
 }
 
 impl<A: Allocator> Model for Decoding<A> {
-    ghost use Rattle.std.specs.Prelude.{◌≡◌, false};
     ghost use Rattle.h2_spec.specs.State as state;
 
     ghost Value = { state.Decoding };
 
-    ghost view = { λ d. record { purpose = d.purpose; fields = d.collected.fields; rest = d.rest } };
-
-    ghost invariant = { λ d. d.collected.due ≡ false };
+    ghost view = { λ d. record { purpose = d.purpose; fields = d.collected.fields; due = d.collected.due; rest = d.rest } };
 }
 
 /// A field block that has begun; after the end of the connection it is shown, and decoded no more.
@@ -51,27 +48,30 @@ impl<A: Allocator> Model for OpenBlock<A> {
 }
 
 impl<A: Allocator + Copy> Decoding<A> {
-    /// Nothing of a block is decoded yet. No memory is taken.
-    pub fn fresh(alloc: A, purpose: Purpose) -> Self
-        ensures { result ≡ fresh_decoding purpose }
+    /// Nothing of a block is decoded yet; `due` says whether it has to begin with a size update (RFC 7541, 4.2). No
+    /// memory is taken.
+    pub fn fresh(alloc: A, purpose: Purpose, due: bool) -> Self
+        ensures { result ≡ record { purpose = purpose; fields = []; due = due; rest = [] } }
     {
-        Decoding {
+        let empty = Decoding {
             purpose,
             collected: Collected::new(alloc),
             rest: Rest::new(alloc),
-        }
+        };
+        empty.renewed(purpose, due)
     }
 
-    /// Nothing of another block is decoded yet. The memory is used again, unless it is of a large block.
-    pub fn renewed(self, purpose: Purpose) -> Self
-        ensures { result ≡ fresh_decoding purpose }
+    /// Nothing of another block is decoded yet; `due` says whether it has to begin with a size update. The memory is
+    /// used again, unless it is of a large block.
+    pub fn renewed(self, purpose: Purpose, due: bool) -> Self
+        ensures { result ≡ record { purpose = purpose; fields = []; due = due; rest = [] } }
     {
         let Decoding {
             purpose: _,
             mut collected,
             mut rest,
         } = self;
-        collected.clear(false);
+        collected.clear(due);
         rest.clear();
         Decoding {
             purpose,
@@ -111,7 +111,7 @@ impl<A: Allocator + Copy> OpenBlock<A> {
 }
 
 /// The same open block once more, if there is one.
-fn copy_of<A: Allocator + Copy>(
+pub(crate) fn copy_of<A: Allocator + Copy>(
     block: &Option<OpenBlock<A>>,
 ) -> Result<Option<OpenBlock<A>>, AllocError>
     ensures { IfOk result (λ copy. copy ≡ block.now) }
@@ -149,14 +149,15 @@ pub struct State<'b, A: Allocator> {
 impl<'b, A: Allocator> Model for State<'b, A> {
     ghost use Rattle.std.specs.Prelude.{◌≡◌};
     ghost use Rattle.h2_spec.specs.State as state;
+    ghost use Rattle.h2_spec.specs.State.{configured};
     ghost use Rattle.h2_conn.specs.Blocks.{IsOpenFor};
-    ghost use Rattle.h2_rules.specs.Sound.{IsSoundState};
+    ghost use Rattle.h2_rules.specs.Sound.{AreInRange, IsSoundState};
 
     ghost Value = { state.State };
 
     ghost view = { λ s. record { book = s.book.now; config = s.config; core = s.core; block = s.block; table = s.table.table; streams = s.streams.streams } };
 
-    ghost invariant = { λ s. IsSoundState s.book.now s.core s.streams × (s.table.limit ≡ s.core.own.table) × IsOpenFor s.streams s.block };
+    ghost invariant = { λ s. IsSoundState s.book.now s.core s.streams × (s.table.limit ≡ s.core.own.table) × IsOpenFor s.streams s.block × AreInRange (configured s.config) };
 }
 
 /// The counts and settings before anything came.
@@ -181,6 +182,7 @@ impl<'b, A: Allocator + Copy> State<'b, A> {
     ///
     /// `AllocError` where memory for the header table is refused.
     pub fn new(book: &'b Book<A>, config: Config, alloc: A) -> Result<Self, AllocError>
+        requires { AreInRange (configured config) }
         ensures { IfOk result (λ state. state ≡ opening book.now config) }
     {
         let table = DynTable::new(alloc, 4096)?;

@@ -2,7 +2,7 @@
 //! Rests on h2_fields and h2_table; definitions: `decoded` of h2_spec's `specs/Block.antt`, and `specs/Blocks.antt`
 //! here.
 
-ghost use Rattle.std.specs.Prelude.{◌≡◌, ◌≢◌, ◌++◌, ◌==◌, length, IfErr, OnOk};
+ghost use Rattle.std.specs.Prelude.{◌≡◌, ◌≢◌, ◌++◌, ◌==◌, ◌&&◌, not, length, IfErr, OnOk};
 ghost use Rattle.h2_spec.specs.Block as block;
 ghost use Rattle.h2_fields.specs.declared.fault.BlockFault.TheVariants.{NoMemory};
 ghost use Rattle.h2_table.specs.Edits.{IsEdit, edited};
@@ -30,18 +30,18 @@ pub struct Tentative<A: Allocator> {
 }
 
 impl<A: Allocator> Model for Tentative<A> {
-    ghost use Rattle.std.specs.Prelude.{◌≡◌, false, take};
+    ghost use Rattle.std.specs.Prelude.{◌≡◌, take};
     ghost use Rattle.h2_spec.specs.Block.{list_size};
     ghost use Rattle.h2_conn.specs.Fragments.{BeforeAfter};
 
     ghost Value = { BeforeAfter };
 
     ghost view = { λ t. record {
-      before = record { purpose = t.purpose; fields = take t.mark.count t.collected.fields; rest = t.rest.before };
-      after = record { purpose = t.purpose; fields = t.collected.fields; rest = t.rest.after };
+      before = record { purpose = t.purpose; fields = take t.mark.count t.collected.fields; due = t.mark.due; rest = t.rest.before };
+      after = record { purpose = t.purpose; fields = t.collected.fields; due = t.collected.due; rest = t.rest.after };
     } };
 
-    ghost invariant = { λ t. (t.mark.size ≡ list_size (take t.mark.count t.collected.fields)) × (t.mark.due ≡ false) × (t.collected.due ≡ false) };
+    ghost invariant = { λ t. t.mark.size ≡ list_size (take t.mark.count t.collected.fields) };
 }
 
 impl<A: Allocator + Copy> Tentative<A> {
@@ -147,10 +147,11 @@ impl<A: Allocator> Tentative<A> {
         &self.collected
     }
 
-    /// Whether no instruction is begun and not ended after the fragment.
+    /// Whether the block can end after the fragment: no instruction is begun and not ended, and no size update is due
+    /// (RFC 9113, 4.3; RFC 7541, 4.2).
     pub fn is_whole(&self) -> bool
-        ensures { result ≡ (length self.now.after.rest == 0) }
+        ensures { result ≡ (length self.now.after.rest == 0 && not self.now.after.due) }
     {
-        self.rest.is_whole()
+        self.rest.is_whole() && !self.collected.is_due()
     }
 }

@@ -15,10 +15,7 @@ use std::test::Fail;
 
 /// The usual limits.
 fn usual() -> Config {
-    Config {
-        streams: 100,
-        credit: 32768,
-    }
+    Config::new(100, 32768)
 }
 
 // These have no clause, so that the proof of a test does not carry the state of each call.
@@ -44,44 +41,127 @@ fn end_of(conn: &Conn<'_, Global>) -> End {
 }
 
 /// The end of a new connection.
-fn opened_end(
-    alloc: Global,
-    streams: u32,
-    credit: u32,
-    sent: &mut Vec<u8>,
-) -> Result<End, ConnFault> {
+fn opened_end(alloc: Global, config: Config, sent: &mut Vec<u8>) -> Result<End, ConnFault> {
     let book = no_answers(alloc);
-    let conn = opened(&book, Config { streams, credit }, sent)?;
+    let conn = opened(&book, config, sent)?;
     Ok(end_of(&conn))
 }
 
 /// The same, and what the connection sends.
-fn opening(alloc: Global, streams: u32, credit: u32) -> (Result<End, ConnFault>, Vec<u8>) {
+fn opening(alloc: Global, config: Config) -> (Result<End, ConnFault>, Vec<u8>) {
     let mut sent = Vec::new(alloc);
-    (opened_end(alloc, streams, credit, &mut sent), sent)
+    (opened_end(alloc, config, &mut sent), sent)
 }
 
-/// Limits, the end of a new connection of them, what it sends, and a name.
-static LIMITS: [(u32, u32, Result<End, ConnFault>, &[u8], &str); 5] = [
-    (0, 1, Err(ConnFault::BadConfig), b"", "no stream"),
-    (1001, 1, Err(ConnFault::BadConfig), b"", "1001 streams"),
-    (1, 0, Err(ConnFault::BadConfig), b"", "no credit"),
-    (1, 65536, Err(ConnFault::BadConfig), b"", "65536 octets"),
-    // SETTINGS_MAX_CONCURRENT_STREAMS 1000 and SETTINGS_MAX_HEADER_LIST_SIZE 65536 (RFC 9113, 6.5.2).
+/// The least limits, with the settings that a connection begins with.
+const LEAST: Config = Config {
+    streams: 1,
+    credit: 1,
+    table: 4096,
+    window: 65535,
+    frame: 16384,
+};
+
+/// Why each of these limits and settings is out of its range.
+static REFUSED: [(Config, &str); 8] = [
     (
-        1000,
-        65535,
-        Ok((None, false)),
-        b"\x00\x00\x0c\x04\x00\x00\x00\x00\x00\x00\x03\x00\x00\x03\xe8\x00\x06\x00\x01\x00\x00",
-        "the opening SETTINGS",
+        Config {
+            streams: 0,
+            ..LEAST
+        },
+        "no stream",
+    ),
+    (
+        Config {
+            streams: 1001,
+            ..LEAST
+        },
+        "1001 streams",
+    ),
+    (Config { credit: 0, ..LEAST }, "no credit"),
+    (
+        Config {
+            credit: 65536,
+            ..LEAST
+        },
+        "65536 octets",
+    ),
+    (
+        Config {
+            table: 65537,
+            ..LEAST
+        },
+        "a table of 65537 octets",
+    ),
+    (
+        Config {
+            window: 2147483648,
+            ..LEAST
+        },
+        "a window of 2147483648 octets",
+    ),
+    (
+        Config {
+            frame: 16383,
+            ..LEAST
+        },
+        "frames of 16383 octets",
+    ),
+    (
+        Config {
+            frame: 65537,
+            ..LEAST
+        },
+        "frames of 65537 octets",
     ),
 ];
 
 #[test]
-fn limits_out_of_range_are_refused_and_settings_sent_first(rt: HostRuntime) {
-    for (streams, credit, end, octets, name) in &LIMITS {
-        let (found, sent) = opening(rt.alloc(), *streams, *credit);
-        same(&rt, &(found, sent.as_slice()), &(*end, *octets), name);
+fn limits_and_settings_out_of_range_are_refused(rt: HostRuntime) {
+    for (config, name) in &REFUSED {
+        let (found, sent) = opening(rt.alloc(), *config);
+        let wanted = (Err(ConnFault::BadConfig), b"".as_slice());
+        same(&rt, &(found, sent.as_slice()), &wanted, name);
+    }
+}
+
+/// Limits and settings, and what a new connection of them sends.
+static OPENINGS: [(Config, &[u8], &str); 2] = [
+    // SETTINGS_MAX_CONCURRENT_STREAMS 1000 and SETTINGS_MAX_HEADER_LIST_SIZE 65536 (RFC 9113, 6.5.2).
+    (
+        Config {
+            streams: 1000,
+            credit: 65535,
+            ..LEAST
+        },
+        b"\x00\x00\x0c\x04\x00\x00\x00\x00\x00\x00\x03\x00\x00\x03\xe8\x00\x06\x00\x01\x00\x00",
+        "the opening SETTINGS",
+    ),
+    // SETTINGS_HEADER_TABLE_SIZE 65536, SETTINGS_INITIAL_WINDOW_SIZE 2147483647 and SETTINGS_MAX_FRAME_SIZE 65536
+    // besides.
+    (
+        Config {
+            streams: 1,
+            credit: 1,
+            table: 65536,
+            window: 2147483647,
+            frame: 65536,
+        },
+        b"\x00\x00\x1e\x04\x00\x00\x00\x00\x00\x00\x01\x00\x01\x00\x00\x00\x03\x00\x00\x00\x01\x00\x04\x7f\xff\xff\xff\x00\x05\x00\x01\x00\x00\x00\x06\x00\x01\x00\x00",
+        "the largest settings",
+    ),
+];
+
+#[test]
+fn settings_are_sent_first(rt: HostRuntime) {
+    for (config, octets, name) in &OPENINGS {
+        let (found, sent) = opening(rt.alloc(), *config);
+        same(
+            &rt,
+            &(found, sent.as_slice()),
+            &(Ok((None, false)), *octets),
+            name,
+        );
     }
 }
 
@@ -269,6 +349,7 @@ fn the_state_is_shown(rt: HostRuntime) -> Result<(), Fail> {
                  window recv 65535 owed 0 send 65535\n\
                  peer table 4096 push 1 streams - window 65535 frame 16384 list - signal 0\n\
                  acked 0 goaway -\n\
+                 own table 4096 window 65535 frame 16384 due 0\n\
                  block -\n\
                  table 0 0 4096\n";
     let between = format!(in rt.alloc(); "state\n{state}end")?;
@@ -366,10 +447,7 @@ fn long_blocks_may_come_octet_by_octet(rt: HostRuntime) -> Result<(), Fail> {
 /// The fault of a run of no stream.
 fn refused(alloc: Global, sent: &mut Vec<u8>) -> Option<ConnFault> {
     let book = no_answers(alloc);
-    let config = Config {
-        streams: 0,
-        credit: 1,
-    };
+    let config = Config::new(0, 1);
     play(&book, config, &PREFACE, &[], sent).err()
 }
 

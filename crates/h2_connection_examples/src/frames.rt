@@ -119,6 +119,51 @@ fn frames_behind_the_preface(rt: HostRuntime) -> Result<(), Fail> {
     compare_items(&rt, &mut splitter)
 }
 
+/// Octets behind the preface, how many the first item in them lacks, and a name.
+static MISSING: [(&[u8], usize, &str); 6] = [
+    (b"", 9, "nothing"),
+    (b"\x00\x00\x08", 6, "the length of a frame"),
+    (
+        b"\x00\x00\x08\x06\x00\x00\x00\x00\x00",
+        8,
+        "the head of a PING",
+    ),
+    (
+        b"\x00\x00\x08\x06\x00\x00\x00\x00\x00\x01\x02\x03\x04\x05",
+        3,
+        "a PING without its last octets",
+    ),
+    (PING, 0, "a PING"),
+    (
+        b"\x00\x40\x01\x00\x00\x00\x00\x00\x01",
+        0,
+        "a head above the limit",
+    ),
+];
+
+/// How many octets the first item lacks, frames of at most 16,384 octets.
+fn missing<A: Allocator>(splitter: &Splitter<A>) -> usize {
+    splitter.missing(16_384)
+}
+
+#[test]
+fn octets_that_are_missing(rt: HostRuntime) -> Result<(), Fail> {
+    let begun = fed(rt.alloc(), b"PRI * HTTP/2.0")?;
+    same(
+        &rt,
+        &missing(&begun),
+        &1,
+        &"any octet may be one that differs",
+    );
+    let differs = fed(rt.alloc(), b"PRI / HTTP/2.0")?;
+    same(&rt, &missing(&differs), &0, &"one differs");
+    for (octets, count, name) in &MISSING {
+        let splitter = running(rt.alloc(), octets)?;
+        same(&rt, &missing(&splitter), count, name);
+    }
+    Ok(())
+}
+
 /// Whether frames of no octets are taken as they come, so many, where the splitter has no more memory than these 64
 /// octets.
 fn taken_within(heap: &LocalHeap, count: u32) -> bool {

@@ -1,6 +1,6 @@
 //! The records of streams on worked values, and windows at their limits (RFC 9113, 5.1 and 6.9.2).
 
-ghost use Rattle.std.specs.Prelude.{◌≡◌, ◌≤◌, ◌≤ℤ◌, negsuc, pos};
+ghost use Rattle.std.specs.Prelude.{◌≡◌, ◌≤◌, ◌≤ℤ◌, ◌+ℤ◌, negsuc, pos};
 ghost use Rattle.h2_spec.specs.Stream.{no_records};
 
 use crate::same::same;
@@ -11,7 +11,8 @@ use std::process::Abort;
 
 fn numbers(send: u32, left: Option<u64>) -> Numbers
     requires { send ≤ 2147483647 }
-    ensures { result.send ≡ pos send }
+    ensures send { result.send ≡ pos send }
+    ensures recv { result.recv ≡ pos 65535 }
 {
     Numbers {
         recv: Window::start(65_535),
@@ -210,6 +211,55 @@ fn settings_move_windows_to_their_limits(rt: HostRuntime) {
     ] {
         let moved = shifted(rt.alloc(), start, delta);
         same(&rt, &moved, &Some((refused, window)), &(start, delta));
+    }
+}
+
+/// The receive window of a stream, if it has a record.
+fn receives(streams: &Streams<Global>, id: u32) -> Option<i32> {
+    Some(streams.get(id)?.numbers.recv.value())
+}
+
+/// Opens a stream 1, a stream 3 whose peer has ended it, and a stream 5 that the server refuses, and moves the receive
+/// windows.
+fn open_and_receive(
+    streams: &mut Streams<Global>,
+    delta: i64,
+) -> Result<[Option<i32>; 3], AllocError>
+    requires new { streams.old ≡ no_records }
+    requires least { negsuc 2147483647 ≤ℤ (pos 65535 +ℤ delta) }
+    requires most { (pos 65535 +ℤ delta) ≤ℤ pos 2147483647 }
+{
+    streams.open_stream(1, numbers(0, None), Pick::NotFound, false)?;
+    streams.open_stream(3, numbers(0, None), Pick::NotFound, true)?;
+    streams.open_reset(5)?;
+    streams.shift_recv(delta);
+    Ok([
+        receives(streams, 1),
+        receives(streams, 3),
+        receives(streams, 5),
+    ])
+}
+
+/// The receive windows of the three streams; none where no window moves so far.
+fn received(alloc: Global, delta: i64) -> Option<[Option<i32>; 3]> {
+    if delta < -2_147_549_183 || delta > 2_147_418_112 {
+        return None;
+    }
+    let mut streams = Streams::new(alloc);
+    open_and_receive(&mut streams, delta).ok()
+}
+
+#[test]
+fn own_settings_move_the_receive_windows_of_live_streams(rt: HostRuntime) {
+    // From 65,535 octets to 10, to none and to 2^31 - 1 (6.9.2); a stream that has ended has no window.
+    for (delta, window) in [
+        (-65_525, 10),
+        (-65_535, 0),
+        (-65_536, -1),
+        (2_147_418_112, 2_147_483_647),
+    ] {
+        let wanted = Some([Some(window), Some(window), Some(0)]);
+        same(&rt, &received(rt.alloc(), delta), &wanted, &delta);
     }
 }
 

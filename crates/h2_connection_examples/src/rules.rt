@@ -1,7 +1,8 @@
 //! The rules of a connection on worked numbers, from the text of RFC 9113.
 
 ghost use Rattle.std.specs.Prelude.{◌≡◌};
-ghost use Rattle.h2_rules.specs.Sound.{IsSoundConnectionState, IsSoundStream};
+ghost use Rattle.h2_rules.specs.Sound.{IsSoundConnectionState, IsSoundStream, in_force};
+ghost use Rattle.h2_spec.specs.Settings.{initial_local_settings};
 
 use crate::same::same;
 use h2_frame::{FrameRef, Head, settings_of};
@@ -10,7 +11,7 @@ use h2_rules::control::{on_goaway, on_ping};
 use h2_rules::data::on_data;
 use h2_rules::headers::{request_outcome, trailers_outcome};
 use h2_rules::reset::on_reset;
-use h2_rules::settings::{acknowledged, settings_rule};
+use h2_rules::settings::{comes_into_force, settings_rule};
 use h2_rules::window_update::{connection_window, on_window};
 use h2_spec::connection::{Config, ConnectionState, Phase};
 use h2_spec::errors::ErrorCode;
@@ -24,7 +25,7 @@ use std::test::Fail;
 /// A connection of which the settings are exchanged, and nothing else has come.
 fn running() -> ConnectionState
     ensures sound { IsSoundConnectionState result }
-    ensures window { result.peer.window ≡ 65535 }
+    ensures window { in_force result ≡ record { window = 65535; own = initial_local_settings } }
 {
     ConnectionState {
         phase: Phase::Running,
@@ -41,7 +42,7 @@ fn running() -> ConnectionState
 
 /// Stream 1 in a state, with the windows that it began with.
 fn stream(kind: Kind) -> Stream
-    ensures { IsSoundStream 65535 result }
+    ensures { IsSoundStream (record { window = 65535; own = initial_local_settings }) result }
 {
     Stream {
         id: 1,
@@ -79,16 +80,13 @@ fn error_of(reaction: Reaction) -> Option<ErrorCode> {
 fn put_of(record_update: RecordUpdate) -> Option<Stream> {
     match record_update {
         RecordUpdate::Put(stream) => Some(stream),
-        RecordUpdate::Unchanged | RecordUpdate::Shift(..) => None,
+        RecordUpdate::Unchanged | RecordUpdate::Shift(..) | RecordUpdate::Receive(..) => None,
     }
 }
 
 /// DATA of a payload and a content of so many octets, on stream 1, where credit is given back from a threshold on.
 fn data(threshold: u32, octets: u32, content: u32, kind: Kind) -> Reaction {
-    let config = Config {
-        streams: 100,
-        credit: threshold,
-    };
+    let config = Config::new(100, threshold);
     let incoming = ReceivedData {
         octets,
         content,
@@ -126,8 +124,7 @@ fn data_counted(reaction: Reaction) -> Option<(Sent, Counts, Counts, u64, Kind)>
 #[test]
 fn data_is_counted_by_its_payload_and_not_by_its_content(rt: HostRuntime) {
     // A payload of three octets takes three from both windows, though one of them is content (6.9.1). That padding is
-    // part of
-    // the payload is a run of the program ("padding counts").
+    // part of the payload is a run of the program ("padding counts").
     let given = (ConnectionFrame::Credit(3), StreamFrame::StreamCredit(1, 3));
     let quiet = (
         ConnectionFrame::NoConnectionFrame,
@@ -335,10 +332,7 @@ fn settings_are_taken_whole_or_not_at_all(rt: HostRuntime) -> Result<(), Fail> {
 /// What a request of a list of this size, that declares this much content and ends its side, is answered where at
 /// most two streams may live and so many do.
 fn requested(live: usize, size: u64, declared: Option<u64>) -> (Kind, StreamFrame, bool) {
-    let config = Config {
-        streams: 2,
-        credit: 1,
-    };
+    let config = Config::new(2, 1);
     let summary = BlockSummary {
         size,
         malformed: false,
@@ -372,10 +366,7 @@ fn requests_at_their_limits(rt: HostRuntime) {
 /// The kind of the stream that a request opens, how much of its answer waits, and whether the answer begins; the
 /// answer has a body of so many octets.
 fn opened(body: u64, early: bool, ends: bool) -> (Kind, Option<u64>, bool) {
-    let config = Config {
-        streams: 1,
-        credit: 1,
-    };
+    let config = Config::new(1, 1);
     let summary = BlockSummary {
         size: 42,
         malformed: false,
@@ -465,8 +456,29 @@ fn ping_is_answered_and_goaway_is_noted(rt: HostRuntime) {
     same(&rt, &kept(on_ping(fresh(), true)), &ignored, &"an answer");
     let noted = Some((quiet, RecordUpdate::Unchanged, Some((7, 2)), false));
     same(&rt, &kept(on_goaway(fresh(), 7, 2)), &noted, &"GOAWAY");
-    let taken = Some((quiet, RecordUpdate::Unchanged, None, true));
-    same(&rt, &kept(acknowledged(fresh())), &taken, &"SETTINGS ACK");
+}
+
+/// What comes into force at the acknowledgement of settings, and what is kept.
+fn in_force_with(own: LocalSettings) -> (LocalSettings, Option<Kept>) {
+    let change = comes_into_force(fresh(), own);
+    (change.core.own, kept(Reaction::Continues(change)))
+}
+
+#[test]
+fn settings_come_into_force_at_their_acknowledgement(rt: HostRuntime) {
+    let own = LocalSettings {
+        table: 100,
+        window: 10,
+        frame: 20_000,
+    };
+    // The receive windows of streams move by the change of the initial window; no frame is sent (6.5.3, 6.9.2).
+    let moved = Some((
+        ConnectionFrame::NoConnectionFrame,
+        RecordUpdate::Receive(65_535, 10),
+        None,
+        true,
+    ));
+    same(&rt, &in_force_with(own), &(own, moved), &"SETTINGS ACK");
 }
 
 /// Why the head of an empty frame is refused.

@@ -59,10 +59,7 @@ fn sent_with(alloc: Global, block: &[u8]) -> Result<Vec<u8>, AllocError> {
 /// Whether a connection takes all the octets with no more memory than the heap's, and goes on.
 fn fits(heap: &LocalHeap, octets: &[u8]) -> bool {
     let book = Book::new(heap);
-    let config = Config {
-        streams: 100,
-        credit: 32768,
-    };
+    let config = Config::new(100, 32768);
     let mut out = Vec::new(heap);
     let Ok(mut conn) = Conn::new(&book, config, &mut out) else {
         return false;

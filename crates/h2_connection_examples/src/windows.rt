@@ -42,8 +42,7 @@ static APPLIED: [(u16, u32, Result<i64, FlowFault>); 10] = [
 ];
 
 /// What the first settings answer to one that is applied to them, whether they stay as they are, and whether a table
-/// size is to be signalled. No clause says
-/// it, so that the proof of a test does not carry it.
+/// size is to be signalled. No clause says it, so that the proof of a test does not carry it.
 fn applied(id: u16, value: u32) -> (Result<i64, FlowFault>, bool, bool) {
     let mut settings = Settings::initial();
     let answer = settings.apply(id, value);

@@ -1,54 +1,50 @@
--- The copies that are kept.
-use Rattle.std.proofs.Common.{◌≡◌, ◌⊎◌, inl, inr, ℕ, zero, suc, Some, ◌+◌, ◌-◌, ◌*◌, ◌<◌, ◌≤◌, ◌/◌, List, [], ◌∷◌, ◌++◌, length, drop, Bool, true, false, leb-true, refl, sym, ap, subst, arith, length-append}
-use Rattle.std.specs.Prelude.{slice_get, max, min, nat_le, ◌&&◌, if◌then◌else◌}
-use Rattle.std.proofs.Math.Nat.{mul-div-le, lt-mul-div-succ, le-max_left, le-max_right, max-le}
+-- What is kept of places.
+use Rattle.std.proofs.Common.{◌≡◌, ◌⊎◌, ◌∙◌, inl, inr, ℕ, zero, suc, Option, Some, None, cond, ◌+◌, ◌-◌, ◌*◌, ◌<◌, ◌≤◌, ◌/◌, List, [], ◌∷◌, ◌++◌, length, drop, Bool, true, false, true≢false, refl, sym, ap, arith}
+use Rattle.std.specs.Prelude.{slice_get, min, max, nat_le, ◌&&◌}
+use Rattle.std.proofs.Math.Nat.{lt-div-mul-add, mul-div-le}
+use Rattle.std.proofs.lemmas.Bool.{cases_lt, cond_both, le-leb, leb-false, leb-true}
 use Rattle.h2_spec.specs.Parse.{Front, Stop, One, Parsed, parse_all, parse_first, parse_upto}
 use Rattle.h2_spec.specs.Trace.{next_event, trace}
-use Rattle.h2_debug.specs.Debugging.{Debugging, IsKept, replay_count, nearest_kept}
-use Rattle.h2_debug.specs.Places.{Source, Placed, IsAt, AreKept, IsReached, end, start}
+use Rattle.h2_debug.specs.Debugging.{Debugging, IsKept, farthest_or, nearest_kept, replay_count}
+use Rattle.h2_conn.specs.Connection.{Connection, going}
+use Rattle.h2_conn.specs.Mark.{IsConsistent, Precedes}
+use Rattle.h2_conn.specs.Marks.{Follows}
+use Rattle.h2_debug.specs.Places.{Source, Placed, Kept, IsAt, IsKeptOf, IsReached, AreKept, at, end, kept_of, start}
 
-pub kept-one : (r : Source) (i : ℕ) (p : Placed) (xs : List Placed) → AreKept r i xs → IsAt r p → p.position ≡ (i + length xs) * 64 → AreKept r i (xs ++ p ∷ [])
-kept-one r i p [] k x e = (x, omega (arith, e), tt)
-kept-one r i p (y ∷ ys) k x e = (k.0, k.1, kept-one r (i + 1) p ys k.2 x (omega (arith, e)))
+kept-one : (r : Source) (i : ℕ) (k : Kept) (ks : List Kept) → AreKept r i ks → IsKeptOf r k → k.position ≡ (i + length ks) * 64 → AreKept r i (ks ++ k ∷ [])
+kept-one r i k [] a x e = (x, omega (arith, e), tt)
+kept-one r i k (y ∷ ys) a x e = (a.0, a.1, kept-one r (i + 1) k ys a.2 x (omega (arith, e)))
 
-pub kept-all : (r : Source) (i : ℕ) (xs ys : List Placed) → AreKept r i xs → AreKept r (i + length xs) ys → AreKept r i (xs ++ ys)
-kept-all r i [] ys k h = let same : i + 0 ≡ i = omega arith in subst (λ (n : ℕ). AreKept r n ys) same h
-kept-all r i (x ∷ xs) ys k h = let same : i + suc (length xs) ≡ i + 1 + length xs = omega arith in (k.0, k.1, kept-all r (i + 1) xs ys k.2 (subst (λ (n : ℕ). AreKept r n ys) same h))
+pub kept-at : (r : Source) (i j : ℕ) (k : Kept) (ks : List Kept) → AreKept r i ks → slice_get ks j ≡ Some k → IsKeptOf r k × (k.position ≡ (i + j) * 64)
+kept-at r i j k [] a h = cc
+kept-at r i zero k (y ∷ ys) a h = let same : y ≡ k = cc in rw (← same) (a.0, omega (arith, a.1))
+kept-at r i (suc j) k (y ∷ ys) a h = let more = kept-at r (i + 1) j k ys a.2 h in (more.0, omega (arith, more.1))
 
-pub kept-at : (r : Source) (i k : ℕ) (p : Placed) (xs : List Placed) → AreKept r i xs → slice_get xs k ≡ Some p → IsAt r p × (p.position ≡ (i + k) * 64)
-kept-at r i k p [] a h = cc
-kept-at r i zero p (x ∷ xs) a h = let same : x ≡ p = cc in rw (← same) (a.0, omega (arith, a.1))
-kept-at r i (suc k) p (x ∷ xs) a h = let more = kept-at r (i + 1) k p xs a.2 h in (more.0, omega (arith, more.1))
+-- a place at the next multiple of 64 is kept
+pub kept-due : (r : Source) (p : Placed) (ks : List Kept) → AreKept r 0 ks → IsAt r p → IsConsistent p.connection.state → p.position ≤ length ks * 64 → p.position / 64 ≡ length ks → AreKept r 0 (ks ++ kept_of p ∷ [])
+kept-due r p ks a x c below due = kept-one r 0 (kept_of p) ks a (record { place = p; here = x; consistent = c; same = refl }) (omega (arith, below, due, mul-div-le p.position 64))
 
-pub kept-length : (reached n : ℕ) → reached < n * 64 → n * 64 ≤ reached + 64 → n ≡ reached / 64 + 1
-kept-length reached n b a =
-    let low : 64 * (reached / 64) ≤ reached = mul-div-le reached 64 in
-    let high : reached < 64 * (reached / 64 + 1) = lt-mul-div-succ reached (omega arith) in
-    omega (arith, b, a, low, high)
+-- a place holds no octets that wait
+pub place-goes : (r : Source) (p : Placed) → IsAt r p → p.connection ≡ going p.connection.state []
+place-goes r p x = x.goes ∙ ap (λ (c : Connection). going c.state []) (sym x.goes)
 
--- a move was made
-pub committed : (r : Source) (now p : Placed) (kept fresh : List Placed) (reached replayed : ℕ) → IsKept r now kept reached replayed → IsReached r (reached / 64 + 1) p fresh
-    → IsKept r p (kept ++ fresh) (max p.position reached) replayed
-committed r now p kept fresh reached replayed k w =
-    let count : reached / 64 + 1 ≡ length kept = sym (kept-length reached (length kept) k.below k.above) in
-    let count' : reached / 64 + 1 ≡ 0 + length kept = omega (arith, count) in
-    let more : AreKept r (0 + length kept) fresh = subst (λ (n : ℕ). AreKept r n fresh) count' w.kept in
-    let long = length-append kept fresh in
-    let most : length (kept ++ fresh) * 64 ≤ max p.position reached + 64 = upto w.above in
-    let lower : max p.position reached ≤ length (kept ++ fresh) * 64 - 1 = max-le (omega (arith, long, count, w.below)) (omega (arith, long, k.below)) in
+-- what a place leaves of one before it
+pub place-follows : (r : Source) (p far : Placed) → IsAt r p → IsAt r far → p.position ≤ far.position → Follows p.connection.state far.connection.state
+place-follows r p far x y le =
+    let here : p.connection.state ≡ at r p.position = ap (λ (c : Connection). c.state) x.goes in
+    let there : far.connection.state ≡ at r far.position = ap (λ (c : Connection). c.state) y.goes in
+    rw (here, there) (y.follows p.position le)
+
+-- what is kept of a place before another can be made again from that one
+pub kept-precedes : (r : Source) (k : Kept) (far : Placed) → IsKeptOf r k → IsAt r far → k.position ≤ far.position → Precedes k.mark far.connection.state
+kept-precedes r k far x y le =
+    let same : k.position ≡ x.place.position = ap (λ (j : Kept). j.position) x.same in
     record {
-      now = w.place;
-      kept = kept-all r 0 kept fresh k.kept more;
-      below = omega (arith, lower, long, k.below);
-      above = most;
-      within = le-max_left p.position reached;
-      reached_is = max-le w.place.within k.reached_is;
-      few = k.few;
+      state = x.place.connection.state;
+      consistent = x.consistent;
+      marked = ap (λ (j : Kept). j.mark) x.same;
+      follows = place-follows r x.place far x.here y (omega (arith, le, same));
     }
-  where
-    upto : (fresh ≡ []) ⊎ ((reached / 64 + 1 + length fresh) * 64 ≤ p.position + 64) → length (kept ++ fresh) * 64 ≤ max p.position reached + 64
-    upto (inl e) = omega (arith, length-append kept fresh, ap length e, k.above, le-max_right p.position reached)
-    upto (inr h) = omega (arith, length-append kept fresh, kept-length reached (length kept) k.below k.above, h, le-max_left p.position reached)
 
 -- ---- no more items than octets
 
@@ -66,35 +62,112 @@ end-few r = few-upto next_event (length r.octets) (start r) r.octets
 
 -- ---- where a move starts
 
-pub set_out : (r : Source) (now p : Placed) (kept : List Placed) (reached replayed : ℕ) → IsKept r now kept reached replayed → IsAt r p → p.position ≤ reached → IsReached r (length kept) p []
-set_out r now p kept reached replayed k x h = record {
-  place = x;
-  kept = tt;
-  below = omega (arith, k.below, h);
-  above = inl refl;
-  few = omega (arith, k.above, k.reached_is, end-few r);
-}
+-- the start
+-- ---- a debugger moves
 
--- the first copy
-pub kept-first : (r : Source) (p : Placed) → IsAt r p → p.position ≡ 0 → IsKept r p (p ∷ []) 0 0
-kept-first r p x e = record {
+-- a place and what is kept of it
+pub place-restored : (k : Kept) (p : Placed) (c : Connection) → k ≡ kept_of p → c ≡ p.connection → record { connection = c; position = k.position; used = k.used; sent = k.sent } ≡ p
+place-restored k p c e h = rw (e, h) refl
+
+pub kept-start : (r : Source) (p : Placed) → IsAt r p → p.position ≡ 0 → IsKept r p p [] 0 0
+kept-start r p x e = record {
   now = x;
-  kept = (x, omega (arith, e), tt);
+  far_is = record { here = x; as_far = omega arith };
+  kept_is = tt;
   below = omega arith;
-  above = omega arith;
-  within = omega (arith, e);
+  due = λ _. e;
+  within = omega arith;
   reached_is = omega arith;
   few = omega arith;
 }
 
--- ---- how many items are run replay_count
+both-true : {a b : Bool} → a ≡ true → b ≡ true → (a && b) ≡ true
+both-true a b = rw (a, b) refl
 
-least-replay_count : (a b : Bool) (m position kept : ℕ) → m ≤ kept + 63 → (b ≡ true → kept ≤ position) → m - (if a && b then position else kept) ≤ 63
-least-replay_count true true m position kept h g = omega (arith, h, g refl)
-least-replay_count true false m position kept h g = omega (arith, h)
-least-replay_count false b m position kept h g = omega (arith, h)
+-- where the present place is not between, the greatest multiple of 64 that is not above a position is one of a place
+-- that is kept
+pub near-kept : (r : Source) (now far : Placed) (kept : List Kept) (reached replayed target : ℕ) → IsKept r now far kept reached replayed
+    → (nat_le now.position target && nat_le (min target reached / 64 * 64) now.position) ≡ false → min target reached / 64 < length kept
+near-kept r now far kept reached replayed target k apart = go (cases_lt (min target reached / 64) (length kept))
+  where
+    go : (min target reached / 64 < length kept) ⊎ (length kept ≤ min target reached / 64) → min target reached / 64 < length kept
+    go (inl h) = h
+    go (inr h) =
+        let low = mul-div-le (min target reached) 64 in
+        let same = k.due (omega (arith, h, low, k.below)) in
+        let a : nat_le now.position target ≡ true = le-leb now.position target (omega (arith, h, low, same, k.below)) in
+        let b : nat_le (min target reached / 64 * 64) now.position ≡ true = le-leb (min target reached / 64 * 64) now.position (omega (arith, low, same, k.below)) in
+        absurd (true≢false (sym (both-true a b) ∙ apart))
 
-pub few-replay_count : (p : ℕ) (d : Debugging) → replay_count p d ≤ 63
-few-replay_count p d =
-    let up : min p d.reached < 64 * (min p d.reached / 64 + 1) = lt-mul-div-succ (min p d.reached) (omega arith) in
-    least-replay_count (nat_le d.position p) (nat_le (nearest_kept p d) d.position) (min p d.reached) d.position (nearest_kept p d) (omega (arith, up)) (λ e. leb-true (nearest_kept p d) d.position e)
+-- the debugger arrives at a place that a move has led to, behind what was kept of the one that it leaves
+pub kept-arrived : (r : Source) (now far p far' : Placed) (ks ks' : List Kept) (reached replayed : ℕ) → IsKept r now far ks reached replayed → IsReached r p ks' → now.position < length ks' * 64 → length ks ≤ length ks'
+    → (reached ≤ p.position → far' ≡ p) → (p.position < reached → far' ≡ far) → IsKept r p far' ks' (max p.position reached) replayed
+kept-arrived r now far p far' ks ks' reached replayed k x left more ahead behind = by (cases_lt p.position reached)
+  where
+    by : (p.position < reached) ⊎ (reached ≤ p.position) → IsKept r p far' ks' (max p.position reached) replayed
+    by (inl before) =
+        let same : max p.position reached ≡ reached = omega (arith, before) in
+        rw (same, behind before) (record {
+          now = x.place;
+          far_is = k.far_is;
+          kept_is = x.kept_is;
+          below = omega (arith, k.below, more);
+          due = λ e. let here = k.due (omega (arith, e, more, k.below)) in absurd (omega (arith, here, left, e));
+          within = omega (arith, before);
+          reached_is = k.reached_is;
+          few = k.few;
+        })
+    by (inr after) =
+        let same : max p.position reached ≡ p.position = omega (arith, after) in
+        rw (same, ahead after) (record {
+          now = x.place;
+          far_is = record { here = x.place; as_far = omega arith };
+          kept_is = x.kept_is;
+          below = x.below;
+          due = λ e. refl;
+          within = omega arith;
+          reached_is = x.place.within;
+          few = k.few;
+        })
+
+-- the debugger takes one item where it is
+pub kept-stepped : (r : Source) (now p : Placed) (o : Option Placed) (ks ks' : List Kept) (reached replayed : ℕ) → IsKept r now (farthest_or o now) ks reached replayed → IsReached r p ks' → p.position ≡ now.position + 1
+    → length ks ≤ length ks' → IsKept r p (farthest_or (cond (nat_le reached p.position) None o) p) ks' (max p.position reached) replayed
+kept-stepped r now p o ks ks' reached replayed k x next more = by (nat_le reached p.position) refl o k
+  where
+    by : (b : Bool) → nat_le reached p.position ≡ b → (o : Option Placed) → IsKept r now (farthest_or o now) ks reached replayed → IsKept r p (farthest_or (cond b None o) p) ks' (max p.position reached) replayed
+    by true e o k =
+        let after : reached ≤ p.position = leb-true reached p.position e in
+        kept-arrived r now (farthest_or o now) p p ks ks' reached replayed k x (omega (arith, next, x.below)) more (λ _. refl) (λ before. absurd (omega (arith, before, after)))
+    by false e (Some far) k =
+        let before : p.position < reached = leb-false reached p.position e in
+        kept-arrived r now far p far ks ks' reached replayed k x (omega (arith, next, x.below)) more (λ after. absurd (omega (arith, before, after))) (λ _. refl)
+    by false e None k =
+        let before : p.position < reached = leb-false reached p.position e in
+        absurd (omega (arith, before, next, k.far_is.as_far))
+
+-- how many items a move ran again is counted
+pub kept-counted : (r : Source) (now far : Placed) (ks : List Kept) (reached replayed count : ℕ) → IsKept r now far ks reached replayed → count ≤ 63 → IsKept r now far ks reached count
+kept-counted r now far ks reached replayed count k few = record {
+  now = k.now;
+  far_is = k.far_is;
+  kept_is = k.kept_is;
+  below = k.below;
+  due = k.due;
+  within = k.within;
+  reached_is = k.reached_is;
+  few = few;
+}
+
+second : (a b : Bool) → (a && b) ≡ true → b ≡ true
+second true b e = e
+second false b e = absurd (true≢false (sym e))
+
+-- a move runs fewer than 64 items again
+pub replay-few : (target : ℕ) (d : Debugging) → replay_count target d ≤ 63
+replay-few target d =
+    cond_both (nat_le d.position target && nat_le (nearest_kept target d) d.position) d.position (nearest_kept target d) (λ (n : ℕ). min target d.reached - n ≤ 63)
+    (λ near. let low = leb-true (nearest_kept target d) d.position (second _ _ near) in omega (arith, low, high)) (λ _. omega (arith, high))
+  where
+    high : min target d.reached < min target d.reached / 64 * 64 + 64
+    high = lt-div-mul-add {a = min target d.reached} {b = 64} (omega arith)

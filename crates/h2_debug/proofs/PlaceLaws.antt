@@ -1,21 +1,22 @@
 -- From one place of a run to the next.
-use Rattle.std.proofs.Common.{◌≡◌, ◌∙◌, ◌⊎◌, inl, inr, ℕ, zero, suc, ◌+◌, ◌<◌, ◌≤◌, List, [], ◌∷◌, ◌++◌, length, drop, refl, sym, ap, ap₂, subst, arith, length-drop, drop_of_length-le, Bool, true, false, cond, None, ◌==◌}
-use Rattle.std.proofs.lemmas.Bool.{ne_eqb}
+use Rattle.std.proofs.Common.{◌≡◌, ◌∙◌, ◌⊎◌, inl, inr, ℕ, zero, suc, ◌+◌, ◌<◌, ◌≤◌, List, [], ◌∷◌, length, drop, refl, sym, ap, subst, arith, length-drop, Bool, false, cond, None, ◌==◌}
+use Rattle.std.proofs.lemmas.Bool.{cases_lt, ne_eqb}
 use Rattle.std.proofs.lemmas.List.{append-nil, drop-drop}
 use Rattle.h2_spec.specs.Debug.{state_at, sent_at}
 use Rattle.h2_spec.specs.Frame.{Frame, frames_octets, head_at, Next, NoItem, Got}
 use Rattle.h2_spec.specs.Opening.{opening_octets}
 use Rattle.h2_spec.specs.Parse.{Front, Stop, One, Parsed, parse_all, parse_first}
 use Rattle.h2_spec.specs.State.{State}
-use Rattle.h2_spec.specs.Trace.{Event, event_on, left_by, next_event, next_item, trace}
+use Rattle.h2_spec.specs.Trace.{Event, event_on, next_event, next_item, trace}
 use Rattle.h2_spec.proofs.ParseLaws.{Uses, parse_all-step}
 use Rattle.h2_spec.proofs.TraceLaws.{event-uses}
-use Rattle.h2_conn.specs.Connection.{Connection, awaits_preface, going, is_ended}
-use Rattle.h2_conn.specs.Runs.{FeedsAs, TakesOne, Waits}
-use Rattle.h2_conn.proofs.Items.{comes-past, none-after}
-use Rattle.h2_conn.proofs.Runs.{left-going}
+use Rattle.h2_conn.specs.Connection.{Connection, awaits_preface, going}
+use Rattle.h2_conn.specs.First.{TakesFirst}
+use Rattle.h2_conn.specs.Marks.{Follows}
+use Rattle.h2_conn.proofs.Items.{comes-past}
+use Rattle.h2_conn.proofs.MarkLaws.{follows-refl, follows-then}
 use Rattle.h2_debug.proofs.BreakLaws.{comes-head}
-use Rattle.h2_debug.specs.Places.{Source, Placed, IsAt, TakesItem, HasNoItem, start, events, end, at, frames_at}
+use Rattle.h2_debug.specs.Places.{Source, Placed, IsAt, TakesItem, HasNoItem, start, events, at, frames_at}
 
 -- ---- the items of octets
 
@@ -73,64 +74,61 @@ place-start r c sent new said = record {
   within = omega arith;
   counted = omega arith;
   used = omega arith;
-  goes = new ∙ ap (going (start r)) (sym (ap (λ (d : Connection). d.rest) new));
-  later = ap (λ (d : Connection). (trace (start r) (d.rest ++ r.octets)).events) (sym new);
-  fresh = inl (ap (λ (d : Connection). d.rest) new);
+  goes = new;
+  later = refl;
   begun = λ h. absurd (omega (arith, h));
   sent = said ∙ sym (append-nil _);
+  follows = λ q le. let none : 0 ≡ q = omega (arith, le) in subst (λ (n : ℕ). Follows (at r n) (at r 0)) none (follows-refl (at r 0));
 }
 
 -- ---- the next item
-
--- octets wait at the end alone
-empty-rest : (r : Source) (p : Placed) (e : Event) (more : List Event) → IsAt r p → drop p.position (events r) ≡ e ∷ more → p.connection.rest ≡ []
-empty-rest r p e more x h = go x.fresh
-  where
-    go : (p.connection.rest ≡ []) ⊎ (p.position ≡ end r) → p.connection.rest ≡ []
-    go (inl y) = y
-    go (inr y) = absurd (omega (arith, y, next-within p.position (events r) more e h))
 
 -- the preface is awaited before position 1 alone
 awaited : (r : Source) (n : ℕ) → (0 < n → awaits_preface (at r n).core.phase ≡ false) → awaits_preface (at r n).core.phase ≡ (n + 1 == 1)
 awaited r zero h = refl
 awaited r (suc n) h = h (omega arith) ∙ sym (ne_eqb (suc n + 1) 1 (λ e. omega (arith, e)))
 
-pub place-next : (r : Source) (p : Placed) (c' : Connection) (out : List ℕ) (count : ℕ) → IsAt r p → TakesOne p.connection (drop p.used r.octets) [] c' out count
+-- each earlier state leaves what it left of the state before the next item
+follows-next : (r : Source) (n : ℕ) → ((q : ℕ) → q ≤ n → Follows (at r q) (at r n)) → Follows (at r n) (at r (n + 1)) → (q : ℕ) → q ≤ n + 1 → Follows (at r q) (at r (n + 1))
+follows-next r n earlier one q le = by (cases_lt n q)
+  where
+    by : (n < q) ⊎ (q ≤ n) → Follows (at r q) (at r (n + 1))
+    by (inl last) = let same : n + 1 ≡ q = omega (arith, le, last) in subst (λ (m : ℕ). Follows (at r m) (at r (n + 1))) same (follows-refl (at r (n + 1)))
+    by (inr before) = follows-then (at r q) (at r n) (at r (n + 1)) (earlier q before) one
+
+pub place-next : (r : Source) (p : Placed) (c' : Connection) (out : List ℕ) (count : ℕ) → IsAt r p → c' ≡ going c'.state [] → TakesFirst p.connection.state (drop p.used r.octets) [] c'.state out count
+    → Follows p.connection.state c'.state
     → TakesItem r p (record { connection = c'; position = p.position + 1; used = p.used + count; sent = out }) × (p.used + count ≤ length r.octets)
-place-next r p c' out count x y =
+place-next r p c' out count x g y f =
     let s : State = at r p.position in
+    let t : State = c'.state in
     let b : List ℕ = drop p.used r.octets in
     let state : p.connection.state ≡ s = ap (λ (d : Connection). d.state) x.goes in
-    let comes0 : next_event s (p.connection.rest ++ b) ≡ One y.event y.next y.taken = rw (← state) y.comes in
-    let first0 : drop p.position (events r) ≡ y.event ∷ (trace y.next (drop y.taken (p.connection.rest ++ b))).events = x.later ∙ events-one s y.next (p.connection.rest ++ b) y.event y.taken comes0 in
-    let empty : p.connection.rest ≡ [] = empty-rest r p y.event _ x first0 in
-    let comes : next_event s b ≡ One y.event y.next y.taken = ap (λ (q : List ℕ). next_event s (q ++ b)) (sym empty) ∙ comes0 in
-    let taken : count ≡ y.taken = omega (arith, y.used_is, ap length empty) in
-    let uses : Uses b (One y.event y.next y.taken) = subst (λ (n : Front State Event). Uses b n) comes (event-uses s b) in
-    let within : p.used + count ≤ length r.octets = omega (arith, x.used, uses.1, taken, length-drop p.used r.octets) in
-    let first : drop p.position (events r) ≡ y.event ∷ (trace y.next (drop (p.used + count) r.octets)).events =
-    first0 ∙ ap (λ (q : List ℕ). y.event ∷ (trace y.next (drop y.taken (q ++ b))).events) empty ∙ ap (λ (q : List ℕ). y.event ∷ (trace y.next q).events) (drop-drop y.taken p.used r.octets)
-    ∙ ap (λ (n : ℕ). y.event ∷ (trace y.next (drop (p.used + n) r.octets)).events) (sym taken) in
+    let comes : next_event s b ≡ One y.event t count = rw (← state) y.comes in
+    let uses : Uses b (One y.event t count) = subst (λ (n : Front State Event). Uses b n) comes (event-uses s b) in
+    let within : p.used + count ≤ length r.octets = omega (arith, x.used, uses.1, length-drop p.used r.octets) in
+    let first : drop p.position (events r) ≡ y.event ∷ (trace t (drop (p.used + count) r.octets)).events =
+    x.later ∙ events-one s t b y.event count comes ∙ ap (λ (q : List ℕ). y.event ∷ (trace t q).events) (drop-drop count p.used r.octets)
+    ∙ ap (λ (n : ℕ). y.event ∷ (trace t (drop n r.octets)).events) (omega arith) in
     let next : p.position + 1 ≡ suc p.position = omega arith in
-    let state' : at r (p.position + 1) ≡ y.next =
-    ap (at r) next ∙ next-state (start r) p.position (events r) _ y.event first ∙ event-state s y.next b y.event y.taken comes in (
+    let state' : at r (p.position + 1) ≡ t =
+    ap (at r) next ∙ next-state (start r) p.position (events r) _ y.event first ∙ event-state s t b y.event count comes in (
       record {
         place = record {
           within = next-within p.position (events r) _ y.event first;
-          counted = omega (arith, x.counted, uses.0, taken);
+          counted = omega (arith, x.counted, uses.0);
           used = within;
-          goes = y.after ∙ ap₂ going (sym state') (sym (ap (λ (d : Connection). d.rest) y.after));
-          later = next-later p.position (events r) _ y.event first
-              ∙ ap₂ (λ (t : State) (q : List ℕ). (trace t (q ++ drop (p.used + count) r.octets)).events) (sym state') (sym (ap (λ (d : Connection). d.rest) y.after));
-          fresh = inl (ap (λ (d : Connection). d.rest) y.after);
-          begun = λ _. rw state' (comes-past s y.next b y.event y.taken comes);
+          goes = g ∙ ap (λ (u : State). going u []) (sym state');
+          later = next-later p.position (events r) _ y.event first ∙ ap (λ (u : State). (trace u (drop (p.used + count) r.octets)).events) (sym state');
+          begun = λ _. rw state' (comes-past s t b y.event count comes);
           sent = y.sent ∙ ap frames_octets (sym (ap (frames_at r) next ∙ next-sent _ p.position (events r) _ y.event first));
+          follows = follows-next r p.position x.follows (subst (Follows s) (sym state') (subst (λ (u : State). Follows u t) state f));
         };
         next = refl;
         event = y.event;
         first = first ∙ ap (λ (es : List Event). y.event ∷ es) (sym (next-later p.position (events r) _ y.event first));
         item = record {
-          head_is = comes-head s y.next b y.event y.taken comes ∙ ap (λ (t : Bool). cond t None (head_at b)) (awaited r p.position x.begun);
+          head_is = comes-head s t b y.event count comes ∙ ap (λ (t : Bool). cond t None (head_at b)) (awaited r p.position x.begun);
           sent_is = y.sent;
           short = y.short;
         };
@@ -138,43 +136,11 @@ place-next r p c' out count x y =
       within,
     )
 
-left-stop : (s : State) (b : List ℕ) → next_event s b ≡ Stop → next_event s (left_by s.core.phase b ++ []) ≡ Stop
-left-stop s b h = go (is_ended s.core.phase) refl
-  where
-    go : (t : Bool) → is_ended s.core.phase ≡ t → next_event s (left_by s.core.phase b ++ []) ≡ Stop
-    go true e = none-after s (left_by s.core.phase b ++ []) e
-    go false e = ap (next_event s) (append-nil (left_by s.core.phase b) ∙ left-going s.core.phase b e) ∙ h
-
-pub place-last : (r : Source) (p : Placed) (c' : Connection) (out : List ℕ) (count : ℕ) → IsAt r p → Waits p.connection (drop p.used r.octets) [] c' out count
-    → HasNoItem r p (record { connection = c'; position = p.position; used = p.used + count; sent = p.sent }) × (p.used + count ≤ length r.octets)
-place-last r p c' out count x y =
+pub place-last : (r : Source) (p : Placed) (c' : Connection) → IsAt r p → c' ≡ going c'.state [] → c'.state ≡ p.connection.state → next_event p.connection.state (drop p.used r.octets) ≡ Stop
+    → HasNoItem r p (record p { connection = c' })
+place-last r p c' x g e none =
     let s : State = at r p.position in
-    let b : List ℕ = drop p.used r.octets in
     let state : p.connection.state ≡ s = ap (λ (d : Connection). d.state) x.goes in
-    let none : drop p.position (events r) ≡ [] = x.later ∙ events-stop s (p.connection.rest ++ b) (rw (← state) y.none) in
-    let last : p.position ≡ end r = none-last p.position (events r) x.within none in
-    let all : p.used + count ≡ length r.octets = omega (arith, x.used, y.used_is, length-drop p.used r.octets) in
-    let within : p.used + count ≤ length r.octets = omega (arith, all) in
-    let within' : length r.octets ≤ p.used + count = omega (arith, all) in
-    let rest : c'.rest ++ drop (p.used + count) r.octets ≡ left_by s.core.phase (p.connection.rest ++ b) ++ [] =
-    ap₂ (λ (q t : List ℕ). q ++ t) (ap (λ (d : Connection). d.rest) y.after ∙ ap (λ (t : State). left_by t.core.phase (p.connection.rest ++ b)) state) (drop_of_length-le r.octets within') in (
-      record {
-        place = record {
-          within = x.within;
-          counted = omega (arith, x.counted);
-          used = within;
-          goes = y.after ∙ ap₂ going state (sym (ap (λ (d : Connection). d.rest) y.after));
-          later = none ∙ sym (ap (λ (q : List ℕ). (trace s q).events) rest ∙ events-stop s (left_by s.core.phase (p.connection.rest ++ b) ++ []) (left-stop s (p.connection.rest ++ b) (rw (← state) y.none)));
-          fresh = inr last;
-          begun = x.begun;
-          sent = x.sent;
-        };
-        same = refl;
-        last = last;
-      },
-      within,
-    )
-
-pub fed-within : (r : Source) (p : Placed) (c' : Connection) (out : List ℕ) (count : ℕ) (b : Bool) → IsAt r p → FeedsAs b p.connection (drop p.used r.octets) [] c' out count → p.used + count ≤ length r.octets
-fed-within r p c' out count true x y = (place-next r p c' out count x y).1
-fed-within r p c' out count false x y = (place-last r p c' out count x y).1
+    let empty : drop p.position (events r) ≡ [] = x.later ∙ events-stop s (drop p.used r.octets) (rw (← state) none) in
+    let same : c' ≡ p.connection = g ∙ ap (λ (u : State). going u []) (e ∙ state) ∙ sym x.goes in
+    record { same = ap (λ (d : Connection). record p { connection = d }) same; last = none-last p.position (events r) x.within empty }

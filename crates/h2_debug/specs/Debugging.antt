@@ -1,7 +1,7 @@
 -- What a debugger represents, and what its moves result in.
-use Rattle.std.specs.Prelude.{ℕ, ◌+◌, ◌-◌, ◌*◌, ◌/◌, ◌<◌, ◌≤◌, ◌&&◌, nat_le, min, max, if◌then◌else◌, List, length}
+use Rattle.std.specs.Prelude.{◌≡◌, ℕ, ◌-◌, ◌*◌, ◌/◌, ◌≤◌, ◌&&◌, nat_le, min, max, if◌then◌else◌, List, length, Option, Some, None}
 use Rattle.h2_spec.specs.Debug.{Break}
-use Rattle.h2_debug.specs.Places.{AreKept, IsAt, Placed, Source, end}
+use Rattle.h2_debug.specs.Places.{AreKept, IsAt, Kept, Placed, Source, end}
 
 -- a run, the breakpoints, the present position, the greatest one that was reached, and how many items the last `back`
 -- or `go` ran again
@@ -16,11 +16,11 @@ pub record Debugging : Type 0 where
 abbrev pub moved : ℕ → Debugging → Debugging
 moved p d = record d { position = p; reached = max p d.reached }
 
--- the greatest position of a kept copy that is not above this position
+-- the greatest multiple of 64 at which a place is kept that is not above this position
 abbrev pub nearest_kept : ℕ → Debugging → ℕ
 nearest_kept p d = min p d.reached / 64 * 64
 
--- where a move to a position starts: at that copy, or at the present position where that is between the two
+-- where a move to a position starts: there, or at the present position where that is between the two
 abbrev pub replay_start : ℕ → Debugging → ℕ
 replay_start p d = if nat_le d.position p && nat_le (nearest_kept p d) d.position then d.position else nearest_kept p d
 
@@ -32,16 +32,24 @@ replay_count p d = min p d.reached - replay_start p d
 abbrev pub moved_counting : ℕ → Debugging → Debugging
 moved_counting p d = record (moved p d) { replayed = replay_count p d }
 
--- how many copies are kept
-abbrev pub kept_count : Debugging → ℕ
-kept_count d = d.reached / 64 + 1
+-- the farthest place, where it is not the present one
+abbrev pub farthest_or : Option Placed → Placed → Placed
+farthest_or None place = place
+farthest_or (Some far) place = far
 
--- the present place, and the copies that are kept
-pub record IsKept (r : Source) (place : Placed) (places : List Placed) (reached replayed : ℕ) : Type 0 where
+-- a place at the greatest position that was reached, or above it
+pub record IsFarthest (r : Source) (far : Placed) (reached : ℕ) : Type 0 where
+  pub here : IsAt r far
+  pub as_far : reached ≤ far.position
+
+-- the present place, the farthest one, and what is kept: of one place at each multiple of 64 up to the greatest position
+-- that was reached, but for that position while it is the present one
+pub record IsKept (r : Source) (place far : Placed) (kept : List Kept) (reached replayed : ℕ) : Type 0 where
   pub now : IsAt r place
-  pub kept : AreKept r 0 places
-  pub below : reached < length places * 64
-  pub above : length places * 64 ≤ reached + 64
+  pub far_is : IsFarthest r far reached
+  pub kept_is : AreKept r 0 kept
+  pub below : reached ≤ length kept * 64
+  pub due : reached ≡ length kept * 64 → place.position ≡ reached
   pub within : place.position ≤ reached
   pub reached_is : reached ≤ end r
   pub few : replayed ≤ 63

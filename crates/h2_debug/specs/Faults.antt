@@ -10,7 +10,7 @@ fault_number AtEnd = 19
 fault_number AtStart = 20
 fault_number OutOfRange = 21
 
--- limits out of range are refused before any memory is needed
+-- limits and settings out of range are refused before any memory is needed
 abbrev pub load_fault : (allowed : Bool) → DebugFault
 load_fault true = NoMemory
 load_fault false = BadConfig

@@ -1,5 +1,5 @@
 -- Places in the run of a new connection over octets.
-use Rattle.std.specs.Prelude.{◌≡◌, ◌⊎◌, ℕ, ◌+◌, ◌*◌, ◌<◌, ◌≤◌, Bool, true, false, List, [], ◌∷◌, ◌++◌, length, drop}
+use Rattle.std.specs.Prelude.{◌≡◌, ℕ, ◌+◌, ◌*◌, ◌<◌, ◌≤◌, Bool, true, false, List, [], ◌∷◌, length, drop}
 use Rattle.h2_spec.specs.declared.connection.Config.{Config}
 use Rattle.h2_spec.specs.Answer.{Entry}
 use Rattle.h2_spec.specs.Debug.{state_at, sent_at}
@@ -8,6 +8,8 @@ use Rattle.h2_spec.specs.Opening.{opening_settings}
 use Rattle.h2_spec.specs.State.{State, opening}
 use Rattle.h2_spec.specs.Trace.{Event, trace}
 use Rattle.h2_conn.specs.Connection.{Connection, awaits_preface, going}
+use Rattle.h2_conn.specs.Mark.{IsConsistent, Marked, mark_of}
+use Rattle.h2_conn.specs.Marks.{Follows}
 use Rattle.h2_debug.specs.Items.{IsItem}
 
 -- the input of a run: the book and the limits of a new connection, and the octets that it is fed
@@ -44,16 +46,16 @@ pub record Placed : Type 0 where
   pub used : ℕ
   pub sent : List ℕ
 
--- a place of a run: all items to come are those of the run from its state over the octets that are left
+-- a place of a run: all items to come are those of the run from its state over the octets behind it
 pub record IsAt (r : Source) (p : Placed) : Type 0 where
   pub within : p.position ≤ end r
   pub counted : p.position ≤ p.used
   pub used : p.used ≤ length r.octets
-  pub goes : p.connection ≡ going (at r p.position) p.connection.rest
-  pub later : drop p.position (events r) ≡ (trace (at r p.position) (p.connection.rest ++ drop p.used r.octets)).events
-  pub fresh : (p.connection.rest ≡ []) ⊎ (p.position ≡ end r)
+  pub goes : p.connection ≡ going (at r p.position) []
+  pub later : drop p.position (events r) ≡ (trace (at r p.position) (drop p.used r.octets)).events
   pub begun : 0 < p.position → awaits_preface (at r p.position).core.phase ≡ false
   pub sent : p.sent ≡ sent_octets_at r p.position
+  pub follows : (q : ℕ) → q ≤ p.position → Follows (at r q) (at r p.position)
 
 -- the next item was taken
 pub record TakesItem (r : Source) (before after : Placed) : Type 0 where
@@ -63,31 +65,41 @@ pub record TakesItem (r : Source) (before after : Placed) : Type 0 where
   pub first : drop before.position (events r) ≡ event ∷ drop after.position (events r)
   pub item : IsItem after.position (drop before.used r.octets) after.sent event
 
--- there is none
+-- there is none, and the place is as it was
 pub record HasNoItem (r : Source) (before after : Placed) : Type 0 where
-  pub place : IsAt r after
-  pub same : after.position ≡ before.position
-  pub last : after.position ≡ end r
+  pub same : after ≡ before
+  pub last : before.position ≡ end r
 
 abbrev pub Advances : Source → Placed → Placed → Bool → Type 0
 Advances r before after true = TakesItem r before after
 Advances r before after false = HasNoItem r before after
 
--- copies at multiples of 64 in a row, the first at this multiple
-abbrev pub AreKept : Source → ℕ → List Placed → Type 0
-AreKept r i [] = Unit {0}
-AreKept r i (p ∷ ps) = IsAt r p × (p.position ≡ i * 64) × AreKept r (i + 1) ps
+-- a mark of a connection, how many items and how many octets it took, and what was sent for the last item
+pub record Kept : Type 0 where
+  pub mark : Marked
+  pub position : ℕ
+  pub used : ℕ
+  pub sent : List ℕ
 
--- the place that a move reaches, and the copies that it makes on its way
-pub record Forward : Type 0 where
+-- what is kept of a place
+abbrev pub kept_of : Placed → Kept
+kept_of p = record { mark = mark_of p.connection.state; position = p.position; used = p.used; sent = p.sent }
+
+-- what is kept of a place of a run
+pub record IsKeptOf (r : Source) (k : Kept) : Type 0 where
   pub place : Placed
-  pub fresh : List Placed
+  pub here : IsAt r place
+  pub consistent : IsConsistent place.connection.state
+  pub same : k ≡ kept_of place
 
--- a place that was reached where so many copies were kept before, and the copies at the further multiples of 64 up to
--- it
-pub record IsReached (r : Source) (count : ℕ) (p : Placed) (fresh : List Placed) : Type 0 where
+-- what is kept of places at multiples of 64 in a row, the first at this multiple
+abbrev pub AreKept : Source → ℕ → List Kept → Type 0
+AreKept r i [] = Unit {0}
+AreKept r i (k ∷ ks) = IsKeptOf r k × (k.position ≡ i * 64) × AreKept r (i + 1) ks
+
+-- a place that was reached, and what is kept: of one place at each multiple of 64 below it, perhaps of it and of some
+-- above
+pub record IsReached (r : Source) (p : Placed) (kept : List Kept) : Type 0 where
   pub place : IsAt r p
-  pub kept : AreKept r count fresh
-  pub below : p.position < (count + length fresh) * 64
-  pub above : (fresh ≡ []) ⊎ ((count + length fresh) * 64 ≤ p.position + 64)
-  pub few : (count + length fresh) * 64 ≤ length r.octets + 64
+  pub kept_is : AreKept r 0 kept
+  pub below : p.position ≤ length kept * 64

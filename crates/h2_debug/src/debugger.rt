@@ -1,24 +1,24 @@
 //! A debugger: a position in the run of a new connection over octets, moved forward and back.
-//! A copy of the place at each multiple of 64 is kept from when it is first reached, so that no move runs more than
-//! 63 items again.
+//! A mark of the place at each multiple of 64 is kept from when it is first left, so that no move runs more than 63
+//! items again. A place is made again from its mark and the records of the farthest place that was reached.
 //! Rests on `forward`; definitions: h2_spec's `specs/Debug.antt` for positions and breakpoints,
 //! `specs/Debugging.antt` for what a debugger represents.
 
-ghost use Rattle.std.specs.Prelude.{◌≡◌, ◌⊎◌, ◌+◌, ◌-◌, ◌<◌, ◌≤◌, ◌==◌, [], ◌∷◌, ◌++◌, IfErr, IfOk, OnErr, OnOk, length, min, slice_get, nat_le, ◌&&◌, false, true, Some, if◌then◌else◌};
+ghost use Rattle.std.specs.Prelude.{◌≡◌, ◌⊎◌, ◌+◌, ◌-◌, ◌<◌, ◌≤◌, ◌==◌, [], ◌∷◌, ◌++◌, IfErr, IfOk, IfSome, OnErr, OnOk, length, min, slice_get, nat_le, ◌&&◌, false, true, None, Some, if◌then◌else◌};
 ghost use Rattle.h2_spec.specs.Debug.{AtPosition, OnSent, OnStream, OnType, stop};
 ghost use Rattle.h2_spec.specs.Show.{show};
 ghost use Rattle.h2_spec.specs.View.{view};
 ghost use Rattle.std.specs.String.{string_bytes};
-ghost use Rattle.h2_conn.specs.Connection.{is_allowed};
+ghost use Rattle.h2_spec.specs.State.{is_allowed};
 ghost use Rattle.h2_debug.specs.Debugging as spec;
-ghost use Rattle.h2_debug.specs.Debugging.{kept_count, moved, moved_counting, replay_start};
+ghost use Rattle.h2_debug.specs.Debugging.{farthest_or, moved, moved_counting, replay_start};
 ghost use Rattle.h2_debug.specs.Faults.{IsRefused, load_fault, start_fault};
-ghost use Rattle.h2_debug.specs.Places.{IsAt, IsReached, at, end, events, sent_octets_at};
+ghost use Rattle.h2_debug.specs.Places.{IsAt, at, end, events, sent_octets_at};
 ghost use Rattle.h2_debug.specs.declared.fault.DebugFault.TheVariants.{AtEnd, NoMemory, OutOfRange};
 
 use crate::breakpoints::Break;
 use crate::fault::DebugFault;
-use crate::forward::{Forward, SPACING, forward_to, forward_to_stop};
+use crate::forward::{SPACING, forward_to, forward_to_stop, keep_and_advance, keep_if_due};
 use crate::kept::Kept;
 use crate::place::Place;
 use crate::source::Source;
@@ -28,6 +28,7 @@ use h2_request::book::Book;
 use h2_spec::connection::Config;
 use std::alloc::{AllocError, Allocator};
 use std::marker::Model;
+use std::mem;
 
 /// A position in the run of a new connection over octets.
 ///
@@ -42,6 +43,8 @@ pub struct Debugger<'b, A: Allocator> {
     octets: Vec<u8, A>,
     breaks: Vec<Break, A>,
     present: Place<'b, A>,
+    /// The farthest place, where the present one is not it.
+    farthest: Option<Place<'b, A>>,
     kept: Vec<Kept<'b, A>, A>,
     reached: usize,
     replayed: usize,
@@ -50,16 +53,16 @@ pub struct Debugger<'b, A: Allocator> {
 impl<'b, A: Allocator> Model for Debugger<'b, A> {
     ghost use Rattle.std.specs.Prelude.{map};
     ghost use Rattle.h2_debug.specs.Breakpoints.{break_of};
-    ghost use Rattle.h2_debug.specs.Debugging.{Debugging, IsKept};
+    ghost use Rattle.h2_debug.specs.Debugging.{Debugging, IsKept, farthest_or};
 
     ghost Value = { Debugging };
 
     ghost view = { λ d. record { run = record { book = d.book.now; config = d.config; octets = d.octets.items }; breaks = map break_of d.breaks.items; position = d.present.position; reached = d.reached; replayed = d.replayed } };
 
-    ghost invariant = { λ d. IsKept (record { book = d.book.now; config = d.config; octets = d.octets.items }) d.present d.kept.items d.reached d.replayed };
+    ghost invariant = { λ d. IsKept (record { book = d.book.now; config = d.config; octets = d.octets.items }) d.present (farthest_or d.farthest d.present) d.kept.items d.reached d.replayed };
 }
 
-/// The copy that is kept at an index.
+/// What is kept at an index.
 fn kept_at<'k, 'b, A: Allocator>(kept: &'k [Kept<'b, A>], index: usize) -> &'k Kept<'b, A>
     requires { index < length kept.now }
     ensures { slice_get kept.now index ≡ Some result.now }
@@ -74,12 +77,44 @@ fn is_between(low: usize, position: usize, high: usize) -> bool
     position <= high && low <= position
 }
 
+/// Takes a place as the present one. The place that is left is kept where it is the farthest one; none is where the
+/// new one is as far as any that was reached. It takes no memory.
+fn arrive<'b, A: Allocator + Copy>(
+    present: &mut Place<'b, A>,
+    farthest: &mut Option<Place<'b, A>>,
+    reached: usize,
+    place: Place<'b, A>,
+)
+    ensures present { present.new ≡ place.entry }
+    ensures ahead { reached ≤ place.entry.position → farthest_or farthest.new place.entry ≡ place.entry }
+    ensures behind { place.entry.position < reached → farthest_or farthest.new place.entry ≡ farthest_or farthest.old present.old }
+{
+    let is_ahead = reached <= place.position();
+    let left = mem::replace(present, place);
+    if is_ahead {
+        *farthest = None;
+        return;
+    }
+    if farthest.is_none() {
+        *farthest = Some(left);
+    }
+}
+
+/// Lets the farthest place go where the present position is as far as any that was reached.
+fn pass<A: Allocator>(farthest: &mut Option<Place<'_, A>>, reached: usize, position: usize)
+    ensures { farthest.new ≡ (if nat_le reached position then None else farthest.old) }
+{
+    if reached <= position {
+        *farthest = None;
+    }
+}
+
 impl<'b, A: Allocator + Copy> Debugger<'b, A> {
     /// A debugger at position 0 of the run of a new connection over octets, with no breakpoint.
     ///
     /// # Errors
     ///
-    /// `BadConfig` where the limit of concurrent streams is not 1 to 1000 or the credit is not 1 to 65535; otherwise
+    /// `BadConfig` where a limit or a setting is outside its range (`Config::is_allowed`); otherwise
     /// `NoMemory`.
     pub fn load(book: &'b Book<A>, config: Config, octets: Vec<u8, A>) -> Result<Self, DebugFault>
         ensures ok { IfOk result (λ d. d ≡ record { run = record { book = book.now; config = config; octets = octets.items }; breaks = []; position = 0; reached = 0; replayed = 0 }) }
@@ -97,28 +132,18 @@ impl<'b, A: Allocator + Copy> Debugger<'b, A> {
             Err(ConnFault::BadConfig) => return Err(DebugFault::BadConfig),
             Err(_) => return Err(DebugFault::NoMemory),
         };
-        let mut kept = Vec::new(alloc);
-        kept.push(Kept::of(&present)?)?;
+        let kept = Vec::new(alloc);
         Ok(Debugger {
             book,
             config,
             octets,
             breaks: Vec::new(alloc),
             present,
+            farthest: None,
             kept,
             reached: 0,
             replayed: 0,
         })
-    }
-
-    fn source(&self) -> Source<'_, 'b, A>
-        ensures { result ≡ self.now.run }
-    {
-        Source {
-            book: self.book,
-            config: self.config,
-            octets: self.octets.as_slice(),
-        }
     }
 
     /// A copy of the present place; `AllocError` if it is out of memory.
@@ -128,8 +153,19 @@ impl<'b, A: Allocator + Copy> Debugger<'b, A> {
         self.present.try_clone()
     }
 
-    /// The place where a move to a position starts: the greatest kept one that is not after it, or the present one
-    /// where that is between the two.
+    /// The farthest place: the present one, or one where the debugger was before it moved back.
+    fn farthest_place(&self) -> &Place<'b, A>
+        ensures at { IsAt self.now.run result.now }
+        ensures reached { self.now.reached ≤ result.now.position }
+    {
+        match &self.farthest {
+            None => &self.present,
+            Some(place) => place,
+        }
+    }
+
+    /// The place where a move to a position starts: the greatest one of which a mark is kept that is not after it, or
+    /// the present one where that is between the two.
     /// `AllocError` if it is out of memory.
     fn start_for(&self, target: usize) -> Result<Place<'b, A>, AllocError>
         ensures { IfOk result (λ p. IsAt self.now.run p × (p.position ≡ replay_start target self.now)) }
@@ -139,58 +175,62 @@ impl<'b, A: Allocator + Copy> Debugger<'b, A> {
         if near {
             return self.copy_present();
         }
-        kept_at(self.kept.as_slice(), index).restore()
+        kept_at(self.kept.as_slice(), index).restore(self.farthest_place())
     }
 
-    /// A move from a place to a position or the end; `AllocError` if it is out of memory.
-    fn reach(&self, mut place: Place<'b, A>, target: usize) -> Result<Forward<'b, A>, AllocError>
-        requires place { IsAt self.now.run place }
-        requires known { place.position ≤ self.now.reached }
+    /// Moves from a place to a position or the end, if it comes as far as `least`, and returns the new position.
+    /// `None` and `AllocError` change nothing.
+    fn move_to(
+        &mut self,
+        mut place: Place<'b, A>,
+        target: usize,
+        least: usize,
+    ) -> Result<Option<usize>, AllocError>
+        requires place { IsAt self.old.run place }
+        requires known { place.position ≤ self.old.reached }
         requires ahead { place.position ≤ target }
-        ensures reached { IfOk result (λ f. IsReached self.now.run (kept_count self.now) f.place f.fresh) }
-        ensures position { IfOk result (λ f. f.place.position ≡ min target (end self.now.run)) }
+        ensures some { IfOk result (λ moves. IfSome moves (λ p. (p ≡ min target (end self.old.run)) × (least ≤ p) × (self.new ≡ moved p self.old))) }
+        ensures none { IfOk result (λ moves. moves ≡ None → (min target (end self.old.run) < least) × (self.new ≡ self.old)) }
+        ensures unchanged { OnErr result (self.new ≡ self.old) }
     {
-        let mut fresh = Vec::new(*self.octets.allocator());
-        forward_to(
-            &self.source(),
-            &mut place,
-            self.kept.len(),
-            target,
-            &mut fresh,
-        )?;
-        Ok(Forward { place, fresh })
-    }
-
-    /// A move from the present place to the next one that a breakpoint matches, or to the end; `AllocError` if it is
-    /// out of memory.
-    fn reach_stop(&self) -> Result<Forward<'b, A>, AllocError>
-        ensures reached { IfOk result (λ f. IsReached self.now.run (kept_count self.now) f.place f.fresh) }
-        ensures position { IfOk result (λ f. f.place.position ≡ stop self.now.breaks (events self.now.run) self.now.position) }
-    {
-        let mut place = self.copy_present()?;
-        let mut fresh = Vec::new(*self.octets.allocator());
-        forward_to_stop(
-            &self.source(),
-            &mut place,
-            self.kept.len(),
-            self.breaks.as_slice(),
-            &mut fresh,
-        )?;
-        Ok(Forward { place, fresh })
-    }
-
-    /// Makes a move: its place becomes the present one, its copies are kept. Returns the new position; `AllocError`
-    /// changes nothing.
-    fn commit(&mut self, forward: Forward<'b, A>) -> Result<usize, AllocError>
-        requires { IsReached self.old.run (kept_count self.old) forward.place forward.fresh }
-        ensures ok { IfOk result (λ p. (p ≡ forward.entry.place.position) × (self.new ≡ moved p self.old)) }
-        ensures err { OnErr result (self.new ≡ self.old) }
-    {
-        let Forward { place, mut fresh } = forward;
-        self.kept.append(&mut fresh)?;
+        keep_if_due(&self.present, &mut self.kept)?;
+        let source = Source {
+            book: self.book,
+            config: self.config,
+            octets: self.octets.as_slice(),
+        };
+        forward_to(&source, &mut place, target, &mut self.kept)?;
         let position = place.position();
+        if position < least {
+            return Ok(None);
+        }
+        arrive(&mut self.present, &mut self.farthest, self.reached, place);
         self.reached = position.max(self.reached);
-        self.present = place;
+        Ok(Some(position))
+    }
+
+    /// Takes the next item in place, and returns the new position.
+    ///
+    /// # Errors
+    ///
+    /// `AtEnd` where no item follows; `NoMemory`. Both leave the debugger as it was.
+    fn step_one(&mut self) -> Result<usize, DebugFault>
+        ensures ok { IfOk result (λ p. (p ≡ self.old.position + 1) × (self.new ≡ moved p self.old)) }
+        ensures more { OnOk result (self.old.position < end self.old.run) }
+        ensures fault { IfErr result (λ fault. IsRefused AtEnd (self.old.position ≡ end self.old.run) fault) }
+        ensures unchanged { OnErr result (self.new ≡ self.old) }
+    {
+        let source = Source {
+            book: self.book,
+            config: self.config,
+            octets: self.octets.as_slice(),
+        };
+        if !keep_and_advance(&source, &mut self.present, &mut self.kept)? {
+            return Err(DebugFault::AtEnd);
+        }
+        let position = self.present.position();
+        pass(&mut self.farthest, self.reached, position);
+        self.reached = position.max(self.reached);
         Ok(position)
     }
 
@@ -210,12 +250,16 @@ impl<'b, A: Allocator + Copy> Debugger<'b, A> {
         if count == 0 {
             return Ok(start);
         }
-        let place = self.copy_present()?;
-        let forward = self.reach(place, start.saturating_add(count))?;
-        if forward.place.position() == start {
-            return Err(DebugFault::AtEnd);
+        if count == 1 {
+            return self.step_one();
         }
-        Ok(self.commit(forward)?)
+        let place = self.copy_present()?;
+        let target = start.saturating_add(count);
+        let least = start.saturating_add(1);
+        match self.move_to(place, target, least)? {
+            None => Err(DebugFault::AtEnd),
+            Some(position) => Ok(position),
+        }
     }
 
     /// Moves back by `count` items, or to position 0 if fewer came before, and returns the new position.
@@ -255,13 +299,13 @@ impl<'b, A: Allocator + Copy> Debugger<'b, A> {
     {
         let place = self.start_for(target)?;
         let replayed = target.min(self.reached) - place.position();
-        let forward = self.reach(place, target)?;
-        if forward.place.position() < target {
-            return Err(DebugFault::OutOfRange);
+        match self.move_to(place, target, target)? {
+            None => Err(DebugFault::OutOfRange),
+            Some(position) => {
+                self.replayed = replayed;
+                Ok(position)
+            }
         }
-        let position = self.commit(forward)?;
-        self.replayed = replayed;
-        Ok(position)
     }
 
     /// Moves forward to the next position that a breakpoint matches, or to the end, and returns the new position.
@@ -275,12 +319,21 @@ impl<'b, A: Allocator + Copy> Debugger<'b, A> {
         ensures fault { IfErr result (λ fault. IsRefused AtEnd (self.old.position ≡ end self.old.run) fault) }
         ensures unchanged { OnErr result (self.new ≡ self.old) }
     {
-        let before = self.present.position();
-        let forward = self.reach_stop()?;
-        if forward.place.position() == before {
+        let mut stop = self.copy_present()?;
+        keep_if_due(&self.present, &mut self.kept)?;
+        let source = Source {
+            book: self.book,
+            config: self.config,
+            octets: self.octets.as_slice(),
+        };
+        forward_to_stop(&source, &mut stop, self.breaks.as_slice(), &mut self.kept)?;
+        let position = stop.position();
+        if position == self.present.position() {
             return Err(DebugFault::AtEnd);
         }
-        Ok(self.commit(forward)?)
+        arrive(&mut self.present, &mut self.farthest, self.reached, stop);
+        self.reached = position.max(self.reached);
+        Ok(position)
     }
 
     /// Adds a breakpoint at a position. `NoMemory` leaves the debugger as it was.

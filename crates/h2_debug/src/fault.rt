@@ -14,8 +14,8 @@ pub enum DebugFault {
     /// 0: memory was refused.
     #[error("out of memory")]
     NoMemory,
-    /// 16: the limit of concurrent streams is not 1 to 1000, or the credit is not 1 to 65535.
-    #[error("a limit is out of range")]
+    /// 16: a limit or a setting is outside its range (`Config::is_allowed`).
+    #[error("a limit or a setting is out of range")]
     BadConfig,
     /// 19: no item follows.
     #[error("at the end")]

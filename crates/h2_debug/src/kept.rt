@@ -1,39 +1,58 @@
-//! Copies of places that a debugger keeps, so that later moves can start from them.
-//! Rests on `place`. This module alone knows what is stored for a copy: here the whole place.
+//! What a debugger keeps of places, so that later moves can start from them: a mark of the connection, which is made
+//! again from the records of the farthest place.
+//! Rests on `place` and on h2_conn's marks; definitions: `specs/Places.antt`.
 
-ghost use Rattle.std.specs.Prelude.{◌≡◌, IfOk};
+ghost use Rattle.std.specs.Prelude.{◌≡◌, [], IfOk};
+ghost use Rattle.h2_conn.specs.Connection.{going};
+ghost use Rattle.h2_conn.specs.Mark.{IsConsistent, Precedes};
+ghost use Rattle.h2_conn.specs.Marks.{Follows};
+ghost use Rattle.h2_debug.specs.Places.{Placed, kept_of};
 
-use crate::place::Place;
+use crate::place::{Place, copy_of};
+use h2_conn::Mark;
 use std::alloc::{AllocError, Allocator};
 use std::marker::Model;
 
-/// A copy of a place.
+/// What is kept of a place.
 #[derive(Drop)]
 pub struct Kept<'b, A: Allocator> {
-    place: Place<'b, A>,
+    mark: Mark<'b, A>,
+    position: usize,
+    used: usize,
+    sent: Vec<u8, A>,
 }
 
 impl<'b, A: Allocator> Model for Kept<'b, A> {
-    ghost use Rattle.h2_debug.specs.Places.{Placed};
+    ghost use Rattle.h2_debug.specs.Places as places;
 
-    ghost Value = { Placed };
+    ghost Value = { places.Kept };
 
-    ghost view = { λ k. k.place };
+    ghost view = { λ k. record { mark = k.mark; position = k.position; used = k.used; sent = k.sent.items } };
 }
 
 impl<'b, A: Allocator + Copy> Kept<'b, A> {
-    /// A copy of a place; `AllocError` if it is out of memory.
+    /// What is kept of a place; `AllocError` if it is out of memory.
     pub fn of(place: &Place<'b, A>) -> Result<Self, AllocError>
-        ensures { IfOk result (λ kept. kept ≡ place.now) }
+        ensures same { IfOk result (λ kept. kept ≡ kept_of place.now) }
+        ensures consistent { IsConsistent place.now.connection.state }
     {
-        let place = place.try_clone()?;
-        Ok(Kept { place })
+        let mark = place.conn().mark()?;
+        let sent = place.copy_sent()?;
+        Ok(Kept {
+            mark,
+            position: place.position(),
+            used: place.used(),
+            sent,
+        })
     }
 
-    /// The place that was copied; `AllocError` if it is out of memory.
-    pub fn restore(&self) -> Result<Place<'b, A>, AllocError>
-        ensures { IfOk result (λ place. place ≡ self.now) }
+    /// The place of which this was kept, made again from a later one; `AllocError` if it is out of memory.
+    pub fn restore(&self, later: &Place<'b, A>) -> Result<Place<'b, A>, AllocError>
+        requires { Precedes self.now.mark later.now.connection.state }
+        ensures { IfOk result (λ place. (p : Placed) → self.now ≡ kept_of p → p.connection ≡ going p.connection.state [] → Follows p.connection.state later.now.connection.state → place ≡ p) }
     {
-        self.place.try_clone()
+        let conn = self.mark.restore(later.conn())?;
+        let sent = copy_of(&self.sent)?;
+        Ok(Place::of(conn, self.position, self.used, sent))
     }
 }

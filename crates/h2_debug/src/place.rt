@@ -2,10 +2,10 @@
 //! item.
 //! Rests on h2_conn; definitions: `specs/Places.antt`.
 
-ghost use Rattle.std.specs.Prelude.{◌≡◌, ◌≤◌, true, IfErr, IfOk, OnErr, OnOk};
+ghost use Rattle.std.specs.Prelude.{◌≡◌, true, IfErr, IfOk, OnErr, OnOk};
 ghost use Rattle.h2_spec.specs.Show.{show};
 ghost use Rattle.h2_spec.specs.View.{view};
-ghost use Rattle.h2_conn.specs.Connection.{is_allowed};
+ghost use Rattle.h2_spec.specs.State.{is_allowed};
 ghost use Rattle.h2_conn.specs.Faults.{refusal_for};
 ghost use Rattle.h2_debug.specs.Places.{Advances, IsAt};
 
@@ -49,6 +49,18 @@ impl<'b, A: Allocator + Copy> Place<'b, A> {
         })
     }
 
+    /// The place of a connection at a position, which was fed so many octets, and for whose last item this was sent.
+    pub fn of(conn: Conn<'b, A>, position: usize, used: usize, sent: Vec<u8, A>) -> Self
+        ensures { result ≡ record { connection = conn.entry; position = position; used = used; sent = sent.items } }
+    {
+        Place {
+            conn,
+            position,
+            used,
+            sent,
+        }
+    }
+
     /// The same place once more, in memory of its own.
     pub fn try_clone(&self) -> Result<Self, AllocError>
         ensures same { IfOk result (λ copy. copy ≡ self.now) }
@@ -63,20 +75,25 @@ impl<'b, A: Allocator + Copy> Place<'b, A> {
         })
     }
 
-    /// Takes the next item, if there is one, and says whether. After an `AllocError` the place can no longer be used.
+    /// What the item at this position sent, in memory of its own.
+    pub fn copy_sent(&self) -> Result<Vec<u8, A>, AllocError>
+        ensures { IfOk result (λ copy. copy.items ≡ self.now.sent) }
+    {
+        copy_of(&self.sent)
+    }
+
+    /// Takes the next item, if there is one, and says whether. An `AllocError` leaves the place as it was.
     pub fn advance(&mut self, source: &Source<'_, 'b, A>) -> Result<bool, AllocError>
         requires { IsAt source.now self.old }
-        ensures { IfOk result (λ more. Advances source.now self.old self.new more) }
+        ensures advances { IfOk result (λ more. Advances source.now self.old self.new more) }
+        ensures unchanged { OnErr result (self.new ≡ self.old) }
     {
         let mut sent = Vec::new(*self.sent.allocator());
         let octets = source.octets_from(self.used);
-        let Ok(one) = self.conn.feed_one(octets, &mut sent) else {
-            return Err(AllocError);
-        };
-        self.used += one.used;
-        if !one.item {
+        let Some(used) = self.conn.take_first(octets, &mut sent)? else {
             return Ok(false);
-        }
+        };
+        self.used += used;
         self.position += 1;
         self.sent = sent;
         Ok(true)
@@ -121,7 +138,7 @@ impl<'b, A: Allocator + Copy> Place<'b, A> {
 }
 
 /// The same octets.
-fn copy_of<A: Allocator + Copy>(octets: &Vec<u8, A>) -> Result<Vec<u8, A>, AllocError>
+pub(crate) fn copy_of<A: Allocator + Copy>(octets: &Vec<u8, A>) -> Result<Vec<u8, A>, AllocError>
     ensures { IfOk result (λ copy. copy.items ≡ octets.now.items) }
 {
     octets.clone()

@@ -183,7 +183,7 @@ static LIMITS: [(u32, u32, Option<DebugFault>); 6] = [
 /// The fault of a load with these limits, over no octets.
 fn load_fault(alloc: Global, streams: u32, credit: u32) -> Result<Option<DebugFault>, Fail> {
     let book = book_of(alloc)?;
-    let config = Config { streams, credit };
+    let config = Config::new(streams, credit);
     Ok(Debugger::load(&book, config, Vec::new(alloc)).err())
 }
 

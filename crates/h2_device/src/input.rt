@@ -6,9 +6,8 @@ ghost use Rattle.std.specs.Io.KnownBytes.{Consumes, IsAtEnd, Keeps};
 
 use crate::output::DeviceFault;
 
-/// What a program reads from. A contract sees the octets that are left, where the device reports them, whether its
-/// last call failed, and which device it
-/// is: a number that no call changes.
+/// What a program reads from. A contract sees the octets that are left, where the device reports them, whether its last
+/// call failed, and which device it is: a number that no call changes.
 pub trait Input {
     ghost remaining: { Self → Option (List ℕ) };
 

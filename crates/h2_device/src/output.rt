@@ -12,8 +12,7 @@ use thiserror::Error;
 pub struct DeviceFault;
 
 /// What a program writes to. A contract sees the octets that were written, where the device reports them, whether its
-/// last call failed, and which
-/// device it is: a number that no call changes.
+/// last call failed, and which device it is: a number that no call changes.
 pub trait Output {
     ghost written: { Self → Option (List ℕ) };
 

@@ -55,10 +55,7 @@ fn driven(
     turns: u32,
 ) -> Result<Outcome, AllocError> {
     let book = Book::new(alloc);
-    let config = Config {
-        streams,
-        credit: 32768,
-    };
+    let config = Config::new(streams, 32768);
     let mut out = Vec::new(alloc);
     let Ok(mut conn) = Conn::new(&book, config, &mut out) else {
         return Err(AllocError);

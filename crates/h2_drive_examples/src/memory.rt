@@ -43,10 +43,7 @@ fn sent_of(alloc: Global, written: &[u8], out: &[u8]) -> Result<Vec<u8>, AllocEr
 fn driven(alloc: Global, nth: u64) -> Result<Outcome, AllocError> {
     let heap: Heap = Refusing::new(alloc, 0);
     let book = Book::new(&heap);
-    let config = Config {
-        streams: 100,
-        credit: 32768,
-    };
+    let config = Config::new(100, 32768);
     let mut out = Vec::new(&heap);
     let Ok(mut conn) = Conn::new(&book, config, &mut out) else {
         return Err(AllocError);

@@ -16,6 +16,9 @@ use std::test::Fail;
 const LIMITS: Config = Config {
     streams: 100,
     credit: 32768,
+    table: 4096,
+    window: 65535,
+    frame: 16384,
 };
 
 /// A listener at a port that the system chooses.
@@ -166,19 +169,35 @@ fn clients_that_leave_end_their_own_connection_only(rt: HostRuntime) -> Result<(
     Ok(())
 }
 
-/// Limits out of range.
-static REFUSED: [Config; 3] = [
+/// Limits and settings out of range.
+static REFUSED: [Config; 7] = [
     Config {
         streams: 0,
-        credit: 1,
+        ..LIMITS
     },
     Config {
         streams: 1001,
-        credit: 1,
+        ..LIMITS
     },
     Config {
-        streams: 1,
         credit: 65536,
+        ..LIMITS
+    },
+    Config {
+        table: 65537,
+        ..LIMITS
+    },
+    Config {
+        window: 2147483648,
+        ..LIMITS
+    },
+    Config {
+        frame: 16383,
+        ..LIMITS
+    },
+    Config {
+        frame: 65537,
+        ..LIMITS
     },
 ];
 

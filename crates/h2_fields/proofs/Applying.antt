@@ -1,12 +1,18 @@
 -- What the code does with an instruction is what the definitions say of it.
-use Rattle.std.proofs.Common.{◌≡◌, ℕ, suc, ◌+◌, ◌-◌, ◌≤◌, ◌<◌, ◌^◌, inl, inr, Bool, true, false, not, List, [], ◌∷◌, ◌++◌, min, Some, Result, Ok, Err, refl, ap, ◌∙◌, arith, le-leb}
+use Rattle.std.proofs.Common.{◌≡◌, ℕ, suc, ◌+◌, ◌-◌, ◌≤◌, ◌<◌, ◌^◌, ◌⊎◌, inl, inr, Bool, true, false, not, List, [], ◌∷◌, ◌++◌, length, take, drop, min, Some, Result, Ok, Err, refl, ap, ◌∙◌, arith, le-leb}
 use Rattle.std.proofs.lemmas.Bool.{lt-leb}
 use Rattle.std.proofs.lemmas.Bool.Decides.{leb_tells}
-use Rattle.h2_spec.specs.Block.{Fault, list_size}
-use Rattle.h2_spec.specs.DynamicTable.{entry_at, field_at}
-use Rattle.h2_spec.specs.Field.{Field, size}
+use Rattle.std.proofs.Math.Seq.{take-append_seam, drop-append_seam}
+use Rattle.h2_spec.specs.Block.{Fault, FieldsSoFar, Progress, applied, list_size, name_of, table_after, text_result}
+use Rattle.h2_spec.specs.DynamicTable.{Table, entry_at, field_at}
+use Rattle.h2_spec.specs.Field.{Field, field, size}
+use Rattle.h2_spec.specs.Instruction.{Mode, WithoutIndexing, NeverIndexed, NameRef, Str, Literal, text_of}
 use Rattle.h2_spec.specs.StaticTable.{static_field}
+use Rattle.h2_spec.proofs.BlockLaws.{applied-literal, applied-name_refused, applied-value_refused}
 use Rattle.h2_spec.proofs.TableLaws.{total_size-append}
+use Rattle.h2_table.specs.Edits.{Drafted}
+use Rattle.h2_list.specs.Listed.{Listed}
+use Rattle.h2_fields.specs.Drafts.{first_refusal, progress_in}
 use Rattle.h2_fields.specs.Faults.{refusal, fault_of}
 use Rattle.h2_fields.specs.declared.fault.BlockFault.{BlockFault}
 
@@ -51,3 +57,48 @@ refusal-is r fault f e k = ap refusal e ∙ ap Some k
 
 pub size-added : (fields : List Field) (f : Field) (old add : ℕ) → old ≡ list_size fields → add ≡ min (size f) (2 ^ 64 - 1) → min (old + add) (2 ^ 64 - 1) ≡ list_size (fields ++ f ∷ [])
 size-added fields f old add e k = let sum = total_size-append fields (f ∷ []) in omega (arith, e, k, sum)
+
+-- ---- a literal
+
+-- the octets behind the fields once a value was put there, and once a name and a value were
+pub put-next : (l0 l1 l2 : Listed) (n : List ℕ) → l1 ≡ record l0 { next = [] } → l2 ≡ record l1 { next = l1.next ++ n } → l2.next ≡ n
+put-next l0 l1 l2 n h1 h2 = ap (λ (l : Listed). l.next) h2 ∙ ap (λ (l : Listed). l.next ++ n) h1
+
+pub both-next : (l0 l1 l2 l3 : Listed) (n v : List ℕ) → l1 ≡ record l0 { next = [] } → l2 ≡ record l1 { next = l1.next ++ n } → l3 ≡ record l2 { next = l2.next ++ v } → l3.next ≡ n ++ v
+both-next l0 l1 l2 l3 n v h1 h2 h3 = ap (λ (l : Listed). l.next) h3 ∙ ap (λ (m : List ℕ). m ++ v) (put-next l0 l1 l2 n h1 h2)
+
+-- the fields once a name and a value were put behind them and closed
+pub spelled : (l0 l1 l2 l3 l4 : Listed) (n v : List ℕ) (split : ℕ) → l1 ≡ record l0 { next = [] } → l2 ≡ record l1 { next = l1.next ++ n } → l3 ≡ record l2 { next = l2.next ++ v } → split ≡ length l2.next →
+    l4 ≡ record { fields = l3.fields ++ field (take split l3.next) (drop split l3.next) ∷ []; next = [] } → l4.fields ≡ l0.fields ++ field n v ∷ []
+spelled l0 l1 l2 l3 l4 n v split h1 h2 h3 hs h4 =
+    let name : l2.next ≡ n = put-next l0 l1 l2 n h1 h2 in
+    let both : l3.next ≡ n ++ v = both-next l0 l1 l2 l3 n v h1 h2 h3 in
+    let count : split ≡ length n = hs ∙ ap length name in
+    let fields : l3.fields ≡ l0.fields = ap (λ (l : Listed). l.fields) h3 ∙ ap (λ (l : Listed). l.fields) h2 ∙ ap (λ (l : Listed). l.fields) h1 in
+    ap (λ (l : Listed). l.fields) h4 ∙ rw (fields, both, count, take-append_seam n v, drop-append_seam n v) refl
+
+-- and once a value was put behind them and closed with a name
+pub named : (l0 l1 l2 l3 : Listed) (n v : List ℕ) → l1 ≡ record l0 { next = [] } → l2 ≡ record l1 { next = l1.next ++ v } → l3 ≡ record { fields = l2.fields ++ field n l2.next ∷ []; next = [] } → l3.fields ≡ l0.fields ++ field n v ∷ []
+named l0 l1 l2 l3 n v h1 h2 h3 =
+    let value : l2.next ≡ v = put-next l0 l1 l2 v h1 h2 in
+    let fields : l2.fields ≡ l0.fields = ap (λ (l : Listed). l.fields) h2 ∙ ap (λ (l : Listed). l.fields) h1 in
+    ap (λ (l : Listed). l.fields) h3 ∙ rw (fields, value) refl
+
+-- a literal is refused for its name, or else for its value
+pub literal-refused : (limit : ℕ) (p : Progress) (mode : Mode) (name : NameRef Str) (value : Str) (f : BlockFault) → p.due ≡ false → first_refusal (name_of name p.table.entries) (text_result (text_of value)) ≡ Some f →
+    refusal (applied limit p (Literal mode name value)) ≡ Some f
+literal-refused limit p mode name value f due h = by (name_of name p.table.entries) refl (text_result (text_of value)) refl h
+  where
+    by : (n : Result (List ℕ) Fault) → name_of name p.table.entries ≡ n → (v : Result (List ℕ) Fault) → text_result (text_of value) ≡ v → first_refusal n v ≡ Some f → refusal (applied limit p (Literal mode name value)) ≡ Some f
+    by (Err fault) e v k h = ap refusal (applied-name_refused limit p mode name value fault due e) ∙ h
+    by (Ok n) e (Err fault) k h = ap refusal (applied-value_refused limit p mode name value n fault due e k) ∙ h
+    by (Ok n) e (Ok v) k h = absurd cc
+
+-- and is added, and enters the table where its mode says so
+pub literal-applied : (limit : ℕ) (s now : FieldsSoFar) (d after : Drafted) (mode : Mode) (name : NameRef Str) (value : Str) (f : Field) → s.due ≡ false → name_of name d.table.entries ≡ Ok f.name → text_result (text_of value) ≡ Ok f.value →
+    now ≡ record s { fields = s.fields ++ f ∷ [] } → after.table ≡ table_after mode d.table f → applied limit (progress_in s d) (Literal mode name value) ≡ Ok (progress_in now after)
+literal-applied limit s now d after mode name value f due n v h t = applied-literal limit (progress_in s d) mode name value f.name f.value due n v ∙ rw (h, t) refl
+
+pub not_entered : (mode : Mode) (table : Table) (f : Field) → (mode ≡ WithoutIndexing) ⊎ (mode ≡ NeverIndexed) → table ≡ table_after mode table f
+not_entered mode table f (inl e) = rw e refl
+not_entered mode table f (inr e) = rw e refl

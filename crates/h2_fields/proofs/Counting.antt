@@ -1,5 +1,5 @@
 -- How the ticks of a decoder grow.
-use Rattle.std.proofs.Common.{◌≡◌, ℕ, ◌+◌, ◌-◌, ◌*◌, ◌<◌, ◌≤◌, List, [], ◌∷◌, length, min, ap, arith, length-append}
+use Rattle.std.proofs.Common.{◌≡◌, ℕ, ◌+◌, ◌-◌, ◌*◌, ◌<◌, ◌≤◌, Bool, List, [], ◌∷◌, length, min, ap, arith, length-append}
 use Rattle.std.specs.List.{concat}
 use Rattle.h2_fields.specs.Blocks.{ArePushed, BlockSoFar, fresh, unfinished}
 use Rattle.h2_fields.specs.Rests.{IsCounted, IsTicked, most_ticks}
@@ -37,7 +37,7 @@ pushed (piece ∷ pieces) old now h =
     let sum = length-append piece (concat pieces) in
     (λ below. let more = rest.0 below in let one = h.1.0 (omega (arith, more, below)) in omega (arith, more, one, sum), omega (arith, rest.1, h.1.1, sum))
 
-pub bounded : (pieces : List (List ℕ)) (now : BlockSoFar) → ArePushed fresh pieces now → now.ticks < most_ticks → (length (concat pieces) ≤ now.ticks) × (now.ticks ≤ 4 * length (concat pieces) + 8 * length pieces)
-bounded pieces now h below =
-    let all = pushed pieces fresh now h in
+pub bounded : (due : Bool) (pieces : List (List ℕ)) (now : BlockSoFar) → ArePushed (fresh due) pieces now → now.ticks < most_ticks → (length (concat pieces) ≤ now.ticks) × (now.ticks ≤ 4 * length (concat pieces) + 8 * length pieces)
+bounded due pieces now h below =
+    let all = pushed pieces (fresh due) now h in
     (omega (arith, all.0 below), omega (arith, all.1))

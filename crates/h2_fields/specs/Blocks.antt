@@ -1,13 +1,13 @@
 -- What the decoder holds, and what it answers, by the definitions.
-use Rattle.std.specs.Prelude.{◌≡◌, ◌≢◌, ℕ, ◌+◌, ◌*◌, ◌<◌, ◌≤◌, Bool, false, List, [], ◌∷◌, ◌++◌, length, Option, Some, None, option_map, Result, Ok, Err}
+use Rattle.std.specs.Prelude.{◌≡◌, ◌≢◌, ℕ, ◌+◌, ◌*◌, ◌<◌, ◌≤◌, Bool, true, false, List, [], ◌∷◌, length, Option, Some, None, option_map, Result, Ok, Err}
 use Rattle.h2_fields.specs.Faults.{fault_of}
 use Rattle.h2_fields.specs.Rests.{most_ticks}
 use Rattle.h2_fields.specs.declared.fault.BlockFault.{BlockFault}
 use Rattle.h2_fields.specs.declared.fault.BlockFault.TheVariants as fault
-use Rattle.h2_spec.specs.Block.{Index, Integer, Huffman, SizeUpdate, Outcome, Unfinished, Faulty, Progress, Decoded, table_after}
+use Rattle.h2_spec.specs.Block.{Index, Integer, Huffman, SizeUpdate, Outcome, Unfinished, Faulty, Progress, Decoded}
 use Rattle.h2_spec.specs.DynamicTable.{Table}
 use Rattle.h2_spec.specs.Field.{Field}
-use Rattle.h2_spec.specs.Instruction.{Mode, instr_at}
+use Rattle.h2_spec.specs.Instruction.{instr_at}
 use Rattle.h2_spec.specs.Read.{More}
 
 -- what a decoder holds of a block: the fields so far, whether a size update is still due, how the block ends so far,
@@ -28,9 +28,9 @@ unfinished (Some (Unfinished rest)) = rest
 unfinished (Some (Faulty f)) = []
 unfinished None = []
 
--- a decoder of which nothing has come
-abbrev pub fresh : BlockSoFar
-fresh = record { fields = []; due = false; outcome = Some (Unfinished []); ticks = 0 }
+-- a decoder of which nothing has come, and whether the block has to begin with a size update
+abbrev pub fresh : Bool → BlockSoFar
+fresh due = record { fields = []; due = due; outcome = Some (Unfinished []); ticks = 0 }
 
 -- how a fragment that is answered Ok is counted: at least a tick for each of its octets, and no more than pays for them
 -- and for the octets that are left no longer
@@ -47,10 +47,6 @@ ArePushed old (piece ∷ pieces) new = (mid : BlockSoFar) × TicksRise old piece
 -- how far a block has come
 abbrev pub progress_so_far : Table → BlockSoFar → Progress
 progress_so_far table s = record { fields = s.fields; table = table; due = s.due }
-
--- how far a block has come after a literal of this field
-abbrev pub after_literal : Progress → Mode → Field → Progress
-after_literal p mode f = record p { fields = p.fields ++ f ∷ []; table = table_after mode p.table f }
 
 -- the fault of a block that has one, and how far the block has come before it
 abbrev pub faulted : Outcome → Option BlockFault
@@ -80,9 +76,14 @@ answer_of (Some (Unfinished rest)) = Ok tt
 answer_of (Some (Faulty f)) = Err (fault_of f)
 answer_of None = Err fault.NoMemory
 
+-- what the end of a block is answered that ends between two instructions: a size update may still be due
+abbrev pub whole_of : Bool → Result (Unit {0}) BlockFault
+whole_of true = Err fault.SizeUpdate
+whole_of false = Ok tt
+
 -- what the end of the block is answered
-abbrev pub finish_of : Option Outcome → Result (Unit {0}) BlockFault
-finish_of (Some (Unfinished [])) = Ok tt
-finish_of (Some (Unfinished (o ∷ rest))) = Err fault.Truncated
-finish_of (Some (Faulty f)) = Err (fault_of f)
-finish_of None = Err fault.NoMemory
+abbrev pub finish_of : Bool → Option Outcome → Result (Unit {0}) BlockFault
+finish_of due (Some (Unfinished [])) = whole_of due
+finish_of due (Some (Unfinished (o ∷ rest))) = Err fault.Truncated
+finish_of due (Some (Faulty f)) = Err (fault_of f)
+finish_of due None = Err fault.NoMemory

@@ -46,12 +46,15 @@ impl<A: Allocator> Model for BlockDecoder<A> {
 }
 
 impl<A: Allocator + Copy> BlockDecoder<A> {
-    /// A decoder of a block of which nothing has come. No memory is taken.
-    pub fn start(alloc: A) -> Self
-        ensures { result ≡ record { fields = []; due = false; outcome = Some (Unfinished []); ticks = 0 } }
+    /// A decoder of a block of which nothing has come; `due` says whether the block has to begin with a size update of
+    /// the table (RFC 7541, 4.2), as `DynTable::due` has it. No memory is taken.
+    pub fn start(alloc: A, due: bool) -> Self
+        ensures { result ≡ record { fields = []; due = due; outcome = Some (Unfinished []); ticks = 0 } }
     {
+        let mut collected = Collected::new(alloc);
+        collected.clear(due);
         BlockDecoder {
-            collected: Collected::new(alloc),
+            collected,
             fields: Vec::new(alloc),
             rest: Rest::new(alloc),
             fault: None,
@@ -66,8 +69,9 @@ impl<A: Allocator + Copy> BlockDecoder<A> {
     ///
     /// `Index`, `Integer`, `Huffman` and `SizeUpdate` as RFC 7541 has them, once the instruction is whole, an integer
     /// already at its fifth octet behind the prefix; the fields and the table are those after the instructions before
-    /// it. `NoMemory` where memory was refused; the fields and the table are as they were. After an error each further
-    /// call answers the same one and changes nothing.
+    /// it. `SizeUpdate` also where an update is due and the first instruction is none; it is decided before `Index` and
+    /// `Huffman`. `NoMemory` where memory was refused; the fields and the table are as they were. After an error each
+    /// further call answers the same one and changes nothing.
     pub fn push(&mut self, table: &mut DynTable<A>, piece: &[u8]) -> Result<(), BlockFault>
         ensures answer { result ≡ answer_of self.new.outcome }
         ensures carried { self.new.outcome ≢ None → decoded_with table.new.table self.new ≡ option_map (λ before. carried_on table.old.limit before piece.now) (decoded_with table.old.table self.old) }
@@ -100,18 +104,21 @@ impl<A: Allocator + Copy> BlockDecoder<A> {
     ///
     /// # Errors
     ///
-    /// `Truncated` where it ends inside an instruction; after an error of `push` the same one. Takes no memory.
+    /// `Truncated` where it ends inside an instruction, else `SizeUpdate` where there was no instruction and a size
+    /// update is due; after an error of `push` the same one. Takes no memory.
     pub fn finish(&self) -> Result<(), BlockFault>
-        ensures { result ≡ finish_of self.now.outcome }
+        ensures { result ≡ finish_of self.now.due self.now.outcome }
     {
         if let Some(fault) = self.fault {
             return Err(fault);
         }
-        if self.rest.is_empty() {
-            Ok(())
-        } else {
-            Err(BlockFault::Truncated)
+        if !self.rest.is_empty() {
+            return Err(BlockFault::Truncated);
         }
+        if self.collected.is_due() {
+            return Err(BlockFault::SizeUpdate);
+        }
+        Ok(())
     }
 
     /// The fields so far, in their order.

@@ -1,12 +1,20 @@
 //! The fields that a field block has given so far, in a list whose memory is kept from block to block.
 //! It uses `FieldList` of h2_list; contracts see it as the record `FieldsSoFar` of `h2_spec`, specs/Block.antt.
 
-ghost use Rattle.std.specs.Prelude.{◌≡◌, ◌-◌, ◌^◌, [], ◌∷◌, ◌++◌, false, not, min, length, take, slice_get, option_map, IfOk, OnOk, OnErr};
-ghost use Rattle.h2_spec.specs.Block.{has_fields, list_size};
-ghost use Rattle.h2_spec.specs.Field.{field, size};
+ghost use Rattle.std.specs.Prelude.{◌≡◌, ◌≢◌, ◌-◌, ◌^◌, ℕ, List, [], ◌∷◌, ◌++◌, false, not, min, length, take, slice_get, option_map, Some, Ok, IfOk, IfErr, OnOk, OnErr};
+ghost use Rattle.h2_spec.specs.Block.{has_fields, list_size, text_result};
+ghost use Rattle.h2_spec.specs.Field.{Field, field, size};
+ghost use Rattle.h2_spec.specs.Huffman.{Text};
+ghost use Rattle.h2_spec.specs.Instruction.{text_of};
+ghost use Rattle.h2_fields.specs.Drafts.{IsReadAs};
+ghost use Rattle.h2_fields.specs.Faults.{refusal};
+ghost use Rattle.h2_fields.specs.Shapes.{string_of};
+ghost use Rattle.h2_fields.specs.declared.fault.BlockFault.TheVariants as faults;
 ghost use Rattle.h2_table.specs.Lent.{lent_field};
 
+use crate::fault::BlockFault;
 use crate::hints::Hints;
+use crate::shape::RawString;
 use h2_list::FieldList;
 use std::alloc::{AllocError, Allocator};
 use std::marker::Model;
@@ -90,6 +98,18 @@ impl<A: Allocator> Collected<A> {
         ensures { option_map lent_field result ≡ slice_get self.now.fields place }
     {
         self.list.get(place)
+    }
+
+    /// The name and the value of the last field, if there is one.
+    pub(crate) fn last(&self) -> Option<(&[u8], &[u8])>
+        ensures { (fields : List Field) (f : Field) → self.now.fields ≡ fields ++ f ∷ [] → option_map lent_field result ≡ Some f }
+    {
+        let count = self.list.len();
+        if count > 0 {
+            self.list.get(count - 1)
+        } else {
+            None
+        }
     }
 
     /// The size of the fields together, in octets: 32 each beside those of their names and values (RFC 9113, 6.5.2);
@@ -178,36 +198,51 @@ impl<A: Allocator> Collected<A> {
         Ok(())
     }
 
-    /// Adds a field with the name of an index of the tables behind the others, `limit` being the most octets of the
-    /// dynamic table. Where a field with the name of the index was added before, the octets of the name are shared,
-    /// unless the field has at most 32.
+    /// Adds the field of a name and a value that are both spelled behind the others.
     ///
     /// # Errors
     ///
-    /// `AllocError` where memory was refused; the fields are as they were.
-    pub fn add_named(
+    /// `Huffman` where one of them is no Huffman string, `NoMemory` where memory was refused; the fields are as they
+    /// were.
+    pub(crate) fn add_spelled(
+        &mut self,
+        name: RawString<'_>,
+        value: RawString<'_>,
+    ) -> Result<(), BlockFault>
+        ensures { IsReadAs (text_result (text_of (string_of name.entry))) (text_result (text_of (string_of value.entry))) self.old self.new result }
+    {
+        self.list.clear_next();
+        put_text(&mut self.list, name)?;
+        let split = self.list.next().len();
+        put_text(&mut self.list, value)?;
+        let size = size_of(self.list.next(), b"");
+        self.list.close(split)?;
+        self.size = self.size.saturating_add(size);
+        Ok(())
+    }
+
+    /// Adds the field of a name that is that of an index of the tables, and a value that is spelled, behind the others;
+    /// `limit` is the most octets of the dynamic table. Where a field with the name of the index was added before, the
+    /// octets of the name are shared, unless the field has at most 32.
+    ///
+    /// # Errors
+    ///
+    /// `Huffman` where the value is no Huffman string, `NoMemory` where memory was refused; the fields are as they
+    /// were.
+    pub(crate) fn add_named(
         &mut self,
         index: u64,
         limit: u32,
         name: &[u8],
-        value: &[u8],
-    ) -> Result<(), AllocError>
-        ensures ok { OnOk result (self.new ≡ record self.old { fields = self.old.fields ++ field name.now value.now ∷ [] }) }
-        ensures err { OnErr result (self.new ≡ self.old) }
+        value: RawString<'_>,
+    ) -> Result<(), BlockFault>
+        ensures { IsReadAs (Ok name.now) (text_result (text_of (string_of value.entry))) self.old self.new result }
     {
-        if is_short(name, value) {
-            return self.add(name, value);
-        }
-        let key = self.hints.key(index, limit);
-        let like = self.hints.place(key);
-        let named = if has_name(&self.list, like, name) {
-            like
-        } else {
-            self.list.len()
-        };
-        self.hints.set(key, limit, named)?;
-        let size = size_of(name, value);
-        self.list.append_like(like, name, value)?;
+        self.list.clear_next();
+        put_text(&mut self.list, value)?;
+        let size = size_of(name, self.list.next());
+        let like = like_named(&mut self.hints, &self.list, index, limit, name)?;
+        self.list.close_named(like, name)?;
         self.size = self.size.saturating_add(size);
         Ok(())
     }
@@ -255,12 +290,48 @@ fn is_short(name: &[u8], value: &[u8]) -> bool {
     name.len().saturating_add(value.len()) <= MAX_COPIED
 }
 
+/// The place of a field that may have the name of an index; none where the name is to be copied.
+fn like_named<A: Allocator>(
+    hints: &mut Hints<A>,
+    list: &FieldList<A>,
+    index: u64,
+    limit: u32,
+    name: &[u8],
+) -> Result<usize, AllocError> {
+    if is_short(name, list.next()) {
+        return Ok(usize::MAX);
+    }
+    let key = hints.key(index, limit);
+    let like = hints.place(key);
+    let named = if has_name(list, like, name) {
+        like
+    } else {
+        list.len()
+    };
+    hints.set(key, limit, named)?;
+    Ok(like)
+}
+
 /// Whether the field at a place has this name.
 fn has_name<A: Allocator>(list: &FieldList<A>, place: usize, name: &[u8]) -> bool {
     match list.get(place) {
         Some((other, _)) => other == name,
         None => false,
     }
+}
+
+/// Puts the octets that a string means behind those of the next field.
+fn put_text<A: Allocator>(list: &mut FieldList<A>, string: RawString<'_>) -> Result<(), BlockFault>
+    ensures text { OnOk result ((text : List ℕ) × (text_of (string_of string.entry) ≡ Text text) × (list.new ≡ record list.old { next = list.old.next ++ text })) }
+    ensures unchanged { OnErr result (list.new ≡ list.old) }
+    ensures fault { IfErr result (λ fault. fault ≢ faults.NoMemory → refusal (text_result (text_of (string_of string.entry))) ≡ Some fault) }
+{
+    if string.huffman {
+        list.put_huffman(string.octets)?;
+    } else {
+        list.put(string.octets)?;
+    }
+    Ok(())
 }
 
 /// The size of a field: its octets and 32 more; 2^64 - 1 where it is more.

@@ -24,7 +24,7 @@ pub enum BlockFault {
     #[error("a string is no Huffman string")]
     Huffman,
     /// A table size update behind a field, or above the limit, or none where one is due (RFC 7541, 4.2).
-    #[error("a table size update is out of place or above the limit")]
+    #[error("a table size update is missing, out of place or above the limit")]
     SizeUpdate,
     /// The block ends inside an instruction.
     #[error("the block ends inside an instruction")]

@@ -24,8 +24,7 @@ pub fn instructions_are_read_back()
 {}
 
 /// What `response_block` answers is read as its status and its fields, whatever the table holds; the table is emptied
-/// first
-/// where that is signalled, and else left as it is (RFC 9113, 8.3.2; RFC 7541, 4.2 and 6.2.2).
+/// first where that is signalled, and else left as it is (RFC 9113, 8.3.2; RFC 7541, 4.2 and 6.2.2).
 pub fn responses_are_read()
     ensures { (limit : ℕ) (table : Table) (size_update_pending : Bool) (status : ℕ) (fields : List Field) → AllByRecursion IsWritableField fields → decoded limit (start table false) (answer.response_block size_update_pending status fields) ≡ read_whole (status_field status ∷ fields) (if size_update_pending then resize table 0 else table) }
 {}
@@ -33,5 +32,5 @@ pub fn responses_are_read()
 /// A decoder that took fragments of n octets in all, f of them, each as the clause `ticks` of `BlockDecoder::push` says,
 /// counts at least n and at most 4 n + 8 f ticks, however they were cut.
 pub fn ticks_are_bounded()
-    ensures { (pieces : List (List ℕ)) (now : BlockSoFar) → ArePushed fresh pieces now → now.ticks < most_ticks → (length (concat pieces) ≤ now.ticks) × (now.ticks ≤ 4 * length (concat pieces) + 8 * length pieces) }
+    ensures { (due : Bool) (pieces : List (List ℕ)) (now : BlockSoFar) → ArePushed (fresh due) pieces now → now.ticks < most_ticks → (length (concat pieces) ≤ now.ticks) × (now.ticks ≤ 4 * length (concat pieces) + 8 * length pieces) }
 {}

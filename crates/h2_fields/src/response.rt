@@ -17,10 +17,8 @@ use std::alloc::{AllocError, Allocator};
 /// The field block of a response with this status, 200 to 599, and these fields.
 ///
 /// With `size_update_pending` the block begins with a table size update to 0: the peer gave up its dynamic table (RFC
-/// 7541, 4.2). The
-/// status is an index where the static table has it; each field is a literal that does not enter the
-/// dynamic
-/// table, its strings as they are. Names and values have at most 33,554,432 octets each.
+/// 7541, 4.2). The status is an index where the static table has it; each field is a literal that does not enter the
+/// dynamic table, its strings as they are. Names and values have at most 33,554,432 octets each.
 ///
 /// # Errors
 ///

@@ -1,2 +1,3 @@
 mod Agreeing
+pub mod MissingLaws
 mod Pairs

@@ -1,10 +1,10 @@
 -- The items that a splitter finds (RFC 9113, 3.4, 4.1 and 4.2).
-use Rattle.std.specs.Prelude.{ℕ, Bool, true, false, drop, if◌then◌else◌, Option, Some, None}
+use Rattle.std.specs.Prelude.{ℕ, ◌+◌, ◌-◌, ◌++◌, Bool, true, false, List, length, drop, nat_lt, if◌then◌else◌, Option, Some, None}
 use Rattle.h2_frame.specs.declared.splitter.Item.{Item}
 use Rattle.h2_frame.specs.declared.splitter.Item.TheVariants as code
 use Rattle.h2_frame.specs.Rest.{Rest}
 use Rattle.h2_spec.specs.Frame as spec
-use Rattle.h2_spec.specs.Frame.{Next, NoItem, Got, next}
+use Rattle.h2_spec.specs.Frame.{Next, NoItem, Got, head_of, next}
 
 -- an item with its payload as a list
 abbrev pub item_of : Item → spec.Item
@@ -44,3 +44,26 @@ next_in limit r = item_in (found limit r)
 -- what is held after it is taken
 abbrev pub rest_after : ℕ → Rest → Rest
 rest_after limit r = rest_behind r (found limit r)
+
+-- with more octets pushed
+abbrev pub with_more : Rest → List ℕ → Rest
+with_more r more = record r { octets = r.octets ++ more }
+
+-- how many octets the preface lacks at the least: one, since any octet may be the one that differs
+abbrev pub missing_of_preface : Next → ℕ
+missing_of_preface NoItem = 1
+missing_of_preface (Got item used) = 0
+
+-- how many octets a frame lacks: those of its head, then those of its payload, which is not awaited above the limit
+abbrev pub missing_of_frame : ℕ → List ℕ → ℕ
+missing_of_frame limit b =
+    if nat_lt (length b) 9 then 9 - length b
+    else if nat_lt limit (head_of b).length then 0 else 9 + (head_of b).length - length b
+
+abbrev pub missing : Bool → ℕ → List ℕ → ℕ
+missing true limit b = missing_of_preface (next true limit b)
+missing false limit b = missing_of_frame limit b
+
+-- how many octets the first item lacks, and none where no item follows
+abbrev pub missing_in : ℕ → Rest → ℕ
+missing_in limit r = if r.is_over then 0 else missing r.expects_preface limit r.octets

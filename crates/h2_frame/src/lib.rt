@@ -15,4 +15,4 @@ pub use payload::{
     DataPart, HeadersPart, Part, SettingsPart, data_of, goaway_of, headers_of, part_of, reset_of,
     settings_of, window_of,
 };
-pub use splitter::{Item, Splitter};
+pub use splitter::{Item, Splitter, first_item};

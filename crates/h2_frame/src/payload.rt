@@ -97,8 +97,7 @@ pub fn data_of(frame: FrameRef<'_>) -> Result<DataPart<'_>, PayloadFault>
 /// What HEADERS hold (RFC 9113, 6.2).
 ///
 /// `SizeFault` where the length of the padding, the dependency or the weight is missing, then `PadFault` where the
-/// padding is
-/// longer than what follows them.
+/// padding is longer than what follows them.
 #[tactic(auto, unfolding(h2_spec::specs::Payload::headers_part))]
 pub fn headers_of(frame: FrameRef<'_>) -> Result<HeadersPart<'_>, PayloadFault>
     requires { frame.head.kind ≡ HEADERS }
@@ -255,8 +254,7 @@ pub enum Part<'a> {
 }
 
 /// What a frame's payload holds, by the frame's type; the refusals are those of the readers above, and WITH_PRIORITY
-/// has 5 octets,
-/// PING 8 (RFC 9113, 6).
+/// has 5 octets, PING 8 (RFC 9113, 6).
 #[tactic(auto, unfolding(h2_spec::specs::Payload::part_as))]
 pub fn part_of(frame: FrameRef<'_>) -> Result<Part<'_>, PayloadFault>
     ensures { seen part_seen result ≡ spec.part_of frame.entry.head frame.entry.payload.now }

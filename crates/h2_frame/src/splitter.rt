@@ -3,13 +3,13 @@
 //! Rests on `head`; definitions: `next` of `h2_spec/specs/Frame.antt`, and `specs/Items.antt` for what a splitter
 //! holds.
 
-ghost use Rattle.std.specs.Prelude.{◌≡◌, ℕ, ◌+◌, ◌-◌, ◌≤◌, ◌++◌, [], length, drop, vec_len, true, false, nat_eq, IfOk, IfSome, OnOk, OnErr};
+ghost use Rattle.std.specs.Prelude.{◌≡◌, ℕ, ◌+◌, ◌-◌, ◌≤◌, ◌<◌, ◌++◌, List, [], length, drop, vec_len, true, false, nat_eq, IfOk, IfSome, OnOk, OnErr, None};
 ghost use Rattle.std.specs.List.{common_prefix_len};
 ghost use Rattle.std.specs.Option.{option_map};
 ghost use Rattle.std.specs.Borrow.{sem};
 ghost use Rattle.std.specs.Io.BufRead.{Rests};
 ghost use Rattle.h2_spec.specs.Frame.{next, preface, frame_item};
-ghost use Rattle.h2_frame.specs.Items.{item_of, ends_items, found_in, next_in, rest_after};
+ghost use Rattle.h2_frame.specs.Items.{item_of, ends_items, found_in, missing_in, missing_of_frame, missing_of_preface, next_in, rest_after, with_more};
 ghost use Rattle.h2_frame.specs.contracts.splitter.Splitter.{the_row};
 
 use crate::head::{FrameRef, first_head};
@@ -72,6 +72,13 @@ impl<A: Allocator> Splitter<A> {
         }
     }
 
+    /// Sets whether the preface is still awaited: not where it was taken from octets that were not pushed.
+    pub fn expect_preface(&mut self, expected: bool)
+        ensures { self.new ≡ record self.old { expects_preface = expected } }
+    {
+        self.expects_preface = expected;
+    }
+
     /// Adds the octets behind those that are held.
     ///
     /// `AllocError` where the list could not grow; then what is held is as before.
@@ -90,6 +97,25 @@ impl<A: Allocator> Splitter<A> {
         ensures { result ≡ length self.now.octets }
     {
         self.buffer.len() - self.offset
+    }
+
+    /// How many octets the first item lacks, at the least; 0 where it is whole, or none follows.
+    ///
+    /// Of the preface that is 1, since any octet may be the one that differs; of a frame it is what the nine octets of
+    /// its head lack, and behind the head what the payload lacks. With fewer octets more there is no item.
+    pub fn missing(&self, limit: u32) -> usize
+        ensures value { result ≡ missing_in limit self.now }
+        ensures fewer { (more : List ℕ) → length more < result → next_in limit (with_more self.now more) ≡ None }
+    {
+        if self.is_over {
+            return 0;
+        }
+        let held = octets_from(self.buffer.as_slice(), self.offset);
+        if self.expects_preface {
+            missing_of_preface(held)
+        } else {
+            missing_of_frame(held, limit)
+        }
     }
 
     /// Takes the next item, if the octets held begin with a whole one; a frame is oversized when its length is above
@@ -162,8 +188,11 @@ impl Item<'_> {
     }
 }
 
-/// The item that the octets begin with, if there is a whole one, and how many octets it takes.
-fn first_item(octets: &[u8], expects_preface: bool, limit: u32) -> Option<(Item<'_>, usize)>
+/// The item that the octets begin with, if there is a whole one, and how many octets it takes; a frame is oversized
+/// when its length is above the limit. `expects_preface` says whether the preface is still awaited.
+/// The payload is lent from the octets.
+#[inline(always)]
+pub fn first_item(octets: &[u8], expects_preface: bool, limit: u32) -> Option<(Item<'_>, usize)>
     ensures item { found_in result ≡ next expects_preface limit octets.now }
     ensures within { IfSome result (λ x. x.1 ≤ length octets.now) }
 {
@@ -172,6 +201,30 @@ fn first_item(octets: &[u8], expects_preface: bool, limit: u32) -> Option<(Item<
     } else {
         frame_item(octets, limit)
     }
+}
+
+/// How many octets the preface lacks at the least.
+fn missing_of_preface(octets: &[u8]) -> usize
+    ensures { (limit : ℕ) → result ≡ missing_of_preface (next true limit octets.now) }
+{
+    match preface_item(octets) {
+        None => 1,
+        Some(_) => 0,
+    }
+}
+
+/// How many octets a frame lacks: those of its head, then those of its payload, which is not awaited above the limit.
+fn missing_of_frame(octets: &[u8], limit: u32) -> usize
+    ensures { result ≡ missing_of_frame limit octets.now }
+{
+    if octets.len() < 9 {
+        return 9 - octets.len();
+    }
+    let length = first_head(octets).length;
+    if length > limit {
+        return 0;
+    }
+    (9 + length as usize).saturating_sub(octets.len())
 }
 
 /// How many octets agree with those expected.
@@ -205,6 +258,7 @@ fn preface_item(octets: &[u8]) -> Option<(Item<'_>, usize)>
 }
 
 /// The first frame or oversized head, and how many octets it takes.
+#[inline(always)]
 #[tactic(auto, unfolding(h2_spec::specs::Frame::next))]
 fn frame_item(octets: &[u8], limit: u32) -> Option<(Item<'_>, usize)>
     ensures item { found_in result ≡ next false limit octets.now }
@@ -217,6 +271,7 @@ fn frame_item(octets: &[u8], limit: u32) -> Option<(Item<'_>, usize)>
 }
 
 /// The item of a head and the octets from it on: the head alone where the frame is longer than the limit.
+#[inline(always)]
 fn headed_item(head: Head, octets: &[u8], limit: u32) -> Option<(Item<'_>, usize)>
     requires { 9 ≤ length octets.now }
     ensures item { found_in result ≡ frame_item limit head octets.now }

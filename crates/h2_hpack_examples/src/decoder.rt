@@ -19,7 +19,12 @@ pub(crate) fn empty_table(alloc: Global, limit: u32) -> Result<DynTable<Global>,
 
 /// A decoder of which nothing has come.
 fn started(alloc: Global) -> BlockDecoder<Global> {
-    BlockDecoder::start(alloc)
+    BlockDecoder::start(alloc, false)
+}
+
+/// The same of a block that is to change this table.
+pub(crate) fn started_on(alloc: Global, table: &DynTable<Global>) -> BlockDecoder<Global> {
+    BlockDecoder::start(alloc, table.due())
 }
 
 fn pushed(
@@ -80,10 +85,10 @@ fn write_line(lines: &mut Vec<u8>, name: &[u8], value: &[u8]) -> Result<(), Allo
 
 /// What a decoder and its table hold: the fields and what they count, the entries and what they count.
 #[derive(Drop)]
-struct Held {
-    fields: Vec<u8>,
+pub(crate) struct Held {
+    pub(crate) fields: Vec<u8>,
     list_size: u64,
-    entries: Vec<u8>,
+    pub(crate) entries: Vec<u8>,
     table_size: usize,
 }
 
@@ -101,8 +106,7 @@ fn held_by(
 }
 
 /// A field block: its fields and what they count, and the dynamic table after it: its entries, the newest first, and
-/// what
-/// they count.
+/// what they count.
 struct Case {
     name: &'static str,
     /// The limit of a new table; none for the table that the case before it leaves.
@@ -469,8 +473,7 @@ fn steps_are_counted(rt: HostRuntime) -> Result<(), Fail> {
 }
 
 /// A block that is refused, on an empty table of limit 4096: its fragments; what each of them and then the end is
-/// answered,
-/// a fault by its number; the fields and the entries afterwards.
+/// answered, a fault by its number; the fields and the entries afterwards.
 struct Refusal {
     name: &'static str,
     fragments: &'static [&'static str],
@@ -615,7 +618,7 @@ fn answers(
 }
 
 /// The answers to fragments, and what is left.
-fn answers_and_held(
+pub(crate) fn answers_and_held(
     alloc: Global,
     decoder: &mut BlockDecoder<Global>,
     table: &mut DynTable<Global>,

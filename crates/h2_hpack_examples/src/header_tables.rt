@@ -9,7 +9,7 @@ use std::test::Fail;
 
 // These have no clause, so that the proof of a test does not carry the entries.
 
-fn add(
+pub(crate) fn add(
     table: &mut DynTable<Global>,
     alloc: Global,
     name: &str,
@@ -22,12 +22,12 @@ fn add(
 }
 
 /// How many entries there are, what they count, and the maximum.
-fn counts(table: &DynTable<Global>) -> (usize, usize, u32) {
+pub(crate) fn counts(table: &DynTable<Global>) -> (usize, usize, u32) {
     (table.len(), table.size(), table.max())
 }
 
 /// The number of the fault that refuses a maximum, or 0.
-fn set_max(table: &mut DynTable<Global>, max: u64) -> u8 {
+pub(crate) fn set_max(table: &mut DynTable<Global>, max: u64) -> u8 {
     match table.set_max(max) {
         Ok(()) => 0,
         Err(fault) => fault.number(),
@@ -98,7 +98,7 @@ fn copies_have_the_same_entries(rt: HostRuntime) -> Result<(), Fail> {
 }
 
 /// A table of one small entry.
-fn small(alloc: Global) -> Result<DynTable<Global>, AllocError> {
+pub(crate) fn small(alloc: Global) -> Result<DynTable<Global>, AllocError> {
     let mut table = empty_table(alloc, 4096)?;
     add(&mut table, alloc, "a", "b")?;
     Ok(table)

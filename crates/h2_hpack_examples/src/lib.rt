@@ -16,6 +16,8 @@ mod instructions;
 #[cfg(test)]
 mod integers;
 #[cfg(test)]
+mod limits;
+#[cfg(test)]
 mod same;
 #[cfg(test)]
 mod strings;

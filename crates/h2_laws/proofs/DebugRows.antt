@@ -3,13 +3,13 @@
 use Rattle.std.specs.Prelude.{◌≡◌, ℕ, ◌++◌, List, [], ◌∷◌, refl, codes, replicate, flat_map, length}
 use Rattle.h2_spec.specs.declared.connection.Config.{Config}
 use Rattle.h2_spec.specs.Opening.{opening_settings}
-use Rattle.h2_spec.specs.State.{State, opening}
+use Rattle.h2_spec.specs.State.{State, limits, opening}
 use Rattle.h2_spec.specs.Trace.{Event, trace}
 use Rattle.h2_spec.specs.Debug.{state_at, sent_at, stop, Break, AtPosition, OnType, OnStream, OnSent}
 use Rattle.h2_laws.proofs.Hex.{hex}
 
 abbrev default : Config
-default = record { streams = 100; credit = 32768 }
+default = limits 100 32768
 
 abbrev pings : ℕ → List ℕ
 pings n = flat_map (λ (k : ℕ). hex (codes "0000080600000000000102030405060708")) (replicate n 0)

@@ -4,7 +4,8 @@ use Rattle.std.specs.Prelude.{◌≡◌, ℕ, List, [], ◌∷◌, true, refl, c
 use Prim.Native.String.{String}
 use Rattle.h2_spec.specs.Answer.{Entry, answer}
 use Rattle.h2_laws.proofs.Hex.{hex}
-use Rattle.h2_laws.proofs.Runs.{default, limits, replies, shown}
+use Rattle.h2_laws.proofs.Runs.{default, replies, shown}
+use Rattle.h2_spec.specs.State.{limits}
 
 -- a book of one early answer
 abbrev early : String → ℕ → List ℕ → List Entry
@@ -14,7 +15,7 @@ begins_while_the_request_is_open : replies (early "GET" 200 (codes "hi")) defaul
 unfolding replies
 begins_while_the_request_is_open = refl
 
-ends_the_server_side : shown (early "GET" 200 (codes "hi")) default "000003010400000001828684" ≡ codes "phase running last 1\nwindow recv 65535 owed 0 send 65533\npeer table 4096 push 1 streams - window 65535 frame 16384 list - signal 0\nacked 0 goaway -\nblock -\ntable 0 0 4096\nstream 1 half-local recv 65535 owed 0 send 65533 got 0 of - left -\n"
+ends_the_server_side : shown (early "GET" 200 (codes "hi")) default "000003010400000001828684" ≡ codes "phase running last 1\nwindow recv 65535 owed 0 send 65533\npeer table 4096 push 1 streams - window 65535 frame 16384 list - signal 0\nacked 0 goaway -\nown table 4096 window 65535 frame 16384 due 0\nblock -\ntable 0 0 4096\nstream 1 half-local recv 65535 owed 0 send 65533 got 0 of - left -\n"
 unfolding shown
 ends_the_server_side = refl
 
@@ -22,7 +23,7 @@ data_behind_the_answer_is_taken : replies (early "GET" 200 (codes "hi")) default
 unfolding replies
 data_behind_the_answer_is_taken = refl
 
-data_behind_the_answer_is_counted : shown (early "GET" 200 (codes "hi")) default "000003010400000001828684000003000000000001616263" ≡ codes "phase running last 1\nwindow recv 65532 owed 3 send 65533\npeer table 4096 push 1 streams - window 65535 frame 16384 list - signal 0\nacked 0 goaway -\nblock -\ntable 0 0 4096\nstream 1 half-local recv 65532 owed 3 send 65533 got 3 of - left -\n"
+data_behind_the_answer_is_counted : shown (early "GET" 200 (codes "hi")) default "000003010400000001828684000003000000000001616263" ≡ codes "phase running last 1\nwindow recv 65532 owed 3 send 65533\npeer table 4096 push 1 streams - window 65535 frame 16384 list - signal 0\nacked 0 goaway -\nown table 4096 window 65535 frame 16384 due 0\nblock -\ntable 0 0 4096\nstream 1 half-local recv 65532 owed 3 send 65533 got 3 of - left -\n"
 unfolding shown
 data_behind_the_answer_is_counted = refl
 
@@ -30,7 +31,7 @@ nothing_is_sent_at_the_end_of_the_request : replies (early "GET" 200 (codes "hi"
 unfolding replies
 nothing_is_sent_at_the_end_of_the_request = refl
 
-both_sides_have_ended : shown (early "GET" 200 (codes "hi")) default "000003010400000001828684000003000000000001616263000000000100000001" ≡ codes "phase running last 1\nwindow recv 65532 owed 3 send 65533\npeer table 4096 push 1 streams - window 65535 frame 16384 list - signal 0\nacked 0 goaway -\nblock -\ntable 0 0 4096\nstream 1 ended\n"
+both_sides_have_ended : shown (early "GET" 200 (codes "hi")) default "000003010400000001828684000003000000000001616263000000000100000001" ≡ codes "phase running last 1\nwindow recv 65532 owed 3 send 65533\npeer table 4096 push 1 streams - window 65535 frame 16384 list - signal 0\nacked 0 goaway -\nown table 4096 window 65535 frame 16384 due 0\nblock -\ntable 0 0 4096\nstream 1 ended\n"
 unfolding shown
 both_sides_have_ended = refl
 
@@ -42,7 +43,7 @@ headers_alone_where_no_octet_may_be_sent : replies (early "GET" 200 (codes "hi")
 unfolding replies
 headers_alone_where_no_octet_may_be_sent = refl
 
-body_waits_on_the_open_stream : shown (early "GET" 200 (codes "hi")) default "000006040000000000000400000000000003010400000001828684" ≡ codes "phase running last 1\nwindow recv 65535 owed 0 send 65535\npeer table 4096 push 1 streams - window 0 frame 16384 list - signal 0\nacked 0 goaway -\nblock -\ntable 0 0 4096\nstream 1 open recv 65535 owed 0 send 0 got 0 of - left 2\n"
+body_waits_on_the_open_stream : shown (early "GET" 200 (codes "hi")) default "000006040000000000000400000000000003010400000001828684" ≡ codes "phase running last 1\nwindow recv 65535 owed 0 send 65535\npeer table 4096 push 1 streams - window 0 frame 16384 list - signal 0\nacked 0 goaway -\nown table 4096 window 65535 frame 16384 due 0\nblock -\ntable 0 0 4096\nstream 1 open recv 65535 owed 0 send 0 got 0 of - left 2\n"
 unfolding shown
 body_waits_on_the_open_stream = refl
 
@@ -50,7 +51,7 @@ begun_answer_does_not_begin_again : replies (early "GET" 200 (codes "hi")) defau
 unfolding replies
 begun_answer_does_not_begin_again = refl
 
-body_waits_behind_the_end_of_the_request : shown (early "GET" 200 (codes "hi")) default "000006040000000000000400000000000003010400000001828684000000000100000001" ≡ codes "phase running last 1\nwindow recv 65535 owed 0 send 65535\npeer table 4096 push 1 streams - window 0 frame 16384 list - signal 0\nacked 0 goaway -\nblock -\ntable 0 0 4096\nstream 1 half-remote recv 65535 owed 0 send 0 got 0 of - left 2\n"
+body_waits_behind_the_end_of_the_request : shown (early "GET" 200 (codes "hi")) default "000006040000000000000400000000000003010400000001828684000000000100000001" ≡ codes "phase running last 1\nwindow recv 65535 owed 0 send 65535\npeer table 4096 push 1 streams - window 0 frame 16384 list - signal 0\nacked 0 goaway -\nown table 4096 window 65535 frame 16384 due 0\nblock -\ntable 0 0 4096\nstream 1 half-remote recv 65535 owed 0 send 0 got 0 of - left 2\n"
 unfolding shown
 body_waits_behind_the_end_of_the_request = refl
 
@@ -58,7 +59,7 @@ body_is_sent_behind_the_end_of_the_request : replies (early "GET" 200 (codes "hi
 unfolding replies
 body_is_sent_behind_the_end_of_the_request = refl
 
-body_sent_behind_the_end_of_the_request_ends_the_stream : shown (early "GET" 200 (codes "hi")) default "00000604000000000000040000000000000301040000000182868400000000010000000100000408000000000100000002" ≡ codes "phase running last 1\nwindow recv 65535 owed 0 send 65533\npeer table 4096 push 1 streams - window 0 frame 16384 list - signal 0\nacked 0 goaway -\nblock -\ntable 0 0 4096\nstream 1 ended\n"
+body_sent_behind_the_end_of_the_request_ends_the_stream : shown (early "GET" 200 (codes "hi")) default "00000604000000000000040000000000000301040000000182868400000000010000000100000408000000000100000002" ≡ codes "phase running last 1\nwindow recv 65535 owed 0 send 65533\npeer table 4096 push 1 streams - window 0 frame 16384 list - signal 0\nacked 0 goaway -\nown table 4096 window 65535 frame 16384 due 0\nblock -\ntable 0 0 4096\nstream 1 ended\n"
 unfolding shown
 body_sent_behind_the_end_of_the_request_ends_the_stream = refl
 
@@ -66,7 +67,7 @@ body_is_sent_while_the_request_is_open : replies (early "GET" 200 (codes "hi")) 
 unfolding replies
 body_is_sent_while_the_request_is_open = refl
 
-body_sent_while_the_request_is_open_ends_the_server_side : shown (early "GET" 200 (codes "hi")) default "00000604000000000000040000000000000301040000000182868400000408000000000100000002" ≡ codes "phase running last 1\nwindow recv 65535 owed 0 send 65533\npeer table 4096 push 1 streams - window 0 frame 16384 list - signal 0\nacked 0 goaway -\nblock -\ntable 0 0 4096\nstream 1 half-local recv 65535 owed 0 send 0 got 0 of - left -\n"
+body_sent_while_the_request_is_open_ends_the_server_side : shown (early "GET" 200 (codes "hi")) default "00000604000000000000040000000000000301040000000182868400000408000000000100000002" ≡ codes "phase running last 1\nwindow recv 65535 owed 0 send 65533\npeer table 4096 push 1 streams - window 0 frame 16384 list - signal 0\nacked 0 goaway -\nown table 4096 window 65535 frame 16384 due 0\nblock -\ntable 0 0 4096\nstream 1 half-local recv 65535 owed 0 send 0 got 0 of - left -\n"
 unfolding shown
 body_sent_while_the_request_is_open_ends_the_server_side = refl
 
@@ -78,7 +79,7 @@ trailers_behind_an_empty_answer : replies (early "GET" 204 []) default "00000301
 unfolding replies
 trailers_behind_an_empty_answer = refl
 
-trailers_behind_an_empty_answer_end_the_stream : shown (early "GET" 204 []) default "000003010400000001828684000000010500000001" ≡ codes "phase running last 1\nwindow recv 65535 owed 0 send 65535\npeer table 4096 push 1 streams - window 65535 frame 16384 list - signal 0\nacked 0 goaway -\nblock -\ntable 0 0 4096\nstream 1 ended\n"
+trailers_behind_an_empty_answer_end_the_stream : shown (early "GET" 204 []) default "000003010400000001828684000000010500000001" ≡ codes "phase running last 1\nwindow recv 65535 owed 0 send 65535\npeer table 4096 push 1 streams - window 65535 frame 16384 list - signal 0\nacked 0 goaway -\nown table 4096 window 65535 frame 16384 due 0\nblock -\ntable 0 0 4096\nstream 1 ended\n"
 unfolding shown
 trailers_behind_an_empty_answer_end_the_stream = refl
 
@@ -94,7 +95,7 @@ content_past_the_declared_length_behind_an_answer : replies (early "POST" 200 (c
 unfolding replies
 content_past_the_declared_length_behind_an_answer = refl
 
-content_past_the_declared_length_resets_the_stream : shown (early "POST" 200 (codes "hi")) default "0000070104000000018386840f0d013300000400010000000161626364" ≡ codes "phase running last 1\nwindow recv 65531 owed 4 send 65533\npeer table 4096 push 1 streams - window 65535 frame 16384 list - signal 0\nacked 0 goaway -\nblock -\ntable 0 0 4096\nstream 1 we-reset\n"
+content_past_the_declared_length_resets_the_stream : shown (early "POST" 200 (codes "hi")) default "0000070104000000018386840f0d013300000400010000000161626364" ≡ codes "phase running last 1\nwindow recv 65531 owed 4 send 65533\npeer table 4096 push 1 streams - window 65535 frame 16384 list - signal 0\nacked 0 goaway -\nown table 4096 window 65535 frame 16384 due 0\nblock -\ntable 0 0 4096\nstream 1 we-reset\n"
 unfolding shown
 content_past_the_declared_length_resets_the_stream = refl
 

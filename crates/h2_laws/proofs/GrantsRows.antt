@@ -12,7 +12,7 @@ use Rattle.h2_spec.specs.declared.connection.Config.{Config}
 use Rattle.h2_spec.specs.FrameType.{DATA, HEADERS, RST_STREAM, END_STREAM, END_HEADERS}
 use Rattle.h2_spec.specs.Frame.{Frame, frame}
 use Rattle.h2_spec.specs.Answer.{Entry, answer}
-use Rattle.h2_spec.specs.State.{opening}
+use Rattle.h2_spec.specs.State.{limits, opening}
 use Rattle.h2_spec.specs.Trace.{Event, trace}
 use Rattle.h2_laws.specs.Grants.{Mark, Tally, When, AtEach, IsWithinStream, IsWithinFrameSize, IsInOrder, IsBeforeEnd, IsPrefixOf, IsOfBody, IsUsedUp, body_or_nothing, is_headers_on, is_data_on, is_unfinished, sends_data, sent_one, sent_all, start, Meets}
 use Rattle.h2_laws.specs.GrantsTest.{Test, WithinConnection, WithinStream, WithinFrameSize, AnswersOnce, SilentAfterEnd, NothingHeldBack, when, at_each, is_within_connection, is_within_stream, is_within_frame_size, is_in_order, is_prefix, is_of_body, is_before_end, is_used_up, fails, failing, failing_in}
@@ -112,7 +112,7 @@ failing-tells id ends t sent = (hold, none)
 -- ---- runs
 
 default : Config
-default = record { streams = 100; credit = 32768 }
+default = limits 100 32768
 
 -- a book of one answer: 200 to GET of /
 abbrev get : List ℕ → List Entry

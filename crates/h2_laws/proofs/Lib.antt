@@ -16,6 +16,7 @@ pub mod grants
 mod LongBodies
 mod LongLists
 mod LocalSettingsLaws
+mod LocalSettingsRows
 mod PayloadLaws
 pub mod RequestLaws
 mod RequestRows

@@ -1,7 +1,8 @@
--- The first of the server's own settings stay in force, whatever comes: no rule changes them, and no block takes the
--- header table above their limit.
+-- The server's own settings come into force at the first acknowledgement and are changed by nothing else; no block
+-- takes the header table above the limit that is in force.
 use Rattle.std.proofs.Common.{◌≡◌, ℕ, zero, suc, ◌+◌, ◌≤◌, Bool, true, false, cond, ◌&&◌, not, List, ◌++◌, length, drop, refl, sym, ap, subst, ◌∙◌, arith, leb, leb-true, ltb, eqb, Option, Some, None, Result, Ok, Err}
 use Rattle.std.proofs.lemmas.Bool.{le-ltb}
+use Rattle.std.proofs.Math.Nat.{le_trans}
 use Rattle.std.specs.Prelude.{pos, int_lt, ◌+ℤ◌, ◌-ℤ◌}
 use Rattle.h2_spec.specs.declared.connection.BlockView.{BlockView}
 use Rattle.h2_spec.specs.declared.connection.Config.{Config}
@@ -37,18 +38,18 @@ use Rattle.h2_spec.specs.Block.{Fault, SizeUpdate, Given, Progress, Decoded, Out
 use Rattle.h2_spec.specs.Window.{is_above_max, given_back}
 use Rattle.h2_spec.specs.Settings.{initial_local_settings}
 use Rattle.h2_spec.specs.Answer.{Entry}
-use Rattle.h2_spec.specs.State.{State, OpenBlock, Decoding, is_due, opening}
+use Rattle.h2_spec.specs.State.{State, OpenBlock, Decoding, configured, opening}
 use Rattle.h2_spec.specs.Change.{Step, only_counts, with_outcome, stream_error, made}
 use Rattle.h2_spec.specs.ReactionTable.{Cell, Error, Nothing, Rule, DataRule, Take, Refuse, Count, ResetRule, PeerResets, WindowRule, MoveWindow, run_cell, data_cell, reset_cell, window_cell}
 use Rattle.h2_spec.specs.Data.{owed_as, owed_on_connection, counted, if_within, data_outcome, data_taken, data_refused, data_counted}
 use Rattle.h2_spec.specs.WindowUpdate.{connection_window, window_outcome}
-use Rattle.h2_spec.specs.SettingsFrame.{settings_taken, settings_applied, settings_rule}
+use Rattle.h2_spec.specs.SettingsFrame.{acknowledged, comes_into_force, settings_taken, settings_applied, settings_rule}
 use Rattle.h2_spec.specs.Headers.{FrameEffect, Breaks, Makes, makes, block_ends, fragment_read, fragment_decoded, decoded_with, fragment, max_block, fresh_block, fresh_decoding, continued, continuation}
 use Rattle.h2_spec.specs.Checks.{refusal}
 use Rattle.h2_spec.specs.Effect.{nothing, data_rule, on_data, reset_rule, reset_outcome, on_reset, window_rule, on_window, on_headers, frame_effect, part_effect, checked_effect, block_stream, item_effect, payload_of, concluded, effect}
 use Rattle.h2_spec.specs.SendPending.{send_pending}
 use Rattle.h2_spec.specs.Trace.{then_sent, step, next_item, event_on, next_event, trace}
-use Rattle.h2_laws.specs.LocalSettings.{HasInitialLocalSettings, AllHaveInitialLocalSettings, KeepsLocalSettings}
+use Rattle.h2_laws.specs.LocalSettings.{HasSettingsInForce, AllHaveSettingsInForce, KeepsLocalSettings, most_of_table, settings_in_force}
 
 -- ---- a field block keeps the table within the limit
 
@@ -66,9 +67,10 @@ module _ {S E : Type 0} (P : S → Type 0) (next : S → List ℕ → Front S E)
       at more Stop k = h
       at more (One e t used) k = more t (drop used b) k
 
-module _ (limit : ℕ) where
+-- a table that is no larger than some number stays so, where the limit is no larger either
+module _ (limit most : ℕ) (low : limit ≤ most) where
   abbrev IsWithin : block.DecoderState → Type 0
-  IsWithin d = d.table.max ≤ limit
+  IsWithin d = d.table.max ≤ most
 
   abbrev GivenWithin : Result Given Fault → Type 0
   GivenWithin (Ok g) = IsWithin g.after
@@ -96,7 +98,7 @@ module _ (limit : ℕ) where
   apply-within d (Update n) h = at (not d.begun) (leb n limit) refl
     where
       at : (a b : Bool) → leb n limit ≡ b → GivenWithin (cond (a && b) (Ok (record { field = None; after = record d { table = resize d.table n; due = false } })) (Err SizeUpdate))
-      at true true e = leb-true n limit e
+      at true true e = le_trans (leb-true n limit e) low
       at true false e = tt
       at false b e = tt
   apply-within d (Literal mode name value) h = due-within d.due _ (literal-within mode d (name_of name d.table.entries) (text_result (text_of value)) h)
@@ -114,16 +116,20 @@ module _ (limit : ℕ) where
       at More = tt
       at TooLong = tt
 
-  decoded-within : (p : Progress) (b : List ℕ) → p.table.max ≤ limit → (decoded limit p b).progress.table.max ≤ limit
+  decoded-within : (p : Progress) (b : List ℕ) → p.table.max ≤ most → (decoded limit p b).progress.table.max ≤ most
   unfolding decoded parse_all
   decoded-within p b h = parsed-keeps IsWithin (next_instr limit) next-within (length b) (block.decoding p) b h
 
 -- ---- the rules of the connection
 
--- the counts keep the server's own settings
+-- the settings in force and whether they are acknowledged are those of before
+abbrev AreSame : ConnectionState → ConnectionState → Type 0
+AreSame now before = (now.own ≡ before.own) × (now.acked ≡ before.acked)
+
+-- so they are after a reaction
 abbrev ReactionKeeps : ConnectionState → Reaction → Type 0
 ReactionKeeps core (ConnectionError code) = Unit {0}
-ReactionKeeps core (Continues c) = c.core.own ≡ core.own
+ReactionKeeps core (Continues c) = AreSame c.core core
 
 either-keeps : (core : ConnectionState) (b : Bool) (x y : Reaction) → ReactionKeeps core x → ReactionKeeps core y → ReactionKeeps core (cond b x y)
 either-keeps core true x y h k = h
@@ -131,30 +137,33 @@ either-keeps core false x y h k = k
 
 cell-keeps : {R : Type 0} (core : ConnectionState) (rule : R → Reaction) → ((r : R) → ReactionKeeps core (rule r)) → (c : Cell R) → ReactionKeeps core (run_cell ConnectionError (nothing core) rule c)
 cell-keeps core rule h (Error code) = tt
-cell-keeps core rule h Nothing = refl
+cell-keeps core rule h Nothing = (refl, refl)
 cell-keeps core rule h (Rule r) = h r
 
-counted-own : (threshold : ℕ) (core : ConnectionState) (n : ℕ) → (counted threshold core n).core.own ≡ core.own
+counted-own : (threshold : ℕ) (core : ConnectionState) (n : ℕ) → AreSame (counted threshold core n).core core
 unfolding counted owed_on_connection
 counted-own threshold core n = at (given_back threshold (core.owed + n))
   where
-    at : (o : Option ℕ) → (owed_as o (record core { recv = core.recv -ℤ pos n }) (core.owed + n)).core.own ≡ core.own
-    at (Some m) = refl
-    at None = refl
+    at : (o : Option ℕ) → AreSame (owed_as o (record core { recv = core.recv -ℤ pos n }) (core.owed + n)).core core
+    at (Some m) = (refl, refl)
+    at None = (refl, refl)
 
-outcome-own : (c : Change) (t : StreamOutcome) → (with_outcome c t).core.own ≡ c.core.own
+outcome-own : (c : Change) (t : StreamOutcome) → AreSame (with_outcome c t).core c.core
 unfolding with_outcome
-outcome-own c t = refl
+outcome-own c t = (refl, refl)
+
+same-twice : (a b c : ConnectionState) → AreSame a b → AreSame b c → AreSame a c
+same-twice a b c x y = (x.0 ∙ y.0, x.1 ∙ y.1)
 
 data-keeps : (config : Config) (core : ConnectionState) (body : ℕ) (d : ReceivedData) (st : Stream) → ReactionKeeps core (on_data config core body d st)
 unfolding on_data data_taken data_refused data_counted
 data-keeps config core body d st = cell-keeps core _ by_rule (data_cell st.kind)
   where
-    within : (c : Change) → c.core.own ≡ core.own → ReactionKeeps core (if_within core d.octets c)
+    within : (c : Change) → AreSame c.core core → ReactionKeeps core (if_within core d.octets c)
     within c e = either-keeps core (int_lt core.recv (pos d.octets)) (ConnectionError FlowControlError) (Continues c) tt e
 
     outcome-within : (t : StreamOutcome) → ReactionKeeps core (if_within core d.octets (with_outcome (counted config.credit core d.octets) t))
-    outcome-within t = within (with_outcome (counted config.credit core d.octets) t) (outcome-own (counted config.credit core d.octets) t ∙ counted-own config.credit core d.octets)
+    outcome-within t = within (with_outcome (counted config.credit core d.octets) t) (same-twice (with_outcome (counted config.credit core d.octets) t).core (counted config.credit core d.octets).core core (outcome-own (counted config.credit core d.octets) t) (counted-own config.credit core d.octets))
 
     by_rule : (r : DataRule) → ReactionKeeps core (data_rule r config core body d st)
     by_rule Take = outcome-within (data_outcome config.credit core.peer.size_update_pending body d st)
@@ -179,7 +188,7 @@ connection-keeps : (core : ConnectionState) (n : ℕ) → ReactionKeeps core (co
 unfolding connection_window
 connection-keeps core n =
     either-keeps core (eqb n 0) _ _ tt
-    (either-keeps core (is_above_max (core.send +ℤ pos n)) (ConnectionError FlowControlError) _ tt refl)
+    (either-keeps core (is_above_max (core.send +ℤ pos n)) (ConnectionError FlowControlError) _ tt (refl, refl))
 
 settings-keeps : (streams : List Stream) (core : ConnectionState) (pairs : List (ℕ × ℕ)) → ReactionKeeps core (settings_rule streams core pairs)
 unfolding settings_rule
@@ -187,134 +196,185 @@ settings-keeps streams core pairs = at (settings_applied streams core.peer core.
   where
     at : (r : Result Settings ErrorCode) → ReactionKeeps core (settings_taken core r)
     at (Err code) = tt
-    at (Ok peer) = refl
+    at (Ok peer) = (refl, refl)
 
 -- ---- what a frame results in
 
--- the change keeps the first settings, and the table is within their limit
-abbrev EffectKeeps : FrameEffect → Type 0
-EffectKeeps (Breaks code) = Unit {0}
-EffectKeeps (Makes t c) = (c.core.own ≡ initial_local_settings) × (t.table.max ≤ 4096)
+-- the configuration and the settings in force are those of before, and the table is no larger than this
+abbrev EffectKeeps : State → ℕ → FrameEffect → Type 0
+EffectKeeps s most (Breaks code) = Unit {0}
+EffectKeeps s most (Makes t c) = (t.config ≡ s.config) × AreSame c.core s.core × (t.table.max ≤ most)
 
-ends-own : (s : State) (id : ℕ) (ends : Bool) (fields : List Field) (purpose : Purpose) → (block_ends s id ends fields purpose).core.own ≡ s.core.own
+ends-own : (s : State) (id : ℕ) (ends : Bool) (fields : List Field) (purpose : Purpose) → AreSame (block_ends s id ends fields purpose).core s.core
 ends-own s id ends fields Request = outcome-own _ _
 ends-own s id ends fields Trailers = outcome-own _ _
 ends-own s id ends fields Closed = outcome-own _ _
-ends-own s id ends fields TableOnly = refl
+ends-own s id ends fields TableOnly = (refl, refl)
 
--- own: the settings; within: the header table
-module _ (s : State) (own : s.core.own ≡ initial_local_settings) (within : s.table.max ≤ 4096) where
-  makes-keeps : (r : Reaction) → ReactionKeeps s.core r → EffectKeeps (makes s r)
+-- within: the header table
+module _ (s : State) (most : ℕ) (within : s.table.max ≤ most) where
+  makes-keeps : (r : Reaction) → ReactionKeeps s.core r → EffectKeeps s most (makes s r)
   makes-keeps (ConnectionError code) h = tt
-  makes-keeps (Continues c) h = (h ∙ own, within)
+  makes-keeps (Continues c) h = (refl, h, within)
 
-  read-keeps : (b : BlockView) (d : Decoding) (ends : Bool) → EffectKeeps (fragment_read s b d ends)
-  read-keeps b d false = (own, within)
-  read-keeps b d true = at (eqb (length d.rest) 0)
+  read-keeps : (b : BlockView) (d : Decoding) (ends : Bool) → EffectKeeps s most (fragment_read s b d ends)
+  read-keeps b d false = (refl, (refl, refl), within)
+  read-keeps b d true = at (eqb (length d.rest) 0 && not d.due)
     where
-      at : (c : Bool) → EffectKeeps (cond c (Makes (record s { block = None }) (block_ends s b.stream b.ends d.fields d.purpose)) (Breaks CompressionError))
-      at true = (ends-own s b.stream b.ends d.fields d.purpose ∙ own, within)
+      at : (c : Bool) → EffectKeeps s most (cond c (Makes (record s { block = None }) (block_ends s b.stream b.ends d.fields d.purpose)) (Breaks CompressionError))
+      at true = (refl, ends-own s b.stream b.ends d.fields d.purpose, within)
       at false = tt
 
-decoded-keeps : (s : State) (own : s.core.own ≡ initial_local_settings) (b : BlockView) (purpose : Purpose) (ends : Bool) (p : Progress) (o : Outcome) → p.table.max ≤ 4096 →
-    EffectKeeps (fragment_decoded s b purpose ends (record { progress = p; outcome = o }))
-decoded-keeps s own b purpose ends p (Unfinished rest) h = read-keeps (record s { table = p.table }) own h _ _ ends
-decoded-keeps s own b purpose ends p (Faulty fault) h = tt
+decoded-keeps : (s : State) (most : ℕ) (b : BlockView) (purpose : Purpose) (ends : Bool) (p : Progress) (o : Outcome) → p.table.max ≤ most →
+    EffectKeeps s most (fragment_decoded s b purpose ends (record { progress = p; outcome = o }))
+decoded-keeps s most b purpose ends p (Unfinished rest) h = read-keeps (record s { table = p.table }) most h _ _ ends
+decoded-keeps s most b purpose ends p (Faulty fault) h = tt
 
-fragment-keeps : (s : State) (own : s.core.own ≡ initial_local_settings) (within : s.table.max ≤ 4096) (b : BlockView) (d : Decoding) (octets : List ℕ) (ends : Bool) → EffectKeeps (fragment s b d octets ends)
-fragment-keeps s own within b d octets ends = at (ltb max_block (b.octets + length octets))
-  where
-    most : s.core.own.table ≡ 4096
-    most = ap (λ (o : LocalSettings). o.table) own
+-- low: the limit of the table
+module _ (s : State) (most : ℕ) (low : s.core.own.table ≤ most) (within : s.table.max ≤ most) where
+  fragment-keeps : (b : BlockView) (d : Decoding) (octets : List ℕ) (ends : Bool) → EffectKeeps s most (fragment s b d octets ends)
+  fragment-keeps b d octets ends = at (ltb max_block (b.octets + length octets))
+    where
+      all : Decoded
+      all = decoded_with s d octets
 
-    all : Decoded
-    all = decoded_with s d octets
+      few : all.progress.table.max ≤ most
+      few = decoded-within s.core.own.table most low (record { fields = d.fields; table = s.table; due = d.due }) (d.rest ++ octets) within
 
-    few : all.progress.table.max ≤ 4096
-    few = subst (λ n. all.progress.table.max ≤ n) most (decoded-within s.core.own.table (record { fields = d.fields; table = s.table; due = is_due s }) (d.rest ++ octets) (subst (λ n. s.table.max ≤ n) (sym most) within))
+      at : (c : Bool) → EffectKeeps s most (cond c (Breaks EnhanceYourCalm) (fragment_decoded s (record b { octets = b.octets + length octets }) d.purpose ends all))
+      at true = tt
+      at false = decoded-keeps s most (record b { octets = b.octets + length octets }) d.purpose ends all.progress all.outcome few
 
-    at : (c : Bool) → EffectKeeps (cond c (Breaks EnhanceYourCalm) (fragment_decoded s (record b { octets = b.octets + length octets }) d.purpose ends all))
-    at true = tt
-    at false = decoded-keeps s own (record b { octets = b.octets + length octets }) d.purpose ends all.progress all.outcome few
-
-module _ (s : State) (own : s.core.own ≡ initial_local_settings) (within : s.table.max ≤ 4096) where
-  continued-keeps : (b : BlockView) (o : Option Decoding) (octets : List ℕ) (ends : Bool) → EffectKeeps (continued s b o octets ends)
+  continued-keeps : (b : BlockView) (o : Option Decoding) (octets : List ℕ) (ends : Bool) → EffectKeeps s most (continued s b o octets ends)
   continued-keeps b None octets ends = tt
-  continued-keeps b (Some d) octets ends = fragment-keeps s own within b d octets ends
+  continued-keeps b (Some d) octets ends = fragment-keeps b d octets ends
 
-  continuation-keeps : (o : Option OpenBlock) (octets : List ℕ) (ends : Bool) → EffectKeeps (continuation s o octets ends)
+  continuation-keeps : (o : Option OpenBlock) (octets : List ℕ) (ends : Bool) → EffectKeeps s most (continuation s o octets ends)
   continuation-keeps None octets ends = tt
   continuation-keeps (Some b) octets ends = continued-keeps b.shown b.decoding octets ends
 
-  headers-keeps : (h : Head) (part : HeadersPart) (c : Cell Purpose) → EffectKeeps (on_headers s h part c)
+  headers-keeps : (h : Head) (part : HeadersPart) (c : Cell Purpose) → EffectKeeps s most (on_headers s h part c)
   headers-keeps h part (Error code) = tt
-  headers-keeps h part Nothing = (own, within)
-  headers-keeps h part (Rule purpose) = fragment-keeps s own within (fresh_block h) (fresh_decoding purpose) part.fragment (has h.flags END_HEADERS)
+  headers-keeps h part Nothing = (refl, (refl, refl), within)
+  headers-keeps h part (Rule purpose) = fragment-keeps (fresh_block h) (fresh_decoding s purpose) part.fragment (has h.flags END_HEADERS)
 
-  frame-keeps : (h : Head) (p : List ℕ) (part : Part) → EffectKeeps (frame_effect s h p part)
-  frame-keeps h p (OfData part) = makes-keeps s own within _ (data-keeps s.config s.core _ _ _)
-  frame-keeps h p (OfHeaders part) = headers-keeps h part _
-  frame-keeps h p OfPriority = (own, within)
-  frame-keeps h p (OfRstStream code) = makes-keeps s own within _ (reset-keeps s.core _)
-  frame-keeps h p (OfSettings pairs) = makes-keeps s own within _ (settings-keeps s.streams s.core pairs)
-  frame-keeps h p OfSettingsAck = (own, within)
-  frame-keeps h p OfPushPromise = tt
-  frame-keeps h p (OfPing octets) = makes-keeps s own within _ (either-keeps s.core (has h.flags ACK) (nothing s.core) (Continues (record (only_counts s.core) { first = PingAck })) refl refl)
-  frame-keeps h p (OfGoaway last code) = (own, within)
-  frame-keeps h p (OfWindowUpdate n) = makes-keeps s own within _ (either-keeps s.core (eqb h.stream 0) (connection_window s.core n) _ (connection-keeps s.core n) (window-keeps s.core n _))
-  frame-keeps h p (OfContinuation octets) = continuation-keeps s.block octets (has h.flags END_HEADERS)
-  frame-keeps h p OfUnknown = (own, within)
+-- ---- what an item results in
 
-  part-keeps : (h : Head) (p : List ℕ) (r : Result Part PayloadFault) → EffectKeeps (part_effect s h p r)
-  part-keeps h p (Ok part) = frame-keeps h p part
-  part-keeps h p (Err SizeFault) = tt
-  part-keeps h p (Err PadFault) = tt
+-- the settings in force after it, and the table within what they allowed
+abbrev EffectHas : Config → FrameEffect → Type 0
+EffectHas config (Breaks code) = Unit {0}
+EffectHas config (Makes t c) = (t.config ≡ config) × (c.core.own ≡ settings_in_force config c.core.acked) × (t.table.max ≤ most_of_table config c.core.acked)
 
-  checked-keeps : (h : Head) (p : List ℕ) (o : Option ErrorCode) → EffectKeeps (checked_effect s h p o)
-  checked-keeps h p None = part-keeps h p (part_of h p)
-  checked-keeps h p (Some code) = tt
+-- the limit in force is within the most
+low-limit : (config : Config) (acked : Bool) → (settings_in_force config acked).table ≤ most_of_table config acked
+low-limit config false = omega arith
+low-limit config true = omega arith
 
-  item-keeps : (item : Item) → EffectKeeps (item_effect s item)
-  item-keeps Preface = (own, within)
-  item-keeps BadPreface = tt
-  item-keeps (Oversize h) = tt
-  item-keeps (WholeFrame h p) = checked-keeps h p (refusal (block_stream s.block) s.core.phase h)
+-- same: the configuration; own: the settings in force; within: the header table
+module _ (config : Config) (s : State) (same : s.config ≡ config) (own : s.core.own ≡ settings_in_force config s.core.acked) (within : s.table.max ≤ most_of_table config s.core.acked) where
+  abbrev most : ℕ
+  most = most_of_table config s.core.acked
+
+  low : s.core.own.table ≤ most
+  low = subst (λ (o : LocalSettings). o.table ≤ most) (sym own) (low-limit config s.core.acked)
+
+  kept : (e : FrameEffect) → EffectKeeps s most e → EffectHas config e
+  kept (Breaks code) k = tt
+  kept (Makes t c) k = (
+    k.0 ∙ same,
+    k.1.0 ∙ own ∙ ap (settings_in_force config) (sym k.1.1),
+    subst (λ b. t.table.max ≤ most_of_table config b) (sym k.1.1) k.2,
+  )
+
+  reacts : (r : Reaction) → ReactionKeeps s.core r → EffectHas config (makes s r)
+  reacts r h = kept (makes s r) (makes-keeps s most within r h)
+
+  acknowledged-has : EffectHas config (makes s (acknowledged s.config s.core))
+  acknowledged-has = at s.core.acked own within
+    where
+      at : (b : Bool) → s.core.own ≡ settings_in_force config b → s.table.max ≤ most_of_table config b →
+          EffectHas config (makes s (cond b (Continues (only_counts (record s.core { acked = b }))) (Continues (comes_into_force s.core (configured s.config)))))
+      at true o w = (same, o, w)
+      at false o w = (same, ap configured same, omega (arith, w))
+
+  frame-has : (h : Head) (p : List ℕ) (part : Part) → EffectHas config (frame_effect s h p part)
+  frame-has h p (OfData part) = reacts _ (data-keeps s.config s.core _ _ _)
+  frame-has h p (OfHeaders part) = kept _ (headers-keeps s most low within h part _)
+  frame-has h p OfPriority = (same, own, within)
+  frame-has h p (OfRstStream code) = reacts _ (reset-keeps s.core _)
+  frame-has h p (OfSettings pairs) = reacts _ (settings-keeps s.streams s.core pairs)
+  frame-has h p OfSettingsAck = acknowledged-has
+  frame-has h p OfPushPromise = tt
+  frame-has h p (OfPing octets) = reacts _ (either-keeps s.core (has h.flags ACK) (nothing s.core) (Continues (record (only_counts s.core) { first = PingAck })) (refl, refl) (refl, refl))
+  frame-has h p (OfGoaway last code) = (same, own, within)
+  frame-has h p (OfWindowUpdate n) = reacts _ (either-keeps s.core (eqb h.stream 0) (connection_window s.core n) _ (connection-keeps s.core n) (window-keeps s.core n _))
+  frame-has h p (OfContinuation octets) = kept _ (continuation-keeps s most low within s.block octets (has h.flags END_HEADERS))
+  frame-has h p OfUnknown = (same, own, within)
+
+  part-has : (h : Head) (p : List ℕ) (r : Result Part PayloadFault) → EffectHas config (part_effect s h p r)
+  part-has h p (Ok part) = frame-has h p part
+  part-has h p (Err SizeFault) = tt
+  part-has h p (Err PadFault) = tt
+
+  checked-has : (h : Head) (p : List ℕ) (o : Option ErrorCode) → EffectHas config (checked_effect s h p o)
+  checked-has h p None = part-has h p (part_of h p)
+  checked-has h p (Some code) = tt
+
+  item-has : (item : Item) → EffectHas config (item_effect s item)
+  item-has Preface = (same, own, within)
+  item-has BadPreface = tt
+  item-has (Oversize h) = tt
+  item-has (WholeFrame h p) = checked-has h p (refusal (block_stream s.block) s.core.phase h)
 
 -- ---- a run
 
-first-own : (s : State) → s.core.own ≡ initial_local_settings → s.table.max ≤ 4096 → HasInitialLocalSettings s
-first-own s own within = record { own = own; within = within; not_due = rw own (le-ltb 4096 s.table.max within) }
+-- the configuration stays, and these settings are in force
+abbrev Stands : Config → State → Type 0
+Stands config s = (s.config ≡ config) × HasSettingsInForce config s
 
-sending-keeps : (s : State) → HasInitialLocalSettings s → HasInitialLocalSettings (send_pending s).state
+stands : (config : Config) (s : State) → s.config ≡ config → s.core.own ≡ settings_in_force config s.core.acked → s.table.max ≤ most_of_table config s.core.acked → Stands config s
+stands config s same own within = (
+  same,
+  record {
+    own = own;
+    within = within;
+    not_due = λ e.
+        let first : s.core.own ≡ initial_local_settings = own ∙ ap (settings_in_force config) e in
+        let few : s.table.max ≤ 4096 = subst (λ b. s.table.max ≤ most_of_table config b) e within in
+        rw first (le-ltb 4096 s.table.max few);
+  },
+)
+
+sending-keeps : (config : Config) (s : State) → Stands config s → Stands config (send_pending s).state
 unfolding send_pending
-sending-keeps s h = first-own _ h.own h.within
+sending-keeps config s h = stands config _ h.0 h.1.own h.1.within
 
-step-keeps : (s : State) (item : Item) → HasInitialLocalSettings s → HasInitialLocalSettings (step s item).state
+step-keeps : (config : Config) (s : State) (item : Item) → Stands config s → Stands config (step s item).state
 unfolding step effect
-step-keeps s item h = at (item_effect s item) (item-keeps s h.own h.within item)
+step-keeps config s item h = at (item_effect s item) (item-has config s h.0 h.1.own h.1.within item)
   where
-    sends : (e : Step) → HasInitialLocalSettings e.state → (p : Phase) → HasInitialLocalSettings (then_sent p e).state
+    sends : (e : Step) → Stands config e.state → (p : Phase) → Stands config (then_sent p e).state
     sends e k (phase.Ended code) = k
-    sends e k phase.Preface = sending-keeps e.state k
-    sends e k phase.Settings = sending-keeps e.state k
-    sends e k phase.Running = sending-keeps e.state k
+    sends e k phase.Preface = sending-keeps config e.state k
+    sends e k phase.Settings = sending-keeps config e.state k
+    sends e k phase.Running = sending-keeps config e.state k
 
-    at : (e : FrameEffect) → EffectKeeps e → HasInitialLocalSettings (then_sent (concluded s (payload_of item) e).state.core.phase (concluded s (payload_of item) e)).state
-    at (Breaks code) k = first-own _ h.own h.within
-    at (Makes t c) k = sends (made t (payload_of item) c) (first-own _ k.0 k.1) c.core.phase
+    at : (e : FrameEffect) → EffectHas config e → Stands config (then_sent (concluded s (payload_of item) e).state.core.phase (concluded s (payload_of item) e)).state
+    at (Breaks code) k = stands config _ h.0 h.1.own h.1.within
+    at (Makes t c) k = sends (made t (payload_of item) c) (stands config _ k.0 k.1 k.2) c.core.phase
 
-events-keep : (n : ℕ) (s : State) (b : List ℕ) → HasInitialLocalSettings s → AllHaveInitialLocalSettings (parse_upto next_event n s b).elements
+events-keep : (config : Config) (n : ℕ) (s : State) (b : List ℕ) → Stands config s → AllHaveSettingsInForce config (parse_upto next_event n s b).elements
 unfolding next_event
-events-keep zero s b h = tt
-events-keep (suc n) s b h = at (λ t rest k. events-keep n t rest k) (next_item s b)
+events-keep config zero s b h = tt
+events-keep config (suc n) s b h = at (λ t rest k. events-keep config n t rest k) (next_item s b)
   where
-    at : ((t : State) (rest : List ℕ) → HasInitialLocalSettings t → AllHaveInitialLocalSettings (parse_upto next_event n t rest).elements) → (y : Next) → AllHaveInitialLocalSettings (parse_first s b (event_on s y) (λ t rest. parse_upto next_event n t rest)).elements
+    at : ((t : State) (rest : List ℕ) → Stands config t → AllHaveSettingsInForce config (parse_upto next_event n t rest).elements) → (y : Next) → AllHaveSettingsInForce config (parse_first s b (event_on s y) (λ t rest. parse_upto next_event n t rest)).elements
     at more NoItem = tt
-    at more (Got item used) = let k = step-keeps s item h in (k, more (step s item).state (drop used b) k)
+    at more (Got item used) = let k = step-keeps config s item h in (k.1, more (step s item).state (drop used b) k)
 
-opening-own : (book : List Entry) (config : Config) → HasInitialLocalSettings (opening book config)
-opening-own book config = first-own (opening book config) refl (omega arith)
+opening-stands : (book : List Entry) (config : Config) → Stands config (opening book config)
+opening-stands book config = stands config (opening book config) refl refl (omega arith)
 
-pub own-kept : (book : List Entry) (config : Config) (octets : List ℕ) → KeepsLocalSettings book config octets
+pub settings-kept : (book : List Entry) (config : Config) (octets : List ℕ) → KeepsLocalSettings book config octets
 unfolding trace parse_all
-own-kept book config b = (opening-own book config, events-keep (length b) (opening book config) b (opening-own book config))
+settings-kept book config b = ((opening-stands book config).1, events-keep config (length b) (opening book config) b (opening-stands book config))

@@ -4,12 +4,12 @@ use Prim.Native.String.{String}
 use Rattle.h2_spec.specs.declared.connection.Config.{Config}
 use Rattle.h2_spec.specs.declared.streams.Stream.{Stream}
 use Rattle.h2_spec.specs.Answer.{Entry, answer}
-use Rattle.h2_spec.specs.State.{State, opening}
+use Rattle.h2_spec.specs.State.{State, limits, opening}
 use Rattle.h2_spec.specs.Trace.{trace, sent_octets}
 use Rattle.h2_laws.proofs.Hex.{hex}
 
 abbrev default : Config
-default = record { streams = 100; credit = 32768 }
+default = limits 100 32768
 
 -- one answer with a body of this many octets
 abbrev long : ℕ → List Entry

@@ -2,7 +2,7 @@
 -- 9113, 10.5.1).
 use Rattle.std.specs.Prelude.{◌≡◌, ℕ, ◌++◌, List, [], take, drop, refl, codes, replicate}
 use Prim.Native.String.{String}
-use Rattle.h2_spec.specs.State.{opening}
+use Rattle.h2_spec.specs.State.{limits, opening}
 use Rattle.h2_spec.specs.Trace.{trace, sent_octets}
 use Rattle.h2_laws.proofs.Hex.{hex}
 
@@ -18,7 +18,7 @@ in_frames block last =
 
 sent : List ℕ → List ℕ
 unfolding trace sent_octets
-sent b = sent_octets (trace (opening [] (record { streams = 100; credit = 32768 })) (hex (codes "505249202a20485454502f322e300d0a0d0a534d0d0a0d0a000000040000000000") ++ b)).events
+sent b = sent_octets (trace (opening [] (limits 100 32768)) (hex (codes "505249202a20485454502f322e300d0a0d0a534d0d0a0d0a000000040000000000") ++ b)).events
 
 -- 65,380 octets of value: 123 + 33 + 65,380 = 65,536; the block has 65,390
 largest_list_is_answered : sent (in_frames (fields "7fe5fd03" 65380) "003f6e090400000001") ≡ hex (codes "0000000401000000000000010105000000018d")

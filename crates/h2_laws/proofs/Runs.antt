@@ -7,14 +7,11 @@ use Prim.Native.String.{String}
 use Rattle.h2_spec.specs.declared.connection.Config.{Config}
 use Rattle.h2_spec.specs.Answer.{Entry, answer}
 use Rattle.h2_spec.specs.Opening.{opening_octets}
-use Rattle.h2_spec.specs.State.{State, opening}
+use Rattle.h2_spec.specs.State.{State, limits, opening}
 use Rattle.h2_spec.specs.Trace.{trace, sent_octets}
 use Rattle.h2_spec.specs.View.{view}
 use Rattle.h2_spec.specs.Show.{show}
 use Rattle.h2_laws.proofs.Hex.{hex}
-
-abbrev pub limits : ℕ → ℕ → Config
-limits streams credit = record { streams = streams; credit = credit }
 
 abbrev pub default : Config
 default = limits 100 32768
@@ -42,7 +39,7 @@ unfolding trace
 ready book config = (trace (opening book config) beginning).state
 
 -- what is sent for octets behind the beginning
-replies_to : List Entry → Config → List ℕ → List ℕ
+unfoldable pub replies_to : List Entry → Config → List ℕ → List ℕ
 unfolding ready sent_octets
 replies_to book config octets = sent_octets (trace (ready book config) octets).events
 
@@ -104,7 +101,7 @@ ping_is_answered : replies [] default "0000080600000000000102030405060708" ≡ h
 unfolding replies
 ping_is_answered = refl
 
-ping_changes_nothing : shown [] default "0000080600000000000102030405060708" ≡ codes "phase running last 0\nwindow recv 65535 owed 0 send 65535\npeer table 4096 push 1 streams - window 65535 frame 16384 list - signal 0\nacked 0 goaway -\nblock -\ntable 0 0 4096\n"
+ping_changes_nothing : shown [] default "0000080600000000000102030405060708" ≡ codes "phase running last 0\nwindow recv 65535 owed 0 send 65535\npeer table 4096 push 1 streams - window 65535 frame 16384 list - signal 0\nacked 0 goaway -\nown table 4096 window 65535 frame 16384 due 0\nblock -\ntable 0 0 4096\n"
 unfolding shown
 ping_changes_nothing = refl
 
@@ -128,12 +125,12 @@ settings_acknowledgement : replies [] default "000000040100000000" ≡ hex (code
 unfolding replies
 settings_acknowledgement = refl
 
-settings_acknowledgement_is_noted : shown [] default "000000040100000000" ≡ codes "phase running last 0\nwindow recv 65535 owed 0 send 65535\npeer table 4096 push 1 streams - window 65535 frame 16384 list - signal 0\nacked 1 goaway -\nblock -\ntable 0 0 4096\n"
+settings_acknowledgement_is_noted : shown [] default "000000040100000000" ≡ codes "phase running last 0\nwindow recv 65535 owed 0 send 65535\npeer table 4096 push 1 streams - window 65535 frame 16384 list - signal 0\nacked 1 goaway -\nown table 4096 window 65535 frame 16384 due 0\nblock -\ntable 0 0 4096\n"
 unfolding shown
 settings_acknowledgement_is_noted = refl
 
 -- without the reserved bit
-goaway_is_noted : shown [] default "0000080700000000008000000300000002" ≡ codes "phase running last 0\nwindow recv 65535 owed 0 send 65535\npeer table 4096 push 1 streams - window 65535 frame 16384 list - signal 0\nacked 0 goaway 3 2\nblock -\ntable 0 0 4096\n"
+goaway_is_noted : shown [] default "0000080700000000008000000300000002" ≡ codes "phase running last 0\nwindow recv 65535 owed 0 send 65535\npeer table 4096 push 1 streams - window 65535 frame 16384 list - signal 0\nacked 0 goaway 3 2\nown table 4096 window 65535 frame 16384 due 0\nblock -\ntable 0 0 4096\n"
 unfolding shown
 goaway_is_noted = refl
 
@@ -163,7 +160,7 @@ get_is_answered : replies (get (codes "hi")) default "00001401050000000182868441
 unfolding replies
 get_is_answered = refl
 
-get_is_shown : shown (get (codes "hi")) default "000014010500000001828684410f7777772e6578616d706c652e636f6d" ≡ codes "phase running last 1\nwindow recv 65535 owed 0 send 65533\npeer table 4096 push 1 streams - window 65535 frame 16384 list - signal 0\nacked 0 goaway -\nblock -\ntable 1 57 4096\nentry 62 3a617574686f72697479 7777772e6578616d706c652e636f6d\nstream 1 ended\n"
+get_is_shown : shown (get (codes "hi")) default "000014010500000001828684410f7777772e6578616d706c652e636f6d" ≡ codes "phase running last 1\nwindow recv 65535 owed 0 send 65533\npeer table 4096 push 1 streams - window 65535 frame 16384 list - signal 0\nacked 0 goaway -\nown table 4096 window 65535 frame 16384 due 0\nblock -\ntable 1 57 4096\nentry 62 3a617574686f72697479 7777772e6578616d706c652e636f6d\nstream 1 ended\n"
 unfolding shown
 get_is_shown = refl
 
@@ -172,7 +169,7 @@ unfolding replies
 get_in_two_fragments = refl
 
 -- three fields are whole, of 42, 43 and 38 octets
-open_block_is_shown : shown (get (codes "hi")) default "000007010100000001828684418cf1e3" ≡ codes "phase running last 0\nwindow recv 65535 owed 0 send 65535\npeer table 4096 push 1 streams - window 65535 frame 16384 list - signal 0\nacked 0 goaway -\nblock stream 1 octets 7 list 123 ends 1\ntable 0 0 4096\n"
+open_block_is_shown : shown (get (codes "hi")) default "000007010100000001828684418cf1e3" ≡ codes "phase running last 0\nwindow recv 65535 owed 0 send 65535\npeer table 4096 push 1 streams - window 65535 frame 16384 list - signal 0\nacked 0 goaway -\nown table 4096 window 65535 frame 16384 due 0\nblock stream 1 octets 7 list 123 ends 1\ntable 0 0 4096\n"
 unfolding shown
 open_block_is_shown = refl
 
@@ -244,7 +241,7 @@ data_on_half_closed : replies (get (codes "hi")) default "0000060400000000000004
 unfolding replies
 data_on_half_closed = refl
 
-data_on_half_closed_is_counted : shown (get (codes "hi")) default "000006040000000000000400000000000014010500000001828684410f7777772e6578616d706c652e636f6d000003000000000001616263000003000000000001616263" ≡ codes "phase running last 1\nwindow recv 65529 owed 6 send 65535\npeer table 4096 push 1 streams - window 0 frame 16384 list - signal 0\nacked 0 goaway -\nblock -\ntable 1 57 4096\nentry 62 3a617574686f72697479 7777772e6578616d706c652e636f6d\nstream 1 we-reset\n"
+data_on_half_closed_is_counted : shown (get (codes "hi")) default "000006040000000000000400000000000014010500000001828684410f7777772e6578616d706c652e636f6d000003000000000001616263000003000000000001616263" ≡ codes "phase running last 1\nwindow recv 65529 owed 6 send 65535\npeer table 4096 push 1 streams - window 0 frame 16384 list - signal 0\nacked 0 goaway -\nown table 4096 window 65535 frame 16384 due 0\nblock -\ntable 1 57 4096\nentry 62 3a617574686f72697479 7777772e6578616d706c652e636f6d\nstream 1 we-reset\n"
 unfolding shown
 data_on_half_closed_is_counted = refl
 
@@ -308,7 +305,7 @@ peer_reset_is_silent : replies [] default "0000030104000000018286840000040300000
 unfolding replies
 peer_reset_is_silent = refl
 
-peer_reset_is_shown : shown [] default "00000301040000000182868400000403000000000100000008" ≡ codes "phase running last 1\nwindow recv 65535 owed 0 send 65535\npeer table 4096 push 1 streams - window 65535 frame 16384 list - signal 0\nacked 0 goaway -\nblock -\ntable 0 0 4096\nstream 1 peer-reset\n"
+peer_reset_is_shown : shown [] default "00000301040000000182868400000403000000000100000008" ≡ codes "phase running last 1\nwindow recv 65535 owed 0 send 65535\npeer table 4096 push 1 streams - window 65535 frame 16384 list - signal 0\nacked 0 goaway -\nown table 4096 window 65535 frame 16384 due 0\nblock -\ntable 0 0 4096\nstream 1 peer-reset\n"
 unfolding shown
 peer_reset_is_shown = refl
 
@@ -329,7 +326,7 @@ refused_and_indexed : replies [] (limits 1 32768) "00000301040000000182868400000
 unfolding replies
 refused_and_indexed = refl
 
-refused_is_shown : shown [] (limits 1 32768) "0000030104000000018286840000080105000000038286844001610162000000000100000001000004010500000005828684be" ≡ codes "phase running last 5\nwindow recv 65535 owed 0 send 65535\npeer table 4096 push 1 streams - window 65535 frame 16384 list - signal 0\nacked 0 goaway -\nblock -\ntable 1 34 4096\nentry 62 61 62\nstream 1 ended\nstream 3 we-reset\nstream 5 ended\n"
+refused_is_shown : shown [] (limits 1 32768) "0000030104000000018286840000080105000000038286844001610162000000000100000001000004010500000005828684be" ≡ codes "phase running last 5\nwindow recv 65535 owed 0 send 65535\npeer table 4096 push 1 streams - window 65535 frame 16384 list - signal 0\nacked 0 goaway -\nown table 4096 window 65535 frame 16384 due 0\nblock -\ntable 1 34 4096\nentry 62 61 62\nstream 1 ended\nstream 3 we-reset\nstream 5 ended\n"
 unfolding shown
 refused_is_shown = refl
 
@@ -376,7 +373,7 @@ padding_is_counted : replies [] default "000003010400000001828684000003000800000
 unfolding replies
 padding_is_counted = refl
 
-padding_is_counted_and_shown : shown [] default "000003010400000001828684000003000800000001020000" ≡ codes "phase running last 1\nwindow recv 65532 owed 3 send 65535\npeer table 4096 push 1 streams - window 65535 frame 16384 list - signal 0\nacked 0 goaway -\nblock -\ntable 0 0 4096\nstream 1 open recv 65532 owed 3 send 65535 got 0 of - left -\n"
+padding_is_counted_and_shown : shown [] default "000003010400000001828684000003000800000001020000" ≡ codes "phase running last 1\nwindow recv 65532 owed 3 send 65535\npeer table 4096 push 1 streams - window 65535 frame 16384 list - signal 0\nacked 0 goaway -\nown table 4096 window 65535 frame 16384 due 0\nblock -\ntable 0 0 4096\nstream 1 open recv 65532 owed 3 send 65535 got 0 of - left -\n"
 unfolding shown
 padding_is_counted_and_shown = refl
 
@@ -402,7 +399,7 @@ settings_overflow_a_window : replies [] default "0000030104000000018286840000040
 unfolding replies
 settings_overflow_a_window = refl
 
-refused_settings_change_nothing : shown [] default "0000030104000000018286840000040800000000010000000100000604000000000000047fffffff" ≡ codes "phase ended 3 last 1\nwindow recv 65535 owed 0 send 65535\npeer table 4096 push 1 streams - window 65535 frame 16384 list - signal 0\nacked 0 goaway -\nblock -\ntable 0 0 4096\nstream 1 open recv 65535 owed 0 send 65536 got 0 of - left -\n"
+refused_settings_change_nothing : shown [] default "0000030104000000018286840000040800000000010000000100000604000000000000047fffffff" ≡ codes "phase ended 3 last 1\nwindow recv 65535 owed 0 send 65535\npeer table 4096 push 1 streams - window 65535 frame 16384 list - signal 0\nacked 0 goaway -\nown table 4096 window 65535 frame 16384 due 0\nblock -\ntable 0 0 4096\nstream 1 open recv 65535 owed 0 send 65536 got 0 of - left -\n"
 unfolding shown
 refused_settings_change_nothing = refl
 
@@ -430,7 +427,7 @@ settings_ack_with_octets : replies [] default "00000604010000000000040000ffff" �
 unfolding replies
 settings_ack_with_octets = refl
 
-settings_are_shown : shown [] default "00002404000000000000010000006400020000000000030000000a00040000ffff0005000040000006000003e8" ≡ codes "phase running last 0\nwindow recv 65535 owed 0 send 65535\npeer table 100 push 0 streams 10 window 65535 frame 16384 list 1000 signal 1\nacked 0 goaway -\nblock -\ntable 0 0 4096\n"
+settings_are_shown : shown [] default "00002404000000000000010000006400020000000000030000000a00040000ffff0005000040000006000003e8" ≡ codes "phase running last 0\nwindow recv 65535 owed 0 send 65535\npeer table 100 push 0 streams 10 window 65535 frame 16384 list 1000 signal 1\nacked 0 goaway -\nown table 4096 window 65535 frame 16384 due 0\nblock -\ntable 0 0 4096\n"
 unfolding shown
 settings_are_shown = refl
 

@@ -109,7 +109,7 @@ abbrev pub received_part : List Entry → ℕ → State → Tally → Head → P
 received_part book id s t h (OfSettings pairs) = with_settings t pairs
 received_part book id s t h (OfWindowUpdate increment) = granted_on id t h.stream increment
 received_part book id s t h (OfRstStream code) = with_mark_on id h.stream t (record t.mark { reset = true })
-received_part book id s t h (OfHeaders part) = with_fragment book id s t h (Some (fresh_decoding Request)) part.fragment
+received_part book id s t h (OfHeaders part) = with_fragment book id s t h (Some (fresh_decoding s Request)) part.fragment
 received_part book id s t h (OfContinuation fragment) = with_fragment book id s t h (open_decoding s.block) fragment
 received_part book id s t h (OfData part) = t
 received_part book id s t h OfPriority = t

@@ -19,9 +19,8 @@ pub fn no_spelling_begins_another()
     ensures stays_too_long { (octets more : List ℕ) → instr_at octets ≡ TooLong → instr_at (octets ++ more) ≡ TooLong }
 {}
 
-/// There is one way to write octets as instructions in a row and a rest that begins with none, and splitting finds
-/// it; octets
-/// in two pieces split as their sum does (RFC 7541, 6).
+/// There is one way to write octets as instructions in a row and a rest that begins with none, and splitting finds it;
+/// octets in two pieces split as their sum does (RFC 7541, 6).
 pub fn octets_split_in_one_way()
     ensures split { (octets : List ℕ) → Splits octets (split octets).elements (split octets).rest }
     ensures one_way { (octets rest : List ℕ) (shapes : List Shape) → Splits octets shapes rest → (shapes ≡ (split octets).elements) × (rest ≡ (split octets).rest) }
@@ -54,8 +53,7 @@ pub fn instructions_have_five_forms()
 {}
 
 /// Octets that are the beginning of an instruction become one with some octets more, and these alone do; one with an
-/// integer
-/// that is too long never does (RFC 7541, 5.1 and 6).
+/// integer that is too long never does (RFC 7541, 5.1 and 6).
 pub fn beginnings_can_be_ended()
     ensures ended { (octets : List ℕ) → instr_at octets ≡ More → CanEnd octets }
     ensures begun { (octets more : List ℕ) (shape : Shape) → 0 < length more → instr_at (octets ++ more) ≡ Whole shape (length (octets ++ more)) → instr_at octets ≡ More }

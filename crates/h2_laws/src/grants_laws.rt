@@ -14,11 +14,9 @@ ghost use Rattle.h2_laws.specs.Grants.{KeepsGrants};
 ghost use Rattle.h2_laws.specs.Order.{KeepsOrder};
 ghost use Rattle.h2_laws.specs.Allowances.{AllowanceIsLeast, SendsAllowances};
 
-/// Whatever octets a peer sends, after each of their items, on each stream: DATA is within what the peer has granted
-/// on the connection and on the
-/// stream, and within its frame size; at most one response is sent, with a prefix of its body, and the whole where
-/// END_STREAM is sent; nothing
-/// follows the end; and nothing that may be sent is held back.
+/// Whatever octets a peer sends, after each of their items, on each stream: DATA is within what the peer has granted on
+/// the connection and on the stream, and within its frame size; at most one response is sent, with a prefix of its
+/// body, and the whole where END_STREAM is sent; nothing follows the end; and nothing that may be sent is held back.
 pub fn grants_are_kept()
     ensures { (book : List Entry) (config : Config) (octets : List ℕ) → KeepsGrants book config octets }
 {}

@@ -10,10 +10,8 @@ ghost use Rattle.h2_spec.specs.Written.{written};
 ghost use Rattle.h2_spec.specs.declared.scripts.SyntaxKind.{SyntaxKind};
 
 /// What a text is read as is what it says: the octets that it represents, or its first bad line with the line's least
-/// kind of fault.
-/// A text represents one sequence of octets at most, and these are the ones that are read; the first bad line, where
-/// there is
-/// one, is the one that is named.
+/// kind of fault. A text represents one sequence of octets at most, and these are the ones that are read; the first bad
+/// line, where there is one, is the one that is named.
 pub fn scripts_are_read()
     ensures reading { (text : List ℕ) → IsReadingOf text (assembled text) }
     ensures read { (text octets : List ℕ) → Script text octets → assembled text ≡ Ok octets }

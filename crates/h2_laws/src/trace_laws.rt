@@ -22,9 +22,10 @@ pub fn runs_are_cut_anywhere()
     ensures { (s : State) (b c : List ℕ) → trace s (b ++ c) ≡ carried_on (trace s b) c }
 {}
 
-/// Whatever octets a peer sends, after each of their items the server's own settings are the first ones, the header
-/// table is within the limit that these give it, and no block has to begin with a size update: the server sends no
-/// settings that would replace them (RFC 9113, 6.5.3; RFC 7541, 4.2).
-pub fn own_settings_stay_initial()
+/// Whatever octets a peer sends, after each of their items the server's own settings are the initial ones where the
+/// peer has not acknowledged the server's SETTINGS, and the configured ones where it has; the header table is no larger
+/// than one of their limits; and before the acknowledgement no block has to begin with a size update (RFC 9113, 6.5.3;
+/// RFC 7541, 4.2).
+pub fn own_settings_wait_for_their_acknowledgement()
     ensures { (book : List Entry) (config : Config) (octets : List ℕ) → KeepsLocalSettings book config octets }
 {}

@@ -2,7 +2,7 @@
 use Rattle.std.proofs.Common.{◌≡◌, ℕ, zero, suc, ◌+◌, ◌-◌, ◌<◌, ◌≤◌, List, [], ◌∷◌, ◌++◌, length, take, drop, map, get_or, refl, ap, ◌∙◌, sym, arith, length-drop, length-take, length-take-le}
 use Rattle.std.proofs.lemmas.List.{map-append, drop-append-le, take-append-le, take_all, take-take, take-append-drop, take-map, drop-drop}
 use Rattle.std.proofs.Math.ListN.{drop_of_length-le}
-use Rattle.h2_spec.specs.Field.{Field, field}
+use Rattle.h2_spec.specs.Field.{field}
 use Rattle.h2_list.specs.Spans.{IsOrdered, AreSpans, IsPart, between, field_in}
 use Rattle.h2_list.specs.declared.Part.{Part}
 use Rattle.h2_list.specs.declared.Span.{Span}

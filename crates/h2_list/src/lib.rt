@@ -2,11 +2,14 @@
 //! It uses the definition `Field` of `h2_spec`; a field is a span of the octets, as `specs/Spans.antt` has it.
 #![tactic(auto)]
 
-ghost use Rattle.std.specs.Prelude.{◌≡◌, ℕ, ◌≤◌, [], ◌∷◌, ◌++◌, take, drop, length, slice_get, option_map, IfOk, OnOk, OnErr};
+ghost use Rattle.std.specs.Prelude.{◌≡◌, ◌↔◌, ℕ, ◌≤◌, List, [], ◌∷◌, ◌++◌, take, drop, length, slice_get, option_map, IfOk, IsErrOf, OnOk, OnErr};
 ghost use Rattle.h2_spec.specs.Field.{field};
+ghost use Rattle.h2_prim.specs.declared.fault.HuffFault.TheVariants as fault;
+ghost use Rattle.h2_spec.specs.Huffman.{Text, Eos, Padding, huffman_text};
 ghost use Rattle.h2_table.specs.Lent.{lent_field};
 ghost use Rattle.h2_list.specs.Spans.{AreSpans, IsOrdered, IsPart, field_in};
 
+use h2_prim::{HuffFault, huff_append};
 use std::alloc::{AllocError, Allocator};
 use std::marker::Model;
 
@@ -131,6 +134,21 @@ impl<A: Allocator> FieldList<A> {
         ensures err { OnErr result (self.new ≡ self.old) }
     {
         self.octets.extend_from_slice(octets)
+    }
+
+    /// Adds the text that the octets are the Huffman string of to the next field (RFC 7541, 5.2).
+    ///
+    /// # Errors
+    ///
+    /// `Eos` where the whole code of the end of a string is in the octets, `Padding` where they are neither a text nor
+    /// that, `NoMemory` where they are a text and memory was refused; nothing has changed.
+    pub fn put_huffman(&mut self, octets: &[u8]) -> Result<(), HuffFault>
+        ensures text { OnOk result ((text : List ℕ) × (huffman_text octets.now ≡ Text text) × (self.new ≡ record self.old { next = self.old.next ++ text })) }
+        ensures unchanged { OnErr result (self.new ≡ self.old) }
+        ensures eos { IsErrOf result fault.Eos ↔ (huffman_text octets.now ≡ Eos) }
+        ensures padding { IsErrOf result fault.Padding ↔ (huffman_text octets.now ≡ Padding) }
+    {
+        huff_append(octets, &mut self.octets)
     }
 
     /// Removes the octets of the next field.

@@ -1,15 +1,15 @@
 -- The program's arrays are the code of Appendix B: computed over the whole arrays.
-use Rattle.std.proofs.Common.{◌≡◌, ℕ, ◌+◌, ◌*◌, ◌/◌, ◌%◌, ◌^◌, ◌<◌, ◌≤◌, Bool, true, false, ◌&&◌, ◌||◌, not, eqb, eqb-true, ltb, ltb-false, lt-ltb, le-ltb, leb, List, [], ◌∷◌, ◌++◌, cond, length, get_or, map, take, drop, refl, ap, sym, ◌∙◌, arith, append_assoc, length-drop}
+use Rattle.std.proofs.Common.{◌≡◌, ℕ, ◌+◌, ◌/◌, ◌%◌, ◌^◌, ◌<◌, ◌≤◌, Bool, true, false, ◌&&◌, ◌||◌, not, eqb, eqb-true, ltb, ltb-false, lt-ltb, le-ltb, leb, List, [], ◌∷◌, ◌++◌, cond, length, get_or, map, take, drop, refl, ap, sym, ◌∙◌, arith, append_assoc, length-drop}
 use Rattle.std.proofs.Math.ListN.{get_or-map}
 use Rattle.std.proofs.lemmas.List.{append-nil, take-append-drop}
 use Rattle.std.proofs.lemmas.Bool.{leb-true}
 use borrow.Author.Tests.{ltb-true}
 use Rattle.h2_spec.specs.HuffmanCode.{bits_of, code}
 use Rattle.h2_spec.specs.Huffman.{codes, ones, are_few_ones, IsText}
-use Rattle.h2_spec.proofs.Computed.{and-left, and-right, same, same-is, begins, begins-is, all_below, below-at, both_from, both-at}
+use Rattle.h2_spec.proofs.Computed.{and-left, and-right, same, same-is, begins, begins-is, all_from, all-at, all_below, below-at, both_from, both-at}
 use Rattle.h2_spec.proofs.HuffmanLaws.{NoneBegins, front_of_code, few-ones}
-use Rattle.h2_prim.specs.States.{places, path_of, emitted, Leads}
-use Rattle.h2_prim.specs.declared.tables.TheConstants.{LENGTHS, CODES, NEXT, SYMBOLS}
+use Rattle.h2_prim.specs.States.{places, path_of, IsRow, emitted, Leads}
+use Rattle.h2_prim.specs.declared.tables.TheConstants.{LENGTHS, CODES, MOVES}
 
 -- ---- the arrays for writing
 
@@ -90,9 +90,9 @@ path_end = refl
 emitted_octet : (symbol : ℕ) → IsText (emitted symbol)
 emitted_octet symbol = at (ltb symbol 256) refl
   where
-    at : (t : Bool) → ltb symbol 256 ≡ t → IsText (cond t (symbol ∷ []) [])
-    at true e = (ltb-true symbol 256 e, tt)
-    at false e = tt
+    at : (t : Bool) → ltb symbol 256 ≡ t → IsText (cond t [] (symbol % 256 ∷ []))
+    at true e = tt
+    at false e = (omega arith, tt)
 
 pub path_start : path_of 0 ≡ []
 unfolding path_of places code
@@ -116,16 +116,19 @@ lands false bs found = begins bs found
 
 goes : List (List Bool) → Bool → ℕ → ℕ → ℕ → ℕ → Bool
 goes ps true s nibble next symbol = lands (ltb next 256) (get_or ps s [] ++ bits_of 4 nibble) (codes (emitted symbol) ++ get_or ps next [])
-goes ps false s nibble next symbol = eqb next 256 && eqb symbol 256
+goes ps false s nibble next symbol = eqb next 256 && eqb symbol 0
 
-move_right : List (List Bool) → ℕ → ℕ → ℕ → Bool
-move_right ps k next symbol = leb next 256 && leb symbol 256 && goes ps (ltb (k / 16) 256) (k / 16) (k % 16) next symbol
+right : List (List Bool) → ℕ → ℕ → ℕ → Bool
+right ps k row symbol = eqb (row % 16) 0 && leb row 4096 && ltb symbol 512 && goes ps (ltb (k / 16) 256) (k / 16) (k % 16) (row / 16) symbol
+
+move_right : List (List Bool) → ℕ → ℕ → Bool
+move_right ps k move = right ps k (move / 65536) (move % 65536)
 
 all_right : List (List Bool) → Bool
-all_right ps = both_from (move_right ps) 0 NEXT SYMBOLS
+all_right ps = all_from (move_right ps) 0 MOVES
 
 moves_right : all_right paths ≡ true
-unfolding all_right move_right goes lands paths places codes code bits_of
+unfolding all_right move_right right goes lands paths places codes code bits_of
 moves_right = refl
 
 lands-is : (t : Bool) (bs found : List Bool) → lands t bs found ≡ true → (rest : List Bool) × (t ≡ true → rest ≡ []) × (bs ≡ found ++ rest)
@@ -134,10 +137,10 @@ lands-is true bs found h = ([], λ e. refl, same-is bs found h ∙ sym (append-n
 lands-is false bs found h = let b = begins-is bs found h in (b.0, λ e. absurd (let w : false ≡ true = e in cc), b.1)
 
 -- what the arrays say of a move
-pub record IsMove (s nibble next symbol : ℕ) : Type 0 where
-  pub next_small : next ≤ 256
-  pub symbol_small : symbol ≤ 256
-  pub leads : Leads s (bits_of 4 nibble) symbol next
+pub record IsMove (s nibble row symbol : ℕ) : Type 0 where
+  pub is_row : IsRow row
+  pub symbol_small : symbol < 512
+  pub leads : Leads s (bits_of 4 nibble) symbol (row / 16)
 
 goes-is : (t : Bool) (s nibble next symbol : ℕ) → ltb s 256 ≡ t → s ≤ 256 → goes paths t s nibble next symbol ≡ true → Leads s (bits_of 4 nibble) symbol next
 unfolding goes codes
@@ -155,23 +158,25 @@ goes-is true s nibble next symbol e few h = λ rest ended.
     })
 goes-is false s nibble next symbol e few h = λ rest ended.
     let state : s ≡ 256 = omega (arith, few, ltb-false s 256 e) in
-    let stays : next ≡ 256 = eqb-true next 256 (and-left (eqb next 256) (eqb symbol 256) h) in
-    let nothing : symbol ≡ 256 = eqb-true symbol 256 (and-right (eqb next 256) (eqb symbol 256) h) in
+    let stays : next ≡ 256 = eqb-true next 256 (and-left (eqb next 256) (eqb symbol 0) h) in
+    let nothing : symbol ≡ 0 = eqb-true symbol 0 (and-right (eqb next 256) (eqb symbol 0) h) in
     rw (state, stays, nothing) (record { octets = tt; rest = rest ++ bits_of 4 nibble; ended = λ small. absurd (omega arith); read = refl })
 
-move_tells : (k s nibble next symbol : ℕ) → k / 16 ≡ s → k % 16 ≡ nibble → s ≤ 256 → move_right paths k next symbol ≡ true → IsMove s nibble next symbol
-unfolding move_right
-move_tells k s nibble next symbol q r few h =
-    let both = leb next 256 && leb symbol 256 in
-    let small = and-left (leb next 256 && leb symbol 256) (goes paths (ltb (k / 16) 256) (k / 16) (k % 16) next symbol) h in
+move_tells : (k s nibble row symbol : ℕ) → k / 16 ≡ s → k % 16 ≡ nibble → s ≤ 256 → right paths k row symbol ≡ true → IsMove s nibble row symbol
+unfolding right
+move_tells k s nibble row symbol q r few h =
+    let found = goes paths (ltb (k / 16) 256) (k / 16) (k % 16) (row / 16) symbol in
+    let three = and-left (eqb (row % 16) 0 && leb row 4096 && ltb symbol 512) found h in
+    let two = and-left (eqb (row % 16) 0 && leb row 4096) (ltb symbol 512) three in
     record {
-      next_small = leb-true next 256 (and-left (leb next 256) (leb symbol 256) small);
-      symbol_small = leb-true symbol 256 (and-right (leb next 256) (leb symbol 256) small);
-      leads = rw (← q, ← r) (goes-is (ltb (k / 16) 256) (k / 16) (k % 16) next symbol refl (omega arith) (and-right (leb next 256 && leb symbol 256) (goes paths (ltb (k / 16) 256) (k / 16) (k % 16) next symbol) h));
+      is_row = (eqb-true (row % 16) 0 (and-left (eqb (row % 16) 0) (leb row 4096) two), leb-true row 4096 (and-right (eqb (row % 16) 0) (leb row 4096) two));
+      symbol_small = ltb-true symbol 512 (and-right (eqb (row % 16) 0 && leb row 4096) (ltb symbol 512) three);
+      leads = rw (← q, ← r) (goes-is (ltb (k / 16) 256) (k / 16) (k % 16) (row / 16) symbol refl (omega arith) (and-right (eqb (row % 16) 0 && leb row 4096 && ltb symbol 512) found h));
     }
 
-pub move_at : (s nibble : ℕ) → s ≤ 256 → nibble < 16 → IsMove s nibble (get_or NEXT (s * 16 + nibble) 0) (get_or SYMBOLS (s * 16 + nibble) 0)
-unfolding all_right
-move_at s nibble few small =
-    let k = s * 16 + nibble in
-    move_tells k s nibble (get_or NEXT k 0) (get_or SYMBOLS k 0) (omega arith) (omega arith) few (both-at (move_right paths) NEXT SYMBOLS k 0 0 moves_right (omega arith))
+pub move_at : (row nibble : ℕ) → IsRow row → nibble < 16 → let move = get_or MOVES (row + nibble) 0 in IsMove (row / 16) nibble (move / 65536) (move % 65536)
+unfolding all_right move_right
+move_at row nibble at small =
+    let k = row + nibble in
+    let move = get_or MOVES k 0 in
+    move_tells k (row / 16) nibble (move / 65536) (move % 65536) (omega (arith, at.0, at.1)) (omega (arith, at.0, at.1)) (omega (arith, at.1)) (all-at (move_right paths) MOVES k 0 moves_right (omega (arith, at.1)))

@@ -1,12 +1,13 @@
 -- Reading: what is behind the codes so far, four bits later; and what a string's end says of it.
-use Rattle.std.proofs.Common.{◌≡◌, ℕ, zero, suc, ◌+◌, ◌*◌, ◌/◌, ◌%◌, ◌<◌, ◌≤◌, ◌↔◌, Bool, List, [], ◌∷◌, ◌++◌, length, take, set, get_or, refl, ap, sym, subst, ◌∙◌, arith, length-append, append_assoc, lt-ltb, le-ltb, Err, Ok, Option, Some, None}
-use Rattle.std.proofs.lemmas.List.{append-nil, take_more_set, take-set, length-take-le, get_or_default}
-use Rattle.std.proofs.Math.Nat.{mod-eq_of_lt}
+use Rattle.std.proofs.Common.{◌≡◌, ℕ, zero, suc, ◌+◌, ◌*◌, ◌/◌, ◌%◌, ◌<◌, ◌≤◌, ◌↔◌, Bool, List, [], ◌∷◌, ◌++◌, length, take, set, get_or, refl, ap, sym, subst, ◌∙◌, arith, length-append, append_assoc, ltb, ltb-false, Err, Ok, Option, Some, None, true, false, cond}
+use Rattle.std.proofs.Math.Seq.{take-append-add, take-append_seam}
+use Rattle.std.proofs.lemmas.List.{append-nil, take_all, take_more_set, take-set, length-take-le, get_or_default}
+use borrow.Author.Tests.{ltb-true}
 use Rattle.std.specs.Prelude.{IsErrOf}
 use Rattle.std.specs.Option.{unwrap_or}
 use Rattle.h2_spec.specs.HuffmanCode.{bits_of, code}
 use Rattle.h2_spec.specs.Huffman.{bits, codes, IsText, HuffRead, huffman_text, Text, Eos, Padding}
-use Rattle.h2_spec.proofs.BitLaws.{length-bits_of, bits-more}
+use Rattle.h2_spec.proofs.BitLaws.{length-bits_of, bits-more, bits_of-halves}
 use Rattle.h2_spec.proofs.HuffmanLaws.{codes-append, one_answer, is_padding}
 use Rattle.h2_spec.proofs.SpellingLaws.{length-bits}
 use Rattle.h2_prim.specs.States.{path_of, emitted, Stands, Leads, Prints}
@@ -37,27 +38,27 @@ stepped bs nibble text s symbol next at f =
           ∙ sym (append_assoc (codes text) (codes (emitted symbol)) (path_of next ++ to.rest)) ∙ ap (λ b. b ++ (path_of next ++ to.rest)) (sym (codes-append text (emitted symbol)));
     }
 
--- an octet that a move makes whole stands at the text's end, and is not kept where it makes none
-pub stepped_at : (bs nibble : List Bool) (text : List ℕ) (len s symbol next : ℕ) → len < length text → symbol < 256 → Stands bs (take len text) s → Leads s nibble symbol next →
-    Stands (bs ++ nibble) (take (len + 1) (set text len (symbol % 256))) next
-stepped_at bs nibble text len s symbol next h small at f =
-    let kept : take len text ++ emitted symbol ≡ take (len + 1) (set text len (symbol % 256)) =
-    rw (lt-ltb symbol 256 small, mod-eq_of_lt small) (sym (take_more_set text len symbol h)) in
-    subst (λ t. Stands (bs ++ nibble) t next) kept (stepped bs nibble (take len text) s symbol next at f)
+-- an octet that a move makes whole is at the text's end, and is not kept where it makes none
+kept : (text : List ℕ) (len symbol : ℕ) → len < length text → symbol < 512 → take len text ++ emitted symbol ≡ take (len + symbol / 256) (set text len (symbol % 256))
+kept text len symbol h small = at (ltb symbol 256) refl
+  where
+    at : (t : Bool) → ltb symbol 256 ≡ t → take len text ++ cond t [] (symbol % 256 ∷ []) ≡ take (len + symbol / 256) (set text len (symbol % 256))
+    at true e = let none : len + symbol / 256 ≡ len = omega (arith, ltb-true symbol 256 e) in rw none (append-nil (take len text) ∙ sym (take-set text len (symbol % 256)))
+    at false e = let one : symbol / 256 ≡ 1 = omega (arith, small, ltb-false symbol 256 e) in rw one (sym (take_more_set text len (symbol % 256) h))
 
-pub stepped_by : (bs nibble : List Bool) (text : List ℕ) (len s symbol next : ℕ) → 256 ≤ symbol → Stands bs (take len text) s → Leads s nibble symbol next →
-    Stands (bs ++ nibble) (take len (set text len (symbol % 256))) next
-stepped_by bs nibble text len s symbol next large at f =
-    let kept : take len text ++ emitted symbol ≡ take len (set text len (symbol % 256)) =
-    rw (le-ltb symbol 256 large) (append-nil (take len text) ∙ sym (take-set text len (symbol % 256))) in
-    subst (λ t. Stands (bs ++ nibble) t next) kept (stepped bs nibble (take len text) s symbol next at f)
+pub stepped_at : (bs nibble : List Bool) (text : List ℕ) (len s symbol next : ℕ) → len < length text → symbol < 512 → Stands bs (take len text) s → Leads s nibble symbol next →
+    Stands (bs ++ nibble) (take (len + symbol / 256) (set text len (symbol % 256))) next
+stepped_at bs nibble text len s symbol next h small at f = subst (λ t. Stands (bs ++ nibble) t next) (kept text len symbol h small) (stepped bs nibble (take len text) s symbol next at f)
 
 -- the halves of an octet
-pub octet_more : (os text : List ℕ) (i s : ℕ) → i < length os →
-    Stands ((bits (take i os) ++ bits_of 4 (get_or os i 0 / 16)) ++ bits_of 4 (get_or os i 0 % 16)) text s → Stands (bits (take (i + 1) os)) text s
-octet_more os text i s h at =
-    let whole = append_assoc (bits (take i os)) (bits_of 4 (get_or os i 0 / 16)) (bits_of 4 (get_or os i 0 % 16)) in
-    subst (λ b. Stands b text s) (whole ∙ sym (bits-more os i (get_or os i 0) h (get_or_default os i 0 (get_or os i 0) h))) at
+pub halves : (bs : List Bool) (octet : ℕ) (text : List ℕ) (s : ℕ) → Stands ((bs ++ bits_of 4 (octet / 16)) ++ bits_of 4 (octet % 16)) text s → Stands (bs ++ bits_of 8 octet) text s
+halves bs octet text s at = subst (λ b. Stands b text s) (append_assoc bs (bits_of 4 (octet / 16)) (bits_of 4 (octet % 16)) ∙ ap (λ b. bs ++ b) (sym (bits_of-halves octet))) at
+
+-- one octet more
+pub octet_more : (os text : List ℕ) (i octet s : ℕ) → i < length os → get_or os i 0 ≡ octet → Stands (bits (take i os) ++ bits_of 8 octet) text s → Stands (bits (take (i + 1) os)) text s
+octet_more os text i octet s h e at =
+    let read : octet ≡ get_or os i octet = sym e ∙ get_or_default os i 0 octet h in
+    subst (λ b. Stands b text s) (sym (bits-more os i octet h read ∙ ap (λ b. bits (take i os) ++ b) (sym (bits_of-halves octet)))) at
 
 -- ---- room
 
@@ -71,19 +72,33 @@ codes_long (s ∷ t) h =
     omega (arith, c.long, size, codes_long t h.1, length-append (code s) (codes t))
 
 -- so there is room for one more octet of text while an octet is being read
-pub has_room : (bs : List Bool) (text : List ℕ) (n len s : ℕ) → Stands bs (take len text) s → len ≤ length text → length bs < 8 * n → 8 * n ≤ 5 * length text → len < length text
-has_room bs text n len s at within more enough =
+pub has_room : (bs : List Bool) (text : List ℕ) (len s : ℕ) → Stands bs (take len text) s → len ≤ length text → length bs < 5 * length text → len < length text
+has_room bs text len s at within more =
     let size : length (take len text) ≡ len = length-take-le len text within in
-    omega (arith, size, more, enough, ap length at.read, length-append (codes (take len text)) (path_of s ++ at.rest), codes_long (take len text) at.octets)
+    omega (arith, size, more, ap length at.read, length-append (codes (take len text)) (path_of s ++ at.rest), codes_long (take len text) at.octets)
 
 pub length-bits-take : (os : List ℕ) (i : ℕ) → i ≤ length os → length (bits (take i os)) ≡ 8 * i
 length-bits-take os i h = length-bits (take i os) ∙ ap (λ n. 8 * n) (length-take-le i os h)
 
-pub kept_front : (n m : ℕ) (xs ys : List ℕ) → n ≤ length xs → n ≤ m → take n (take m (xs ++ ys)) ≡ take n xs
+kept_front : (n m : ℕ) (xs ys : List ℕ) → n ≤ length xs → n ≤ m → take n (take m (xs ++ ys)) ≡ take n xs
 kept_front zero m xs ys h k = refl
 kept_front (suc n) zero xs ys h k = absurd (omega arith)
 kept_front (suc n) (suc m) [] ys h k = absurd (omega arith)
 kept_front (suc n) (suc m) (x ∷ xs) ys h k = ap (λ r. x ∷ r) (kept_front n m xs ys (omega arith) (omega arith))
+
+-- the octets before stay where zeros are added, or are not
+pub stay : (b : Bool) (before end : ℕ) (items zeros now : List ℕ) → now ≡ cond b (take end items ++ zeros) items → before ≡ length items → before ≤ end → take before now ≡ items
+stay true before end items zeros now e n h =
+    let whole : take end items ≡ items = take_all end items (omega arith) in
+    rw (e, whole, n) (take-append_seam items zeros)
+stay false before end items zeros now e n h = rw e (take_all before items (omega arith))
+
+-- what a text leaves behind the octets before it, once it is cut to its length
+pub appended : (before len size : ℕ) (front new rest items : List ℕ) → front ≡ items → before ≡ length items → len ≤ length new → before + len ≤ size → take (before + len) (take size ((front ++ new) ++ rest)) ≡ items ++ take len new
+appended before len size front new rest items same count h k =
+    let size_of : length (front ++ new) ≡ length front + length new = length-append front new in
+    kept_front (before + len) size (front ++ new) rest (omega (arith, size_of, ap length same)) k
+    ∙ rw (same, count) (take-append-add items new len)
 
 -- ---- what a string is, by the state at its end
 

@@ -1,13 +1,12 @@
 -- The states of the reader of Huffman strings: the bits since the last whole code.
-use Rattle.std.specs.Prelude.{◌≡◌, ℕ, ◌<◌, Bool, List, [], ◌∷◌, ◌++◌, take, slice_index_or, nat_lt, if◌then◌else◌, Option, Some, None}
+use Rattle.std.specs.Prelude.{◌≡◌, ℕ, ◌<◌, ◌≤◌, ◌%◌, Bool, List, [], ◌∷◌, ◌++◌, take, slice_index_or, nat_lt, if◌then◌else◌, Option, Some, None}
 use Rattle.h2_prim.specs.declared.fault.HuffFault.{HuffFault}
 use Rattle.h2_prim.specs.declared.fault.HuffFault.TheVariants as fault
 use Rattle.h2_spec.specs.HuffmanCode.{code}
 use Rattle.h2_spec.specs.Huffman.{HuffRead, Text, Eos, Padding, IsText, codes}
 
--- where each state stands: within the code of a symbol, behind so many bits of it; first the states of no ones to
--- seven ones,
--- and last that of the whole code of the end of a string
+-- where each state stands: within the code of a symbol, behind so many bits of it; first the states of no ones to seven
+-- ones, and last that of the whole code of the end of a string
 unfoldable pub places : List (ℕ × ℕ)
 places =
     (48, 0) ∷ (61, 1) ∷ (69, 2) ∷ (85, 3) ∷ (119, 4) ∷ (38, 5) ∷ (88, 6) ∷ (33, 7) ∷ (48, 1) ∷ (48, 2) ∷ (115, 2) ∷
@@ -49,9 +48,13 @@ pub record Stands (bs : List Bool) (text : List ℕ) (state : ℕ) : Type 0 wher
   pub ended : state < 256 → rest ≡ []
   pub read : bs ≡ codes text ++ (path_of state ++ rest)
 
--- the octet that a move makes whole, if it does
+-- the place of the first of a state's 16 moves
+abbrev pub IsRow : ℕ → Type 0
+IsRow row = (row % 16 ≡ 0) × (row ≤ 4096)
+
+-- the octet that a move makes whole, 256 less than its number; a number below 256 says that it makes none
 abbrev pub emitted : ℕ → List ℕ
-emitted symbol = if nat_lt symbol 256 then symbol ∷ [] else []
+emitted symbol = if nat_lt symbol 256 then [] else symbol % 256 ∷ []
 
 -- what a move says: the state's bits, those that followed the end of a string, and four more lead to the next state
 abbrev pub Leads : ℕ → List Bool → ℕ → ℕ → Type 0

@@ -1,19 +1,18 @@
-//! Huffman strings (RFC 7541, 5.2 and Appendix B): how long one is, writing one, and reading one.
-//! It rests on the arrays of `tables`, which proofs tie to the code of `h2_spec`; its definitions are `spell_huffman`
-//! and
+//! Huffman strings (RFC 7541, 5.2 and Appendix B): how long one is, writing one, and reading one. It rests on the
+//! arrays of `tables`, which proofs tie to the code of `h2_spec`; its definitions are `spell_huffman` and
 //! `huffman_text` of `h2_spec`, specs/Huffman.antt, and the law that these are what the RFC says is
 //! `h2_laws::huffman_laws`.
 
-ghost use Rattle.std.specs.Prelude.{◌≡◌, ℕ, ◌+◌, ◌*◌, ◌^◌, ◌<◌, ◌≤◌, ◌↔◌, ◌++◌, Bool, List, length, take, IfOk, OnOk, OnErr, IsErrOf};
+ghost use Rattle.std.specs.Prelude.{◌≡◌, ℕ, ◌+◌, ◌*◌, ◌/◌, ◌^◌, ◌<◌, ◌≤◌, ◌↔◌, ◌++◌, Bool, List, length, take, IfOk, OnOk, OnErr, IsErrOf};
 ghost use Rattle.std.specs.Vec.{vec_len, vec_capacity};
 ghost use Rattle.h2_spec.specs.HuffmanCode.{bits_of, code};
 ghost use Rattle.h2_spec.specs.Huffman.{bits, huffman_text, spell_huffman, Text, Eos, Padding};
-ghost use Rattle.h2_prim.specs.States.{Leads, Stands, Prints};
+ghost use Rattle.h2_prim.specs.States.{IsRow, Leads, Stands, Prints};
 ghost use Rattle.h2_prim.specs.Written.{Written};
 ghost use Rattle.h2_prim.specs.declared.fault.HuffFault.TheVariants as fault;
 
 use crate::fault::HuffFault;
-use crate::tables::{CODES, LENGTHS, NEXT, SYMBOLS};
+use crate::tables::{CODES, LENGTHS, MOVES};
 use std::alloc::{AllocError, Allocator};
 
 /// How many octets the Huffman string of the text takes. Takes no memory.
@@ -55,16 +54,37 @@ pub fn huff_read<A: Allocator>(alloc: A, octets: &[u8]) -> Result<Vec<u8, A>, Hu
     ensures eos { IsErrOf result fault.Eos ↔ (huffman_text octets.now ≡ Eos) }
     ensures padding { IsErrOf result fault.Padding ↔ (huffman_text octets.now ≡ Padding) }
 {
-    let Ok(mut text) = vec![in alloc; 0; most_symbols(octets.len())] else {
+    let mut text = Vec::new(alloc);
+    huff_append(octets, &mut text)?;
+    Ok(text)
+}
+
+/// Appends the text that the octets are the Huffman string of.
+///
+/// # Errors
+///
+/// As `huff_read`; `out` is as it was.
+pub fn huff_append<A: Allocator>(octets: &[u8], out: &mut Vec<u8, A>) -> Result<(), HuffFault>
+    ensures text { OnOk result ((text : List ℕ) × (huffman_text octets.now ≡ Text text) × (out.new.items ≡ out.old.items ++ text)) }
+    ensures unchanged { OnErr result (out.new.items ≡ out.old.items) }
+    ensures eos { IsErrOf result fault.Eos ↔ (huffman_text octets.now ≡ Eos) }
+    ensures padding { IsErrOf result fault.Padding ↔ (huffman_text octets.now ≡ Padding) }
+{
+    let before = out.len();
+    let end = before.saturating_add(room_for(octets.len()));
+    if out.resize(end, 0).is_err() {
         return Err(fault_at(state_after(octets)).unwrap_or(HuffFault::NoMemory));
-    };
-    let (len, state) = decode(octets, text.as_mut_slice());
+    }
+    let (len, state) = decode(octets, out.as_mut_slice().split_at_mut(before).1);
     match fault_at(state) {
         None => {
-            text.truncate(len);
-            Ok(text)
+            out.truncate(before + len);
+            Ok(())
         }
-        Some(fault) => Err(fault),
+        Some(fault) => {
+            out.truncate(before);
+            Err(fault)
+        }
     }
 }
 
@@ -77,59 +97,76 @@ fn code_of(octet: u8) -> (u32, u8)
     (CODES[usize::from(octet)], LENGTHS[usize::from(octet)])
 }
 
-/// The most octets that a text of this many octets has: a code has 5 bits or more.
-fn most_symbols(octets: usize) -> usize
+/// Room for the text of this many octets: a code has 5 bits or more, so 8/5 of them are enough, and 13/8 are found with no
+/// division.
+fn room_for(octets: usize) -> usize
     requires { octets < 2 ^ 63 }
     ensures { 8 * octets ≤ 5 * result }
 {
-    octets + octets / 5 * 3 + (octets % 5 * 3 + 4) / 5
+    2 * octets - octets / 4 - octets / 8
 }
 
-/// The state that four bits lead to from a state, and the octet whose code they make whole, 256 where they make none.
-fn move_at(state: usize, nibble: u8) -> (usize, u16)
-    requires state { state ≤ 256 }
+/// The row that four bits lead to from a row, and 256 more than the octet whose code they make whole, 0 where they make
+/// none.
+fn move_at(row: usize, nibble: u8) -> (usize, u16)
+    requires row { IsRow row }
     requires nibble { nibble < 16 }
-    ensures leads { Leads state (bits_of 4 nibble) result.1 result.0 }
-    ensures small { (result.0 ≤ 256) × (result.1 ≤ 256) }
+    ensures leads { Leads (row / 16) (bits_of 4 nibble) result.1 (result.0 / 16) }
+    ensures row { IsRow result.0 }
+    ensures symbol { result.1 < 512 }
 {
-    let place = state * 16 + usize::from(nibble);
-    (usize::from(NEXT[place]), SYMBOLS[place])
+    let found = MOVES[row + usize::from(nibble)];
+    ((found / 65536) as usize, (found % 65536) as u16)
 }
 
-/// Takes four bits: writes the octet that they may make whole at `len`, and returns the text's length and the state
-/// behind them.
-fn step(text: &mut [u8], len: usize, state: usize, nibble: u8) -> (usize, usize)
+/// Takes four bits: writes the octet that they may make whole at `len`, and returns the text's length and the row behind
+/// them.
+fn step(text: &mut [u8], len: usize, row: usize, nibble: u8) -> (usize, usize)
     requires room { len < length text.now }
-    requires state { state ≤ 256 }
+    requires row { IsRow row }
     requires nibble { nibble < 16 }
-    ensures read { (bs : List Bool) → Stands bs (take len text.old) state → Stands (bs ++ bits_of 4 nibble) (take result.0 text.new) result.1 }
-    ensures small { (result.0 ≤ length text.new) × (result.1 ≤ 256) }
+    ensures read { (bs : List Bool) → Stands bs (take len text.old) (row / 16) → Stands (bs ++ bits_of 4 nibble) (take result.0 text.new) (result.1 / 16) }
+    ensures within { result.0 ≤ length text.new }
+    ensures row { IsRow result.1 }
 {
-    let (next, symbol) = move_at(state, nibble);
+    let (next, symbol) = move_at(row, nibble);
     text[len] = (symbol % 256) as u8;
-    if symbol < 256 {
-        (len + 1, next)
-    } else {
-        (len, next)
-    }
+    (len + usize::from(symbol / 256), next)
 }
 
-/// Decodes the octets to the front of `text`; returns how many octets that is, and the state behind them.
+/// Takes an octet that ends no later than the octets that `text` has room for, as `step` takes four bits.
+fn take_octet(text: &mut [u8], len: usize, row: usize, octet: u8) -> (usize, usize)
+    requires room { (bs : List Bool) × Stands bs (take len text.now) (row / 16) × (length bs + 8 ≤ 5 * length text.now) }
+    requires within { len ≤ length text.now }
+    requires row { IsRow row }
+    ensures read { (bs : List Bool) → Stands bs (take len text.old) (row / 16) → Stands (bs ++ bits_of 8 octet) (take result.0 text.new) (result.1 / 16) }
+    ensures within { result.0 ≤ length text.new }
+    ensures row { IsRow result.1 }
+{
+    let half = step(text, len, row, octet / 16);
+    step(text, half.0, half.1, octet % 16)
+}
+
+/// Decodes the octets to the front of `text`; returns how many octets that is, and the state behind them. Two octets are
+/// taken at a turn, and the last of an odd number by itself.
 fn decode(octets: &[u8], text: &mut [u8]) -> (usize, usize)
     requires { 8 * length octets.now ≤ 5 * length text.now }
     ensures read { Stands (bits octets.now) (take result.0 text.new) result.1 }
     ensures small { (result.0 ≤ length text.new) × (result.1 ≤ 256) }
 {
     let mut len = 0;
-    let mut state = 0;
-    for octet in octets {
-        let octet = *octet;
-        let half = step(text, len, state, octet / 16);
-        let whole = step(text, half.0, half.1, octet % 16);
-        len = whole.0;
-        state = whole.1;
+    let mut row = 0;
+    for pair in 0..octets.len() / 2 {
+        let first = take_octet(text, len, row, octets[2 * pair]);
+        let second = take_octet(text, first.0, first.1, octets[2 * pair + 1]);
+        len = second.0;
+        row = second.1;
     }
-    (len, state)
+    if octets.len() % 2 == 0 {
+        return (len, row / 16);
+    }
+    let last = take_octet(text, len, row, octets[octets.len() - 1]);
+    (last.0, last.1 / 16)
 }
 
 /// The state behind the octets, with no text written.
@@ -137,17 +174,16 @@ fn state_after(octets: &[u8]) -> usize
     ensures read { (text : List ℕ) × Stands (bits octets.now) text result }
     ensures small { result ≤ 256 }
 {
-    let mut state = 0;
+    let mut row = 0;
     for octet in octets {
-        state = move_at(state, *octet / 16).0;
-        state = move_at(state, *octet % 16).0;
+        row = move_at(row, *octet / 16).0;
+        row = move_at(row, *octet % 16).0;
     }
-    state
+    row / 16
 }
 
-/// What a string that ends in the state is refused for, if it is. States 0 to 7 are those of no ones to seven ones,
-/// and 256 is
-/// that of the whole end of a string.
+/// What a string that ends in the state is refused for, if it is. States 0 to 7 are those of no ones to seven ones, and
+/// 256 is that of the whole end of a string.
 fn fault_at(state: usize) -> Option<HuffFault>
     requires { state ≤ 256 }
     ensures { (octets text : List ℕ) → Stands (bits octets) text state → Prints (huffman_text octets) text result }

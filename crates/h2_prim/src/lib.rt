@@ -10,6 +10,6 @@ pub mod string;
 mod tables;
 
 pub use fault::HuffFault;
-pub use huffman::{huff_len, huff_read, huff_write};
+pub use huffman::{huff_append, huff_len, huff_read, huff_write};
 pub use integer::{IntRead, read_int, write_int};
 pub use string::{StrAt, StrRead, find_str, read_str};

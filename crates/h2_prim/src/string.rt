@@ -59,8 +59,7 @@ pub fn find_str(octets: &[u8]) -> StrAt<'_>
 /// # Errors
 ///
 /// `Eos` and `Padding` where the whole string is there and has no text, as `huff_read` says; `NoMemory` where it has
-/// one and
-/// memory was refused.
+/// one and memory was refused.
 pub fn read_str<A: Allocator>(alloc: A, octets: &[u8]) -> Result<StrRead<A>, HuffFault>
     ensures text { IfOk result (λ s. read_map text_str (string_at octets.now) ≡ read_map Some (str_read s)) }
     ensures eos { IsErrOf result fault.Eos ↔ IsWhole Eos (read_map text_of (string_at octets.now)) }

@@ -29,10 +29,7 @@ const IN_TWO_FRAMES: &str = "PREFACE\n\
 
 /// At most one stream open, and the usual credit.
 fn one_stream() -> Config {
-    Config {
-        streams: 1,
-        credit: 32768,
-    }
+    Config::new(1, 32768)
 }
 
 /// Lengths of pieces.

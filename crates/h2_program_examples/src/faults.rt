@@ -1,4 +1,4 @@
-//! Limits, answers and hex texts that `play` refuses.
+//! Limits, settings, answers and hex texts that `play` refuses.
 
 use crate::program::{Run, long_answer, ran};
 use crate::same::same;
@@ -6,7 +6,7 @@ use std::alloc::Global;
 use std::test::Fail;
 
 /// What is refused.
-pub(crate) static REFUSED: [Run; 11] = [
+pub(crate) static REFUSED: [Run; 15] = [
     ("a digit alone", &["play"], b"0", b"fault 25\n", 1),
     ("no digit", &["play"], b"0g", b"fault 25\n", 1),
     (
@@ -26,6 +26,34 @@ pub(crate) static REFUSED: [Run; 11] = [
     (
         "no credit",
         &["play", "--credit", "0"],
+        b"",
+        b"fault 16\n",
+        1,
+    ),
+    (
+        "a table of 65537 octets",
+        &["play", "--table", "65537"],
+        b"",
+        b"fault 16\n",
+        1,
+    ),
+    (
+        "a window of 2147483648 octets",
+        &["play", "--window", "2147483648"],
+        b"",
+        b"fault 16\n",
+        1,
+    ),
+    (
+        "frames of 16383 octets",
+        &["play", "--frame", "16383"],
+        b"",
+        b"fault 16\n",
+        1,
+    ),
+    (
+        "frames of 65537 octets",
+        &["debug", "--frame", "65537"],
         b"",
         b"fault 16\n",
         1,

@@ -14,6 +14,7 @@ pub(crate) static EACH: [Run; 2] = [
          window recv 65535 owed 0 send 65535\n\
          peer table 4096 push 1 streams - window 65535 frame 16384 list - signal 0\n\
          acked 0 goaway -\n\
+         own table 4096 window 65535 frame 16384 due 0\n\
          block -\n\
          table 0 0 4096\n\
          item 1\n\
@@ -22,6 +23,7 @@ pub(crate) static EACH: [Run; 2] = [
          window recv 65535 owed 0 send 65535\n\
          peer table 4096 push 1 streams - window 65535 frame 16384 list - signal 0\n\
          acked 0 goaway -\n\
+         own table 4096 window 65535 frame 16384 due 0\n\
          block -\n\
          table 0 0 4096\n",
         0,
@@ -36,6 +38,7 @@ pub(crate) static EACH: [Run; 2] = [
          window recv 65535 owed 0 send 65535\n\
          peer table 4096 push 1 streams - window 65535 frame 16384 list - signal 0\n\
          acked 0 goaway -\n\
+         own table 4096 window 65535 frame 16384 due 0\n\
          block -\n\
          table 0 0 4096\n\
          item 1\n\
@@ -44,6 +47,7 @@ pub(crate) static EACH: [Run; 2] = [
          window recv 65535 owed 0 send 65535\n\
          peer table 4096 push 1 streams - window 65535 frame 16384 list - signal 0\n\
          acked 0 goaway -\n\
+         own table 4096 window 65535 frame 16384 due 0\n\
          block -\n\
          table 0 0 4096\n\
          item 2\n\
@@ -52,6 +56,7 @@ pub(crate) static EACH: [Run; 2] = [
          window recv 65535 owed 0 send 65535\n\
          peer table 4096 push 1 streams - window 65535 frame 16384 list - signal 0\n\
          acked 0 goaway -\n\
+         own table 4096 window 65535 frame 16384 due 0\n\
          block -\n\
          table 0 0 4096\n\
          item 3\n\
@@ -60,6 +65,7 @@ pub(crate) static EACH: [Run; 2] = [
          window recv 65535 owed 0 send 65535\n\
          peer table 4096 push 1 streams - window 65535 frame 16384 list - signal 0\n\
          acked 0 goaway -\n\
+         own table 4096 window 65535 frame 16384 due 0\n\
          block -\n\
          table 0 0 4096\n",
         0,

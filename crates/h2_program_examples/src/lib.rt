@@ -26,6 +26,8 @@ mod flow;
 #[cfg(test)]
 mod items;
 #[cfg(test)]
+mod local_settings;
+#[cfg(test)]
 mod opening;
 #[cfg(test)]
 mod order;

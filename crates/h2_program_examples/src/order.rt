@@ -60,6 +60,7 @@ pub(crate) static ABOVE_THE_LIMIT: [Run; 1] = [(
          window recv 65535 owed 0 send 65535\n\
          peer table 4096 push 1 streams - window 65535 frame 16384 list - signal 0\n\
          acked 0 goaway -\n\
+         own table 4096 window 65535 frame 16384 due 0\n\
          block -\n\
          table 1 34 4096\n\
          entry 62 61 62\n\

@@ -3,7 +3,9 @@
 
 use crate::digits::digits_of;
 use crate::same::same;
-use crate::{blocks, early, faults, flow, items, opening, order, requests, sessions, tables};
+use crate::{
+    blocks, early, faults, flow, items, local_settings, opening, order, requests, sessions, tables,
+};
 use h2_bench::{Words, run};
 use h2_script::assemble;
 use std::alloc::{AllocError, Global};
@@ -42,6 +44,9 @@ pub(crate) type Exchange = (
     &'static [&'static str],
 );
 
+/// An exchange of a server that has settings of its own: its opening SETTINGS as hex, and the exchange.
+pub(crate) type Configured = (&'static str, Exchange);
+
 /// An opening of `play`: its name, the words behind the program's name, the hex text that comes, the script of the
 /// frames that are sent behind the opening SETTINGS, and the lines of the state that are not those of `RUNNING`.
 pub(crate) type Opening = (
@@ -53,7 +58,7 @@ pub(crate) type Opening = (
 );
 
 /// The lines of the state where settings were exchanged and nothing else came, with their first words.
-static RUNNING: [(&str, &str); 6] = [
+static RUNNING: [(&str, &str); 7] = [
     ("phase ", "phase running last 0"),
     ("window ", "window recv 65535 owed 0 send 65535"),
     (
@@ -61,6 +66,7 @@ static RUNNING: [(&str, &str); 6] = [
         "peer table 4096 push 1 streams - window 65535 frame 16384 list - signal 0",
     ),
     ("acked ", "acked 0 goaway -"),
+    ("own ", "own table 4096 window 65535 frame 16384 due 0"),
     ("block ", "block -"),
     ("table ", "table 0 0 4096"),
 ];
@@ -183,9 +189,9 @@ fn print_more(lines: &[&str], text: &mut Vec<u8>) -> Result<(), AllocError> {
     Ok(())
 }
 
-/// Appends what `play` prints where these frames are sent behind the opening SETTINGS, and the state has these lines.
+/// Appends what `play` prints where these frames are sent, the opening SETTINGS first, and the state has these lines.
 fn print(sent: &[&[u8]], lines: &[&str], text: &mut Vec<u8>) -> Result<(), AllocError> {
-    join(text, &[b"sent ", OPENING.as_bytes()])?;
+    join(text, &[b"sent "])?;
     for frames in sent {
         close_up(frames, text)?;
     }
@@ -232,7 +238,25 @@ fn status_of_play(
 }
 
 /// Runs the program for frames behind the preface and SETTINGS of no setting, and compares the frames that are sent
-/// and the state; the exit status is 0.
+/// and the state; the exit status is 0. The case is the opening SETTINGS, a name, and the words.
+pub(crate) fn compare_configured(
+    rt: &impl Abort,
+    alloc: Global,
+    (opening, name, words): (&str, &str, &[&str]),
+    frames: &[u8],
+    sent: &[u8],
+    lines: &[&str],
+) {
+    let mut text = Vec::new(alloc);
+    let status = status_of_play(alloc, words, frames, &mut text);
+    let mut printed = Vec::new(alloc);
+    let sent = [opening.as_bytes(), ACKNOWLEDGEMENT.as_bytes(), sent];
+    let is_printed = print(&sent, lines, &mut printed);
+    let wanted = (Ok(0), Ok(()), printed.as_slice());
+    same(rt, &(status, is_printed, text.as_slice()), &wanted, &name);
+}
+
+/// The same with the usual opening SETTINGS.
 pub(crate) fn compare_exchange(
     rt: &impl Abort,
     alloc: Global,
@@ -242,29 +266,28 @@ pub(crate) fn compare_exchange(
     sent: &[u8],
     lines: &[&str],
 ) {
-    let mut text = Vec::new(alloc);
-    let status = status_of_play(alloc, words, frames, &mut text);
-    let mut printed = Vec::new(alloc);
-    let sent = [ACKNOWLEDGEMENT.as_bytes(), sent];
-    let is_printed = print(&sent, lines, &mut printed);
-    let wanted = (Ok(0), Ok(()), printed.as_slice());
-    same(rt, &(status, is_printed, text.as_slice()), &wanted, &name);
+    compare_configured(rt, alloc, (OPENING, name, words), frames, sent, lines);
 }
 
-/// The same for an exchange.
-fn compare_scripts(rt: &impl Abort, alloc: Global, case: &Exchange) -> Result<(), Fail> {
+/// The same for an exchange behind this opening SETTINGS.
+fn compare_scripts(
+    rt: &impl Abort,
+    alloc: Global,
+    opening: &str,
+    case: &Exchange,
+) -> Result<(), Fail> {
     let (name, words, script, sent, lines) = case;
     let frames = assembled(alloc, script)?;
     let sent = assembled(alloc, sent)?;
     let (frames, sent) = (frames.as_bytes(), sent.as_bytes());
-    compare_exchange(rt, alloc, name, words, frames, sent, lines);
+    compare_configured(rt, alloc, (opening, name, words), frames, sent, lines);
     Ok(())
 }
 
 /// The same for each exchange.
 fn compare_exchanges(rt: &impl Abort, alloc: Global, cases: &[Exchange]) -> Result<(), Fail> {
     for case in cases {
-        compare_scripts(rt, alloc, case)?;
+        compare_scripts(rt, alloc, OPENING, case)?;
     }
     Ok(())
 }
@@ -274,7 +297,7 @@ fn compare_opening(rt: &impl Abort, alloc: Global, case: &Opening) -> Result<(),
     let (name, words, input, sent, lines) = case;
     let sent = assembled(alloc, sent)?;
     let mut printed = Vec::new(alloc);
-    print(&[sent.as_bytes()], lines, &mut printed)?;
+    print(&[OPENING.as_bytes(), sent.as_bytes()], lines, &mut printed)?;
     compare(
         rt,
         alloc,
@@ -290,6 +313,14 @@ fn compare_opening(rt: &impl Abort, alloc: Global, case: &Opening) -> Result<(),
 fn openings_are_as_the_table_says(rt: HostRuntime) -> Result<(), Fail> {
     for case in &opening::OPENINGS {
         compare_opening(&rt, rt.alloc(), case)?;
+    }
+    Ok(())
+}
+
+#[test]
+fn exchanges_are_under_the_settings_of_the_server(rt: HostRuntime) -> Result<(), Fail> {
+    for (opening, case) in &local_settings::CONFIGURED {
+        compare_scripts(&rt, rt.alloc(), opening, case)?;
     }
     Ok(())
 }

@@ -37,6 +37,7 @@ pub(crate) static SESSIONS: [Run; 8] = [
          window recv 65535 owed 0 send 65533\n\
          peer table 4096 push 1 streams - window 65535 frame 16384 list - signal 0\n\
          acked 0 goaway -\n\
+         own table 4096 window 65535 frame 16384 due 0\n\
          block -\n\
          table 0 0 4096\n\
          stream 1 half-local recv 65535 owed 0 send 65533 got 0 of - left -\n\
@@ -47,6 +48,7 @@ pub(crate) static SESSIONS: [Run; 8] = [
          window recv 65532 owed 3 send 65533\n\
          peer table 4096 push 1 streams - window 65535 frame 16384 list - signal 0\n\
          acked 0 goaway -\n\
+         own table 4096 window 65535 frame 16384 due 0\n\
          block -\n\
          table 0 0 4096\n\
          stream 1 half-local recv 65532 owed 3 send 65533 got 3 of - left -\n\
@@ -57,6 +59,7 @@ pub(crate) static SESSIONS: [Run; 8] = [
          window recv 65532 owed 3 send 65533\n\
          peer table 4096 push 1 streams - window 65535 frame 16384 list - signal 0\n\
          acked 0 goaway -\n\
+         own table 4096 window 65535 frame 16384 due 0\n\
          block -\n\
          table 0 0 4096\n\
          stream 1 ended\n\
@@ -67,6 +70,7 @@ pub(crate) static SESSIONS: [Run; 8] = [
          window recv 65532 owed 3 send 65533\n\
          peer table 4096 push 1 streams - window 65535 frame 16384 list - signal 0\n\
          acked 0 goaway -\n\
+         own table 4096 window 65535 frame 16384 due 0\n\
          block -\n\
          table 0 0 4096\n\
          stream 1 half-local recv 65532 owed 3 send 65533 got 3 of - left -\n\
@@ -77,6 +81,7 @@ pub(crate) static SESSIONS: [Run; 8] = [
          window recv 65535 owed 0 send 65533\n\
          peer table 4096 push 1 streams - window 65535 frame 16384 list - signal 0\n\
          acked 0 goaway -\n\
+         own table 4096 window 65535 frame 16384 due 0\n\
          block -\n\
          table 0 0 4096\n\
          stream 1 half-local recv 65535 owed 0 send 65533 got 0 of - left -\n",
@@ -94,6 +99,7 @@ pub(crate) static SESSIONS: [Run; 8] = [
          window recv 65535 owed 0 send 65535\n\
          peer table 4096 push 1 streams - window 0 frame 16384 list - signal 0\n\
          acked 0 goaway -\n\
+         own table 4096 window 65535 frame 16384 due 0\n\
          block -\n\
          table 0 0 4096\n\
          stream 1 open recv 65535 owed 0 send 0 got 0 of - left 2\n\
@@ -104,6 +110,7 @@ pub(crate) static SESSIONS: [Run; 8] = [
          window recv 65535 owed 0 send 65535\n\
          peer table 4096 push 1 streams - window 0 frame 16384 list - signal 0\n\
          acked 0 goaway -\n\
+         own table 4096 window 65535 frame 16384 due 0\n\
          block -\n\
          table 0 0 4096\n\
          stream 1 half-remote recv 65535 owed 0 send 0 got 0 of - left 2\n\
@@ -114,6 +121,7 @@ pub(crate) static SESSIONS: [Run; 8] = [
          window recv 65535 owed 0 send 65533\n\
          peer table 4096 push 1 streams - window 0 frame 16384 list - signal 0\n\
          acked 0 goaway -\n\
+         own table 4096 window 65535 frame 16384 due 0\n\
          block -\n\
          table 0 0 4096\n\
          stream 1 ended\n\
@@ -124,6 +132,7 @@ pub(crate) static SESSIONS: [Run; 8] = [
          window recv 65535 owed 0 send 65535\n\
          peer table 4096 push 1 streams - window 0 frame 16384 list - signal 0\n\
          acked 0 goaway -\n\
+         own table 4096 window 65535 frame 16384 due 0\n\
          block -\n\
          table 0 0 4096\n\
          stream 1 half-remote recv 65535 owed 0 send 0 got 0 of - left 2\n",

@@ -3,7 +3,7 @@
 use crate::program::status_of;
 use crate::same::same;
 
-static REFUSED: [&[&str]; 15] = [
+static REFUSED: [&[&str]; 18] = [
     &[],
     &["help"],
     &["--help"],
@@ -12,6 +12,9 @@ static REFUSED: [&[&str]; 15] = [
     &["play", "--cut", "65537"],
     &["play", "--streams", "4294967296"],
     &["play", "--credit"],
+    &["play", "--table", "4294967296"],
+    &["debug", "--frame", "-1"],
+    &["asm", "--window", "10"],
     &["table"],
     &["table", "65537"],
     &["serve", "0", "1"],

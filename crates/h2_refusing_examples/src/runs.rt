@@ -11,11 +11,13 @@ use std::alloc::{AllocError, Allocator, Global};
 use std::process::Abort;
 use std::test::Fail;
 
-/// A run: at most so many streams are open; the book has one answer of this body to `GET /`, or none.
+/// A run: at most so many streams are open, and the header table has at most so many octets once that is acknowledged;
+/// the book has one answer of this body to `GET /`, or none.
 /// Of each item its octets and what is sent for it, both as hex; and a line of the state at the end.
 pub(crate) struct Run {
     pub(crate) name: &'static str,
     pub(crate) streams: u32,
+    pub(crate) table: u32,
     pub(crate) body: Option<&'static str>,
     pub(crate) opening: &'static str,
     pub(crate) items: &'static [(&'static str, &'static str)],
@@ -33,12 +35,16 @@ const ONE_STREAM: &str = "00000c040000000000000300000001000600010000";
 
 const USUAL_STREAMS: &str = "00000c040000000000000300000064000600010000";
 
-pub(crate) static RUNS: [Run; 4] = [
+/// SETTINGS_HEADER_TABLE_SIZE 65536 besides.
+const LARGER_TABLE: &str = "000012040000000000000100010000000300000064000600010000";
+
+pub(crate) static RUNS: [Run; 5] = [
     // The second request is refused with REFUSED_STREAM, and its block adds to the table; the last refers to what it
     // added.
     Run {
         name: "one stream at a time",
         streams: 1,
+        table: 4096,
         body: None,
         opening: ONE_STREAM,
         items: &[
@@ -58,6 +64,7 @@ pub(crate) static RUNS: [Run; 4] = [
     Run {
         name: "a request in two frames",
         streams: 100,
+        table: 4096,
         body: Some("hi"),
         opening: USUAL_STREAMS,
         items: &[
@@ -75,6 +82,7 @@ pub(crate) static RUNS: [Run; 4] = [
     Run {
         name: "a PING inside a block",
         streams: 100,
+        table: 4096,
         body: None,
         opening: USUAL_STREAMS,
         items: &[
@@ -92,6 +100,7 @@ pub(crate) static RUNS: [Run; 4] = [
     Run {
         name: "an index past the table",
         streams: 100,
+        table: 4096,
         body: None,
         opening: USUAL_STREAMS,
         items: &[
@@ -104,13 +113,30 @@ pub(crate) static RUNS: [Run; 4] = [
         ],
         line: "phase ended 9 last 0\n",
     },
+    // The acknowledgement lets the header table grow, which needs places for its entries; the next block makes use of
+    // it.
+    Run {
+        name: "a larger header table",
+        streams: 100,
+        table: 65536,
+        body: None,
+        opening: LARGER_TABLE,
+        items: &[
+            (PREFACE, ""),
+            (SETTINGS, ACKNOWLEDGEMENT),
+            ("0000080105000000018286844001610162", "0000010105000000018d"),
+            (ACKNOWLEDGEMENT, ""),
+            ("0000080105000000033fe1ff03828684be", "0000010105000000038d"),
+        ],
+        line: "\ntable 1 34 65536\n",
+    },
 ];
 
-/// The limits of a run, and the usual credit.
+/// The limits of a run, and the usual ones else.
 pub(crate) fn config(run: &Run) -> Config {
     Config {
-        streams: run.streams,
-        credit: 32768,
+        table: run.table,
+        ..Config::new(run.streams, 32768)
     }
 }
 

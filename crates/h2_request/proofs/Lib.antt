@@ -1,3 +1,4 @@
 pub mod BlockLaws
 pub mod BookLaws
+pub mod OctetTables
 pub mod Seen

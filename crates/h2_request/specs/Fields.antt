@@ -1,7 +1,5 @@
 -- Lists of fields in either form.
 use Rattle.std.specs.Prelude.{List}
-use Rattle.std.specs.Borrow.{Bor}
-use Rattle.h2_spec.specs.Block.{FieldsSoFar}
 use Rattle.h2_spec.specs.Field.{Field}
 use Rattle.h2_request.specs.declared.fields.Fields.{Fields}
 use Rattle.h2_request.specs.declared.fields.Fields.TheVariants.{Slice, Block}

@@ -3,6 +3,7 @@ pub mod BlockLength
 pub mod Fault
 pub mod Fields
 pub mod Lent
+pub mod Octets
 pub mod ReasonNumber
 pub mod Seen
 pub mod Walk

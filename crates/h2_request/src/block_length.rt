@@ -1,7 +1,5 @@
-//! Whether the field block of a response is within its limit, found without writing it.
-//! It rests on nothing; the block is `response_block` of `h2_spec`, specs/Answer.antt, and the lengths of its parts
-//! are in
-//! specs/BlockLength.antt.
+//! Whether the field block of a response is within its limit, found without writing it. It rests on nothing; the block
+//! is `response_block` of `h2_spec`, specs/Answer.antt, and the lengths of its parts are in specs/BlockLength.antt.
 
 ghost use Rattle.std.specs.Prelude.{◌≡◌, ◌+◌, ◌<◌, ◌≤◌, ◌==◌, length, false, is_some, nat_lt, position, MatchOption};
 ghost use Rattle.h2_spec.specs.Answer.{indexed_statuses, response_block};

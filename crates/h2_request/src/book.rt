@@ -1,6 +1,5 @@
-//! The book of answers: its entries in order, what it refuses, and the answer that a request picks.
-//! It rests on `h2_fields` and `octets`; the definitions are `entry_fault` of `h2_spec`, specs/Book.antt, and
-//! `pick_of` and
+//! The book of answers: its entries in order, what it refuses, and the answer that a request picks. It rests on
+//! `h2_fields` and `octets`; the definitions are `entry_fault` of `h2_spec`, specs/Book.antt, and `pick_of` and
 //! `picked` of specs/Answer.antt.
 
 ghost use Rattle.std.specs.Prelude.{None, ◌≡◌, ◌≤◌, ◌==◌, ◌&&◌, ◌||◌, [], ◌∷◌, ◌++◌, OnOk, OnErr, IfOk, IfErr, option_map, codes, length, nat_lt, position, bytes_eq, take};
@@ -216,9 +215,8 @@ impl<A: Allocator> Book<A> {
             .position(|entry| is_entry_for(entry, method, path))
     }
 
-    /// The answer to a request that made this pick: that of the entry, or a bare 404 or 501; a bare 404 too where
-    /// there is no
-    /// such entry, which `find` of this book never picks.
+    /// The answer to a request that made this pick: that of the entry, or a bare 404 or 501; a bare 404 too where there
+    /// is no such entry, which `find` of this book never picks.
     pub fn answer(&self, pick: Pick) -> Answer<'_, A>
         ensures { answered result ≡ picked self.now pick }
     {
@@ -240,8 +238,7 @@ impl<A: Allocator> Book<A> {
     }
 
     /// The field block of that answer's HEADERS, at most 16,383 octets, without a table size update; it was made when
-    /// the
-    /// entry was added.
+    /// the entry was added.
     pub fn block(&self, pick: Pick) -> &[u8]
         ensures block { result.now ≡ block_of_answer (picked self.now pick) }
         ensures within { length result.now ≤ 16383 }

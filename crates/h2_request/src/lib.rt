@@ -6,6 +6,7 @@
 
 mod block_length;
 pub mod book;
+mod classes;
 pub mod fault;
 pub mod fields;
 mod octets;

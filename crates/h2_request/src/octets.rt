@@ -1,37 +1,20 @@
 //! Tests of one field's name or value (RFC 9113, 8.1.1, 8.2 and 8.3).
-//! It rests on nothing; each is the test of its name in `h2_spec`, specs/Request.antt.
+//! It uses the tables of `classes`; each is the test of its name in `h2_spec`, specs/Request.antt.
 
 ghost use Rattle.std.specs.Prelude.{◌≡◌, ◌≤◌, ◌==◌, ◌||◌, not, drop, length, codes, bytes_eq, map, if◌then◌else◌};
 ghost use Rattle.std.specs.Char.{to_ascii_lowercase};
 ghost use Rattle.std.specs.List.{list_any, list_all};
 ghost use Rattle.h2_spec.specs.Request.{first_is, last_is, is_between, is_colon, is_outside_names, is_outside_values, is_blank, is_digits, decimal_value, connection_names};
 
+use crate::classes::{has_outside_of_rest, has_outside_of_values};
+
 /// Whether a name is empty, has an octet that no name has, or a colon that is not its first octet.
 pub fn is_bad_name(name: &[u8]) -> bool
     ensures { result ≡ (length name.now == 0 || list_any is_outside_names name.now || list_any is_colon (drop 1 name.now)) }
 {
-    name.is_empty() || has_outside_names(name) || has_colon(behind_first(name))
-}
-
-fn has_outside_names(octets: &[u8]) -> bool
-    ensures { result ≡ list_any is_outside_names octets.now }
-{
-    octets.iter().any(|octet| is_outside(*octet))
-}
-
-fn has_colon(octets: &[u8]) -> bool
-    ensures { result ≡ list_any is_colon octets.now }
-{
-    octets.iter().any(|octet| *octet == b':')
-}
-
-/// What follows the first octet; no octets where there is none.
-fn behind_first(octets: &[u8]) -> &[u8]
-    ensures { result.now ≡ drop 1 octets.now }
-{
-    match octets {
-        [] => octets,
-        [_, rest @ ..] => rest,
+    match name {
+        [] => true,
+        [first, rest @ ..] => is_outside(*first) || has_outside_of_rest(rest),
     }
 }
 
@@ -46,15 +29,7 @@ fn is_outside(octet: u8) -> bool
 pub fn is_bad_value(value: &[u8]) -> bool
     ensures { result ≡ (list_any is_outside_values value.now || first_is is_blank value.now || last_is is_blank value.now) }
 {
-    has_outside_values(value) || begins_blank(value) || ends_blank(value)
-}
-
-fn has_outside_values(octets: &[u8]) -> bool
-    ensures { result ≡ list_any is_outside_values octets.now }
-{
-    octets
-        .iter()
-        .any(|octet| *octet == 0x00 || *octet == 0x0a || *octet == 0x0d)
+    has_outside_of_values(value) || begins_blank(value) || ends_blank(value)
 }
 
 fn begins_blank(value: &[u8]) -> bool

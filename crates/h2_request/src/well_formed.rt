@@ -65,8 +65,7 @@ pub fn check_fields<'a, A: Allocator>(fields: &Fields<'a, A>) -> Result<Request<
 ///
 /// # Errors
 ///
-/// `Malformed` with the least reason against the fields: `BadName`, `BadValue`, `UnknownPseudoField` for
-/// any
+/// `Malformed` with the least reason against the fields: `BadName`, `BadValue`, `UnknownPseudoField` for any
 /// pseudo-field, `ConnectionField` or `BadTe` (RFC 9113, 8.1 and 8.2).
 pub fn check_trailers<A: Allocator>(fields: &[Field<A>]) -> Result<(), Malformed>
     ensures accepted { OnOk result (malformed_trailers fields.now ≡ None) }

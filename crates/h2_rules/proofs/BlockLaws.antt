@@ -1,5 +1,5 @@
 -- The stream of an open block, and what becomes of it at the block's end.
-use Rattle.std.proofs.Common.{◌≡◌, ℕ, ◌%◌, ◌<◌, ◌≤◌, Bool, true, false, cond, eqb, ltb, length, List, Option, Some, None, is_some, max, refl, ap, ◌∙◌, arith}
+use Rattle.std.proofs.Common.{◌≡◌, ℕ, ◌%◌, ◌<◌, ◌≤◌, Bool, true, false, cond, eqb, ltb, length, List, Option, Some, None, is_some, max, nat_lt, refl, ap, ◌∙◌, arith}
 use Rattle.h2_spec.specs.declared.connection.Config.{Config}
 use Rattle.h2_spec.specs.declared.connection.ConnectionState.{ConnectionState}
 use Rattle.h2_spec.specs.declared.reactions.BlockSummary.{BlockSummary}
@@ -9,11 +9,11 @@ use Rattle.h2_spec.specs.declared.streams.Stream.{Stream}
 use Rattle.h2_spec.specs.Answer.{Entry, picked}
 use Rattle.h2_spec.specs.Block.{list_size}
 use Rattle.h2_spec.specs.Field.{Field}
-use Rattle.h2_spec.specs.Headers.{request_summary, request_outcome}
+use Rattle.h2_spec.specs.Headers.{max_list, request_summary, request_outcome}
 use Rattle.h2_spec.specs.Request.{malformed}
 use Rattle.h2_spec.specs.Stream.{Records, is_live, is_peer_open, kind_of, not_live, record_of, recorded, stream_at}
 use Rattle.h2_streams.specs.Put.{CanPut, can_become}
-use Rattle.h2_rules.proofs.RequestOutcomeLaws.{malformed-turn}
+use Rattle.h2_rules.proofs.RequestOutcomeLaws.{large-turn, malformed-turn}
 
 -- a stream that the peer may still send on is live
 pub peer-open-live : (kind : Kind) → is_peer_open kind ≡ true → is_live kind ≡ true
@@ -46,14 +46,24 @@ reset-put r id h =
 pub opening-put : (r : Records) (id : ℕ) (st : Stream) → r.last < id → id % 2 ≡ 1 → st.id ≡ id → CanPut st r × (id ≡ max r.last st.id)
 opening-put r id st above odd same = ((λ over. ap (λ n. n % 2) same ∙ odd, λ within. absurd (omega (arith, above, within, same))), omega (arith, above, same))
 
--- facts that agree with those of the fields as far as these are looked at do the same
+-- facts that agree with those of the fields as far as these are looked at do the same: a list that is too large is
+-- refused whatever its fields are
 pub same-opening : (book : List Entry) (config : Config) (live : ℕ) (core : ConnectionState) (id : ℕ) (ends : Bool) (fields : List Field) (f : BlockSummary) →
-    f.size ≡ list_size fields → f.malformed ≡ is_some (malformed fields) → (malformed fields ≡ None → f ≡ request_summary book fields) →
+    f.size ≡ list_size fields → (nat_lt max_list f.size ≡ false → f.malformed ≡ is_some (malformed fields)) → (nat_lt max_list f.size ≡ false → malformed fields ≡ None → f ≡ request_summary book fields) →
     request_outcome config live (length (picked book f.pick).body) (picked book f.pick).early core id ends f ≡ (let g = request_summary book fields in request_outcome config live (length (picked book g.pick).body) (picked book g.pick).early core id ends g)
-same-opening book config live core id ends fields f size bad well = at (malformed fields) refl
+same-opening book config live core id ends fields f size bad well = by_size (nat_lt max_list f.size) refl
   where
-    at : (o : Option ℕ) → malformed fields ≡ o → request_outcome config live (length (picked book f.pick).body) (picked book f.pick).early core id ends f ≡ (let g = request_summary book fields in request_outcome config live (length (picked book g.pick).body) (picked book g.pick).early core id ends g)
-    at None e = ap (λ (g : BlockSummary). request_outcome config live (length (picked book g.pick).body) (picked book g.pick).early core id ends g) (well e)
-    at (Some k) e =
+    Same : Type 0
+    Same = request_outcome config live (length (picked book f.pick).body) (picked book f.pick).early core id ends f ≡ (let g = request_summary book fields in request_outcome config live (length (picked book g.pick).body) (picked book g.pick).early core id ends g)
+
+    at : nat_lt max_list f.size ≡ false → (o : Option ℕ) → malformed fields ≡ o → Same
+    at small None e = ap (λ (g : BlockSummary). request_outcome config live (length (picked book g.pick).body) (picked book g.pick).early core id ends g) (well small e)
+    at small (Some k) e =
         let g = request_summary book fields in
-        malformed-turn config live (length (picked book f.pick).body) (length (picked book g.pick).body) (picked book f.pick).early (picked book g.pick).early core id ends f g size (bad ∙ ap is_some e) (ap is_some e)
+        malformed-turn config live (length (picked book f.pick).body) (length (picked book g.pick).body) (picked book f.pick).early (picked book g.pick).early core id ends f g size (bad small ∙ ap is_some e) (ap is_some e)
+
+    by_size : (large : Bool) → nat_lt max_list f.size ≡ large → Same
+    by_size true e =
+        let g = request_summary book fields in
+        large-turn config live (length (picked book f.pick).body) (length (picked book g.pick).body) (picked book f.pick).early (picked book g.pick).early core id ends f g size e
+    by_size false e = at e (malformed fields) refl

@@ -17,7 +17,7 @@ use Rattle.h2_spec.specs.declared.reactions.RecordUpdate.TheVariants.{Shift}
 use Rattle.h2_spec.specs.Answer.{Entry}
 use Rattle.h2_spec.specs.Stream.{Records}
 use Rattle.h2_rules.specs.OneSetting.{one_setting}
-use Rattle.h2_rules.specs.Sound.{IsSoundConnectionState, IsSoundState, IsSoundRecordUpdate}
+use Rattle.h2_rules.specs.Sound.{IsSoundConnectionState, IsSoundState, IsSoundRecordUpdate, in_force}
 use Rattle.h2_rules.proofs.SoundLaws.{still}
 
 abbrev Applied : Type 0
@@ -129,10 +129,10 @@ applied-fit streams from now peer (p ∷ ps) fit e = at (λ t g h. applied-fit s
 
 -- with the settings that are taken the counts and the records stay sound
 pub applied-sound : (book : List Entry) (core now : ConnectionState) (r : Records) (peer : Settings) (ps : List (ℕ × ℕ)) → IsSoundState book core r → settings_applied r.streams core.peer core.peer ps ≡ Ok peer →
-    now ≡ record core { peer = peer; phase = Running } → IsSoundConnectionState now × IsSoundRecordUpdate book r core.peer.window now (Shift core.peer.window peer.window)
+    now ≡ record core { peer = peer; phase = Running } → IsSoundConnectionState now × IsSoundRecordUpdate book r (in_force core) now (Shift core.peer.window peer.window)
 applied-sound book core now r peer ps state e is =
     let before = state.counts in
-    let fit = applied-fit r.streams core.peer core.peer peer ps (before.1, before.3, before.4) e in
-    let fits = applied-fits r.streams core.peer core.peer peer ps (still book core.peer.window r.streams state.records) e in
-    let P : ConnectionState → Type 0 = λ x. IsSoundConnectionState x × IsSoundRecordUpdate book r core.peer.window x (Shift core.peer.window peer.window) in
-    subst P (sym is) ((before.0, fit.0, before.2, fit.1, fit.2, before.5, before.6), (fits, refl, refl, sym state.last))
+    let fit = applied-fit r.streams core.peer core.peer peer ps (before.1, before.2, before.3) e in
+    let fits = applied-fits r.streams core.peer core.peer peer ps (still book (in_force core) r.streams state.records) e in
+    let P : ConnectionState → Type 0 = λ x. IsSoundConnectionState x × IsSoundRecordUpdate book r (in_force core) x (Shift core.peer.window peer.window) in
+    subst P (sym is) ((before.0, fit.0, fit.1, fit.2, before.4), (fits, refl, refl, sym state.last, refl))

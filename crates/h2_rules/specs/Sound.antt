@@ -1,31 +1,54 @@
 -- What is true of the counts of every connection: windows stay within their limits, whatever is given back or moved.
-use Rattle.std.specs.Prelude.{◌≡◌, ℕ, ◌<◌, ◌≤◌, ◌^◌, ◌||◌, length, Bool, true, false, List, ℤ, pos, ◌+ℤ◌, ◌≤ℤ◌, max}
+use Rattle.std.specs.Prelude.{◌≡◌, ℕ, ◌<◌, ◌≤◌, ◌^◌, ◌||◌, length, Bool, true, false, List, ℤ, pos, negsuc, ◌+ℤ◌, ◌≤ℤ◌, max}
 use Rattle.std.specs.List.{AllByRecursion}
 use Rattle.h2_spec.specs.declared.connection.ConnectionState.{ConnectionState}
+use Rattle.h2_spec.specs.declared.flow.LocalSettings.{LocalSettings}
 use Rattle.h2_spec.specs.declared.reactions.Change.{Change}
 use Rattle.h2_spec.specs.declared.reactions.Reaction.{Reaction}
 use Rattle.h2_spec.specs.declared.reactions.Reaction.TheVariants.{ConnectionError, Continues}
 use Rattle.h2_spec.specs.declared.reactions.RecordUpdate.{RecordUpdate}
-use Rattle.h2_spec.specs.declared.reactions.RecordUpdate.TheVariants.{Unchanged, Put, Shift}
+use Rattle.h2_spec.specs.declared.reactions.RecordUpdate.TheVariants.{Unchanged, Put, Shift, Receive}
 use Rattle.h2_spec.specs.declared.streams.Kind.{Kind}
+use Rattle.h2_spec.specs.declared.streams.Numbers.{Numbers}
 use Rattle.h2_spec.specs.declared.streams.Stream.{Stream}
 use Rattle.h2_spec.specs.Answer.{Entry, picked}
 use Rattle.h2_spec.specs.Stream.{Records, is_live, octets_waiting, with_record}
 use Rattle.h2_streams.specs.Put.{CanPut, is_closed}
 use Rattle.h2_request.specs.Lent.{IsPickOf}
-use Rattle.h2_spec.specs.Change.{follows_initial_window, overflows, moved_by, shifted}
+use Rattle.h2_spec.specs.Change.{follows_initial_window, overflows, moved_by, received, shifted}
 
 -- octets that may be given back: the window does not pass its greatest value with them
 abbrev pub IsCredit : ℤ → ℕ → Type 0
 IsCredit recv owed = (recv +ℤ pos owed) ≤ℤ pos 2147483647
 
-abbrev pub IsSoundConnectionState : ConnectionState → Type 0
-IsSoundConnectionState core = IsCredit core.recv core.owed × (core.peer.window ≤ 2147483647) × (core.own.window ≤ 2147483647) × (0 < core.peer.frame) × (core.peer.frame < 2 ^ 24) × (core.own.frame < 2 ^ 24) × (core.own.table ≡ 4096)
+-- windows of streams may be negative, but are numbers of 32 bits
+abbrev pub IsWindow : ℤ → Type 0
+IsWindow w = negsuc 2147483647 ≤ℤ w
 
--- with the peer's initial window: what is owed may be given back, and the send window may be moved
-abbrev pub IsSoundStream : ℕ → Stream → Type 0
-IsSoundStream window st =
-    IsCredit st.numbers.recv st.numbers.owed × (st.numbers.send ≤ℤ pos 2147483647) × (follows_initial_window st.kind ≡ true → pos window ≤ℤ (st.numbers.send +ℤ pos 2147483647))
+-- settings of the server that windows and lengths of frames have room for
+abbrev pub AreInRange : LocalSettings → Type 0
+AreInRange own = (own.window ≤ 2147483647) × (own.frame < 2 ^ 24)
+
+abbrev pub IsSoundConnectionState : ConnectionState → Type 0
+IsSoundConnectionState core = IsCredit core.recv core.owed × (core.peer.window ≤ 2147483647) × (0 < core.peer.frame) × (core.peer.frame < 2 ^ 24) × AreInRange core.own
+
+-- what is in force: the peer's initial window, and the server's settings
+pub record InForce : Type 0 where
+  pub window : ℕ
+  pub own : LocalSettings
+
+abbrev pub in_force : ConnectionState → InForce
+in_force core = record { window = core.peer.window; own = core.own }
+
+-- the receive window and what is owed make up the server's initial window, so that it can be moved
+abbrev pub MakesUp : ℕ → Numbers → Type 0
+MakesUp window numbers = ((numbers.recv +ℤ pos numbers.owed) ≡ pos window) × (numbers.owed ≤ 2147483647)
+
+-- the receive window of a live stream is the server's initial window without what is owed, and the send window may be
+-- moved
+abbrev pub IsSoundStream : InForce → Stream → Type 0
+IsSoundStream f st =
+    (is_live st.kind ≡ true → MakesUp f.own.window st.numbers) × (st.numbers.send ≤ℤ pos 2147483647) × (follows_initial_window st.kind ≡ true → pos f.window ≤ℤ (st.numbers.send +ℤ pos 2147483647))
 
 -- the pick is one of the book, and what waits is part of the body of the stream's answer
 abbrev pub HasBody : List Entry → Stream → Type 0
@@ -35,32 +58,34 @@ HasBody book st = IsPickOf book st.pick × (octets_waiting st ≤ length (picked
 abbrev pub is_recorded : Kind → Bool
 is_recorded kind = is_live kind || is_closed kind
 
--- what becomes of the streams: with the book, the records before, the initial window before, and the counts after
-abbrev pub IsSoundRecordUpdate : List Entry → Records → ℕ → ConnectionState → RecordUpdate → Type 0
-IsSoundRecordUpdate book r before now Unchanged = (before ≡ now.peer.window) × (now.last ≡ r.last)
-IsSoundRecordUpdate book r before now (Put st) = IsSoundStream now.peer.window st × HasBody book st × (before ≡ now.peer.window) × CanPut st r × (now.last ≡ max r.last st.id) × (is_recorded st.kind ≡ true)
-IsSoundRecordUpdate book r before now (Shift from to) = (overflows (moved_by from to) r.streams ≡ false) × (from ≡ before) × (to ≡ now.peer.window) × (now.last ≡ r.last)
+-- what becomes of the streams: with the book, the records before, what was in force before, and the counts after; the
+-- server's settings stay as they are, since they come into force at their acknowledgement alone
+abbrev pub IsSoundRecordUpdate : List Entry → Records → InForce → ConnectionState → RecordUpdate → Type 0
+IsSoundRecordUpdate book r before now Unchanged = (before ≡ in_force now) × (now.last ≡ r.last)
+IsSoundRecordUpdate book r before now (Put st) = IsSoundStream (in_force now) st × HasBody book st × (before ≡ in_force now) × CanPut st r × (now.last ≡ max r.last st.id) × (is_recorded st.kind ≡ true)
+IsSoundRecordUpdate book r before now (Shift from to) = (overflows (moved_by from to) r.streams ≡ false) × (from ≡ before.window) × (to ≡ now.peer.window) × (now.last ≡ r.last) × (before.own ≡ now.own)
+IsSoundRecordUpdate book r before now (Receive from to) = ⊥
 
--- with the records and the initial window before it
-abbrev pub IsSoundChange : List Entry → Records → ℕ → Change → Type 0
-IsSoundChange book r window c = IsSoundConnectionState c.core × IsSoundRecordUpdate book r window c.core c.record_update
+-- with the records and what was in force before it
+abbrev pub IsSoundChange : List Entry → Records → InForce → Change → Type 0
+IsSoundChange book r before c = IsSoundConnectionState c.core × IsSoundRecordUpdate book r before c.core c.record_update
 
-abbrev pub IsSound : List Entry → Records → ℕ → Reaction → Type 0
-IsSound book r window (ConnectionError code) = Unit {0}
-IsSound book r window (Continues c) = IsSoundChange book r window c
+abbrev pub IsSound : List Entry → Records → InForce → Reaction → Type 0
+IsSound book r before (ConnectionError code) = Unit {0}
+IsSound book r before (Continues c) = IsSoundChange book r before c
 
 -- a change of the counts alone
 abbrev pub IsCalm : ConnectionState → Change → Type 0
-IsCalm core c = IsSoundConnectionState c.core × (c.core.peer.window ≡ core.peer.window) × (c.core.last ≡ core.last)
+IsCalm core c = IsSoundConnectionState c.core × (in_force c.core ≡ in_force core) × (c.core.last ≡ core.last)
 
--- all records are sound, with the book and the initial window, and are of streams that have been opened
-abbrev pub AreSound : List Entry → ℕ → List Stream → Type 0
-AreSound book window streams = AllByRecursion (λ st. IsSoundStream window st × HasBody book st × (is_recorded st.kind ≡ true)) streams
+-- all records are sound, with the book and what is in force, and are of streams that have been opened
+abbrev pub AreSound : List Entry → InForce → List Stream → Type 0
+AreSound book f streams = AllByRecursion (λ st. IsSoundStream f st × HasBody book st × (is_recorded st.kind ≡ true)) streams
 
 -- what is true of the counts and the records of every connection
 pub record IsSoundState (book : List Entry) (core : ConnectionState) (r : Records) : Type 0 where
   pub counts : IsSoundConnectionState core
-  pub records : AreSound book core.peer.window r.streams
+  pub records : AreSound book (in_force core) r.streams
   pub last : r.last ≡ core.last
 
 -- the records after a change
@@ -68,3 +93,4 @@ abbrev pub updated_records : RecordUpdate → Records → Records
 updated_records Unchanged r = r
 updated_records (Put st) r = with_record st r
 updated_records (Shift from to) r = record r { streams = shifted (moved_by from to) r.streams }
+updated_records (Receive from to) r = record r { streams = received (moved_by from to) r.streams }

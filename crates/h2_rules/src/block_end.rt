@@ -1,10 +1,11 @@
 //! What a field block results in at its end (RFC 9113, 4.3, 5.1 and 8.1).
 //! Rests on `headers` and on h2_request; definition: `block_ends` of h2_spec's `specs/Headers.antt`.
 
-ghost use Rattle.std.specs.Prelude.{◌≡◌, true, length, is_some, Option, None};
+ghost use Rattle.std.specs.Prelude.{◌≡◌, true, false, length, nat_lt, is_some, Option, None};
 ghost use Rattle.h2_spec.specs.declared.connection.Config.{Config};
 ghost use Rattle.h2_spec.specs.declared.connection.Purpose.TheVariants.{Closed, Request, Trailers};
 ghost use Rattle.h2_spec.specs.declared.errors.ErrorCode.TheVariants.{StreamClosed};
+ghost use Rattle.h2_spec.specs.declared.streams.Pick.TheVariants.{NotFound};
 ghost use Rattle.h2_spec.specs.Answer.{picked};
 ghost use Rattle.h2_spec.specs.Block.{list_size};
 ghost use Rattle.h2_spec.specs.Change as changes;
@@ -14,10 +15,10 @@ ghost use Rattle.h2_spec.specs.Request.{malformed, malformed_trailers};
 ghost use Rattle.h2_spec.specs.State.{OpenBlock};
 ghost use Rattle.h2_request.specs.Lent.{IsPickOf};
 ghost use Rattle.h2_rules.specs.Open.{IsOpenAt, state_of};
-ghost use Rattle.h2_rules.specs.Sound.{HasBody, IsSoundChange, IsSoundConnectionState, IsSoundState, IsSoundStream, is_recorded};
+ghost use Rattle.h2_rules.specs.Sound.{HasBody, IsSoundChange, IsSoundConnectionState, IsSoundState, IsSoundStream, in_force, is_recorded};
 
 use crate::change::{only_counts, stream_error, with_outcome};
-use crate::headers::{request_outcome, trailers_outcome};
+use crate::headers::{is_too_large, request_outcome, trailers_outcome};
 use h2_fields::collected::Collected;
 use h2_request::book::Book;
 use h2_request::fields::Fields;
@@ -30,14 +31,18 @@ use h2_streams::Streams;
 use std::alloc::Allocator;
 
 /// What the fields of a request result in.
-/// Of malformed fields nothing but the size is looked at, so they declare nothing and pick nothing here.
+/// The fields of a list that is too large are not looked at, since it is refused whatever they are: a block may refer to
+/// one long entry many times. Of malformed fields nothing but the size is looked at. Neither declares or picks anything.
 fn request_summary<A: Allocator>(book: &Book<A>, fields: &Collected<A>) -> BlockSummary
     ensures size { result.size ≡ list_size fields.now.fields }
-    ensures malformed { result.malformed ≡ is_some (malformed fields.now.fields) }
-    ensures well_formed { malformed fields.now.fields ≡ None → result ≡ rule.request_summary book.now fields.now.fields }
+    ensures malformed { nat_lt rule.max_list result.size ≡ false → result.malformed ≡ is_some (malformed fields.now.fields) }
+    ensures well_formed { nat_lt rule.max_list result.size ≡ false → malformed fields.now.fields ≡ None → result ≡ rule.request_summary book.now fields.now.fields }
     ensures pick { IsPickOf book.now result.pick }
 {
     let size = fields.list_size();
+    if is_too_large(size) {
+        return refused_summary(size);
+    }
     match check_fields(&Fields::Block(fields)) {
         Ok(request) => BlockSummary {
             size,
@@ -45,12 +50,19 @@ fn request_summary<A: Allocator>(book: &Book<A>, fields: &Collected<A>) -> Block
             declared: request.declared,
             pick: book.find(&request),
         },
-        Err(_) => BlockSummary {
-            size,
-            malformed: true,
-            declared: None,
-            pick: Pick::NotFound,
-        },
+        Err(_) => refused_summary(size),
+    }
+}
+
+/// What the fields of a request that is refused result in: they declare nothing and pick nothing.
+fn refused_summary(size: u64) -> BlockSummary
+    ensures { result ≡ record { size = size; malformed = true; declared = None; pick = NotFound } }
+{
+    BlockSummary {
+        size,
+        malformed: true,
+        declared: None,
+        pick: Pick::NotFound,
     }
 }
 
@@ -75,7 +87,7 @@ fn opening_outcome<A: Allocator>(
     requires pick { IsPickOf book.now summary.pick }
     ensures rule { let a = picked book.now summary.pick in result ≡ rule.request_outcome config live (length a.body) a.early core id ends summary }
     ensures id { result.stream.id ≡ id }
-    ensures sound { IsSoundStream core.peer.window result.stream }
+    ensures sound { IsSoundStream (in_force core) result.stream }
     ensures waits { HasBody book.now result.stream }
     ensures recorded { is_recorded result.stream.kind ≡ true }
 {
@@ -96,7 +108,7 @@ fn request_ends<A: Allocator + Copy>(
     requires sound { IsSoundState book.now core streams.now }
     requires open { IsOpenAt streams.now shown.now.stream Request }
     ensures rule { (b : Option OpenBlock) (table : Table) → result ≡ rule.request_ends (state_of book.now config core b table streams.now.streams) shown.now.stream shown.now.ends fields.now.fields }
-    ensures sound { IsSoundChange book.now streams.now core.peer.window result }
+    ensures sound { IsSoundChange book.now streams.now (in_force core) result }
 {
     let summary = request_summary(book, fields);
     let live = streams.live_count();
@@ -118,11 +130,11 @@ fn trailers_end<A: Allocator + Copy>(
     requires sound { IsSoundState book.now core streams.now }
     requires open { IsOpenAt streams.now shown.now.stream Trailers }
     ensures rule { (config : Config) (b : Option OpenBlock) (table : Table) → result ≡ rule.trailers_end (state_of book.now config core b table streams.now.streams) shown.now.stream shown.now.ends fields.now.fields }
-    ensures sound { IsSoundChange book.now streams.now core.peer.window result }
+    ensures sound { IsSoundChange book.now streams.now (in_force core) result }
 {
     let stream = streams.stream_at(shown.stream);
-    let malformed = are_no_trailers(fields);
     let size = fields.list_size();
+    let malformed = are_no_trailers(size, fields);
     let body = body_length(book, stream.pick);
     let size_update_pending = core.peer.size_update_pending;
     let outcome = trailers_outcome(
@@ -136,10 +148,14 @@ fn trailers_end<A: Allocator + Copy>(
     with_outcome(only_counts(core), outcome)
 }
 
-/// Whether there is a reason against fields as trailers (RFC 9113, 8.1).
-fn are_no_trailers<A: Allocator>(fields: &Collected<A>) -> bool
-    ensures { result ≡ is_some (malformed_trailers fields.now.fields) }
+/// Whether there is a reason against fields as trailers (RFC 9113, 8.1). The fields of a list that is too large are not
+/// looked at, since it is refused whatever they are.
+fn are_no_trailers<A: Allocator>(size: u64, fields: &Collected<A>) -> bool
+    ensures { nat_lt rule.max_list size ≡ false → result ≡ is_some (malformed_trailers fields.now.fields) }
 {
+    if is_too_large(size) {
+        return true;
+    }
     match check_trailer_fields(&Fields::Block(fields)) {
         Ok(()) => false,
         Err(_) => true,
@@ -156,7 +172,7 @@ fn closed_end<A: Allocator>(
     requires sound { IsSoundState book.now core streams.now }
     requires open { IsOpenAt streams.now id Closed }
     ensures rule { result ≡ changes.with_outcome (changes.only_counts core) (changes.stream_error core.peer.size_update_pending id StreamClosed) }
-    ensures sound { IsSoundChange book.now streams.now core.peer.window result }
+    ensures sound { IsSoundChange book.now streams.now (in_force core) result }
 {
     let outcome = stream_error(core.peer.size_update_pending, id, ErrorCode::StreamClosed);
     with_outcome(only_counts(core), outcome)
@@ -178,7 +194,7 @@ pub fn block_ends<A: Allocator + Copy>(
     requires sound { IsSoundState book.now core streams.now }
     requires open { IsOpenAt streams.now shown.now.stream purpose }
     ensures rule { (b : Option OpenBlock) (table : Table) → result ≡ rule.block_ends (state_of book.now config core b table streams.now.streams) shown.now.stream shown.now.ends fields.now.fields purpose }
-    ensures sound { IsSoundChange book.now streams.now core.peer.window result }
+    ensures sound { IsSoundChange book.now streams.now (in_force core) result }
 {
     match purpose {
         Purpose::Request => request_ends(book, config, core, streams, shown, fields),

@@ -7,7 +7,7 @@ ghost use Rattle.h2_spec.specs.Stream.{Records};
 ghost use Rattle.h2_streams.specs.Put.{CanPut};
 ghost use Rattle.h2_spec.specs.declared.connection.ConnectionState.{ConnectionState};
 ghost use Rattle.h2_spec.specs.Answer.{Entry};
-ghost use Rattle.h2_rules.specs.Sound.{HasBody, IsCalm, IsSoundChange, IsSoundStream, is_recorded};
+ghost use Rattle.h2_rules.specs.Sound.{HasBody, InForce, IsCalm, IsSoundChange, IsSoundStream, in_force, is_recorded};
 
 use h2_spec::connection::ConnectionState;
 use h2_spec::errors::ErrorCode;
@@ -35,7 +35,7 @@ pub fn outcome_without_frame(size_update_pending: bool, stream: Stream) -> Strea
 pub fn stream_error(size_update_pending: bool, id: u32, code: ErrorCode) -> StreamOutcome
     ensures rule { result ≡ changes.stream_error size_update_pending id code }
     ensures id { result.stream.id ≡ id }
-    ensures sound { (window : ℕ) → IsSoundStream window result.stream }
+    ensures sound { (f : InForce) → IsSoundStream f result.stream }
     ensures waits { (book : List Entry) → HasBody book result.stream }
     ensures recorded { is_recorded result.stream.kind ≡ true }
 {
@@ -64,7 +64,7 @@ pub fn only_counts(core: ConnectionState) -> Change
 #[tactic(auto, unfolding(h2_spec::specs::Change::with_outcome))]
 pub fn with_outcome(change: Change, outcome: StreamOutcome) -> Change
     ensures rule { result ≡ changes.with_outcome change outcome }
-    ensures sound { (book : List Entry) (r : Records) (core : ConnectionState) → IsCalm core change → core.last ≡ max r.last outcome.stream.id → IsSoundStream core.peer.window outcome.stream → HasBody book outcome.stream → CanPut outcome.stream r → is_recorded outcome.stream.kind ≡ true → IsSoundChange book r core.peer.window result }
+    ensures sound { (book : List Entry) (r : Records) (core : ConnectionState) → IsCalm core change → core.last ≡ max r.last outcome.stream.id → IsSoundStream (in_force core) outcome.stream → HasBody book outcome.stream → CanPut outcome.stream r → is_recorded outcome.stream.kind ≡ true → IsSoundChange book r (in_force core) result }
 {
     let core = change.core;
     let peer = Settings {

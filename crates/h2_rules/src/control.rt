@@ -8,7 +8,7 @@ ghost use Rattle.h2_spec.specs.Effect as rule;
 ghost use Rattle.h2_spec.specs.Stream.{Records};
 ghost use Rattle.h2_spec.specs.declared.reactions.ConnectionFrame.TheVariants as frames;
 ghost use Rattle.h2_spec.specs.declared.reactions.Reaction.TheVariants as reactions;
-ghost use Rattle.h2_rules.specs.Sound.{IsSound, IsSoundConnectionState};
+ghost use Rattle.h2_rules.specs.Sound.{IsSound, IsSoundConnectionState, in_force};
 
 use crate::change::only_counts;
 use h2_spec::connection::ConnectionState;
@@ -18,7 +18,7 @@ use h2_spec::reactions::{Change, ConnectionFrame, Reaction};
 pub fn nothing(core: ConnectionState) -> Reaction
     requires core { IsSoundConnectionState core }
     ensures rule { result ≡ rule.nothing core }
-    ensures sound { (book : List Entry) (r : Records) → r.last ≡ core.last → IsSound book r core.peer.window result }
+    ensures sound { (book : List Entry) (r : Records) → r.last ≡ core.last → IsSound book r (in_force core) result }
 {
     Reaction::Continues(only_counts(core))
 }
@@ -27,7 +27,7 @@ pub fn nothing(core: ConnectionState) -> Reaction
 pub fn on_ping(core: ConnectionState, is_answer: bool) -> Reaction
     requires core { IsSoundConnectionState core }
     ensures rule { result ≡ (if is_answer then rule.nothing core else reactions.Continues (record (changes.only_counts core) { first = frames.PingAck })) }
-    ensures sound { (book : List Entry) (r : Records) → r.last ≡ core.last → IsSound book r core.peer.window result }
+    ensures sound { (book : List Entry) (r : Records) → r.last ≡ core.last → IsSound book r (in_force core) result }
 {
     let change = only_counts(core);
     if is_answer {
@@ -44,7 +44,7 @@ pub fn on_ping(core: ConnectionState, is_answer: bool) -> Reaction
 pub fn on_goaway(core: ConnectionState, last: u32, code: u32) -> Reaction
     requires core { IsSoundConnectionState core }
     ensures rule { result ≡ reactions.Continues (changes.only_counts (record core { goaway = Some (last, code) })) }
-    ensures sound { (book : List Entry) (r : Records) → r.last ≡ core.last → IsSound book r core.peer.window result }
+    ensures sound { (book : List Entry) (r : Records) → r.last ≡ core.last → IsSound book r (in_force core) result }
 {
     Reaction::Continues(only_counts(ConnectionState {
         goaway: Some((last, code)),

@@ -1,18 +1,18 @@
 //! The rule for DATA (RFC 9113, 6.1 and 6.9).
 //! Rests on `change` and `ends`; definitions: h2_spec's `specs/Data.antt`, and `on_data` of `specs/Effect.antt`.
 
-ghost use Rattle.std.specs.Prelude.{◌≡◌, ℕ, ◌<◌, ◌≤◌, true, List, length, pos, ◌≤ℤ◌};
+ghost use Rattle.std.specs.Prelude.{◌≡◌, ℕ, ◌<◌, ◌≤◌, true, List, length, pos, ◌≤ℤ◌, ◌&&◌, nat_lt, int_lt};
 ghost use Rattle.h2_spec.specs.Answer.{Entry, picked};
 ghost use Rattle.h2_spec.specs.Data as rule;
 ghost use Rattle.h2_spec.specs.Effect as effect;
 ghost use Rattle.h2_spec.specs.Stream.{Records, is_live, stream_at};
-ghost use Rattle.h2_rules.specs.Sound.{HasBody, IsCalm, IsCredit, IsSound, IsSoundConnectionState, IsSoundStream, is_recorded};
+ghost use Rattle.h2_rules.specs.Sound.{HasBody, InForce, IsCalm, IsCredit, IsSound, IsSoundConnectionState, IsSoundStream, IsWindow, in_force, is_recorded};
 
 use crate::change::{only_counts, outcome_without_frame, stream_error, with_outcome};
 use crate::ends::{breaks_length, peer_ended};
 use h2_spec::connection::{Config, ConnectionState};
 use h2_spec::errors::ErrorCode;
-use h2_spec::flow::Credit;
+use h2_spec::flow::{Credit, Window};
 use h2_spec::reactions::{
     Change, ConnectionFrame, Reaction, ReceivedData, StreamFrame, StreamOutcome,
 };
@@ -48,7 +48,7 @@ fn returned(threshold: u32, size_update_pending: bool, stream: Stream) -> Stream
     requires credit { IsCredit stream.numbers.recv stream.numbers.owed }
     ensures rule { result ≡ rule.returned threshold size_update_pending stream }
     ensures id { result.stream.id ≡ stream.id }
-    ensures sound { (window : ℕ) → window ≤ 2147483647 → IsSoundStream window stream → IsSoundStream window result.stream }
+    ensures sound { (f : InForce) → f.window ≤ 2147483647 → IsSoundStream f stream → IsSoundStream f result.stream }
     ensures waits { (book : List Entry) → HasBody book stream → HasBody book result.stream }
     ensures recorded { is_recorded stream.kind ≡ true → is_recorded result.stream.kind ≡ true }
 {
@@ -71,11 +71,12 @@ fn returned(threshold: u32, size_update_pending: bool, stream: Stream) -> Stream
 /// The stream has taken the octets.
 #[tactic(auto, unfolding(h2_spec::specs::Data::taken, h2_spec::specs::Stream::octets_waiting))]
 fn taken(stream: Stream, incoming: ReceivedData) -> Stream
-    requires recv { pos incoming.octets ≤ℤ stream.numbers.recv }
+    requires recv { 0 < incoming.octets → pos incoming.octets ≤ℤ stream.numbers.recv }
     requires credit { IsCredit stream.numbers.recv stream.numbers.owed }
+    requires least { IsWindow stream.numbers.recv }
     ensures rule { result ≡ rule.taken stream incoming }
     ensures id { result.id ≡ stream.id }
-    ensures sound { (window : ℕ) → IsSoundStream window stream → IsSoundStream window result }
+    ensures sound { (f : InForce) → IsSoundStream f stream → IsSoundStream f result }
     ensures waits { (book : List Entry) → HasBody book stream → HasBody book result }
     ensures recorded { is_recorded stream.kind ≡ true → is_recorded result.kind ≡ true }
 {
@@ -91,6 +92,13 @@ fn taken(stream: Stream, incoming: ReceivedData) -> Stream
     Stream { numbers, ..stream }
 }
 
+/// Whether there are octets, and the window holds fewer than these.
+fn exceeds(window: Window, octets: u32) -> bool
+    ensures { result ≡ (nat_lt 0 octets && int_lt window (pos octets)) }
+{
+    0 < octets && window.is_below(octets)
+}
+
 /// DATA on a stream whose peer's side is open: the threshold, and the length of the answer's body.
 #[tactic(auto, unfolding(h2_spec::specs::Data::data_outcome))]
 fn data_outcome(
@@ -101,14 +109,15 @@ fn data_outcome(
     stream: Stream,
 ) -> StreamOutcome
     requires credit { IsCredit stream.numbers.recv stream.numbers.owed }
+    requires least { IsWindow stream.numbers.recv }
     ensures rule { result ≡ rule.data_outcome threshold size_update_pending body incoming stream }
     ensures id { result.stream.id ≡ stream.id }
-    ensures sound { (window : ℕ) → window ≤ 2147483647 → IsSoundStream window stream → IsSoundStream window result.stream }
+    ensures sound { (f : InForce) → f.window ≤ 2147483647 → IsSoundStream f stream → IsSoundStream f result.stream }
     ensures waits { (book : List Entry) → body ≡ length (picked book stream.pick).body → HasBody book stream → HasBody book result.stream }
     ensures recorded { is_recorded stream.kind ≡ true → is_recorded result.stream.kind ≡ true }
 {
     let numbers = stream.numbers;
-    if numbers.recv.is_below(incoming.octets) {
+    if exceeds(numbers.recv, incoming.octets) {
         return stream_error(size_update_pending, stream.id, ErrorCode::FlowControlError);
     }
     let content_received = numbers
@@ -135,7 +144,8 @@ fn data_outcome(
 ///   connection error STREAM_CLOSED.
 /// - Above the connection's receive window: connection error FLOW_CONTROL_ERROR.
 /// - On a stream whose peer's side has ended: stream error STREAM_CLOSED. The octets count on the connection.
-/// - Above the stream's receive window: stream error FLOW_CONTROL_ERROR.
+/// - Above the stream's receive window: stream error FLOW_CONTROL_ERROR. DATA without octets never is, also where the
+///   server's settings have made the window negative (6.9.2).
 /// - More content than `content-length` declared, or less at END_STREAM: stream error PROTOCOL_ERROR (8.1.1).
 ///
 /// On a stream that the server has reset, the octets count on the connection and nothing else happens.
@@ -148,9 +158,9 @@ pub fn on_data(
     stream: Stream,
 ) -> Reaction
     requires core { IsSoundConnectionState core }
-    requires stream { IsSoundStream core.peer.window stream }
+    requires stream { IsSoundStream (in_force core) stream }
     ensures rule { result ≡ effect.on_data config core body incoming stream }
-    ensures sound { (book : List Entry) (r : Records) → body ≡ length (picked book stream.pick).body → HasBody book stream → stream ≡ stream_at r.last r.streams stream.id → r.last ≡ core.last → IsSound book r core.peer.window result }
+    ensures sound { (book : List Entry) (r : Records) → body ≡ length (picked book stream.pick).body → HasBody book stream → stream ≡ stream_at r.last r.streams stream.id → r.last ≡ core.last → IsSound book r (in_force core) result }
 {
     match stream.kind {
         Kind::Idle => Reaction::ConnectionError(ErrorCode::ProtocolError),
@@ -173,9 +183,10 @@ fn data_taken(
     stream: Stream,
 ) -> Reaction
     requires core { IsSoundConnectionState core }
-    requires stream { IsSoundStream core.peer.window stream }
+    requires stream { IsSoundStream (in_force core) stream }
+    requires live { is_live stream.kind ≡ true }
     ensures rule { result ≡ rule.data_taken config core body incoming stream }
-    ensures sound { (book : List Entry) (r : Records) → body ≡ length (picked book stream.pick).body → HasBody book stream → stream ≡ stream_at r.last r.streams stream.id → is_live stream.kind ≡ true → r.last ≡ core.last → IsSound book r core.peer.window result }
+    ensures sound { (book : List Entry) (r : Records) → body ≡ length (picked book stream.pick).body → HasBody book stream → stream ≡ stream_at r.last r.streams stream.id → r.last ≡ core.last → IsSound book r (in_force core) result }
 {
     let threshold = config.credit;
     if core.recv.is_below(incoming.octets) {
@@ -198,7 +209,7 @@ fn data_refused(
 ) -> Reaction
     requires core { IsSoundConnectionState core }
     ensures rule { result ≡ rule.data_refused config core incoming stream code }
-    ensures sound { (book : List Entry) (r : Records) → stream ≡ stream_at r.last r.streams stream.id → is_live stream.kind ≡ true → r.last ≡ core.last → IsSound book r core.peer.window result }
+    ensures sound { (book : List Entry) (r : Records) → stream ≡ stream_at r.last r.streams stream.id → is_live stream.kind ≡ true → r.last ≡ core.last → IsSound book r (in_force core) result }
 {
     if core.recv.is_below(incoming.octets) {
         return Reaction::ConnectionError(ErrorCode::FlowControlError);
@@ -214,7 +225,7 @@ fn data_refused(
 fn data_counted(config: Config, core: ConnectionState, incoming: ReceivedData) -> Reaction
     requires core { IsSoundConnectionState core }
     ensures rule { result ≡ rule.data_counted config core incoming }
-    ensures sound { (book : List Entry) (r : Records) → r.last ≡ core.last → IsSound book r core.peer.window result }
+    ensures sound { (book : List Entry) (r : Records) → r.last ≡ core.last → IsSound book r (in_force core) result }
 {
     if core.recv.is_below(incoming.octets) {
         return Reaction::ConnectionError(ErrorCode::FlowControlError);

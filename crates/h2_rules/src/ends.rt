@@ -5,7 +5,7 @@ ghost use Rattle.std.specs.Prelude.{◌≡◌, ℕ, ◌≤◌, true, List, lengt
 ghost use Rattle.h2_spec.specs.StreamEnds as rule;
 ghost use Rattle.h2_spec.specs.Data as data_rule;
 ghost use Rattle.h2_spec.specs.Answer.{Entry, picked};
-ghost use Rattle.h2_rules.specs.Sound.{HasBody, IsSoundStream, is_recorded};
+ghost use Rattle.h2_rules.specs.Sound.{HasBody, InForce, IsSoundStream, is_recorded};
 
 use crate::change::outcome_without_frame;
 use h2_spec::reactions::{Answering, StreamFrame, StreamOutcome};
@@ -17,7 +17,7 @@ use h2_streams::not_live;
 pub fn server_ended(stream: Stream) -> Stream
     ensures rule { result ≡ rule.server_ended stream }
     ensures id { result.id ≡ stream.id }
-    ensures sound { (window : ℕ) → window ≤ 2147483647 → IsSoundStream window stream → IsSoundStream window result }
+    ensures sound { (f : InForce) → f.window ≤ 2147483647 → IsSoundStream f stream → IsSoundStream f result }
     ensures waits { (book : List Entry) → HasBody book stream → HasBody book result }
     ensures recorded { is_recorded stream.kind ≡ true → is_recorded result.kind ≡ true }
 {
@@ -29,7 +29,7 @@ pub fn server_ended(stream: Stream) -> Stream
 pub fn with_body_remaining(stream: Stream, left: u64) -> Stream
     ensures rule { result ≡ rule.with_body_remaining stream left }
     ensures id { result.id ≡ stream.id }
-    ensures sound { (window : ℕ) → IsSoundStream window stream → IsSoundStream window result }
+    ensures sound { (f : InForce) → IsSoundStream f stream → IsSoundStream f result }
     ensures waits { (book : List Entry) → HasBody book stream → left ≤ length (picked book stream.pick).body → HasBody book result }
     ensures recorded { is_recorded stream.kind ≡ true → is_recorded result.kind ≡ true }
 {
@@ -45,7 +45,7 @@ pub fn with_body_remaining(stream: Stream, left: u64) -> Stream
 fn begun(body: u64, stream: Stream) -> Stream
     ensures rule { result ≡ rule.begun body stream }
     ensures id { result.id ≡ stream.id }
-    ensures sound { (window : ℕ) → window ≤ 2147483647 → IsSoundStream window stream → IsSoundStream window result }
+    ensures sound { (f : InForce) → f.window ≤ 2147483647 → IsSoundStream f stream → IsSoundStream f result }
     ensures waits { (book : List Entry) → body ≡ length (picked book stream.pick).body → HasBody book stream → HasBody book result }
     ensures recorded { is_recorded stream.kind ≡ true → is_recorded result.kind ≡ true }
 {
@@ -61,7 +61,7 @@ fn begun(body: u64, stream: Stream) -> Stream
 pub fn answered(size_update_pending: bool, body: u64, stream: Stream) -> StreamOutcome
     ensures rule { result ≡ rule.answered size_update_pending body stream }
     ensures id { result.stream.id ≡ stream.id }
-    ensures sound { (window : ℕ) → window ≤ 2147483647 → IsSoundStream window stream → IsSoundStream window result.stream }
+    ensures sound { (f : InForce) → f.window ≤ 2147483647 → IsSoundStream f stream → IsSoundStream f result.stream }
     ensures waits { (book : List Entry) → body ≡ length (picked book stream.pick).body → HasBody book stream → HasBody book result.stream }
     ensures recorded { is_recorded stream.kind ≡ true → is_recorded result.stream.kind ≡ true }
 {
@@ -83,7 +83,7 @@ pub fn answered(size_update_pending: bool, body: u64, stream: Stream) -> StreamO
 pub fn peer_ended(size_update_pending: bool, body: u64, stream: Stream) -> StreamOutcome
     ensures rule { result ≡ rule.peer_ended size_update_pending body stream }
     ensures id { result.stream.id ≡ stream.id }
-    ensures sound { (window : ℕ) → window ≤ 2147483647 → IsSoundStream window stream → IsSoundStream window result.stream }
+    ensures sound { (f : InForce) → f.window ≤ 2147483647 → IsSoundStream f stream → IsSoundStream f result.stream }
     ensures waits { (book : List Entry) → body ≡ length (picked book stream.pick).body → HasBody book stream → HasBody book result.stream }
     ensures recorded { is_recorded stream.kind ≡ true → is_recorded result.stream.kind ≡ true }
 {

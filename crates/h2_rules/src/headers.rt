@@ -5,7 +5,7 @@ ghost use Rattle.std.specs.Prelude.{◌≡◌, ℕ, ◌≤◌, true, ◌&&◌, �
 ghost use Rattle.h2_spec.specs.Headers as rule;
 ghost use Rattle.h2_spec.specs.Answer.{Entry, picked};
 ghost use Rattle.h2_request.specs.Lent.{IsPickOf};
-ghost use Rattle.h2_rules.specs.Sound.{HasBody, IsSoundConnectionState, IsSoundStream, is_recorded};
+ghost use Rattle.h2_rules.specs.Sound.{HasBody, InForce, IsSoundConnectionState, IsSoundStream, in_force, is_recorded};
 
 use crate::change::{outcome_without_frame, stream_error};
 use crate::ends::{answered, breaks_length, peer_ended};
@@ -24,7 +24,7 @@ fn new_stream(core: ConnectionState, id: u32, summary: BlockSummary) -> Stream
     requires core { IsSoundConnectionState core }
     ensures rule { result ≡ rule.new_stream core id summary }
     ensures id { result.id ≡ id }
-    ensures sound { IsSoundStream core.peer.window result }
+    ensures sound { IsSoundStream (in_force core) result }
     ensures waits { (book : List Entry) → IsPickOf book summary.pick → HasBody book result }
     ensures recorded { is_recorded result.kind ≡ true }
 {
@@ -52,7 +52,7 @@ fn is_full(config: Config, live: usize) -> bool
 }
 
 /// Whether a list of fields of this size is too large.
-fn is_too_large(size: u64) -> bool
+pub(crate) fn is_too_large(size: u64) -> bool
     ensures { result ≡ nat_lt rule.max_list size }
 {
     MAX_LIST < size
@@ -100,7 +100,7 @@ pub fn request_outcome(
     requires core { IsSoundConnectionState core }
     ensures rule { result ≡ rule.request_outcome config live body early core id ends summary }
     ensures id { result.stream.id ≡ id }
-    ensures sound { IsSoundStream core.peer.window result.stream }
+    ensures sound { IsSoundStream (in_force core) result.stream }
     ensures waits { (book : List Entry) → body ≡ length (picked book summary.pick).body → IsPickOf book summary.pick → HasBody book result.stream }
     ensures recorded { is_recorded result.stream.kind ≡ true }
 {
@@ -144,7 +144,7 @@ pub fn trailers_outcome(
 ) -> StreamOutcome
     ensures rule { result ≡ rule.trailers_outcome size malformed body size_update_pending ends stream }
     ensures id { result.stream.id ≡ stream.id }
-    ensures sound { (window : ℕ) → window ≤ 2147483647 → IsSoundStream window stream → IsSoundStream window result.stream }
+    ensures sound { (f : InForce) → f.window ≤ 2147483647 → IsSoundStream f stream → IsSoundStream f result.stream }
     ensures waits { (book : List Entry) → body ≡ length (picked book stream.pick).body → HasBody book stream → HasBody book result.stream }
     ensures recorded { is_recorded stream.kind ≡ true → is_recorded result.stream.kind ≡ true }
 {

@@ -5,7 +5,7 @@ ghost use Rattle.std.specs.Prelude.{◌≡◌, List};
 ghost use Rattle.h2_spec.specs.Effect as rule;
 ghost use Rattle.h2_spec.specs.Stream.{Records, stream_at};
 ghost use Rattle.h2_spec.specs.Answer.{Entry};
-ghost use Rattle.h2_rules.specs.Sound.{IsSound, IsSoundConnectionState};
+ghost use Rattle.h2_rules.specs.Sound.{IsSound, IsSoundConnectionState, in_force};
 
 use crate::change::{only_counts, outcome_without_frame, with_outcome};
 use h2_spec::connection::ConnectionState;
@@ -24,7 +24,7 @@ use h2_streams::not_live;
 pub fn on_reset(core: ConnectionState, stream: Stream) -> Reaction
     requires core { IsSoundConnectionState core }
     ensures rule { result ≡ rule.on_reset core stream }
-    ensures sound { (book : List Entry) (r : Records) → stream ≡ stream_at r.last r.streams stream.id → r.last ≡ core.last → IsSound book r core.peer.window result }
+    ensures sound { (book : List Entry) (r : Records) → stream ≡ stream_at r.last r.streams stream.id → r.last ≡ core.last → IsSound book r (in_force core) result }
 {
     match stream.kind {
         Kind::Idle => Reaction::ConnectionError(ErrorCode::ProtocolError),

@@ -10,13 +10,13 @@ ghost use Rattle.h2_spec.specs.Stream.{Records};
 ghost use Rattle.h2_spec.specs.declared.streams.Stream.{Stream};
 ghost use Rattle.h2_streams.specs.Greatest.{IsGreatest, overflows_with};
 ghost use Rattle.h2_rules.specs.OneSetting.{one_setting};
-ghost use Rattle.h2_rules.specs.Sound.{IsSound, IsSoundState};
+ghost use Rattle.h2_rules.specs.Sound.{IsSound, IsSoundState, in_force};
 
 use crate::change::only_counts;
 use h2_frame::SettingsPart;
 use h2_spec::connection::{ConnectionState, Phase};
 use h2_spec::errors::{ErrorCode, FlowFault};
-use h2_spec::flow::{Settings, Window};
+use h2_spec::flow::{LocalSettings, Settings, Window};
 use h2_spec::reactions::{Change, ConnectionFrame, Reaction, RecordUpdate};
 
 /// Whether the greatest window, if there is one, passes its limit where the initial window goes from one value to
@@ -92,7 +92,7 @@ pub fn settings_rule(
     part: SettingsPart<'_>,
 ) -> Reaction
     ensures rule { (streams : List Stream) → IsGreatest greatest.now streams → result ≡ rule.settings_rule streams core (settings_in part.entry) }
-    ensures sound { (book : List Entry) (r : Records) → IsGreatest greatest.now r.streams → IsSoundState book core r → IsSound book r core.peer.window result }
+    ensures sound { (book : List Entry) (r : Records) → IsGreatest greatest.now r.streams → IsSoundState book core r → IsSound book r (in_force core) result }
 {
     let before = core.peer.window;
     match settings_applied(greatest, core.peer, part) {
@@ -112,14 +112,18 @@ pub fn settings_rule(
     }
 }
 
-/// SETTINGS with ACK (RFC 9113, 6.5.3): the peer has acknowledged the server's settings. There is no error, also where
-/// none was awaited.
-pub fn acknowledged(core: ConnectionState) -> Reaction
-    ensures rule { result ≡ rule.acknowledged core }
-    ensures sound { (book : List Entry) (r : Records) → IsSoundState book core r → IsSound book r core.peer.window result }
+/// The server's settings come into force, as the peer has acknowledged them for the first time: the receive windows of
+/// live streams move by the change of the initial window (RFC 9113, 6.5.3 and 6.9.2). There is no error.
+pub fn comes_into_force(core: ConnectionState, own: LocalSettings) -> Change
+    ensures { result ≡ rule.comes_into_force core own }
 {
-    Reaction::Continues(only_counts(ConnectionState {
+    let change = only_counts(ConnectionState {
         acked: true,
+        own,
         ..core
-    }))
+    });
+    Change {
+        record_update: RecordUpdate::Receive(core.own.window, own.window),
+        ..change
+    }
 }

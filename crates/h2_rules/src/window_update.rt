@@ -6,7 +6,7 @@ ghost use Rattle.h2_spec.specs.WindowUpdate as rule;
 ghost use Rattle.h2_spec.specs.Effect as effect;
 ghost use Rattle.h2_spec.specs.Stream.{Records, stream_at};
 ghost use Rattle.h2_spec.specs.Answer.{Entry};
-ghost use Rattle.h2_rules.specs.Sound.{HasBody, IsSound, IsSoundConnectionState, IsSoundStream, is_recorded};
+ghost use Rattle.h2_rules.specs.Sound.{HasBody, InForce, IsSound, IsSoundConnectionState, IsSoundStream, in_force, is_recorded};
 
 use crate::change::{only_counts, outcome_without_frame, stream_error, with_outcome};
 use h2_spec::connection::ConnectionState;
@@ -19,7 +19,7 @@ use h2_spec::streams::{Kind, Numbers, Stream};
 fn window_outcome(size_update_pending: bool, increment: u32, stream: Stream) -> StreamOutcome
     ensures rule { result ≡ rule.window_outcome size_update_pending increment stream }
     ensures id { result.stream.id ≡ stream.id }
-    ensures sound { (window : ℕ) → window ≤ 2147483647 → IsSoundStream window stream → IsSoundStream window result.stream }
+    ensures sound { (f : InForce) → f.window ≤ 2147483647 → IsSoundStream f stream → IsSoundStream f result.stream }
     ensures waits { (book : List Entry) → HasBody book stream → HasBody book result.stream }
     ensures recorded { is_recorded stream.kind ≡ true → is_recorded result.stream.kind ≡ true }
 {
@@ -48,9 +48,9 @@ fn window_outcome(size_update_pending: bool, increment: u32, stream: Stream) -> 
 #[tactic(auto, unfolding(h2_spec::specs::Effect::on_window))]
 pub fn on_window(core: ConnectionState, increment: u32, stream: Stream) -> Reaction
     requires core { IsSoundConnectionState core }
-    requires stream { IsSoundStream core.peer.window stream }
+    requires stream { IsSoundStream (in_force core) stream }
     ensures rule { result ≡ effect.on_window core increment stream }
-    ensures sound { (book : List Entry) (r : Records) → HasBody book stream → stream ≡ stream_at r.last r.streams stream.id → r.last ≡ core.last → IsSound book r core.peer.window result }
+    ensures sound { (book : List Entry) (r : Records) → HasBody book stream → stream ≡ stream_at r.last r.streams stream.id → r.last ≡ core.last → IsSound book r (in_force core) result }
 {
     match stream.kind {
         Kind::Idle => Reaction::ConnectionError(ErrorCode::ProtocolError),
@@ -74,7 +74,7 @@ pub fn on_window(core: ConnectionState, increment: u32, stream: Stream) -> React
 pub fn connection_window(core: ConnectionState, increment: u32) -> Reaction
     requires core { IsSoundConnectionState core }
     ensures rule { result ≡ rule.connection_window core increment }
-    ensures sound { (book : List Entry) (r : Records) → r.last ≡ core.last → IsSound book r core.peer.window result }
+    ensures sound { (book : List Entry) (r : Records) → r.last ≡ core.last → IsSound book r (in_force core) result }
 {
     if increment == 0 {
         return Reaction::ConnectionError(ErrorCode::ProtocolError);

@@ -1,7 +1,5 @@
-//! Assembling a script, line by line.
-//! It rests on `line`; the definition is `assembled` of `h2_spec`, specs/Assemble.antt, and the law that this is what
-//! the
-//! script says is `h2_laws::script_laws::scripts_are_read`.
+//! Assembling a script, line by line. It rests on `line`; the definition is `assembled` of `h2_spec`,
+//! specs/Assemble.antt, and the law that this is what the script says is `h2_laws::script_laws::scripts_are_read`.
 
 ghost use Rattle.std.specs.Prelude.{◌+◌, ◌<◌};
 ghost use Rattle.h2_spec.specs.Assemble.{assembled, lines_at, statement_at};

@@ -1,7 +1,6 @@
-//! Disassembling octets, frame by frame.
-//! It rests on `said` for payloads and on `h2_frame` for heads; the definition is `written` of `h2_spec`,
-//! specs/Written.antt,
-//! and the law that this is a script of the octets is `h2_laws::script_laws::what_is_written_stands_for_its_octets`.
+//! Disassembling octets, frame by frame. It rests on `said` for payloads and on `h2_frame` for heads; the definition is
+//! `written` of `h2_spec`, specs/Written.antt, and the law that this is a script of the octets is
+//! `h2_laws::script_laws::what_is_written_stands_for_its_octets`.
 
 ghost use Rattle.std.specs.Prelude.{◌≡◌, ◌<◌, ◌≤◌, ◌^◌, ◌++◌, ◌&&◌, true, nat_eq, length, option_map, IfOk, IfSome, OnOk};
 ghost use Rattle.std.specs.List.{starts_with};

@@ -12,8 +12,8 @@ pub enum ServeFault {
     /// 0: out of memory for a new connection.
     #[error("out of memory")]
     NoMemory,
-    /// 16: the limit of streams is outside 1 to 1000, or the credit outside 1 to 65535.
-    #[error("a limit is out of range")]
+    /// 16: a limit or a setting is outside its range (`Config::is_allowed`).
+    #[error("a limit or a setting is out of range")]
     BadConfig,
     /// 23: a line could not be written.
     #[error("the output could not be written")]

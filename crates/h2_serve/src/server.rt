@@ -2,7 +2,7 @@
 //! Rests on `lines` and h2_drive; definitions: `specs/Lines.antt` and `specs/Serves.antt`.
 
 ghost use Rattle.std.specs.Prelude.{◌≡◌, true, false, Ok, Err, IfErr, IfSome, OnOk, OnErr};
-ghost use Rattle.h2_conn.specs.Connection.{is_allowed};
+ghost use Rattle.h2_spec.specs.State.{is_allowed};
 ghost use Rattle.h2_serve.specs.Serves.{AcceptsAs, Gains, ListensAs, ServesAs, opening_fault};
 
 use crate::fault::ServeFault;
@@ -131,7 +131,7 @@ fn serve_next<W: Write>(
 ///
 /// # Errors
 ///
-/// - `BadConfig` where a limit is out of range: nothing was accepted or printed, for count 0 too.
+/// - `BadConfig` where a limit or a setting is out of range: nothing was accepted or printed, for count 0 too.
 /// - `Socket` where a connection could not be accepted for another reason than that its client went away.
 /// - `Write` where a line could not be written; some octets of it may have been.
 /// - `NoMemory` where there is no memory for a new connection.

@@ -1,6 +1,6 @@
 -- A debugger that is loaded from a line, and why none is.
 use Rattle.std.specs.Prelude.{◌≡◌, ◌⊎◌, ℕ, true, false, List, Option, Some, None}
-use Rattle.h2_conn.specs.Connection.{is_allowed}
+use Rattle.h2_spec.specs.State.{is_allowed}
 use Rattle.h2_spec.specs.declared.connection.Config.{Config}
 use Rattle.h2_spec.specs.Answer.{Entry}
 use Rattle.h2_debug.specs.Debugging.{Debugging}
@@ -12,7 +12,7 @@ use Rattle.h2_session.specs.declared.fault.SessionFault.TheVariants.{BadConfig, 
 abbrev pub Loads : List Entry → Config → Option (List ℕ) → Debugging → Type 0
 Loads book config spelled d = (octets : List ℕ) × (spelled ≡ Some octets) × (is_allowed config ≡ true) × (d ≡ loaded book config octets)
 
--- out of memory, or the line is not hex, or a limit is out of range
+-- out of memory, or the line is not hex, or a limit or a setting is out of range
 abbrev pub IsNotLoaded : Config → Option (List ℕ) → SessionFault → Type 0
 IsNotLoaded config spelled fault = (fault ≡ NoMemory) ⊎ (((fault ≡ BadHex) × (spelled ≡ None))
     ⊎ ((octets : List ℕ) × (fault ≡ BadConfig) × (spelled ≡ Some octets) × (is_allowed config ≡ false)))

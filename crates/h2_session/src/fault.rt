@@ -12,8 +12,8 @@ pub enum SessionFault {
     /// 0: out of memory.
     #[error("out of memory")]
     NoMemory,
-    /// 16: the limit of streams is outside 1 to 1000, or the credit outside 1 to 65535.
-    #[error("a limit is out of range")]
+    /// 16: a limit or a setting is outside its range (`Config::is_allowed`).
+    #[error("a limit or a setting is out of range")]
     BadConfig,
     /// 22: a read failed, or the input has more than 16,777,216 octets.
     #[error("the input can't be read")]

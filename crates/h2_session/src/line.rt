@@ -51,8 +51,7 @@ fn keep_digit(digits: &mut Vec<u8>, octet: u8) -> Result<(), AllocError>
 }
 
 /// Takes a line, and puts it behind what is in `digits`, without its spaces, tabs and carriage returns. Says how it
-/// ends; where the input has ended it
-/// is empty.
+/// ends; where the input has ended it is empty.
 ///
 /// `Read` where nothing more can be taken, `NoMemory`.
 pub fn take_digits<I: Input>(

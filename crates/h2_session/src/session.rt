@@ -91,7 +91,7 @@ fn follow<I: Input, O: Output>(
 
 /// A debugger over the octets that digits spell.
 ///
-/// `BadHex` where they spell none, then `BadConfig` where a limit is out of range; `NoMemory` may come before either.
+/// `BadHex` where they spell none, then `BadConfig` where a limit or a setting is out of range; `NoMemory` may come before either.
 fn load<'b>(
     alloc: Global,
     book: &'b Book<Global>,
@@ -110,13 +110,11 @@ fn load<'b>(
 }
 
 /// The program `debug`: loads the octets that the first line spells in hex, answers each further line, and gives the
-/// exit status. Each answer is written
-/// and flushed before the next line is read.
+/// exit status. Each answer is written and flushed before the next line is read.
 ///
-/// 0: the input ended. 1: a fault ended the session, and its line was written: 22 where a read failed or the input
-/// has more than 16,777,216 octets, 25
-/// where the first line is not hex, 16 where a limit is out of range, 0 where memory for the first line was refused.
-/// 3: the output could not be written.
+/// 0: the input ended. 1: a fault ended the session, and its line was written: 22 where a read failed or the input has
+/// more than 16,777,216 octets, 25 where the first line is not hex, 16 where a limit or a setting is out of range, 0
+/// where memory for the first line was refused. 3: the output could not be written.
 pub fn debug_session<I: Input, O: Output>(
     alloc: Global,
     book: &Book<Global>,

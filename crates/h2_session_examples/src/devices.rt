@@ -1,6 +1,5 @@
 //! Devices for the tests: an input that comes in pieces and fails at a given read, an output that fails at a given
-//! call, and a pair in which the
-//! input fails unless all that was written was flushed.
+//! call, and a pair in which the input fails unless all that was written was flushed.
 
 ghost use Rattle.std.specs.Prelude.{◌≡◌, None, false, is_err, true};
 

@@ -18,10 +18,7 @@ const HEX: &str =
 const OPENING: &str = "00000c040000000000000300000064000600010000";
 
 pub(crate) fn usual() -> Config {
-    Config {
-        streams: 100,
-        credit: 32768,
-    }
+    Config::new(100, 32768)
 }
 
 /// Asserts what a session prints for an input, and its exit status.
@@ -86,7 +83,7 @@ fn the_state_is_shown(rt: HostRuntime) -> Result<(), Fail> {
         &rt,
         rt.alloc(),
         "show\nstep 1\nshow\ngo 3\nshow\n",
-        "at 0\nsent 00000c040000000000000300000064000600010000\nphase preface last 0\nwindow recv 65535 owed 0 send 65535\npeer table 4096 push 1 streams - window 65535 frame 16384 list - signal 0\nacked 0 goaway -\nblock -\ntable 0 0 4096\nat 1\nat 1\nsent -\nphase settings last 0\nwindow recv 65535 owed 0 send 65535\npeer table 4096 push 1 streams - window 65535 frame 16384 list - signal 0\nacked 0 goaway -\nblock -\ntable 0 0 4096\nat 3\nat 3\nsent 0000080601000000000102030405060708\nphase running last 0\nwindow recv 65535 owed 0 send 65535\npeer table 4096 push 1 streams - window 65535 frame 16384 list - signal 0\nacked 0 goaway -\nblock -\ntable 0 0 4096\n",
+        "at 0\nsent 00000c040000000000000300000064000600010000\nphase preface last 0\nwindow recv 65535 owed 0 send 65535\npeer table 4096 push 1 streams - window 65535 frame 16384 list - signal 0\nacked 0 goaway -\nown table 4096 window 65535 frame 16384 due 0\nblock -\ntable 0 0 4096\nat 1\nat 1\nsent -\nphase settings last 0\nwindow recv 65535 owed 0 send 65535\npeer table 4096 push 1 streams - window 65535 frame 16384 list - signal 0\nacked 0 goaway -\nown table 4096 window 65535 frame 16384 due 0\nblock -\ntable 0 0 4096\nat 3\nat 3\nsent 0000080601000000000102030405060708\nphase running last 0\nwindow recv 65535 owed 0 send 65535\npeer table 4096 push 1 streams - window 65535 frame 16384 list - signal 0\nacked 0 goaway -\nown table 4096 window 65535 frame 16384 due 0\nblock -\ntable 0 0 4096\n",
     )
 }
 
@@ -176,10 +173,7 @@ fn limits_out_of_range_are_refused_behind_bad_hex(rt: HostRuntime) {
         ("", "fault 16\n"),
     ] {
         let book = Book::new(rt.alloc());
-        let limits = Config {
-            streams: 0,
-            credit: 1,
-        };
+        let limits = Config::new(0, 1);
         let mut octets = input.as_bytes();
         let mut output = Gathered::new(rt.alloc());
         let status = debug_session(rt.alloc(), &book, limits, &mut octets, &mut output);

@@ -12,7 +12,7 @@ use Rattle.h2_spec.specs.declared.reactions.Reaction.TheVariants.{ConnectionErro
 use Rattle.h2_spec.specs.declared.reactions.StreamFrame.{StreamFrame}
 use Rattle.h2_spec.specs.declared.reactions.StreamFrame.TheVariants.{NoStreamFrame, Reset, StreamCredit}
 use Rattle.h2_spec.specs.declared.reactions.RecordUpdate.{RecordUpdate}
-use Rattle.h2_spec.specs.declared.reactions.RecordUpdate.TheVariants.{Unchanged, Put, Shift}
+use Rattle.h2_spec.specs.declared.reactions.RecordUpdate.TheVariants.{Unchanged, Put, Shift, Receive}
 use Rattle.h2_spec.specs.declared.reactions.StreamOutcome.{StreamOutcome}
 use Rattle.h2_spec.specs.declared.streams.Kind.{Kind}
 use Rattle.h2_spec.specs.declared.streams.Kind.TheVariants.{Idle, Skipped, BothOpen, HalfRemote, HalfLocal, Ended, PeerReset, WeReset}
@@ -22,7 +22,7 @@ use Rattle.h2_spec.specs.FrameType.{HEADERS, RST_STREAM, SETTINGS, PING, GOAWAY,
 use Rattle.h2_spec.specs.Frame.{Frame}
 use Rattle.h2_spec.specs.Errors.{code_number}
 use Rattle.h2_spec.specs.Window.{is_above_max}
-use Rattle.h2_spec.specs.Stream.{not_live, put}
+use Rattle.h2_spec.specs.Stream.{is_live, not_live, put}
 use Rattle.h2_spec.specs.State.{State, OpenBlock}
 use Rattle.h2_spec.specs.Answer.{Answer, Entry, picked, response_block}
 
@@ -82,6 +82,19 @@ unfoldable pub overflows : ℤ → List Stream → Bool
 overflows d [] = false
 overflows d (st ∷ sts) = if overflows_one d st then true else overflows d sts
 
+-- with this receive window
+abbrev pub with_recv : Stream → ℤ → Stream
+with_recv st w = record st { numbers = record st.numbers { recv = w } }
+
+-- a live stream with its receive window moved
+abbrev pub received_one : ℤ → Stream → Stream
+received_one d st = if is_live st.kind then with_recv st (st.numbers.recv +ℤ d) else st
+
+-- all streams as the server's own initial window moves their receive windows, once the peer has acknowledged it
+-- (6.5.3 and 6.9.2)
+unfoldable pub received : ℤ → List Stream → List Stream
+received d streams = map (received_one d) streams
+
 -- from one initial window to another
 abbrev pub moved_by : ℕ → ℕ → ℤ
 moved_by from to = pos to -ℤ pos from
@@ -91,6 +104,7 @@ abbrev pub updated_streams : RecordUpdate → List Stream → List Stream
 updated_streams Unchanged streams = streams
 updated_streams (Put st) streams = put st streams
 updated_streams (Shift from to) streams = shifted (moved_by from to) streams
+updated_streams (Receive from to) streams = received (moved_by from to) streams
 
 -- the state after a change
 abbrev pub after : State → Change → State

@@ -70,7 +70,7 @@ taken st d = record st {
 unfoldable pub data_outcome : ℕ → Bool → ℕ → ReceivedData → Stream → StreamOutcome
 unfolding peer_ended returned taken
 data_outcome threshold size_update_pending body d st =
-    if int_lt st.numbers.recv (pos d.octets) then stream_error size_update_pending st.id FlowControlError
+    if nat_lt 0 d.octets && int_lt st.numbers.recv (pos d.octets) then stream_error size_update_pending st.id FlowControlError
     else if breaks_length st.numbers.declared (content_with st.numbers.content_received d.content) d.ends then stream_error size_update_pending st.id ProtocolError
     else if d.ends then peer_ended size_update_pending body (taken st d)
     else returned threshold size_update_pending (taken st d)

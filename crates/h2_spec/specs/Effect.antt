@@ -22,7 +22,7 @@ use Rattle.h2_spec.specs.Request.{malformed, malformed_trailers, declared_length
 use Rattle.h2_spec.specs.Answer.{Entry, picked, pick_of, response_block}
 use Rattle.h2_spec.specs.Stream.{not_live, stream_at}
 use Rattle.h2_spec.specs.State.{State, OpenBlock}
-use Rattle.h2_spec.specs.Change.{Step, only_counts, with_outcome, outcome_without_frame, broken, made, frames_of, shifted}
+use Rattle.h2_spec.specs.Change.{Step, only_counts, with_outcome, outcome_without_frame, broken, made, frames_of, shifted, received}
 use Rattle.h2_spec.specs.Checks.{refusal}
 use Rattle.h2_spec.specs.ReactionTable.{Cell, DataRule, Take, Refuse, Count, ResetRule, PeerResets, WindowRule, MoveWindow, data_cell, headers_cell, reset_cell, window_cell, run_cell}
 use Rattle.h2_spec.specs.Data.{data_taken, data_refused, data_counted}
@@ -94,7 +94,7 @@ frame_effect s h p (OfHeaders part) = on_headers s h part (headers_cell h.stream
 frame_effect s h p OfPriority = makes s (nothing s.core)
 frame_effect s h p (OfRstStream code) = makes s (on_reset s.core (stream_at s.core.last s.streams h.stream))
 frame_effect s h p (OfSettings pairs) = makes s (settings_rule s.streams s.core pairs)
-frame_effect s h p OfSettingsAck = makes s (acknowledged s.core)
+frame_effect s h p OfSettingsAck = makes s (acknowledged s.config s.core)
 frame_effect s h p OfPushPromise = Breaks ProtocolError
 frame_effect s h p (OfPing octets) = makes s (if has h.flags ACK then nothing s.core else Continues (record (only_counts s.core) { first = PingAck }))
 frame_effect s h p (OfGoaway last code) = makes s (Continues (only_counts (record s.core { goaway = Some (last, code) })))
@@ -141,5 +141,5 @@ concluded s p (Makes t c) = made t p c
 
 -- the effect of one item
 unfoldable pub effect : State → Item → Step
-unfolding refusal part_as on_data on_reset on_window connection_window settings_rule request_outcome trailers_outcome stream_at with_outcome decoded frames_of shifted malformed malformed_trailers declared_length request_of pick_of response_block
+unfolding refusal part_as on_data on_reset on_window connection_window settings_rule request_outcome trailers_outcome stream_at with_outcome decoded frames_of shifted received malformed malformed_trailers declared_length request_of pick_of response_block
 effect s item = concluded s (payload_of item) (item_effect s item)

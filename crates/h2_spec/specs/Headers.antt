@@ -115,18 +115,18 @@ with_block s b = record s { block = b }
 -- the fragments so far are decoded, up to the beginning of an instruction
 abbrev pub fragment_read : State → BlockView → Decoding → Bool → FrameEffect
 fragment_read s b d false = Makes (with_block s (Some (record { shown = b; decoding = Some d }))) (only_counts s.core)
-fragment_read s b d true = if length d.rest == 0 then Makes (with_block s None) (block_ends s b.stream b.ends d.fields d.purpose) else Breaks CompressionError
+fragment_read s b d true = if length d.rest == 0 && not d.due then Makes (with_block s None) (block_ends s b.stream b.ends d.fields d.purpose) else Breaks CompressionError
 
 -- a fragment was decoded: the block and the table stand so, or it has a fault
 abbrev pub fragment_decoded : State → BlockView → Purpose → Bool → Decoded → FrameEffect
 fragment_decoded s b purpose end_headers d = elim d.outcome [
-  | Unfinished rest ↦ fragment_read (record s { table = d.progress.table }) (record b { list_size = list_size d.progress.fields }) (record { purpose = purpose; fields = d.progress.fields; rest = rest }) end_headers
+  | Unfinished rest ↦ fragment_read (record s { table = d.progress.table }) (record b { list_size = list_size d.progress.fields }) (record { purpose = purpose; fields = d.progress.fields; due = d.progress.due; rest = rest }) end_headers
   | Faulty fault ↦ Breaks CompressionError
 ]
 
 -- what the octets of a fragment do, behind those of the block that are not decoded yet
 abbrev pub decoded_with : State → Decoding → List ℕ → Decoded
-decoded_with s d octets = decoded s.core.own.table (record { fields = d.fields; table = s.table; due = is_due s }) (d.rest ++ octets)
+decoded_with s d octets = decoded s.core.own.table (record { fields = d.fields; table = s.table; due = d.due }) (d.rest ++ octets)
 
 -- a fragment of a block
 abbrev pub fragment : State → BlockView → Decoding → List ℕ → Bool → FrameEffect
@@ -138,13 +138,13 @@ fragment s b d octets end_headers =
 abbrev pub fresh_block : Head → BlockView
 fresh_block h = record { stream = h.stream; octets = 0; list_size = 0; ends = has h.flags END_STREAM }
 
--- nothing of a block is decoded yet
-abbrev pub fresh_decoding : Purpose → Decoding
-fresh_decoding purpose = record { purpose = purpose; fields = []; rest = [] }
+-- nothing of a block is decoded yet: it has to begin with a size update where one is due
+abbrev pub fresh_decoding : State → Purpose → Decoding
+fresh_decoding s purpose = record { purpose = purpose; fields = []; due = is_due s; rest = [] }
 
 -- HEADERS opens a block
 abbrev pub block_opens : State → Purpose → Head → HeadersPart → FrameEffect
-block_opens s purpose h part = fragment s (fresh_block h) (fresh_decoding purpose) part.fragment (has h.flags END_HEADERS)
+block_opens s purpose h part = fragment s (fresh_block h) (fresh_decoding s purpose) part.fragment (has h.flags END_HEADERS)
 
 -- CONTINUATION goes on with the open block; there is none after the end of the connection
 abbrev pub continued : State → BlockView → Option Decoding → List ℕ → Bool → FrameEffect

@@ -1,16 +1,20 @@
 -- The rule for SETTINGS (RFC 9113, 6.5 and 6.9.2).
 use Rattle.std.specs.Prelude.{ℕ, true, List, [], ◌∷◌, if◌then◌else◌, Result, Ok, Err}
+use Rattle.h2_spec.specs.declared.connection.Config.{Config}
 use Rattle.h2_spec.specs.declared.connection.ConnectionState.{ConnectionState}
 use Rattle.h2_spec.specs.declared.connection.Phase.TheVariants.{Running}
 use Rattle.h2_spec.specs.declared.errors.ErrorCode.{ErrorCode}
 use Rattle.h2_spec.specs.declared.errors.ErrorCode.TheVariants.{FlowControlError}
+use Rattle.h2_spec.specs.declared.flow.LocalSettings.{LocalSettings}
 use Rattle.h2_spec.specs.declared.flow.Settings.{Settings}
+use Rattle.h2_spec.specs.declared.reactions.Change.{Change}
 use Rattle.h2_spec.specs.declared.reactions.ConnectionFrame.TheVariants.{SettingsAck}
 use Rattle.h2_spec.specs.declared.reactions.Reaction.{Reaction}
 use Rattle.h2_spec.specs.declared.reactions.Reaction.TheVariants.{ConnectionError, Continues}
-use Rattle.h2_spec.specs.declared.reactions.RecordUpdate.TheVariants.{Shift}
+use Rattle.h2_spec.specs.declared.reactions.RecordUpdate.TheVariants.{Shift, Receive}
 use Rattle.h2_spec.specs.declared.streams.Stream.{Stream}
 use Rattle.h2_spec.specs.Settings.{with_setting}
+use Rattle.h2_spec.specs.State.{configured}
 use Rattle.h2_spec.specs.Change.{only_counts, overflows, moved_by}
 
 -- the settings in order behind one of them, unless that is refused or takes a stream's window too far
@@ -35,6 +39,11 @@ unfoldable pub settings_rule : List Stream → ConnectionState → List (ℕ × 
 unfolding settings_applied
 settings_rule streams core pairs = settings_taken core (settings_applied streams core.peer core.peer pairs)
 
--- the peer has acknowledged the server's settings
-abbrev pub acknowledged : ConnectionState → Reaction
-acknowledged core = Continues (only_counts (record core { acked = true }))
+-- the server's settings are in force, and the receive windows of streams move by the change of the initial window
+-- (6.5.3 and 6.9.2)
+abbrev pub comes_into_force : ConnectionState → LocalSettings → Change
+comes_into_force core own = record (only_counts (record core { acked = true; own = own })) { record_update = Receive core.own.window own.window }
+
+-- the peer has acknowledged the server's settings: the first time they come into force (6.5.3)
+abbrev pub acknowledged : Config → ConnectionState → Reaction
+acknowledged config core = if core.acked then Continues (only_counts core) else Continues (comes_into_force core (configured config))

@@ -6,6 +6,7 @@ use Rattle.hex.specs.Hex.{encode_lower}
 use Rattle.h2_spec.specs.declared.connection.BlockView.{BlockView}
 use Rattle.h2_spec.specs.declared.connection.Phase.{Phase}
 use Rattle.h2_spec.specs.declared.connection.Phase.TheVariants as phase
+use Rattle.h2_spec.specs.declared.flow.LocalSettings.{LocalSettings}
 use Rattle.h2_spec.specs.declared.flow.Settings.{Settings}
 use Rattle.h2_spec.specs.declared.streams.Kind.{Kind}
 use Rattle.h2_spec.specs.declared.streams.Kind.TheVariants.{Idle, Skipped, BothOpen, HalfRemote, HalfLocal, Ended, PeerReset, WeReset}
@@ -82,6 +83,14 @@ peer_line p = joined (
 unfoldable pub acked_line : Bool → Option (ℕ × ℕ) → List ℕ
 acked_line acked goaway = joined (codes "acked " ∷ flag_text acked ∷ codes " goaway " ∷ goaway_text goaway ∷ codes "\n" ∷ [])
 
+-- the server's settings in force, and whether the next field block has to begin with a size update
+unfoldable pub own_line : LocalSettings → Bool → List ℕ
+own_line own due = joined (
+    codes "own table " ∷ decimal own.table ∷
+    codes " window " ∷ decimal own.window ∷
+    codes " frame " ∷ decimal own.frame ∷
+    codes " due " ∷ flag_text due ∷ codes "\n" ∷ [])
+
 -- the open block
 unfoldable pub block_line : Option BlockView → List ℕ
 block_line None = codes "block -\n"
@@ -130,12 +139,13 @@ stream_lines (st ∷ sts) = stream_line st ++ stream_lines sts
 
 -- the text of a view
 unfoldable pub show : View → List ℕ
-unfolding phase_line window_line peer_line acked_line block_line table_line entry_lines stream_lines option_text flag_text octets_text phase_text kind_text goaway_text
+unfolding phase_line window_line peer_line acked_line own_line block_line table_line entry_lines stream_lines option_text flag_text octets_text phase_text kind_text goaway_text
 show v =
     phase_line v.phase v.last ++
     window_line v ++
     peer_line v.peer ++
     acked_line v.acked v.goaway ++
+    own_line v.own v.due ++
     block_line v.block ++
     table_line (length v.table) v.table_size v.table_max ++
     entry_lines 62 v.table ++

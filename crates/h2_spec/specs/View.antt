@@ -1,8 +1,9 @@
 -- What is shown of a connection's state.
-use Rattle.std.specs.Prelude.{ℕ, Bool, List, map, Option, None, Some, ℤ}
+use Rattle.std.specs.Prelude.{ℕ, Bool, List, map, nat_lt, Option, None, Some, ℤ}
 use Rattle.h2_spec.specs.declared.connection.BlockView.{BlockView}
 use Rattle.h2_spec.specs.declared.connection.ConnectionState.{ConnectionState}
 use Rattle.h2_spec.specs.declared.connection.Phase.{Phase}
+use Rattle.h2_spec.specs.declared.flow.LocalSettings.{LocalSettings}
 use Rattle.h2_spec.specs.declared.flow.Settings.{Settings}
 use Rattle.h2_spec.specs.declared.streams.Stream.{Stream}
 use Rattle.h2_spec.specs.declared.streams.StreamView.{StreamView}
@@ -19,6 +20,8 @@ pub record View : Type 0 where
   pub send : ℤ
   pub peer : Settings
   pub acked : Bool
+  pub own : LocalSettings
+  pub due : Bool
   pub goaway : Option (ℕ × ℕ)
   pub block : Option BlockView
   pub table : List Field
@@ -35,7 +38,8 @@ abbrev pub shown_block : Option OpenBlock → Option BlockView
 shown_block None = None
 shown_block (Some b) = Some b.shown
 
--- the view of these counts, this open block, this header table and these records
+-- the view of these counts, this open block, this header table and these records; a size update is due where the limit
+-- is below the table's maximum (RFC 7541, 4.2)
 abbrev pub view_of : ConnectionState → Option BlockView → Table → List Stream → View
 view_of core block table streams = record {
   phase = core.phase;
@@ -45,6 +49,8 @@ view_of core block table streams = record {
   send = core.send;
   peer = core.peer;
   acked = core.acked;
+  own = core.own;
+  due = nat_lt core.own.table table.max;
   goaway = core.goaway;
   block = block;
   table = table.entries;

@@ -1,6 +1,9 @@
 //! What a connection counts and knows, besides its streams and its header table (RFC 9113, 3.4 and 5.4).
 //! Rests on `errors` and `flow`; definitions: `specs/State.antt`.
 
+ghost use Rattle.std.specs.Prelude.{◌≡◌};
+ghost use Rattle.h2_spec.specs.State.{configured, is_allowed, limits};
+
 use crate::errors::ErrorCode;
 use crate::flow::{Credit, LocalSettings, Settings, Window};
 
@@ -16,13 +19,59 @@ pub enum Phase {
     Ended(ErrorCode),
 }
 
-/// The limits that the server was given.
+/// The limits and the settings that the server was given.
 #[derive(Clone, Copy, Debug, PartialEq, Eq)]
 pub struct Config {
     /// The most live streams at a time, 1 to 1000.
     pub streams: u32,
     /// How many octets are owed before they are given back by WINDOW_UPDATE, 1 to 65535.
     pub credit: u32,
+    /// SETTINGS_HEADER_TABLE_SIZE: the limit of the dynamic table in octets, 0 to 65536 (RFC 9113, 6.5.2).
+    pub table: u32,
+    /// SETTINGS_INITIAL_WINDOW_SIZE: the receive window of a new stream in octets, 0 to 2147483647 (6.9.2).
+    pub window: u32,
+    /// SETTINGS_MAX_FRAME_SIZE: the longest payload of a frame in octets, 16384 to 65536 (4.2).
+    pub frame: u32,
+}
+
+impl Config {
+    /// These limits of streams and of credit, with the settings that every connection begins with: a table of 4096
+    /// octets, windows of 65535 and frames of 16384 (RFC 9113, 6.5.2).
+    pub fn new(streams: u32, credit: u32) -> Self
+        ensures { result ≡ limits streams credit }
+    {
+        let first = LocalSettings::initial();
+        Config {
+            streams,
+            credit,
+            table: first.table,
+            window: first.window,
+            frame: first.frame,
+        }
+    }
+
+    /// Whether each limit and each setting is within its range.
+    pub fn is_allowed(self) -> bool
+        ensures { result ≡ is_allowed self }
+    {
+        let streams = 1 <= self.streams && self.streams <= 1000;
+        let credit = 1 <= self.credit && self.credit <= 65535;
+        let table = self.table <= 65536;
+        let window = self.window <= 2147483647;
+        let frame = 16384 <= self.frame && self.frame <= 65536;
+        streams && credit && table && window && frame
+    }
+
+    /// The server's settings that come into force once the peer has acknowledged them (RFC 9113, 6.5.3).
+    pub fn configured(self) -> LocalSettings
+        ensures { result ≡ configured self }
+    {
+        LocalSettings {
+            table: self.table,
+            window: self.window,
+            frame: self.frame,
+        }
+    }
 }
 
 /// What a connection counts and knows, besides its streams, table and open block.

@@ -105,9 +105,9 @@ impl Window {
         i64::from(self.size) < i64::from(count)
     }
 
-    /// Without these octets, which it has to hold.
+    /// Without these octets; it may be negative, not below -2147483648.
     pub fn minus(self, count: u32) -> Window
-        requires { pos count ≤ℤ self }
+        requires { negsuc max_window ≤ℤ (self -ℤ pos count) }
         ensures { result ≡ self -ℤ pos count }
     {
         self.shifted(-i64::from(count))
@@ -320,7 +320,7 @@ fn is_frame_size(value: u32) -> bool
 }
 
 /// The server's own settings that are in force.
-#[derive(Clone, Copy)]
+#[derive(Clone, Copy, Debug, PartialEq, Eq)]
 pub struct LocalSettings {
     /// The limit of the header table, in octets.
     pub table: u32,

@@ -14,6 +14,9 @@ pub enum RecordUpdate {
     Put(Stream),
     /// Send windows move by the difference of these initial windows (RFC 9113, 6.9.2).
     Shift(u32, u32),
+    /// Receive windows move by the difference of these initial windows of the server's, the one in force before its
+    /// settings were acknowledged and the one after (RFC 9113, 6.5.3 and 6.9.2).
+    Receive(u32, u32),
 }
 
 /// What is sent first for an item, on the connection.

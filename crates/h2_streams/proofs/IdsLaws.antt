@@ -1,19 +1,16 @@
--- Laws of the rising lists of identifiers.
-use Rattle.std.proofs.Common.{◌≡◌, ℕ, zero, suc, ◌+◌, ◌<◌, ◌≤◌, ◌%◌, Bool, true, false, ◌&&◌, ◌||◌, not, cond, eqb, nat_lt, leb, List, [], ◌∷◌, ◌++◌, length, drop, get_or, remove, find, Some, Err, nat_cmp, refl, ap, ◌∙◌, sym, arith, true≢false}
+-- Laws of the rising lists of identifiers and of places.
+use Rattle.std.proofs.Common.{◌≡◌, ℕ, zero, suc, ◌<◌, ◌≤◌, Bool, true, false, ◌&&◌, ◌||◌, not, cond, eqb, nat_lt, leb, List, [], ◌∷◌, ◌++◌, length, drop, get_or, remove, find, Some, Err, nat_cmp, refl, ap, ◌∙◌, sym, arith, true≢false}
 use Rattle.std.proofs.lemmas.Bool.Decides.{nat_tests}
-use Rattle.std.proofs.lemmas.List.Recursion.{is_count_by}
 use Rattle.std.proofs.lemmas.List.Sorted.{searched}
 use Rattle.std.specs.Prelude.{slice_get}
 use Rattle.std.specs.List.{AllWithin, insert, list_any}
 use Rattle.std.specs.List.Sorted.{IsBinarySearchResult}
 use Rattle.std.specs.Option.{option_map}
 use Rattle.h2_spec.specs.declared.streams.Stream.{Stream}
-use Rattle.h2_spec.specs.Stream.{record_of, put, AreRising, is_live, octets_waiting, live_count, id_of}
-use Rattle.h2_streams.specs.Put.{can_become, is_closed}
-use Rattle.h2_streams.specs.Kept.{ids_of, lives, is_ready, IdsRise, without, placed, listed, above, IsKept}
-use Rattle.h2_streams.proofs.PlaceLaws.{rising-push, rising-put}
+use Rattle.h2_spec.specs.Stream.{record_of, put, AreRising, is_live, octets_waiting, id_of}
+use Rattle.h2_streams.specs.Kept.{ids_of, lives, is_ready, IdsRise, without, placed, listed, above}
 
-eqb-same : (a b : ℕ) → eqb a b ≡ true → a ≡ b
+pub eqb-same : (a b : ℕ) → eqb a b ≡ true → a ≡ b
 eqb-same a b h = grind (arith, nat_tests, h)
 
 pub eqb-refl : (a b : ℕ) → a ≡ b → eqb a b ≡ true
@@ -21,14 +18,17 @@ eqb-refl a b h = grind (arith, nat_tests, h)
 
 pub rise-weaken : (a b : ℕ) (ids : List ℕ) → a ≤ b → IdsRise b ids → IdsRise a ids
 rise-weaken a b [] le h = tt
-rise-weaken a b (x ∷ xs) le h = (let l = h.0 in omega arith, h.1)
+rise-weaken a b (x ∷ xs) le h = (let l = h.0 in omega (arith, l, le), h.1)
 
-pub rise-ids_of : (p : Stream → Bool) (low last : ℕ) (rs : List Stream) → AreRising low last rs → IdsRise low (ids_of p rs)
-rise-ids_of p low last [] h = tt
-rise-ids_of p low last (x ∷ xs) h = by (p x) (rise-ids_of p x.id last xs h.3) where
-  by : (b : Bool) → IdsRise x.id (ids_of p xs) → IdsRise low (cond b (x.id ∷ ids_of p xs) (ids_of p xs))
-  by true r = (h.0, r)
-  by false r = rise-weaken low x.id (ids_of p xs) (let l = h.0 in omega arith) r
+rise-over : (p : Stream → Bool) (low last : ℕ) (rs : List Stream) → AreRising low last rs → IdsRise (suc low) (ids_of p rs)
+rise-over p low last [] h = tt
+rise-over p low last (x ∷ xs) h = by (p x) (rise-over p x.id last xs h.3) where
+  by : (b : Bool) → IdsRise (suc x.id) (ids_of p xs) → IdsRise (suc low) (cond b (x.id ∷ ids_of p xs) (ids_of p xs))
+  by true r = (let l = h.0 in omega (arith, l), r)
+  by false r = rise-weaken (suc low) (suc x.id) (ids_of p xs) (let l = h.0 in omega (arith, l)) r
+
+pub rise-ids_of : (p : Stream → Bool) (last : ℕ) (rs : List Stream) → AreRising 0 last rs → IdsRise 0 (ids_of p rs)
+rise-ids_of p last rs h = rise-weaken 0 1 (ids_of p rs) (omega arith) (rise-over p 0 last rs h)
 
 pub ids_of-append : (p : Stream → Bool) (rs ss : List Stream) → ids_of p (rs ++ ss) ≡ ids_of p rs ++ ids_of p ss
 ids_of-append p [] ss = refl
@@ -38,18 +38,18 @@ ids_of-append p (x ∷ xs) ss = by (p x) (ids_of-append p xs ss) where
   by false rest = rest
 
 -- what is below all identifiers is none of them
-without-below : (id low : ℕ) (ids : List ℕ) → id ≤ low → IdsRise low ids → without id ids ≡ ids
+without-below : (id low : ℕ) (ids : List ℕ) → id < low → IdsRise low ids → without id ids ≡ ids
 without-below id low [] le h = refl
 without-below id low (x ∷ xs) le h =
     let apart : eqb x id ≡ false = let l = h.0 in grind (arith, nat_tests, l, le) in
-    rw apart (ap (λ ys. x ∷ ys) (without-below id x xs (let l = h.0 in omega arith) h.1))
+    rw apart (ap (λ ys. x ∷ ys) (without-below id (suc x) xs (let l = h.0 in omega (arith, l, le)) h.1))
 
 -- and is placed before them
-placed-below : (id low : ℕ) (ids : List ℕ) → id ≤ low → IdsRise low ids → placed id ids ≡ id ∷ ids
+placed-below : (id low : ℕ) (ids : List ℕ) → id < low → IdsRise low ids → placed id ids ≡ id ∷ ids
 placed-below id low [] le h = refl
 placed-below id low (x ∷ xs) le h = let under : nat_lt id x ≡ true = let l = h.0 in grind (arith, nat_tests, l, le) in rw under refl
 
-listed-below : (b : Bool) (id low : ℕ) (ids : List ℕ) → id ≤ low → IdsRise low ids → listed b id ids ≡ cond b (id ∷ ids) ids
+listed-below : (b : Bool) (id low : ℕ) (ids : List ℕ) → id < low → IdsRise low ids → listed b id ids ≡ cond b (id ∷ ids) ids
 listed-below true id low ids le h = placed-below id low ids le h
 listed-below false id low ids le h = without-below id low ids le h
 
@@ -68,7 +68,7 @@ listed-here true id x xs e =
     rw (under, same) (ap (λ n. n ∷ xs) e)
 listed-here false id x xs e = let same : eqb x id ≡ true = grind (arith, nat_tests, e) in rw same refl
 
-found-over : (low last id : ℕ) (rs : List Stream) (st : Stream) → AreRising low last rs → record_of rs id ≡ Some st → low < id
+pub found-over : (low last id : ℕ) (rs : List Stream) (st : Stream) → AreRising low last rs → record_of rs id ≡ Some st → low < id
 found-over low last id [] st h f = cc
 found-over low last id (x ∷ xs) st h f = by (eqb x.id id) refl (found-over x.id last id xs st h.3)
   where
@@ -86,7 +86,7 @@ ids_of-put p low last (x ∷ xs) st old h f = at (eqb x.id st.id) refl (ids_of-p
 
     here : (t : Bool) → x.id ≡ st.id → cond (p st) (st.id ∷ ids) ids ≡ listed (p st) st.id (cond t (x.id ∷ ids) ids)
     here true e = sym (listed-here (p st) st.id x.id ids e)
-    here false e = sym (listed-below (p st) st.id x.id ids (omega (arith, e)) (rise-ids_of p x.id last xs h.3))
+    here false e = sym (listed-below (p st) st.id (suc x.id) ids (omega (arith, e)) (rise-over p x.id last xs h.3))
 
     behind : (t : Bool) → x.id < st.id → ids_of p (put st xs) ≡ listed (p st) st.id ids → cond t (x.id ∷ ids_of p (put st xs)) (ids_of p (put st xs)) ≡ listed (p st) st.id (cond t (x.id ∷ ids) ids)
     behind true l rest = ap (λ ys. x.id ∷ ys) rest ∙ sym (listed-behind (p st) st.id x.id ids l)
@@ -97,42 +97,8 @@ ids_of-put p low last (x ∷ xs) st old h f = at (eqb x.id st.id) refl (ids_of-p
     at true e rest = here (p x) (eqb-same x.id st.id e)
     at false e rest = let g : record_of xs st.id ≡ Some old = rw e at f in behind (p x) (found-over x.id last st.id xs old h.3 g) (rest g)
 
--- where the test answers as before, the identifiers stay
-pub ids_of-same : (p : Stream → Bool) (rs : List Stream) (st old : Stream) → record_of rs st.id ≡ Some old → p old ≡ p st → ids_of p (put st rs) ≡ ids_of p rs
-ids_of-same p [] st old f a = cc
-ids_of-same p (x ∷ xs) st old f a = by (eqb x.id st.id) refl (ids_of-same p xs st old) where
-  by : (t : Bool) → eqb x.id st.id ≡ t → (record_of xs st.id ≡ Some old → p old ≡ p st → ids_of p (put st xs) ≡ ids_of p xs)
-      → ids_of p (cond (eqb x.id st.id) (st ∷ xs) (x ∷ put st xs)) ≡ ids_of p (x ∷ xs)
-  by true e rest =
-      let g : Some x ≡ Some old = rw e at f in
-      let same : x ≡ old = cc in
-      let alike : p x ≡ p st = ap p same ∙ a in
-      rw (e, alike) (ap (λ n. cond (p st) (n ∷ ids_of p xs) (ids_of p xs)) (sym (eqb-same x.id st.id e)))
-  by false e rest = let g : record_of xs st.id ≡ Some old = rw e at f in rw e (ap (λ ys. cond (p x) (x.id ∷ ys) ys) (rest g a))
-
--- of a live or closed stream: a live one was live
-was-live : (a b t : Bool) → (a || (b && not t)) ≡ true → t ≡ true → a ≡ true
-was-live true b t h e = refl
-was-live false true true h e = absurd (true≢false (sym h))
-was-live false true false h e = absurd (true≢false (sym e))
-was-live false false t h e = absurd (true≢false (sym h))
-
-pub live-put : (low last : ℕ) (rs : List Stream) (st old : Stream) → AreRising low last rs → record_of rs st.id ≡ Some old → can_become old.kind st.kind ≡ true →
-    ids_of lives (put st rs) ≡ cond (is_live st.kind) (ids_of lives rs) (without st.id (ids_of lives rs))
-live-put low last rs st old h f can = by (is_live st.kind) refl
-  where
-    by : (t : Bool) → is_live st.kind ≡ t → ids_of lives (put st rs) ≡ cond t (ids_of lives rs) (without st.id (ids_of lives rs))
-    by true e = ids_of-same lives rs st old f (was-live (is_live old.kind) (is_closed old.kind) (is_live st.kind) can e ∙ sym e)
-    by false e = ids_of-put lives low last rs st old h f ∙ ap (λ t. listed t st.id (ids_of lives rs)) e
-
-pub length-lives : (rs : List Stream) → length (ids_of lives rs) ≡ live_count rs
-length-lives rs = is_count_by (λ (xs : List Stream). length (ids_of lives xs)) (λ (st : Stream). is_live st.kind) refl (λ x xs. by (is_live x.kind) x.id (ids_of lives xs)) rs where
-  by : (b : Bool) (id : ℕ) (ids : List ℕ) → length (cond b (id ∷ ids) ids) ≡ cond b (1 + length ids) (length ids)
-  by true id ids = omega arith
-  by false id ids = refl
-
 -- a stream that can send is live
-ready-lives : (st : Stream) → is_ready st ≡ true → lives st ≡ true
+pub ready-lives : (st : Stream) → is_ready st ≡ true → lives st ≡ true
 unfolding octets_waiting
 ready-lives st h = by (is_live st.kind) refl
   where
@@ -143,16 +109,6 @@ ready-lives st h = by (is_live st.kind) refl
 pub idle-ready : (st : Stream) → is_live st.kind ≡ false → is_ready st ≡ false
 unfolding octets_waiting
 idle-ready st e = rw e refl
-
-pub ready-fewer : (rs : List Stream) → length (ids_of is_ready rs) ≤ length (ids_of lives rs)
-ready-fewer [] = omega arith
-ready-fewer (x ∷ xs) = by (is_ready x) (lives x) (ready-lives x) (ready-fewer xs)
-  where
-    by : (s t : Bool) → (s ≡ true → t ≡ true) → length (ids_of is_ready xs) ≤ length (ids_of lives xs) → length (cond s (x.id ∷ ids_of is_ready xs) (ids_of is_ready xs)) ≤ length (cond t (x.id ∷ ids_of lives xs) (ids_of lives xs))
-    by true true f h = omega (arith, h)
-    by true false f h = absurd (true≢false (sym (f refl)))
-    by false true f h = omega (arith, h)
-    by false false f h = h
 
 -- none is listed where none passes
 pub none-listed : (p : Stream → Bool) (rs : List Stream) → eqb (length (ids_of p rs)) 0 ≡ not (list_any p rs)
@@ -177,17 +133,17 @@ first-above p after (x ∷ xs) = by (p x) (nat_lt after x.id) refl (first-above 
 
 -- ---- searches in rising identifiers
 
-rise-above : (low : ℕ) (ids : List ℕ) → IdsRise low ids → (j : ℕ) → j < length ids → low < get_or ids j 0
+rise-above : (low : ℕ) (ids : List ℕ) → IdsRise low ids → (j : ℕ) → j < length ids → low ≤ get_or ids j 0
 rise-above low [] h j l = absurd (omega arith)
 rise-above low (x ∷ xs) h zero l = h.0
-rise-above low (x ∷ xs) h (suc j) l = let b = rise-above x xs h.1 j (omega arith) in let a = h.0 in omega arith
+rise-above low (x ∷ xs) h (suc j) l = let b = rise-above (suc x) xs h.1 j (omega arith) in let a = h.0 in omega (arith, a, b)
 
 pub rise-ordered : (low : ℕ) (ids : List ℕ) → IdsRise low ids → (i j : ℕ) → i ≤ j → j < length ids → get_or ids i 0 ≤ get_or ids j 0
 rise-ordered low [] h i j le l = absurd (omega arith)
 rise-ordered low (x ∷ xs) h zero zero le l = omega arith
-rise-ordered low (x ∷ xs) h zero (suc j) le l = let b = rise-above x xs h.1 j (omega arith) in omega arith
+rise-ordered low (x ∷ xs) h zero (suc j) le l = let b = rise-above (suc x) xs h.1 j (omega arith) in omega (arith, b)
 rise-ordered low (x ∷ xs) h (suc i) zero le l = absurd (omega arith)
-rise-ordered low (x ∷ xs) h (suc i) (suc j) le l = rise-ordered x xs h.1 i j (omega arith) (omega arith)
+rise-ordered low (x ∷ xs) h (suc i) (suc j) le l = rise-ordered (suc x) xs h.1 i j (omega arith) (omega arith)
 
 without-absent : (id : ℕ) (ids : List ℕ) → ((k : ℕ) → k < length ids → eqb (get_or ids k 0) id ≡ false) → without id ids ≡ ids
 without-absent id [] h = refl
@@ -202,16 +158,16 @@ pub without-at : (low : ℕ) (ids : List ℕ) (i id : ℕ) → IdsRise low ids �
 without-at low [] i id r l e = absurd (omega arith)
 without-at low (x ∷ xs) zero id r l e = rw (eqb-refl x id e) refl
 without-at low (x ∷ xs) (suc i) id r l e =
-    let apart : eqb x id ≡ false = let b = rise-above x xs r.1 i (omega arith) in grind (arith, nat_tests, b, e) in
-    rw apart (ap (λ ys. x ∷ ys) (without-at x xs i id r.1 (omega arith) e))
+    let apart : eqb x id ≡ false = let b = rise-above (suc x) xs r.1 i (omega arith) in grind (arith, nat_tests, b, e) in
+    rw apart (ap (λ ys. x ∷ ys) (without-at (suc x) xs i id r.1 (omega arith) e))
 
 -- one that is there is not placed again
 pub placed-at : (low : ℕ) (ids : List ℕ) (i id : ℕ) → IdsRise low ids → i < length ids → get_or ids i 0 ≡ id → placed id ids ≡ ids
 placed-at low [] i id r l e = absurd (omega arith)
 placed-at low (x ∷ xs) zero id r l e = listed-here true id x xs e ∙ ap (λ n. n ∷ xs) (sym e)
 placed-at low (x ∷ xs) (suc i) id r l e =
-    let under : x < id = let b = rise-above x xs r.1 i (omega arith) in omega (arith, b, e) in
-    listed-behind true id x xs under ∙ ap (λ ys. x ∷ ys) (placed-at x xs i id r.1 (omega arith) e)
+    let under : x < id = let b = rise-above (suc x) xs r.1 i (omega arith) in omega (arith, b, e) in
+    listed-behind true id x xs under ∙ ap (λ ys. x ∷ ys) (placed-at (suc x) xs i id r.1 (omega arith) e)
 
 -- one that is not is placed between those below and those above
 placed-between : (ids : List ℕ) (i id : ℕ) → i ≤ length ids → ((k : ℕ) → k < i → get_or ids k 0 < id) → ((k : ℕ) → i ≤ k → k < length ids → id < get_or ids k 0) → placed id ids ≡ insert ids i id
@@ -236,49 +192,3 @@ above-point (x ∷ xs) zero after le below from =
 above-point (x ∷ xs) (suc k) after le below from =
     let under : nat_lt after x ≡ false = let b = below 0 0 (omega arith) (omega arith) in grind (arith, nat_tests, b) in
     rw under (above-point xs k after (omega arith) (λ i d a b. below (suc i) d (omega arith) (omega arith)) (λ i d a b. from (suc i) d (omega arith) (omega arith)))
-
--- ---- what is kept
-
-one-listed : (p : Stream → Bool) (st : Stream) (t : Bool) → p st ≡ t → ids_of p (st ∷ []) ≡ cond t (st.id ∷ []) []
-one-listed p st t e = rw e refl
-
-pub kept-added : (rs : List Stream) (live ready : List ℕ) (last : ℕ) (st : Stream) → IsKept rs live ready last → last < st.id → st.id % 2 ≡ 1 →
-    IsKept (rs ++ st ∷ []) (live ++ cond (is_live st.kind) (st.id ∷ []) []) (ready ++ cond (is_ready st) (st.id ∷ []) []) st.id
-kept-added rs live ready last st kept above odd = record {
-  rising = rising-push 0 last rs st kept.rising (omega arith) above odd;
-  live_listed = ap (λ (ids : List ℕ). ids ++ cond (is_live st.kind) (st.id ∷ []) []) kept.live_listed ∙ sym (ids_of-append lives rs (st ∷ []));
-  ready_listed = ap (λ (ids : List ℕ). ids ++ cond (is_ready st) (st.id ∷ []) []) kept.ready_listed ∙ sym (ids_of-append is_ready rs (st ∷ []));
-}
-
-pub kept-put : (rs : List Stream) (live ready : List ℕ) (last : ℕ) (st old : Stream) → IsKept rs live ready last → record_of rs st.id ≡ Some old → can_become old.kind st.kind ≡ true →
-    IsKept (put st rs) (cond (is_live st.kind) live (without st.id live)) (listed (is_ready st) st.id ready) last
-kept-put rs live ready last st old kept found can = record {
-  rising = rising-put 0 last rs st old kept.rising found;
-  live_listed = ap (λ (ids : List ℕ). cond (is_live st.kind) ids (without st.id ids)) kept.live_listed ∙ sym (live-put 0 last rs st old kept.rising found can);
-  ready_listed = ap (listed (is_ready st) st.id) kept.ready_listed ∙ sym (ids_of-put is_ready 0 last rs st old kept.rising found);
-}
-
--- no more streams can send than are live
-pub kept-fewer : (rs : List Stream) (live ready : List ℕ) (last : ℕ) → IsKept rs live ready last → length ready ≤ length live
-kept-fewer rs live ready last kept = rw (kept.live_listed, kept.ready_listed) (ready-fewer rs)
-
-without-fewer : (id : ℕ) (ids : List ℕ) → length (without id ids) ≤ length ids
-without-fewer id [] = omega arith
-without-fewer id (x ∷ xs) = by (eqb x id) (without-fewer id xs)
-  where
-    by : (t : Bool) → length (without id xs) ≤ length xs → length (cond t xs (x ∷ without id xs)) ≤ length (x ∷ xs)
-    by true h = omega arith
-    by false h = omega (arith, h)
-
-pub live-fewer : (live : List ℕ) (st : Stream) → length (cond (is_live st.kind) live (without st.id live)) ≤ length live
-live-fewer live st = by (is_live st.kind)
-  where
-    by : (t : Bool) → length (cond t live (without st.id live)) ≤ length live
-    by true = omega arith
-    by false = without-fewer st.id live
-
--- one more at most
-pub one-more : (ids : List ℕ) (t : Bool) (id : ℕ) → length (ids ++ cond t (id ∷ []) []) ≤ suc (length ids)
-one-more [] true id = omega arith
-one-more [] false id = omega arith
-one-more (x ∷ xs) t id = let h = one-more xs t id in omega (arith, h)

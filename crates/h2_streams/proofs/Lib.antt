@@ -1,4 +1,5 @@
 mod IdsLaws
 mod LiveLaws
-mod PlaceLaws
+pub mod PlaceLaws
+pub mod RebuiltLaws
 mod ShiftLaws

@@ -41,7 +41,7 @@ point-place (x ∷ xs) (suc k) id le below from =
     rw under (ap suc (point-place xs k id (omega arith) (λ i d a b. below (suc i) d (omega arith) (omega arith)) (λ i d a b. from (suc i) d (omega arith) (omega arith))))
 
 -- no record is below the others
-none-below : (id low : ℕ) (rs : List Stream) → id ≤ low → Rise low rs → record_of rs id ≡ None
+pub none-below : (id low : ℕ) (rs : List Stream) → id ≤ low → Rise low rs → record_of rs id ≡ None
 none-below id low [] le h = refl
 none-below id low (x ∷ xs) le h =
     let over = h.0 in

@@ -1,73 +1,30 @@
--- Laws of the send windows that settings move.
-use Rattle.std.proofs.Common.{◌≡◌, ℕ, ◌<◌, ◌≤◌, ◌%◌, Bool, true, false, ◌&&◌, ◌||◌, not, cond, eqb, ℤ, negsuc, ◌+ℤ◌, ◌≤ℤ◌, int_lt, List, [], ◌∷◌, filter, map, Some, None, Option, refl, ap, ◌∙◌, sym, arith, subst, true≢false, unwrap_or}
-use Rattle.std.proofs.lemmas.Bool.Decides.{nat_tests}
+-- Laws of the windows that settings move.
+use Rattle.std.proofs.Common.{◌≡◌, ℕ, zero, suc, ◌<◌, ◌≤◌, ◌%◌, Bool, true, false, ◌&&◌, ◌||◌, not, cond, ℤ, pos, negsuc, ◌+ℤ◌, ◌≤ℤ◌, int_lt, List, [], ◌∷◌, length, map, Some, None, refl, ap, ◌∙◌, sym, arith, subst, true≢false, unwrap_or}
 use Rattle.std.proofs.lemmas.Int.{ints}
 use Rattle.std.specs.List.{AllByRecursion, list_any}
-use Rattle.std.specs.Option.{option_map, is_none}
+use Rattle.std.specs.Prelude.{slice_index_or, slice_set}
+use Rattle.std.specs.Option.{option_map}
 use Rattle.h2_spec.specs.declared.streams.Kind.{Kind}
 use Rattle.h2_spec.specs.declared.streams.Kind.TheVariants.{Idle, Skipped, BothOpen, HalfRemote, HalfLocal, Ended, PeerReset, WeReset}
 use Rattle.h2_spec.specs.declared.streams.Stream.{Stream}
-use Rattle.h2_spec.specs.Change.{follows_initial_window, shifted, shifted_one, overflows, overflows_one, with_send}
+use Rattle.h2_spec.specs.Change.{follows_initial_window, received, received_one, shifted, shifted_one, overflows, overflows_one, with_recv, with_send}
 use Rattle.h2_spec.specs.Window.{max_window, is_above_max}
-use Rattle.h2_spec.specs.Stream.{is_live, record_of, put, AreRising}
-use Rattle.h2_streams.specs.Kept.{ids_of, lives, is_ready, passes_at, IdsRise, Rise, IsKept}
-use Rattle.h2_streams.specs.Shift.{CanShift, is_window, moved, moved_or_same, is_stuck, update, update_each}
-use Rattle.h2_streams.proofs.IdsLaws.{rise-ids_of, rise-weaken, eqb-refl, idle-ready}
-use Rattle.h2_streams.proofs.LiveLaws.{all-found, any-live, filter-live}
+use Rattle.h2_spec.specs.Stream.{is_live, octets_waiting, AreRising}
+use Rattle.h2_streams.specs.Kept.{places_of, ids_of, ids_at, lives, is_ready, passes_at, IsKept}
+use Rattle.h2_streams.specs.Shift.{CanReceive, CanShift, is_window, moved, moved_or_same, moved_window, received_or_same, update, update_each}
+use Rattle.h2_streams.proofs.IdsLaws.{idle-ready}
+use Rattle.h2_streams.proofs.LiveLaws.{any-live, ids-live, each-live}
 
--- what a function makes of an element, where there is one
-pub mapped-found : (f : Stream → Stream) (o : Option Stream) (st : Stream) → option_map f o ≡ Some st → (old : Stream) × (o ≡ Some old) × (f old ≡ st)
-mapped-found f None st h = cc
-mapped-found f (Some old) st h = (old, refl, cc)
+-- a record that is written at its place is changed there
+pub set-update : (f : Stream → Stream) (place : ℕ) (rs : List Stream) (d : Stream) → place < length rs → slice_set rs place (f (slice_index_or rs place d)) ≡ update f place rs
+set-update f place [] d l = absurd (omega arith)
+set-update f zero (x ∷ xs) d l = refl
+set-update f (suc place) (x ∷ xs) d l = ap (λ ys. x ∷ ys) (set-update f place xs d (omega arith))
 
-pub mapped-none : (f : Stream → Stream) (o : Option Stream) → option_map f o ≡ None → o ≡ None
-mapped-none f None h = refl
-mapped-none f (Some old) h = cc
-
--- a record is put where the one with its identifier is changed
-pub put-update : (f : Stream → Stream) (id : ℕ) (rs : List Stream) (st : Stream) → (f st).id ≡ id → record_of rs id ≡ Some st → put (f st) rs ≡ update f id rs
-put-update f id [] st same h = cc
-put-update f id (x ∷ xs) st same h = ap (λ n. cond (eqb x.id n) (f st ∷ xs) (x ∷ put (f st) xs)) same ∙ by (eqb x.id id) h (put-update f id xs st same) where
-  by : (b : Bool) → cond b (Some x) (record_of xs id) ≡ Some st → (record_of xs id ≡ Some st → put (f st) xs ≡ update f id xs)
-      → cond b (f st ∷ xs) (x ∷ put (f st) xs) ≡ cond b (f x ∷ xs) (x ∷ update f id xs)
-  by true k rest = let alike : st ≡ x = cc in ap (λ (s : Stream). f s ∷ xs) alike
-  by false k rest = ap (λ ys. x ∷ ys) (rest k)
-
-pub update-absent : (f : Stream → Stream) (id : ℕ) (rs : List Stream) → record_of rs id ≡ None → update f id rs ≡ rs
-update-absent f id [] h = refl
-update-absent f id (x ∷ xs) h = by (eqb x.id id) h (update-absent f id xs) where
-  by : (b : Bool) → cond b (Some x) (record_of xs id) ≡ None → (record_of xs id ≡ None → update f id xs ≡ xs) → cond b (f x ∷ xs) (x ∷ update f id xs) ≡ x ∷ xs
-  by true k rest = cc
-  by false k rest = ap (λ ys. x ∷ ys) (rest k)
-
-pub rise-update : (f : Stream → Stream) → ((st : Stream) → (f st).id ≡ st.id) → (id low : ℕ) (rs : List Stream) → Rise low rs → Rise low (update f id rs)
-rise-update f keeps id low [] r = tt
-rise-update f keeps id low (x ∷ xs) r = by (eqb x.id id) (rise-update f keeps id x.id xs r.1) where
-  by : (b : Bool) → Rise x.id (update f id xs) → Rise low (cond b (f x ∷ xs) (x ∷ update f id xs))
-  by true rest = subst (λ n. (low < n) × Rise n xs) (sym (keeps x)) r
-  by false rest = (r.0, rest)
-
--- a record below the identifiers stays as it is
-update_each-above : (f : Stream → Stream) (x : Stream) (ids : List ℕ) (rs : List Stream) → IdsRise x.id ids → update_each f ids (x ∷ rs) ≡ x ∷ update_each f ids rs
-update_each-above f x [] rs r = refl
-update_each-above f x (id ∷ ids) rs r =
-    let apart : eqb x.id id ≡ false = let b = r.0 in grind (arith, nat_tests, b) in
-    rw apart (update_each-above f x ids (update f id rs) (rise-weaken x.id id ids (let b = r.0 in omega arith) r.1))
-
--- what is done to the live streams, one after another, is done to all, where it leaves the others
-pub update_each-live : (f : Stream → Stream) → ((st : Stream) → (f st).id ≡ st.id) → ((st : Stream) → is_live st.kind ≡ false → f st ≡ st)
-    → (low last : ℕ) (rs : List Stream) → AreRising low last rs → update_each f (ids_of lives rs) rs ≡ map f rs
-update_each-live f keeps idle low last [] r = refl
-update_each-live f keeps idle low last (x ∷ xs) r = by (is_live x.kind) refl (update_each-live f keeps idle x.id last xs r.3) where
-  head : (ids : List ℕ) → update_each f (x.id ∷ ids) (x ∷ xs) ≡ update_each f ids (f x ∷ xs)
-  head ids = ap (λ b. update_each f ids (cond b (f x ∷ xs) (x ∷ update f x.id xs))) (eqb-refl x.id x.id refl)
-
-  over : IdsRise (f x).id (ids_of lives xs)
-  over = subst (λ n. IdsRise n (ids_of lives xs)) (sym (keeps x)) (rise-ids_of lives x.id last xs r.3)
-
-  by : (b : Bool) → is_live x.kind ≡ b → update_each f (ids_of lives xs) xs ≡ map f xs → update_each f (cond (is_live x.kind) (x.id ∷ ids_of lives xs) (ids_of lives xs)) (x ∷ xs) ≡ map f (x ∷ xs)
-  by true live rest = rw live (head (ids_of lives xs) ∙ update_each-above f (f x) (ids_of lives xs) xs over ∙ ap (λ ys. f x ∷ ys) rest)
-  by false live rest = rw (live, idle x live) (update_each-above f x (ids_of lives xs) xs (rise-ids_of lives x.id last xs r.3) ∙ ap (λ ys. x ∷ ys) rest)
+pub update-absent : (f : Stream → Stream) (place : ℕ) (rs : List Stream) → length rs ≤ place → update f place rs ≡ rs
+update-absent f place [] le = refl
+update-absent f zero (x ∷ xs) le = absurd (omega arith)
+update-absent f (suc place) (x ∷ xs) le = ap (λ ys. x ∷ ys) (update-absent f place xs (omega arith))
 
 -- ---- streams that settings move
 
@@ -84,9 +41,6 @@ follows-ended WeReset h = refl
 
 moved-ended : (d : ℤ) (st : Stream) → is_live st.kind ≡ false → moved d st ≡ Some st
 moved-ended d st h = rw (follows-ended st.kind h) refl
-
-pub stuck-ended : (d : ℤ) (st : Stream) → is_live st.kind ≡ false → is_stuck d st ≡ false
-stuck-ended d st h = ap is_none (moved-ended d st h)
 
 pub same-ended : (d : ℤ) (st : Stream) → is_live st.kind ≡ false → moved_or_same d st ≡ st
 same-ended d st h = ap (λ o. unwrap_or o st) (moved-ended d st h)
@@ -109,44 +63,24 @@ module _ (d : ℤ) (st : Stream) where
   pub kind-moved : (moved_or_same d st).kind ≡ st.kind
   kind-moved = part-moved (λ s. s.kind) (λ w. refl)
 
-  -- one that is not stuck moves
-  pub moved-free : is_stuck d st ≡ false → moved_or_same d st ≡ shifted_one d st
-  moved-free = by (follows_initial_window st.kind) (is_window (st.numbers.send +ℤ d)) where
-    by : (f w : Bool) → is_none (cond f (option_map (with_send st) (cond w (Some (st.numbers.send +ℤ d)) None)) (Some st)) ≡ false
-        → unwrap_or (cond f (option_map (with_send st) (cond w (Some (st.numbers.send +ℤ d)) None)) (Some st)) st ≡ cond f (with_send st (st.numbers.send +ℤ d)) st
-    by true true h = refl
-    by true false h = absurd (true≢false h)
-    by false w h = refl
+  -- one whose window does not overflow moves
+  moved-free : CanShift d st → overflows_one d st ≡ false → moved_or_same d st ≡ shifted_one d st
+  moved-free can = by (follows_initial_window st.kind) (is_above_max (st.numbers.send +ℤ d)) can where
+    by : (f over : Bool) → (f ≡ true → negsuc max_window ≤ℤ (st.numbers.send +ℤ d)) → (f && over) ≡ false
+        → unwrap_or (cond f (option_map (with_send st) (cond (not (int_lt (st.numbers.send +ℤ d) (negsuc max_window)) && not over) (Some (st.numbers.send +ℤ d)) None)) (Some st)) st
+        ≡ cond f (with_send st (st.numbers.send +ℤ d)) st
+    by true true least h = absurd (true≢false h)
+    by true false least h = let within : int_lt (st.numbers.send +ℤ d) (negsuc max_window) ≡ false = not-under (negsuc max_window) (st.numbers.send +ℤ d) (least refl) in rw within refl
+    by false over least h = refl
 
-  -- only an overflow holds it
-  pub stuck-overflow : CanShift d st → is_stuck d st ≡ overflows_one d st
-  stuck-overflow can = by (follows_initial_window st.kind) can where
-    over : (b : Bool) → is_none (option_map (with_send st) (cond (not b) (Some (st.numbers.send +ℤ d)) None)) ≡ b
-    over true = refl
-    over false = refl
-
-    by : (f : Bool) → (f ≡ true → negsuc max_window ≤ℤ (st.numbers.send +ℤ d)) → is_none (cond f (option_map (with_send st) (cond (is_window (st.numbers.send +ℤ d)) (Some (st.numbers.send +ℤ d)) None)) (Some st))
-        ≡ (f && is_above_max (st.numbers.send +ℤ d))
-    by true least = let above : int_lt (st.numbers.send +ℤ d) (negsuc max_window) ≡ false = not-under (negsuc max_window) (st.numbers.send +ℤ d) (least refl) in rw above (over (is_above_max (st.numbers.send +ℤ d)))
-    by false least = refl
-
-pub all-free : (d : ℤ) (rs : List Stream) → list_any (is_stuck d) rs ≡ false → map (moved_or_same d) rs ≡ shifted d rs
-unfolding shifted
-all-free d [] h = refl
-all-free d (x ∷ xs) h = by (is_stuck d x) (list_any (is_stuck d) xs) refl refl h (all-free d xs) where
-  by : (a b : Bool) → is_stuck d x ≡ a → list_any (is_stuck d) xs ≡ b → (a || b) ≡ false → (list_any (is_stuck d) xs ≡ false → map (moved_or_same d) xs ≡ shifted d xs)
+all-free : (d : ℤ) (rs : List Stream) → AllByRecursion (CanShift d) rs → overflows d rs ≡ false → map (moved_or_same d) rs ≡ shifted d rs
+unfolding overflows shifted
+all-free d [] can h = refl
+all-free d (x ∷ xs) can h = by (overflows_one d x) refl h (all-free d xs can.1) where
+  by : (b : Bool) → overflows_one d x ≡ b → cond b true (overflows d xs) ≡ false → (overflows d xs ≡ false → map (moved_or_same d) xs ≡ shifted d xs)
       → map (moved_or_same d) (x ∷ xs) ≡ shifted d (x ∷ xs)
-  by true b p q k rest = absurd (true≢false k)
-  by false true p q k rest = absurd (true≢false k)
-  by false false p q k rest = ap (λ y. y ∷ map (moved_or_same d) xs) (moved-free d x p) ∙ ap (λ ys. shifted_one d x ∷ ys) (rest q)
-
-pub stuck-overflows : (d : ℤ) (rs : List Stream) → AllByRecursion (CanShift d) rs → list_any (is_stuck d) rs ≡ overflows d rs
-unfolding overflows
-stuck-overflows d [] h = refl
-stuck-overflows d (x ∷ xs) h = ap (λ b. b || list_any (is_stuck d) xs) (stuck-overflow d x h.0) ∙ by (overflows_one d x) (stuck-overflows d xs h.1) where
-  by : (b : Bool) → list_any (is_stuck d) xs ≡ overflows d xs → (b || list_any (is_stuck d) xs) ≡ cond b true (overflows d xs)
-  by true rest = refl
-  by false rest = rest
+  by true e k rest = absurd (true≢false k)
+  by false e k rest = ap (λ y. y ∷ map (moved_or_same d) xs) (moved-free d x can.0 e) ∙ ap (λ ys. shifted_one d x ∷ ys) (rest k)
 
 -- ---- the records after they move
 
@@ -156,38 +90,111 @@ rising-map f keeps low last (x ∷ xs) r =
     let tail = rising-map f keeps x.id last xs r.3 in
     subst (λ n. (low < n) × (n % 2 ≡ 1) × (n ≤ last) × AreRising n last (map f xs)) (sym (keeps x)) (r.0, r.1, r.2, tail)
 
-lives-map : (f : Stream → Stream) → ((st : Stream) → (f st).id ≡ st.id) → ((st : Stream) → (f st).kind ≡ st.kind) → (rs : List Stream) → ids_of lives (map f rs) ≡ ids_of lives rs
-lives-map f ids kinds [] = refl
-lives-map f ids kinds (x ∷ xs) =
-    ap (λ k. cond (is_live k) ((f x).id ∷ ids_of lives (map f xs)) (ids_of lives (map f xs))) (kinds x) ∙ ap (λ n. cond (is_live x.kind) (n ∷ ids_of lives (map f xs)) (ids_of lives (map f xs))) (ids x)
-    ∙ ap (λ ys. cond (is_live x.kind) (x.id ∷ ys) ys) (lives-map f ids kinds xs)
+lives-map : (f : Stream → Stream) → ((st : Stream) → (f st).kind ≡ st.kind) → (rs : List Stream) → places_of lives (map f rs) ≡ places_of lives rs
+lives-map f kinds [] = refl
+lives-map f kinds (x ∷ xs) =
+    ap (λ k. cond (is_live k) (0 ∷ map suc (places_of lives (map f xs))) (map suc (places_of lives (map f xs)))) (kinds x)
+    ∙ ap (λ ps. cond (is_live x.kind) (0 ∷ map suc ps) (map suc ps)) (lives-map f kinds xs)
+
+ids-map : (test : Stream → Bool) (f : Stream → Stream) → ((st : Stream) → (f st).id ≡ st.id) → ((st : Stream) → test (f st) ≡ test st) → (rs : List Stream) → ids_of test (map f rs) ≡ ids_of test rs
+ids-map test f ids tests [] = refl
+ids-map test f ids tests (x ∷ xs) =
+    ap (λ t. cond t ((f x).id ∷ ids_of test (map f xs)) (ids_of test (map f xs))) (tests x)
+    ∙ ap (λ id. cond (test x) (id ∷ ids_of test (map f xs)) (ids_of test (map f xs))) (ids x)
+    ∙ ap (λ ys. cond (test x) (x.id ∷ ys) ys) (ids-map test f ids tests xs)
+
+-- a function that keeps identifiers and states, and leaves streams alone that are not live, done to the live ones
+module _ (f : Stream → Stream) (ids : (st : Stream) → (f st).id ≡ st.id) (kinds : (st : Stream) → (f st).kind ≡ st.kind) (ended : (st : Stream) → is_live st.kind ≡ false → f st ≡ st)
+    (rs : List Stream) (live ready : List ℕ) (last : ℕ) (kept : IsKept rs live ready last) where
+  each-mapped : update_each f live rs ≡ map f rs
+  each-mapped = ap (λ places. update_each f places rs) kept.live_listed ∙ each-live f ended rs
+
+  live-mapped : live ≡ places_of lives (update_each f live rs)
+  live-mapped = kept.live_listed ∙ sym (lives-map f kinds rs) ∙ ap (places_of lives) (sym each-mapped)
+
+  kept-mapped : (now : List ℕ) → now ≡ ids_of is_ready (update_each f live rs) → IsKept (update_each f live rs) live now last
+  kept-mapped now listed = record {
+    rising = subst (AreRising 0 last) (sym each-mapped) (rising-map f ids 0 last rs kept.rising);
+    live_listed = live-mapped;
+    ready_listed = listed;
+  }
+
+-- ---- the send windows
 
 module _ (d : ℤ) (rs : List Stream) (live ready : List ℕ) (last : ℕ) (kept : IsKept rs live ready last) where
-  each-moved : update_each (moved_or_same d) live rs ≡ map (moved_or_same d) rs
-  each-moved = ap (λ ids. update_each (moved_or_same d) ids rs) kept.live_listed ∙ update_each-live (moved_or_same d) (id-moved d) (same-ended d) 0 last rs kept.rising
+  abbrev sending : Stream → Stream
+  sending st = moved_or_same d st
 
-  rising-moved : AreRising 0 last (update_each (moved_or_same d) live rs)
-  rising-moved = subst (AreRising 0 last) (sym each-moved) (rising-map (moved_or_same d) (id-moved d) 0 last rs kept.rising)
+  live-moved : live ≡ places_of lives (update_each sending live rs)
+  live-moved = live-mapped sending (id-moved d) (kind-moved d) (same-ended d) rs live ready last kept
 
-  live-moved : live ≡ ids_of lives (update_each (moved_or_same d) live rs)
-  live-moved = kept.live_listed ∙ sym (lives-map (moved_or_same d) (id-moved d) (kind-moved d) rs) ∙ ap (ids_of lives) (sym each-moved)
+  pub kept-moved : IsKept (update_each sending live rs) live (ids_at is_ready (update_each sending live rs) live) last
+  kept-moved =
+      let now = update_each sending live rs in
+      kept-mapped sending (id-moved d) (kind-moved d) (same-ended d) rs live ready last kept (ids_at is_ready now live) (ap (ids_at is_ready now) live-moved ∙ ids-live is_ready idle-ready now)
 
-  ready-moved : filter (passes_at is_ready (update_each (moved_or_same d) live rs)) live ≡ ids_of is_ready (update_each (moved_or_same d) live rs)
-  ready-moved =
-      let now = update_each (moved_or_same d) live rs in
-      ap (filter (passes_at is_ready now)) live-moved ∙ filter-live is_ready idle-ready now now (all-found 0 last now rising-moved)
+  pub records-moved : AllByRecursion (CanShift d) rs → overflows d rs ≡ false → update_each sending live rs ≡ shifted d rs
+  records-moved can free = each-mapped sending (id-moved d) (kind-moved d) (same-ended d) rs live ready last kept ∙ all-free d rs can free
 
-  pub kept-moved : IsKept (update_each (moved_or_same d) live rs) live (filter (passes_at is_ready (update_each (moved_or_same d) live rs)) live) last
-  kept-moved = record { rising = rising-moved; live_listed = live-moved; ready_listed = ready-moved }
+-- ---- the receive windows
 
-  pub stuck-listed : list_any (passes_at (is_stuck d) rs) live ≡ list_any (is_stuck d) rs
-  stuck-listed = ap (list_any (passes_at (is_stuck d) rs)) kept.live_listed ∙ any-live (is_stuck d) (stuck-ended d) rs rs (all-found 0 last rs kept.rising)
+same-received : (d : ℤ) (st : Stream) → is_live st.kind ≡ false → received_or_same d st ≡ st
+same-received d st h = rw h refl
 
-  pub records-moved : list_any (passes_at (is_stuck d) rs) live ≡ false → update_each (moved_or_same d) live rs ≡ shifted d rs
-  records-moved free = each-moved ∙ all-free d rs (sym stuck-listed ∙ free)
+not-over : (a b : ℤ) → a ≤ℤ b → int_lt b a ≡ false
+not-over a b h = grind (arith, ints)
 
-  pub overflow-listed : AllByRecursion (CanShift d) rs → list_any (passes_at (is_stuck d) rs) live ≡ overflows d rs
-  overflow-listed can = stuck-listed ∙ stuck-overflows d rs can
+-- a stream as its receive window moves keeps all else
+module _ (d : ℤ) (st : Stream) where
+  part-received : {B : Type 0} (part : Stream → B) → ((w : ℤ) → part (with_recv st w) ≡ part st) → part (received_or_same d st) ≡ part st
+  part-received part kept = by (is_live st.kind) (is_window (st.numbers.recv +ℤ d)) where
+    by : (l w : Bool) → part (cond l (unwrap_or (option_map (with_recv st) (cond w (Some (st.numbers.recv +ℤ d)) None)) st) st) ≡ part st
+    by true true = kept (st.numbers.recv +ℤ d)
+    by true false = refl
+    by false w = refl
+
+  id-received : (received_or_same d st).id ≡ st.id
+  id-received = part-received (λ s. s.id) (λ w. refl)
+
+  kind-received : (received_or_same d st).kind ≡ st.kind
+  kind-received = part-received (λ s. s.kind) (λ w. refl)
+
+  ready-received : is_ready (received_or_same d st) ≡ is_ready st
+  unfolding octets_waiting
+  ready-received = part-received is_ready (λ w. refl)
+
+  -- one that can receive moves
+  received-within : CanReceive d st → received_or_same d st ≡ received_one d st
+  received-within can = by (is_live st.kind) can where
+    by : (l : Bool) → (l ≡ true → (negsuc max_window ≤ℤ (st.numbers.recv +ℤ d)) × ((st.numbers.recv +ℤ d) ≤ℤ pos max_window))
+        → cond l (unwrap_or (option_map (with_recv st) (moved_window d st.numbers.recv)) st) st ≡ cond l (with_recv st (st.numbers.recv +ℤ d)) st
+    by true h =
+        let w = st.numbers.recv +ℤ d in
+        let least : int_lt w (negsuc max_window) ≡ false = not-over (negsuc max_window) w (h refl).0 in
+        let most : int_lt (pos max_window) w ≡ false = not-over w (pos max_window) (h refl).1 in
+        rw (least, most) refl
+    by false h = refl
+
+all-received : (d : ℤ) (rs : List Stream) → AllByRecursion (CanReceive d) rs → map (received_or_same d) rs ≡ received d rs
+unfolding received
+all-received d [] can = refl
+all-received d (x ∷ xs) can = ap (λ y. y ∷ map (received_or_same d) xs) (received-within d x can.0) ∙ ap (λ ys. received_one d x ∷ ys) (all-received d xs can.1)
+
+module _ (d : ℤ) (rs : List Stream) (live ready : List ℕ) (last : ℕ) (kept : IsKept rs live ready last) where
+  abbrev receiving : Stream → Stream
+  receiving st = received_or_same d st
+
+  each-received : update_each receiving live rs ≡ map receiving rs
+  each-received = each-mapped receiving (id-received d) (kind-received d) (same-received d) rs live ready last kept
+
+  -- what can be sent stays
+  pub kept-received : IsKept (update_each receiving live rs) live ready last
+  kept-received =
+      kept-mapped receiving (id-received d) (kind-received d) (same-received d) rs live ready last kept ready
+      (kept.ready_listed ∙ sym (ids-map is_ready receiving (id-received d) (ready-received d) rs) ∙ ap (ids_of is_ready) (sym each-received))
+
+  pub records-received : AllByRecursion (CanReceive d) rs → update_each receiving live rs ≡ received d rs
+  records-received can = each-received ∙ all-received d rs can
 
 -- ---- the greatest window
 
@@ -205,4 +212,4 @@ any-overflows d (x ∷ xs) = by (overflows_one d x) (any-overflows d xs) where
 -- whether a window would pass its limit is asked of the live streams
 pub overflows-listed : (d : ℤ) (rs : List Stream) (live ready : List ℕ) (last : ℕ) → IsKept rs live ready last → list_any (passes_at (overflows_one d) rs) live ≡ overflows d rs
 overflows-listed d rs live ready last kept =
-    ap (list_any (passes_at (overflows_one d) rs)) kept.live_listed ∙ any-live (overflows_one d) (overflows-ended d) rs rs (all-found 0 last rs kept.rising) ∙ any-overflows d rs
+    ap (list_any (passes_at (overflows_one d) rs)) kept.live_listed ∙ any-live (overflows_one d) (overflows-ended d) rs ∙ any-overflows d rs

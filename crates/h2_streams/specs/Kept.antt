@@ -1,8 +1,8 @@
--- What the records, the identifiers of the live streams and those of the streams that can send keep.
-use Rattle.std.specs.Prelude.{◌≡◌, ℕ, suc, ◌<◌, Bool, false, ◌&&◌, List, [], ◌∷◌, nat_lt, ◌==◌, if◌then◌else◌, Option, find, pos, int_lt}
+-- What the records, the places of the live streams and the identifiers of those that can send keep.
+use Rattle.std.specs.Prelude.{◌≡◌, ℕ, suc, ◌<◌, ◌≤◌, Bool, false, ◌&&◌, List, [], ◌∷◌, ◌++◌, map, nat_lt, ◌==◌, if◌then◌else◌, Option, Some, None, find, slice_get, pos, int_lt}
 use Rattle.std.specs.Option.{option_map, option_map_or}
 use Rattle.h2_spec.specs.declared.streams.Stream.{Stream}
-use Rattle.h2_spec.specs.Stream.{id_of, is_live, octets_waiting, record_of, AreRising}
+use Rattle.h2_spec.specs.Stream.{id_of, is_live, octets_waiting, AreRising}
 
 -- whether the stream can send: it has octets to send, and a send window that lets some of them pass (RFC 9113, 6.9)
 abbrev pub is_ready : Stream → Bool
@@ -25,10 +25,15 @@ abbrev pub ids_of : (Stream → Bool) → List Stream → List ℕ
 ids_of test [] = []
 ids_of test (st ∷ sts) = if test st then st.id ∷ ids_of test sts else ids_of test sts
 
--- identifiers that rise above this number
+-- the places of the records that pass a test, from 0
+abbrev pub places_of : (Stream → Bool) → List Stream → List ℕ
+places_of test [] = []
+places_of test (st ∷ sts) = if test st then 0 ∷ map suc (places_of test sts) else map suc (places_of test sts)
+
+-- identifiers or places that rise from this number on
 abbrev pub IdsRise : ℕ → List ℕ → Type 0
 IdsRise low [] = Unit {0}
-IdsRise low (id ∷ ids) = (low < id) × IdsRise id ids
+IdsRise low (x ∷ xs) = (low ≤ x) × IdsRise (suc x) xs
 
 -- records whose identifiers rise above this number
 abbrev pub Rise : ℕ → List Stream → Type 0
@@ -40,7 +45,7 @@ abbrev pub place_of : ℕ → List Stream → ℕ
 place_of id [] = 0
 place_of id (st ∷ sts) = if nat_lt st.id id then suc (place_of id sts) else 0
 
--- identifiers without this one
+-- identifiers or places without this one
 abbrev pub without : ℕ → List ℕ → List ℕ
 without id [] = []
 without id (x ∷ xs) = if x == id then xs else x ∷ without id xs
@@ -59,12 +64,23 @@ abbrev pub above : ℕ → List ℕ → List ℕ
 above after [] = []
 above after (x ∷ xs) = if nat_lt after x then x ∷ xs else above after xs
 
--- whether the record with this identifier passes a test
+-- whether the record at this place passes a test
 abbrev pub passes_at : (Stream → Bool) → List Stream → ℕ → Bool
-passes_at test records id = option_map_or test (record_of records id) false
+passes_at test records place = option_map_or test (slice_get records place) false
 
--- the records, the identifiers of the live streams and of those that can send, and the last stream that was opened
+-- the identifier of a record, if there is one and it passes a test
+abbrev pub id_if : (Stream → Bool) → Option Stream → List ℕ
+id_if test None = []
+id_if test (Some st) = if test st then st.id ∷ [] else []
+
+-- the identifiers of the records at these places that pass a test
+abbrev pub ids_at : (Stream → Bool) → List Stream → List ℕ → List ℕ
+ids_at test records [] = []
+ids_at test records (place ∷ places) = id_if test (slice_get records place) ++ ids_at test records places
+
+-- the records, the places of the live streams, the identifiers of those that can send, and the last stream that was
+-- opened
 pub record IsKept (records : List Stream) (live ready : List ℕ) (last : ℕ) : Type 0 where
   pub rising : AreRising 0 last records
-  pub live_listed : live ≡ ids_of lives records
+  pub live_listed : live ≡ places_of lives records
   pub ready_listed : ready ≡ ids_of is_ready records

@@ -7,33 +7,42 @@ ghost use Rattle.std.specs.List.{list_any};
 ghost use Rattle.h2_spec.specs.Change.{overflows_one};
 ghost use Rattle.h2_spec.specs.Window.{is_above_max};
 ghost use Rattle.h2_streams.specs.Greatest.{overflows_with};
-ghost use Rattle.h2_streams.specs.Kept.{passes_at, Rise};
+ghost use Rattle.h2_streams.specs.Kept.{passes_at};
 
-use crate::places::record_of;
+use crate::places::record_at;
 use crate::shift::follows_initial_window;
-use h2_spec::flow::Window;
+use h2_spec::flow::{MAX_WINDOW, Window};
 use h2_spec::streams::Stream;
 
-/// The greatest of these streams' send windows that settings move, if there is one.
+/// Whether the greatest window, if there is one, passes its limit with this move.
 #[tactic(auto, unfolding(crate::specs::Greatest::overflows_with))]
-pub(crate) fn greatest_of(records: &[Stream], ids: &[u32]) -> Option<Window>
-    requires { Rise 0 records.now }
-    ensures { (d : ℤ) → overflows_with result d ≡ list_any (passes_at (overflows_one d) records.now) ids.now }
+pub(crate) fn overflows_with(greatest: Option<Window>, delta: i64) -> bool
+    ensures { result ≡ overflows_with greatest delta }
+{
+    match greatest {
+        None => false,
+        Some(window) => delta > i64::from(MAX_WINDOW) - i64::from(window.value()),
+    }
+}
+
+/// The greatest of the send windows that settings move, of the records at these places, if there is one.
+#[tactic(auto, unfolding(crate::specs::Greatest::overflows_with))]
+pub(crate) fn greatest_of(records: &[Stream], places: &[usize]) -> Option<Window>
+    ensures { (d : ℤ) → overflows_with result d ≡ list_any (passes_at (overflows_one d) records.now) places.now }
 {
     let mut greatest = None;
-    for id in ids {
-        greatest = greater_at(records, *id, greatest);
+    for place in places {
+        greatest = greater_at(records, *place, greatest);
     }
     greatest
 }
 
-/// The greater one of a window and the stream's, if settings move that.
+/// The greater one of a window and that of the record at this place, if settings move that.
 #[tactic(auto, unfolding(crate::specs::Greatest::overflows_with))]
-fn greater_at(records: &[Stream], id: u32, greatest: Option<Window>) -> Option<Window>
-    requires { Rise 0 records.now }
-    ensures { (d : ℤ) → overflows_with result d ≡ (overflows_with greatest d || passes_at (overflows_one d) records.now id) }
+fn greater_at(records: &[Stream], place: usize, greatest: Option<Window>) -> Option<Window>
+    ensures { (d : ℤ) → overflows_with result d ≡ (overflows_with greatest d || passes_at (overflows_one d) records.now place) }
 {
-    match record_of(records, id) {
+    match record_at(records, place) {
         Some(stream) => greater(greatest, stream),
         None => greatest,
     }

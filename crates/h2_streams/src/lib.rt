@@ -7,6 +7,7 @@ mod greatest;
 mod ids;
 mod kinds;
 mod places;
+mod rebuilt;
 mod records;
 mod shift;
 mod walks;

@@ -10,7 +10,7 @@ use h2_spec::streams::Stream;
 use std::alloc::Allocator;
 
 /// How many records are below this identifier.
-fn place_of(records: &[Stream], id: u32) -> usize
+pub(crate) fn place_of(records: &[Stream], id: u32) -> usize
     requires { kept.Rise 0 records.now }
     ensures value { result ≡ kept.place_of id records.now }
     ensures within { result ≤ length records.now }
@@ -28,18 +28,21 @@ pub(crate) fn record_of(records: &[Stream], id: u32) -> Option<&Stream>
     if stream.id == id { Some(stream) } else { None }
 }
 
-fn record_at(records: &[Stream], place: usize) -> Option<&Stream>
+/// The record at this place.
+pub(crate) fn record_at(records: &[Stream], place: usize) -> Option<&Stream>
     ensures { option_copied result ≡ slice_get records.now place }
 {
     records.get(place)
 }
 
-/// Writes a record in the place of the one with its identifier.
-pub(crate) fn write<A: Allocator>(records: &mut Vec<Stream, A>, stream: Stream)
+/// Writes a record in the place of the one with its identifier, and returns that place.
+pub(crate) fn write<A: Allocator>(records: &mut Vec<Stream, A>, stream: Stream) -> usize
     requires rising { kept.Rise 0 records.old.items }
     requires known { IsTrue (is_some (spec.record_of records.old.items stream.id)) }
-    ensures { records.new.items ≡ spec.put stream records.old.items }
+    ensures items { records.new.items ≡ spec.put stream records.old.items }
+    ensures place { result ≡ kept.place_of stream.id records.old.items }
 {
     let place = place_of(records.as_slice(), stream.id);
     records[place] = stream;
+    place
 }

@@ -2,8 +2,8 @@
 //! Rests on `kinds`, `places` (the search by identifier) and `ids` (rising lists of identifiers).
 //! Definitions: `h2_spec/specs/Stream.antt`; what the fields keep: `specs/Kept.antt`.
 
-ghost use Rattle.std.specs.Prelude.{◌≡◌, not, ◌<◌, ◌≤◌, ◌%◌, ◌==◌, ◌||◌, nat_lt, length, IsOk, OnOk, OnErr, IfOk, IfErr, IfSome, IsTrue, is_err, slice_get};
-ghost use Rattle.std.specs.List.{AllByRecursion, list_any};
+ghost use Rattle.std.specs.Prelude.{◌≡◌, not, take, ◌<◌, ◌≤◌, ◌%◌, ◌==◌, ◌||◌, nat_lt, length, IsOk, OnOk, OnErr, IfOk, IfErr, IfSome, IsTrue, is_err, slice_get};
+ghost use Rattle.std.specs.List.{AllByRecursion, filter, list_any};
 ghost use Rattle.std.specs.Option.{option_copied};
 ghost use Rattle.std.specs.Vec.{vec_capacity};
 ghost use Rattle.h2_spec.specs.Stream as spec;
@@ -12,13 +12,15 @@ ghost use Rattle.h2_spec.specs.Change as changes;
 ghost use Rattle.h2_streams.specs.Greatest.{IsGreatest};
 ghost use Rattle.h2_streams.specs.Kept as kept;
 ghost use Rattle.h2_streams.specs.Put.{CanPut, can_become};
+ghost use Rattle.h2_streams.specs.Rebuilt as earlier;
 ghost use Rattle.h2_streams.specs.Shift as shift;
 
-use crate::greatest::greatest_of;
+use crate::greatest::{greatest_of, overflows_with};
 use crate::ids::{append, ids_above, keep, list};
 use crate::kinds::{is_live, is_ready, not_live, peer_closed, reset_kind, server_ended};
 use crate::places::{record_of, write};
-use crate::shift::{any_is_stuck, move_each};
+use crate::rebuilt::{front_of, insert_closed, records_at, write_each};
+use crate::shift::{InitialWindow, move_each};
 use crate::walks::{first_waiting, list_ready};
 use h2_spec::errors::FlowFault;
 use h2_spec::flow::Window;
@@ -34,8 +36,8 @@ use std::marker::Model;
 pub struct Streams<A: Allocator> {
     /// In the order of opening, so that identifiers rise.
     records: Vec<Stream, A>,
-    /// The identifiers of the live streams, rising.
-    live: Vec<u32, A>,
+    /// The places of the live streams' records, rising. A record's place never changes.
+    live: Vec<usize, A>,
     /// The identifiers of the streams that can send, rising; it has room for all live ones.
     ready: Vec<u32, A>,
     last: u32,
@@ -83,6 +85,52 @@ impl<A: Allocator + Copy> Streams<A> {
     }
 }
 
+impl<A: Allocator + Copy> Streams<A> {
+    /// The records that are live, and that of one more stream, if it has one; in the order of opening.
+    ///
+    /// `AllocError` where memory for the list is refused.
+    pub fn live_or(&self, other: Option<u32>) -> Result<Vec<Stream, A>, AllocError>
+        ensures { IfOk result (λ list. list.items ≡ filter (earlier.is_live_or other) self.now.streams) }
+    {
+        let alloc = *self.records.allocator();
+        let mut list = records_at(self.records.as_slice(), self.live.as_slice(), alloc)?;
+        let Some(id) = other else {
+            return Ok(list);
+        };
+        let Some(stream) = self.get(id) else {
+            return Ok(list);
+        };
+        insert_closed(&mut list, stream)?;
+        Ok(list)
+    }
+
+    /// The first records, so many, where those that have changed since are as in `changed`: the records at an earlier
+    /// time, when `last` was the last stream that was opened. The records are copied at once.
+    ///
+    /// `AllocError` where memory for them is refused.
+    pub fn rebuilt(&self, count: usize, last: u32, changed: &[Stream]) -> Result<Self, AllocError>
+        requires within { count ≤ length self.now.streams }
+        requires rising { spec.AreRising 0 last (take count self.now.streams) }
+        requires changed { kept.Rise 0 changed.now }
+        requires known { earlier.AreKnown (take count self.now.streams) changed.now }
+        requires closed { earlier.AreOthersClosed changed.now (take count self.now.streams) }
+        ensures { IfOk result (λ streams. streams ≡ record { streams = earlier.rebuilt count changed.now self.now.streams; last = last }) }
+    {
+        let alloc = *self.records.allocator();
+        let mut records = front_of(&self.records, count)?;
+        let mut live = Vec::with_capacity(alloc, changed.len())?;
+        write_each(&mut records, changed, &mut live);
+        let mut ready = Vec::with_capacity(alloc, live.len())?;
+        list_ready(records.as_slice(), live.as_slice(), &mut ready);
+        Ok(Streams {
+            records,
+            live,
+            ready,
+            last,
+        })
+    }
+}
+
 impl<A: Allocator> Streams<A> {
     /// The last stream that was opened, 0 before the first.
     pub fn last(&self) -> u32
@@ -104,6 +152,13 @@ impl<A: Allocator> Streams<A> {
         ensures { option_copied result ≡ slice_get self.now.streams i }
     {
         self.records.as_slice().get(i)
+    }
+
+    /// The number of records.
+    pub fn count(&self) -> usize
+        ensures { result ≡ length self.now.streams }
+    {
+        self.records.as_slice().len()
     }
 
     /// The number of live streams.
@@ -265,16 +320,36 @@ impl<A: Allocator> Streams<A> {
         ensures refused { IfErr result (λ e. (e ≡ FlowFault.Overflow) × (self.new ≡ self.old)) }
         ensures overflow { is_err result ≡ changes.overflows delta self.old.streams }
     {
-        if any_is_stuck(self.records.as_slice(), self.live.as_slice(), delta) {
+        if overflows_with(self.greatest_send(), delta) {
             return Err(FlowFault::Overflow);
         }
-        move_each(&mut self.records, self.live.as_slice(), delta);
+        move_each(
+            &mut self.records,
+            self.live.as_slice(),
+            InitialWindow::Peer,
+            delta,
+        );
         list_ready(
             self.records.as_slice(),
             self.live.as_slice(),
             &mut self.ready,
         );
         Ok(())
+    }
+
+    /// Moves the receive windows of the live streams by `delta`, as the server's own SETTINGS_INITIAL_WINDOW_SIZE comes
+    /// into force (RFC 9113, 6.5.3 and 6.9.2). Takes no memory.
+    /// A window may become negative, but not less than -2147483648, and none passes 2147483647.
+    pub fn shift_recv(&mut self, delta: i64)
+        requires { AllByRecursion (shift.CanReceive delta) self.old.streams }
+        ensures { self.new ≡ record self.old { streams = changes.received delta self.old.streams } }
+    {
+        move_each(
+            &mut self.records,
+            self.live.as_slice(),
+            InitialWindow::Own,
+            delta,
+        );
     }
 
     /// Records a stream above all others.
@@ -289,8 +364,9 @@ impl<A: Allocator> Streams<A> {
         self.live.reserve(1)?;
         let more = self.live.as_slice().len() - self.ready.as_slice().len() + 1;
         self.ready.reserve(more)?;
+        let place = self.records.as_slice().len();
         self.records.push(stream)?;
-        append(&mut self.live, stream.id, live);
+        append(&mut self.live, place, live);
         append(&mut self.ready, stream.id, ready);
         self.last = stream.id;
         Ok(())
@@ -303,8 +379,8 @@ impl<A: Allocator> Streams<A> {
     {
         let live = is_live(stream.kind);
         let ready = is_ready(&stream);
-        write(&mut self.records, stream);
-        keep(&mut self.live, stream.id, live);
+        let place = write(&mut self.records, stream);
+        keep(&mut self.live, place, live);
         list(&mut self.ready, stream.id, ready);
     }
 }

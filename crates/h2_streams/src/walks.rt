@@ -1,60 +1,67 @@
 //! What is looked for among the live streams, one after another.
 //! Rests on `ids`, `kinds` and `places`; definitions: `specs/Kept.antt`.
 
-ghost use Rattle.std.specs.Prelude.{◌≡◌, ◌≤◌, filter, find, length};
-ghost use Rattle.std.specs.Vec.{vec_capacity};
+ghost use Rattle.std.specs.Prelude.{◌≡◌, ◌+◌, ◌<◌, ◌≤◌, ◌++◌, length, slice_get};
+ghost use Rattle.std.specs.Option.{option_copied};
+ghost use Rattle.std.specs.Vec.{vec_capacity, vec_len};
 ghost use Rattle.h2_spec.specs.Stream as spec;
 ghost use Rattle.h2_streams.specs.Kept as kept;
 
 use crate::ids::append;
 use crate::kinds::{is_ready, octets_waiting};
-use crate::places::record_of;
+use crate::places::record_at;
 use h2_spec::streams::Stream;
 use std::alloc::Allocator;
 
-/// Whether the stream can send.
-fn is_ready_at(records: &[Stream], id: u32) -> bool
-    requires { kept.Rise 0 records.now }
-    ensures { result ≡ kept.passes_at kept.is_ready records.now id }
+/// Puts the stream behind the others, if there is one and it can send. There is room for it.
+fn append_ready<A: Allocator>(ready: &mut Vec<u32, A>, stream: Option<&Stream>)
+    requires { vec_len ready.old < vec_capacity ready.old }
+    ensures items { ready.new.items ≡ ready.old.items ++ kept.id_if kept.is_ready (option_copied stream.entry) }
+    ensures len { vec_len ready.new ≤ vec_len ready.old + 1 }
+    ensures capacity { vec_capacity ready.old ≤ vec_capacity ready.new }
 {
-    match record_of(records, id) {
-        Some(stream) => is_ready(stream),
-        None => false,
+    if let Some(stream) = stream {
+        append(ready, stream.id, is_ready(stream));
     }
 }
 
-/// Lists those of these streams that can send, in the place of what was listed. There is room for all of them.
-pub(crate) fn list_ready<A: Allocator>(records: &[Stream], ids: &[u32], ready: &mut Vec<u32, A>)
-    requires rising { kept.Rise 0 records.now }
-    requires room { length ids.now ≤ vec_capacity ready.old }
-    ensures items { ready.new.items ≡ filter (kept.passes_at kept.is_ready records.now) ids.now }
+/// Lists those of the streams at these places that can send, in the place of what was listed. There is room for all of
+/// them.
+pub(crate) fn list_ready<A: Allocator>(
+    records: &[Stream],
+    places: &[usize],
+    ready: &mut Vec<u32, A>,
+)
+    requires { length places.now ≤ vec_capacity ready.old }
+    ensures items { ready.new.items ≡ kept.ids_at kept.is_ready records.now places.now }
     ensures capacity { vec_capacity ready.old ≤ vec_capacity ready.new }
 {
     ready.clear();
-    for id in ids {
-        append(ready, *id, is_ready_at(records, *id));
+    for place in places {
+        append_ready(ready, record_at(records, *place));
     }
 }
 
-/// Whether the stream is above this one and has octets to send.
-fn waits_at(records: &[Stream], id: u32, after: u32) -> bool
-    requires { kept.Rise 0 records.now }
-    ensures { result ≡ kept.passes_at (spec.waits_above after) records.now id }
+/// The identifier of the stream, if there is one, it is above this one and has octets to send.
+fn waiting_id(stream: Option<&Stream>, after: u32) -> Option<u32>
+    ensures { result ≡ slice_get (kept.id_if (spec.waits_above after) (option_copied stream.entry)) 0 }
 {
-    match record_of(records, id) {
-        Some(stream) => after < stream.id && octets_waiting(stream) > 0,
-        None => false,
+    let stream = stream?;
+    if after < stream.id && octets_waiting(stream) > 0 {
+        Some(stream.id)
+    } else {
+        None
     }
 }
 
-/// The first of these streams that is above this one and has octets to send.
-pub(crate) fn first_waiting(records: &[Stream], ids: &[u32], after: u32) -> Option<u32>
-    requires { kept.Rise 0 records.now }
-    ensures { result ≡ find (kept.passes_at (spec.waits_above after) records.now) ids.now }
+/// The first of the streams at these places that is above this one and has octets to send.
+pub(crate) fn first_waiting(records: &[Stream], places: &[usize], after: u32) -> Option<u32>
+    ensures { result ≡ slice_get (kept.ids_at (spec.waits_above after) records.now places.now) 0 }
 {
-    for id in ids {
-        if waits_at(records, *id, after) {
-            return Some(*id);
+    for place in places {
+        let id = waiting_id(record_at(records, *place), after);
+        if id.is_some() {
+            return id;
         }
     }
     None

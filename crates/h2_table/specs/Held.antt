@@ -7,9 +7,9 @@ use Rattle.h2_spec.specs.DynamicTable.{total_size}
 abbrev pub places_for : ℕ → ℕ
 places_for limit = max (limit / 32) 1
 
--- the entries are in so many places, count so much, and are within the maximum, which is within the limit
+-- the entries are in so many places, count so much, and are within the maximum; there are places for the larger of
+-- maximum and limit
 pub record IsHeld (entries : List Field) (places size most limit : ℕ) : Type 0 where
   pub counted : size ≡ total_size entries
   pub within : size ≤ most
-  pub limited : most ≤ limit
-  pub has_places : places ≡ places_for limit
+  pub has_places : places_for (max most limit) ≤ places

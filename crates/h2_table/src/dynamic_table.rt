@@ -1,10 +1,12 @@
 //! The dynamic table of one decoder (RFC 7541, 2.3.2 and 4): what enters, what is evicted, and what is found.
-//! Its entries are in a ring that is made with the table, the newest at the front; beside it runs what they count.
+//! Its entries are in a ring, the newest at the front; beside it runs what they count. The ring has places for as many
+//! entries as the limit or the maximum lets in, whichever is larger.
 //! The definitions are `Table`, `insert` and `resize` of `h2_spec`, specs/DynamicTable.antt.
 
-ghost use Rattle.std.specs.Prelude.{◌≡◌, ◌<◌, ◌≤◌, [], ◌∷◌, ◌++◌, ◌↔◌, length, option_map, true, OnOk, OnErr, IfOk, IfErr, IsErr};
+ghost use Rattle.std.specs.Prelude.{◌≡◌, ◌<◌, ◌≤◌, [], ◌∷◌, ◌++◌, ◌↔◌, length, option_map, true, Ok, OnOk, OnErr, IfOk, IfErr, IsErr, nat_lt};
 ghost use Rattle.circular_buffer.specs.Buffer.{buffer};
 ghost use Rattle.h2_spec.specs.DynamicTable.{fit, insert, resize, total_size, entry_at};
+ghost use Rattle.h2_table.specs.Held.{places_for};
 ghost use Rattle.h2_table.specs.Lent.{lent_field};
 ghost use Rattle.h2_table.specs.declared.fault.TableFault.TheVariants as faults;
 
@@ -46,8 +48,7 @@ impl<A: Allocator> DynTable<A> {
     pub fn new(alloc: A, limit: u32) -> Result<Self, AllocError>
         ensures empty { IfOk result (λ t. t ≡ record { table = record { entries = []; max = limit }; limit = limit }) }
     {
-        let places = (limit / 32).max(1);
-        let ring = HeapCircularBuffer::with_capacity(alloc, places as usize)?;
+        let ring = HeapCircularBuffer::with_capacity(alloc, places_for(limit))?;
         Ok(DynTable {
             ring,
             size: 0,
@@ -78,10 +79,10 @@ impl<A: Allocator> DynTable<A> {
         self.size
     }
 
-    /// The most that the entries may count together, in octets; at most the limit (RFC 7541, 4.2).
+    /// The most that the entries may count together, in octets. It is above the limit exactly while a size update is due
+    /// (RFC 7541, 4.2).
     pub fn max(&self) -> u32
         ensures is { result ≡ self.now.table.max }
-        ensures within { result ≤ self.now.limit }
     {
         self.max
     }
@@ -91,6 +92,23 @@ impl<A: Allocator> DynTable<A> {
         ensures { result ≡ self.now.limit }
     {
         self.limit
+    }
+
+    /// Whether the next field block has to begin with a size update: the limit is below the maximum (RFC 7541, 4.2). An
+    /// accepted `set_max` ends it.
+    pub fn due(&self) -> bool
+        ensures { result ≡ nat_lt self.now.limit self.now.table.max }
+    {
+        self.limit < self.max
+    }
+
+    /// Sets the limit of the maximum, in octets, to one that is not above it. Entries and maximum stay; where the maximum
+    /// is above the limit then, a size update is due (RFC 7541, 4.2). No memory is taken.
+    pub fn lower_limit(&mut self, limit: u32)
+        requires { limit ≤ self.old.limit }
+        ensures { self.new ≡ record self.old { limit = limit } }
+    {
+        self.limit = limit;
     }
 
     /// The name and the value of the `i`-th entry, counted from 1, the newest; none past the oldest, and none for 0.
@@ -143,6 +161,23 @@ impl<A: Allocator> DynTable<A> {
 }
 
 impl<A: Allocator + Copy> DynTable<A> {
+    /// Sets the limit of the maximum to `n` octets. Entries and maximum stay; where the maximum is above the limit then,
+    /// a size update is due (RFC 7541, 4.2).
+    ///
+    /// # Errors
+    ///
+    /// `AllocError` where places for more entries were refused; the table is as it was. There is no error where `n` is
+    /// not above the limit: then no memory is taken.
+    pub fn set_limit(&mut self, n: u32) -> Result<(), AllocError>
+        ensures lowered { n ≤ self.old.limit → result ≡ Ok tt }
+        ensures limited { OnOk result (self.new ≡ record self.old { limit = n }) }
+        ensures unchanged { OnErr result (self.new ≡ self.old) }
+    {
+        make_places(&mut self.ring, places_for(self.max.max(n)))?;
+        self.limit = n;
+        Ok(())
+    }
+
     /// The same table once more, in memory of its own.
     ///
     /// # Errors
@@ -159,6 +194,30 @@ impl<A: Allocator + Copy> DynTable<A> {
             limit: self.limit,
         })
     }
+}
+
+/// The places of a ring for entries that count so many octets together: each counts 32 or more.
+fn places_for(most: u32) -> usize
+    ensures { result ≡ places_for most }
+{
+    (most / 32).max(1) as usize
+}
+
+/// Gives a ring so many places, if it has fewer.
+fn make_places<A: Allocator + Copy>(
+    ring: &mut HeapCircularBuffer<TableEntry<A>, A>,
+    places: usize,
+) -> Result<(), AllocError>
+    requires { length ring.old.items ≤ places }
+    ensures enough { places ≤ ring.old.capacity → result ≡ Ok tt }
+    ensures items { ring.new.items ≡ ring.old.items }
+    ensures places { OnOk result (places ≤ ring.new.capacity) }
+    ensures unchanged { OnErr result (ring.new ≡ ring.old) }
+{
+    if places <= ring.capacity() {
+        return Ok(());
+    }
+    ring.resize(places)
 }
 
 /// Takes out the oldest entries until those left, which count `size` together, count at most `room`; what is left

@@ -1,12 +1,12 @@
 -- Texts that are written part after part.
-use Rattle.std.proofs.Common.{◌≡◌, ◌∙◌, ℕ, zero, suc, ◌+◌, ◌<◌, List, [], ◌∷◌, ◌++◌, codes, decimal, drop, length, map, Some, None, refl, ap, arith, append_assoc}
+use Rattle.std.proofs.Common.{◌≡◌, ◌∙◌, ℕ, zero, suc, ◌+◌, ◌<◌, List, [], ◌∷◌, ◌++◌, drop, length, map, Some, None, refl, ap, arith, append_assoc}
 use Rattle.std.specs.Prelude.{slice_get}
 use Rattle.std.proofs.lemmas.List.{drop_more}
 use Rattle.std.proofs.lemmas.Option.{get_or_from_slice_get, slice_get_within}
 use Rattle.h2_spec.specs.declared.streams.Stream.{Stream}
 use Rattle.h2_spec.specs.declared.streams.StreamView.{StreamView}
 use Rattle.h2_spec.specs.Field.{Field}
-use Rattle.h2_spec.specs.Show.{acked_line, block_line, entry_line, entry_lines, joined, peer_line, phase_line, show, stream_line, stream_lines, table_line, window_line}
+use Rattle.h2_spec.specs.Show.{acked_line, block_line, entry_line, entry_lines, own_line, peer_line, phase_line, show, stream_line, stream_lines, table_line, window_line}
 use Rattle.h2_spec.specs.Stream.{AreRising}
 use Rattle.h2_spec.specs.View.{View, shown_stream}
 use Rattle.h2_text.specs.Lines.{window_text}
@@ -66,20 +66,20 @@ place-below low last (suc k) (st ∷ sts) x r h = omega (arith, r.0, place-below
 
 -- ---- the whole text
 
--- eight texts one after another
-one-by-one : (a b c d e f g h : List ℕ) → a ++ (b ++ (c ++ (d ++ (e ++ (f ++ (g ++ h)))))) ≡ a ++ b ++ c ++ d ++ e ++ f ++ g ++ h
-one-by-one a b c d e f g h = simp append_assoc
+-- nine texts one after another
+one-by-one : (a b c d e f g h i : List ℕ) → a ++ (b ++ (c ++ (d ++ (e ++ (f ++ (g ++ (h ++ i))))))) ≡ a ++ b ++ c ++ d ++ e ++ f ++ g ++ h ++ i
+one-by-one a b c d e f g h i = simp append_assoc
 
 -- the lines in their order
-all-lines : (v : View) → phase_line v.phase v.last ++ window_text v.recv v.owed v.send ++ peer_line v.peer ++ acked_line v.acked v.goaway ++ block_line v.block
-    ++ table_line (length v.table) v.table_size v.table_max ++ entry_lines 62 v.table ++ stream_lines v.streams ≡ show v
+all-lines : (v : View) → phase_line v.phase v.last ++ window_text v.recv v.owed v.send ++ peer_line v.peer ++ acked_line v.acked v.goaway ++ own_line v.own v.due
+    ++ block_line v.block ++ table_line (length v.table) v.table_size v.table_max ++ entry_lines 62 v.table ++ stream_lines v.streams ≡ show v
 unfolding show window_line window_text
 all-lines v = refl
 
 -- the text of a view, line by line
-pub viewed-lines : (v : View) → phase_line v.phase v.last ++ (window_text v.recv v.owed v.send ++ (peer_line v.peer ++ (acked_line v.acked v.goaway ++ (block_line v.block
-    ++ (table_line (length v.table) v.table_size v.table_max ++ (entry_lines 62 v.table ++ stream_lines v.streams)))))) ≡ show v
+pub viewed-lines : (v : View) → phase_line v.phase v.last ++ (window_text v.recv v.owed v.send ++ (peer_line v.peer ++ (acked_line v.acked v.goaway ++ (own_line v.own v.due
+    ++ (block_line v.block ++ (table_line (length v.table) v.table_size v.table_max ++ (entry_lines 62 v.table ++ stream_lines v.streams))))))) ≡ show v
 viewed-lines v =
-    one-by-one (phase_line v.phase v.last) (window_text v.recv v.owed v.send) (peer_line v.peer) (acked_line v.acked v.goaway) (block_line v.block)
-    (table_line (length v.table) v.table_size v.table_max) (entry_lines 62 v.table) (stream_lines v.streams)
+    one-by-one (phase_line v.phase v.last) (window_text v.recv v.owed v.send) (peer_line v.peer) (acked_line v.acked v.goaway) (own_line v.own v.due)
+    (block_line v.block) (table_line (length v.table) v.table_size v.table_max) (entry_lines 62 v.table) (stream_lines v.streams)
     ∙ all-lines v

@@ -4,12 +4,12 @@
 ghost use Rattle.std.specs.Prelude.{◌≡◌, true};
 ghost use Rattle.h2_spec.specs.Field.{field};
 ghost use Rattle.h2_text.specs.Lines.{window_text};
-ghost use Rattle.h2_spec.specs.Show.{phase_line, phase_text, peer_line, acked_line, goaway_text, block_line, table_line, entry_line, stream_line, stream_line_as, kind_text, option_text, flag_text};
+ghost use Rattle.h2_spec.specs.Show.{phase_line, phase_text, peer_line, acked_line, own_line, goaway_text, block_line, table_line, entry_line, stream_line, stream_line_as, kind_text, option_text, flag_text};
 
 use crate::hex_text::OctetsText;
 use h2_device::{DeviceFault, Number, Output, SignedNumber, Text, texts};
 use h2_spec::connection::{BlockView, ConnectionState, Phase};
-use h2_spec::flow::{Settings, Window};
+use h2_spec::flow::{LocalSettings, Settings, Window};
 use h2_spec::streams::{Kind, StreamView};
 use h2_streams::is_live;
 
@@ -171,6 +171,38 @@ impl Text for AckedLine<'_> {
         let acked = FlagText(self.0.acked);
         let goaway = GoawayText(self.0.goaway);
         texts!("acked ", acked, " goaway ", goaway, "\n").write_to(output)
+    }
+}
+
+/// The server's settings that are in force, and whether the next field block has to begin with a size update (RFC 9113,
+/// 6.5.3; RFC 7541, 4.2).
+#[derive(Drop)]
+pub struct OwnLine {
+    pub own: LocalSettings,
+    pub due: bool,
+}
+
+#[tactic(auto, unfolding(h2_spec::specs::Show::own_line))]
+impl Text for OwnLine {
+    ghost text = { λ x. own_line x.own x.due };
+
+    fn write_to<O: Output>(&self, output: &mut O) -> Result<(), DeviceFault> {
+        let table = Number(u64::from(self.own.table));
+        let window = Number(u64::from(self.own.window));
+        let frame = Number(u64::from(self.own.frame));
+        let due = FlagText(self.due);
+        texts!(
+            "own table ",
+            table,
+            " window ",
+            window,
+            " frame ",
+            frame,
+            " due ",
+            due,
+            "\n"
+        )
+        .write_to(output)
     }
 }
 

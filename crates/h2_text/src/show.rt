@@ -6,9 +6,10 @@ ghost use Rattle.h2_spec.specs.Show.{entry_lines, show, stream_lines};
 ghost use Rattle.h2_spec.specs.View.{shown_stream};
 
 use crate::lines::{
-    AckedLine, BlockLine, EntryLine, PeerLine, PhaseLine, StreamLine, TableLine, WindowLine,
+    AckedLine, BlockLine, EntryLine, OwnLine, PeerLine, PhaseLine, StreamLine, TableLine,
+    WindowLine,
 };
-use crate::view::{Shown, count_of, entry_at, shown_stream};
+use crate::view::{Shown, count_of, entry_at, is_due, shown_stream};
 use h2_device::{DeviceFault, Output, Text, texts};
 use h2_streams::Streams;
 use h2_table::DynTable;
@@ -71,6 +72,10 @@ impl<A: Allocator> Text for Shown<'_, A> {
         let window = WindowLine(core);
         let peer = PeerLine(&core.peer);
         let acked = AckedLine(core);
+        let own = OwnLine {
+            own: core.own,
+            due: is_due(core, self.table),
+        };
         let block = BlockLine(self.block);
         let table = TableLine {
             count: self.table.len(),
@@ -79,6 +84,9 @@ impl<A: Allocator> Text for Shown<'_, A> {
         };
         let entries = EntriesText(self.table);
         let streams = StreamsText(self.streams);
-        texts!(phase, window, peer, acked, block, table, entries, streams).write_to(output)
+        texts!(
+            phase, window, peer, acked, own, block, table, entries, streams
+        )
+        .write_to(output)
     }
 }

@@ -2,14 +2,14 @@
 //! Rests on h2_table, h2_streams and, for the fields of the header table, on h2_fields; definition: h2_spec's
 //! `specs/View.antt`.
 
-ghost use Rattle.std.specs.Prelude.{◌≡◌, ◌<◌, ◌^◌, IfOk, length, map, option_map, slice_get};
+ghost use Rattle.std.specs.Prelude.{◌≡◌, ◌<◌, ◌^◌, IfOk, length, map, nat_lt, option_map, slice_get};
 ghost use Rattle.h2_spec.specs.Field.{field};
 ghost use Rattle.h2_table.specs.Lent.{lent_field};
 ghost use Rattle.h2_spec.specs.View.{shown_stream};
 
 use h2_fields::field::Field;
 use h2_spec::connection::{BlockView, ConnectionState, Phase};
-use h2_spec::flow::{Credit, Settings, Window};
+use h2_spec::flow::{Credit, LocalSettings, Settings, Window};
 use h2_spec::streams::{Stream, StreamView};
 use h2_streams::Streams;
 use h2_table::DynTable;
@@ -32,6 +32,10 @@ pub struct View<A: Allocator> {
     pub peer: Settings,
     /// Whether the peer has acknowledged the server's settings.
     pub acked: bool,
+    /// The server's settings that are in force (RFC 9113, 6.5.3).
+    pub own: LocalSettings,
+    /// Whether the next field block has to begin with a size update (RFC 7541, 4.2).
+    pub due: bool,
     /// The last stream and the code of the latest GOAWAY received.
     pub goaway: Option<(u32, u32)>,
     /// The open field block.
@@ -59,6 +63,8 @@ impl<A: Allocator> Model for View<A> {
       send = v.send;
       peer = v.peer;
       acked = v.acked;
+      own = v.own;
+      due = v.due;
       goaway = v.goaway;
       block = v.block;
       table = v.table.items;
@@ -138,6 +144,14 @@ fn streams_of<A: Allocator + Copy>(
     Ok(views)
 }
 
+/// Whether the next field block has to begin with a size update: the limit that is in force is below the table's
+/// maximum (RFC 7541, 4.2).
+pub(crate) fn is_due<A: Allocator>(core: &ConnectionState, table: &DynTable<A>) -> bool
+    ensures { result ≡ nat_lt core.now.own.table table.now.table.max }
+{
+    core.own.table < table.max()
+}
+
 /// What is shown of a connection's state, as it stands there: the parts that a view is made of.
 #[derive(Drop)]
 pub struct Shown<'s, A: Allocator> {
@@ -182,6 +196,8 @@ impl<A: Allocator + Copy> Shown<'_, A> {
             send: self.core.send,
             peer: self.core.peer,
             acked: self.core.acked,
+            own: self.core.own,
+            due: is_due(&self.core, self.table),
             goaway: self.core.goaway,
             block: self.block,
             table,

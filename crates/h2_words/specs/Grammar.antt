@@ -20,6 +20,16 @@ streams_rule = record (new_rule (codes "streams")) { long = Some (codes "streams
 abbrev pub credit_rule : Rule
 credit_rule = record (new_rule (codes "credit")) { long = Some (codes "credit"); action = Some Set; parser = Some (parser.Unsigned 0 4294967295) }
 
+-- the server's own settings, any numbers of 32 bits
+abbrev pub table_rule : Rule
+table_rule = record (new_rule (codes "table")) { long = Some (codes "table"); action = Some Set; parser = Some (parser.Unsigned 0 4294967295) }
+
+abbrev pub window_rule : Rule
+window_rule = record (new_rule (codes "window")) { long = Some (codes "window"); action = Some Set; parser = Some (parser.Unsigned 0 4294967295) }
+
+abbrev pub frame_rule : Rule
+frame_rule = record (new_rule (codes "frame")) { long = Some (codes "frame"); action = Some Set; parser = Some (parser.Unsigned 0 4294967295) }
+
 -- how many octets a piece of `play` has, 0 to 65536; 0 for one piece
 abbrev pub cut_rule : Rule
 cut_rule = record (new_rule (codes "cut")) { long = Some (codes "cut"); action = Some Set; parser = Some (parser.Unsigned 0 65536) }
@@ -44,9 +54,13 @@ why_rule = record (new_rule (codes "why")) { long = Some (codes "why"); action =
 abbrev pub with_book : App → App
 with_book app = with_rule (with_rule app book_rule) why_rule
 
--- a command with the limits of a connection
+-- a command with the server's own settings
+abbrev pub with_settings : App → App
+with_settings app = with_rule (with_rule (with_rule app table_rule) window_rule) frame_rule
+
+-- a command with the limits and the settings of a connection
 abbrev pub with_limits : App → App
-with_limits app = with_rule (with_rule app streams_rule) credit_rule
+with_limits app = with_settings (with_rule (with_rule app streams_rule) credit_rule)
 
 abbrev pub play_app : App
 play_app = with_rule (with_book (with_rule (with_rule (with_limits (new_app (codes "play"))) cut_rule) each_rule)) answer_rule
@@ -129,9 +143,15 @@ text_at id rows = unwrap_or (first_of id rows) []
 abbrev pub texts_at : Text → List Row → List Text
 texts_at id rows = unwrap_or (all_of id rows) []
 
--- the limits, 100 streams and 32768 octets where none are given
+-- the limits, 100 streams and 32768 octets where none are given, and the settings, the first ones where none are given
 abbrev pub config_at : List Row → Config
-config_at rows = record { streams = number_at (codes "streams") 100 rows; credit = number_at (codes "credit") 32768 rows }
+config_at rows = record {
+  streams = number_at (codes "streams") 100 rows;
+  credit = number_at (codes "credit") 32768 rows;
+  table = number_at (codes "table") 4096 rows;
+  window = number_at (codes "window") 65535 rows;
+  frame = number_at (codes "frame") 16384 rows;
+}
 
 abbrev pub book_at : List Row → BookAsked
 book_at rows = record { file = text_at (codes "book") rows; why = is_set (codes "why") rows; answers = texts_at (codes "ANSWER") rows }

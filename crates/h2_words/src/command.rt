@@ -4,7 +4,7 @@
 ghost use Rattle.std.specs.Prelude.{◌≡◌, IfOk, IfErr, Some, None, codes, map, option_map};
 ghost use Rattle.clap.specs.Words.{App, Rule, found_of, kind_of, new_app, rows_of, subcommand_rows_of, with_rule, with_subcommand};
 ghost use Rattle.clap.specs.declared.error.ErrorKind.TheVariants.{OutOfMemory};
-ghost use Rattle.h2_words.specs.Grammar.{answer_rule, asked_at, asked_by, asked_of, asm_app, bench_app, book_at, book_rule, config_at, count_rule, credit_rule, cut_rule, debug_app, dis_app, each_rule, is_set, limit_rule, number_at, play_app, port_rule, serve_app, streams_rule, table_app, text_at, texts_at, top_app, why_rule, with_book, with_limits};
+ghost use Rattle.h2_words.specs.Grammar.{answer_rule, asked_at, asked_by, asked_of, asm_app, bench_app, book_at, book_rule, config_at, count_rule, credit_rule, cut_rule, debug_app, dis_app, each_rule, frame_rule, is_set, limit_rule, number_at, play_app, port_rule, serve_app, streams_rule, table_app, table_rule, text_at, texts_at, top_app, why_rule, window_rule, with_book, with_limits, with_settings};
 ghost use Rattle.h2_words.specs.Built.{IsArg, IsCommand, number_rule, option_rule};
 ghost use Rattle.h2_words.specs.Plans.{book_asked, planned, Refuses};
 
@@ -125,6 +125,39 @@ fn credit_option<'a>(alloc: Global) -> Arg<'a>
     )
 }
 
+fn table_option<'a>(alloc: Global) -> Arg<'a>
+    ensures { IsArg table_rule result }
+{
+    number_option(
+        alloc,
+        "table",
+        4294967295,
+        "SETTINGS_HEADER_TABLE_SIZE of the server, 0 to 65536; 4096 where none is given",
+    )
+}
+
+fn window_option<'a>(alloc: Global) -> Arg<'a>
+    ensures { IsArg window_rule result }
+{
+    number_option(
+        alloc,
+        "window",
+        4294967295,
+        "SETTINGS_INITIAL_WINDOW_SIZE of the server, 0 to 2147483647; 65535 where none is given",
+    )
+}
+
+fn frame_option<'a>(alloc: Global) -> Arg<'a>
+    ensures { IsArg frame_rule result }
+{
+    number_option(
+        alloc,
+        "frame",
+        4294967295,
+        "SETTINGS_MAX_FRAME_SIZE of the server, 16384 to 65536; 16384 where none is given",
+    )
+}
+
 fn cut_option<'a>(alloc: Global) -> Arg<'a>
     ensures { IsArg cut_rule result }
 {
@@ -209,7 +242,19 @@ fn with_arg<'a>(
     }
 }
 
-/// The command with the limits of a connection.
+/// The command with the settings that the server sends.
+fn with_settings<'a>(
+    alloc: Global,
+    command: Result<Command<'a>, AllocError>,
+) -> Result<Command<'a>, AllocError>
+    ensures { (app : App) → IfOk command.entry (IsCommand app) → IfOk result (IsCommand (with_settings app)) }
+{
+    let command = with_arg(command, table_option(alloc));
+    let command = with_arg(command, window_option(alloc));
+    with_arg(command, frame_option(alloc))
+}
+
+/// The command with the limits and the settings of a connection.
 fn with_limits<'a>(
     alloc: Global,
     command: Result<Command<'a>, AllocError>,
@@ -217,7 +262,8 @@ fn with_limits<'a>(
     ensures { (app : App) → IfOk command.entry (IsCommand app) → IfOk result (IsCommand (with_limits app)) }
 {
     let command = with_arg(command, streams_option(alloc));
-    with_arg(command, credit_option(alloc))
+    let command = with_arg(command, credit_option(alloc));
+    with_settings(alloc, command)
 }
 
 /// The command with the file of a book, and whether reasons are written.
@@ -362,13 +408,16 @@ fn texts_at<'a>(
     }
 }
 
-/// The limits of a connection.
+/// The limits and the settings of a connection.
 fn config_at(matches: &ArgMatches<'_>) -> Config
     ensures { result ≡ config_at (rows_of (found_of matches.now)) }
 {
     Config {
         streams: number_at(matches, "streams", 100),
         credit: number_at(matches, "credit", 32768),
+        table: number_at(matches, "table", 4096),
+        window: number_at(matches, "window", 65535),
+        frame: number_at(matches, "frame", 16384),
     }
 }
 

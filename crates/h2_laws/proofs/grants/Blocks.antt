@@ -1,5 +1,5 @@
 -- Field blocks keep the tests: the request that a block ends is the one whose body the tally takes as promised.
-use Rattle.std.proofs.Common.{◌≡◌, ℕ, ◌+◌, ◌<◌, ◌≤◌, Bool, true, false, cond, List, [], ◌∷◌, length, refl, sym, ap, subst, arith, eqb, Option, Some, None}
+use Rattle.std.proofs.Common.{◌≡◌, ℕ, ◌+◌, ◌<◌, ◌≤◌, Bool, true, false, cond, ◌&&◌, not, List, [], ◌∷◌, length, refl, sym, ap, subst, arith, eqb, Option, Some, None}
 use Rattle.std.proofs.lemmas.Bool.{eqb-true, false≢true}
 use Rattle.std.specs.Option.{is_some}
 use Rattle.std.specs.Prelude.{nat_lt}
@@ -184,7 +184,7 @@ fragment-kept id s t p b d octets ends pos_id x of = over _ (cases ends)
 
     last : (o : Outcome) → Kept s.book id (with_mark_on id b.stream t (with_fields s.book t.mark (Some r.progress.fields))) p (fragment_decoded s c d.purpose true (record r { outcome = o }))
     last (Faulty fault) = tt
-    last (Unfinished rest) = either _ (eqb (length rest) 0) _ (Breaks _) (block-kept id (record s { table = r.progress.table; block = None }) t p b.stream b.ends r.progress.fields d.purpose pos_id (with_table r.progress.table None tt) refl of) tt
+    last (Unfinished rest) = either _ (eqb (length rest) 0 && not r.progress.due) _ (Breaks _) (block-kept id (record s { table = r.progress.table; block = None }) t p b.stream b.ends r.progress.fields d.purpose pos_id (with_table r.progress.table None tt) refl of) tt
 
     cases : (e : Bool) → Kept s.book id (with_mark_on id b.stream t (with_fields s.book t.mark (fields_at_end s (Some d) octets e))) p (fragment_decoded s c d.purpose e r)
     cases false = subst (λ u. Kept s.book id u p (fragment_decoded s c d.purpose false r)) (sym (mark-same id b.stream t _ (λ e. ap (λ o. record t.mark { promised = o }) (no_fields s.book t.mark.promised)))) (more r.outcome)

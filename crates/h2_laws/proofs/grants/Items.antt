@@ -34,7 +34,7 @@ use Rattle.h2_laws.proofs.grants.Agreement.{FitsAs, IsRecorded, IsBlock, IsDecod
 use Rattle.h2_laws.proofs.grants.Turns.{granted_more, Uncut-live}
 use Rattle.h2_laws.proofs.grants.Records.{at-found, at-idle, found-fits}
 use Rattle.h2_laws.proofs.grants.Rules.{Kept, either-kept, stays, IsLive, live-reset, data-kept, reset-kept, window-kept, connection-kept}
-use Rattle.h2_laws.proofs.grants.SettingsRule.{settings-kept}
+use Rattle.h2_laws.proofs.grants.SettingsRule.{settings-kept, acknowledged-kept}
 use Rattle.h2_laws.proofs.grants.Blocks.{fragment-kept}
 
 module _ (id : ℕ) (s : State) (t : Tally) (h : Head) (p : List ℕ) (pos_id : 1 ≤ id) (x : Agreement s.book id s t) (none : s.block ≡ None) where
@@ -44,14 +44,14 @@ module _ (id : ℕ) (s : State) (t : Tally) (h : Head) (p : List ℕ) (pos_id : 
   -- ---- HEADERS
 
   abbrev headers : HeadersPart → Tally
-  headers part = with_fragment s.book id s t h (Some (fresh_decoding Request)) part.fragment
+  headers part = with_fragment s.book id s t h (Some (fresh_decoding s Request)) part.fragment
 
   opens : (part : HeadersPart) (purpose : Purpose) → IsBlock id s.core.last s.streams h.stream purpose t.mark → Kept s.book id (headers part) p (block_opens s purpose h part)
   opens part purpose of =
       subst (λ fs. Kept s.book id (with_mark_on id h.stream t (with_fields s.book t.mark fs)) p (block_opens s purpose h part)) (same (has h.flags END_HEADERS))
-      (fragment-kept id s t p (fresh_block h) (fresh_decoding purpose) part.fragment (has h.flags END_HEADERS) pos_id x of)
+      (fragment-kept id s t p (fresh_block h) (fresh_decoding s purpose) part.fragment (has h.flags END_HEADERS) pos_id x of)
     where
-      same : (ends : Bool) → fields_at_end s (Some (fresh_decoding purpose)) part.fragment ends ≡ fields_at_end s (Some (fresh_decoding Request)) part.fragment ends
+      same : (ends : Bool) → fields_at_end s (Some (fresh_decoding s purpose)) part.fragment ends ≡ fields_at_end s (Some (fresh_decoding s Request)) part.fragment ends
       same true = refl
       same false = refl
 
@@ -96,7 +96,7 @@ module _ (id : ℕ) (s : State) (t : Tally) (h : Head) (p : List ℕ) (pos_id : 
   part-kept OfPriority = stays s.book id t p s s.core NoConnectionFrame pos_id x
   part-kept (OfRstStream code) = reset-kept id s t p h.stream pos_id x none
   part-kept (OfSettings pairs) = settings-kept id s t p pairs pos_id x none
-  part-kept OfSettingsAck = stays s.book id t p s (record s.core { acked = true }) NoConnectionFrame pos_id x
+  part-kept OfSettingsAck = acknowledged-kept id s t p pos_id x none
   part-kept OfPushPromise = tt
   part-kept (OfPing octets) =
       either-kept s.book id t p s (has h.flags ACK) (nothing s.core) (Continues (record (only_counts s.core) { first = PingAck }))

@@ -5,23 +5,26 @@ use Rattle.std.proofs.lemmas.Int.{ints}
 use Rattle.std.specs.Prelude.{◌&&◌, ℤ, ◌+ℤ◌}
 use Rattle.h2_spec.specs.declared.errors.ErrorCode.{ErrorCode}
 use Rattle.h2_spec.specs.declared.errors.ErrorCode.TheVariants.{ProtocolError, FlowControlError}
+use Rattle.h2_spec.specs.declared.flow.LocalSettings.{LocalSettings}
 use Rattle.h2_spec.specs.declared.flow.Settings.{Settings}
+use Rattle.h2_spec.specs.declared.reactions.ConnectionFrame.TheVariants.{NoConnectionFrame}
+use Rattle.h2_spec.specs.declared.reactions.Reaction.TheVariants.{Continues}
 use Rattle.h2_spec.specs.declared.streams.Kind.{Kind}
 use Rattle.h2_spec.specs.declared.streams.Kind.TheVariants.{Idle, Skipped, BothOpen, HalfRemote, HalfLocal, Ended, PeerReset, WeReset}
 use Rattle.h2_spec.specs.declared.streams.Stream.{Stream}
 use Rattle.h2_spec.specs.Settings.{with_setting}
-use Rattle.h2_spec.specs.SettingsFrame.{setting_next, settings_applied, settings_taken, settings_rule}
+use Rattle.h2_spec.specs.SettingsFrame.{acknowledged, comes_into_force, setting_next, settings_applied, settings_taken, settings_rule}
 use Rattle.h2_spec.specs.Answer.{Entry, picked}
-use Rattle.h2_spec.specs.Stream.{octets_waiting}
-use Rattle.h2_spec.specs.State.{State}
-use Rattle.h2_spec.specs.Change.{frames_of, follows_initial_window, shifted, shifted_one, overflows, moved_by}
+use Rattle.h2_spec.specs.Stream.{is_live, octets_waiting}
+use Rattle.h2_spec.specs.State.{State, configured}
+use Rattle.h2_spec.specs.Change.{frames_of, only_counts, follows_initial_window, received, received_one, with_recv, shifted, shifted_one, overflows, moved_by}
 use Rattle.h2_spec.specs.Headers.{makes}
 use Rattle.h2_laws.specs.Grants.{Mark, Tally, with_settings}
 use Rattle.h2_laws.specs.Grants as tally
 use Rattle.h2_laws.specs.Order.{Rise}
 use Rattle.h2_laws.proofs.grants.Agreement.{Sends, Fits, Absent, Either, Stands, HasBody, Bodies, BlockStands, Agreement}
 use Rattle.h2_laws.proofs.grants.Turns.{other-leads}
-use Rattle.h2_laws.proofs.grants.Rules.{Kept, not_zero}
+use Rattle.h2_laws.proofs.grants.Rules.{Kept, either-kept, not_zero, stays}
 
 -- ---- the settings
 
@@ -154,7 +157,80 @@ shifted-stands book window new id (x ∷ sts) m f = rw (shifted-id (moved_by win
     at more true f = (shifted-fits book window new x m f.0, shifted-absent id (moved_by window new) sts f.1)
     at more false f = more f
 
--- ---- the rule
+-- ---- the records after a change of the server's own initial window
+
+received-id : (d : ℤ) (st : Stream) → (received_one d st).id ≡ st.id
+received-id d st = at (is_live st.kind)
+  where
+    at : (b : Bool) → (cond b (with_recv st (st.numbers.recv +ℤ d)) st).id ≡ st.id
+    at true = refl
+    at false = refl
+
+received-absent : (id : ℕ) (d : ℤ) (sts : List Stream) → Absent id sts → Absent id (received d sts)
+unfolding received
+received-absent id d [] a = tt
+received-absent id d (x ∷ sts) a = (rw (received-id d x) a.0, received-absent id d sts a.1)
+
+received-rise : (low high : ℕ) (d : ℤ) (sts : List Stream) → Rise low high sts → Rise low high (received d sts)
+unfolding received
+received-rise low high d [] r = r
+received-rise low high d (x ∷ sts) r = rw (received-id d x) (r.0, received-rise x.id high d sts r.1)
+
+received-bodies : (book : List Entry) (d : ℤ) (sts : List Stream) → Bodies book sts → Bodies book (received d sts)
+unfolding received octets_waiting
+received-bodies book d [] b = tt
+received-bodies book d (x ∷ sts) b = (at (is_live x.kind), received-bodies book d sts b.1)
+  where
+    at : (c : Bool) → HasBody book (cond c (with_recv x (x.numbers.recv +ℤ d)) x)
+    at true = b.0
+    at false = b.0
+
+received-stands : (book : List Entry) (window id : ℕ) (d : ℤ) (sts : List Stream) (m : Mark) → Stands book window id sts m → Stands book window id (received d sts) m
+unfolding received
+received-stands book window id d [] m f = f
+received-stands book window id d (x ∷ sts) m f = rw (received-id d x) (at (λ g. received-stands book window id d sts m g) (eqb x.id id) (is_live x.kind) f)
+  where
+    rest : List Stream
+    rest = received d sts
+
+    at : (Stands book window id sts m → Stands book window id rest m) → (c l : Bool) → Either c (Fits book window x m × Absent id sts) (Stands book window id sts m) →
+        Either c (Fits book window (cond l (with_recv x (x.numbers.recv +ℤ d)) x) m × Absent id rest) (Stands book window id rest m)
+    at more true true f = (f.0, received-absent id d sts f.1)
+    at more true false f = (f.0, received-absent id d sts f.1)
+    at more false l f = more f
+
+-- ---- the rules
+
+-- the server's own settings come into force: no window of the peer's changes
+pub acknowledged-kept : (id : ℕ) (s : State) (t : Tally) (p : List ℕ) → 1 ≤ id → Agreement s.book id s t → s.block ≡ None → Kept s.book id t p (makes s (acknowledged s.config s.core))
+unfolding frames_of
+acknowledged-kept id s t p pos_id x none =
+    either-kept s.book id t p s s.core.acked (Continues (only_counts s.core)) (Continues (comes_into_force s.core own)) (stays s.book id t p s s.core NoConnectionFrame pos_id x)
+    (record {
+      tally = t;
+      leads = other-leads id 0 t _ (not_zero id pos_id) tt;
+      quiet = refl;
+      agrees = record {
+        running = x.running;
+        same_book = x.same_book;
+        same_window = x.same_window;
+        same_frame = x.same_frame;
+        some_frame = x.some_frame;
+        send_is = x.send_is;
+        within = x.within;
+        stands = received-stands s.book t.window id d s.streams t.mark x.stands;
+        bodies = received-bodies s.book d s.streams x.bodies;
+        ordered = received-rise 0 s.core.last d s.streams x.ordered;
+        idle = λ i. let j = x.idle i in (j.0, received-absent id d s.streams j.1);
+        of_block = subst (λ o. BlockStands id s.core.last (received d s.streams) o t.mark) (sym none) tt;
+      };
+    })
+  where
+    own : LocalSettings
+    own = configured s.config
+
+    d : ℤ
+    d = moved_by s.core.own.window own.window
 
 pub settings-kept : (id : ℕ) (s : State) (t : Tally) (p : List ℕ) (pairs : List (ℕ × ℕ)) → 1 ≤ id → Agreement s.book id s t → s.block ≡ None → Kept s.book id (with_settings t pairs) p (makes s (settings_rule s.streams s.core pairs))
 unfolding settings_rule frames_of

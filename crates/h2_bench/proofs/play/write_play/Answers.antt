@@ -1,7 +1,7 @@
 use Rattle.std.proofs.Common.{◌≡◌, ◌∙◌, ℕ, List, [], Bool, false, Option, Some, None, ap, inl, inr, refl, sym}
 use Rattle.h2_spec.specs.Answer.{Entry}
 use Rattle.h2_spec.specs.declared.connection.Config.{Config}
-use Rattle.h2_conn.specs.Connection.{is_allowed}
+use Rattle.h2_spec.specs.State.{is_allowed}
 use Rattle.h2_bench.specs.Input.{octets_spelled}
 use Rattle.h2_bench.specs.Limits.{limits_fault}
 use Rattle.h2_bench.specs.Printing.{failed_after}
@@ -26,10 +26,10 @@ limits-told : (each : Bool) (book : List Entry) (config : Config) (spelled : Opt
 limits-told each book config None bad = refl
 limits-told each book config (Some octets) bad = rw bad refl
 
-pub returns-then-not-are_limits-clause-printed : goal.returns-then-not-are_limits-clause-printed
-returns-then-not-are_limits-clause-printed g c = λ well held is. (
+pub returns-then-not-is_allowed-clause-printed : goal.returns-then-not-is_allowed-clause-printed
+returns-then-not-is_allowed-clause-printed g c = λ well held is. (
   [],
   unchanged held _ is,
   inl (ap (failed_after []) (rw c.as_slice.ensures.value at c.refused_limits.ensures)
-      ∙ limits-told c.args.play.now.each c.args.book.now c.args.play.now.config (octets_spelled c.args.input.items) (sym c.are_limits.ensures ∙ c.if-not-are_limits.true)),
+      ∙ limits-told c.args.play.now.each c.args.book.now c.args.play.now.config (octets_spelled c.args.input.items) (sym c.is_allowed.ensures ∙ c.if-not-is_allowed.true)),
 )

@@ -1,9 +1,8 @@
-use Rattle.std.proofs.Common.{◌≡◌, ◌-◌, ◌≤◌, ◌++◌, ◌∙◌, ap, sym, subst, arith, ℕ}
+use Rattle.std.proofs.Common.{◌++◌, ◌∙◌, ap}
 use Rattle.std.proofs.lemmas.Result.{on_ok_weaker}
 use Rattle.h2_spec.specs.Change.{frames_of, updated_streams}
 use Rattle.h2_spec.specs.Frame.{frames_octets}
-use Rattle.h2_spec.specs.SendPending.{sent_frames, window_left}
-use Rattle.h2_spec.specs.Stream.{Records}
+use Rattle.h2_spec.specs.SendPending.{sent_frames}
 use Rattle.h2_conn.specs.Sending.{sent_records, waiting_frames}
 use Rattle.h2_rules.specs.Sound.{updated_records}
 use Rattle.h2_conn.proofs.ApplyChangeLaws.{in-outcome}

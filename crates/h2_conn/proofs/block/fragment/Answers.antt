@@ -17,10 +17,9 @@ returns-in-Ok-clause-effect g c = λ b.
     let now = decoded_is.result.0.after in
     let after = edited before.entries decoded_is.result.1 in
     let s = state_of a.book.now a.config a.core b before streams in
-    let due : nat_lt a.core.own.table before.max ≡ false = let is = c.max-max.ensures.is in let within = c.max-max.ensures.within in let limit = c.requires.limit in grind (arith, nat_tests, is, within, limit) in
     let few : nat_lt 65536 (a.shown.octets + length a.octets.now) ≡ false = let most = c.if-count-gt-MAX_BLOCK.false in grind (arith, nat_tests, most) in
     let done = subst (λ r. OnOk r (decoded a.table.now.limit (before_fragment before a.decoding) (a.decoding.rest ++ a.octets.now) ≡ after_fragment after now)) c.in-Ok.is decoded_is.ensures.decoded in
     let is = subst (λ (l : ℕ). decoded l (before_fragment before a.decoding) (a.decoding.rest ++ a.octets.now) ≡ after_fragment after now) c.requires.limit done in
     let size : c.list_size.result ≡ list_size now.fields = c.list_size.ensures ∙ ap list_size c.collected.ensures in
     c.read-effect.ensures.effect b after
-    ∙ sym (fragment-read s a.shown a.decoding now a.octets.now a.end_headers after c.list_size.result few due decoded_is.ensures.purpose size is)
+    ∙ sym (fragment-read s a.shown a.decoding now a.octets.now a.end_headers after c.list_size.result few decoded_is.ensures.purpose size is)

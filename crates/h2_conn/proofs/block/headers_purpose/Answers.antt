@@ -3,9 +3,9 @@ use Rattle.h2_rules.proofs.SoundLaws.{idle-above}
 use Rattle.h2_conn.proofs.block.headers_purpose.Goals as goal
 
 pub returns-in-Idle-clause-known : goal.returns-in-Idle-clause-known
-returns-in-Idle-clause-known c = λ book window r all is.
+returns-in-Idle-clause-known c = λ book f r all is.
     let odd = c.if-id-eq1.true in
-    (idle-above book window r.last c.args.id r.streams all (sym is ∙ c.in-Idle.is) odd, odd)
+    (idle-above book f r.last c.args.id r.streams all (sym is ∙ c.in-Idle.is) odd, odd)
 
 pub returns-in-Ended-clause-rule : goal.returns-in-Ended-clause-rule
 returns-in-Ended-clause-rule c = search rules

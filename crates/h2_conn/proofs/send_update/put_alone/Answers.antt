@@ -1,4 +1,4 @@
-use Rattle.std.proofs.Common.{◌≡◌, ◌≤◌, ◌++◌, ◌∙◌, ℕ, ap, sym, subst, arith}
+use Rattle.std.proofs.Common.{◌≤◌, ◌++◌, ◌∙◌, ℕ, ap, sym, subst, arith}
 use Rattle.h2_spec.specs.declared.streams.Stream.{Stream}
 use Rattle.h2_spec.specs.Frame.{frames_octets}
 use Rattle.h2_spec.specs.Stream.{octets_waiting, with_record}

@@ -1,4 +1,3 @@
-use Rattle.h2_spec.specs.Answer.{Entry}
 use Rattle.h2_rules.specs.Sound.{HasBody}
 use Rattle.h2_conn.proofs.AloneLaws.{all-put}
 use Rattle.h2_conn.proofs.send_update.put_and_send.Goals as goal

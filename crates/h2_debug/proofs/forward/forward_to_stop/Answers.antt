@@ -1,26 +1,26 @@
-use Rattle.std.proofs.Common.{◌∙◌, sym}
+use Rattle.std.proofs.Common.{◌∙◌, sym, ap, arith}
 use Rattle.std.specs.Prelude.{map}
 use Rattle.h2_debug.specs.Breakpoints.{break_of}
-use Rattle.h2_debug.specs.Places.{events}
+use Rattle.h2_debug.specs.Places.{Placed, events}
 use Rattle.h2_debug.proofs.BreakLaws.{stop-end, stop-here, stop-later}
 use Rattle.h2_debug.proofs.forward.forward_to_stop.Goals as goal
 
 pub returns-then-not-branch-clause-position : goal.returns-then-not-branch-clause-position
 returns-then-not-branch-clause-position g c =
     let r = c.args.source.now in
-    let ends = rw c.if-not-branch.true at c.in_ok-advance_and_keep.ensures.advances in
-    ends.same ∙ sym (c.loop-place.invariant.same ∙ stop-end (map break_of c.args.breaks.now) (events r) c.loop-place.place.position (sym ends.same ∙ ends.last))
+    let ends = rw c.if-not-branch.true at c.in_ok-keep_and_advance.ensures.advances in
+    ap (λ (p : Placed). p.position) ends.same ∙ sym (c.loop-place.invariant.same ∙ stop-end (map break_of c.args.breaks.now) (events r) c.loop-place.place.position ends.last)
 
 pub returns-then-any_match-clause-position : goal.returns-then-any_match-clause-position
 returns-then-any_match-clause-position g c =
-    let took = rw c.if-not-branch.false at c.in_ok-advance_and_keep.ensures.advances in
+    let took = rw c.if-not-branch.false at c.in_ok-keep_and_advance.ensures.advances in
     let says = rw (c.position.ensures, c.octets_from.ensures.octets, c.used-used.ensures, c.sent.ensures) at c.any_match.ensures in
-    let here = stop-here c.args.source.now c.loop-place.place c.advance_and_keep.new.place (map break_of c.args.breaks.now) c.any_match.result took says c.if-any_match.true in
+    let here = stop-here c.args.source.now c.loop-place.place c.keep_and_advance.new.place (map break_of c.args.breaks.now) c.any_match.result took says c.if-any_match.true in
     sym (c.loop-place.invariant.same ∙ here)
 
 pub loop-place-preserved : goal.loop-place-preserved
 loop-place-preserved g c =
-    let took = rw c.if-not-branch.false at c.in_ok-advance_and_keep.ensures.advances in
+    let took = rw c.if-not-branch.false at c.in_ok-keep_and_advance.ensures.advances in
     let says = rw (c.position.ensures, c.octets_from.ensures.octets, c.used-used.ensures, c.sent.ensures) at c.any_match.ensures in
-    let later = stop-later c.args.source.now c.loop-place.place c.advance_and_keep.new.place (map break_of c.args.breaks.now) c.any_match.result took says c.if-any_match.false in
-    record { reached = c.in_ok-advance_and_keep.ensures.reached; same = c.loop-place.invariant.same ∙ later }
+    let later = stop-later c.args.source.now c.loop-place.place c.keep_and_advance.new.place (map break_of c.args.breaks.now) c.any_match.result took says c.if-any_match.false in
+    record { reached = c.in_ok-keep_and_advance.ensures.reached; more = omega (arith, c.loop-place.invariant.more, c.in_ok-keep_and_advance.ensures.more); same = c.loop-place.invariant.same ∙ later }

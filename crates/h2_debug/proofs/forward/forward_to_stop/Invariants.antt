@@ -1,4 +1,4 @@
-use Rattle.std.proofs.Common.{◌≡◌, ◌-◌}
+use Rattle.std.proofs.Common.{◌≡◌, ◌≤◌, ◌-◌, length}
 use Rattle.std.specs.Prelude.{map}
 use Rattle.h2_spec.specs.Debug.{stop}
 use Rattle.h2_debug.specs.Breakpoints.{break_of}
@@ -7,7 +7,8 @@ use Rattle.h2_debug.proofs.forward.forward_to_stop.Given as goal
 
 abbrev pub invariant-loop-place : goal.invariant-loop-place
 invariant-loop-place g l = record {
-  reached : IsReached l.source l.count l.place l.fresh.items;
+  reached : IsReached l.source l.place l.kept.items;
+  more : length l.fn.kept.items ≤ length l.kept.items;
   same : stop (map break_of l.breaks) (events l.source) l.fn.place.position ≡ stop (map break_of l.breaks) (events l.source) l.place.position;
 }
 

@@ -1,9 +1,7 @@
-use Rattle.std.proofs.Common.{arith, ◌≡◌, ◌+◌, ◌≤◌, ◌++◌, ◌∷◌, [], ℕ, List, length, take, drop, map, ◌∙◌, sym, ap, subst, refl, length-drop, length-take-le}
-use Rattle.std.proofs.lemmas.List.{take_all, take-take}
+use Rattle.std.proofs.Common.{arith, ◌++◌, ◌∷◌, [], ℕ, List, take, drop, map, ◌∙◌, sym, ap, subst, refl}
 use Rattle.h2_spec.specs.Field.{Field, field}
 use Rattle.h2_list.specs.Listed.{Listed}
 use Rattle.h2_list.specs.Spans.{AreSpans, IsPart, field_in}
-use Rattle.h2_list.specs.declared.Part.{Part}
 use Rattle.h2_list.specs.declared.Span.{Span}
 use Rattle.h2_list.proofs.Closing.{Begins, adds, begins, begins-more, part-stays, spans-push, span-ordered}
 use Rattle.h2_list.proofs.FieldList.append_like.Goals as goal

@@ -1,11 +1,10 @@
-use Rattle.std.proofs.Common.{arith, ◌≡◌, ◌+◌, ◌≤◌, ◌++◌, ◌∷◌, [], ℕ, List, length, take, drop, map, ◌∙◌, sym, ap, subst, refl, length-drop, length-take-le}
-use Rattle.std.proofs.lemmas.List.{take_all, take-take}
+use Rattle.std.proofs.Common.{arith, ◌+◌, ◌≤◌, ◌++◌, ◌∷◌, [], ℕ, List, length, take, drop, map, ◌∙◌, sym, ap, subst, refl, length-drop}
 use Rattle.h2_spec.specs.Field.{Field, field}
 use Rattle.h2_list.specs.Listed.{Listed}
-use Rattle.h2_list.specs.Spans.{AreSpans, IsPart, field_in}
+use Rattle.h2_list.specs.Spans.{AreSpans, field_in}
 use Rattle.h2_list.specs.declared.Part.{Part}
 use Rattle.h2_list.specs.declared.Span.{Span}
-use Rattle.h2_list.proofs.Closing.{Begins, adds, front-part, last-part, part-stays, spans-push}
+use Rattle.h2_list.proofs.Closing.{adds, front-part, last-part, spans-push}
 use Rattle.h2_list.proofs.FieldList.close.Goals as goal
 
 listed : List Field → List ℕ → Listed

@@ -1,5 +1,5 @@
-use Rattle.std.proofs.Common.{arith, ◌≡◌, ◌≤◌, ◌<◌, [], ℕ, List, length, take, drop, map, ◌∙◌, sym, ap, subst, refl, length-take-le, length-drop}
-use Rattle.std.proofs.lemmas.List.{length-map, take_all, take-take}
+use Rattle.std.proofs.Common.{arith, ◌≤◌, [], ℕ, List, length, take, drop, map, ◌∙◌, sym, ap, subst, length-take-le}
+use Rattle.std.proofs.lemmas.List.{take_all}
 use Rattle.std.proofs.Math.ListN.{drop_of_length-le}
 use Rattle.h2_spec.specs.Field.{Field}
 use Rattle.h2_list.specs.Listed.{Listed}

@@ -1,39 +1,62 @@
-use Rattle.std.proofs.Common.{arith, ◌≡◌, ◌+◌, ◌*◌, ◌/◌, ◌++◌, length, take, get_or, length-append}
-use Rattle.h2_spec.specs.HuffmanCode.{bits_of}
+use Rattle.std.proofs.Common.{arith, refl, ◌≡◌, ◌+◌, ◌-◌, ◌*◌, ◌/◌, length, take, get_or, subst}
+use Rattle.std.proofs.lemmas.List.{take_all}
 use Rattle.h2_spec.specs.Huffman.{bits}
-use Rattle.h2_spec.proofs.BitLaws.{length-bits_of}
-use Rattle.h2_prim.proofs.Reading.{starts, octet_more, has_room, length-bits-take}
+use Rattle.h2_prim.specs.States.{Stands}
+use Rattle.h2_prim.proofs.Reading.{starts, octet_more, length-bits-take}
 use Rattle.h2_prim.proofs.huffman.decode.Goals as goal
 
-pub loop-octet-init : goal.loop-octet-init
-loop-octet-init c = record { read = starts; within = omega arith; small = omega arith }
+pub loop-pair-init : goal.loop-pair-init
+loop-pair-init c = record { read = starts; within = omega arith; row = (refl, omega arith) }
 
-pub step-half-requires-clause-room : goal.step-half-requires-clause-room
-step-half-requires-clause-room c =
-    let l = c.loop-octet in
+pub take_octet-first-requires-clause-room : goal.take_octet-first-requires-clause-room
+take_octet-first-requires-clause-room c =
+    let l = c.loop-pair in
     let os = c.args.octets.now in
-    let size : length (bits (take l.octet-index os)) ≡ 8 * l.octet-index = length-bits-take os l.octet-index (omega arith) in
-    has_room (bits (take l.octet-index os)) l.text (length os) l.len l.state l.invariant.read l.invariant.within (omega (arith, size)) (omega arith)
+    (bits (take (2 * l.pair) os), l.invariant.read, omega (arith, length-bits-take os (2 * l.pair) (omega arith)))
 
-pub step-whole-requires-clause-room : goal.step-whole-requires-clause-room
-step-whole-requires-clause-room c =
-    let l = c.loop-octet in
+pub take_octet-second-requires-clause-room : goal.take_octet-second-requires-clause-room
+take_octet-second-requires-clause-room c =
+    let l = c.loop-pair in
     let os = c.args.octets.now in
-    let half = c.step-half in
-    let nibble = bits_of 4 (get_or os l.octet-index 0 / 16) in
-    let so_far = bits (take l.octet-index os) in
-    let size : length so_far ≡ 8 * l.octet-index = length-bits-take os l.octet-index (omega arith) in
-    let more : length (so_far ++ nibble) ≡ length so_far + 4 = omega (arith, length-append so_far nibble, length-bits_of 4 (get_or os l.octet-index 0 / 16)) in
-    has_room (so_far ++ nibble) half.new.text (length os) half.result.0 half.result.1 (half.ensures.read so_far l.invariant.read) half.ensures.small.0 (omega (arith, size, more)) (omega arith)
+    let first = c.take_octet-first in
+    let read = octet_more os (take first.result.0 first.new.text) (2 * l.pair) (get_or os (2 * l.pair) 0) (first.result.1 / 16) (omega arith) refl (first.ensures.read (bits (take (2 * l.pair) os)) l.invariant.read) in
+    (bits (take (2 * l.pair + 1) os), read, omega (arith, length-bits-take os (2 * l.pair + 1) (omega arith)))
 
-pub loop-octet-preserved : goal.loop-octet-preserved
-loop-octet-preserved c =
-    let l = c.loop-octet in
+pub loop-pair-preserved : goal.loop-pair-preserved
+loop-pair-preserved c =
+    let l = c.loop-pair in
     let os = c.args.octets.now in
-    let half = bits_of 4 (get_or os l.octet-index 0 / 16) in
-    let read = c.step-whole.ensures.read (bits (take l.octet-index os) ++ half) (c.step-half.ensures.read (bits (take l.octet-index os)) l.invariant.read) in
-    record {
-      read = octet_more os (take c.step-whole.result.0 c.step-whole.new.text) l.octet-index c.step-whole.result.1 c.loop-octet-test.true read;
-      within = c.step-whole.ensures.small.0;
-      small = c.step-whole.ensures.small.1;
-    }
+    let first = c.take_octet-first in
+    let second = c.take_octet-second in
+    let i = 2 * l.pair in
+    let one = octet_more os (take first.result.0 first.new.text) i (get_or os i 0) (first.result.1 / 16) (omega arith) refl (first.ensures.read (bits (take i os)) l.invariant.read) in
+    let text = take second.result.0 second.new.text in
+    let two = octet_more os text (i + 1) (get_or os (i + 1) 0) (second.result.1 / 16) (omega arith) refl (second.ensures.read (bits (take (i + 1) os)) one) in
+    let next : i + 1 + 1 ≡ 2 * (l.pair + 1) = omega arith in
+    record { read = subst (λ n. Stands (bits (take n os)) text (second.result.1 / 16)) next two; within = second.ensures.within; row = second.ensures.row }
+
+pub take_octet-last-requires-clause-room : goal.take_octet-last-requires-clause-room
+take_octet-last-requires-clause-room c =
+    let l = c.loop-pair in
+    let os = c.args.octets.now in
+    (bits (take (2 * l.pair) os), l.invariant.read, omega (arith, length-bits-take os (2 * l.pair) (omega arith)))
+
+pub returns-then-octets-eq0-clause-read : goal.returns-then-octets-eq0-clause-read
+returns-then-octets-eq0-clause-read c =
+    let l = c.loop-pair in
+    let os = c.args.octets.now in
+    let all : take (2 * l.pair) os ≡ os = take_all (2 * l.pair) os (omega arith) in
+    subst (λ o. Stands (bits o) (take l.len l.text) (l.row / 16)) all l.invariant.read
+
+pub returns-clause-read : goal.returns-clause-read
+returns-clause-read c =
+    let l = c.loop-pair in
+    let os = c.args.octets.now in
+    let last = c.take_octet-last in
+    let text = take last.result.0 last.new.text in
+    let i = length os - 1 in
+    let before : 2 * l.pair ≡ i = omega arith in
+    let read = last.ensures.read (bits (take i os)) (subst (λ n. Stands (bits (take n os)) (take l.len l.text) (l.row / 16)) before l.invariant.read) in
+    let more = octet_more os text i (get_or os i 0) (last.result.1 / 16) (omega arith) refl read in
+    let all : take (i + 1) os ≡ os = take_all (i + 1) os (omega arith) in
+    subst (λ o. Stands (bits o) text (last.result.1 / 16)) all more

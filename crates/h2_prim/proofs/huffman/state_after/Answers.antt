@@ -1,12 +1,12 @@
-use Rattle.std.proofs.Common.{arith, ◌++◌, ◌/◌, ◌%◌, [], take, get_or}
+use Rattle.std.proofs.Common.{arith, refl, ◌++◌, ◌/◌, ◌%◌, [], take, get_or}
 use Rattle.h2_spec.specs.HuffmanCode.{bits_of}
 use Rattle.h2_spec.specs.Huffman.{bits}
 use Rattle.h2_prim.specs.States.{emitted}
-use Rattle.h2_prim.proofs.Reading.{starts, stepped, octet_more}
+use Rattle.h2_prim.proofs.Reading.{starts, stepped, halves, octet_more}
 use Rattle.h2_prim.proofs.huffman.state_after.Goals as goal
 
 pub loop-octet-init : goal.loop-octet-init
-loop-octet-init c = record { read = ([], starts); small = omega arith }
+loop-octet-init c = record { read = ([], starts); row = (refl, omega arith) }
 
 pub loop-octet-preserved : goal.loop-octet-preserved
 loop-octet-preserved c =
@@ -14,11 +14,11 @@ loop-octet-preserved c =
     let os = c.args.octets.now in
     let i = l.octet-index in
     let text = l.invariant.read.0 in
-    let half = c.move_at-state.result in
-    let whole = c.move_at-state-in-loop-octet.result in
-    let high = bits_of 4 (get_or os i 0 / 16) in
-    let low = bits_of 4 (get_or os i 0 % 16) in
-    let first = stepped (bits (take i os)) high text l.state half.1 half.0 l.invariant.read.1 c.move_at-state.ensures.leads in
-    let both = stepped (bits (take i os) ++ high) low (text ++ emitted half.1) half.0 whole.1 whole.0 first c.move_at-state-in-loop-octet.ensures.leads in
-    let text' = (text ++ emitted half.1) ++ emitted whole.1 in
-    record { read = (text', octet_more os text' i whole.0 c.loop-octet-test.true both); small = c.move_at-state-in-loop-octet.ensures.small.0 }
+    let half = c.move_at-row in
+    let whole = c.move_at-row-in-loop-octet in
+    let octet = get_or os i 0 in
+    let high = bits_of 4 (octet / 16) in
+    let first = stepped (bits (take i os)) high text (l.row / 16) half.result.1 (half.result.0 / 16) l.invariant.read.1 half.ensures.leads in
+    let both = stepped (bits (take i os) ++ high) (bits_of 4 (octet % 16)) (text ++ emitted half.result.1) (half.result.0 / 16) whole.result.1 (whole.result.0 / 16) first whole.ensures.leads in
+    let text' = (text ++ emitted half.result.1) ++ emitted whole.result.1 in
+    record { read = (text', octet_more os text' i octet (whole.result.0 / 16) c.loop-octet-test.true refl (halves (bits (take i os)) octet text' (whole.result.0 / 16) both)); row = whole.ensures.row }

@@ -1,13 +1,9 @@
+use Rattle.std.proofs.Common.{◌/◌}
 use Rattle.h2_spec.specs.HuffmanCode.{bits_of}
-use Rattle.h2_prim.proofs.Reading.{stepped_at, stepped_by}
+use Rattle.h2_prim.proofs.Reading.{stepped_at}
 use Rattle.h2_prim.proofs.huffman.step.Goals as goal
 
-pub returns-then-symbol-lt256-clause-read : goal.returns-then-symbol-lt256-clause-read
-returns-then-symbol-lt256-clause-read c = λ bs at.
+pub returns-clause-read : goal.returns-clause-read
+returns-clause-read c = λ bs at.
     let m = c.move_at-next in
-    stepped_at bs (bits_of 4 c.args.nibble) c.args.text.now c.args.len c.args.state m.result.1 m.result.0 c.requires.room c.if-symbol-lt256.true at m.ensures.leads
-
-pub returns-else-symbol-lt256-clause-read : goal.returns-else-symbol-lt256-clause-read
-returns-else-symbol-lt256-clause-read c = λ bs at.
-    let m = c.move_at-next in
-    stepped_by bs (bits_of 4 c.args.nibble) c.args.text.now c.args.len c.args.state m.result.1 m.result.0 c.if-symbol-lt256.false at m.ensures.leads
+    rw c.from.ensures (stepped_at bs (bits_of 4 c.args.nibble) c.args.text.now c.args.len (c.args.row / 16) m.result.1 (m.result.0 / 16) c.requires.room m.ensures.symbol at m.ensures.leads)

@@ -3,7 +3,7 @@ use Rattle.h2_spec.specs.declared.connection.Purpose.{Purpose}
 use Rattle.h2_spec.specs.declared.reactions.Change.{Change}
 use Rattle.h2_spec.specs.Headers as rule
 use Rattle.h2_rules.specs.Open.{state_of}
-use Rattle.h2_rules.specs.Sound.{IsSoundChange}
+use Rattle.h2_rules.specs.Sound.{IsSoundChange, in_force}
 use Rattle.h2_rules.proofs.block_end.block_ends.Goals as goal
 
 pub returns-in-Request-clause-rule : goal.returns-in-Request-clause-rule
@@ -36,5 +36,5 @@ returns-in-Closed-clause-sound g c = c.closed_end.ensures.sound
 pub returns-in-TableOnly-clause-sound : goal.returns-in-TableOnly-clause-sound
 returns-in-TableOnly-clause-sound g c =
     let a = c.args in
-    let P : Change → Type 0 = λ x. IsSoundChange a.book.now a.streams.now a.core.peer.window x in
+    let P : Change → Type 0 = λ x. IsSoundChange a.book.now a.streams.now (in_force a.core) x in
     subst P (sym c.only_counts.ensures) (c.requires.sound.counts, (refl, sym c.requires.sound.last))

@@ -12,7 +12,7 @@ summary size malformed declared pick = record { size = size; malformed = malform
 
 pub returns-in-Ok-clause-well_formed : goal.returns-in-Ok-clause-well_formed
 unfolding request_of
-returns-in-Ok-clause-well_formed g c = λ none.
+returns-in-Ok-clause-well_formed g c = λ small none.
     let fields = c.args.fields.now.fields in
     let book = c.args.book.now in
     let declared = c.in-Ok.request.declared in

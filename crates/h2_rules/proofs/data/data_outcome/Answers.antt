@@ -4,9 +4,9 @@ use Rattle.h2_spec.specs.Data.{data_outcome, taken}
 use Rattle.h2_spec.specs.declared.streams.Stream.{Stream}
 use Rattle.h2_rules.proofs.data.data_outcome.Goals as goal
 
-pub returns-then-is_below-clause-rule : goal.returns-then-is_below-clause-rule
+pub returns-then-exceeds-clause-rule : goal.returns-then-exceeds-clause-rule
 unfolding data_outcome
-returns-then-is_below-clause-rule c = rw (← c.is_below.ensures, c.if-is_below.true) c.stream_error.ensures.rule
+returns-then-exceeds-clause-rule c = rw (← c.exceeds.ensures, c.if-exceeds.true) c.stream_error.ensures.rule
 
 pub returns-then-incoming-clause-rule : goal.returns-then-incoming-clause-rule
 unfolding data_outcome
@@ -17,10 +17,10 @@ unfolding data_outcome
 returns-else-incoming-clause-rule c = search rules
 
 pub returns-then-incoming-clause-sound : goal.returns-then-incoming-clause-sound
-returns-then-incoming-clause-sound c = λ window within sound. c.peer_ended.ensures.sound window within (c.taken-after.ensures.sound window sound)
+returns-then-incoming-clause-sound c = λ f within sound. c.peer_ended.ensures.sound f within (c.taken-after.ensures.sound f sound)
 
 pub returns-else-incoming-clause-sound : goal.returns-else-incoming-clause-sound
-returns-else-incoming-clause-sound c = λ window within sound. c.returned.ensures.sound window within (c.taken-after.ensures.sound window sound)
+returns-else-incoming-clause-sound c = λ f within sound. c.returned.ensures.sound f within (c.taken-after.ensures.sound f sound)
 
 pub returns-else-incoming-clause-waits : goal.returns-else-incoming-clause-waits
 returns-else-incoming-clause-waits c = λ book same has. c.returned.ensures.waits book (c.taken-after.ensures.waits book has)

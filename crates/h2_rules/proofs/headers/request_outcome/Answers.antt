@@ -5,7 +5,7 @@ use Rattle.h2_spec.specs.Headers.{request_outcome}
 use Rattle.h2_spec.specs.Change.{outcome_without_frame}
 use Rattle.h2_spec.specs.declared.reactions.StreamOutcome.{StreamOutcome}
 use Rattle.h2_spec.specs.declared.streams.Stream.{Stream}
-use Rattle.h2_rules.specs.Sound.{HasBody, IsSoundStream}
+use Rattle.h2_rules.specs.Sound.{HasBody, IsSoundStream, in_force}
 use Rattle.h2_rules.proofs.headers.request_outcome.Goals as goal
 
 pub returns-then-is_full-clause-rule : goal.returns-then-is_full-clause-rule
@@ -41,21 +41,21 @@ returns-else-early-clause-rule c =
     (c.outcome_without_frame.ensures.rule ∙ ap (outcome_without_frame c.args.core.peer.size_update_pending) c.new_stream-stream.ensures.rule)
 
 pub returns-then-ends-clause-sound : goal.returns-then-ends-clause-sound
-returns-then-ends-clause-sound c = c.peer_ended.ensures.sound c.args.core.peer.window c.requires.core.1 c.new_stream-stream.ensures.sound
+returns-then-ends-clause-sound c = c.peer_ended.ensures.sound (in_force c.args.core) c.requires.core.1 c.new_stream-stream.ensures.sound
 
 pub returns-then-ends-clause-waits : goal.returns-then-ends-clause-waits
 returns-then-ends-clause-waits c = λ book same is.
     c.peer_ended.ensures.waits book (same ∙ ap (λ (st : Stream). length (picked book st.pick).body) (sym c.new_stream-stream.ensures.rule)) (c.new_stream-stream.ensures.waits book is)
 
 pub returns-then-early-clause-sound : goal.returns-then-early-clause-sound
-returns-then-early-clause-sound c = c.answered.ensures.sound c.args.core.peer.window c.requires.core.1 c.new_stream-stream.ensures.sound
+returns-then-early-clause-sound c = c.answered.ensures.sound (in_force c.args.core) c.requires.core.1 c.new_stream-stream.ensures.sound
 
 pub returns-then-early-clause-waits : goal.returns-then-early-clause-waits
 returns-then-early-clause-waits c = λ book same is.
     c.answered.ensures.waits book (same ∙ ap (λ (st : Stream). length (picked book st.pick).body) (sym c.new_stream-stream.ensures.rule)) (c.new_stream-stream.ensures.waits book is)
 
 pub returns-else-early-clause-sound : goal.returns-else-early-clause-sound
-returns-else-early-clause-sound c = subst (λ (t : StreamOutcome). IsSoundStream c.args.core.peer.window t.stream) (sym c.outcome_without_frame.ensures.rule) c.new_stream-stream.ensures.sound
+returns-else-early-clause-sound c = subst (λ (t : StreamOutcome). IsSoundStream (in_force c.args.core) t.stream) (sym c.outcome_without_frame.ensures.rule) c.new_stream-stream.ensures.sound
 
 pub returns-else-early-clause-waits : goal.returns-else-early-clause-waits
 returns-else-early-clause-waits c = λ book same is.

@@ -3,7 +3,7 @@ use Rattle.h2_spec.specs.declared.reactions.StreamOutcome.{StreamOutcome}
 use Rattle.h2_spec.specs.declared.streams.Kind.TheVariants.{PeerReset}
 use Rattle.h2_spec.specs.declared.streams.Stream.{Stream}
 use Rattle.h2_spec.specs.Stream.{not_live}
-use Rattle.h2_rules.specs.Sound.{HasBody, IsCalm, IsSoundStream, is_recorded}
+use Rattle.h2_rules.specs.Sound.{HasBody, IsCalm, IsSoundStream, in_force, is_recorded}
 use Rattle.h2_rules.proofs.SoundLaws.{is-live, live-put, not-live-sound, not-live-body}
 use Rattle.h2_spec.specs.Effect.{on_reset}
 use Rattle.h2_rules.proofs.reset.on_reset.Goals as goal
@@ -11,13 +11,13 @@ use Rattle.h2_rules.proofs.reset.on_reset.Goals as goal
 pub returns-in-BothOpen-clause-sound : goal.returns-in-BothOpen-clause-sound
 returns-in-BothOpen-clause-sound c = λ book r found last.
     let st = c.args.stream in
-    let window = c.args.core.peer.window in
+    let f = in_force c.args.core in
     let outcome = c.outcome_without_frame-outcome in
     let is : outcome.result.stream ≡ not_live st.id PeerReset = ap (λ (t : StreamOutcome). t.stream) outcome.ensures.rule ∙ c.not_live.ensures in
     let put = live-put r st outcome.result.stream found (is-live st.kind c.in-BothOpen.is) (ap (λ (x : Stream). x.id) is) in
     let calm = subst (IsCalm c.args.core) (sym c.only_counts-in-BothOpen.ensures) (c.requires.core, refl, refl) in
     c.with_outcome.ensures.sound book r c.args.core calm
-    (sym last ∙ put.1) (subst (IsSoundStream window) (sym is) (not-live-sound window st.id PeerReset refl)) (subst (HasBody book) (sym is) (not-live-body book st.id PeerReset)) put.0 (ap (λ (x : Stream). is_recorded x.kind) is)
+    (sym last ∙ put.1) (subst (IsSoundStream f) (sym is) (not-live-sound f st.id PeerReset refl)) (subst (HasBody book) (sym is) (not-live-body book st.id PeerReset)) put.0 (ap (λ (x : Stream). is_recorded x.kind) is)
 
 pub returns-in-Idle-clause-rule : goal.returns-in-Idle-clause-rule
 unfolding on_reset

@@ -5,6 +5,6 @@ use Rattle.h2_streams.specs.Greatest.{overflows_with}
 use Rattle.h2_streams.specs.Kept.{passes_at}
 use Rattle.h2_streams.proofs.greatest.greatest_of.Given as goal
 
-abbrev pub invariant-loop-id : goal.invariant-loop-id
-invariant-loop-id l =
-    (d : ℤ) → (overflows_with l.greatest d || list_any (passes_at (overflows_one d) l.records) (drop l.id-index l.ids)) ≡ list_any (passes_at (overflows_one d) l.records) l.ids
+abbrev pub invariant-loop-place : goal.invariant-loop-place
+invariant-loop-place l =
+    (d : ℤ) → (overflows_with l.greatest d || list_any (passes_at (overflows_one d) l.records) (drop l.place-index l.places)) ≡ list_any (passes_at (overflows_one d) l.records) l.places

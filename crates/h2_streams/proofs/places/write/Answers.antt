@@ -13,8 +13,11 @@ index_mut-requires g c =
     let len = ap length (sym c.as_slice.ensures.value) ∙ c.as_slice.ensures.len in
     omega (arith, within, place, len)
 
-pub returns : goal.returns
-returns g c =
+pub returns-clause-items : goal.returns-clause-items
+returns-clause-items g c =
     let rs = c.args.records.now.items in
     let st = c.args.stream in
     ap (λ (i : ℕ). slice_set rs i st) (c.place_of-place.ensures.value ∙ ap (place_of st.id) c.as_slice.ensures.value) ∙ put-at st 0 rs c.requires.rising c.requires.known
+
+pub returns-clause-place : goal.returns-clause-place
+returns-clause-place g c = c.place_of-place.ensures.value ∙ ap (place_of c.args.stream.id) c.as_slice.ensures.value

@@ -1,37 +1,17 @@
-use Rattle.std.proofs.Common.{◌≡◌, ap, ◌∙◌, sym}
+use Rattle.std.proofs.Common.{arith, ap, ◌∙◌, sym}
 use Rattle.std.proofs.Math.Facts.{to_z-of_z}
-use Rattle.std.specs.Option.{is_some}
+use Rattle.std.specs.Prelude.{slice_set}
 use Rattle.h2_spec.specs.declared.streams.Stream.{Stream}
-use Rattle.h2_spec.specs.Stream.{record_of}
-use Rattle.h2_streams.specs.Shift.{moved_or_same}
-use Rattle.h2_streams.proofs.PlaceLaws.{found-id}
-use Rattle.h2_streams.proofs.ShiftLaws.{mapped-found, mapped-none, id-moved, put-update, update-absent, rise-update}
+use Rattle.h2_streams.specs.Shift.{moved_as}
+use Rattle.h2_streams.proofs.ShiftLaws.{set-update, update-absent}
 use Rattle.h2_streams.proofs.shift.move_at.Goals as goal
 
-pub write-requires-clause-known : goal.write-requires-clause-known
-write-requires-clause-known g c =
-    let d = c.args.delta in
+pub returns-then-place-len : goal.returns-then-place-len
+returns-then-place-len g c =
     let rs = c.args.records.now.items in
-    let asked = rw (to_z-of_z c.ranges.delta, c.as_slice.ensures.value) at c.moved_at.ensures in
-    let old = mapped-found (moved_or_same d) (record_of rs c.args.id) c.in-Some.stream (sym asked ∙ c.in-Some.is) in
-    let id : c.in-Some.stream.id ≡ c.args.id = ap (λ (s : Stream). s.id) (sym old.2) ∙ id-moved d old.0 ∙ found-id rs c.args.id old.0 old.1 in
-    ap (λ n. is_some (record_of rs n)) id ∙ ap is_some old.1
+    let moved = rw (to_z-of_z c.ranges.delta) at c.move_one.ensures in
+    let stream = moved ∙ ap (moved_as c.args.of c.args.delta) c.index_mut.ensures.value in
+    ap (λ (st : Stream). slice_set rs c.args.place st) stream ∙ set-update (moved_as c.args.of c.args.delta) c.args.place rs _ (let l = c.if-place-len.true in let len = c.len.ensures in omega (arith, l, len))
 
-pub returns-in-Some-clause-moved : goal.returns-in-Some-clause-moved
-returns-in-Some-clause-moved g c =
-    let d = c.args.delta in
-    let rs = c.args.records.now.items in
-    let asked = rw (to_z-of_z c.ranges.delta, c.as_slice.ensures.value) at c.moved_at.ensures in
-    let old = mapped-found (moved_or_same d) (record_of rs c.args.id) c.in-Some.stream (sym asked ∙ c.in-Some.is) in
-    rw (c.write.ensures, sym old.2) (put-update (moved_or_same d) c.args.id rs old.0 (id-moved d old.0 ∙ found-id rs c.args.id old.0 old.1) old.1)
-
-pub returns-in-Some-clause-rising : goal.returns-in-Some-clause-rising
-returns-in-Some-clause-rising g c =
-    rw (returns-in-Some-clause-moved g c) (rise-update (moved_or_same c.args.delta) (id-moved c.args.delta) c.args.id 0 c.args.records.now.items c.requires)
-
-pub returns-in_default-clause-moved : goal.returns-in_default-clause-moved
-returns-in_default-clause-moved g c =
-    let d = c.args.delta in
-    let rs = c.args.records.now.items in
-    let asked = rw (to_z-of_z c.ranges.delta, c.as_slice.ensures.value) at c.moved_at.ensures in
-    sym (update-absent (moved_or_same d) c.args.id rs (mapped-none (moved_or_same d) (record_of rs c.args.id) (sym asked ∙ c.in_default.is)))
+pub returns-else-place-len : goal.returns-else-place-len
+returns-else-place-len g c = sym (update-absent (moved_as c.args.of c.args.delta) c.args.place c.args.records.now.items (let l = c.if-place-len.false in let len = c.len.ensures in omega (arith, l, len)))

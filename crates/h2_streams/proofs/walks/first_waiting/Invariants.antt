@@ -1,7 +1,8 @@
-use Rattle.std.proofs.Common.{◌≡◌, drop, find}
+use Rattle.std.proofs.Common.{◌≡◌, drop}
+use Rattle.std.specs.Prelude.{slice_get}
 use Rattle.h2_spec.specs.Stream.{waits_above}
-use Rattle.h2_streams.specs.Kept.{passes_at}
+use Rattle.h2_streams.specs.Kept.{ids_at}
 use Rattle.h2_streams.proofs.walks.first_waiting.Given as goal
 
-abbrev pub invariant-loop-id : goal.invariant-loop-id
-invariant-loop-id l = find (passes_at (waits_above l.after) l.records) (drop l.id-index l.ids) ≡ find (passes_at (waits_above l.after) l.records) l.ids
+abbrev pub invariant-loop-place : goal.invariant-loop-place
+invariant-loop-place l = slice_get (ids_at (waits_above l.after) l.records (drop l.place-index l.places)) 0 ≡ slice_get (ids_at (waits_above l.after) l.records l.places) 0

@@ -1,5 +1,4 @@
 use Rattle.std.proofs.Common.{◌∙◌, sym, ap}
-use Rattle.h2_device.proofs.Appending.{appends-same}
 use Rattle.h2_spec.specs.Show.{show}
 use Rattle.h2_spec.specs.View.{View, view}
 use Rattle.h2_conn.specs.Connection.{Connection}

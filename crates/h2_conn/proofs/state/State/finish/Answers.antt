@@ -1,4 +1,5 @@
 use Rattle.std.proofs.Common.{◌≡◌, ℕ, Option, sym, ap, subst, ◌∙◌}
+use Rattle.h2_spec.specs.declared.flow.LocalSettings.{LocalSettings}
 use Rattle.h2_spec.specs.Change.{made}
 use Rattle.h2_spec.specs.DynamicTable.{LimitedTable, Table}
 use Rattle.h2_spec.specs.Effect as rule
@@ -8,7 +9,8 @@ use Rattle.h2_table.specs.Edits.{IsEdit, edited}
 use Rattle.h2_conn.specs.Blocks.{IsOpenFor, IsSoundEffect, block_after, effect_seen, limited}
 use Rattle.h2_conn.specs.Does.{Does, stepped}
 use Rattle.h2_conn.specs.Sending.{records}
-use Rattle.h2_conn.proofs.FinishLaws.{open-then, rebound, same-table}
+use Rattle.h2_rules.specs.Sound.{in_force}
+use Rattle.h2_conn.proofs.FinishLaws.{open-then, rebound, same-settings, same-table}
 use Rattle.h2_conn.proofs.state.State.finish.Goals as goal
 
 pub commit-requires : goal.commit-requires
@@ -16,21 +18,22 @@ commit-requires g c =
     let s = c.args.self.now in
     let edit = c.args.edit.now in
     let table = c.self.inside.table in
-    let effect = subst (λ e. IsSoundEffect s.book (records s) s.core.peer.window (limited 4096 s.table) edit c.args.tentative.after e) c.in-Makes.is c.requires.sound in
+    let effect = subst (λ e. IsSoundEffect s.book (records s) (in_force s.core) (limited s.core.own.table s.table) edit c.args.tentative.after e) c.in-Makes.is c.requires.sound in
     let same : table.table ≡ s.table = ap (λ (x : State). x.table) c.self.view_is ∙ same-table s c.apply_change.new.self c.args.payload.now c.in-Makes.change c.args.out.now.items c.apply_change.new.out.items c.in-Ok-apply_change.ensures.ok in
-    let limit : table.limit ≡ 4096 = c.self.invariant.1 ∙ c.self.invariant.0.counts.6 in
-    record { belongs = subst (λ (l : ℕ). IsEdit (limited l table.table) edit) (sym limit) (subst (λ (t : Table). IsEdit (limited 4096 t) edit) (sym same) effect.1) }
+    let own = same-settings s c.apply_change.new.self c.args.payload.now c.in-Makes.change c.args.out.now.items c.apply_change.new.out.items effect.0 c.in-Ok-apply_change.ensures.ok in
+    let limit : table.limit ≡ s.core.own.table = c.self.invariant.1 ∙ ap (λ (x : State). x.core.own.table) c.self.view_is ∙ ap (λ (o : LocalSettings). o.table) own in
+    record { belongs = subst (λ (l : ℕ). IsEdit (limited l table.table) edit) (sym limit) (subst (λ (t : Table). IsEdit (limited s.core.own.table t) edit) (sym same) effect.1) }
 
 pub invariant_of-self : goal.invariant_of-self
 invariant_of-self g c =
     let s = c.args.self.now in
     let inside = c.self.inside in
     let after = c.args.tentative.after in
-    let effect = subst (λ e. IsSoundEffect s.book (records s) s.core.peer.window (limited 4096 s.table) c.args.edit.now after e) c.in-Makes.is c.requires.sound in
+    let effect = subst (λ e. IsSoundEffect s.book (records s) (in_force s.core) (limited s.core.own.table s.table) c.args.edit.now after e) c.in-Makes.is c.requires.sound in
     let held = ap (λ (x : State). x.streams) (sym c.self.view_is) in
     let opened = open-then s c.apply_change.new.self inside.streams c.args.payload.now c.in-Makes.change (block_after c.in-Makes.shown after) c.args.out.now.items c.apply_change.new.out.items effect.0 effect.2 c.in-Ok-apply_change.ensures.ok
     held (c.self.invariant.0.last ∙ ap (λ (x : State). x.core.last) c.self.view_is) in
-    (c.self.invariant.0, ap (λ (t : LimitedTable). t.limit) c.commit.ensures ∙ c.self.invariant.1, subst (λ (b : Option OpenBlock). IsOpenFor inside.streams b) (sym c.block_after-block.ensures) opened)
+    (c.self.invariant.0, ap (λ (t : LimitedTable). t.limit) c.commit.ensures ∙ c.self.invariant.1, subst (λ (b : Option OpenBlock). IsOpenFor inside.streams b) (sym c.block_after-block.ensures) opened, c.self.invariant.3)
 
 pub returns-in-Ok-apply_change-clause-ok : goal.returns-in-Ok-apply_change-clause-ok
 returns-in-Ok-apply_change-clause-ok g c =

@@ -1,4 +1,4 @@
-use Rattle.std.proofs.Common.{◌≡◌, ℕ, sym, subst, ◌∙◌}
+use Rattle.std.proofs.Common.{◌≡◌, ℕ, sym, subst}
 use Rattle.std.specs.Prelude.{IfOk, OnOk}
 use Rattle.h2_spec.specs.Effect as rule
 use Rattle.h2_spec.specs.Headers as headers
@@ -7,6 +7,7 @@ use Rattle.h2_spec.specs.State.{State}
 use Rattle.h2_conn.specs.Blocks.{IsSoundEffect, effect_seen, limited}
 use Rattle.h2_conn.specs.Does.{Does, stepped}
 use Rattle.h2_conn.specs.Sending.{records}
+use Rattle.h2_rules.specs.Sound.{in_force}
 use Rattle.h2_conn.proofs.state.State.on_fragment.Goals as goal
 
 pub finish-result-requires-clause-sound : goal.finish-result-requires-clause-sound
@@ -16,10 +17,10 @@ finish-result-requires-clause-sound g c =
     let effect = c.in-Ok.effect in
     let after = c.fragment-tentative.result.0.after in
     let edit = c.fragment-tentative.result.1 in
-    let sound = subst (λ r. IfOk r (λ e. IsSoundEffect inside.book.now inside.streams inside.core.peer.window inside.table edit after e)) c.in-Ok.is c.fragment-tentative.ensures.sound in
-    subst (λ (s : State). IsSoundEffect s.book (records s) s.core.peer.window (limited 4096 s.table) edit after effect) c.self.view_is
-    (subst (λ (l : ℕ). IsSoundEffect inside.book.now (record { streams = inside.streams.streams; last = l }) inside.core.peer.window (limited 4096 inside.table.table) edit after effect) state.last
-    (subst (λ (limit : ℕ). IsSoundEffect inside.book.now inside.streams inside.core.peer.window (limited limit inside.table.table) edit after effect) (c.self.invariant.1 ∙ state.counts.6) sound))
+    let sound = subst (λ r. IfOk r (λ e. IsSoundEffect inside.book.now inside.streams (in_force inside.core) inside.table edit after e)) c.in-Ok.is c.fragment-tentative.ensures.sound in
+    subst (λ (s : State). IsSoundEffect s.book (records s) (in_force s.core) (limited s.core.own.table s.table) edit after effect) c.self.view_is
+    (subst (λ (l : ℕ). IsSoundEffect inside.book.now (record { streams = inside.streams.streams; last = l }) (in_force inside.core) (limited inside.core.own.table inside.table.table) edit after effect) state.last
+    (subst (λ (limit : ℕ). IsSoundEffect inside.book.now inside.streams (in_force inside.core) (limited limit inside.table.table) edit after effect) c.self.invariant.1 sound))
 
 pub returns-in-Ok-clause-ok : goal.returns-in-Ok-clause-ok
 returns-in-Ok-clause-ok g c =

@@ -1,12 +1,17 @@
 use Rattle.std.proofs.Common.{rules}
 use Rattle.h2_conn.specs.Parted.{IsPlain}
-use Rattle.h2_conn.proofs.InsideLaws.{headers-outside, plain-outside}
+use Rattle.h2_conn.proofs.InsideLaws.{acknowledged-outside, headers-outside, plain-outside}
 use Rattle.h2_conn.proofs.state.State.on_part.Goals as goal
 
 pub on_headers-requires-clause-stopped : goal.on_headers-requires-clause-stopped
 on_headers-requires-clause-stopped g c =
     let s = c.args.self.now in
     headers-outside s.block s.core.phase c.args.head.now c.args.payload.now c.args.part c.in-Headers.part c.requires.passed c.requires.part c.in-Headers.is
+
+pub on_acknowledged-requires-clause-stopped : goal.on_acknowledged-requires-clause-stopped
+on_acknowledged-requires-clause-stopped g c =
+    let s = c.args.self.now in
+    acknowledged-outside s.block s.core.phase c.args.head.now c.args.payload.now c.args.part c.requires.passed c.requires.part c.in-SettingsAck.is
 
 pub conclude-requires : goal.conclude-requires
 conclude-requires g c =

@@ -4,7 +4,7 @@ use Rattle.h2_fields.proofs.Reading.{instr-none}
 use Rattle.h2_fields.proofs.block.BlockDecoder.start.Goals as goal
 
 pub invariant_of-result : goal.invariant_of-result
-invariant_of-result g c = (c.new-2.ensures.items ∙ sym (ap (λ (s : FieldsSoFar). s.fields) c.new.ensures), sym (instr-none c.new-3.result (ap length c.new-3.ensures)))
+invariant_of-result g c = (c.new.ensures.items ∙ sym (ap (λ (s : FieldsSoFar). s.fields) c.clear.ensures), sym (instr-none c.new-2.result (ap length c.new-2.ensures)))
 
 pub returns : goal.returns
 returns g c = search rules

@@ -1,10 +1,8 @@
-use Rattle.std.proofs.Common.{◌≡◌, ◌∙◌, ◌+◌, List, Some, None, [], arith, get_or, take, ap, sym, subst}
+use Rattle.std.proofs.Common.{◌≡◌, ◌∙◌, Some, None, [], arith, get_or, ap, sym}
 use Rattle.std.specs.Prelude.{slice_get}
-use Rattle.std.proofs.lemmas.List.{take_all}
 use Rattle.std.proofs.lemmas.Option.{none-some, slice_get-get_or}
 use Rattle.h2_spec.specs.Field.{Field, field}
 use Rattle.h2_request.specs.Fields.{fields_in}
-use Rattle.h2_request.specs.Seen.{AreMarks, ArePseudo, IsLength}
 use Rattle.h2_request.specs.Walk.{pseudo_of}
 use Rattle.h2_request.proofs.Seen.{marks-walked, pseudo-walked, length-walked}
 use Rattle.h2_request.proofs.walk.Seen.of.Goals as goal

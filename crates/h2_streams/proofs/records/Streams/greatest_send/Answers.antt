@@ -1,13 +1,8 @@
-use Rattle.std.proofs.Common.{ap, ◌∙◌, subst, sym}
+use Rattle.std.proofs.Common.{ap, ◌∙◌, sym}
 use Rattle.h2_spec.specs.Change.{overflows}
 use Rattle.h2_spec.specs.Stream.{Records}
-use Rattle.h2_streams.specs.Kept.{Rise}
-use Rattle.h2_streams.proofs.PlaceLaws.{rise}
 use Rattle.h2_streams.proofs.ShiftLaws.{overflows-listed}
 use Rattle.h2_streams.proofs.records.Streams.greatest_send.Goals as goal
-
-pub greatest_of-requires : goal.greatest_of-requires
-greatest_of-requires g c = subst (Rise 0) (sym c.as_slice.ensures.value) (rise 0 c.self.inside.last c.self.inside.records.items c.self.invariant.0.rising)
 
 pub returns : goal.returns
 returns g c = λ d.

@@ -1,7 +1,7 @@
 use Rattle.std.proofs.Common.{ap, ◌∙◌, length}
 use Rattle.h2_spec.specs.Stream as spec
 use Rattle.h2_spec.specs.Stream.{Records}
-use Rattle.h2_streams.proofs.IdsLaws.{length-lives}
+use Rattle.h2_streams.proofs.LiveLaws.{length-lives}
 use Rattle.h2_streams.proofs.records.Streams.live_count.Goals as goal
 
 pub returns : goal.returns

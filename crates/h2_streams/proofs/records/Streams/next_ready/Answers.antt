@@ -7,7 +7,7 @@ use Rattle.h2_streams.proofs.records.Streams.next_ready.Goals as goal
 
 pub ids_above-requires : goal.ids_above-requires
 ids_above-requires g c =
-    subst (IdsRise 0) (sym (c.as_slice.ensures.value ∙ c.self.invariant.0.ready_listed)) (rise-ids_of is_ready 0 c.self.inside.last c.self.inside.records.items c.self.invariant.0.rising)
+    subst (IdsRise 0) (sym (c.as_slice.ensures.value ∙ c.self.invariant.0.ready_listed)) (rise-ids_of is_ready c.self.inside.last c.self.inside.records.items c.self.invariant.0.rising)
 
 pub returns : goal.returns
 returns g c =

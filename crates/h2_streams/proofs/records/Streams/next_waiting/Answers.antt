@@ -1,13 +1,10 @@
-use Rattle.std.proofs.Common.{◌∙◌, ap, subst, sym, find, ℕ, ◌≤◌, Option, IfSome, IsTrue, List}
+use Rattle.std.proofs.Common.{◌∙◌, ap, subst, sym, ℕ, ◌≤◌, Option, IfSome, IsTrue, List}
+use Rattle.std.specs.Prelude.{slice_get}
 use Rattle.std.specs.List.{AllByRecursion}
 use Rattle.h2_spec.specs.Stream.{Records, next_waiting, waits_above, AreRising}
-use Rattle.h2_streams.specs.Kept.{Rise, passes_at}
-use Rattle.h2_streams.proofs.PlaceLaws.{rise}
-use Rattle.h2_streams.proofs.LiveLaws.{all-found, find-least, find-live, idle-waits}
+use Rattle.h2_streams.specs.Kept.{ids_at}
+use Rattle.h2_streams.proofs.LiveLaws.{find-least, first-of, ids-live, idle-waits}
 use Rattle.h2_streams.proofs.records.Streams.next_waiting.Goals as goal
-
-pub first_waiting-requires : goal.first_waiting-requires
-first_waiting-requires g c = subst (Rise 0) (sym c.as_slice.ensures.value) (rise 0 c.self.inside.last c.self.inside.records.items c.self.invariant.0.rising)
 
 pub returns-clause-first : goal.returns-clause-first
 unfolding next_waiting
@@ -16,8 +13,8 @@ returns-clause-first g c =
     let after = c.args.after in
     let asked = rw (c.as_slice.ensures.value, c.as_slice-2.ensures.value) at c.first_waiting.ensures in
     let rs = s.records.items in
-    asked ∙ ap (λ (ids : List ℕ). find (passes_at (waits_above after) rs) ids) c.self.invariant.0.live_listed
-    ∙ find-live (waits_above after) (idle-waits after) rs rs (all-found 0 s.last rs c.self.invariant.0.rising) ∙ ap (λ (v : Records). next_waiting after v.streams) c.self.view_is
+    asked ∙ ap (λ (places : List ℕ). slice_get (ids_at (waits_above after) rs places) 0) c.self.invariant.0.live_listed
+    ∙ ap (λ ids. slice_get ids 0) (ids-live (waits_above after) (idle-waits after) rs) ∙ first-of (waits_above after) rs ∙ ap (λ (v : Records). next_waiting after v.streams) c.self.view_is
 
 pub returns-clause-least : goal.returns-clause-least
 unfolding next_waiting

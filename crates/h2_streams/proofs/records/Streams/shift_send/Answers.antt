@@ -4,43 +4,19 @@ use Rattle.std.specs.List.{AllByRecursion}
 use Rattle.h2_spec.specs.declared.streams.Stream.{Stream}
 use Rattle.h2_spec.specs.Change.{overflows, shifted}
 use Rattle.h2_spec.specs.Stream.{Records}
-use Rattle.h2_streams.specs.Kept.{Rise}
 use Rattle.h2_streams.specs.Shift.{CanShift}
-use Rattle.h2_streams.proofs.PlaceLaws.{rise}
-use Rattle.h2_streams.proofs.ShiftLaws.{kept-moved, records-moved, overflow-listed}
+use Rattle.h2_streams.proofs.ShiftLaws.{kept-moved, records-moved}
 use Rattle.h2_streams.proofs.records.Streams.shift_send.Goals as goal
 
-pub any_is_stuck-requires : goal.any_is_stuck-requires
-any_is_stuck-requires g c = subst (Rise 0) (sym c.as_slice.ensures.value) (rise 0 c.self.inside.last c.self.inside.records.items c.self.invariant.0.rising)
-
-pub returns-then-any_is_stuck-clause-overflow : goal.returns-then-any_is_stuck-clause-overflow
-returns-then-any_is_stuck-clause-overflow g c =
-    let s = c.self.inside in
-    let d = c.args.delta in
-    let can = let P : Records → Type 0 = λ v. AllByRecursion (CanShift d) v.streams in subst P (sym c.self.view_is) c.requires in
-    let asked = rw (to_z-of_z c.ranges.delta, c.as_slice.ensures.value, c.as_slice-2.ensures.value) at c.any_is_stuck.ensures in
-    sym c.if-any_is_stuck.true ∙ asked ∙ overflow-listed d s.records.items s.live.items s.ready.items s.last c.self.invariant.0 can ∙ ap (λ (v : Records). overflows d v.streams) c.self.view_is
-
-pub move_each-requires : goal.move_each-requires
-move_each-requires g c = rise 0 c.self.inside.last c.self.inside.records.items c.self.invariant.0.rising
-
-pub list_ready-requires-clause-rising : goal.list_ready-requires-clause-rising
-list_ready-requires-clause-rising g c =
-    let s = c.self.inside in
-    let d = c.args.delta in
-    let moved = rw (to_z-of_z c.ranges.delta, c.as_slice-3.ensures.value) at c.move_each.ensures in
-    let kept = kept-moved d s.records.items s.live.items s.ready.items s.last c.self.invariant.0 in
-    rw (c.as_slice-4.ensures.value, moved) (rise 0 s.last _ kept.rising)
-
-pub list_ready-requires-clause-room : goal.list_ready-requires-clause-room
-list_ready-requires-clause-room g c = rw c.as_slice-5.ensures.value c.self.invariant.1
+pub list_ready-requires : goal.list_ready-requires
+list_ready-requires g c = rw c.as_slice-3.ensures.value c.self.invariant.1
 
 pub invariant_of-self : goal.invariant_of-self
 invariant_of-self g c =
     let s = c.self.inside in
     let d = c.args.delta in
-    let moved = rw (to_z-of_z c.ranges.delta, c.as_slice-3.ensures.value) at c.move_each.ensures in
-    let listed = rw (c.as_slice-4.ensures.value, c.as_slice-5.ensures.value, moved) at c.list_ready.ensures.items in
+    let moved = rw (to_z-of_z c.ranges.delta, c.as_slice.ensures.value) at c.move_each.ensures in
+    let listed = rw (c.as_slice-2.ensures.value, c.as_slice-3.ensures.value, moved) at c.list_ready.ensures.items in
     let room = c.self.invariant.1 in
     let more = c.list_ready.ensures.capacity in
     rw (moved, listed) (kept-moved d s.records.items s.live.items s.ready.items s.last c.self.invariant.0, omega (arith, room, more))
@@ -49,15 +25,9 @@ pub returns-clause-moved : goal.returns-clause-moved
 returns-clause-moved g c =
     let s = c.self.inside in
     let d = c.args.delta in
-    let moved = rw (to_z-of_z c.ranges.delta, c.as_slice-3.ensures.value) at c.move_each.ensures in
-    let asked = rw (to_z-of_z c.ranges.delta, c.as_slice.ensures.value, c.as_slice-2.ensures.value) at c.any_is_stuck.ensures in
-    let streams = moved ∙ records-moved d s.records.items s.live.items s.ready.items s.last c.self.invariant.0 (sym asked ∙ c.if-any_is_stuck.false) in
-    ap (λ (xs : List Stream). let r : Records = record { streams = xs; last = s.last } in r) streams ∙ ap (λ (v : Records). let r : Records = record v { streams = shifted d v.streams } in r) c.self.view_is
-
-pub returns-clause-overflow : goal.returns-clause-overflow
-returns-clause-overflow g c =
-    let s = c.self.inside in
-    let d = c.args.delta in
+    let moved = rw (to_z-of_z c.ranges.delta, c.as_slice.ensures.value) at c.move_each.ensures in
+    let asked = rw (to_z-of_z c.ranges.delta) at c.overflows_with.ensures in
     let can = let P : Records → Type 0 = λ v. AllByRecursion (CanShift d) v.streams in subst P (sym c.self.view_is) c.requires in
-    let asked = rw (to_z-of_z c.ranges.delta, c.as_slice.ensures.value, c.as_slice-2.ensures.value) at c.any_is_stuck.ensures in
-    sym c.if-any_is_stuck.false ∙ asked ∙ overflow-listed d s.records.items s.live.items s.ready.items s.last c.self.invariant.0 can ∙ ap (λ (v : Records). overflows d v.streams) c.self.view_is
+    let free = ap (λ (v : Records). overflows d v.streams) c.self.view_is ∙ c.greatest_send.ensures d ∙ sym asked ∙ c.if-overflows_with.false in
+    let streams = moved ∙ records-moved d s.records.items s.live.items s.ready.items s.last c.self.invariant.0 can free in
+    ap (λ (xs : List Stream). let r : Records = record { streams = xs; last = s.last } in r) streams ∙ ap (λ (v : Records). let r : Records = record v { streams = shifted d v.streams } in r) c.self.view_is

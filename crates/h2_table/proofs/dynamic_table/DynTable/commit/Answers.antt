@@ -1,7 +1,6 @@
-use Rattle.std.proofs.Common.{arith, ◌≡◌, ◌≤◌, ◌++◌, ◌∙◌, sym, ap, subst, length, take}
+use Rattle.std.proofs.Common.{arith, ◌≤◌, ◌++◌, sym, subst, take, max}
 use Rattle.h2_spec.specs.DynamicTable.{LimitedTable, total_size}
 use Rattle.h2_table.specs.Edits.{EditOf, IsEdit}
-use Rattle.h2_table.specs.Held.{places_for}
 use Rattle.h2_table.proofs.Editing.{have_places}
 use Rattle.h2_table.proofs.dynamic_table.DynTable.commit.Goals as goal
 
@@ -11,5 +10,6 @@ move_newest-requires g c =
     let e = c.edit.inside in
     let belongs = subst (λ (b : LimitedTable). IsEdit b (record { added = e.added.items; kept = e.kept; size = e.size; max = e.max })) (sym c.self.view_is) (subst (λ (x : EditOf). IsEdit c.args.self.now x) (sym c.edit.view_is) c.requires.belongs) in
     let es = e.added.items ++ take e.kept t.ring.items in
-    let small : total_size es ≤ t.limit = omega (arith, belongs.counted, belongs.within, belongs.limited) in
-    rw c.truncate_back.ensures (omega (arith, have_places es t.limit small, c.self.invariant.has_places))
+    let most = max t.max t.limit in
+    let small : total_size es ≤ most = omega (arith, belongs.counted, belongs.within, belongs.limited) in
+    rw c.truncate_back.ensures (omega (arith, have_places es most small, c.self.invariant.has_places))

@@ -23,9 +23,8 @@ pub put_newest-requires : goal.put_newest-requires
 put_newest-requires g c =
     let left = c.evict.new.ring.items in
     let e = c.evict.ensures in
-    let place : length left < places_for c.self.inside.limit = has_place left c.self.inside.limit (omega arith) in
-    let room : c.evict.new.ring.capacity ≡ places_for c.self.inside.limit = e.places ∙ c.self.invariant.has_places in
-    omega arith
+    let place : length left < places_for c.self.inside.max = has_place left c.self.inside.max (omega arith) in
+    omega (arith, place, e.places, c.self.invariant.has_places)
 
 pub returns : goal.returns
 unfolding insert with_entries

@@ -1,4 +1,3 @@
-use Rattle.std.proofs.Common.{◌∙◌, sym}
 use Rattle.h2_spec.specs.Show.{block_line}
 use Rattle.h2_text.proofs.lines.BlockLineText.write_to.Goals as goal
 

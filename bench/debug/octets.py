@@ -1,0 +1,74 @@
+#!/usr/bin/env python3
+"""octets.py KIND MIB: the octets of a client's connection whose hex has at most so many MiB, to standard output.
+
+The preface, SETTINGS, the acknowledgement of the server's, and then as many items of one kind as there is space for.
+"""
+import struct
+import sys
+
+PREFACE = b"PRI * HTTP/2.0\r\n\r\nSM\r\n\r\n"
+DATA, HEADERS, SETTINGS, PING, CONTINUATION = 0, 1, 4, 6, 9
+END_STREAM, ACK, END_HEADERS = 1, 1, 4
+GET = b"\x82\x86\x84"  # :method GET, :scheme http, :path /
+BLOCK = 65000  # how many CONTINUATION frames a field block has
+
+
+def frame(kind, flags, stream, payload=b""):
+    return struct.pack(">I", len(payload))[1:] + struct.pack(">BBI", kind, flags, stream) + payload
+
+
+def text(octets):
+    assert len(octets) < 127
+    return bytes([len(octets)]) + octets
+
+
+PATH = b"\x04" + text(b"/index.html?page=12&sort=name")
+FIRST = (
+    b"\x82\x86" + PATH + b"\x41" + text(b"www.example.com")
+    + b"\x7a" + text(b"Mozilla/5.0 (X11; Linux x86_64; rv:128.0) Gecko/20100101 Firefox/128.0")
+    + b"\x53" + text(b"text/html,application/xhtml+xml,application/xml;q=0.9,*/*;q=0.8")
+    + b"\x51" + text(b"en-US,en;q=0.5") + b"\x90"
+    + b"\x73" + text(b"http://www.example.com/index.html")
+    + b"\x60" + text(b"session=0f4a7c1e9b2d4f6a8c3e5d7b9a1c3e5f; theme=dark")
+)
+NEXT = b"\x82\x86" + PATH + b"\xc3\xc2\xc1\xc0\x90\xbf\xbe"
+
+
+def items(kind):
+    """The items of a kind, without end."""
+    place = 0
+    if kind == "data":
+        yield frame(HEADERS, END_HEADERS, 1, GET)
+    while True:
+        stream = 2 * place + 1
+        if kind == "ping":
+            yield frame(PING, 0, 0, b"12345678")
+        elif kind == "get":
+            yield frame(HEADERS, END_STREAM | END_HEADERS, stream, GET)
+        elif kind == "browser":
+            yield frame(HEADERS, END_STREAM | END_HEADERS, stream, NEXT if place else FIRST)
+        elif kind == "refused":
+            yield frame(HEADERS, END_STREAM | END_HEADERS, stream, GET[:1])
+        elif kind == "data":
+            yield frame(DATA, 0, 1, b"a" * 16384)
+        elif kind == "continuation":
+            first, last = place % BLOCK == 0, place % BLOCK == BLOCK - 1
+            stream = 2 * (place // BLOCK) + 1
+            yield frame(HEADERS if first else CONTINUATION, END_HEADERS if last else 0, stream, GET[:1])
+        else:
+            sys.exit(f"octets.py: there is no kind {kind}")
+        place += 1
+
+
+def main():
+    kind, most = sys.argv[1], int(sys.argv[2]) * 2**19
+    out = bytearray(PREFACE + frame(SETTINGS, 0, 0) + frame(SETTINGS, ACK, 0))
+    for item in items(kind):
+        if len(out) + len(item) > most:
+            break
+        out += item
+    sys.stdout.buffer.write(out)
+
+
+if __name__ == "__main__":
+    main()

@@ -1,0 +1,103 @@
+//! Items of octets in hand, of which none is held or copied (RFC 9113, 3.4).
+//! Rests on h2_frame and on `item`; definitions: `specs/First.antt`, `specs/Runs.antt`.
+
+ghost use Rattle.std.specs.Prelude.{◌≡◌, ◌≤◌, [], IfOk, OnErr, OnOk, drop, length};
+ghost use Rattle.h2_conn.specs.Connection.{Fits, awaits_preface, is_ended};
+ghost use Rattle.h2_conn.specs.First.{TakesIfAny};
+ghost use Rattle.h2_conn.specs.Marks.{Follows};
+ghost use Rattle.h2_conn.specs.Runs.{Halted, Ran};
+
+use crate::conn::is_ended;
+use crate::state::State;
+use h2_frame::{Splitter, first_item};
+use h2_spec::connection::Phase;
+use h2_spec::octets::octets_from;
+use std::alloc::{AllocError, Allocator};
+
+/// Whether the preface is awaited.
+pub(crate) fn awaits_preface(phase: Phase) -> bool
+    ensures { result ≡ awaits_preface phase }
+{
+    matches!(phase, Phase::Preface)
+}
+
+/// A splitter that holds nothing, for the items of a connection in this phase.
+pub(crate) fn empty_splitter<A: Allocator>(phase: Phase, alloc: A) -> Splitter<A>
+    ensures fits { Fits result phase }
+    ensures empty { result.octets ≡ [] }
+{
+    let mut splitter = Splitter::new(alloc);
+    splitter.expect_preface(awaits_preface(phase));
+    splitter
+}
+
+/// Takes the item that octets begin with, if there is a whole one, and returns how many of them it takes; none after
+/// the end. Where memory is refused nothing of it is done.
+pub(crate) fn take_first<'b, A: Allocator + Copy>(
+    state: &mut State<'b, A>,
+    octets: &[u8],
+    out: &mut Vec<u8, A>,
+) -> Result<Option<usize>, AllocError>
+    ensures ok { IfOk result (λ used. TakesIfAny state.old octets.now out.old.items state.new out.new.items used) }
+    ensures err { OnErr result ((state.new ≡ state.old) × (out.new.items ≡ out.old.items)) }
+{
+    let phase = state.phase();
+    if is_ended(phase) {
+        return Ok(None);
+    }
+    match first_item(octets, awaits_preface(phase), state.limit()) {
+        None => Ok(None),
+        Some((item, used)) => match state.item(&item, out) {
+            Ok(()) => Ok(Some(used)),
+            Err(error) => Err(error),
+        },
+    }
+}
+
+/// The same, where it matters what the item leaves of the records of streams.
+pub(crate) fn take_first_in_order<'b, A: Allocator + Copy>(
+    state: &mut State<'b, A>,
+    octets: &[u8],
+    out: &mut Vec<u8, A>,
+) -> Result<Option<usize>, AllocError>
+    ensures ok { IfOk result (λ used. TakesIfAny state.old octets.now out.old.items state.new out.new.items used) }
+    ensures follows { OnOk result (Follows state.old state.new) }
+    ensures err { OnErr result ((state.new ≡ state.old) × (out.new.items ≡ out.old.items)) }
+{
+    let _rising = state.streams.last();
+    take_first(state, octets, out)
+}
+
+/// How far a run through octets in hand went.
+#[derive(Clone, Copy)]
+pub(crate) struct Taken {
+    /// How many items were taken.
+    pub(crate) items: usize,
+    /// How many of the octets they are.
+    pub(crate) used: usize,
+}
+
+/// Takes all items of octets one after another. Where memory is refused, those before it are taken.
+pub(crate) fn take_all<'b, A: Allocator + Copy>(
+    state: &mut State<'b, A>,
+    octets: &[u8],
+    out: &mut Vec<u8, A>,
+) -> Result<Taken, AllocError>
+    ensures ok { IfOk result (λ all. Ran state.old octets.now out.old.items state.new (drop all.used octets.now) out.new.items all.items) }
+    ensures few { IfOk result (λ all. (all.items ≤ all.used) × (all.used ≤ length octets.now)) }
+    ensures err { OnErr result (Halted state.old octets.now out.old.items state.new out.new.items) }
+{
+    let mut items = 0usize;
+    let mut used = 0usize;
+    while used < octets.len() {
+        match take_first(state, octets_from(octets, used), out) {
+            Ok(Some(more)) => {
+                items += 1;
+                used += more;
+            }
+            Ok(None) => return Ok(Taken { items, used }),
+            Err(error) => return Err(error),
+        }
+    }
+    Ok(Taken { items, used })
+}

@@ -1,0 +1,67 @@
+//! The acknowledgement of the server's settings, with which they come into force (RFC 9113, 6.5.3).
+//! Rests on `apply_change`; definition: `acknowledged` of h2_spec's `specs/SettingsFrame.antt`.
+
+ghost use Rattle.std.specs.Prelude.{◌≡◌, ◌<◌, ◌^◌, length, OnOk, OnErr};
+ghost use Rattle.h2_spec.specs.Change as changes;
+ghost use Rattle.h2_spec.specs.Effect as rule;
+ghost use Rattle.h2_spec.specs.Headers.{makes};
+ghost use Rattle.h2_spec.specs.SettingsFrame as settings;
+ghost use Rattle.h2_spec.specs.State.{configured};
+ghost use Rattle.h2_spec.specs.Trace.{then_sent};
+ghost use Rattle.h2_conn.specs.Blocks.{IsStopped};
+ghost use Rattle.h2_conn.specs.Does.{Does, stepped};
+
+use crate::apply_change::{send_and_update, with_sent};
+use crate::state::State;
+use h2_rules::change::only_counts;
+use h2_rules::settings::comes_into_force;
+use std::alloc::{AllocError, Allocator};
+
+impl<'b, A: Allocator + Copy> State<'b, A> {
+    /// The peer has acknowledged the server's settings: the first time they come into force, later nothing changes.
+    pub fn on_acknowledged(
+        &mut self,
+        payload: &[u8],
+        out: &mut Vec<u8, A>,
+    ) -> Result<(), AllocError>
+        requires fits { length payload.now < 2 ^ 24 }
+        requires stopped { IsStopped self.old.block }
+        ensures ok { OnOk result (Does (stepped (rule.concluded self.old payload.now (makes self.old (settings.acknowledged self.old.config self.old.core)))) out.old.items self.new out.new.items) }
+        ensures err { OnErr result ((self.new ≡ self.old) × (out.new.items ≡ out.old.items)) }
+    {
+        if self.core.acked {
+            self.apply_change(only_counts(self.core), payload, out)
+        } else {
+            self.come_into_force(payload, out)
+        }
+    }
+
+    /// The server's settings come into force: the limit of the header table, the receive windows of live streams, and
+    /// the longest frame. The header table keeps its entries and its maximum (RFC 7541, 4.2).
+    ///
+    /// # Errors
+    ///
+    /// `AllocError` where memory was refused for the entries that a higher limit lets the table hold: nothing is done.
+    fn come_into_force(&mut self, payload: &[u8], out: &mut Vec<u8, A>) -> Result<(), AllocError>
+        requires fits { length payload.now < 2 ^ 24 }
+        requires stopped { IsStopped self.old.block }
+        ensures ok { OnOk result (Does (then_sent self.old.core.phase (changes.made self.old payload.now (settings.comes_into_force self.old.core (configured self.old.config)))) out.old.items self.new out.new.items) }
+        ensures err { OnErr result ((self.new ≡ self.old) × (out.new.items ≡ out.old.items)) }
+    {
+        let own = self.config.configured();
+        let change = comes_into_force(self.core, own);
+        let before = self.table.limit();
+        self.table.set_limit(before.max(own.table))?;
+        match send_and_update(self.book, &mut self.streams, &change, payload, out) {
+            Ok(count) => {
+                self.core = with_sent(change.core, count);
+                self.table.lower_limit(own.table);
+                Ok(())
+            }
+            Err(error) => {
+                self.table.lower_limit(before);
+                Err(error)
+            }
+        }
+    }
+}

@@ -1,0 +1,27 @@
+use Rattle.std.proofs.Common.{◌≡◌, ◌++◌, ◌∷◌, ◌-◌, ◌^◌, Bool, List, [], length, min, ap, ◌∙◌, sym, arith, length-append}
+use Rattle.h2_spec.specs.Block.{FieldsSoFar, list_size, text_result}
+use Rattle.h2_spec.specs.Field.{Field, field, size}
+use Rattle.h2_fields.proofs.Applying.{both-next, spelled, size-added}
+use Rattle.h2_fields.proofs.collected.Collected.add_spelled.Goals as goal
+
+so_far : List Field → Bool → FieldsSoFar
+so_far fields due = record { fields = fields; due = due }
+
+pub invariant_of-self-2 : goal.invariant_of-self-2
+invariant_of-self-2 g c =
+    let l = c.self.inside.list in
+    let name = c.in_ok-put_text.ensures.text in
+    let value = c.in_ok-put_text-2.ensures.text in
+    let fields = spelled l c.clear_next.new.self c.put_text.new.list c.put_text-2.new.list c.close.new.self name.0 value.0 _ c.clear_next.ensures name.2 value.2 (ap length c.next-split.ensures) c.in_ok-close.ensures.ok in
+    let next : c.put_text-2.new.list.next ≡ name.0 ++ value.0 = both-next l c.clear_next.new.self c.put_text.new.list c.put_text-2.new.list name.0 value.0 c.clear_next.ensures name.2 value.2 in
+    let count : c.size_of-size.result ≡ min (size (field name.0 value.0)) (2 ^ 64 - 1) = omega (arith, c.size_of-size.ensures, ap length c.next.ensures, ap length next, length-append name.0 value.0) in
+    c.saturating_add-self-inside.ensures ∙ size-added l.fields (field name.0 value.0) c.self.inside.size c.size_of-size.result c.self.invariant count ∙ ap list_size (sym fields)
+
+pub returns : goal.returns
+unfolding so_far
+returns g c =
+    let l = c.self.inside.list in
+    let name = c.in_ok-put_text.ensures.text in
+    let value = c.in_ok-put_text-2.ensures.text in
+    let fields = spelled l c.clear_next.new.self c.put_text.new.list c.put_text-2.new.list c.close.new.self name.0 value.0 _ c.clear_next.ensures name.2 value.2 (ap length c.next-split.ensures) c.in_ok-close.ensures.ok in
+    (field name.0 value.0, ap text_result name.1, ap text_result value.1, ap (λ (fs : List Field). so_far fs c.self.inside.due) fields ∙ ap (λ (s : FieldsSoFar). so_far (s.fields ++ field name.0 value.0 ∷ []) s.due) c.self.view_is)

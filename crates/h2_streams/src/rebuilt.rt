@@ -1,0 +1,96 @@
+//! The records at an earlier time, made again from those of a later one: the few that can change are kept.
+//! Rests on `ids`, `kinds` and `places`; definitions: `specs/Rebuilt.antt`.
+
+ghost use Rattle.std.specs.Prelude.{◌≡◌, ◌+◌, ◌≤◌, ◌++◌, IfOk, OnOk, length, map, take, if◌then◌else◌};
+ghost use Rattle.std.specs.List.{insert};
+ghost use Rattle.std.specs.Option.{option_copied};
+ghost use Rattle.std.specs.Vec.{vec_capacity};
+ghost use Rattle.h2_spec.specs.Stream.{is_live};
+ghost use Rattle.h2_streams.specs.Kept as kept;
+ghost use Rattle.h2_streams.specs.Rebuilt as spec;
+
+use crate::ids::append;
+use crate::kinds::is_live;
+use crate::places::{place_of, record_at, write};
+use h2_spec::streams::Stream;
+use std::alloc::{AllocError, Allocator};
+
+/// How many more records there is space for at first.
+const ROOM: usize = 64;
+
+/// The first records, so many, once more.
+pub(crate) fn front_of<A: Allocator + Copy>(
+    records: &Vec<Stream, A>,
+    count: usize,
+) -> Result<Vec<Stream, A>, AllocError>
+    requires { count ≤ length records.now.items }
+    ensures { IfOk result (λ copy. copy.items ≡ take count records.now.items) }
+{
+    let front = &records.as_slice()[..count];
+    let mut copy = Vec::with_capacity(*records.allocator(), count.saturating_add(ROOM))?;
+    copy.extend_from_slice(front)?;
+    Ok(copy)
+}
+
+/// Writes records in the places of those with their identifiers, and puts the places of the live ones behind the
+/// others. There is room for them.
+pub(crate) fn write_each<A: Allocator>(
+    records: &mut Vec<Stream, A>,
+    changed: &[Stream],
+    live: &mut Vec<usize, A>,
+)
+    requires rising { kept.Rise 0 records.old.items }
+    requires changed { kept.Rise 0 changed.now }
+    requires known { spec.AreKnown records.old.items changed.now }
+    requires room { length live.old.items + length changed.now ≤ vec_capacity live.old }
+    ensures items { records.new.items ≡ map (spec.as_in changed.now) records.old.items }
+    ensures live { live.new.items ≡ live.old.items ++ spec.live_places changed.now records.old.items }
+{
+    for stream in changed {
+        let place = write(records, *stream);
+        append(live, place, is_live(stream.kind));
+    }
+}
+
+/// Puts the record behind the others, if there is one. There is room for it.
+fn append_any<A: Allocator>(list: &mut Vec<Stream, A>, stream: Option<&Stream>)
+    requires { length list.old.items + 1 ≤ vec_capacity list.old }
+    ensures items { list.new.items ≡ list.old.items ++ spec.if_any (option_copied stream.entry) }
+    ensures len { length list.new.items ≤ length list.old.items + 1 }
+    ensures capacity { vec_capacity list.old ≤ vec_capacity list.new }
+{
+    if let Some(stream) = stream {
+        list.push_reserved(*stream);
+    }
+}
+
+/// The records at these places, once more.
+pub(crate) fn records_at<A: Allocator>(
+    records: &[Stream],
+    places: &[usize],
+    alloc: A,
+) -> Result<Vec<Stream, A>, AllocError>
+    ensures { IfOk result (λ list. list.items ≡ spec.records_at records.now places.now) }
+{
+    let mut list = Vec::with_capacity(alloc, places.len())?;
+    for place in places {
+        append_any(&mut list, record_at(records, *place));
+    }
+    Ok(list)
+}
+
+/// Puts a record into a list in the order of identifiers, unless it is live: then it is there.
+pub(crate) fn insert_closed<A: Allocator>(
+    list: &mut Vec<Stream, A>,
+    stream: &Stream,
+) -> Result<(), AllocError>
+    requires { kept.Rise 0 list.old.items }
+    ensures { OnOk result (list.new.items ≡ (if is_live stream.now.kind then list.old.items else insert list.old.items (kept.place_of stream.now.id list.old.items) stream.now)) }
+{
+    if is_live(stream.kind) {
+        return Ok(());
+    }
+    let place = place_of(list.as_slice(), stream.id);
+    list.insert(place, *stream)?;
+    Ok(())
+}
