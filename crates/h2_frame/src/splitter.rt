@@ -18,8 +18,6 @@ use h2_spec::octets::{octets_from, octets_up_to};
 use std::alloc::{AllocError, Allocator};
 use std::marker::Model;
 
-/// The client's connection preface (RFC 9113, 3.4).
-
 /// One step of the input.
 #[derive(Clone, Copy, Debug, PartialEq, Eq)]
 pub enum Item<'a> {

@@ -84,7 +84,7 @@ impl Text for GoawayText {
     }
 }
 
-/// How far the connection has come, and the last stream that was opened.
+/// The phase of the connection, and the last stream that was opened.
 #[derive(Drop)]
 pub struct PhaseLine<'c>(pub &'c ConnectionState);
 

@@ -152,7 +152,7 @@ pub(crate) fn is_due<A: Allocator>(core: &ConnectionState, table: &DynTable<A>) 
     core.own.table < table.max()
 }
 
-/// What is shown of a connection's state, as it stands there: the parts that a view is made of.
+/// What is shown of a connection's state, lent from it: the parts that a view is made of.
 #[derive(Drop)]
 pub struct Shown<'s, A: Allocator> {
     pub core: ConnectionState,
