@@ -1,5 +1,5 @@
 -- The first line of a session.
-use Rattle.std.proofs.Common.{◌≡◌, ◌-◌, ◌≤◌, ◌⊎◌, ℕ, Bool, true, false, List, [], ◌∷◌, ◌++◌, Option, Some, length, take, filter, nat_le, cond, refl, ap, inl, inr, subst, arith}
+use Rattle.std.proofs.Common.{◌≡◌, ◌-◌, ◌≤◌, ◌⊎◌, ℕ, Bool, true, false, List, [], ◌∷◌, ◌++◌, Option, Some, Result, Ok, Err, IfErr, IfOk, OnErr, length, take, filter, nat_le, cond, refl, ap, inl, inr, subst, arith}
 use Rattle.hex.specs.Hex.{decode_of}
 use Rattle.h2_spec.specs.declared.connection.Config.{Config}
 use Rattle.h2_spec.specs.Answer.{Entry}
@@ -8,7 +8,8 @@ use Rattle.h2_session.specs.Faults.{fault_number}
 use Rattle.h2_session.specs.Lines.{ended_lines, is_digit, lines_of, octets_in, octets_spelled}
 use Rattle.h2_session.specs.Loading.{IsNotLoaded, Loads}
 use Rattle.h2_session.specs.Reading.{IsCut, most}
-use Rattle.h2_session.specs.Session.{IsAnswered, IsFollowed, IsGiven, IsLoaded, IsSession, Printed, closed, failed}
+use Rattle.h2_session.specs.Responses.{IsRefusal, IsResponse}
+use Rattle.h2_session.specs.Session.{IsAnswered, IsFollowed, IsGiven, IsLoaded, IsSession, Printed, Prints, closed, failed}
 use Rattle.h2_session.specs.Takes.{TakesFirst}
 use Rattle.h2_session.specs.declared.fault.SessionFault.{SessionFault}
 use Rattle.h2_session.specs.declared.fault.SessionFault.TheVariants.{NoMemory}
@@ -92,3 +93,20 @@ pub session-followed : (book : List Entry) (config : Config) (octets digits more
 session-followed book config octets digits more input_failed first last before after rest d t e f zero le takes loads (lines, whole, given, answered) =
     session-line book config octets digits more input_failed first last before after rest lines whole t e f zero le takes given
     (answered-loads book config (octets_in (decode_of digits)) d lines whole t loads answered)
+
+-- the session behind its first line
+pub session-responded : (book : List Entry) (config : Config) (octets held digits : List ℕ) (loaded : Result Debugging SessionFault) (end : End) (first last : ℕ) (before middle rest : Option (List ℕ)) (input_failed : Bool)
+    (written : Option (List ℕ)) (status : ℕ) → before ≡ Some octets → first ≡ 0 → last ≤ most → TakesFirst before middle first last digits end
+    → IfOk loaded (Loads book config (octets_in (decode_of digits))) → IfErr loaded (IsNotLoaded config (octets_in (decode_of digits)))
+    → IfOk loaded (λ d. IsResponse d end (most - last) middle input_failed rest false (Some held) written status)
+    → IfErr loaded (λ fault. IsRefusal fault false (Some held) written status)
+    → OnErr loaded (input_failed ≡ false) → (end ≡ Input → input_failed ≡ false)
+    → (t : Printed) × IsSession book config octets input_failed rest t × Prints t held written status
+session-responded book config octets held digits (Err fault) end first last before middle rest input_failed written status e zero le takes ok err responds refuses well ended =
+    (failed (fault_number fault), rw well (session-unloaded book config octets digits end first last before middle rest fault e zero le takes err), refuses refl held refl)
+session-responded book config octets held digits (Ok d) Input first last before middle rest input_failed written status e zero le takes ok err responds refuses well ended =
+    (closed true [], rw (ended refl) (session-empty book config octets digits first last before middle rest d e zero le takes ok), responds refl held refl)
+session-responded book config octets held digits (Ok d) LineFeed first last before middle rest input_failed written status e zero le takes ok err responds refuses well ended =
+    let k = line-known octets digits first last before middle e takes in
+    let f = responds refl k.0 held k.1 refl in
+    (f.0, session-followed book config octets digits k.0 input_failed first last before middle rest d f.0 e k.1 zero le takes ok f.1, f.2)

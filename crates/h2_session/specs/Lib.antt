@@ -4,6 +4,7 @@ pub mod Lines
 pub mod Loading
 pub mod Reading
 pub mod Replies
+pub mod Responses
 pub mod Session
 pub mod Takes
 pub mod Words

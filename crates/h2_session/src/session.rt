@@ -1,7 +1,7 @@
 //! A session with a debugger: the octets of a peer in hex, and then commands, each answered before the next is read.
 //! Rests on `line`, `obey` and `reply`; definition: `specs/Session.antt`.
 
-ghost use Rattle.std.specs.Prelude.{◌≡◌, ◌==◌, ◌-◌, ◌≤◌, ℕ, List, Some, false, IfErr, IfOk, OnOk, is_err};
+ghost use Rattle.std.specs.Prelude.{◌≡◌, ◌==◌, ◌-◌, ◌≤◌, ℕ, List, Some, false, IfErr, IfOk, OnErr, OnOk, is_err};
 ghost use Rattle.hex.specs.Hex.{decode_of};
 ghost use Rattle.h2_session.specs.Faults.{fault_number};
 ghost use Rattle.h2_session.specs.Commands.{command_of};
@@ -9,6 +9,8 @@ ghost use Rattle.h2_session.specs.Lines.{octets_in};
 ghost use Rattle.h2_session.specs.Reading.{ahead, most};
 ghost use Rattle.h2_session.specs.Replies.{Obeys, reply_text};
 ghost use Rattle.h2_session.specs.Session.{AnswersLine, IsFollowed, IsSession, Prints, Printed, failed};
+ghost use Rattle.h2_session.specs.Responses.{IsRefusal, IsResponse};
+ghost use Rattle.h2_session.specs.declared.line.End.TheVariants.{Input as LastLine};
 ghost use Rattle.h2_session.specs.Loading.{IsNotLoaded, Loads};
 
 use crate::command::command_of;
@@ -58,7 +60,7 @@ fn answer<O: Output>(
     write_flushed(output, &ReplyText { reply, debugger })
 }
 
-/// RespondsWith each line until the input ends, and gives the exit status.
+/// Answers each line until the input ends, and gives the exit status.
 fn follow<I: Input, O: Output>(
     debugger: &mut Debugger<'_, Global>,
     reader: &mut Reader,
@@ -86,6 +88,54 @@ fn follow<I: Input, O: Output>(
         if let End::Input = end {
             return 0;
         }
+    }
+}
+
+/// Responds to the lines behind a first line that ends so, and gives the exit status.
+fn follow_behind<I: Input, O: Output>(
+    debugger: &mut Debugger<'_, Global>,
+    end: End,
+    reader: &mut Reader,
+    input: &mut I,
+    output: &mut O,
+) -> u8
+    requires input { I.has_failed input.old ≡ false }
+    requires output { O.has_failed output.old ≡ false }
+    ensures printed { IsResponse debugger.old end (most - reader.old.passed) (ahead reader.old (I.remaining input.old)) (I.has_failed input.new) (I.remaining input.new)
+        (O.has_failed output.new) (O.written output.old) (O.written output.new) result }
+    ensures unread { end ≡ LastLine → I.has_failed input.new ≡ false }
+    ensures flag { O.has_failed output.new ≡ (result == 3) }
+    ensures input { I.name input.new ≡ I.name input.old }
+    ensures name { O.name output.new ≡ O.name output.old }
+{
+    match end {
+        End::Input => 0,
+        End::LineFeed => follow(debugger, reader, input, output),
+    }
+}
+
+/// The same of a debugger that may not have been loaded, whose fault is then written.
+fn respond<I: Input, O: Output>(
+    loaded: Result<Debugger<'_, Global>, SessionFault>,
+    end: End,
+    reader: &mut Reader,
+    input: &mut I,
+    output: &mut O,
+) -> u8
+    requires input { I.has_failed input.old ≡ false }
+    requires output { O.has_failed output.old ≡ false }
+    ensures ok { IfOk loaded.entry (λ debugger. IsResponse debugger end (most - reader.old.passed) (ahead reader.old (I.remaining input.old)) (I.has_failed input.new) (I.remaining input.new)
+        (O.has_failed output.new) (O.written output.old) (O.written output.new) result) }
+    ensures err { IfErr loaded.entry (λ fault. IsRefusal fault (O.has_failed output.new) (O.written output.old) (O.written output.new) result) }
+    ensures unread { OnErr loaded.entry (I.has_failed input.new ≡ false) }
+    ensures last { end ≡ LastLine → I.has_failed input.new ≡ false }
+    ensures flag { O.has_failed output.new ≡ (result == 3) }
+    ensures input { I.name input.new ≡ I.name input.old }
+    ensures name { O.name output.new ≡ O.name output.old }
+{
+    match loaded {
+        Ok(mut debugger) => follow_behind(&mut debugger, end, reader, input, output),
+        Err(fault) => refuse(output, fault),
     }
 }
 
@@ -132,16 +182,11 @@ pub fn debug_session<I: Input, O: Output>(
 {
     let mut reader = Reader::new();
     let mut digits = Vec::new(alloc);
-    let end = match take_digits(&mut reader, input, &mut digits) {
-        Ok(end) => end,
-        Err(fault) => return refuse(output, fault),
-    };
-    let mut debugger = match load(alloc, book, config, digits) {
-        Ok(debugger) => debugger,
-        Err(fault) => return refuse(output, fault),
-    };
-    match end {
-        End::Input => 0,
-        End::LineFeed => follow(&mut debugger, &mut reader, input, output),
+    match take_digits(&mut reader, input, &mut digits) {
+        Ok(end) => {
+            let loaded = load(alloc, book, config, digits);
+            respond(loaded, end, &mut reader, input, output)
+        }
+        Err(fault) => refuse(output, fault),
     }
 }

@@ -1,11 +1,10 @@
-use Rattle.std.proofs.Common.{◌∙◌, ℕ, List, [], true, Some, inl, inr, ap, refl, sym}
-use Rattle.std.proofs.lemmas.List.{append-nil}
+use Rattle.std.proofs.Common.{◌∙◌, List, inl, inr, ap}
 use Rattle.h2_session.specs.Faults.{fault_number}
 use Rattle.h2_session.specs.Reading.{ahead}
-use Rattle.h2_session.specs.Session.{closed, failed}
+use Rattle.h2_session.specs.Session.{failed}
 use Rattle.h2_session.specs.declared.fault.SessionFault.{SessionFault}
 use Rattle.h2_session.proofs.Ahead.{none-held}
-use Rattle.h2_session.proofs.Beginning.{line-known, session-cut, session-empty, session-followed, session-unloaded}
+use Rattle.h2_session.proofs.Beginning.{session-cut, session-responded}
 use Rattle.h2_session.proofs.session.debug_session.Goals as goal
 
 pub returns-in-Err-clause-printed : goal.returns-in-Err-clause-printed
@@ -20,40 +19,11 @@ returns-in-Err-clause-printed g c = λ well octets held knows out.
       printed,
     )
 
-pub returns-in-Err-load-clause-printed : goal.returns-in-Err-load-clause-printed
-returns-in-Err-load-clause-printed g c = λ well octets held knows out.
+pub returns-in-Ok-clause-printed : goal.returns-in-Ok-clause-printed
+returns-in-Ok-clause-printed g c = λ well octets held knows out.
     let start = none-held c.new-reader.result.held _ c.new-reader.ensures.0 ∙ knows in
-    let rest = g.I.Input.remaining c.take_digits.new.input in (
-      failed (fault_number c.in-Err-load.fault),
-      rw c.in-Ok.ensures.well (session-unloaded c.args.book.now c.args.config octets c.take_digits.new.digits.items c.in-Ok.end c.new-reader.result.passed c.take_digits.new.reader.passed
-          (ahead c.new-reader.result (g.I.Input.remaining c.args.input.now)) (ahead c.take_digits.new.reader rest) rest c.in-Err-load.fault start c.new-reader.ensures.1
-          c.in-Ok.ensures.within c.in-Ok.ensures.ok c.in-Err-load.ensures.err),
-      c.refuse-in-Err-load.ensures.printed well held out,
-    )
-
-pub returns-in-Input-clause-printed : goal.returns-in-Input-clause-printed
-returns-in-Input-clause-printed g c = λ well octets held knows out.
-    let start = none-held c.new-reader.result.held _ c.new-reader.ensures.0 ∙ knows in
-    let rest = g.I.Input.remaining c.take_digits.new.input in
-    let takes = rw c.in-Input.is at c.in-Ok.ensures.ok in (
-      closed true [],
-      rw c.in-Ok.ensures.well (session-empty c.args.book.now c.args.config octets c.take_digits.new.digits.items c.new-reader.result.passed c.take_digits.new.reader.passed
-          (ahead c.new-reader.result (g.I.Input.remaining c.args.input.now)) (ahead c.take_digits.new.reader rest) rest c.in-Ok-load.debugger start c.new-reader.ensures.1
-          c.in-Ok.ensures.within takes c.in-Ok-load.ensures.ok),
-      (out ∙ ap (λ (t : List ℕ). Some t) (sym (append-nil held)), refl),
-    )
-
-pub returns-clause-printed : goal.returns-clause-printed
-returns-clause-printed g c = λ well octets held knows out.
-    let start = none-held c.new-reader.result.held _ c.new-reader.ensures.0 ∙ knows in
-    let rest = g.I.Input.remaining c.take_digits.new.input in
-    let before = ahead c.new-reader.result (g.I.Input.remaining c.args.input.now) in
-    let after = ahead c.take_digits.new.reader rest in
-    let takes = rw c.in-LineFeed.is at c.in-Ok.ensures.ok in
-    let k = line-known octets c.take_digits.new.digits.items c.new-reader.result.passed c.take_digits.new.reader.passed before after start takes in
-    let f = c.follow.ensures.printed well k.0 held k.1 out in (
-      f.0,
-      session-followed c.args.book.now c.args.config octets c.take_digits.new.digits.items k.0 _ c.new-reader.result.passed c.take_digits.new.reader.passed before after _
-          c.in-Ok-load.debugger f.0 start k.1 c.new-reader.ensures.1 c.in-Ok.ensures.within takes c.in-Ok-load.ensures.ok f.1,
-      f.2,
-    )
+    let rest = g.I.Input.remaining c.respond.new.input in
+    session-responded c.args.book.now c.args.config octets held c.take_digits.new.digits.items c.load-loaded.result c.in-Ok.end c.new-reader.result.passed c.take_digits.new.reader.passed
+    (ahead c.new-reader.result (g.I.Input.remaining c.args.input.now)) (ahead c.take_digits.new.reader (g.I.Input.remaining c.take_digits.new.input)) rest
+    (g.I.Input.has_failed c.respond.new.input) (g.O.Output.written c.respond.new.output) c.respond.result start c.new-reader.ensures.1 c.in-Ok.ensures.within c.in-Ok.ensures.ok
+    c.load-loaded.ensures.ok c.load-loaded.ensures.err (rw (well, out) at c.respond.ensures.ok) (rw (well, out) at c.respond.ensures.err) c.respond.ensures.unread c.respond.ensures.last

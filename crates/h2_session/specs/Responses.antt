@@ -1,0 +1,18 @@
+-- What is printed behind the first line of a session.
+use Rattle.std.specs.Prelude.{◌≡◌, ℕ, Bool, true, false, List, [], Option, Some}
+use Rattle.h2_debug.specs.Debugging.{Debugging}
+use Rattle.h2_session.specs.Faults.{fault_number}
+use Rattle.h2_session.specs.Session.{IsFollowed, Printed, Prints, closed, failed}
+use Rattle.h2_session.specs.declared.fault.SessionFault.{SessionFault}
+use Rattle.h2_session.specs.declared.line.End.{End}
+use Rattle.h2_session.specs.declared.line.End.TheVariants.{Input, LineFeed}
+
+-- nothing more behind a line that ends with the input, else the answers to the lines that are ahead, at most so many octets
+abbrev pub IsResponse : Debugging → End → ℕ → Option (List ℕ) → Bool → Option (List ℕ) → Bool → Option (List ℕ) → Option (List ℕ) → ℕ → Type 0
+IsResponse d Input limit octets input_failed rest output_failed before after status = output_failed ≡ false → (held : List ℕ) → before ≡ Some held → Prints (closed true []) held after status
+IsResponse d LineFeed limit ahead input_failed rest output_failed before after status = output_failed ≡ false → (octets held : List ℕ) → ahead ≡ Some octets → before ≡ Some held
+    → (t : Printed) × IsFollowed d limit octets input_failed rest t × Prints t held after status
+
+-- the line of a fault that ends the session
+abbrev pub IsRefusal : SessionFault → Bool → Option (List ℕ) → Option (List ℕ) → ℕ → Type 0
+IsRefusal fault output_failed before after status = output_failed ≡ false → (held : List ℕ) → before ≡ Some held → Prints (failed (fault_number fault)) held after status
