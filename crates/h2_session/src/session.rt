@@ -116,7 +116,7 @@ fn follow_behind<I: Input, O: Output>(
 
 /// The same of a debugger that may not have been loaded, whose fault is then written.
 fn respond<I: Input, O: Output>(
-    loaded: Result<Debugger<'_, Global>, SessionFault>,
+    loaded: &mut Result<Debugger<'_, Global>, SessionFault>,
     end: End,
     reader: &mut Reader,
     input: &mut I,
@@ -124,18 +124,18 @@ fn respond<I: Input, O: Output>(
 ) -> u8
     requires input { I.has_failed input.old ≡ false }
     requires output { O.has_failed output.old ≡ false }
-    ensures ok { IfOk loaded.entry (λ debugger. IsResponse debugger end (most - reader.old.passed) (ahead reader.old (I.remaining input.old)) (I.has_failed input.new) (I.remaining input.new)
+    ensures ok { IfOk loaded.old (λ debugger. IsResponse debugger end (most - reader.old.passed) (ahead reader.old (I.remaining input.old)) (I.has_failed input.new) (I.remaining input.new)
         (O.has_failed output.new) (O.written output.old) (O.written output.new) result) }
-    ensures err { IfErr loaded.entry (λ fault. IsRefusal fault (O.has_failed output.new) (O.written output.old) (O.written output.new) result) }
-    ensures unread { OnErr loaded.entry (I.has_failed input.new ≡ false) }
+    ensures err { IfErr loaded.old (λ fault. IsRefusal fault (O.has_failed output.new) (O.written output.old) (O.written output.new) result) }
+    ensures unread { OnErr loaded.old (I.has_failed input.new ≡ false) }
     ensures last { end ≡ LastLine → I.has_failed input.new ≡ false }
     ensures flag { O.has_failed output.new ≡ (result == 3) }
     ensures input { I.name input.new ≡ I.name input.old }
     ensures name { O.name output.new ≡ O.name output.old }
 {
     match loaded {
-        Ok(mut debugger) => follow_behind(&mut debugger, end, reader, input, output),
-        Err(fault) => refuse(output, fault),
+        Ok(debugger) => follow_behind(debugger, end, reader, input, output),
+        Err(fault) => refuse(output, *fault),
     }
 }
 
@@ -184,8 +184,10 @@ pub fn debug_session<I: Input, O: Output>(
     let mut digits = Vec::new(alloc);
     match take_digits(&mut reader, input, &mut digits) {
         Ok(end) => {
-            let loaded = load(alloc, book, config, digits);
-            respond(loaded, end, &mut reader, input, output)
+            let mut loaded = load(alloc, book, config, digits);
+            let status = respond(&mut loaded, end, &mut reader, input, output);
+            drop(loaded);
+            status
         }
         Err(fault) => refuse(output, fault),
     }
