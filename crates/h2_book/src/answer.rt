@@ -1,7 +1,7 @@
 //! One answer of a book's file: what its table says, and the entry that it makes.
 //! Rests on `body` and `header`; definitions: specs/Said.antt and, for the entry, specs/Entries.antt.
 
-ghost use Rattle.std.specs.Prelude.{◌≡◌, ◌<◌, true, None, Some, codes, option_map};
+ghost use Rattle.std.specs.Prelude.{◌≡◌, ◌<◌, bytes_eq, true, None, Some, codes, option_map};
 ghost use Rattle.std.specs.Prelude.{option_and_then, IfOk, IfErr, IsTrue, is_some, not, string_bytes};
 ghost use Rattle.std.specs.BTreeMap.{keys};
 ghost use Rattle.std.specs.List.{list_any};
@@ -129,19 +129,26 @@ fn unknown_key(alloc: Global, table: &Table) -> Option<String> {
     copy_of_key(alloc, key.as_str())
 }
 
+/// Whether a key is this one.
+fn is(key: &str, name: &str) -> bool
+    ensures { result ≡ bytes_eq key.now name.now }
+{
+    key == name
+}
+
 /// Whether an answer may have this key.
 fn is_key_of_answer(key: &str) -> bool
     ensures { result ≡ spec.is_key_of_answer key.now }
 {
-    key == "method"
-        || key == "path"
-        || key == "status"
-        || key == "headers"
-        || key == "body"
-        || key == "body-hex"
-        || key == "body-file"
-        || key == "body-fill"
-        || key == "early"
+    is(key, "method")
+        || is(key, "path")
+        || is(key, "status")
+        || is(key, "headers")
+        || is(key, "body")
+        || is(key, "body-hex")
+        || is(key, "body-file")
+        || is(key, "body-fill")
+        || is(key, "early")
 }
 
 /// Whether the answer is early; without the key it is not.

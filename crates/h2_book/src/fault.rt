@@ -115,6 +115,26 @@ impl Cause {
             | Cause::ManyBodies => 26,
         }
     }
+
+    /// What is wrong, where that does not depend on what the cause holds.
+    fn sentence(&self) -> &'static str {
+        match self {
+            Cause::NoMemory => "out of memory",
+            Cause::Unread => "the file can't be read, or has more than 16777216 octets",
+            Cause::NoText => "the file is not UTF-8",
+            Cause::NoTable => "an answer has to be a table",
+            Cause::ManyBodies => "there are two bodies or more",
+            Cause::FileUnread => "the file of `body-file` can't be read",
+            Cause::FileTooLong => "the file of `body-file` has more than 1048576 octets",
+            Cause::FillTooLong => "the count of `body-fill` is above 1048576",
+            Cause::NoToml(_)
+            | Cause::UnknownTop(_)
+            | Cause::UnknownKey(_)
+            | Cause::Missing(_)
+            | Cause::Malformed(_)
+            | Cause::BadEntry(_) => "",
+        }
+    }
 }
 
 impl From<AllocError> for Cause {
@@ -194,65 +214,71 @@ impl BookFileFault {
 
 impl fmt::Display for BookFileFault {
     fn fmt<W: fmt::Write>(&self, f: &mut fmt::Formatter<W>) -> fmt::Result {
-        match &self.path {
-            Some(path) => f.write_str(path.as_str())?,
-            None => f.write_str("the book")?,
-        }
-        if self.place.line > 0 {
-            let line = self.place.line;
-            write!(f, ", line {line}")?;
-        }
-        if self.place.answer > 0 {
-            let answer = self.place.answer;
-            write!(f, ", answer {answer}")?;
-        }
-        f.write_str(": ")?;
-        write_cause(&self.cause, f)?;
-        f.write_str(".")
+        let path = match &self.path {
+            Some(path) => path.as_str(),
+            None => "the book",
+        };
+        write!(f, "{path}{}: {}.", self.place, Wrong(&self.cause))
     }
 }
 
 impl error::Error for BookFileFault {}
 
+/// The place behind the path of a file: its line and its answer, each where there is one.
+impl fmt::Display for Place {
+    fn fmt<W: fmt::Write>(&self, f: &mut fmt::Formatter<W>) -> fmt::Result {
+        let (line, answer) = (self.line, self.answer);
+        match (line > 0, answer > 0) {
+            (false, false) => Ok(()),
+            (true, false) => write!(f, ", line {line}"),
+            (false, true) => write!(f, ", answer {answer}"),
+            (true, true) => write!(f, ", line {line}, answer {answer}"),
+        }
+    }
+}
+
 /// What is wrong, without a full stop.
-fn write_cause<W: fmt::Write>(cause: &Cause, f: &mut fmt::Formatter<W>) -> fmt::Result {
-    match cause {
-        Cause::NoMemory => f.write_str("out of memory"),
-        Cause::Unread => f.write_str("the file can't be read, or has more than 16777216 octets"),
-        Cause::NoText => f.write_str("the file is not UTF-8"),
-        Cause::NoToml(error) => {
-            f.write_str("the file is not TOML: ")?;
-            f.write_str(error.message())
+#[derive(Clone, Copy)]
+struct Wrong<'c>(&'c Cause);
+
+impl fmt::Display for Wrong<'_> {
+    fn fmt<W: fmt::Write>(&self, f: &mut fmt::Formatter<W>) -> fmt::Result {
+        match self.0 {
+            Cause::NoToml(error) => {
+                let message = error.message();
+                write!(f, "the file is not TOML: {message}")
+            }
+            Cause::UnknownTop(key) => {
+                let key = Unknown(key);
+                write!(f, "{key} is unknown, a book has nothing but [[answer]]")
+            }
+            Cause::UnknownKey(key) => {
+                let key = Unknown(key);
+                write!(f, "{key} is unknown")
+            }
+            Cause::Missing(key) => {
+                let name = key.name();
+                write!(f, "the key `{name}` is missing")
+            }
+            Cause::Malformed(key) => {
+                let (name, wanted) = (key.name(), key.wanted());
+                write!(f, "the key `{name}` has to be {wanted}")
+            }
+            Cause::BadEntry(fault) => write!(f, "{fault}"),
+            other => f.write_str(other.sentence()),
         }
-        Cause::UnknownTop(key) => {
-            write_key(key, f)?;
-            f.write_str(" is unknown, a book has nothing but [[answer]]")
-        }
-        Cause::NoTable => f.write_str("an answer has to be a table"),
-        Cause::UnknownKey(key) => {
-            write_key(key, f)?;
-            f.write_str(" is unknown")
-        }
-        Cause::Missing(key) => {
-            let name = key.name();
-            write!(f, "the key `{name}` is missing")
-        }
-        Cause::Malformed(key) => {
-            let (name, wanted) = (key.name(), key.wanted());
-            write!(f, "the key `{name}` has to be {wanted}")
-        }
-        Cause::ManyBodies => f.write_str("there are two bodies or more"),
-        Cause::FileUnread => f.write_str("the file of `body-file` can't be read"),
-        Cause::FileTooLong => f.write_str("the file of `body-file` has more than 1048576 octets"),
-        Cause::FillTooLong => f.write_str("the count of `body-fill` is above 1048576"),
-        Cause::BadEntry(fault) => write!(f, "{fault}"),
     }
 }
 
 /// A key that was copied, or was not for lack of memory.
-fn write_key<W: fmt::Write>(key: &Option<String>, f: &mut fmt::Formatter<W>) -> fmt::Result {
-    match key {
-        Some(key) => write!(f, "the key `{key}`"),
-        None => f.write_str("a key"),
+#[derive(Clone, Copy)]
+struct Unknown<'k>(&'k Option<String>);
+
+impl fmt::Display for Unknown<'_> {
+    fn fmt<W: fmt::Write>(&self, f: &mut fmt::Formatter<W>) -> fmt::Result {
+        match self.0 {
+            Some(key) => write!(f, "the key `{key}`"),
+            None => f.write_str("a key"),
+        }
     }
 }
