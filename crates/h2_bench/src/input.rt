@@ -1,10 +1,10 @@
 //! The whole input of a program, and the octets that hex text spells.
 //! Rests on h2_device; definitions: `specs/Input.antt`, over those of the crate `hex`.
 
-ghost use Rattle.std.specs.Prelude.{◌≡◌, ◌≤◌, ◌<◌, ◌+◌, ◌*◌, ◌/◌, ℕ, List, None, Some, true, false, drop, filter, length, not, is_some, slice_index, unwrap_or, IfOk, IfErr, IfSome, OnOk};
+ghost use Rattle.std.specs.Prelude.{◌≡◌, ◌≤◌, ◌<◌, ◌+◌, ◌*◌, ◌/◌, ℕ, List, None, Some, true, false, drop, filter, length, not, is_some, slice_index, IfOk, IfErr, IfSome, OnOk};
 ghost use Rattle.std.specs.List.{list_all};
 ghost use Rattle.std.specs.Vec.{vec_len, vec_capacity};
-ghost use Rattle.hex.specs.Hex.{hex_digit_value, is_hex_digit};
+ghost use Rattle.hex.specs.Hex.{is_hex_digit};
 ghost use Rattle.h2_bench.specs.Input.{all_in_front, at_end, in_front, IsNoHex, IsUnread, is_digit, octets_spelled, pair_spelled};
 
 use crate::fault::BenchFault;

@@ -145,7 +145,9 @@ fn write_played<O: Output>(
     match played(alloc, book, play.config, play.cut, first, &mut sent) {
         Ok(mut conn) => {
             let sent = sent.as_slice();
-            write_conn(alloc, play.each, &mut conn, sent, octets, output)
+            let ended = write_conn(alloc, play.each, &mut conn, sent, octets, output);
+            drop(conn);
+            ended
         }
         Err(fault) => Err(PlacesFault::Fault(fault)),
     }

@@ -1,7 +1,7 @@
 //! What the words of a command line ask for.
 //! Rests on `words` and on clap, whose definition of a command says which words are taken: `specs/Grammar.antt`.
 
-ghost use Rattle.std.specs.Prelude.{◌≡◌, IfOk, IfErr, Some, None, codes, map, option_map};
+ghost use Rattle.std.specs.Prelude.{◌≡◌, IfOk, IfErr, bytes_eq, Some, None, codes, map, option_map};
 ghost use Rattle.clap.specs.Words.{App, Rule, found_of, kind_of, new_app, rows_of, subcommand_rows_of, with_rule, with_subcommand};
 ghost use Rattle.clap.specs.declared.error.ErrorKind.TheVariants.{OutOfMemory};
 ghost use Rattle.h2_words.specs.Grammar.{answer_rule, asked_at, asked_by, asked_of, asm_app, bench_app, book_at, book_rule, config_at, count_rule, credit_rule, cut_rule, debug_app, dis_app, each_rule, frame_rule, is_set, limit_rule, number_at, play_app, port_rule, serve_app, streams_rule, table_app, table_rule, text_at, texts_at, top_app, why_rule, window_rule, with_book, with_limits, with_settings};
@@ -473,6 +473,13 @@ fn serve_from<'a>(alloc: Global, matches: &ArgMatches<'a>) -> Result<Serve<'a>, 
     })
 }
 
+/// Whether a command has this name.
+fn is(name: &str, command: &str) -> bool
+    ensures { result ≡ bytes_eq name.now command.now }
+{
+    name == command
+}
+
 fn plan_from<'a>(
     alloc: Global,
     name: &str,
@@ -480,23 +487,23 @@ fn plan_from<'a>(
 ) -> Result<Option<Plan<'a>>, AllocError>
     ensures { IfOk result (λ plan. option_map planned plan ≡ asked_by name.now (rows_of (found_of matches.now))) }
 {
-    if name == "play" {
+    if is(name, "play") {
         return Ok(Some(Plan::Batch(Batch::Play(play_from(alloc, matches)?))));
     }
-    if name == "asm" {
+    if is(name, "asm") {
         return Ok(Some(Plan::Batch(Batch::Asm)));
     }
-    if name == "dis" {
+    if is(name, "dis") {
         return Ok(Some(Plan::Batch(Batch::Dis)));
     }
-    if name == "table" {
+    if is(name, "table") {
         let limit = number_at(matches, "LIMIT", 0);
         return Ok(Some(Plan::Batch(Batch::Table(limit))));
     }
-    if name == "debug" {
+    if is(name, "debug") {
         return Ok(Some(Plan::Debug(debug_from(alloc, matches)?)));
     }
-    if name == "serve" {
+    if is(name, "serve") {
         return Ok(Some(Plan::Serve(serve_from(alloc, matches)?)));
     }
     Ok(None)
@@ -529,15 +536,11 @@ fn matches_of<'a>(alloc: Global, words: &'a Words) -> Result<ArgMatches<'a>, Ref
     }
 }
 
-/// What the words ask for. They are refused where they are no command, or ask for help, and where memory is.
-pub fn parse<'a>(alloc: Global, words: &'a Words) -> Result<Plan<'a>, Refusal>
-    ensures ok { IfOk result (λ plan. asked_of words.entry.now ≡ Some (planned plan)) }
-    ensures refused { IfErr result (Refuses (asked_of words.entry.now)) }
+/// What the words ask for in which clap finds this. They are refused where there is no command, and where memory is.
+fn plan_in<'a>(alloc: Global, matches: &ArgMatches<'a>) -> Result<Plan<'a>, Refusal>
+    ensures ok { IfOk result (λ plan. asked_at (subcommand_rows_of matches.now) ≡ Some (planned plan)) }
+    ensures refused { IfErr result (Refuses (asked_at (subcommand_rows_of matches.now))) }
 {
-    let matches = match matches_of(alloc, words) {
-        Ok(matches) => matches,
-        Err(refusal) => return Err(refusal),
-    };
     let Some((name, inner)) = matches.subcommand() else {
         return Err(Refusal::Words(String::new(alloc)));
     };
@@ -545,5 +548,16 @@ pub fn parse<'a>(alloc: Global, words: &'a Words) -> Result<Plan<'a>, Refusal>
         Ok(Some(plan)) => Ok(plan),
         Ok(None) => Err(Refusal::Words(String::new(alloc))),
         Err(_) => Err(Refusal::NoMemory),
+    }
+}
+
+/// What the words ask for. They are refused where they are no command, or ask for help, and where memory is.
+pub fn parse<'a>(alloc: Global, words: &'a Words) -> Result<Plan<'a>, Refusal>
+    ensures ok { IfOk result (λ plan. asked_of words.entry.now ≡ Some (planned plan)) }
+    ensures refused { IfErr result (Refuses (asked_of words.entry.now)) }
+{
+    match matches_of(alloc, words) {
+        Ok(matches) => plan_in(alloc, &matches),
+        Err(refusal) => Err(refusal),
     }
 }
