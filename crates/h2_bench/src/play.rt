@@ -145,9 +145,7 @@ fn write_played<O: Output>(
     match played(alloc, book, play.config, play.cut, first, &mut sent) {
         Ok(mut conn) => {
             let sent = sent.as_slice();
-            let ended = write_conn(alloc, play.each, &mut conn, sent, octets, output);
-            drop(conn);
-            ended
+            write_conn(alloc, play.each, &mut conn, sent, octets, output)
         }
         Err(fault) => Err(PlacesFault::Fault(fault)),
     }
