@@ -1,4 +1,5 @@
 pub mod BlockLaws
 pub mod BookLaws
+pub mod KnownNames
 pub mod OctetTables
 pub mod Seen

@@ -9,6 +9,7 @@ pub mod book;
 mod classes;
 pub mod fault;
 pub mod fields;
+mod mark;
 mod octets;
 pub mod reason;
 mod walk;

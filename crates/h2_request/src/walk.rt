@@ -1,15 +1,17 @@
 //! What one walk over a list of fields notes: marks of fields alone, the pseudo-fields, and the content-length.
-//! It rests on `octets`; how a field more changes each is `marked`, `noted` and `measured` of specs/Walk.antt, and that
-//! they then say what the definitions test of the whole list is proved in proofs/Seen.antt.
+//! It uses `mark`; how a field more changes each is `marked`, `noted` and `measured` of specs/Walk.antt, and by the
+//! field's mark `marked_by`, `noted_by` and `measured_by` of specs/Mark.antt. That they then say what the definitions
+//! test of the whole list is proved in proofs/Seen.antt.
 
 ghost use Rattle.std.specs.Prelude.{◌≡◌, ◌||◌, false, Some, is_some, unwrap_or};
 ghost use Rattle.std.specs.Option.{option_copied};
-ghost use Rattle.h2_spec.specs.Field.{field};
 ghost use Rattle.h2_request.specs.Fields.{fields_in};
-ghost use Rattle.h2_request.specs.Walk.{marked, noted, measured, pseudo_of, with_pseudo};
+ghost use Rattle.h2_request.specs.Mark.{marked_by, noted_by, measured_by, counted};
+ghost use Rattle.h2_request.specs.Walk.{pseudo_of};
 ghost use Rattle.h2_request.specs.Seen.{AreSeen};
 
 use crate::fields::Fields;
+use crate::mark::{KnownName, Mark};
 use crate::octets;
 use std::alloc::Allocator;
 
@@ -37,16 +39,16 @@ impl Marks {
         }
     }
 
-    /// With one field more.
-    pub fn with(self, name: &[u8], value: &[u8]) -> Self
-        ensures { result ≡ marked self (field name.now value.now) }
+    /// With the mark of one field more.
+    pub fn with(self, mark: Mark) -> Self
+        ensures { result ≡ marked_by self mark }
     {
         Marks {
-            bad_name: self.bad_name || octets::is_bad_name(name),
-            bad_value: self.bad_value || octets::is_bad_value(value),
-            pseudo: self.pseudo || octets::is_pseudo_name(name),
-            of_connection: self.of_connection || octets::is_connection_name(name),
-            bad_te: self.bad_te || (octets::same(name, b"te") && !octets::is_trailers(value)),
+            bad_name: self.bad_name || mark.bad_name,
+            bad_value: self.bad_value || mark.bad_value,
+            pseudo: self.pseudo || mark.known.is_pseudo(),
+            of_connection: self.of_connection || mark.known.is_of_connection(),
+            bad_te: self.bad_te || mark.bad_te,
         }
     }
 }
@@ -81,72 +83,35 @@ impl<'a> PseudoFields<'a> {
         }
     }
 
-    /// With one field more.
-    pub fn with(self, name: &[u8], value: &'a [u8]) -> Self
-        ensures { pseudo_of result ≡ noted (pseudo_of self.entry) (field name.now value.now) }
+    /// Adds one field more: which name it has, and its value.
+    pub fn note(&mut self, known: KnownName, value: &'a [u8])
+        ensures { pseudo_of self.new ≡ noted_by (pseudo_of self.old) known value.now }
     {
-        if octets::is_pseudo_name(name) {
-            let late = self.late || self.regular;
-            PseudoFields { late, ..self }.with_pseudo(name, value)
-        } else {
-            PseudoFields {
-                regular: true,
-                ..self
-            }
+        if !known.is_pseudo() {
+            self.regular = true;
+            return;
         }
-    }
-
-    /// With one pseudo-field more.
-    fn with_pseudo(self, name: &[u8], value: &'a [u8]) -> Self
-        ensures { pseudo_of result ≡ with_pseudo (pseudo_of self.entry) (field name.now value.now) }
-    {
-        if octets::same(name, b":method") {
-            let (double, method) = once_more(self.double, self.method, value);
-            PseudoFields {
-                double,
-                method,
-                ..self
-            }
-        } else if octets::same(name, b":scheme") {
-            let (double, scheme) = once_more(self.double, self.scheme, value);
-            PseudoFields {
-                double,
-                scheme,
-                ..self
-            }
-        } else if octets::same(name, b":path") {
-            let (double, path) = once_more(self.double, self.path, value);
-            PseudoFields {
-                double,
-                path,
-                ..self
-            }
-        } else if octets::same(name, b":authority") {
-            let (double, authority) = once_more(self.double, self.authority, value);
-            PseudoFields {
-                double,
-                authority,
-                ..self
-            }
-        } else {
-            PseudoFields {
-                unknown: true,
-                ..self
-            }
+        self.late = self.late || self.regular;
+        match known {
+            KnownName::Method => self.double = is_again(self.double, &mut self.method, value),
+            KnownName::Scheme => self.double = is_again(self.double, &mut self.scheme, value),
+            KnownName::Path => self.double = is_again(self.double, &mut self.path, value),
+            KnownName::Authority => self.double = is_again(self.double, &mut self.authority, value),
+            _ => self.unknown = true,
         }
     }
 }
 
-/// With one value more of a pseudo-field: whether one is there twice now, and the first value.
-fn once_more<'a>(
-    double: bool,
-    before: Option<&'a [u8]>,
-    value: &'a [u8],
-) -> (bool, Option<&'a [u8]>)
-    ensures double { result.0 ≡ (double || is_some (option_copied before.entry)) }
-    ensures first { option_copied result.1 ≡ Some (unwrap_or (option_copied before.entry) value.now) }
+/// Makes a value that of a pseudo-field if it is the first; whether one is there twice now.
+fn is_again<'a>(double: bool, first: &mut Option<&'a [u8]>, value: &'a [u8]) -> bool
+    ensures double { result ≡ (double || is_some (option_copied first.old)) }
+    ensures first { option_copied first.new ≡ Some (unwrap_or (option_copied first.old) value.now) }
 {
-    (double || before.is_some(), Some(before.unwrap_or(value)))
+    if first.is_some() {
+        return true;
+    }
+    *first = Some(value);
+    double
 }
 
 /// The content-length of a request: its number, and whether one is no number or another number.
@@ -167,13 +132,20 @@ impl ContentLength {
         }
     }
 
-    /// With one field more.
-    pub fn with(self, name: &[u8], value: &[u8]) -> Self
-        ensures { result ≡ measured self (field name.now value.now) }
+    /// With one field more: which name it has, and its value.
+    pub fn with(self, known: KnownName, value: &[u8]) -> Self
+        ensures { result ≡ measured_by self known value.now }
     {
-        if !octets::same(name, b"content-length") {
-            return self;
+        match known {
+            KnownName::ContentLength => self.counted(value),
+            _ => self,
         }
+    }
+
+    /// With one content-length more.
+    fn counted(self, value: &[u8]) -> Self
+        ensures { result ≡ counted self value.now }
+    {
         match (octets::number_of(value), self.declared) {
             (None, _) => ContentLength {
                 declared: self.declared,
@@ -210,9 +182,10 @@ impl<'a> Seen<'a> {
         let mut length = ContentLength::none();
         for place in 0..count {
             if let Some((name, value)) = fields.get(place) {
-                marks = marks.with(name, value);
-                pseudo = pseudo.with(name, value);
-                length = length.with(name, value);
+                let mark = Mark::of(name, value);
+                marks = marks.with(mark);
+                pseudo.note(mark.known, value);
+                length = length.with(mark.known, value);
             }
         }
         Seen {

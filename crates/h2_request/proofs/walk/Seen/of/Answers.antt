@@ -3,7 +3,10 @@ use Rattle.std.specs.Prelude.{slice_get}
 use Rattle.std.proofs.lemmas.Option.{none-some, slice_get-get_or}
 use Rattle.h2_spec.specs.Field.{Field, field}
 use Rattle.h2_request.specs.Fields.{fields_in}
+use Rattle.h2_request.specs.Mark.{mark_of, marked_by, noted_by, measured_by}
 use Rattle.h2_request.specs.Walk.{pseudo_of}
+use Rattle.h2_request.specs.declared.mark.Mark.{Mark}
+use Rattle.h2_request.proofs.KnownNames.{marked-by, noted-by, measured-by}
 use Rattle.h2_request.proofs.Seen.{marks-walked, pseudo-walked, length-walked}
 use Rattle.h2_request.proofs.walk.Seen.of.Goals as goal
 use Rattle.h2_request.proofs.walk.Seen.of.Goals.{in-Some, in_default}
@@ -17,11 +20,12 @@ loop-place-preserved g c =
     elim now.branch [
       | in-Some w ↦
           let f : Field = field w.in-Some.name.now w.in-Some.value.now in
+          let mark : w.of-mark.result ≡ mark_of f = w.of-mark.ensures in
           let at : slice_get fields i ≡ Some f = sym w.in-Some.ensures in
           record {
-            marks = marks-walked fields i f _ now.marks at (w.marks-is ∙ w.with-marks.ensures) before.marks;
-            pseudo = pseudo-walked fields i f _ (pseudo_of now.pseudo) at (ap pseudo_of w.pseudo-is ∙ w.with-pseudo.ensures) before.pseudo;
-            length = length-walked fields i f _ now.length at (w.length-is ∙ w.with-length.ensures) before.length;
+            marks = marks-walked fields i f _ now.marks at (w.marks-is ∙ w.with-marks.ensures ∙ ap (marked_by c.loop-place.marks) mark ∙ marked-by c.loop-place.marks f) before.marks;
+            pseudo = pseudo-walked fields i f _ (pseudo_of now.pseudo) at (ap pseudo_of w.pseudo-is ∙ w.note.ensures ∙ ap (λ (k : Mark). noted_by (pseudo_of c.loop-place.pseudo) k.known f.value) mark ∙ noted-by (pseudo_of c.loop-place.pseudo) f) before.pseudo;
+            length = length-walked fields i f _ now.length at (w.length-is ∙ w.with-length.ensures ∙ ap (λ (k : Mark). measured_by c.loop-place.length k.known f.value) mark ∙ measured-by c.loop-place.length f) before.length;
           }
       | in_default w ↦
           let inside : slice_get fields i ≡ Some (get_or fields i (field [] [])) = slice_get-get_or fields i (field [] []) (omega (arith, c.loop-place-test.true, c.len-count.ensures)) in
