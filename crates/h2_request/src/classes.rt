@@ -2,10 +2,10 @@
 //! It uses nothing; each table is tied to the test of `h2_spec`, specs/Request.antt, by a proof that computes over the
 //! whole table.
 
-ghost use Rattle.std.specs.Prelude.{◌≡◌};
+ghost use Rattle.std.specs.Prelude.{◌≡◌, ◌&&◌};
 ghost use Rattle.std.specs.List.{list_any};
 ghost use Rattle.h2_spec.specs.Request.{is_outside_values};
-ghost use Rattle.h2_request.specs.Octets.{is_outside_rest};
+ghost use Rattle.h2_request.specs.Octets.{is_low, is_outside_rest};
 
 /// For each octet whether no name has it behind its first octet: a control, a space, a capital letter, a colon, or one
 /// from 7f on.
@@ -78,8 +78,34 @@ pub fn has_outside_of_rest(octets: &[u8]) -> bool
     found
 }
 
-/// Whether one of the octets is none of a value's.
+/// Whether one of the octets is none of a value's. No octet above 0d is, and most values have none up to it, which a
+/// loop with no table finds out many octets at a time.
 pub fn has_outside_of_values(octets: &[u8]) -> bool
+    ensures { result ≡ list_any is_outside_values octets.now }
+{
+    has_low_outside(octets)
+}
+
+/// The same in two steps.
+fn has_low_outside(octets: &[u8]) -> bool
+    ensures { result ≡ (list_any is_low octets.now && list_any is_outside_values octets.now) }
+{
+    has_low(octets) && has_outside_in_table(octets)
+}
+
+/// Whether one of the octets is at most 0d.
+fn has_low(octets: &[u8]) -> bool
+    ensures { result ≡ list_any is_low octets.now }
+{
+    let mut found = false;
+    for octet in octets {
+        found |= *octet <= 0x0d;
+    }
+    found
+}
+
+/// Whether one of the octets is none of a value's, by the table.
+fn has_outside_in_table(octets: &[u8]) -> bool
     ensures { result ≡ list_any is_outside_values octets.now }
 {
     let mut found = false;
