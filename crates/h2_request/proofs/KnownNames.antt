@@ -1,10 +1,9 @@
 -- Which of the known names a name is: each fact of them is computed for each name, and follows for all others from the tests that they fail.
-use Rattle.std.proofs.Common.{◌≡◌, ℕ, Bool, true, false, not, ◌||◌, ◌&&◌, cond, List, [], ◌∷◌, length, codes, refl, sym, ◌∙◌, ap, subst}
-use Rattle.std.specs.Prelude.{◌==◌, bytes_eq, if◌then◌else◌}
-use Rattle.std.specs.List.{list_any}
+use Rattle.std.proofs.Common.{◌≡◌, ℕ, Bool, true, false, ◌||◌, ◌&&◌, cond, List, length, codes, refl, sym, subst}
+use Rattle.std.specs.Prelude.{◌==◌, bytes_eq}
 use Rattle.std.proofs.lemmas.Slice.Eq.{bytes_eq-Decides}
 use Rattle.h2_spec.specs.Field.{Field, field}
-use Rattle.h2_spec.specs.Request.{first_is, is_colon, is_named, is_pseudo, has_bad_name, has_bad_te, is_of_connection, connection_names}
+use Rattle.h2_spec.specs.Request.{first_is, is_colon, is_pseudo, has_bad_name, is_of_connection}
 use Rattle.h2_request.specs.Walk.{Pseudo, marked, noted, measured, with_pseudo}
 use Rattle.h2_request.specs.Mark.{known_of, known_by_length, unknown, mark_of, is_other, begins_with_colon, is_te, is_connection, marked_by, noted_by, measured_by}
 use Rattle.h2_request.specs.declared.walk.Marks.{Marks}

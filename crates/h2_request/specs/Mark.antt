@@ -1,5 +1,5 @@
 -- What a field can be malformed for by itself, and which of the names that the rules of a request are about it has.
-use Rattle.std.specs.Prelude.{ℕ, Bool, true, false, ◌||◌, not, ◌==◌, List, length, codes, bytes_eq, if◌then◌else◌, Some, is_some, unwrap_or}
+use Rattle.std.specs.Prelude.{ℕ, Bool, true, false, ◌||◌, ◌==◌, List, length, codes, bytes_eq, if◌then◌else◌, Some, is_some, unwrap_or}
 use Rattle.std.specs.List.{list_any}
 use Rattle.h2_spec.specs.Field.{Field}
 use Rattle.h2_spec.specs.Request.{first_is, is_colon, has_bad_name, has_bad_value, has_bad_te, connection_names, is_digits, decimal_value}
