@@ -29,6 +29,7 @@ use std::alloc::{AllocError, Allocator};
 
 /// Writes the HEADERS of an answer that begins, or nothing.
 #[tactic(auto, unfolding(h2_spec::specs::Answer::response_block))]
+#[inline(always)]
 fn write_answer<A: Allocator>(
     book: &Book<A>,
     answer: Option<Answering>,
@@ -55,6 +56,7 @@ fn write_answer<A: Allocator>(
 
 /// Writes the frames of a change, whole or in part.
 #[tactic(auto, unfolding(h2_spec::specs::Change::frames_of))]
+#[inline(always)]
 fn write_change<A: Allocator>(
     book: &Book<A>,
     change: &Change,
@@ -84,6 +86,7 @@ fn open_window(core: &ConnectionState) -> u64
 
 /// The frames of a change, what becomes of the records, and what is sent from them then: whole, or in part and then the
 /// records stay. Answers how many octets are sent.
+#[inline(always)]
 fn write_and_update<A: Allocator + Copy>(
     book: &Book<A>,
     streams: &mut Streams<A>,
@@ -108,6 +111,7 @@ fn write_and_update<A: Allocator + Copy>(
 }
 
 /// The same whole, or nothing.
+#[inline(always)]
 pub fn send_and_update<A: Allocator + Copy>(
     book: &Book<A>,
     streams: &mut Streams<A>,

@@ -219,6 +219,7 @@ impl<'b, A: Allocator + Copy> State<'b, A> {
     }
 
     /// CONTINUATION: the open block goes on; an error where there is none.
+    #[inline(never)]
     pub fn on_continuation(
         &mut self,
         head: &Head,
@@ -255,6 +256,7 @@ impl<'b, A: Allocator + Copy> State<'b, A> {
     }
 
     /// HEADERS: a block is opened for what the written table says of the stream, or an error.
+    #[inline(never)]
     pub fn on_headers(
         &mut self,
         head: &Head,

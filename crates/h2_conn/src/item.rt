@@ -2,7 +2,7 @@
 //! Rests on the rules and on `apply_change`; definitions: `effect` of h2_spec's `specs/Effect.antt`, `step` of
 //! `specs/Trace.antt`.
 
-ghost use Rattle.std.specs.Prelude.{◌≡◌, ◌<◌, ◌^◌, ◌==◌, [], length, None, Ok, OnOk, OnErr, if◌then◌else◌};
+ghost use Rattle.std.specs.Prelude.{◌≡◌, ◌<◌, ◌^◌, ◌==◌, [], length, None, Some, Ok, OnOk, OnErr, if◌then◌else◌};
 ghost use Rattle.h2_frame.specs.Items.{item_of};
 ghost use Rattle.h2_frame.specs.Parts.{data_seen, part_seen, settings_in};
 ghost use Rattle.h2_spec.specs.Answer.{picked};
@@ -18,6 +18,8 @@ ghost use Rattle.h2_spec.specs.WindowUpdate as window;
 ghost use Rattle.h2_spec.specs.Trace.{step};
 ghost use Rattle.h2_spec.specs.declared.connection.Phase.TheVariants as phase;
 ghost use Rattle.h2_spec.specs.declared.errors.ErrorCode.TheVariants.{ProtocolError};
+ghost use Rattle.h2_spec.specs.declared.reactions.ConnectionFrame.TheVariants as frames;
+ghost use Rattle.h2_spec.specs.declared.reactions.Reaction.TheVariants as reactions;
 ghost use Rattle.h2_spec.specs.declared.reactions.Reaction.TheVariants.{ConnectionError};
 ghost use Rattle.h2_conn.specs.Blocks.{IsStopped};
 ghost use Rattle.h2_conn.specs.Does.{Does, IsShort, stepped};
@@ -120,15 +122,36 @@ impl<'b, A: Allocator + Copy> State<'b, A> {
         on_window(self.core(), increment, self.stream_at(id))
     }
 
-    /// WINDOW_UPDATE.
-    fn on_window_update(&self, id: u32, increment: u32) -> Reaction
-        ensures rule { result ≡ (if id == 0 then window.connection_window self.now.core increment else rule.on_window self.now.core increment (stream_at self.now.core.last self.now.streams id)) }
+    /// WINDOW_UPDATE on the connection.
+    fn on_connection_window(&self, increment: u32) -> Reaction
+        ensures rule { result ≡ window.connection_window self.now.core increment }
         ensures sound { IsSound self.now.book (records self.now) (in_force self.now.core) result }
     {
-        if id == 0 {
-            return connection_window(self.core(), increment);
-        }
-        self.on_stream_window(id, increment)
+        connection_window(self.core(), increment)
+    }
+
+    /// PING.
+    fn on_ping(&self, is_answer: bool) -> Reaction
+        ensures rule { result ≡ (if is_answer then rule.nothing self.now.core else reactions.Continues (record (changes.only_counts self.now.core) { first = frames.PingAck })) }
+        ensures sound { IsSound self.now.book (records self.now) (in_force self.now.core) result }
+    {
+        on_ping(self.core(), is_answer)
+    }
+
+    /// GOAWAY.
+    fn on_goaway(&self, last: u32, code: u32) -> Reaction
+        ensures rule { result ≡ reactions.Continues (changes.only_counts (record self.now.core { goaway = Some (last, code) })) }
+        ensures sound { IsSound self.now.book (records self.now) (in_force self.now.core) result }
+    {
+        on_goaway(self.core(), last, code)
+    }
+
+    /// PRIORITY and frames of unknown types.
+    fn on_ignored(&self) -> Reaction
+        ensures rule { result ≡ rule.nothing self.now.core }
+        ensures sound { IsSound self.now.book (records self.now) (in_force self.now.core) result }
+    {
+        nothing(self.core())
     }
 
     /// PUSH_PROMISE, which a client may not send (RFC 9113, 8.4).
@@ -138,28 +161,8 @@ impl<'b, A: Allocator + Copy> State<'b, A> {
         Reaction::ConnectionError(ErrorCode::ProtocolError)
     }
 
-    /// What a frame results in that is no HEADERS, no CONTINUATION and no acknowledgement of settings.
-    fn react(&self, head: &Head, payload: &[u8], part: Part<'_>) -> Reaction
-        requires fits { length payload.now < 2 ^ 24 }
-        requires part { part_of head.now payload.now ≡ Ok (part_seen part) }
-        requires plain { IsPlain part }
-        ensures rule { makes self.now result ≡ rule.frame_effect self.now head.now payload.now (part_seen part.entry) }
-        ensures sound { IsSound self.now.book (records self.now) (in_force self.now.core) result }
-    {
-        match part {
-            Part::Data(part) => self.on_data(head, payload, part),
-            Part::RstStream(_) => self.on_reset(head.stream),
-            Part::Settings(part) => self.on_settings(part),
-            Part::Ping(_) => on_ping(self.core(), head.has(ACK)),
-            Part::Goaway(last, code) => on_goaway(self.core(), last, code),
-            Part::WindowUpdate(increment) => self.on_window_update(head.stream, increment),
-            Part::Priority | Part::Unknown => nothing(self.core()),
-            Part::PushPromise => self.on_push_promise(),
-            Part::Headers(_) | Part::Continuation(_) | Part::SettingsAck => unreachable!(),
-        }
-    }
-
     /// A connection error or a change, or nothing; no block is open that is still decoded.
+    #[inline(always)]
     fn conclude(
         &mut self,
         reaction: Reaction,
@@ -185,6 +188,204 @@ impl<'b, A: Allocator + Copy> State<'b, A> {
         match &self.block {
             None => None,
             Some(block) => Some(block.stream()),
+        }
+    }
+
+    /// DATA is taken.
+    #[inline(never)]
+    fn take_data(
+        &mut self,
+        head: &Head,
+        part: DataPart<'_>,
+        payload: &[u8],
+        out: &mut Vec<u8, A>,
+    ) -> Result<(), AllocError>
+        requires fits { length payload.now < 2 ^ 24 }
+        requires part { part_of head.now payload.now ≡ Ok (OfData (data_seen part)) }
+        requires stopped { IsStopped self.old.block }
+        ensures ok { OnOk result (Does (stepped (rule.concluded self.old payload.now (makes self.old (rule.on_data self.old.config self.old.core (rule.body_length self.old.book (stream_at self.old.core.last self.old.streams head.now.stream)) (rule.incoming head.now payload.now (data_seen part.entry)) (stream_at self.old.core.last self.old.streams head.now.stream))))) out.old.items self.new out.new.items) }
+        ensures err { OnErr result ((self.new ≡ self.old) × (out.new.items ≡ out.old.items)) }
+    {
+        let reaction = self.on_data(head, payload, part);
+        self.conclude(reaction, payload, out)
+    }
+
+    /// RST_STREAM is taken.
+    #[inline(never)]
+    fn take_reset(
+        &mut self,
+        id: u32,
+        payload: &[u8],
+        out: &mut Vec<u8, A>,
+    ) -> Result<(), AllocError>
+        requires fits { length payload.now < 2 ^ 24 }
+        requires stopped { IsStopped self.old.block }
+        ensures ok { OnOk result (Does (stepped (rule.concluded self.old payload.now (makes self.old (rule.on_reset self.old.core (stream_at self.old.core.last self.old.streams id))))) out.old.items self.new out.new.items) }
+        ensures err { OnErr result ((self.new ≡ self.old) × (out.new.items ≡ out.old.items)) }
+    {
+        let reaction = self.on_reset(id);
+        self.conclude(reaction, payload, out)
+    }
+
+    /// SETTINGS without ACK is taken.
+    #[inline(never)]
+    fn take_settings(
+        &mut self,
+        part: SettingsPart<'_>,
+        payload: &[u8],
+        out: &mut Vec<u8, A>,
+    ) -> Result<(), AllocError>
+        requires fits { length payload.now < 2 ^ 24 }
+        requires stopped { IsStopped self.old.block }
+        ensures ok { OnOk result (Does (stepped (rule.concluded self.old payload.now (makes self.old (settings.settings_rule self.old.streams self.old.core (settings_in part.entry))))) out.old.items self.new out.new.items) }
+        ensures err { OnErr result ((self.new ≡ self.old) × (out.new.items ≡ out.old.items)) }
+    {
+        let reaction = self.on_settings(part);
+        self.conclude(reaction, payload, out)
+    }
+
+    /// PING is taken.
+    #[inline(always)]
+    fn take_ping(
+        &mut self,
+        is_answer: bool,
+        payload: &[u8],
+        out: &mut Vec<u8, A>,
+    ) -> Result<(), AllocError>
+        requires fits { length payload.now < 2 ^ 24 }
+        requires stopped { IsStopped self.old.block }
+        ensures ok { OnOk result (Does (stepped (rule.concluded self.old payload.now (makes self.old (if is_answer then rule.nothing self.old.core else reactions.Continues (record (changes.only_counts self.old.core) { first = frames.PingAck }))))) out.old.items self.new out.new.items) }
+        ensures err { OnErr result ((self.new ≡ self.old) × (out.new.items ≡ out.old.items)) }
+    {
+        let reaction = self.on_ping(is_answer);
+        self.conclude(reaction, payload, out)
+    }
+
+    /// GOAWAY is taken.
+    #[inline(never)]
+    fn take_goaway(
+        &mut self,
+        last: u32,
+        code: u32,
+        payload: &[u8],
+        out: &mut Vec<u8, A>,
+    ) -> Result<(), AllocError>
+        requires fits { length payload.now < 2 ^ 24 }
+        requires stopped { IsStopped self.old.block }
+        ensures ok { OnOk result (Does (stepped (rule.concluded self.old payload.now (makes self.old (reactions.Continues (changes.only_counts (record self.old.core { goaway = Some (last, code) })))))) out.old.items self.new out.new.items) }
+        ensures err { OnErr result ((self.new ≡ self.old) × (out.new.items ≡ out.old.items)) }
+    {
+        let reaction = self.on_goaway(last, code);
+        self.conclude(reaction, payload, out)
+    }
+
+    /// WINDOW_UPDATE on the connection is taken.
+    #[inline(always)]
+    fn take_connection_window(
+        &mut self,
+        increment: u32,
+        payload: &[u8],
+        out: &mut Vec<u8, A>,
+    ) -> Result<(), AllocError>
+        requires fits { length payload.now < 2 ^ 24 }
+        requires stopped { IsStopped self.old.block }
+        ensures ok { OnOk result (Does (stepped (rule.concluded self.old payload.now (makes self.old (window.connection_window self.old.core increment)))) out.old.items self.new out.new.items) }
+        ensures err { OnErr result ((self.new ≡ self.old) × (out.new.items ≡ out.old.items)) }
+    {
+        let reaction = self.on_connection_window(increment);
+        self.conclude(reaction, payload, out)
+    }
+
+    /// WINDOW_UPDATE on a stream is taken.
+    #[inline(never)]
+    fn take_stream_window(
+        &mut self,
+        id: u32,
+        increment: u32,
+        payload: &[u8],
+        out: &mut Vec<u8, A>,
+    ) -> Result<(), AllocError>
+        requires fits { length payload.now < 2 ^ 24 }
+        requires stopped { IsStopped self.old.block }
+        ensures ok { OnOk result (Does (stepped (rule.concluded self.old payload.now (makes self.old (rule.on_window self.old.core increment (stream_at self.old.core.last self.old.streams id))))) out.old.items self.new out.new.items) }
+        ensures err { OnErr result ((self.new ≡ self.old) × (out.new.items ≡ out.old.items)) }
+    {
+        let reaction = self.on_stream_window(id, increment);
+        self.conclude(reaction, payload, out)
+    }
+
+    /// A frame that changes nothing is taken.
+    #[inline(never)]
+    fn take_ignored(&mut self, payload: &[u8], out: &mut Vec<u8, A>) -> Result<(), AllocError>
+        requires fits { length payload.now < 2 ^ 24 }
+        requires stopped { IsStopped self.old.block }
+        ensures ok { OnOk result (Does (stepped (rule.concluded self.old payload.now (makes self.old (rule.nothing self.old.core)))) out.old.items self.new out.new.items) }
+        ensures err { OnErr result ((self.new ≡ self.old) × (out.new.items ≡ out.old.items)) }
+    {
+        let reaction = self.on_ignored();
+        self.conclude(reaction, payload, out)
+    }
+
+    /// PUSH_PROMISE is taken.
+    #[inline(never)]
+    fn take_push_promise(&mut self, payload: &[u8], out: &mut Vec<u8, A>) -> Result<(), AllocError>
+        requires fits { length payload.now < 2 ^ 24 }
+        requires stopped { IsStopped self.old.block }
+        ensures ok { OnOk result (Does (stepped (rule.concluded self.old payload.now (makes self.old (ConnectionError ProtocolError)))) out.old.items self.new out.new.items) }
+        ensures err { OnErr result ((self.new ≡ self.old) × (out.new.items ≡ out.old.items)) }
+    {
+        let reaction = self.on_push_promise();
+        self.conclude(reaction, payload, out)
+    }
+
+    /// WINDOW_UPDATE is taken.
+    #[inline(always)]
+    fn take_window_update(
+        &mut self,
+        id: u32,
+        increment: u32,
+        payload: &[u8],
+        out: &mut Vec<u8, A>,
+    ) -> Result<(), AllocError>
+        requires fits { length payload.now < 2 ^ 24 }
+        requires stopped { IsStopped self.old.block }
+        ensures ok { OnOk result (Does (stepped (rule.concluded self.old payload.now (makes self.old (if id == 0 then window.connection_window self.old.core increment else rule.on_window self.old.core increment (stream_at self.old.core.last self.old.streams id))))) out.old.items self.new out.new.items) }
+        ensures err { OnErr result ((self.new ≡ self.old) × (out.new.items ≡ out.old.items)) }
+    {
+        if id == 0 {
+            return self.take_connection_window(increment, payload, out);
+        }
+        self.take_stream_window(id, increment, payload, out)
+    }
+
+    /// A frame that is no HEADERS, no CONTINUATION and no acknowledgement of settings, by what it holds.
+    #[inline(always)]
+    fn on_plain(
+        &mut self,
+        head: &Head,
+        payload: &[u8],
+        part: Part<'_>,
+        out: &mut Vec<u8, A>,
+    ) -> Result<(), AllocError>
+        requires fits { length payload.now < 2 ^ 24 }
+        requires part { part_of head.now payload.now ≡ Ok (part_seen part) }
+        requires plain { IsPlain part }
+        requires stopped { IsStopped self.old.block }
+        ensures ok { OnOk result (Does (stepped (rule.concluded self.old payload.now (rule.frame_effect self.old head.now payload.now (part_seen part.entry)))) out.old.items self.new out.new.items) }
+        ensures err { OnErr result ((self.new ≡ self.old) × (out.new.items ≡ out.old.items)) }
+    {
+        match part {
+            Part::Data(part) => self.take_data(head, part, payload, out),
+            Part::RstStream(_) => self.take_reset(head.stream, payload, out),
+            Part::Settings(part) => self.take_settings(part, payload, out),
+            Part::Ping(_) => self.take_ping(head.has(ACK), payload, out),
+            Part::Goaway(last, code) => self.take_goaway(last, code, payload, out),
+            Part::WindowUpdate(increment) => {
+                self.take_window_update(head.stream, increment, payload, out)
+            }
+            Part::Priority | Part::Unknown => self.take_ignored(payload, out),
+            Part::PushPromise => self.take_push_promise(payload, out),
+            Part::Headers(_) | Part::Continuation(_) | Part::SettingsAck => unreachable!(),
         }
     }
 
@@ -214,10 +415,7 @@ impl<'b, A: Allocator + Copy> State<'b, A> {
             | Part::Ping(_)
             | Part::Goaway(_, _)
             | Part::WindowUpdate(_)
-            | Part::Unknown => {
-                let reaction = self.react(head, payload, part);
-                self.conclude(reaction, payload, out)
-            }
+            | Part::Unknown => self.on_plain(head, payload, part, out),
         }
     }
 

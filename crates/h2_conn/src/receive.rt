@@ -19,6 +19,7 @@ use std::alloc::{AllocError, Allocator};
 
 impl<'b, A: Allocator + Copy> State<'b, A> {
     /// The peer has acknowledged the server's settings: the first time they come into force, later nothing changes.
+    #[inline(never)]
     pub fn on_acknowledged(
         &mut self,
         payload: &[u8],

@@ -22,6 +22,7 @@ use std::alloc::{AllocError, Allocator};
 
 /// The records change, and what waits on them then is sent, as far as this much of the connection's window goes: the
 /// frames are written whole, or in part and then the records stay. Answers how many octets are sent.
+#[inline(always)]
 pub fn update_and_send<A: Allocator + Copy>(
     book: &Book<A>,
     streams: &mut Streams<A>,

@@ -28,6 +28,7 @@ fn write_number<A: Allocator>(
 }
 
 /// Writes what is sent on the connection, with the payload of the item, or nothing.
+#[inline(always)]
 pub fn write_first<A: Allocator>(
     first: ConnectionFrame,
     payload: &[u8],
@@ -46,6 +47,7 @@ pub fn write_first<A: Allocator>(
 }
 
 /// Writes what is sent on a stream, or nothing.
+#[inline(always)]
 pub fn write_second<A: Allocator>(
     second: StreamFrame,
     out: &mut Vec<u8, A>,

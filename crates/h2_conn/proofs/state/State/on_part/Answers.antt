@@ -13,12 +13,13 @@ on_acknowledged-requires-clause-stopped g c =
     let s = c.args.self.now in
     acknowledged-outside s.block s.core.phase c.args.head.now c.args.payload.now c.args.part c.requires.passed c.requires.part c.in-SettingsAck.is
 
-pub conclude-requires : goal.conclude-requires
-conclude-requires g c =
+pub on_plain-requires : goal.on_plain-requires
+on_plain-requires g c =
     let s = c.args.self.now in
     let plain : IsPlain c.args.part = search rules in
     record {
       fits = c.requires.fits;
       stopped = plain-outside s.block s.core.phase c.args.head.now c.args.payload.now c.args.part c.requires.passed c.requires.part plain;
-      sound = c.react-reaction.ensures.sound;
+      part = c.requires.part;
+      plain = plain;
     }
