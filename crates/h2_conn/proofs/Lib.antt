@@ -1,5 +1,6 @@
 mod AboveLaws
 mod AloneLaws
+mod CountsLaws
 mod FeedingLaws
 mod FinishLaws
 mod FirstLaws

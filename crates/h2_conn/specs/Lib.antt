@@ -1,6 +1,7 @@
 pub mod Above
 pub mod Blocks
 pub mod Connection
+pub mod Counts
 pub mod Does
 pub mod Faults
 pub mod First

@@ -11,6 +11,7 @@ ghost use Rattle.h2_spec.specs.Trace.{then_sent};
 ghost use Rattle.h2_spec.specs.Window.{sendable};
 ghost use Rattle.h2_spec.specs.declared.connection.Phase.TheVariants as phase;
 ghost use Rattle.h2_conn.specs.Blocks.{IsOpenFor};
+ghost use Rattle.h2_conn.specs.Counts.{with_counts};
 ghost use Rattle.h2_conn.specs.Does.{AreShort, Does};
 ghost use Rattle.h2_conn.specs.Sending as sending;
 ghost use Rattle.h2_conn.specs.Sending.{all_frames, records, records_after, sent_count, CanSend};
@@ -149,6 +150,19 @@ pub fn with_sent(core: ConnectionState, count: u64) -> ConnectionState
     }
 }
 
+/// The counts that most items leave as they are become other ones, with octets taken from the send window.
+#[inline(always)]
+fn set_counts(core: &mut ConnectionState, after: &ConnectionState, count: u64)
+    requires within { count ≤ sendable after.now.send }
+    requires same { after.now ≡ with_counts core.old after.now }
+    ensures { core.new ≡ record after.now { send = after.now.send -ℤ pos count } }
+{
+    core.recv = after.recv;
+    core.owed = after.owed;
+    core.send = without(after.send, count);
+    core.peer.size_update_pending = after.peer.size_update_pending;
+}
+
 /// Ends the decoding of the block that is open.
 fn stop<A: Allocator>(block: &mut Option<OpenBlock<A>>)
     ensures { block.new ≡ changes.only_shown block.old }
@@ -187,6 +201,33 @@ impl<'b, A: Allocator + Copy> State<'b, A> {
         match send_and_update(self.book, &mut self.streams, &change, payload, out) {
             Ok(count) => {
                 self.core = with_sent(change.core, count);
+                Ok(())
+            }
+            Err(error) => Err(error),
+        }
+    }
+}
+
+impl<'b, A: Allocator + Copy> State<'b, A> {
+    /// Makes a change that leaves the phase, the settings and the last stream as they are, and sends its frames and then
+    /// what waits; or does nothing. The counts change in place.
+    #[inline(always)]
+    pub fn apply_in_place(
+        &mut self,
+        change: &Change,
+        payload: &[u8],
+        out: &mut Vec<u8, A>,
+    ) -> Result<(), AllocError>
+        requires fits { length payload.now < 2 ^ 24 }
+        requires kept { IsOpenFor (updated_records change.now.record_update (records self.old)) self.old.block }
+        requires sound { IsSoundChange self.old.book (records self.old) (in_force self.old.core) change.now }
+        requires same { change.now.core ≡ with_counts self.old.core change.now.core }
+        ensures ok { OnOk result (Does (then_sent change.now.core.phase (changes.made self.old payload.now change.now)) out.old.items self.new out.new.items) }
+        ensures err { OnErr result ((self.new ≡ self.old) × (out.new.items ≡ out.old.items)) }
+    {
+        match send_and_update(self.book, &mut self.streams, change, payload, out) {
+            Ok(count) => {
+                set_counts(&mut self.core, &change.core, count);
                 Ok(())
             }
             Err(error) => Err(error),

@@ -22,6 +22,7 @@ ghost use Rattle.h2_spec.specs.declared.reactions.ConnectionFrame.TheVariants as
 ghost use Rattle.h2_spec.specs.declared.reactions.Reaction.TheVariants as reactions;
 ghost use Rattle.h2_spec.specs.declared.reactions.Reaction.TheVariants.{ConnectionError};
 ghost use Rattle.h2_conn.specs.Blocks.{IsStopped};
+ghost use Rattle.h2_conn.specs.Counts.{IsCounted};
 ghost use Rattle.h2_conn.specs.Does.{Does, IsShort, stepped};
 ghost use Rattle.h2_conn.specs.Parted.{IsPlain};
 ghost use Rattle.h2_conn.specs.Sending.{records};
@@ -89,6 +90,7 @@ impl<'b, A: Allocator + Copy> State<'b, A> {
         requires fits { length payload.now < 2 ^ 24 }
         requires part { part_of head.now payload.now ≡ Ok (OfData (data_seen part)) }
         ensures rule { result ≡ rule.on_data self.now.config self.now.core (rule.body_length self.now.book (stream_at self.now.core.last self.now.streams head.now.stream)) (rule.incoming head.now payload.now (data_seen part.entry)) (stream_at self.now.core.last self.now.streams head.now.stream) }
+        ensures counts { IsCounted self.now.core result }
         ensures sound { IsSound self.now.book (records self.now) (in_force self.now.core) result }
     {
         let stream = self.stream_at(head.stream);
@@ -100,6 +102,7 @@ impl<'b, A: Allocator + Copy> State<'b, A> {
     /// RST_STREAM.
     fn on_reset(&self, id: u32) -> Reaction
         ensures rule { result ≡ rule.on_reset self.now.core (stream_at self.now.core.last self.now.streams id) }
+        ensures counts { IsCounted self.now.core result }
         ensures sound { IsSound self.now.book (records self.now) (in_force self.now.core) result }
     {
         on_reset(self.core(), self.stream_at(id))
@@ -117,6 +120,7 @@ impl<'b, A: Allocator + Copy> State<'b, A> {
     /// WINDOW_UPDATE on a stream.
     fn on_stream_window(&self, id: u32, increment: u32) -> Reaction
         ensures rule { result ≡ rule.on_window self.now.core increment (stream_at self.now.core.last self.now.streams id) }
+        ensures counts { IsCounted self.now.core result }
         ensures sound { IsSound self.now.book (records self.now) (in_force self.now.core) result }
     {
         on_window(self.core(), increment, self.stream_at(id))
@@ -125,6 +129,7 @@ impl<'b, A: Allocator + Copy> State<'b, A> {
     /// WINDOW_UPDATE on the connection.
     fn on_connection_window(&self, increment: u32) -> Reaction
         ensures rule { result ≡ window.connection_window self.now.core increment }
+        ensures counts { IsCounted self.now.core result }
         ensures sound { IsSound self.now.book (records self.now) (in_force self.now.core) result }
     {
         connection_window(self.core(), increment)
@@ -133,6 +138,7 @@ impl<'b, A: Allocator + Copy> State<'b, A> {
     /// PING.
     fn on_ping(&self, is_answer: bool) -> Reaction
         ensures rule { result ≡ (if is_answer then rule.nothing self.now.core else reactions.Continues (record (changes.only_counts self.now.core) { first = frames.PingAck })) }
+        ensures counts { IsCounted self.now.core result }
         ensures sound { IsSound self.now.book (records self.now) (in_force self.now.core) result }
     {
         on_ping(self.core(), is_answer)
@@ -149,6 +155,7 @@ impl<'b, A: Allocator + Copy> State<'b, A> {
     /// PRIORITY and frames of unknown types.
     fn on_ignored(&self) -> Reaction
         ensures rule { result ≡ rule.nothing self.now.core }
+        ensures counts { IsCounted self.now.core result }
         ensures sound { IsSound self.now.book (records self.now) (in_force self.now.core) result }
     {
         nothing(self.core())
@@ -181,6 +188,27 @@ impl<'b, A: Allocator + Copy> State<'b, A> {
         }
     }
 
+    /// A connection error, or a change that leaves most counts as they are, or nothing; no block is open that is still decoded.
+    #[inline(always)]
+    fn conclude_in_place(
+        &mut self,
+        reaction: Reaction,
+        payload: &[u8],
+        out: &mut Vec<u8, A>,
+    ) -> Result<(), AllocError>
+        requires fits { length payload.now < 2 ^ 24 }
+        requires stopped { IsStopped self.old.block }
+        requires sound { IsSound self.old.book (records self.old) (in_force self.old.core) reaction }
+        requires counts { IsCounted self.old.core reaction }
+        ensures ok { OnOk result (Does (stepped (rule.concluded self.old payload.now (makes self.old reaction))) out.old.items self.new out.new.items) }
+        ensures err { OnErr result ((self.new ≡ self.old) × (out.new.items ≡ out.old.items)) }
+    {
+        match reaction {
+            Reaction::ConnectionError(code) => self.fail(code, out),
+            Reaction::Continues(change) => self.apply_in_place(&change, payload, out),
+        }
+    }
+
     /// The stream of the open block.
     fn block_stream(&self) -> Option<u32>
         ensures { result ≡ rule.block_stream self.now.block }
@@ -207,7 +235,7 @@ impl<'b, A: Allocator + Copy> State<'b, A> {
         ensures err { OnErr result ((self.new ≡ self.old) × (out.new.items ≡ out.old.items)) }
     {
         let reaction = self.on_data(head, payload, part);
-        self.conclude(reaction, payload, out)
+        self.conclude_in_place(reaction, payload, out)
     }
 
     /// RST_STREAM is taken.
@@ -224,7 +252,7 @@ impl<'b, A: Allocator + Copy> State<'b, A> {
         ensures err { OnErr result ((self.new ≡ self.old) × (out.new.items ≡ out.old.items)) }
     {
         let reaction = self.on_reset(id);
-        self.conclude(reaction, payload, out)
+        self.conclude_in_place(reaction, payload, out)
     }
 
     /// SETTINGS without ACK is taken.
@@ -258,7 +286,7 @@ impl<'b, A: Allocator + Copy> State<'b, A> {
         ensures err { OnErr result ((self.new ≡ self.old) × (out.new.items ≡ out.old.items)) }
     {
         let reaction = self.on_ping(is_answer);
-        self.conclude(reaction, payload, out)
+        self.conclude_in_place(reaction, payload, out)
     }
 
     /// GOAWAY is taken.
@@ -293,7 +321,7 @@ impl<'b, A: Allocator + Copy> State<'b, A> {
         ensures err { OnErr result ((self.new ≡ self.old) × (out.new.items ≡ out.old.items)) }
     {
         let reaction = self.on_connection_window(increment);
-        self.conclude(reaction, payload, out)
+        self.conclude_in_place(reaction, payload, out)
     }
 
     /// WINDOW_UPDATE on a stream is taken.
@@ -311,7 +339,7 @@ impl<'b, A: Allocator + Copy> State<'b, A> {
         ensures err { OnErr result ((self.new ≡ self.old) × (out.new.items ≡ out.old.items)) }
     {
         let reaction = self.on_stream_window(id, increment);
-        self.conclude(reaction, payload, out)
+        self.conclude_in_place(reaction, payload, out)
     }
 
     /// A frame that changes nothing is taken.
@@ -323,7 +351,7 @@ impl<'b, A: Allocator + Copy> State<'b, A> {
         ensures err { OnErr result ((self.new ≡ self.old) × (out.new.items ≡ out.old.items)) }
     {
         let reaction = self.on_ignored();
-        self.conclude(reaction, payload, out)
+        self.conclude_in_place(reaction, payload, out)
     }
 
     /// PUSH_PROMISE is taken.

@@ -25,6 +25,7 @@ use h2_streams::{Streams, octets_waiting};
 use std::alloc::{AllocError, Allocator};
 
 /// Whether no stream can send with this much of the connection's window.
+#[inline(always)]
 pub fn none_sends<A: Allocator>(streams: &Streams<A>, window: u64) -> bool
     ensures { IsTrue result → NoneSends window streams.now.streams }
 {
@@ -33,6 +34,7 @@ pub fn none_sends<A: Allocator>(streams: &Streams<A>, window: u64) -> bool
 
 /// Each stream that can send sends its share of this much of the connection's window: the frames are written whole, or
 /// in part and then the records stay. Answers how many octets are sent.
+#[inline(always)]
 pub fn send_ready<A: Allocator>(
     book: &Book<A>,
     streams: &mut Streams<A>,
@@ -56,6 +58,7 @@ pub fn send_ready<A: Allocator>(
 }
 
 /// Writes the frames of each stream's share, whole or in part.
+#[inline(never)]
 fn write_ready<A: Allocator>(
     book: &Book<A>,
     streams: &Streams<A>,
@@ -95,6 +98,7 @@ fn next_stream<A: Allocator>(streams: &Streams<A>, after: u32) -> Option<Stream>
 
 /// Writes the frames of one stream's share of what is left of the connection's window, whole or in part; answers the
 /// share.
+#[inline(always)]
 pub fn write_next<A: Allocator>(
     book: &Book<A>,
     stream: &Stream,
@@ -165,6 +169,7 @@ fn take_allowance<A: Allocator>(window: u64, stream: &Stream, streams: &mut Stre
 
 /// The stream after it sent its share.
 #[tactic(auto, unfolding(h2_spec::specs::SendPending::after_sending))]
+#[inline(always)]
 pub fn after_sending(allowance: u64, stream: &Stream) -> Stream
     requires waits { allowance ≤ octets_waiting stream.now }
     requires within { (allowance ≤ sendable stream.now.numbers.send) × (allowance ≤ 2147483647) }

@@ -53,6 +53,7 @@ pub fn update_and_send<A: Allocator + Copy>(
 }
 
 /// A record is put, and what waits then is sent.
+#[inline(always)]
 fn put_and_send<A: Allocator + Copy>(
     book: &Book<A>,
     streams: &mut Streams<A>,
@@ -79,6 +80,7 @@ fn put_and_send<A: Allocator + Copy>(
 }
 
 /// A record is put where no other stream can send: its stream alone sends, and its record is put once, as it is then.
+#[inline(always)]
 fn put_alone<A: Allocator>(
     book: &Book<A>,
     streams: &mut Streams<A>,
@@ -105,6 +107,7 @@ fn put_alone<A: Allocator>(
 
 /// A record is put where other streams can send too. No item leads here: behind each, no stream can send or the
 /// connection's window is used up, and no rule both puts a record and opens that window. So the records may be copied.
+#[inline(never)]
 fn put_among<A: Allocator + Copy>(
     book: &Book<A>,
     streams: &mut Streams<A>,
@@ -132,6 +135,7 @@ fn put_among<A: Allocator + Copy>(
 
 /// The send windows move, as the initial one goes from one value to another, and what waits then is sent; where memory
 /// is refused they move back (RFC 9113, 6.9.2).
+#[inline(never)]
 fn shift_and_send<A: Allocator>(
     book: &Book<A>,
     streams: &mut Streams<A>,
@@ -164,6 +168,7 @@ fn shift_and_send<A: Allocator>(
 
 /// The receive windows move, as the server's initial one goes from one value to another, and what waits then is sent;
 /// where memory is refused they move back (RFC 9113, 6.5.3 and 6.9.2).
+#[inline(never)]
 fn receive_and_send<A: Allocator>(
     book: &Book<A>,
     streams: &mut Streams<A>,

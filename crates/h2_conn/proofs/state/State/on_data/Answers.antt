@@ -3,6 +3,7 @@ use Rattle.h2_spec.specs.declared.connection.ConnectionState.{ConnectionState}
 use Rattle.h2_spec.specs.Stream.{stream_at}
 use Rattle.h2_conn.specs.Sending.{records}
 use Rattle.h2_rules.specs.Sound.{IsSound, in_force}
+use Rattle.h2_conn.proofs.CountsLaws.{counted-by, data-counted}
 use Rattle.h2_conn.proofs.state.State.on_data.Goals as goal
 
 pub returns-clause-sound : goal.returns-clause-sound
@@ -11,3 +12,6 @@ returns-clause-sound g c =
     let counts = c.core.ensures.counts in
     let found = subst (λ (i : ℕ). c.stream_at-stream.result ≡ stream_at s.core.last s.streams i) (sym c.stream_at-stream.ensures.id) c.stream_at-stream.ensures.value in
     subst (λ (k : ConnectionState). IsSound s.book (records s) (in_force k) c.on_data.result) counts (c.on_data.ensures.sound s.book (records s) c.body_length-body.ensures c.stream_at-stream.ensures.waits found (sym (ap (λ (k : ConnectionState). k.last) counts)))
+
+pub returns-clause-counts : goal.returns-clause-counts
+returns-clause-counts g c = counted-by c.args.self.now.core c.core.result c.on_data.result _ c.on_data.ensures.rule c.core.ensures.counts (data-counted _ _ _ _ _)

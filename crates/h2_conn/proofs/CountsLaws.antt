@@ -1,0 +1,127 @@
+-- Which rules leave most counts of a connection as they are.
+use Rattle.std.proofs.Common.{◌≡◌, ℕ, ◌+◌, Bool, true, false, Option, Some, None, refl, ap, subst, sym, pos, ◌-ℤ◌, int_lt}
+use Rattle.std.specs.Prelude.{◌==◌, ◌+ℤ◌, if◌then◌else◌}
+use Rattle.h2_spec.specs.declared.connection.Config.{Config}
+use Rattle.h2_spec.specs.declared.connection.ConnectionState.{ConnectionState}
+use Rattle.h2_spec.specs.declared.errors.ErrorCode.TheVariants.{FlowControlError, ProtocolError, StreamClosed}
+use Rattle.h2_spec.specs.declared.reactions.Change.{Change}
+use Rattle.h2_spec.specs.declared.reactions.ConnectionFrame.TheVariants.{PingAck}
+use Rattle.h2_spec.specs.declared.reactions.Reaction.{Reaction}
+use Rattle.h2_spec.specs.declared.reactions.Reaction.TheVariants.{ConnectionError, Continues}
+use Rattle.h2_spec.specs.declared.reactions.ReceivedData.{ReceivedData}
+use Rattle.h2_spec.specs.declared.reactions.StreamOutcome.{StreamOutcome}
+use Rattle.h2_spec.specs.declared.streams.Kind.{Kind}
+use Rattle.h2_spec.specs.declared.streams.Kind.TheVariants.{Idle, Skipped, BothOpen, HalfRemote, HalfLocal, Ended, PeerReset, WeReset}
+use Rattle.h2_spec.specs.declared.streams.Stream.{Stream}
+use Rattle.h2_spec.specs.Change.{only_counts, stream_error, with_outcome, with_size_update_pending}
+use Rattle.h2_spec.specs.Data.{counted, data_counted, data_outcome, data_refused, data_taken, if_within, owed_as, owed_on_connection}
+use Rattle.h2_spec.specs.Effect.{data_rule, nothing, on_data, on_reset, on_window, reset_outcome, reset_rule, window_rule}
+use Rattle.h2_spec.specs.ReactionTable.{data_cell, reset_cell, run_cell, window_cell}
+use Rattle.h2_spec.specs.Window.{given_back, is_above_max}
+use Rattle.h2_spec.specs.WindowUpdate.{connection_window, window_outcome}
+use Rattle.h2_conn.specs.Counts.{IsCounted, with_counts}
+
+-- a test between two reactions that do
+by-test : (core : ConnectionState) (t : Bool) (r s : Reaction) → IsCounted core r → IsCounted core s → IsCounted core (if t then r else s)
+by-test core true r s first second = first
+by-test core false r s first second = second
+
+-- what is equal to such a reaction, with the same counts
+pub counted-by : (core now : ConnectionState) (r s : Reaction) → r ≡ s → now ≡ core → IsCounted now s → IsCounted core r
+counted-by core now r s same is h = subst (λ (k : ConnectionState). IsCounted k r) is (subst (IsCounted now) (sym same) h)
+
+pub nothing-counted : (core : ConnectionState) → IsCounted core (nothing core)
+nothing-counted core = refl
+
+pub ping-counted : (core : ConnectionState) (is_answer : Bool) → IsCounted core (if is_answer then nothing core else Continues (record (only_counts core) { first = PingAck }))
+ping-counted core is_answer = by-test core is_answer (nothing core) (Continues (record (only_counts core) { first = PingAck })) refl refl
+
+pub window-counted : (core : ConnectionState) (n : ℕ) → IsCounted core (connection_window core n)
+unfolding connection_window
+window-counted core n =
+    let moved : Reaction = Continues (only_counts (record core { send = core.send +ℤ pos n })) in
+    by-test core (n == 0) (ConnectionError ProtocolError) (if is_above_max (core.send +ℤ pos n) then ConnectionError FlowControlError else moved) tt
+    (by-test core (is_above_max (core.send +ℤ pos n)) (ConnectionError FlowControlError) moved tt refl)
+
+-- a change that leaves them, and then what a rule does to one stream
+outcome-counted : (core : ConnectionState) (c : Change) (t : StreamOutcome) → c.core ≡ with_counts core c.core → (with_outcome c t).core ≡ with_counts core (with_outcome c t).core
+unfolding with_outcome
+outcome-counted core c t h = ap (λ (k : ConnectionState). with_size_update_pending k t.size_update_pending) h
+
+pub stream-window-counted : (core : ConnectionState) (n : ℕ) (st : Stream) → IsCounted core (on_window core n st)
+unfolding on_window
+stream-window-counted core n st = at st.kind
+  where
+    moved : (with_outcome (only_counts core) (window_outcome core.peer.size_update_pending n st)).core ≡ with_counts core (with_outcome (only_counts core) (window_outcome core.peer.size_update_pending n st)).core
+    moved = outcome-counted core (only_counts core) (window_outcome core.peer.size_update_pending n st) refl
+
+    at : (kind : Kind) → IsCounted core (run_cell ConnectionError (nothing core) (λ rule. window_rule rule core n st) (window_cell kind))
+    at Idle = tt
+    at Skipped = refl
+    at BothOpen = moved
+    at HalfRemote = moved
+    at HalfLocal = moved
+    at Ended = refl
+    at PeerReset = refl
+    at WeReset = refl
+
+pub reset-counted : (core : ConnectionState) (st : Stream) → IsCounted core (on_reset core st)
+unfolding on_reset
+reset-counted core st = at st.kind
+  where
+    moved : (with_outcome (only_counts core) (reset_outcome core.peer.size_update_pending st)).core ≡ with_counts core (with_outcome (only_counts core) (reset_outcome core.peer.size_update_pending st)).core
+    moved = outcome-counted core (only_counts core) (reset_outcome core.peer.size_update_pending st) refl
+
+    at : (kind : Kind) → IsCounted core (run_cell ConnectionError (nothing core) (λ rule. reset_rule rule core st) (reset_cell kind))
+    at Idle = tt
+    at Skipped = refl
+    at BothOpen = moved
+    at HalfRemote = moved
+    at HalfLocal = moved
+    at Ended = refl
+    at PeerReset = refl
+    at WeReset = refl
+
+-- octets that are counted on the connection
+counted-counted : (threshold : ℕ) (core : ConnectionState) (n : ℕ) → (counted threshold core n).core ≡ with_counts core (counted threshold core n).core
+unfolding counted owed_on_connection
+counted-counted threshold core n = at (given_back threshold (core.owed + n))
+  where
+    less : ConnectionState
+    less = record core { recv = core.recv -ℤ pos n }
+
+    at : (o : Option ℕ) → (owed_as o less (core.owed + n)).core ≡ with_counts core (owed_as o less (core.owed + n)).core
+    at None = refl
+    at (Some m) = refl
+
+within-counted : (core : ConnectionState) (n : ℕ) (c : Change) → c.core ≡ with_counts core c.core → IsCounted core (if_within core n c)
+within-counted core n c h = by-test core (int_lt core.recv (pos n)) (ConnectionError FlowControlError) (Continues c) tt h
+
+pub data-counted : (config : Config) (core : ConnectionState) (body : ℕ) (d : ReceivedData) (st : Stream) → IsCounted core (on_data config core body d st)
+unfolding on_data data_taken data_refused data_counted
+data-counted config core body d st = at st.kind
+  where
+    change : Change
+    change = counted config.credit core d.octets
+
+    with : (t : StreamOutcome) → IsCounted core (if_within core d.octets (with_outcome change t))
+    with t = within-counted core d.octets (with_outcome change t) (outcome-counted core change t (counted-counted config.credit core d.octets))
+
+    taken : IsCounted core (data_taken config core body d st)
+    taken = with (data_outcome config.credit core.peer.size_update_pending body d st)
+
+    refused : IsCounted core (data_refused config core d st StreamClosed)
+    refused = with (stream_error core.peer.size_update_pending st.id StreamClosed)
+
+    counting : IsCounted core (data_counted config core d)
+    counting = within-counted core d.octets change (counted-counted config.credit core d.octets)
+
+    at : (kind : Kind) → IsCounted core (run_cell ConnectionError (nothing core) (λ rule. data_rule rule config core body d st) (data_cell kind))
+    at Idle = tt
+    at Skipped = tt
+    at BothOpen = taken
+    at HalfRemote = refused
+    at HalfLocal = taken
+    at Ended = tt
+    at PeerReset = tt
+    at WeReset = counting
