@@ -1,10 +1,10 @@
 #!/usr/bin/env bash
-# What a hostile peer can make `play` cost: time of the processor and peak of memory for floods of n, 2n and 4n octets, where 4n is the longest input
-# that `play` takes (16 MiB of hex, 8,388,608 octets). It prints a table in Markdown and says which floods are linear in both.
+# What a hostile peer can make `play` or `explain` cost: time of the processor and peak of memory for floods of n, 2n and 4n octets, where 4n is the
+# longest input that they take (16 MiB of hex, 8,388,608 octets). It prints a table in Markdown and says which floods are linear in both.
 #
-#   tests/floods.sh [--program FILE] [--peer FILE] [--limit SECONDS] [--most OCTETS] [--only WORD] [--list]
+#   tests/floods.sh [--program FILE] [--command play|explain] [--peer FILE] [--limit SECONDS] [--most OCTETS] [--only WORD] [--list]
 #
-# --program is the proved one of this repository unless it is named. With --peer, bench/peers/nghttp2.c as gcc builds it, the table has the time of a server's
+# --program is the proved one of this repository unless it is named, and the command is `play` unless it is named. With --peer, bench/peers/nghttp2.c as gcc builds it, the table has the time of a server's
 # session of nghttp2 over the longest input, in pieces of 65,536 octets; it answers each request with two octets. A run above the limit (60 seconds of the processor) is ended, and its longer ones are not
 # tried. --only takes the floods with this word in their name. A flood counts as linear where four times the octets take at most 8 times the time (of which
 # the first counts as 0.1 s at least) and 5 times the memory. Memory is what the kernel counts, and never below the 12 MiB of the measuring process. The
@@ -65,9 +65,9 @@ def entry(name, value):
     return b"\x40" + string(name) + string(value)
 
 
-def put(room, front, items):
-    """The front, and as many items as there is room for."""
-    parts, left = [front], room - len(front)
+def put(space, front, items):
+    """The front, and as many items as there is space for."""
+    parts, left = [front], space - len(front)
     for item in items:
         if len(item) > left:
             break
@@ -89,7 +89,7 @@ def forever(item):
 FULL_TABLE = START + frame(HEADERS, END_STREAM | END_HEADERS, 1, GET + b"".join(entry(b"a", bytes([97 + i % 26])) for i in range(120)))
 
 
-def one_octet_continuations(room):
+def one_octet_continuations(space):
     """A literal of 60,000 octets in each block, one octet a frame."""
     def items():
         for stream in streams():
@@ -97,10 +97,10 @@ def one_octet_continuations(room):
                 yield frame(HEADERS, END_STREAM, stream, GET + b"\x00" + string(b"b") + integer(0, 7, 60000))
                 yield from [frame(CONTINUATION, 0, stream, b"x")] * 59999
                 yield frame(CONTINUATION, END_HEADERS, stream, b"x")
-    return put(room, FULL_TABLE, items())
+    return put(space, FULL_TABLE, items())
 
 
-def one_entry_continuations(room):
+def one_entry_continuations(space):
     """Blocks of 13,000 frames, each with one literal that enters the full table."""
     def items():
         for stream in streams():
@@ -108,41 +108,41 @@ def one_entry_continuations(room):
                 yield frame(HEADERS, END_STREAM, stream, GET)
                 yield from [frame(CONTINUATION, 0, stream, entry(b"a", b"b"))] * 13000
                 yield frame(CONTINUATION, END_HEADERS, stream)
-    return put(room, FULL_TABLE, items())
+    return put(space, FULL_TABLE, items())
 
 
-def empty_continuations(room):
+def empty_continuations(space):
     """A block that never ends: CONTINUATION of no octets."""
-    return put(room, START + frame(HEADERS, 0, 1, GET), forever(frame(CONTINUATION, 0, 1)))
+    return put(space, START + frame(HEADERS, 0, 1, GET), forever(frame(CONTINUATION, 0, 1)))
 
 
-def open_blocks(room):
+def open_blocks(space):
     """A block that never ends, within its limit: indexed fields, one a frame, and then frames of no octets."""
     def items():
         yield from [frame(CONTINUATION, 0, 1, b"\x82")] * 65000
         yield from forever(frame(CONTINUATION, 0, 1))
-    return put(room, START + frame(HEADERS, 0, 1, GET), items())
+    return put(space, START + frame(HEADERS, 0, 1, GET), items())
 
 
-def table_churn(room):
+def table_churn(space):
     """Full HEADERS of literals, each of which enters the table and evicts one."""
     block = GET + entry(b"a", b"b") * 3276
-    return put(room, FULL_TABLE, (frame(HEADERS, END_STREAM | END_HEADERS, stream, block) for stream in streams() if stream > 1))
+    return put(space, FULL_TABLE, (frame(HEADERS, END_STREAM | END_HEADERS, stream, block) for stream in streams() if stream > 1))
 
 
-def table_churn_of_one(room):
+def table_churn_of_one(space):
     """Requests with one entry of 4,000 octets each, which evicts all others."""
     block = GET + entry(b"a", b"b" * 4000)
-    return put(room, FULL_TABLE, (frame(HEADERS, END_STREAM | END_HEADERS, stream, block) for stream in streams() if stream > 1))
+    return put(space, FULL_TABLE, (frame(HEADERS, END_STREAM | END_HEADERS, stream, block) for stream in streams() if stream > 1))
 
 
-def table_resized(room):
+def table_resized(space):
     """Requests that empty the table by a size update and fill it again."""
     block = b"\x20\x3f\xe1\x1f" + GET + b"".join(entry(b"a", b"b") for _ in range(120))
-    return put(room, FULL_TABLE, (frame(HEADERS, END_STREAM | END_HEADERS, stream, block) for stream in streams() if stream > 1))
+    return put(space, FULL_TABLE, (frame(HEADERS, END_STREAM | END_HEADERS, stream, block) for stream in streams() if stream > 1))
 
 
-def header_bomb(room):
+def header_bomb(space):
     """Blocks of 65,000 octets, each octet a field of 4,000 octets of the table."""
     def items():
         yield frame(HEADERS, END_STREAM | END_HEADERS, 1, GET + entry(b"a", b"b" * 4000))
@@ -151,30 +151,30 @@ def header_bomb(room):
                 yield frame(HEADERS, END_STREAM, stream, b"\xbe" * 16250)
                 yield from [frame(CONTINUATION, 0, stream, b"\xbe" * 16250)] * 2
                 yield frame(CONTINUATION, END_HEADERS, stream, b"\xbe" * 16250)
-    return put(room, START, items())
+    return put(space, START, items())
 
 
-def rapid_reset(room):
+def rapid_reset(space):
     """A stream is opened and at once reset."""
-    return put(room, START, (frame(HEADERS, END_HEADERS, stream, GET) + frame(RST_STREAM, 0, stream, b"\0\0\0\x08") for stream in streams()))
+    return put(space, START, (frame(HEADERS, END_HEADERS, stream, GET) + frame(RST_STREAM, 0, stream, b"\0\0\0\x08") for stream in streams()))
 
 
-def rapid_reset_of_answers(room):
+def rapid_reset_of_answers(space):
     """A stream is answered, with an answer that waits for a window, and at once reset."""
     front = START + frame(SETTINGS, 0, 0, setting(4, 0))
-    return put(room, front, (frame(HEADERS, END_STREAM | END_HEADERS, stream, GET) + frame(RST_STREAM, 0, stream, b"\0\0\0\x08") for stream in streams()))
+    return put(space, front, (frame(HEADERS, END_STREAM | END_HEADERS, stream, GET) + frame(RST_STREAM, 0, stream, b"\0\0\0\x08") for stream in streams()))
 
 
-def refused_requests(room):
+def refused_requests(space):
     """Requests of one field, each malformed and reset by the server."""
-    return put(room, START, (frame(HEADERS, END_STREAM | END_HEADERS, stream, b"\x82") for stream in streams()))
+    return put(space, START, (frame(HEADERS, END_STREAM | END_HEADERS, stream, b"\x82") for stream in streams()))
 
 
-def small_requests(room):
-    return put(room, START, (frame(HEADERS, END_STREAM | END_HEADERS, stream, GET) for stream in streams()))
+def small_requests(space):
+    return put(space, START, (frame(HEADERS, END_STREAM | END_HEADERS, stream, GET) for stream in streams()))
 
 
-def crowding_identifiers(room):
+def crowding_identifiers(space):
     """Requests of one field on identifiers whose hashes all begin at the same few groups of the records' map."""
     # A hash is a product by an odd number with its halves exchanged: chosen upper halves, turned back into identifiers.
     inverse, found = pow(0x9E3779B9, -1, 1 << 32), []
@@ -183,45 +183,45 @@ def crowding_identifiers(room):
             turned = (upper << 16 | lower) * inverse % (1 << 32)
             if 1 << 31 <= turned < 3 << 30:
                 found.append(2 * (turned - (1 << 31)) + 1)
-    count = min(len(found), (room - len(START)) // 10)
+    count = min(len(found), (space - len(START)) // 10)
     chosen = sorted(found[:count])
-    return put(room, START, (frame(HEADERS, END_STREAM | END_HEADERS, stream, b"\x82") for stream in chosen))
+    return put(space, START, (frame(HEADERS, END_STREAM | END_HEADERS, stream, b"\x82") for stream in chosen))
 
 
-def pings(room):
-    return put(room, START, forever(frame(PING, 0, 0, bytes(8))))
+def pings(space):
+    return put(space, START, forever(frame(PING, 0, 0, bytes(8))))
 
 
-def empty_settings(room):
-    return put(room, START, forever(frame(SETTINGS, 0, 0)))
+def empty_settings(space):
+    return put(space, START, forever(frame(SETTINGS, 0, 0)))
 
 
 # 1,000 streams that are open for content.
 LIVE = START + b"".join(frame(HEADERS, END_HEADERS, stream, GET) for stream in range(1, 2001, 2))
 
 
-def settings_beside_live_streams(room):
+def settings_beside_live_streams(space):
     """SETTINGS of 2,730 initial windows, beside 1,000 live streams."""
     values = b"".join(setting(4, 1 + i % 2) for i in range(2730))
-    return put(room, LIVE, forever(frame(SETTINGS, 0, 0, values)))
+    return put(space, LIVE, forever(frame(SETTINGS, 0, 0, values)))
 
 
-def short_settings_beside_live_streams(room):
+def short_settings_beside_live_streams(space):
     """SETTINGS of one initial window, beside 1,000 live streams."""
     def items():
         while True:
             yield frame(SETTINGS, 0, 0, setting(4, 1))
             yield frame(SETTINGS, 0, 0, setting(4, 2))
-    return put(room, LIVE, items())
+    return put(space, LIVE, items())
 
 
-def one_octet_data(room):
-    return put(room, START + frame(HEADERS, END_HEADERS, 1, GET), forever(frame(DATA, 0, 1, b"x")))
+def one_octet_data(space):
+    return put(space, START + frame(HEADERS, END_HEADERS, 1, GET), forever(frame(DATA, 0, 1, b"x")))
 
 
-def padded_data(room):
+def padded_data(space):
     """DATA of no content and 255 octets of padding."""
-    return put(room, START + frame(HEADERS, END_HEADERS, 1, GET), forever(frame(DATA, 8, 1, b"\xff" + bytes(255))))
+    return put(space, START + frame(HEADERS, END_HEADERS, 1, GET), forever(frame(DATA, 8, 1, b"\xff" + bytes(255))))
 
 
 # 1,000 streams whose answers wait for their own windows, or for the connection's.
@@ -229,33 +229,33 @@ WAITING = START + frame(SETTINGS, 0, 0, setting(4, 0)) + b"".join(frame(HEADERS,
 HELD = START + b"".join(frame(HEADERS, END_STREAM | END_HEADERS, stream, GET) for stream in range(1, 2001, 2))
 
 
-def pings_beside_waiting_streams(room):
+def pings_beside_waiting_streams(space):
     """PING, beside 1,000 streams that wait for their own windows."""
-    return put(room, WAITING, forever(frame(PING, 0, 0, bytes(8))))
+    return put(space, WAITING, forever(frame(PING, 0, 0, bytes(8))))
 
 
-def pings_beside_held_streams(room):
+def pings_beside_held_streams(space):
     """PING, beside 1,000 streams that wait for the connection's window."""
-    return put(room, HELD, forever(frame(PING, 0, 0, bytes(8))))
+    return put(space, HELD, forever(frame(PING, 0, 0, bytes(8))))
 
 
-def stream_increments(room):
+def stream_increments(space):
     """WINDOW_UPDATE of 1 on each of 1,000 waiting streams in turn: one octet of DATA each."""
     def items():
         while True:
             for stream in range(1, 2001, 2):
                 yield frame(WINDOW_UPDATE, 0, stream, b"\0\0\0\x01")
-    return put(room, WAITING, items())
+    return put(space, WAITING, items())
 
 
-def connection_increments(room):
+def connection_increments(space):
     """WINDOW_UPDATE of 1 on the connection, beside 1,000 streams that wait for it: one octet of DATA each."""
-    return put(room, HELD, forever(frame(WINDOW_UPDATE, 0, 0, b"\0\0\0\x01")))
+    return put(space, HELD, forever(frame(WINDOW_UPDATE, 0, 0, b"\0\0\0\x01")))
 
 
-def last_increments(room):
+def last_increments(space):
     """WINDOW_UPDATE of 1 on the last of 1,000 waiting streams."""
-    return put(room, WAITING, forever(frame(WINDOW_UPDATE, 0, 1999, b"\0\0\0\x01")))
+    return put(space, WAITING, forever(frame(WINDOW_UPDATE, 0, 1999, b"\0\0\0\x01")))
 
 
 MANY = ["--streams", "1000"]
@@ -288,11 +288,15 @@ FLOODS = [
 ]
 
 
+# What the program prints first, and the statuses of a run that ended as it should: `explain` has 4 for a connection error.
+FRONTS = {"play": (b"sent ", (0,)), "explain": (b"#2 @24", (0, 4))}
+
+
 def measured(program, words, path, limit):
     """Seconds of the processor and KiB of memory, or None where the limit was reached; the status, and the first octets printed."""
     with open(path, "rb") as hex_text:
         ran = subprocess.Popen(
-            [program, "play", *words], stdin=hex_text, stdout=subprocess.PIPE, preexec_fn=lambda: resource.setrlimit(resource.RLIMIT_CPU, (limit, limit))
+            [program, *words], stdin=hex_text, stdout=subprocess.PIPE, preexec_fn=lambda: resource.setrlimit(resource.RLIMIT_CPU, (limit, limit))
         )
         front = ran.stdout.read(8)
         while ran.stdout.read(1 << 16):
@@ -325,6 +329,7 @@ def is_linear(times, sizes):
 def main():
     parser = argparse.ArgumentParser()
     parser.add_argument("--program")
+    parser.add_argument("--command", choices=FRONTS, default="play")
     parser.add_argument("--peer")
     parser.add_argument("--limit", type=int, default=60)
     parser.add_argument("--most", type=int, default=8 * 1024 * 1024)  # octets, two hex digits each
@@ -334,8 +339,8 @@ def main():
     words = parser.parse_args()
     if words.make:
         # In a process of its own, so that the measuring one stays small: a child begins with its memory.
-        number, room, path = words.make
-        made = FLOODS[int(number)][1](int(room))
+        number, space, path = words.make
+        made = FLOODS[int(number)][1](int(space))
         with open(path, "w") as file:
             file.write(made.hex())
         with open(path + ".octets", "wb") as file:
@@ -349,17 +354,18 @@ def main():
     print("| Flood | Octets | Time, at a quarter, a half, all | Memory | Linear |" + (" nghttp2 |" if words.peer else ""))
     print("|---|---|---|---|---|" + ("---|" if words.peer else ""), flush=True)
     wrong = 0
+    start, statuses = FRONTS[words.command]
     for number, (name, _, options) in enumerate(FLOODS):
         if words.only not in name:
             continue
         times, sizes, ended = [], [], None
-        for room in (words.most // 4, words.most // 2, words.most):
-            octets = subprocess.run([sys.executable, __file__, "--make", str(number), str(room), path], check=True, capture_output=True, text=True).stdout.strip()
-            seconds, size, status, front = measured(words.program, options, path, words.limit)
+        for space in (words.most // 4, words.most // 2, words.most):
+            octets = subprocess.run([sys.executable, __file__, "--make", str(number), str(space), path], check=True, capture_output=True, text=True).stdout.strip()
+            seconds, size, status, front = measured(words.program, [words.command, *options], path, words.limit)
             if status in (-9, -24):
                 ended = f"> {words.limit} s"
                 break
-            if status != 0 or not front.startswith(b"sent "):
+            if status not in statuses or not front.startswith(start):
                 ended = f"status {status}, {front!r}"
                 wrong += 1
                 break

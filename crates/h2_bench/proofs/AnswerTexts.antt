@@ -44,7 +44,7 @@ parts-cut text = parts-first text ∙ go (nat_lt (position_or_len is_bar text) (
 
 -- ---- fields
 
--- a text has a sign where its first one stands inside
+-- a text has a sign where its first one is inside
 any-inside : (p : ℕ → Bool) (xs : List ℕ) → list_any p xs ≡ nat_lt (position_or_len p xs) (length xs)
 any-inside p [] = refl
 any-inside p (x ∷ xs) = step (p x) refl (any-inside p xs)

@@ -22,10 +22,10 @@ digits_right : both_from digit_right 0 HIGH LOW ≡ true
 unfolding digit_right worth_right
 digits_right = refl
 
-worth-tells : (v : Option ℕ) (high low : ℕ) → worth_right v high low ≡ true → IsWorth v high low
+worth-means : (v : Option ℕ) (high low : ℕ) → worth_right v high low ≡ true → IsWorth v high low
 unfolding worth_right
-worth-tells None high low h = (eqb-true high 256 (and-left (eqb high 256) (eqb low 256) h), eqb-true low 256 (and-right (eqb high 256) (eqb low 256) h))
-worth-tells (Some v) high low h =
+worth-means None high low h = (eqb-true high 256 (and-left (eqb high 256) (eqb low 256) h), eqb-true low 256 (and-right (eqb high 256) (eqb low 256) h))
+worth-means (Some v) high low h =
     let both = and-left (eqb high (v * 16) && eqb low v) (ltb v 16) h in (
       eqb-true high (v * 16) (and-left (eqb high (v * 16)) (eqb low v) both),
       eqb-true low v (and-right (eqb high (v * 16)) (eqb low v) both),
@@ -34,7 +34,7 @@ worth-tells (Some v) high low h =
 
 worth : (octet : ℕ) → octet < 256 → IsWorth (hex_digit_value octet) (get_or HIGH octet 0) (get_or LOW octet 0)
 unfolding digit_right
-worth octet h = worth-tells (hex_digit_value octet) (get_or HIGH octet 0) (get_or LOW octet 0) (both-at digit_right HIGH LOW octet 0 0 digits_right h)
+worth octet h = worth-means (hex_digit_value octet) (get_or HIGH octet 0) (get_or LOW octet 0) (both-at digit_right HIGH LOW octet 0 0 digits_right h)
 
 -- what the sum of two digits' numbers says
 pub record IsPair (spelled : Option ℕ) (sum : ℕ) : Type 0 where

@@ -1,5 +1,6 @@
 pub mod AnswerTexts
 pub mod Assembled
+pub mod Explained
 mod HexPairs
 mod HexTable
 pub mod HexTexts

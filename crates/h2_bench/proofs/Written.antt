@@ -29,7 +29,7 @@ stopped ps printed held after NotWritten well x = cc
 pub unchanged : (held : List ℕ) (after : Option (List ℕ)) → after ≡ Some held → after ≡ Some (held ++ [])
 unchanged held after e = e ∙ ap (λ (t : List ℕ). Some t) (sym (append-nil held))
 
--- a report is what is to be told, or memory was refused before anything was written
+-- a report is what is to be reported, or memory was refused before anything was written
 pub given : (r : Result Report BenchFault) (t : Printed) (ps : List (List ℕ)) → Gives r t → OrCutShort ps t (seen r)
 given (Ok report) t ps x = inl (sym x)
 given (Err fault) t ps (inl memory) = inr (0, ap (λ (f : BenchFault). failed f) memory)

@@ -8,7 +8,7 @@ use Rattle.h2_words.specs.Grammar.{BatchAsked, BookAsked, play, asm, dis, table}
 use Rattle.h2_bench.specs.Faults.{fault_number}
 use Rattle.h2_bench.specs.declared.fault.BenchFault.TheVariants.{BadAnswer}
 
--- an entry stands last, unless the book refuses it
+-- an entry is last, unless the book refuses it
 abbrev pub added : List Entry → Entry → Option ℕ → Result (List Entry) ℕ
 added book entry (Some fault) = Err fault
 added book entry None = Ok (book ++ entry ∷ [])

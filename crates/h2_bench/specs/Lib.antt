@@ -13,3 +13,4 @@ pub mod TableProgram
 pub mod TableReplies
 pub mod Printing
 pub mod Printed
+pub mod ExplainProgram

@@ -1,4 +1,4 @@
--- What the programs tell of their input: a text and an exit status.
+-- What the programs report of their input: a text and an exit status.
 use Rattle.std.specs.Prelude.{ℕ, ◌+◌, ◌++◌, Bool, true, false, List, [], ◌∷◌, length, codes, decimal, nat_lt, if◌then◌else◌, Option, Some, None, Result, Ok, Err}
 use Rattle.std.specs.List.{concat}
 use Rattle.hex.specs.Hex.{encode_lower}

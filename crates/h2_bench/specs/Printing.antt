@@ -27,6 +27,6 @@ failed_after text fault = record { text = text ++ fault_line (fault_number fault
 abbrev pub cut_short : ℕ → List (List ℕ) → Printed
 cut_short count places = failed_after (concat (take count places)) NoMemory
 
--- what is to be told, or some first places of it, and then memory was refused
+-- what is to be reported, or some first places of it, and then memory was refused
 abbrev pub OrCutShort : List (List ℕ) → Printed → Printed → Type 0
 OrCutShort places printed t = (t ≡ printed) ⊎ ((count : ℕ) × (t ≡ cut_short count places))

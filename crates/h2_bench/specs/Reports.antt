@@ -19,12 +19,12 @@ abbrev pub seen : Result Report BenchFault → Printed
 seen (Ok report) = printed_by report
 seen (Err fault) = failed fault
 
--- it is what is to be told, or memory was refused
+-- it is what is to be reported, or memory was refused
 abbrev pub Gives : Result Report BenchFault → Printed → Type 0
 Gives (Ok report) t = t ≡ printed_by report
 Gives (Err fault) t = (fault ≡ NoMemory) ⊎ (t ≡ failed fault)
 
--- the text is what is to be told, with status 0, or memory was refused
+-- the text is what is to be reported, with status 0, or memory was refused
 abbrev pub Meets : {Z : Type 0} → Result (String Z) BenchFault → Printed → Type 0
 Meets (Ok text) t = t ≡ done (string_bytes text)
 Meets (Err fault) t = (fault ≡ NoMemory) ⊎ (t ≡ failed fault)

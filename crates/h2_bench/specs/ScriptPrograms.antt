@@ -1,4 +1,4 @@
--- The programs `asm` and `dis`: what they tell of their input.
+-- The programs `asm` and `dis`: what they report of their input.
 use Rattle.std.specs.Prelude.{ℕ, List, [], ◌∷◌, codes, decimal, if◌then◌else◌, Option, Some, None, Result, Ok, Err}
 use Rattle.std.specs.Str.{is_utf8}
 use Rattle.hex.specs.Hex.{encode_lower}

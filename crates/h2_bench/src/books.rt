@@ -105,6 +105,8 @@ fn add_file<F: Files>(
         → OnOk result (book_filed (F.file files.old) path.now ≡ Ok book.new) }
     ensures err { KnowsFile path.now (F.is_printed files.old) → IfErr result (λ fault. 0 < fault
         → book_filed (F.file files.old) path.now ≡ Err fault) }
+    ensures same_printed { F.is_printed files.new ≡ F.is_printed files.old }
+    ensures same_files { F.file files.new ≡ F.file files.old }
 {
     if path.is_empty() {
         return Ok(());
@@ -157,6 +159,8 @@ pub fn book_for_words<F: Files, E: Output>(
     ensures calm { OnOk result (errors.new ≡ errors.old) }
     ensures quiet { words.now.why ≡ false → errors.new ≡ errors.old }
     ensures name { E.name errors.new ≡ E.name errors.old }
+    ensures same_printed { F.is_printed files.new ≡ F.is_printed files.old }
+    ensures same_files { F.file files.new ≡ F.file files.old }
 {
     let mut book = Book::new(alloc);
     if let Err(fault) = add_file(alloc, files, words.file, &mut book) {

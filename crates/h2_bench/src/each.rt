@@ -110,7 +110,7 @@ fn take_next(
 
 /// Takes and reports each item of a connection over the octets, from place 1 on.
 ///
-/// `Fault` where memory is refused: some first items were told. `NotWritten` where a write failed.
+/// `Fault` where memory is refused: some first items were written. `NotWritten` where a write failed.
 fn write_items<O: Output>(
     alloc: Global,
     conn: &mut Conn<'_, Global>,
@@ -146,7 +146,7 @@ fn write_items<O: Output>(
     }
 }
 
-/// Tells the start of a connection, for which these octets were sent, and each of its items.
+/// Writes the start of a connection, for which these octets were sent, and each of its items.
 ///
 /// `Fault` where memory is refused: some first places were written. `NotWritten` where a write failed.
 pub fn write_places<O: Output>(

@@ -1,16 +1,17 @@
 //! A command, from its words and its input to its output and the exit status. Rests on `books`, `input`, `play`,
 //! `asm`, `dis`, `table`, h2_session and h2_device; definitions: `specs/Printed.antt`, `specs/ProgramEnd.antt`.
 
-ghost use Rattle.std.specs.Prelude.{◌≡◌, ◌==◌, ◌<◌, ◌⊎◌, ◌++◌, ℕ, Bool, List, Some, None, Ok, Err, true, false, IfOk, IfErr, OnOk};
+ghost use Rattle.std.specs.Prelude.{◌≡◌, ◌==◌, ◌≤◌, length, ◌<◌, ◌⊎◌, ◌++◌, ℕ, Bool, List, Some, None, Ok, Err, true, false, IfOk, IfErr, OnOk};
 ghost use Rattle.h2_spec.specs.declared.connection.Config.{Config};
-ghost use Rattle.h2_words.specs.Grammar.{BatchAsked, BookAsked, asked_of, batch, debug};
+ghost use Rattle.h2_words.specs.Grammar.{BatchAsked, BookAsked, asked_of, batch, debug, explain};
 ghost use Rattle.h2_words.specs.Plans.{batch_asked, book_asked};
 ghost use Rattle.h2_bench.specs.Reports.{seen};
 ghost use Rattle.h2_bench.specs.Books.{book_in};
 ghost use Rattle.h2_bench.specs.Each.{not_written, printed_after};
 ghost use Rattle.h2_bench.specs.ProgramEnd.{EndsBatch, EndsServe, EndsSession, EndsSomehow, KnowsFile, Prints, PrintsRefusal, PrintsSome, asks_why, asks_why_batch, file_of, is_reader, is_serve, no_files};
+ghost use Rattle.h2_bench.specs.ExplainProgram.{EndsExplain, ReportsText, cut_off, explained_after, form_of};
 ghost use Rattle.h2_bench.specs.Faults.{fault_number};
-ghost use Rattle.h2_bench.specs.Input.{octets_spelled};
+ghost use Rattle.h2_bench.specs.Input.{most, octets_spelled};
 ghost use Rattle.h2_bench.specs.TableProgram.{table_parts, table_text};
 ghost use Rattle.h2_bench.specs.Printed.{OrCutShort, done, failed, places, places_play, printed, printed_play};
 ghost use Rattle.h2_bench.specs.declared.fault.BenchFault.TheVariants.{NoMemory};
@@ -19,6 +20,7 @@ use crate::asm::asm_report;
 use crate::books::book_for_words;
 use crate::dis::dis_text;
 use crate::each::{PlacesFault, write_text};
+use crate::explain::{ExplainEnd, explain_text, read_text};
 use crate::fault::BenchFault;
 use crate::input::read_all;
 use crate::play::write_play;
@@ -26,10 +28,11 @@ use crate::report::{Report, whole};
 use crate::table::write_table;
 use h2_book::{Files, FilesInMemory};
 use h2_device::{FromRead, Input, IntoWrite, Output, Text};
+use h2_explain::Form;
 use h2_request::book::Book;
 use h2_session::debug_session;
 use h2_words::Words;
-use h2_words::command::{Batch, Debug, Plan, Play, Refusal, parse};
+use h2_words::command::{Batch, Debug, Explain, Plan, Play, Refusal, parse};
 use std::alloc::Global;
 use std::io;
 use std::io::{Read, Write};
@@ -96,7 +99,7 @@ fn print_answer<O: Output>(output: &mut O, answer: Result<Report, BenchFault>) -
     }
 }
 
-/// Writes what is left to tell of places that were written: the line of a fault that ended them. Gives the status.
+/// Writes what is left to say of places that were written: the line of a fault that ended them. Gives the status.
 fn print_end<O: Output>(output: &mut O, ended: Result<(), PlacesFault>) -> u8
     requires { O.has_failed output.old ≡ not_written ended }
     ensures printed { O.has_failed output.new ≡ false → (held text : List ℕ) → O.written output.old ≡ Some (held ++ text)
@@ -226,12 +229,86 @@ fn debug<F: Files, I: Input, O: Output, E: Output>(
     }
 }
 
+/// Writes what is left to say of an explanation: the line of a fault that ended it. Gives the status: 0 where no
+/// connection error ended the connection, 4 where one did, 1 after a fault, 3 where the output failed.
+fn print_explained<O: Output>(output: &mut O, ended: Result<bool, ExplainEnd>) -> u8
+    requires { O.has_failed output.old ≡ cut_off ended }
+    ensures printed { O.has_failed output.new ≡ false → (held text : List ℕ) → O.written output.old ≡ Some (held ++ text)
+        → Prints (explained_after text ended) held (O.written output.new) result }
+    ensures kept { O.has_failed output.new ≡ false → O.has_failed output.old ≡ false }
+    ensures flag { O.has_failed output.new ≡ (result == 3) }
+    ensures name { O.name output.new ≡ O.name output.old }
+{
+    match ended {
+        Ok(true) => 4,
+        Ok(false) => 0,
+        Err(end) => match end {
+            ExplainEnd::Fault(fault) => print_fault(output, fault),
+            ExplainEnd::NotWritten => 3,
+        },
+    }
+}
+
+/// Explains a connection over a whole text, and gives the status.
+fn print_text<O: Output>(
+    alloc: Global,
+    plan: &Explain<'_>,
+    book: &Book<Global>,
+    text: &[u8],
+    output: &mut O,
+) -> u8
+    requires few { length text.now ≤ most }
+    requires writer { O.has_failed output.old ≡ false }
+    ensures printed { O.has_failed output.new ≡ false
+        → PrintsSome (λ t. ReportsText (form_of plan.now.json plan.now.color) book.now plan.now.config text.now t) (O.written output.old) (O.written output.new) result }
+    ensures flag { O.has_failed output.new ≡ (result == 3) }
+    ensures name { O.name output.new ≡ O.name output.old }
+{
+    let form = Form {
+        json: plan.json,
+        color: plan.color,
+    };
+    let ended = explain_text(alloc, form, plan.config, book, text, output);
+    print_explained(output, ended)
+}
+
+/// Makes the book of an explanation, reads its text, and explains it.
+fn explain<F: Files, I: Input, O: Output, E: Output>(
+    alloc: Global,
+    plan: &Explain<'_>,
+    files: &mut F,
+    input: &mut I,
+    output: &mut O,
+    errors: &mut E,
+) -> u8
+    requires reader { I.has_failed input.old ≡ false }
+    requires writer { O.has_failed output.old ≡ false }
+    ensures printed { KnowsFile plan.now.book.file.now (F.is_printed files.old) → KnowsFile plan.now.file.now (F.is_printed files.old)
+        → O.has_failed output.new ≡ false
+        → EndsExplain (form_of plan.now.json plan.now.color) (F.file files.old) plan.now.config plan.now.file.now (book_asked plan.now.book) (I.remaining input.old)
+        (I.has_failed input.new) (O.written output.old) (O.written output.new) result }
+    ensures flag { O.has_failed output.new ≡ (result == 3) }
+    ensures input { I.name input.new ≡ I.name input.old }
+    ensures name { O.name output.new ≡ O.name output.old }
+    ensures quiet { plan.now.book.why ≡ false → errors.new ≡ errors.old }
+    ensures errors { E.name errors.new ≡ E.name errors.old }
+{
+    let book = match book_for_words(alloc, &plan.book, files, errors) {
+        Ok(book) => book,
+        Err(fault) => return print_fault(output, fault),
+    };
+    match read_text(alloc, plan.file, files, input) {
+        Ok(text) => print_text(alloc, plan, &book, text.as_slice(), output),
+        Err(fault) => print_fault(output, fault),
+    }
+}
+
 /// Does what the words ask for, and gives the exit status. Where they ask for nothing, or for connections to be
 /// served, nothing is read.
 ///
 /// 0: done. 1: a fault ended it, and its line was written. 2: the words were refused, or ask for help, and what there
 /// is to say of them was written; or they ask for connections to be served, and nothing was written (`serve` does
-/// that). 3: the output failed, and only then.
+/// that). 3: the output failed, and only then. 4: a connection was explained, and a connection error ended it.
 ///
 /// Where an entry of the book is refused and the words ask for the reason, a sentence is written to `errors`; nothing
 /// else is written there.
@@ -253,6 +330,11 @@ pub fn run_on<F: Files, I: Input, O: Output, E: Output>(
         → KnowsFile book.file (F.is_printed files.old) → O.has_failed output.new ≡ false
         → EndsSession (F.file files.old) config book (I.remaining input.old) (I.remaining input.new)
         (I.has_failed input.new) (O.written output.old) (O.written output.new) result }
+    ensures explains { (config : Config) → (json color : Bool) → (file : List ℕ) → (book : BookAsked)
+        → asked_of words.now ≡ Some (explain config json color file book)
+        → KnowsFile book.file (F.is_printed files.old) → KnowsFile file (F.is_printed files.old) → O.has_failed output.new ≡ false
+        → EndsExplain (form_of json color) (F.file files.old) config file book (I.remaining input.old) (I.has_failed input.new)
+        (O.written output.old) (O.written output.new) result }
     ensures serves { is_serve (asked_of words.now) ≡ true → O.has_failed output.new ≡ false
         → EndsServe (O.written output.old) (O.written output.new) result }
     ensures refused { asked_of words.now ≡ None → O.has_failed output.new ≡ false
@@ -269,6 +351,7 @@ pub fn run_on<F: Files, I: Input, O: Output, E: Output>(
         Ok(Plan::Batch(batch)) => respond(alloc, &batch, files, input, output, errors),
         Ok(Plan::Debug(plan)) => debug(alloc, &plan, files, input, output, errors),
         Ok(Plan::Serve(_)) => 2,
+        Ok(Plan::Explain(plan)) => explain(alloc, &plan, files, input, output, errors),
         Err(Refusal::Words(text)) => print(output, &text.as_str(), 2),
         Err(Refusal::NoMemory) => print_fault(output, BenchFault::NoMemory),
     }
@@ -283,6 +366,9 @@ pub fn run<R: Read, W: Write>(alloc: Global, words: &Words, input: &mut R, outpu
     ensures debugs { (config : Config) → (book : BookAsked) → asked_of words.now ≡ Some (debug config book)
         → (result ≡ 3)
         ⊎ ((failed : Bool) × EndsSession no_files config book (R.remaining input.old) (R.remaining input.new) failed (W.contents output.old) (W.contents output.new) result) }
+    ensures explains { (config : Config) → (json color : Bool) → (file : List ℕ) → (book : BookAsked)
+        → asked_of words.now ≡ Some (explain config json color file book) → (result ≡ 3)
+        ⊎ ((failed : Bool) × EndsExplain (form_of json color) no_files config file book (R.remaining input.old) failed (W.contents output.old) (W.contents output.new) result) }
     ensures serves { is_serve (asked_of words.now) ≡ true → (result ≡ 3)
         ⊎ EndsServe (W.contents output.old) (W.contents output.new) result }
     ensures refused { asked_of words.now ≡ None → (result ≡ 3)

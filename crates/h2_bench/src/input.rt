@@ -25,9 +25,9 @@ pub fn read_all<I: Input>(alloc: Global, input: &mut I) -> Result<Vec<u8>, Bench
     ensures err { IfErr result (λ fault. IsUnread (I.remaining input.old) (I.has_failed input.new) fault) }
 {
     let mut octets = Vec::new(alloc);
-    let mut room = [0; 4096];
+    let mut buffer = [0; 4096];
     loop {
-        let Ok(count) = input.read(&mut room) else {
+        let Ok(count) = input.read(&mut buffer) else {
             return Err(BenchFault::Read);
         };
         if count == 0 {
@@ -36,7 +36,7 @@ pub fn read_all<I: Input>(alloc: Global, input: &mut I) -> Result<Vec<u8>, Bench
         if octets.len() + count > LIMIT {
             return Err(BenchFault::Read);
         }
-        let Ok(()) = octets.extend_from_slice(&room[..count]) else {
+        let Ok(()) = octets.extend_from_slice(&buffer[..count]) else {
             return Err(BenchFault::NoMemory);
         };
     }
@@ -142,11 +142,11 @@ fn next_octet(text: &[u8], start: usize) -> Option<(u8, usize)>
 fn take_pairs(text: &[u8], start: usize, octets: Vec<u8>) -> (Vec<u8>, usize)
     requires within { start ≤ length text.now }
     requires few { 2 * vec_len octets ≤ start }
-    requires room { length text.now / 2 ≤ vec_capacity octets }
+    requires enough { length text.now / 2 ≤ vec_capacity octets }
     ensures spelled { all_in_front result.0.items (octets_spelled (drop result.1 text.now)) ≡ all_in_front octets.items (octets_spelled (drop start text.now)) }
     ensures within { (start ≤ result.1) × (result.1 ≤ length text.now) }
     ensures few { 2 * vec_len result.0 ≤ result.1 }
-    ensures room { vec_capacity result.0 ≡ vec_capacity octets }
+    ensures capacity { vec_capacity result.0 ≡ vec_capacity octets }
 {
     let mut octets = octets;
     let mut place = start;

@@ -7,6 +7,7 @@ mod books;
 mod dis;
 mod each;
 mod execute;
+mod explain;
 mod fault;
 mod input;
 mod play;

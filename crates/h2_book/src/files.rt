@@ -33,7 +33,7 @@ pub trait Files {
     /// # Errors
     ///
     /// `Failed`: there is no file that can be read. `TooLong`: it has more than `most` octets; no more than `most`
-    /// and one read's room are held for that. `NoMemory`: memory was refused.
+    /// and one read's buffer are held for that. `NoMemory`: memory was refused.
     fn read(&mut self, alloc: Global, path: &str, most: usize) -> Result<Vec<u8>, FilesFault>
         ensures octets { is_printed self.old ≡ true → Reads most (file self.old path.now) result }
         ensures within { IfOk result (λ octets. vec_len octets ≤ most) }

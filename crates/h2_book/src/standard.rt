@@ -32,9 +32,9 @@ fn read_whole<R: Read>(alloc: Global, input: &mut R, most: usize) -> Result<Vec<
     ensures { IfOk result (λ octets. vec_len octets ≤ most) }
 {
     let mut octets = Vec::new(alloc);
-    let mut room = [0; 16384];
+    let mut buffer = [0; 16384];
     for _ in 0..u64::MAX {
-        let Ok(count) = input.read(&mut room) else {
+        let Ok(count) = input.read(&mut buffer) else {
             return Err(FilesFault::Failed);
         };
         if count == 0 {
@@ -43,7 +43,7 @@ fn read_whole<R: Read>(alloc: Global, input: &mut R, most: usize) -> Result<Vec<
         if count > most - octets.len() {
             return Err(FilesFault::TooLong);
         }
-        let Ok(()) = octets.extend_from_slice(&room[..count]) else {
+        let Ok(()) = octets.extend_from_slice(&buffer[..count]) else {
             return Err(FilesFault::NoMemory);
         };
     }

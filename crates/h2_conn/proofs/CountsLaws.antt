@@ -3,7 +3,7 @@ use Rattle.std.proofs.Common.{◌≡◌, ℕ, ◌+◌, Bool, true, false, Option
 use Rattle.std.specs.Prelude.{◌==◌, ◌+ℤ◌, if◌then◌else◌}
 use Rattle.h2_spec.specs.declared.connection.Config.{Config}
 use Rattle.h2_spec.specs.declared.connection.ConnectionState.{ConnectionState}
-use Rattle.h2_spec.specs.declared.errors.ErrorCode.TheVariants.{FlowControlError, ProtocolError, StreamClosed}
+use Rattle.h2_spec.specs.declared.causes.Cause.TheVariants.{ConnectionIncrementZero, ConnectionWindowExceeded, ConnectionWindowOverflow, DataAfterEndStream}
 use Rattle.h2_spec.specs.declared.reactions.Change.{Change}
 use Rattle.h2_spec.specs.declared.reactions.ConnectionFrame.TheVariants.{PingAck}
 use Rattle.h2_spec.specs.declared.reactions.Reaction.{Reaction}
@@ -40,8 +40,8 @@ pub window-counted : (core : ConnectionState) (n : ℕ) → IsCounted core (conn
 unfolding connection_window
 window-counted core n =
     let moved : Reaction = Continues (only_counts (record core { send = core.send +ℤ pos n })) in
-    by-test core (n == 0) (ConnectionError ProtocolError) (if is_above_max (core.send +ℤ pos n) then ConnectionError FlowControlError else moved) tt
-    (by-test core (is_above_max (core.send +ℤ pos n)) (ConnectionError FlowControlError) moved tt refl)
+    by-test core (n == 0) (ConnectionError ConnectionIncrementZero) (if is_above_max (core.send +ℤ pos n) then ConnectionError ConnectionWindowOverflow else moved) tt
+    (by-test core (is_above_max (core.send +ℤ pos n)) (ConnectionError ConnectionWindowOverflow) moved tt refl)
 
 -- a change that leaves them, and then what a rule does to one stream
 outcome-counted : (core : ConnectionState) (c : Change) (t : StreamOutcome) → c.core ≡ with_counts core c.core → (with_outcome c t).core ≡ with_counts core (with_outcome c t).core
@@ -95,7 +95,7 @@ counted-counted threshold core n = at (given_back threshold (core.owed + n))
     at (Some m) = refl
 
 within-counted : (core : ConnectionState) (n : ℕ) (c : Change) → c.core ≡ with_counts core c.core → IsCounted core (if_within core n c)
-within-counted core n c h = by-test core (int_lt core.recv (pos n)) (ConnectionError FlowControlError) (Continues c) tt h
+within-counted core n c h = by-test core (int_lt core.recv (pos n)) (ConnectionError ConnectionWindowExceeded) (Continues c) tt h
 
 pub data-counted : (config : Config) (core : ConnectionState) (body : ℕ) (d : ReceivedData) (st : Stream) → IsCounted core (on_data config core body d st)
 unfolding on_data data_taken data_refused data_counted
@@ -110,8 +110,8 @@ data-counted config core body d st = at st.kind
     taken : IsCounted core (data_taken config core body d st)
     taken = with (data_outcome config.credit core.peer.size_update_pending body d st)
 
-    refused : IsCounted core (data_refused config core d st StreamClosed)
-    refused = with (stream_error core.peer.size_update_pending st.id StreamClosed)
+    refused : IsCounted core (data_refused config core d st DataAfterEndStream)
+    refused = with (stream_error core.peer.size_update_pending st.id DataAfterEndStream)
 
     counting : IsCounted core (data_counted config core d)
     counting = within-counted core d.octets change (counted-counted config.credit core d.octets)

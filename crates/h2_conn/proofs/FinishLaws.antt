@@ -24,16 +24,16 @@ use Rattle.h2_rules.proofs.SoundLaws.{same-own, updated-streams}
 abbrev after-step : State → Change → State
 after-step s c = record s { core = core_after c.core (updated_streams c.record_update s.streams); streams = streams_after c.core (updated_streams c.record_update s.streams) }
 
-stands : (s now : State) (p : List ℕ) (c : Change) (out out' : List ℕ) → Does (then_sent c.core.phase (made s p c)) out now out' → now ≡ after-step s c
-stands s now p c out out' d = d.state ∙ ap (λ (step : Step). step.state) (made-then s p c)
+state-after : (s now : State) (p : List ℕ) (c : Change) (out out' : List ℕ) → Does (then_sent c.core.phase (made s p c)) out now out' → now ≡ after-step s c
+state-after s now p c out out' d = d.state ∙ ap (λ (step : Step). step.state) (made-then s p c)
 
 -- the table stays as it was
 pub same-table : (s now : State) (p : List ℕ) (c : Change) (out out' : List ℕ) → Does (then_sent c.core.phase (made s p c)) out now out' → now.table ≡ s.table
-same-table s now p c out out' d = ap (λ (x : State). x.table) (stands s now p c out out' d)
+same-table s now p c out out' d = ap (λ (x : State). x.table) (state-after s now p c out out' d)
 
 -- the server's settings stay as they were
 pub same-settings : (s now : State) (p : List ℕ) (c : Change) (out out' : List ℕ) → IsSoundChange s.book (records s) (in_force s.core) c → Does (then_sent c.core.phase (made s p c)) out now out' → now.core.own ≡ s.core.own
-same-settings s now p c out out' sound d = ap (λ (x : State). x.core.own) (stands s now p c out out' d) ∙ same-own s.book (records s) (in_force s.core) c.core c.record_update sound.1
+same-settings s now p c out out' sound d = ap (λ (x : State). x.core.own) (state-after s now p c out out' d) ∙ same-own s.book (records s) (in_force s.core) c.core c.record_update sound.1
 
 -- with another block and another table
 pub rebound : (s now : State) (p : List ℕ) (c : Change) (b : Option OpenBlock) (t : Table) (out out' : List ℕ) → Does (then_sent c.core.phase (made s p c)) out now out' →
@@ -42,7 +42,7 @@ rebound s now p c b t out out' d =
     let other : State = record s { block = b; table = t } in
     subst (λ (step : Step). Does step out (record now { block = b; table = t }) out') (sym (made-then other p c))
     (record {
-      state = ap (λ (x : State). record x { block = b; table = t }) (stands s now p c out out' d);
+      state = ap (λ (x : State). record x { block = b; table = t }) (state-after s now p c out out' d);
       sent = d.sent ∙ ap (λ (step : Step). out ++ frames_octets step.sent) (made-then s p c);
       short = subst (λ (step : Step). AreShort step.sent) (made-then s p c) d.short;
     })
@@ -59,7 +59,7 @@ pub open-then : (s now : State) (r : Records) (p : List ℕ) (c : Change) (b : O
     IsOpenFor (updated_records c.record_update (records s)) b → Does (then_sent c.core.phase (made s p c)) out now out' → now.streams ≡ r.streams → r.last ≡ now.core.last → IsOpenFor r b
 open-then s now r p c b out out' sound opened d held last =
     let mid = updated_records c.record_update (records s) in
-    let is = stands s now p c out out' d in
+    let is = state-after s now p c out out' d in
     let streams : (records_after c.core mid).streams ≡ r.streams =
     ap (streams_after c.core) (updated-streams c.record_update (records s)) ∙ sym (ap (λ (x : State). x.streams) is) ∙ held in
     let counts : mid.last ≡ r.last =

@@ -11,6 +11,8 @@ use Rattle.h2_spec.specs.Trace as trace
 use Rattle.h2_conn.specs.Connection.{Connection, awaits_preface, connection, going, is_ended}
 use Rattle.h2_conn.specs.Does.{Does, IsShort}
 use Rattle.h2_conn.specs.First.{TakesFirst, TakesIfAny}
+use Rattle.h2_conn.specs.Reports.{used_by}
+use Rattle.h2_conn.specs.declared.report.TakenItem.{TakenItem}
 use Rattle.std.specs.Option.{is_some}
 use Rattle.h2_conn.proofs.Items.{item-short}
 use Rattle.h2_conn.specs.Marks.{Follows}
@@ -44,9 +46,9 @@ first-taken s t b out out' x used goes h d =
 pub first-none : (s : State) (b : List ℕ) → is_ended s.core.phase ≡ false → NoItem ≡ next (awaits_preface s.core.phase) s.core.own.frame b → next_event s b ≡ Stop
 first-none s b goes h = event-is s b goes ∙ ap (event_on s) (sym h)
 
-pub taken-some : (o : Option ℕ) (s t : State) (b out out' : List ℕ) → is_some o ≡ true → TakesIfAny s b out t out' o → (used : ℕ) × TakesFirst s b out t out' used
+pub taken-some : (o : Option TakenItem) (s t : State) (b out out' : List ℕ) → is_some o ≡ true → TakesIfAny s b out t out' (used_by o) → (used : ℕ) × TakesFirst s b out t out' used
 taken-some None s t b out out' some x = absurd (true≢false (sym some))
-taken-some (Some used) s t b out out' some x = (used, x)
+taken-some (Some taken) s t b out out' some x = (taken.used, x)
 
 event-follows : (s t : State) (n : Next) (e : Event) (used : ℕ) → IsOrdered s → event_on s n ≡ One e t used → Follows s t
 event-follows s t NoItem e used o h = cc
@@ -60,9 +62,25 @@ any-follows : (s t : State) (b out out' : List ℕ) (used : Option ℕ) → IsOr
 any-follows s t b out out' None o x = subst (λ (v : State). Follows s v) (sym x.same) (follows-refl s)
 any-follows s t b out out' (Some used) o x = comes-follows s t b x.event used o x.comes
 
-pub taken-follows : {E : Type 0} (r : Result (Option ℕ) E) (s t : State) (b out out' : List ℕ) → IsOrdered s → IfOk r (λ used. TakesIfAny s b out t out' used) → OnOk r (Follows s t)
-taken-follows (Ok used) s t b out out' o x = any-follows s t b out out' used o x
+pub taken-follows : {E : Type 0} (r : Result (Option TakenItem) E) (s t : State) (b out out' : List ℕ) → IsOrdered s → IfOk r (λ taken. TakesIfAny s b out t out' (used_by taken)) → OnOk r (Follows s t)
+taken-follows (Ok taken) s t b out out' o x = any-follows s t b out out' (used_by taken) o x
 taken-follows (Err e) s t b out out' o x = tt
+
+-- the item that a connection takes next
+pub item-is : (s : State) (b : List ℕ) → is_ended s.core.phase ≡ false → next_item s b ≡ next (awaits_preface s.core.phase) s.core.own.frame b
+unfolding next_item
+item-is s b h = next-is s.core.phase s.core.own.frame b h
+
+over-is : (p : Phase) (limit : ℕ) (b : List ℕ) → is_ended p ≡ true → trace.next_in p limit b ≡ NoItem
+over-is phase.Preface limit b h = absurd (true≢false (sym h))
+over-is phase.Settings limit b h = absurd (true≢false (sym h))
+over-is phase.Running limit b h = absurd (true≢false (sym h))
+over-is (phase.Ended code) limit b h = refl
+
+-- none after the end
+pub item-over : (s : State) (b : List ℕ) → is_ended s.core.phase ≡ true → next_item s b ≡ NoItem
+unfolding next_item
+item-over s b h = over-is s.core.phase s.core.own.frame b h
 
 -- ---- a connection that holds no octets
 

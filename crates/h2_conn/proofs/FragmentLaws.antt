@@ -1,22 +1,59 @@
 -- What a fragment that is decoded results in.
-use Rattle.std.proofs.Common.{◌≡◌, ℕ, Bool, false, cond, ◌+◌, nat_lt, List, ◌++◌, length, Some, refl, sym, ap, ◌∙◌}
+use Rattle.std.proofs.Common.{◌≡◌, ◌≢◌, ℕ, Bool, true, false, cond, ◌+◌, nat_lt, List, ◌++◌, length, Option, Some, None, not, refl, sym, ap, ◌∙◌, ◌==◌}
 use Rattle.std.proofs.lemmas.Option.{none-some}
 use Rattle.h2_fields.specs.Blocks.{faulted}
 use Rattle.h2_fields.specs.declared.fault.BlockFault.{BlockFault}
+use Rattle.h2_fields.specs.declared.fault.BlockFault.TheVariants as fault
 use Rattle.h2_spec.specs.declared.connection.BlockView.{BlockView}
 use Rattle.h2_spec.specs.declared.connection.Purpose.{Purpose}
-use Rattle.h2_spec.specs.declared.errors.ErrorCode.TheVariants.{EnhanceYourCalm}
-use Rattle.h2_spec.specs.Block.{Fault, Faulty, Outcome, Unfinished, decoded, list_size}
+use Rattle.h2_spec.specs.declared.causes.Cause.{Cause}
+use Rattle.h2_spec.specs.declared.causes.Cause.TheVariants.{BlockTooLarge, BlockTruncated, SizeUpdateMissing}
+use Rattle.h2_fields.specs.Faults.{fault_of}
+use Rattle.h2_spec.specs.Block.{Fault, ZeroIndex, Index, Integer, Huffman, LateUpdate, LargeUpdate, MissingUpdate, Decoded, Faulty, Outcome, Unfinished, decoded, list_size}
 use Rattle.h2_spec.specs.DynamicTable.{Table}
 use Rattle.h2_spec.specs.Headers as headers
-use Rattle.h2_spec.specs.Headers.{fragment_decoded, fragment_read}
+use Rattle.h2_spec.specs.Headers.{FrameEffect, fragment_decoded, fragment_read, fault_cause}
 use Rattle.h2_spec.specs.State as state
-use Rattle.h2_conn.specs.Fragments.{after_fragment, before_fragment}
+use Rattle.h2_conn.specs.Blocks.{bad_end, cause_by}
+use Rattle.h2_conn.specs.Fragments.{HasFault, after_fragment, before_fragment}
 
--- a fault that is found is one of the octets
-pub has-fault : (o : Outcome) (f : BlockFault) → faulted o ≡ Some f → (x : Fault) × (o ≡ Faulty x)
-has-fault (Unfinished rest) f h = absurd (none-some f h)
-has-fault (Faulty x) f h = (x, refl)
+-- the cause of a fault of the octets
+cause-named : (x : Fault) → cause_by (fault_of x) ≡ Some (fault_cause x)
+cause-named ZeroIndex = refl
+cause-named Index = refl
+cause-named Integer = refl
+cause-named Huffman = refl
+cause-named LateUpdate = refl
+cause-named LargeUpdate = refl
+cause-named MissingUpdate = refl
+
+-- a fault that is found is one of the octets, and its cause is that of the definitions
+has-fault : (o : Outcome) (f : BlockFault) (cause : Cause) → faulted o ≡ Some f → cause_by f ≡ Some cause → (x : Fault) × (o ≡ Faulty x) × (fault_cause x ≡ cause)
+has-fault (Unfinished rest) f cause h k = absurd (none-some f h)
+has-fault (Faulty x) f cause h k =
+    let named : fault_of x ≡ f = cc in
+    let same : Some (fault_cause x) ≡ Some cause = sym (cause-named x) ∙ ap cause_by named ∙ k in
+    (x, refl, cc)
+
+-- a fault that has a cause is not that memory was refused
+pub not-memory : (f : BlockFault) (cause : Cause) → cause_by f ≡ Some cause → f ≢ fault.NoMemory
+not-memory f cause h e = none-some cause (sym (ap cause_by e) ∙ h)
+
+-- a block with a fault
+decoded-faulty : (s : state.State) (b : BlockView) (purpose : Purpose) (ends : Bool) (d : Decoded) (x : Fault) → d.outcome ≡ Faulty x → fragment_decoded s b purpose ends d ≡ headers.Breaks (fault_cause x)
+decoded-faulty s b purpose ends d x e = rw e refl
+
+-- a fragment that has a fault
+pub fragment-faulty : (s : state.State) (b : BlockView) (d : state.Decoding) (octets : List ℕ) (ends : Bool) (f : BlockFault) (cause : Cause) →
+    nat_lt 65536 (b.octets + length octets) ≡ false → HasFault f (decoded s.core.own.table (before_fragment s.table d) (d.rest ++ octets)) → cause_by f ≡ Some cause →
+    headers.fragment s b d octets ends ≡ headers.Breaks cause
+fragment-faulty s b d octets ends f cause few h k =
+    let view : BlockView = record b { octets = b.octets + length octets } in
+    let now : Decoded = decoded s.core.own.table (before_fragment s.table d) (d.rest ++ octets) in
+    let found = has-fault now.outcome f cause h k in
+    ap (λ t. cond t (headers.Breaks BlockTooLarge) (fragment_decoded s view d.purpose ends now)) few
+    ∙ decoded-faulty s view d.purpose ends now found.0 found.1
+    ∙ ap (λ (c : Cause). let e : FrameEffect = headers.Breaks c in e) found.2
 
 -- a fragment that is decoded up to the beginning of an instruction
 pub fragment-read : (s : state.State) (b : BlockView) (d after : state.Decoding) (octets : List ℕ) (ends : Bool) (table : Table) (size : ℕ) →
@@ -26,7 +63,29 @@ pub fragment-read : (s : state.State) (b : BlockView) (d after : state.Decoding)
 fragment-read s b d after octets ends table size few purpose counts e =
     let view : BlockView = record b { octets = b.octets + length octets } in
     let now : state.State = record s { table = table } in
-    ap (λ t. cond t (headers.Breaks EnhanceYourCalm) (fragment_decoded s view d.purpose ends (decoded s.core.own.table (before_fragment s.table d) (d.rest ++ octets)))) few
+    ap (λ t. cond t (headers.Breaks BlockTooLarge) (fragment_decoded s view d.purpose ends (decoded s.core.own.table (before_fragment s.table d) (d.rest ++ octets)))) few
     ∙ ap (λ x. fragment_decoded s view d.purpose ends x) e
     ∙ ap (λ (n : ℕ). fragment_read now (record view { list_size = n }) (record after { purpose = d.purpose }) ends) (sym counts)
     ∙ ap (λ (p : Purpose). fragment_read now (record view { list_size = size }) (record after { purpose = p }) ends) (sym purpose)
+
+-- ---- the end of a block
+
+-- a block that can't end here is a connection error
+pub read-bad : (s : state.State) (b : BlockView) (d : state.Decoding) (ends : Bool) (cause : Cause) → ends ≡ true → bad_end d ≡ Some cause → fragment_read s b d ends ≡ headers.Breaks cause
+read-bad s b d false cause e h = cc
+read-bad s b d true cause e h = at (not (length d.rest == 0)) d.due _ h
+  where
+    at : (short missing : Bool) (effect : FrameEffect) → cond short (Some BlockTruncated) (cond missing (Some SizeUpdateMissing) None) ≡ Some cause → cond short (headers.Breaks BlockTruncated) (cond missing (headers.Breaks SizeUpdateMissing) effect) ≡ headers.Breaks cause
+    at true missing effect h = let same : BlockTruncated ≡ cause = cc in ap (λ (c : Cause). let e : FrameEffect = headers.Breaks c in e) same
+    at false true effect h = let same : SizeUpdateMissing ≡ cause = cc in ap (λ (c : Cause). let e : FrameEffect = headers.Breaks c in e) same
+    at false false effect h = cc
+
+-- another block ends as its purpose says
+pub read-good : (s : state.State) (b : BlockView) (d : state.Decoding) (ends : Bool) → ends ≡ true → bad_end d ≡ None → fragment_read s b d ends ≡ headers.Makes (headers.with_block s None) (headers.block_ends s b.stream b.ends d.fields d.purpose)
+read-good s b d false e h = cc
+read-good s b d true e h = at (not (length d.rest == 0)) d.due _ h
+  where
+    at : (short missing : Bool) (effect : FrameEffect) → cond short (Some BlockTruncated) (cond missing (Some SizeUpdateMissing) None) ≡ None → cond short (headers.Breaks BlockTruncated) (cond missing (headers.Breaks SizeUpdateMissing) effect) ≡ effect
+    at true missing effect h = cc
+    at false true effect h = cc
+    at false false effect h = refl

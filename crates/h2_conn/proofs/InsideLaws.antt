@@ -3,11 +3,11 @@ use Rattle.std.proofs.Common.{◌≡◌, ℕ, Bool, true, false, not, ◌&&◌, 
 use Rattle.std.specs.Prelude.{◌==◌, if◌then◌else◌}
 use Rattle.std.proofs.lemmas.Bool.Decides.{nat_tests}
 use Rattle.h2_spec.specs.declared.connection.Phase.{Phase}
-use Rattle.h2_spec.specs.declared.errors.ErrorCode.{ErrorCode}
-use Rattle.h2_spec.specs.declared.errors.ErrorCode.TheVariants.{ProtocolError}
+use Rattle.h2_spec.specs.declared.causes.Cause.{Cause}
+use Rattle.h2_spec.specs.declared.causes.Cause.TheVariants.{BlockInterrupted}
 use Rattle.h2_spec.specs.declared.frames.Head.{Head}
-use Rattle.h2_spec.specs.declared.frames.PayloadFault.{PayloadFault}
-use Rattle.h2_spec.specs.Checks.{interrupts, is_early, is_misplaced, refusal}
+use Rattle.h2_spec.specs.Cause.{first_of}
+use Rattle.h2_spec.specs.Checks.{early, interrupts, misplaced, refusal}
 use Rattle.h2_spec.specs.Effect.{block_stream}
 use Rattle.h2_spec.specs.FrameType.{frame_type}
 use Rattle.h2_spec.specs.Payload.{Part, OfContinuation, part_as, part_of}
@@ -20,15 +20,15 @@ use Rattle.h2_conn.specs.Blocks.{IsStopped}
 use Rattle.h2_conn.specs.Parted.{IsPlain}
 
 -- what a payload holds is a fragment where the type is CONTINUATION
-pub no-continuation : (kind flags : ℕ) (p : List ℕ) (part : Part) → (let r : Result Part PayloadFault = Ok part in part_as (frame_type kind) flags p ≡ r) → (part ≡ OfContinuation p → ⊥) → (kind == 9) ≡ false
+pub no-continuation : (kind flags : ℕ) (p : List ℕ) (part : Part) → (let r : Result Part Cause = Ok part in part_as (frame_type kind) flags p ≡ r) → (part ≡ OfContinuation p → ⊥) → (kind == 9) ≡ false
 unfolding part_as
 no-continuation kind flags p part e differs = at (kind == 9) refl
   where
-    same : (x y : Part) → (let r : Result Part PayloadFault = Ok x in r ≡ Ok y) → x ≡ y
+    same : (x y : Part) → (let r : Result Part Cause = Ok x in r ≡ Ok y) → x ≡ y
     same x y h = cc
 
     nine : kind ≡ 9 → ⊥
-    nine is = differs (sym (same (OfContinuation p) part (subst (λ (k : ℕ). (let r : Result Part PayloadFault = Ok part in part_as (frame_type k) flags p ≡ r)) is e)))
+    nine is = differs (sym (same (OfContinuation p) part (subst (λ (k : ℕ). (let r : Result Part Cause = Ok part in part_as (frame_type k) flags p ≡ r)) is e)))
 
     at : (t : Bool) → (kind == 9) ≡ t → (kind == 9) ≡ false
     at true is = absurd (nine (grind (arith, nat_tests, is)))
@@ -36,14 +36,14 @@ no-continuation kind flags p part e differs = at (kind == 9) refl
 
 -- only CONTINUATION comes inside a block
 pub no-block : (b : Option OpenBlock) (phase : Phase) (h : Head) → refusal (block_stream b) phase h ≡ None → (h.kind == 9) ≡ false → IsStopped b
-unfolding refusal interrupts is_early is_misplaced
+unfolding refusal interrupts early misplaced
 no-block None phase h passed other = tt
-no-block (Some b) phase h passed other = absurd (none (subst (λ (t : Bool). (if not (t && h.stream == b.shown.stream) then Some ProtocolError else refused) ≡ None) other passed))
+no-block (Some b) phase h passed other = absurd (none (subst (λ (t : Bool). (if not (t && h.stream == b.shown.stream) then Some BlockInterrupted else refused) ≡ None) other passed))
   where
-    refused : Option ErrorCode
-    refused = if is_early phase h then Some ProtocolError else if is_misplaced h then Some ProtocolError else None
+    refused : Option Cause
+    refused = first_of (early phase h) (misplaced h)
 
-    none : (let r : Option ErrorCode = Some ProtocolError in r ≡ None) → ⊥
+    none : (let r : Option Cause = Some BlockInterrupted in r ≡ None) → ⊥
     none e = cc
 
 -- what is plain is no CONTINUATION
@@ -63,17 +63,17 @@ plain-other variants.Unknown p h e = cc
 
 -- so no block is open where such a frame passes the checks
 pub plain-outside : (b : Option OpenBlock) (phase : Phase) (h : Head) (p : List ℕ) (part : code.Part) → refusal (block_stream b) phase h ≡ None →
-    (let r : Result Part PayloadFault = Ok (part_seen part) in part_of h p ≡ r) → IsPlain part → IsStopped b
+    (let r : Result Part Cause = Ok (part_seen part) in part_of h p ≡ r) → IsPlain part → IsStopped b
 plain-outside b phase h p part passed is plain = no-block b phase h passed (no-continuation h.kind h.flags p (part_seen part) is (plain-other part p plain))
 
 -- nor where an acknowledgement does
 pub acknowledged-outside : (b : Option OpenBlock) (phase : Phase) (h : Head) (p : List ℕ) (part : code.Part) → refusal (block_stream b) phase h ≡ None →
-    (let r : Result Part PayloadFault = Ok (part_seen part) in part_of h p ≡ r) → part ≡ variants.SettingsAck → IsStopped b
+    (let r : Result Part Cause = Ok (part_seen part) in part_of h p ≡ r) → part ≡ variants.SettingsAck → IsStopped b
 acknowledged-outside b phase h p part passed is ack =
     no-block b phase h passed (no-continuation h.kind h.flags p (part_seen part) is (λ e. let f : part_seen variants.SettingsAck ≡ OfContinuation p = subst (λ x. part_seen x ≡ OfContinuation p) ack e in cc))
 
 -- nor where HEADERS do
 pub headers-outside : (b : Option OpenBlock) (phase : Phase) (h : Head) (p : List ℕ) (part : code.Part) (d : HeadersPart) → refusal (block_stream b) phase h ≡ None →
-    (let r : Result Part PayloadFault = Ok (part_seen part) in part_of h p ≡ r) → part ≡ variants.Headers d → IsStopped b
+    (let r : Result Part Cause = Ok (part_seen part) in part_of h p ≡ r) → part ≡ variants.Headers d → IsStopped b
 headers-outside b phase h p part d passed is headers =
     no-block b phase h passed (no-continuation h.kind h.flags p (part_seen part) is (λ e. let f : part_seen (variants.Headers d) ≡ OfContinuation p = subst (λ x. part_seen x ≡ OfContinuation p) headers e in cc))

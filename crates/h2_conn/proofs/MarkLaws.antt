@@ -10,8 +10,8 @@ use Rattle.h2_spec.specs.declared.connection.Phase.{Phase}
 use Rattle.h2_spec.specs.declared.connection.Phase.TheVariants as phase
 use Rattle.h2_spec.specs.declared.connection.Purpose.{Purpose}
 use Rattle.h2_spec.specs.declared.connection.Purpose.TheVariants.{Request, Trailers, Closed, TableOnly}
-use Rattle.h2_spec.specs.declared.errors.ErrorCode.{ErrorCode}
-use Rattle.h2_spec.specs.declared.errors.ErrorCode.TheVariants.{ProtocolError, FlowControlError, StreamClosed, CompressionError, EnhanceYourCalm}
+use Rattle.h2_spec.specs.declared.causes.Cause.{Cause}
+use Rattle.h2_spec.specs.declared.causes.Cause.TheVariants.{BlockTooLarge, BlockTruncated, SizeUpdateMissing, ConnectionIncrementZero, ConnectionWindowExceeded, ConnectionWindowOverflow, DataAfterEndStream, HeadersOnEven}
 use Rattle.h2_spec.specs.declared.flow.Settings.{Settings}
 use Rattle.h2_spec.specs.declared.frames.Head.{Head}
 use Rattle.h2_spec.specs.declared.reactions.BlockSummary.{BlockSummary}
@@ -38,8 +38,6 @@ use Rattle.h2_spec.specs.Frame.{Item, Preface, BadPreface, WholeFrame, Oversize}
 use Rattle.h2_spec.specs.FrameType.{ACK, END_HEADERS, has}
 use Rattle.h2_spec.specs.Headers.{FrameEffect, Breaks, Makes, block_ends, block_opens, continued, continuation, decoded_with, fragment, fragment_decoded, fragment_read, fresh_block, fresh_decoding, makes, max_block, request_summary}
 use Rattle.h2_spec.specs.Payload.{HeadersPart, Part, OfData, OfHeaders, OfPriority, OfRstStream, OfSettings, OfSettingsAck, OfPushPromise, OfPing, OfGoaway, OfWindowUpdate, OfContinuation, OfUnknown, part_of}
-use Rattle.h2_spec.specs.declared.frames.PayloadFault.{PayloadFault}
-use Rattle.h2_spec.specs.declared.frames.PayloadFault.TheVariants.{SizeFault, PadFault}
 use Rattle.h2_spec.specs.ReactionTable.{Error, Rule, data_cell, headers_cell, reset_cell, run_cell, window_cell}
 use Rattle.h2_spec.specs.SendPending.{after_sending, all_after_sending, allowance, send_pending}
 use Rattle.h2_spec.specs.SettingsFrame.{comes_into_force, settings_applied, settings_rule, settings_taken}
@@ -329,7 +327,7 @@ unfolding with_outcome
 outcome-update s c j outcome live proper = live-update s j outcome.stream live proper.same_id
 
 within : (s : State) (n : ℕ) (c : Change) → MayUpdate s c.record_update → MayResult s (makes s (if_within s.core n c))
-within s n c u = either s (int_lt s.core.recv (pos n)) (ConnectionError FlowControlError) (Continues c) tt (stays s c u)
+within s n c u = either s (int_lt s.core.recv (pos n)) (ConnectionError ConnectionWindowExceeded) (Continues c) tt (stays s c u)
 
 counted-update : (s : State) (threshold n : ℕ) → MayUpdate s (counted threshold s.core n).record_update
 unfolding counted owed_on_connection
@@ -354,9 +352,9 @@ module _ (s : State) (j : ℕ) where
       take l = within s d.octets (with_outcome (counted s.config.credit s.core d.octets) (data_outcome s.config.credit s.core.peer.size_update_pending (body_length s.book st) d st))
           (outcome-update s (counted s.config.credit s.core d.octets) j (data_outcome s.config.credit s.core.peer.size_update_pending (body_length s.book st) d st) l (data_turn-proper s.book s.config.credit s.core.peer.size_update_pending d st))
 
-      refuse : is_live st.kind ≡ true → MayResult s (makes s (data_refused s.config s.core d st StreamClosed))
-      refuse l = within s d.octets (with_outcome (counted s.config.credit s.core d.octets) (stream_error s.core.peer.size_update_pending st.id StreamClosed))
-          (outcome-update s (counted s.config.credit s.core d.octets) j (stream_error s.core.peer.size_update_pending st.id StreamClosed) l (error-proper s.book s.core.peer.size_update_pending st StreamClosed))
+      refuse : is_live st.kind ≡ true → MayResult s (makes s (data_refused s.config s.core d st DataAfterEndStream))
+      refuse l = within s d.octets (with_outcome (counted s.config.credit s.core d.octets) (stream_error s.core.peer.size_update_pending st.id DataAfterEndStream))
+          (outcome-update s (counted s.config.credit s.core d.octets) j (stream_error s.core.peer.size_update_pending st.id DataAfterEndStream) l (error-proper s.book s.core.peer.size_update_pending st DataAfterEndStream))
 
       at : (k : Kind) → st.kind ≡ k → MayResult s (makes s (run_cell ConnectionError (nothing s.core) (λ rule. data_rule rule s.config s.core (body_length s.book st) d st) (data_cell k)))
       at Idle e = tt
@@ -405,14 +403,14 @@ module _ (s : State) (j : ℕ) where
 connection-result : (s : State) (i : ℕ) → MayResult s (makes s (connection_window s.core i))
 unfolding connection_window
 connection-result s i =
-    either s (eqb i 0) (ConnectionError ProtocolError) _ tt
-    (either s (is_above_max (s.core.send +ℤ pos i)) (ConnectionError FlowControlError) _ tt (stays s _ tt))
+    either s (eqb i 0) (ConnectionError ConnectionIncrementZero) _ tt
+    (either s (is_above_max (s.core.send +ℤ pos i)) (ConnectionError ConnectionWindowOverflow) _ tt (stays s _ tt))
 
 settings-result : (s : State) (pairs : List (ℕ × ℕ)) → MayResult s (makes s (settings_rule s.streams s.core pairs))
 unfolding settings_rule
 settings-result s pairs = at (settings_applied s.streams s.core.peer s.core.peer pairs)
   where
-    at : (r : Result Settings ErrorCode) → MayResult s (makes s (settings_taken s.core r))
+    at : (r : Result Settings Cause) → MayResult s (makes s (settings_taken s.core r))
     at (Err code) = tt
     at (Ok peer) = stays s _ tt
 
@@ -455,11 +453,12 @@ none-opened s = λ id st e h. refl
 read-result : (s : State) (table : Table) (b : BlockView) (purpose : Purpose) (fields : List Field) (due : Bool) (rest : List ℕ) (end_headers : Bool) → MayEnd s b.stream purpose
     → MayResult s (fragment_read (record s { table = table }) b (record { purpose = purpose; fields = fields; due = due; rest = rest }) end_headers)
 read-result s table b purpose fields due rest false h = record { book = refl; config = refl; same = refl; block = opened-for s b fields due rest purpose h; update = tt }
-read-result s table b purpose fields due rest true h = at (eqb (length rest) 0 && not due)
+read-result s table b purpose fields due rest true h = at (not (eqb (length rest) 0)) due
   where
-    at : (t : Bool) → MayResult s (cond t (Makes (record s { table = table; block = None }) (block_ends (record s { table = table }) b.stream b.ends fields purpose)) (Breaks CompressionError))
-    at true = record { book = refl; config = refl; same = refl; block = none-opened s; update = ends-update s table b.stream b.ends fields purpose h }
-    at false = tt
+    at : (short missing : Bool) → MayResult s (cond short (Breaks BlockTruncated) (cond missing (Breaks SizeUpdateMissing) (Makes (record s { table = table; block = None }) (block_ends (record s { table = table }) b.stream b.ends fields purpose))))
+    at true missing = tt
+    at false true = tt
+    at false false = record { book = refl; config = refl; same = refl; block = none-opened s; update = ends-update s table b.stream b.ends fields purpose h }
 
 fragment-result : (s : State) (b : BlockView) (d : Decoding) (octets : List ℕ) (end_headers : Bool) → MayEnd s b.stream d.purpose → MayResult s (fragment s b d octets end_headers)
 fragment-result s b d octets end_headers h = at (nat_lt max_block (b.octets + length octets))
@@ -474,7 +473,7 @@ fragment-result s b d octets end_headers h = at (nat_lt max_block (b.octets + le
         outcome (Unfinished rest) = read-result s r.progress.table (record shown { list_size = list_size r.progress.fields }) d.purpose r.progress.fields r.progress.due rest end_headers h
         outcome (Faulty fault) = tt
 
-    at : (t : Bool) → MayResult s (cond t (Breaks EnhanceYourCalm) (fragment_decoded s shown d.purpose end_headers (decoded_with s d octets)))
+    at : (t : Bool) → MayResult s (cond t (Breaks BlockTooLarge) (fragment_decoded s shown d.purpose end_headers (decoded_with s d octets)))
     at true = tt
     at false = decodes (decoded_with s d octets)
 
@@ -543,7 +542,7 @@ headers-result s h part x = at (stream_at s.core.last s.streams h.stream).kind r
     opens : (purpose : Purpose) → MayEnd s h.stream purpose → MayResult s (block_opens s purpose h part)
     opens purpose may = fragment-result s (fresh_block h) (fresh_decoding s purpose) part.fragment (has h.flags END_HEADERS) may
 
-    first : (b : Bool) → eqb (h.stream % 2) 1 ≡ b → (stream_at s.core.last s.streams h.stream).kind ≡ Idle → MayResult s (on_headers s h part (cond b (Rule Request) (Error ProtocolError)))
+    first : (b : Bool) → eqb (h.stream % 2) 1 ≡ b → (stream_at s.core.last s.streams h.stream).kind ≡ Idle → MayResult s (on_headers s h part (cond b (Rule Request) (Error HeadersOnEven)))
     first true odd e = opens Request (idle-end s h.stream x e odd)
     first false odd e = tt
 
@@ -581,12 +580,11 @@ item-result s BadPreface x = tt
 item-result s (Oversize h) x = tt
 item-result s (WholeFrame h p) x = checked (refusal (block_stream s.block) s.core.phase h)
   where
-    parted : (r : Result Part PayloadFault) → MayResult s (part_effect s h p r)
+    parted : (r : Result Part Cause) → MayResult s (part_effect s h p r)
     parted (Ok part) = part-result s h p x part
-    parted (Err SizeFault) = tt
-    parted (Err PadFault) = tt
+    parted (Err cause) = tt
 
-    checked : (o : Option ErrorCode) → MayResult s (checked_effect s h p o)
+    checked : (o : Option Cause) → MayResult s (checked_effect s h p o)
     checked (Some code) = tt
     checked None = parted (part_of h p)
 

@@ -9,8 +9,8 @@ use Rattle.h2_spec.specs.declared.connection.Phase.{Phase}
 use Rattle.h2_spec.specs.declared.connection.Phase.TheVariants as phase
 use Rattle.h2_spec.specs.declared.connection.Purpose.{Purpose}
 use Rattle.h2_spec.specs.declared.connection.Purpose.TheVariants.{Request, Trailers, Closed, TableOnly}
-use Rattle.h2_spec.specs.declared.errors.ErrorCode.{ErrorCode}
-use Rattle.h2_spec.specs.declared.errors.ErrorCode.TheVariants.{ProtocolError, EnhanceYourCalm, CompressionError, FlowControlError}
+use Rattle.h2_spec.specs.declared.causes.Cause.{Cause}
+use Rattle.h2_spec.specs.declared.causes.Cause.TheVariants.{BlockTooLarge, BlockTruncated, SizeUpdateMissing, ConnectionIncrementZero, ConnectionWindowExceeded, ConnectionWindowOverflow}
 use Rattle.h2_spec.specs.declared.flow.Settings.{Settings}
 use Rattle.h2_spec.specs.declared.frames.Head.{Head}
 use Rattle.h2_spec.specs.declared.reactions.ReceivedData.{ReceivedData}
@@ -28,10 +28,8 @@ use Rattle.h2_spec.specs.Effect.{block_stream, body_length, incoming, checked_ef
 use Rattle.h2_spec.specs.Field.{Field}
 use Rattle.h2_spec.specs.Frame.{Item, Preface, BadPreface, WholeFrame, Oversize}
 use Rattle.h2_spec.specs.FrameType.{ACK, END_HEADERS, has}
-use Rattle.h2_spec.specs.Headers.{FrameEffect, Breaks, Makes, block_ends, block_opens, continuation, continued, decoded_with, fragment, fragment_decoded, fragment_read, fresh_block, fresh_decoding, makes, max_block}
+use Rattle.h2_spec.specs.Headers.{FrameEffect, Breaks, Makes, block_ends, block_opens, continuation, continued, decoded_with, fault_cause, fragment, fragment_decoded, fragment_read, fresh_block, fresh_decoding, makes, max_block}
 use Rattle.h2_spec.specs.Payload.{HeadersPart, Part, OfData, OfHeaders, OfPriority, OfRstStream, OfSettings, OfSettingsAck, OfPushPromise, OfPing, OfGoaway, OfWindowUpdate, OfContinuation, OfUnknown, part_of}
-use Rattle.h2_spec.specs.declared.frames.PayloadFault.{PayloadFault}
-use Rattle.h2_spec.specs.declared.frames.PayloadFault.TheVariants.{SizeFault, PadFault}
 use Rattle.h2_spec.specs.SendPending.{send_pending}
 use Rattle.h2_spec.specs.SettingsFrame.{acknowledged, comes_into_force, settings_applied, settings_rule, settings_taken}
 use Rattle.h2_spec.specs.State.{Decoding, OpenBlock, State, configured}
@@ -62,8 +60,8 @@ outcome-past : (c : Change) (t : StreamOutcome) → Past c.core.phase → Past (
 unfolding with_outcome
 outcome-past c t h = h
 
-cell-past : {R X : Type 0} (P : X → Type 0) (error : ErrorCode → X) (nothing : X) (rule : R → X) (cell : Cell R)
-    → ((code : ErrorCode) → P (error code)) → P nothing → ((r : R) → P (rule r)) → P (run_cell error nothing rule cell)
+cell-past : {R X : Type 0} (P : X → Type 0) (error : Cause → X) (nothing : X) (rule : R → X) (cell : Cell R)
+    → ((cause : Cause) → P (error cause)) → P nothing → ((r : R) → P (rule r)) → P (run_cell error nothing rule cell)
 cell-past P error nothing rule (Error code) e n r = e code
 cell-past P error nothing rule Nothing e n r = n
 cell-past P error nothing rule (Rule x) e n r = r x
@@ -79,7 +77,7 @@ unfolding counted owed_on_connection
 counted-past threshold core n h = owed-past (given_back threshold (core.owed + n)) (record core { recv = core.recv -ℤ pos n }) (core.owed + n) h
 
 within-past : (core : ConnectionState) (n : ℕ) (c : Change) → Past c.core.phase → PastIn (if_within core n c)
-within-past core n c h = cond_both (int_lt core.recv (pos n)) (ConnectionError FlowControlError) (Continues c) PastIn (λ e. tt) (λ e. h)
+within-past core n c h = cond_both (int_lt core.recv (pos n)) (ConnectionError ConnectionWindowExceeded) (Continues c) PastIn (λ e. tt) (λ e. h)
 
 outcome-within : (config : Config) (core : ConnectionState) (d : ReceivedData) (t : StreamOutcome) → Past core.phase → PastIn (if_within core d.octets (with_outcome (counted config.credit core d.octets) t))
 outcome-within config core d t h =
@@ -113,10 +111,10 @@ connection_window-past : (core : ConnectionState) (increment : ℕ) → Past cor
 unfolding connection_window
 connection_window-past core increment h =
     let c : Change = only_counts (record core { send = core.send +ℤ pos increment }) in
-    cond_both (increment == 0) (ConnectionError ProtocolError) (if is_above_max (core.send +ℤ pos increment) then ConnectionError FlowControlError else Continues c) PastIn (λ e. tt)
-    (λ e. cond_both (is_above_max (core.send +ℤ pos increment)) (ConnectionError FlowControlError) (Continues c) PastIn (λ f. tt) (λ f. h))
+    cond_both (increment == 0) (ConnectionError ConnectionIncrementZero) (if is_above_max (core.send +ℤ pos increment) then ConnectionError ConnectionWindowOverflow else Continues c) PastIn (λ e. tt)
+    (λ e. cond_both (is_above_max (core.send +ℤ pos increment)) (ConnectionError ConnectionWindowOverflow) (Continues c) PastIn (λ f. tt) (λ f. h))
 
-taken-past : (core : ConnectionState) (r : Result Settings ErrorCode) → PastIn (settings_taken core r)
+taken-past : (core : ConnectionState) (r : Result Settings Cause) → PastIn (settings_taken core r)
 taken-past core (Err code) = tt
 taken-past core (Ok peer) = refl
 
@@ -134,12 +132,14 @@ ends-past s id ends fields TableOnly h = h
 
 read-past : (s : State) (b : BlockView) (d : Decoding) (end_headers : Bool) → Past s.core.phase → PastBy (fragment_read s b d end_headers)
 read-past s b d false h = h
-read-past s b d true h = cond_both (length d.rest == 0 && not d.due) (Makes _ _) (Breaks CompressionError) PastBy (λ e. ends-past s b.stream b.ends d.fields d.purpose h) (λ e. tt)
+read-past s b d true h =
+    cond_both (not (length d.rest == 0)) (Breaks BlockTruncated) _ PastBy (λ e. tt)
+    (λ e. cond_both d.due (Breaks SizeUpdateMissing) (Makes _ _) PastBy (λ f. tt) (λ f. ends-past s b.stream b.ends d.fields d.purpose h))
 
 decoded-past : (s : State) (b : BlockView) (purpose : Purpose) (end_headers : Bool) (d : Decoded) → Past s.core.phase → PastBy (fragment_decoded s b purpose end_headers d)
 decoded-past s b purpose end_headers d h = elim d.outcome as (λ o. PastBy (elim o [
   | Unfinished rest ↦ fragment_read (record s { table = d.progress.table }) (record b { list_size = list_size d.progress.fields }) (record { purpose = purpose; fields = d.progress.fields; due = d.progress.due; rest = rest }) end_headers
-  | Faulty fault ↦ Breaks CompressionError
+  | Faulty fault ↦ Breaks (fault_cause fault)
 ])) [
   | Unfinished rest ↦ read-past (record s { table = d.progress.table }) (record b { list_size = list_size d.progress.fields }) (record { purpose = purpose; fields = d.progress.fields; due = d.progress.due; rest = rest }) end_headers h
   | Faulty fault ↦ tt
@@ -147,7 +147,7 @@ decoded-past s b purpose end_headers d h = elim d.outcome as (λ o. PastBy (elim
 
 fragment-past : (s : State) (b : BlockView) (d : Decoding) (octets : List ℕ) (end_headers : Bool) → Past s.core.phase → PastBy (fragment s b d octets end_headers)
 fragment-past s b d octets end_headers h =
-    cond_both (nat_lt max_block (b.octets + length octets)) (Breaks EnhanceYourCalm) _ PastBy (λ e. tt) (λ e. decoded-past s (record b { octets = b.octets + length octets }) d.purpose end_headers (decoded_with s d octets) h)
+    cond_both (nat_lt max_block (b.octets + length octets)) (Breaks BlockTooLarge) _ PastBy (λ e. tt) (λ e. decoded-past s (record b { octets = b.octets + length octets }) d.purpose end_headers (decoded_with s d octets) h)
 
 continued-past : (s : State) (b : BlockView) (d : Option Decoding) (octets : List ℕ) (end_headers : Bool) → Past s.core.phase → PastBy (continued s b d octets end_headers)
 continued-past s b None octets end_headers h = tt
@@ -184,14 +184,13 @@ frame-past s head p (OfWindowUpdate increment) h =
 frame-past s head p (OfContinuation fragment) h = continuation-past s s.block fragment (has head.flags END_HEADERS) h
 frame-past s head p OfUnknown h = h
 
-part-past : (s : State) (head : Head) (p : List ℕ) (part : Result Part PayloadFault) → Past s.core.phase → PastBy (part_effect s head p part)
-part-past s head p (Err SizeFault) h = tt
-part-past s head p (Err PadFault) h = tt
+part-past : (s : State) (head : Head) (p : List ℕ) (part : Result Part Cause) → Past s.core.phase → PastBy (part_effect s head p part)
+part-past s head p (Err cause) h = tt
 part-past s head p (Ok part) h = frame-past s head p part h
 
-checked-past : (s : State) (head : Head) (p : List ℕ) (refused : Option ErrorCode) → Past s.core.phase → PastBy (checked_effect s head p refused)
+checked-past : (s : State) (head : Head) (p : List ℕ) (refused : Option Cause) → Past s.core.phase → PastBy (checked_effect s head p refused)
 checked-past s head p None h = part-past s head p (part_of head p) h
-checked-past s head p (Some code) h = tt
+checked-past s head p (Some cause) h = tt
 
 -- ---- the step
 

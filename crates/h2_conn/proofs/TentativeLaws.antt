@@ -2,6 +2,7 @@
 use Rattle.std.proofs.Common.{◌≡◌, ◌≢◌, ℕ, List, ◌++◌, length, take, Result, Ok, Err, ap, sym, ◌∙◌}
 use Rattle.std.specs.Prelude.{IfErr, OnOk}
 use Rattle.std.proofs.Math.Seq.{take-append_seam}
+use Rattle.h2_fields.specs.Blocks.{faulted}
 use Rattle.h2_fields.specs.Drafts.{Grows, IsStopped}
 use Rattle.h2_fields.specs.declared.fault.BlockFault.{BlockFault}
 use Rattle.h2_fields.specs.declared.fault.BlockFault.TheVariants as fault
@@ -9,8 +10,7 @@ use Rattle.h2_spec.specs.Block.{Decoded, FieldsSoFar, Progress, Unfinished, deco
 use Rattle.h2_spec.specs.DynamicTable.{Table}
 use Rattle.h2_spec.specs.State.{Decoding}
 use Rattle.h2_spec.specs.declared.connection.Purpose.{Purpose}
-use Rattle.h2_conn.specs.Fragments.{IsFaulty, after_fragment, before_fragment}
-use Rattle.h2_conn.proofs.FragmentLaws.{has-fault}
+use Rattle.h2_conn.specs.Fragments.{HasFault, after_fragment, before_fragment}
 
 -- the fields before are those in front
 pub front : (old now : FieldsSoFar) (n : ℕ) → n ≡ length old.fields → Grows old now → take n now.fields ≡ old.fields
@@ -35,10 +35,9 @@ is-decoded limit before after old now rest octets left purpose d view e =
 is-faulty : (limit : ℕ) (before : Table) (old : FieldsSoFar) (now : Progress) (rest octets : List ℕ) (purpose : Purpose) (d : Decoding) (f : BlockFault) →
     record { purpose = purpose; fields = old.fields; due = old.due; rest = rest } ≡ d →
     IsStopped limit (progress_with before old) (rest ++ octets) now f → f ≢ fault.NoMemory →
-    IsFaulty (decoded limit (before_fragment before d) (d.rest ++ octets))
+    HasFault f (decoded limit (before_fragment before d) (d.rest ++ octets))
 is-faulty limit before old now rest octets purpose d f view s other =
-    let found = has-fault (decoded limit (progress_with before old) (rest ++ octets)).outcome f (s.exact other).1 in
-    (found.0, ap (λ (x : Decoded). x.outcome) (same-decoded limit before old rest octets purpose d view) ∙ found.1)
+    ap (λ (x : Decoded). faulted x.outcome) (same-decoded limit before old rest octets purpose d view) ∙ (s.exact other).1
 
 -- ---- whatever a fragment is answered
 
@@ -54,6 +53,6 @@ decoded-answered (Err f) limit before after old now rest octets left purpose d v
 pub faulty-answered : (r : Result (Unit {0}) BlockFault) (limit : ℕ) (before after : Table) (old now : FieldsSoFar) (rest octets : List ℕ) (purpose : Purpose) (d : Decoding) →
     record { purpose = purpose; fields = old.fields; due = old.due; rest = rest } ≡ d →
     IfErr r (λ f. IsStopped limit (progress_with before old) (rest ++ octets) (progress_with after now) f) →
-    IfErr r (λ f. f ≢ fault.NoMemory → IsFaulty (decoded limit (before_fragment before d) (d.rest ++ octets)))
+    IfErr r (λ f. f ≢ fault.NoMemory → HasFault f (decoded limit (before_fragment before d) (d.rest ++ octets)))
 faulty-answered (Ok u) limit before after old now rest octets purpose d view stopped = tt
 faulty-answered (Err f) limit before after old now rest octets purpose d view stopped = λ other. is-faulty limit before old (progress_with after now) rest octets purpose d f view stopped other

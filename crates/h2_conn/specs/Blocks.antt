@@ -1,8 +1,11 @@
 -- Field blocks that are not at their end.
-use Rattle.std.specs.Prelude.{◌≡◌, ℕ, List, Option, Some, None, Result, Ok, Err}
+use Rattle.std.specs.Prelude.{◌≡◌, ℕ, List, length, not, ◌==◌, if◌then◌else◌, Option, Some, None, Result, Ok, Err}
+use Rattle.h2_fields.specs.declared.fault.BlockFault.{BlockFault}
+use Rattle.h2_fields.specs.declared.fault.BlockFault.TheVariants as fault
+use Rattle.h2_spec.specs.declared.causes.Cause.{Cause}
+use Rattle.h2_spec.specs.declared.causes.Cause.TheVariants as cause
 use Rattle.h2_spec.specs.declared.connection.BlockView.{BlockView}
 use Rattle.h2_spec.specs.declared.connection.Purpose.{Purpose}
-use Rattle.h2_spec.specs.declared.errors.ErrorCode.{ErrorCode}
 use Rattle.h2_spec.specs.Answer.{Entry}
 use Rattle.h2_spec.specs.DynamicTable.{LimitedTable, Table}
 use Rattle.h2_spec.specs.Headers as headers
@@ -32,11 +35,30 @@ IsStopped None = Unit {0}
 IsStopped (Some b) = b.decoding ≡ None
 
 -- the cell of the table, by what HEADERS begins: the table has no cell in which HEADERS result in nothing
-abbrev pub cell_of : Result Purpose ErrorCode → Cell Purpose
+abbrev pub cell_of : Result Purpose Cause → Cell Purpose
 cell_of (Ok purpose) = Rule purpose
-cell_of (Err code) = Error code
+cell_of (Err cause) = Error cause
 
 -- ---- what a fragment results in
+
+-- the cause of the connection error that a fault is; none where memory was refused
+abbrev pub cause_by : BlockFault → Option Cause
+cause_by fault.NoMemory = None
+cause_by fault.ZeroIndex = Some cause.IndexZero
+cause_by fault.Index = Some cause.IndexOutOfTables
+cause_by fault.Integer = Some cause.IntegerTooLong
+cause_by fault.Huffman = Some cause.HuffmanString
+cause_by fault.LateUpdate = Some cause.SizeUpdateLate
+cause_by fault.LargeUpdate = Some cause.SizeUpdateTooLarge
+cause_by fault.MissingUpdate = Some cause.SizeUpdateMissing
+cause_by fault.Truncated = Some cause.BlockTruncated
+
+-- why a block can't end here, if it can't (RFC 9113, 4.3)
+abbrev pub bad_end : Decoding → Option Cause
+bad_end d =
+    if not (length d.rest == 0) then Some cause.BlockTruncated
+    else if d.due then Some cause.SizeUpdateMissing
+    else None
 
 -- the block that is open after it, as it is shown and decoded
 abbrev pub block_after : Option BlockView → Decoding → Option OpenBlock
@@ -45,7 +67,7 @@ block_after (Some shown) d = Some (record { shown = shown; decoding = Some d })
 
 -- in a state with the header table after it, with how far the block is decoded
 abbrev pub effect_in : State → Decoding → FragmentEffect → headers.FrameEffect
-effect_in s d (Breaks code) = headers.Breaks code
+effect_in s d (Breaks cause) = headers.Breaks cause
 effect_in s d (Makes shown change) = headers.Makes (record s { block = block_after shown d }) change
 
 -- in a state with the header table before it, and the edit that makes it the one after it
@@ -55,7 +77,7 @@ effect_seen s edit d e = effect_in (record s { table = edited s.table.entries ed
 -- the change keeps what is true of every connection, the edit is one of the table, and an open block is known by its
 -- stream, with the records after the change
 abbrev pub IsSoundEffect : List Entry → Records → InForce → LimitedTable → EditOf → Decoding → FragmentEffect → Type 0
-IsSoundEffect book r before base edit d (Breaks code) = Unit {0}
+IsSoundEffect book r before base edit d (Breaks cause) = Unit {0}
 IsSoundEffect book r before base edit d (Makes shown change) =
     IsSoundChange book r before change × IsEdit base edit × IsOpenFor (updated_records change.record_update r) (block_after shown d)
 

@@ -1,6 +1,8 @@
 -- A fragment that is decoded over an edit of the table, and not taken over yet.
-use Rattle.std.specs.Prelude.{◌≡◌}
-use Rattle.h2_spec.specs.Block.{Decoded, Fault, Faulty, Progress, Unfinished}
+use Rattle.std.specs.Prelude.{◌≡◌, Some}
+use Rattle.h2_fields.specs.Blocks.{faulted}
+use Rattle.h2_fields.specs.declared.fault.BlockFault.{BlockFault}
+use Rattle.h2_spec.specs.Block.{Decoded, Progress, Unfinished}
 use Rattle.h2_spec.specs.DynamicTable.{Table}
 use Rattle.h2_spec.specs.State.{Decoding}
 
@@ -17,6 +19,6 @@ before_fragment table d = record { fields = d.fields; table = table; due = d.due
 abbrev pub after_fragment : Table → Decoding → Decoded
 after_fragment table d = record { progress = record { fields = d.fields; table = table; due = d.due }; outcome = Unfinished d.rest }
 
--- it has a fault
-abbrev pub IsFaulty : Decoded → Type 0
-IsFaulty d = (f : Fault) × (d.outcome ≡ Faulty f)
+-- it has this fault
+abbrev pub HasFault : BlockFault → Decoded → Type 0
+HasFault f d = faulted d.outcome ≡ Some f

@@ -10,5 +10,6 @@ pub mod Granted
 pub mod Mark
 pub mod Marks
 pub mod Parted
+pub mod Reports
 pub mod Runs
 pub mod Sending

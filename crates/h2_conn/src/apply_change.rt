@@ -3,9 +3,10 @@
 //! Rests on `write` and `send_update`; definitions: h2_spec's `specs/Change.antt`, `specs/SendPending.antt`, and
 //! `specs/Sending.antt` here.
 
-ghost use Rattle.std.specs.Prelude.{◌≡◌, ◌<◌, ◌≤◌, ◌^◌, ◌++◌, length, pos, ◌-ℤ◌, IfOk, OnOk, OnErr, take, vec_len};
+ghost use Rattle.std.specs.Prelude.{◌≡◌, ◌<◌, ◌≤◌, ◌^◌, ◌++◌, length, pos, ◌-ℤ◌, Some, IfOk, OnOk, OnErr, take, vec_len};
 ghost use Rattle.h2_spec.specs.Change as changes;
 ghost use Rattle.h2_spec.specs.Change.{updated_streams};
+ghost use Rattle.h2_spec.specs.Effect as effect;
 ghost use Rattle.h2_spec.specs.Frame.{frames_octets};
 ghost use Rattle.h2_spec.specs.Trace.{then_sent};
 ghost use Rattle.h2_spec.specs.Window.{sendable};
@@ -22,6 +23,8 @@ use crate::send_update::update_and_send;
 use crate::state::{OpenBlock, State};
 use crate::write::{write_first, write_goaway, write_response, write_second};
 use h2_request::book::Book;
+use h2_rules::change::stream_cause;
+use h2_spec::causes::Cause;
 use h2_spec::connection::{ConnectionState, Phase};
 use h2_spec::errors::ErrorCode;
 use h2_spec::reactions::{Answering, Change};
@@ -184,24 +187,25 @@ fn ended_by(code: ErrorCode, core: ConnectionState) -> ConnectionState
 }
 
 impl<'b, A: Allocator + Copy> State<'b, A> {
-    /// Makes a change, and sends its frames and then what waits; or does nothing.
+    /// Makes a change, and sends its frames and then what waits; or does nothing. Answers the cause of a stream error.
     #[inline(always)]
     pub fn apply_change(
         &mut self,
         change: Change,
         payload: &[u8],
         out: &mut Vec<u8, A>,
-    ) -> Result<(), AllocError>
+    ) -> Result<Option<Cause>, AllocError>
         requires fits { length payload.now < 2 ^ 24 }
         requires kept { IsOpenFor (updated_records change.record_update (records self.old)) self.old.block }
         requires sound { IsSoundChange self.old.book (records self.old) (in_force self.old.core) change }
         ensures ok { OnOk result (Does (then_sent change.core.phase (changes.made self.old payload.now change)) out.old.items self.new out.new.items) }
+        ensures cause { IfOk result (λ cause. cause ≡ effect.stream_cause change.second) }
         ensures err { OnErr result ((self.new ≡ self.old) × (out.new.items ≡ out.old.items)) }
     {
         match send_and_update(self.book, &mut self.streams, &change, payload, out) {
             Ok(count) => {
                 self.core = with_sent(change.core, count);
-                Ok(())
+                Ok(stream_cause(change.second))
             }
             Err(error) => Err(error),
         }
@@ -210,25 +214,26 @@ impl<'b, A: Allocator + Copy> State<'b, A> {
 
 impl<'b, A: Allocator + Copy> State<'b, A> {
     /// Makes a change that leaves the phase, the settings and the last stream as they are, and sends its frames and then
-    /// what waits; or does nothing. The counts change in place.
+    /// what waits; or does nothing. The counts change in place. Answers the cause of a stream error.
     #[inline(always)]
     pub fn apply_in_place(
         &mut self,
         change: &Change,
         payload: &[u8],
         out: &mut Vec<u8, A>,
-    ) -> Result<(), AllocError>
+    ) -> Result<Option<Cause>, AllocError>
         requires fits { length payload.now < 2 ^ 24 }
         requires kept { IsOpenFor (updated_records change.now.record_update (records self.old)) self.old.block }
         requires sound { IsSoundChange self.old.book (records self.old) (in_force self.old.core) change.now }
         requires same { change.now.core ≡ with_counts self.old.core change.now.core }
         ensures ok { OnOk result (Does (then_sent change.now.core.phase (changes.made self.old payload.now change.now)) out.old.items self.new out.new.items) }
+        ensures cause { IfOk result (λ cause. cause ≡ effect.stream_cause change.now.second) }
         ensures err { OnErr result ((self.new ≡ self.old) × (out.new.items ≡ out.old.items)) }
     {
         match send_and_update(self.book, &mut self.streams, change, payload, out) {
             Ok(count) => {
                 set_counts(&mut self.core, &change.core, count);
-                Ok(())
+                Ok(stream_cause(change.second))
             }
             Err(error) => Err(error),
         }
@@ -236,14 +241,16 @@ impl<'b, A: Allocator + Copy> State<'b, A> {
 }
 
 impl<'b, A: Allocator> State<'b, A> {
-    /// Ends the connection with a GOAWAY, or does nothing; an open block is decoded no more.
-    pub fn fail(&mut self, code: ErrorCode, out: &mut Vec<u8, A>) -> Result<(), AllocError>
-        ensures ok { OnOk result (Does (changes.broken self.old code) out.old.items self.new out.new.items) }
+    /// Ends the connection with a GOAWAY, or does nothing; an open block is decoded no more. Answers the cause.
+    pub fn fail(&mut self, cause: Cause, out: &mut Vec<u8, A>) -> Result<Option<Cause>, AllocError>
+        ensures ok { OnOk result (Does (changes.broken self.old cause) out.old.items self.new out.new.items) }
+        ensures cause { IfOk result (λ found. found ≡ Some cause) }
         ensures err { OnErr result ((self.new ≡ self.old) × (out.new.items ≡ out.old.items)) }
     {
+        let code = cause.code();
         write_goaway(self.core.last, code, out)?;
         self.core = ended_by(code, self.core);
         stop(&mut self.block);
-        Ok(())
+        Ok(Some(cause))
     }
 }

@@ -8,9 +8,8 @@ ghost use Rattle.h2_spec.specs.Headers as rule;
 ghost use Rattle.h2_spec.specs.State as state;
 ghost use Rattle.h2_spec.specs.Stream.{Records, kind_of};
 ghost use Rattle.h2_spec.specs.ReactionTable.{headers_cell};
-ghost use Rattle.h2_fields.specs.declared.fault.BlockFault.TheVariants.{NoMemory};
 ghost use Rattle.h2_table.specs.Edits.{EditOf, IsEdit};
-ghost use Rattle.h2_conn.specs.Blocks.{IsOpenAt, IsOpenFor, IsSoundEffect, block_after, cell_of, effect_in, effect_seen, state_of};
+ghost use Rattle.h2_conn.specs.Blocks.{IsOpenAt, IsOpenFor, IsSoundEffect, block_after, cause_by, cell_of, effect_in, effect_seen, state_of};
 ghost use Rattle.h2_rules.specs.Sound.{AreSound, InForce, IsSoundState, in_force};
 
 use crate::state::Decoding;
@@ -19,8 +18,8 @@ use h2_fields::fault::BlockFault;
 use h2_request::book::Book;
 use h2_rules::block_end::block_ends;
 use h2_rules::change::only_counts;
+use h2_spec::causes::Cause;
 use h2_spec::connection::{BlockView, Config, ConnectionState, Purpose};
-use h2_spec::errors::ErrorCode;
 use h2_spec::frames::{END_STREAM, Head};
 use h2_spec::reactions::Change;
 use h2_spec::streams::Kind;
@@ -34,21 +33,24 @@ const MAX_BLOCK: usize = 65_536;
 /// What a fragment results in: a connection error, or a change and the block that is open after it, as it is shown.
 #[derive(Clone, Copy)]
 pub enum FragmentEffect {
-    Breaks(ErrorCode),
+    Breaks(Cause),
     Makes(Option<BlockView>, Change),
 }
 
-/// Whether a fault is one of the octets: `AllocError` where it is out of memory.
-fn memory_is_enough(fault: BlockFault) -> Result<(), AllocError>
-    ensures { OnOk result (fault ≢ NoMemory) }
+/// Why a block with this fault is a connection error (RFC 9113, 4.3); none where it is out of memory.
+fn fault_cause(fault: BlockFault) -> Option<Cause>
+    ensures { result ≡ cause_by fault }
 {
     match fault {
-        BlockFault::NoMemory => Err(AllocError),
-        BlockFault::Index => Ok(()),
-        BlockFault::Integer => Ok(()),
-        BlockFault::Huffman => Ok(()),
-        BlockFault::SizeUpdate => Ok(()),
-        BlockFault::Truncated => Ok(()),
+        BlockFault::NoMemory => None,
+        BlockFault::ZeroIndex => Some(Cause::IndexZero),
+        BlockFault::Index => Some(Cause::IndexOutOfTables),
+        BlockFault::Integer => Some(Cause::IntegerTooLong),
+        BlockFault::Huffman => Some(Cause::HuffmanString),
+        BlockFault::LateUpdate => Some(Cause::SizeUpdateLate),
+        BlockFault::LargeUpdate => Some(Cause::SizeUpdateTooLarge),
+        BlockFault::MissingUpdate => Some(Cause::SizeUpdateMissing),
+        BlockFault::Truncated => Some(Cause::BlockTruncated),
     }
 }
 
@@ -70,8 +72,8 @@ fn read<A: Allocator + Copy>(
     if !end_headers {
         return FragmentEffect::Makes(Some(shown), only_counts(core));
     }
-    if !tentative.is_whole() {
-        return FragmentEffect::Breaks(ErrorCode::CompressionError);
+    if let Some(cause) = tentative.bad_end() {
+        return FragmentEffect::Breaks(cause);
     }
     let change = block_ends(
         book,
@@ -113,7 +115,7 @@ pub fn fragment<A: Allocator + Copy>(
 {
     let count = shown.octets as usize + octets.len();
     if MAX_BLOCK < count {
-        let breaks = FragmentEffect::Breaks(ErrorCode::EnhanceYourCalm);
+        let breaks = FragmentEffect::Breaks(Cause::BlockTooLarge);
         return (Tentative::unchanged(decoding), edit, Ok(breaks));
     }
     let (tentative, edit, result) = Tentative::decoded(decoding, table, edit, octets);
@@ -127,12 +129,12 @@ pub fn fragment<A: Allocator + Copy>(
             let effect = read(book, config, core, streams, shown, &tentative, end_headers);
             (tentative, edit, Ok(effect))
         }
-        Err(fault) => match memory_is_enough(fault) {
-            Ok(()) => {
-                let breaks = FragmentEffect::Breaks(ErrorCode::CompressionError);
+        Err(fault) => match fault_cause(fault) {
+            Some(cause) => {
+                let breaks = FragmentEffect::Breaks(cause);
                 (tentative, edit, Ok(breaks))
             }
-            Err(error) => (tentative, edit, Err(error)),
+            None => (tentative, edit, Err(AllocError)),
         },
     }
 }
@@ -140,16 +142,17 @@ pub fn fragment<A: Allocator + Copy>(
 /// What HEADERS begins on a stream, by the stream's state: a block for this purpose, or a connection error (RFC 9113,
 /// 5.1 and 6.2).
 /// An idle stream that a client may open is above the last one that was opened.
-pub fn headers_purpose(id: u32, kind: Kind) -> Result<Purpose, ErrorCode>
+pub fn headers_purpose(id: u32, kind: Kind) -> Result<Purpose, Cause>
     ensures rule { cell_of result ≡ headers_cell id kind }
     ensures known { (book : List Entry) (f : InForce) (r : Records) → AreSound book f r.streams → kind ≡ kind_of r.last r.streams id → IfOk result (λ purpose. IsOpenAt r id purpose) }
 {
     match kind {
         Kind::Idle if id % 2 == 1 => Ok(Purpose::Request),
-        Kind::Idle | Kind::Skipped => Err(ErrorCode::ProtocolError),
+        Kind::Idle => Err(Cause::HeadersOnEven),
+        Kind::Skipped => Err(Cause::HeadersOnSkipped),
         Kind::BothOpen | Kind::HalfLocal => Ok(Purpose::Trailers),
         Kind::HalfRemote => Ok(Purpose::Closed),
-        Kind::Ended | Kind::PeerReset => Err(ErrorCode::StreamClosed),
+        Kind::Ended | Kind::PeerReset => Err(Cause::HeadersOnClosed),
         Kind::WeReset => Ok(Purpose::TableOnly),
     }
 }

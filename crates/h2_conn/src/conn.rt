@@ -16,13 +16,16 @@ ghost use Rattle.h2_conn.specs.declared.fault.ConnFault.TheVariants.{Failed, NoM
 ghost use Rattle.h2_conn.specs.Faults.{refusal_after, refusal_for};
 ghost use Rattle.h2_conn.specs.First.{TakesIfAny};
 ghost use Rattle.h2_conn.specs.Marks.{Follows};
+ghost use Rattle.h2_conn.specs.Reports.{reported, used_by};
 ghost use Rattle.h2_conn.specs.Runs.{Feeds, FeedsOne, Halts};
+ghost use Rattle.h2_spec.specs.Trace.{next_item};
 
 use crate::fault::ConnFault;
 use crate::feeding::{take_one, take_piece};
-use crate::first::{empty_splitter, take_first_in_order};
+use crate::first::empty_splitter;
 use crate::one::One;
 use crate::opening::write_opening;
+use crate::report::{TakenItem, report_first_in_order};
 use crate::state::State;
 use crate::view::View;
 use h2_device::{DeviceFault, Output, Text, string_of};
@@ -162,28 +165,30 @@ impl<'b, A: Allocator + Copy> Conn<'b, A> {
         }
     }
 
-    /// Takes the item that these octets begin with, if there is a whole one, and returns how many of them it takes;
-    /// none after the end of the connection. No octet is held. What is sent for it is appended to `out`.
+    /// Takes the item that these octets begin with, if there is a whole one, and reports what it is, the cause of the
+    /// error that it results in, or why it is ignored; none after the end of the connection. No octet is held. What is
+    /// sent for it is appended to `out`.
     ///
     /// # Errors
     ///
     /// `AllocError` where memory is refused: nothing of the item is done, and the same item can be taken again.
-    pub fn take_first(
+    pub fn take_and_report(
         &mut self,
         octets: &[u8],
         out: &mut Vec<u8, A>,
-    ) -> Result<Option<usize>, AllocError>
+    ) -> Result<Option<TakenItem>, AllocError>
         requires ready { self.old ≡ going self.old.state [] }
-        ensures ok { IfOk result (λ used. TakesIfAny self.old.state octets.now out.old.items self.new.state out.new.items used) }
+        ensures ok { IfOk result (λ taken. TakesIfAny self.old.state octets.now out.old.items self.new.state out.new.items (used_by taken)) }
+        ensures report { IfOk result (λ taken. taken ≡ reported self.old.state (next_item self.old.state octets.now)) }
         ensures ready { self.new ≡ going self.new.state [] }
         ensures follows { OnOk result (Follows self.old.state self.new.state) }
         ensures unchanged { OnErr result ((self.new ≡ self.old) × (out.new.items ≡ out.old.items)) }
     {
-        let used = take_first_in_order(&mut self.state, octets, out)?;
-        if used.is_some() {
+        let taken = report_first_in_order(&mut self.state, octets, out)?;
+        if taken.is_some() {
             self.splitter.expect_preface(false);
         }
-        Ok(used)
+        Ok(taken)
     }
 
     /// The same connection once more, in memory of its own; the book is lent to both, and where one was refused

@@ -32,7 +32,7 @@ fn advance<'b, A: Allocator + Copy>(
     match splitter.next(state.limit()) {
         None => Ok(false),
         Some(item) => match state.item(&item, out) {
-            Ok(()) => Ok(true),
+            Ok(_) => Ok(true),
             Err(error) => Err(error),
         },
     }

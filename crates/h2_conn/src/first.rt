@@ -4,7 +4,6 @@
 ghost use Rattle.std.specs.Prelude.{◌≡◌, ◌≤◌, [], IfOk, OnErr, OnOk, drop, length};
 ghost use Rattle.h2_conn.specs.Connection.{Fits, awaits_preface, is_ended};
 ghost use Rattle.h2_conn.specs.First.{TakesIfAny};
-ghost use Rattle.h2_conn.specs.Marks.{Follows};
 ghost use Rattle.h2_conn.specs.Runs.{Halted, Ran};
 
 use crate::conn::is_ended;
@@ -48,24 +47,10 @@ pub(crate) fn take_first<'b, A: Allocator + Copy>(
     match first_item(octets, awaits_preface(phase), state.limit()) {
         None => Ok(None),
         Some((item, used)) => match state.item(&item, out) {
-            Ok(()) => Ok(Some(used)),
+            Ok(_) => Ok(Some(used)),
             Err(error) => Err(error),
         },
     }
-}
-
-/// The same, where it matters what the item leaves of the records of streams.
-pub(crate) fn take_first_in_order<'b, A: Allocator + Copy>(
-    state: &mut State<'b, A>,
-    octets: &[u8],
-    out: &mut Vec<u8, A>,
-) -> Result<Option<usize>, AllocError>
-    ensures ok { IfOk result (λ used. TakesIfAny state.old octets.now out.old.items state.new out.new.items used) }
-    ensures follows { OnOk result (Follows state.old state.new) }
-    ensures err { OnErr result ((state.new ≡ state.old) × (out.new.items ≡ out.old.items)) }
-{
-    let _rising = state.streams.last();
-    take_first(state, octets, out)
 }
 
 /// How far a run through octets in hand went.

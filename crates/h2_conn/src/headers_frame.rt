@@ -12,7 +12,7 @@ ghost use Rattle.h2_spec.specs.Headers as headers;
 ghost use Rattle.h2_spec.specs.State.{is_due};
 ghost use Rattle.h2_spec.specs.Stream.{stream_at};
 ghost use Rattle.h2_spec.specs.ReactionTable.{headers_cell};
-ghost use Rattle.h2_spec.specs.declared.errors.ErrorCode.TheVariants.{ProtocolError};
+ghost use Rattle.h2_spec.specs.declared.causes.Cause.TheVariants.{ContinuationOutsideBlock};
 ghost use Rattle.h2_conn.specs.Blocks.{IsOpenAt, IsSoundEffect, IsStopped, block_after, cell_of, decoding_of, effect_seen, limited};
 ghost use Rattle.h2_conn.specs.Does.{Does, stepped, stopped};
 ghost use Rattle.h2_conn.specs.Sending.{records};
@@ -22,8 +22,8 @@ use crate::block::{FragmentEffect, fragment, fresh_block, headers_purpose};
 use crate::state::{Decoding, OpenBlock, State};
 use crate::tentative::Tentative;
 use h2_frame::HeadersPart;
+use h2_spec::causes::Cause;
 use h2_spec::connection::{BlockView, Purpose};
-use h2_spec::errors::ErrorCode;
 use h2_spec::frames::{END_HEADERS, Head};
 use h2_table::Edit;
 use std::alloc::{AllocError, Allocator};
@@ -62,25 +62,26 @@ impl<'b, A: Allocator + Copy> State<'b, A> {
         edit: &mut Edit<A>,
         payload: &[u8],
         out: &mut Vec<u8, A>,
-    ) -> Result<(), Decoding<A>>
+    ) -> Result<Option<Cause>, Decoding<A>>
         requires fits { length payload.now < 2 ^ 24 }
         requires stopped { IsStopped self.old.block }
         requires sound { IsSoundEffect self.old.book (records self.old) (in_force self.old.core) (limited self.old.core.own.table self.old.table) edit.old tentative.after effect }
         ensures ok { OnOk result (Does (stepped (rule.concluded self.old payload.now (effect_seen self.old edit.old tentative.after effect))) out.old.items self.new out.new.items) }
+        ensures cause { IfOk result (λ cause. cause ≡ rule.effect_cause (effect_seen self.old edit.old tentative.after effect)) }
         ensures err { IfErr result (λ before. (before ≡ tentative.before) × (self.new ≡ self.old) × (out.new.items ≡ out.old.items)) }
     {
         match effect {
-            FragmentEffect::Breaks(code) => match self.fail(code, out) {
-                Ok(()) => Ok(()),
+            FragmentEffect::Breaks(cause) => match self.fail(cause, out) {
+                Ok(found) => Ok(found),
                 Err(_) => Err(tentative.give_up()),
             },
             FragmentEffect::Makes(shown, change) => match self.apply_change(change, payload, out) {
-                Ok(()) => {
+                Ok(cause) => {
                     let (block, spare) = block_after(shown, tentative);
                     self.block = block;
                     self.spare = spare;
                     self.table.commit(edit);
-                    Ok(())
+                    Ok(cause)
                 }
                 Err(_) => Err(tentative.give_up()),
             },
@@ -177,11 +178,12 @@ impl<'b, A: Allocator + Copy> State<'b, A> {
         end_headers: bool,
         payload: &[u8],
         out: &mut Vec<u8, A>,
-    ) -> Result<(), Decoding<A>>
+    ) -> Result<Option<Cause>, Decoding<A>>
         requires fits { length payload.now < 2 ^ 24 }
         requires stopped { IsStopped self.old.block }
         requires known { IsOpenAt (records self.old) shown.stream decoding.purpose }
         ensures ok { OnOk result (Does (stepped (rule.concluded self.old payload.now (headers.fragment self.old shown decoding octets.now end_headers))) out.old.items self.new out.new.items) }
+        ensures cause { IfOk result (λ cause. cause ≡ rule.effect_cause (headers.fragment self.old shown decoding octets.now end_headers)) }
         ensures err { IfErr result (λ before. (before ≡ decoding) × (self.new ≡ self.old) × (out.new.items ≡ out.old.items)) }
     {
         let edit = self.take_edit(*out.allocator());
@@ -211,11 +213,12 @@ impl<'b, A: Allocator + Copy> State<'b, A> {
     }
 
     /// CONTINUATION where no block is open (RFC 9113, 6.10).
-    fn not_open(&mut self, out: &mut Vec<u8, A>) -> Result<(), AllocError>
-        ensures ok { OnOk result (Does (broken self.old ProtocolError) out.old.items self.new out.new.items) }
+    fn not_open(&mut self, out: &mut Vec<u8, A>) -> Result<Option<Cause>, AllocError>
+        ensures ok { OnOk result (Does (broken self.old ContinuationOutsideBlock) out.old.items self.new out.new.items) }
+        ensures cause { IfOk result (λ cause. cause ≡ Some ContinuationOutsideBlock) }
         ensures err { OnErr result ((self.new ≡ self.old) × (out.new.items ≡ out.old.items)) }
     {
-        self.fail(ErrorCode::ProtocolError, out)
+        self.fail(Cause::ContinuationOutsideBlock, out)
     }
 
     /// CONTINUATION: the open block goes on; an error where there is none.
@@ -226,9 +229,10 @@ impl<'b, A: Allocator + Copy> State<'b, A> {
         octets: &[u8],
         payload: &[u8],
         out: &mut Vec<u8, A>,
-    ) -> Result<(), AllocError>
+    ) -> Result<Option<Cause>, AllocError>
         requires fits { length payload.now < 2 ^ 24 }
         ensures ok { OnOk result (Does (stepped (rule.concluded self.old payload.now (headers.continuation self.old self.old.block octets.now (frames.has head.now.flags frames.END_HEADERS)))) out.old.items self.new out.new.items) }
+        ensures cause { IfOk result (λ cause. cause ≡ rule.effect_cause (headers.continuation self.old self.old.block octets.now (frames.has head.now.flags frames.END_HEADERS))) }
         ensures err { OnErr result ((self.new ≡ self.old) × (out.new.items ≡ out.old.items)) }
     {
         match self.take_decoding() {
@@ -236,7 +240,7 @@ impl<'b, A: Allocator + Copy> State<'b, A> {
             Some((shown, decoding)) => {
                 let end_headers = head.has(END_HEADERS);
                 match self.on_fragment(shown, decoding, octets, end_headers, payload, out) {
-                    Ok(()) => Ok(()),
+                    Ok(cause) => Ok(cause),
                     Err(before) => {
                         self.put_back(shown, before);
                         Err(AllocError)
@@ -246,8 +250,8 @@ impl<'b, A: Allocator + Copy> State<'b, A> {
         }
     }
 
-    /// What HEADERS on a stream open a block for, or the code of the connection error.
-    fn purpose_at(&self, id: u32) -> Result<Purpose, ErrorCode>
+    /// What HEADERS on a stream open a block for, or the cause of the connection error.
+    fn purpose_at(&self, id: u32) -> Result<Purpose, Cause>
         ensures rule { cell_of result ≡ headers_cell id (stream_at self.now.core.last self.now.streams id).kind }
         ensures known { IfOk result (λ purpose. IsOpenAt (records self.now) id purpose) }
     {
@@ -263,20 +267,21 @@ impl<'b, A: Allocator + Copy> State<'b, A> {
         payload: &[u8],
         part: HeadersPart<'_>,
         out: &mut Vec<u8, A>,
-    ) -> Result<(), AllocError>
+    ) -> Result<Option<Cause>, AllocError>
         requires fits { length payload.now < 2 ^ 24 }
         requires stopped { IsStopped self.old.block }
         ensures ok { OnOk result (Does (stepped (rule.concluded self.old payload.now (rule.on_headers self.old head.now (headers_seen part.entry) (headers_cell head.now.stream (stream_at self.old.core.last self.old.streams head.now.stream).kind)))) out.old.items self.new out.new.items) }
+        ensures cause { IfOk result (λ cause. cause ≡ rule.effect_cause (rule.on_headers self.old head.now (headers_seen part.entry) (headers_cell head.now.stream (stream_at self.old.core.last self.old.streams head.now.stream).kind))) }
         ensures err { OnErr result ((self.new ≡ self.old) × (out.new.items ≡ out.old.items)) }
     {
         match self.purpose_at(head.stream) {
-            Err(code) => self.fail(code, out),
+            Err(cause) => self.fail(cause, out),
             Ok(purpose) => {
                 let decoding = self.begin_decoding(*out.allocator(), purpose);
                 let end_headers = head.has(END_HEADERS);
                 let shown = fresh_block(head);
                 match self.on_fragment(shown, decoding, part.fragment, end_headers, payload, out) {
-                    Ok(()) => Ok(()),
+                    Ok(cause) => Ok(cause),
                     Err(before) => {
                         self.keep_decoding(before);
                         Err(AllocError)

@@ -2,7 +2,7 @@
 //! Rests on the rules and on `apply_change`; definitions: `effect` of h2_spec's `specs/Effect.antt`, `step` of
 //! `specs/Trace.antt`.
 
-ghost use Rattle.std.specs.Prelude.{◌≡◌, ◌<◌, ◌^◌, ◌==◌, [], length, None, Some, Ok, OnOk, OnErr, if◌then◌else◌};
+ghost use Rattle.std.specs.Prelude.{◌≡◌, ◌<◌, ◌^◌, ◌==◌, [], length, None, Some, Ok, IfOk, OnOk, OnErr, if◌then◌else◌};
 ghost use Rattle.h2_frame.specs.Items.{item_of};
 ghost use Rattle.h2_frame.specs.Parts.{data_seen, part_seen, settings_in};
 ghost use Rattle.h2_spec.specs.Answer.{picked};
@@ -17,7 +17,7 @@ ghost use Rattle.h2_spec.specs.Stream.{stream_at};
 ghost use Rattle.h2_spec.specs.WindowUpdate as window;
 ghost use Rattle.h2_spec.specs.Trace.{step};
 ghost use Rattle.h2_spec.specs.declared.connection.Phase.TheVariants as phase;
-ghost use Rattle.h2_spec.specs.declared.errors.ErrorCode.TheVariants.{ProtocolError};
+ghost use Rattle.h2_spec.specs.declared.causes.Cause.TheVariants.{PushPromiseFromClient};
 ghost use Rattle.h2_spec.specs.declared.reactions.ConnectionFrame.TheVariants as frames;
 ghost use Rattle.h2_spec.specs.declared.reactions.Reaction.TheVariants as reactions;
 ghost use Rattle.h2_spec.specs.declared.reactions.Reaction.TheVariants.{ConnectionError};
@@ -29,16 +29,16 @@ ghost use Rattle.h2_conn.specs.Sending.{records};
 ghost use Rattle.h2_rules.specs.Sound.{HasBody, IsSound, IsSoundState, IsSoundStream, in_force};
 
 use crate::state::State;
-use h2_frame::{DataPart, FrameRef, Item, Part, PayloadFault, SettingsPart, part_of};
+use h2_frame::{DataPart, FrameRef, Item, Part, SettingsPart, part_of};
 use h2_rules::change::only_counts;
-use h2_rules::checks::refusal;
+use h2_rules::checks::{oversize, refusal};
 use h2_rules::control::{nothing, on_goaway, on_ping};
 use h2_rules::data::on_data;
 use h2_rules::reset::on_reset;
 use h2_rules::settings::settings_rule;
 use h2_rules::window_update::{connection_window, on_window};
+use h2_spec::causes::Cause;
 use h2_spec::connection::{ConnectionState, Phase};
-use h2_spec::errors::ErrorCode;
 use h2_spec::frames::{ACK, END_STREAM, Head};
 use h2_spec::reactions::{Reaction, ReceivedData};
 use h2_spec::streams::Stream;
@@ -163,9 +163,9 @@ impl<'b, A: Allocator + Copy> State<'b, A> {
 
     /// PUSH_PROMISE, which a client may not send (RFC 9113, 8.4).
     fn on_push_promise(&self) -> Reaction
-        ensures { result ≡ ConnectionError ProtocolError }
+        ensures { result ≡ ConnectionError PushPromiseFromClient }
     {
-        Reaction::ConnectionError(ErrorCode::ProtocolError)
+        Reaction::ConnectionError(Cause::PushPromiseFromClient)
     }
 
     /// A connection error or a change, or nothing; no block is open that is still decoded.
@@ -175,15 +175,16 @@ impl<'b, A: Allocator + Copy> State<'b, A> {
         reaction: Reaction,
         payload: &[u8],
         out: &mut Vec<u8, A>,
-    ) -> Result<(), AllocError>
+    ) -> Result<Option<Cause>, AllocError>
         requires fits { length payload.now < 2 ^ 24 }
         requires stopped { IsStopped self.old.block }
         requires sound { IsSound self.old.book (records self.old) (in_force self.old.core) reaction }
         ensures ok { OnOk result (Does (stepped (rule.concluded self.old payload.now (makes self.old reaction))) out.old.items self.new out.new.items) }
+        ensures cause { IfOk result (λ cause. cause ≡ rule.effect_cause (makes self.old reaction)) }
         ensures err { OnErr result ((self.new ≡ self.old) × (out.new.items ≡ out.old.items)) }
     {
         match reaction {
-            Reaction::ConnectionError(code) => self.fail(code, out),
+            Reaction::ConnectionError(cause) => self.fail(cause, out),
             Reaction::Continues(change) => self.apply_change(change, payload, out),
         }
     }
@@ -195,16 +196,17 @@ impl<'b, A: Allocator + Copy> State<'b, A> {
         reaction: Reaction,
         payload: &[u8],
         out: &mut Vec<u8, A>,
-    ) -> Result<(), AllocError>
+    ) -> Result<Option<Cause>, AllocError>
         requires fits { length payload.now < 2 ^ 24 }
         requires stopped { IsStopped self.old.block }
         requires sound { IsSound self.old.book (records self.old) (in_force self.old.core) reaction }
         requires counts { IsCounted self.old.core reaction }
         ensures ok { OnOk result (Does (stepped (rule.concluded self.old payload.now (makes self.old reaction))) out.old.items self.new out.new.items) }
+        ensures cause { IfOk result (λ cause. cause ≡ rule.effect_cause (makes self.old reaction)) }
         ensures err { OnErr result ((self.new ≡ self.old) × (out.new.items ≡ out.old.items)) }
     {
         match reaction {
-            Reaction::ConnectionError(code) => self.fail(code, out),
+            Reaction::ConnectionError(cause) => self.fail(cause, out),
             Reaction::Continues(change) => self.apply_in_place(&change, payload, out),
         }
     }
@@ -227,11 +229,12 @@ impl<'b, A: Allocator + Copy> State<'b, A> {
         part: DataPart<'_>,
         payload: &[u8],
         out: &mut Vec<u8, A>,
-    ) -> Result<(), AllocError>
+    ) -> Result<Option<Cause>, AllocError>
         requires fits { length payload.now < 2 ^ 24 }
         requires part { part_of head.now payload.now ≡ Ok (OfData (data_seen part)) }
         requires stopped { IsStopped self.old.block }
         ensures ok { OnOk result (Does (stepped (rule.concluded self.old payload.now (makes self.old (rule.on_data self.old.config self.old.core (rule.body_length self.old.book (stream_at self.old.core.last self.old.streams head.now.stream)) (rule.incoming head.now payload.now (data_seen part.entry)) (stream_at self.old.core.last self.old.streams head.now.stream))))) out.old.items self.new out.new.items) }
+        ensures cause { IfOk result (λ cause. cause ≡ rule.effect_cause (makes self.old (rule.on_data self.old.config self.old.core (rule.body_length self.old.book (stream_at self.old.core.last self.old.streams head.now.stream)) (rule.incoming head.now payload.now (data_seen part.entry)) (stream_at self.old.core.last self.old.streams head.now.stream)))) }
         ensures err { OnErr result ((self.new ≡ self.old) × (out.new.items ≡ out.old.items)) }
     {
         let reaction = self.on_data(head, payload, part);
@@ -245,10 +248,11 @@ impl<'b, A: Allocator + Copy> State<'b, A> {
         id: u32,
         payload: &[u8],
         out: &mut Vec<u8, A>,
-    ) -> Result<(), AllocError>
+    ) -> Result<Option<Cause>, AllocError>
         requires fits { length payload.now < 2 ^ 24 }
         requires stopped { IsStopped self.old.block }
         ensures ok { OnOk result (Does (stepped (rule.concluded self.old payload.now (makes self.old (rule.on_reset self.old.core (stream_at self.old.core.last self.old.streams id))))) out.old.items self.new out.new.items) }
+        ensures cause { IfOk result (λ cause. cause ≡ rule.effect_cause (makes self.old (rule.on_reset self.old.core (stream_at self.old.core.last self.old.streams id)))) }
         ensures err { OnErr result ((self.new ≡ self.old) × (out.new.items ≡ out.old.items)) }
     {
         let reaction = self.on_reset(id);
@@ -262,10 +266,11 @@ impl<'b, A: Allocator + Copy> State<'b, A> {
         part: SettingsPart<'_>,
         payload: &[u8],
         out: &mut Vec<u8, A>,
-    ) -> Result<(), AllocError>
+    ) -> Result<Option<Cause>, AllocError>
         requires fits { length payload.now < 2 ^ 24 }
         requires stopped { IsStopped self.old.block }
         ensures ok { OnOk result (Does (stepped (rule.concluded self.old payload.now (makes self.old (settings.settings_rule self.old.streams self.old.core (settings_in part.entry))))) out.old.items self.new out.new.items) }
+        ensures cause { IfOk result (λ cause. cause ≡ rule.effect_cause (makes self.old (settings.settings_rule self.old.streams self.old.core (settings_in part.entry)))) }
         ensures err { OnErr result ((self.new ≡ self.old) × (out.new.items ≡ out.old.items)) }
     {
         let reaction = self.on_settings(part);
@@ -279,10 +284,11 @@ impl<'b, A: Allocator + Copy> State<'b, A> {
         is_answer: bool,
         payload: &[u8],
         out: &mut Vec<u8, A>,
-    ) -> Result<(), AllocError>
+    ) -> Result<Option<Cause>, AllocError>
         requires fits { length payload.now < 2 ^ 24 }
         requires stopped { IsStopped self.old.block }
         ensures ok { OnOk result (Does (stepped (rule.concluded self.old payload.now (makes self.old (if is_answer then rule.nothing self.old.core else reactions.Continues (record (changes.only_counts self.old.core) { first = frames.PingAck }))))) out.old.items self.new out.new.items) }
+        ensures cause { IfOk result (λ cause. cause ≡ rule.effect_cause (makes self.old (if is_answer then rule.nothing self.old.core else reactions.Continues (record (changes.only_counts self.old.core) { first = frames.PingAck })))) }
         ensures err { OnErr result ((self.new ≡ self.old) × (out.new.items ≡ out.old.items)) }
     {
         let reaction = self.on_ping(is_answer);
@@ -297,10 +303,11 @@ impl<'b, A: Allocator + Copy> State<'b, A> {
         code: u32,
         payload: &[u8],
         out: &mut Vec<u8, A>,
-    ) -> Result<(), AllocError>
+    ) -> Result<Option<Cause>, AllocError>
         requires fits { length payload.now < 2 ^ 24 }
         requires stopped { IsStopped self.old.block }
         ensures ok { OnOk result (Does (stepped (rule.concluded self.old payload.now (makes self.old (reactions.Continues (changes.only_counts (record self.old.core { goaway = Some (last, code) })))))) out.old.items self.new out.new.items) }
+        ensures cause { IfOk result (λ cause. cause ≡ rule.effect_cause (makes self.old (reactions.Continues (changes.only_counts (record self.old.core { goaway = Some (last, code) }))))) }
         ensures err { OnErr result ((self.new ≡ self.old) × (out.new.items ≡ out.old.items)) }
     {
         let reaction = self.on_goaway(last, code);
@@ -314,10 +321,11 @@ impl<'b, A: Allocator + Copy> State<'b, A> {
         increment: u32,
         payload: &[u8],
         out: &mut Vec<u8, A>,
-    ) -> Result<(), AllocError>
+    ) -> Result<Option<Cause>, AllocError>
         requires fits { length payload.now < 2 ^ 24 }
         requires stopped { IsStopped self.old.block }
         ensures ok { OnOk result (Does (stepped (rule.concluded self.old payload.now (makes self.old (window.connection_window self.old.core increment)))) out.old.items self.new out.new.items) }
+        ensures cause { IfOk result (λ cause. cause ≡ rule.effect_cause (makes self.old (window.connection_window self.old.core increment))) }
         ensures err { OnErr result ((self.new ≡ self.old) × (out.new.items ≡ out.old.items)) }
     {
         let reaction = self.on_connection_window(increment);
@@ -332,10 +340,11 @@ impl<'b, A: Allocator + Copy> State<'b, A> {
         increment: u32,
         payload: &[u8],
         out: &mut Vec<u8, A>,
-    ) -> Result<(), AllocError>
+    ) -> Result<Option<Cause>, AllocError>
         requires fits { length payload.now < 2 ^ 24 }
         requires stopped { IsStopped self.old.block }
         ensures ok { OnOk result (Does (stepped (rule.concluded self.old payload.now (makes self.old (rule.on_window self.old.core increment (stream_at self.old.core.last self.old.streams id))))) out.old.items self.new out.new.items) }
+        ensures cause { IfOk result (λ cause. cause ≡ rule.effect_cause (makes self.old (rule.on_window self.old.core increment (stream_at self.old.core.last self.old.streams id)))) }
         ensures err { OnErr result ((self.new ≡ self.old) × (out.new.items ≡ out.old.items)) }
     {
         let reaction = self.on_stream_window(id, increment);
@@ -344,10 +353,15 @@ impl<'b, A: Allocator + Copy> State<'b, A> {
 
     /// A frame that changes nothing is taken.
     #[inline(never)]
-    fn take_ignored(&mut self, payload: &[u8], out: &mut Vec<u8, A>) -> Result<(), AllocError>
+    fn take_ignored(
+        &mut self,
+        payload: &[u8],
+        out: &mut Vec<u8, A>,
+    ) -> Result<Option<Cause>, AllocError>
         requires fits { length payload.now < 2 ^ 24 }
         requires stopped { IsStopped self.old.block }
         ensures ok { OnOk result (Does (stepped (rule.concluded self.old payload.now (makes self.old (rule.nothing self.old.core)))) out.old.items self.new out.new.items) }
+        ensures cause { IfOk result (λ cause. cause ≡ rule.effect_cause (makes self.old (rule.nothing self.old.core))) }
         ensures err { OnErr result ((self.new ≡ self.old) × (out.new.items ≡ out.old.items)) }
     {
         let reaction = self.on_ignored();
@@ -356,10 +370,15 @@ impl<'b, A: Allocator + Copy> State<'b, A> {
 
     /// PUSH_PROMISE is taken.
     #[inline(never)]
-    fn take_push_promise(&mut self, payload: &[u8], out: &mut Vec<u8, A>) -> Result<(), AllocError>
+    fn take_push_promise(
+        &mut self,
+        payload: &[u8],
+        out: &mut Vec<u8, A>,
+    ) -> Result<Option<Cause>, AllocError>
         requires fits { length payload.now < 2 ^ 24 }
         requires stopped { IsStopped self.old.block }
-        ensures ok { OnOk result (Does (stepped (rule.concluded self.old payload.now (makes self.old (ConnectionError ProtocolError)))) out.old.items self.new out.new.items) }
+        ensures ok { OnOk result (Does (stepped (rule.concluded self.old payload.now (makes self.old (ConnectionError PushPromiseFromClient)))) out.old.items self.new out.new.items) }
+        ensures cause { IfOk result (λ cause. cause ≡ rule.effect_cause (makes self.old (ConnectionError PushPromiseFromClient))) }
         ensures err { OnErr result ((self.new ≡ self.old) × (out.new.items ≡ out.old.items)) }
     {
         let reaction = self.on_push_promise();
@@ -374,10 +393,11 @@ impl<'b, A: Allocator + Copy> State<'b, A> {
         increment: u32,
         payload: &[u8],
         out: &mut Vec<u8, A>,
-    ) -> Result<(), AllocError>
+    ) -> Result<Option<Cause>, AllocError>
         requires fits { length payload.now < 2 ^ 24 }
         requires stopped { IsStopped self.old.block }
         ensures ok { OnOk result (Does (stepped (rule.concluded self.old payload.now (makes self.old (if id == 0 then window.connection_window self.old.core increment else rule.on_window self.old.core increment (stream_at self.old.core.last self.old.streams id))))) out.old.items self.new out.new.items) }
+        ensures cause { IfOk result (λ cause. cause ≡ rule.effect_cause (makes self.old (if id == 0 then window.connection_window self.old.core increment else rule.on_window self.old.core increment (stream_at self.old.core.last self.old.streams id)))) }
         ensures err { OnErr result ((self.new ≡ self.old) × (out.new.items ≡ out.old.items)) }
     {
         if id == 0 {
@@ -394,12 +414,13 @@ impl<'b, A: Allocator + Copy> State<'b, A> {
         payload: &[u8],
         part: Part<'_>,
         out: &mut Vec<u8, A>,
-    ) -> Result<(), AllocError>
+    ) -> Result<Option<Cause>, AllocError>
         requires fits { length payload.now < 2 ^ 24 }
         requires part { part_of head.now payload.now ≡ Ok (part_seen part) }
         requires plain { IsPlain part }
         requires stopped { IsStopped self.old.block }
         ensures ok { OnOk result (Does (stepped (rule.concluded self.old payload.now (rule.frame_effect self.old head.now payload.now (part_seen part.entry)))) out.old.items self.new out.new.items) }
+        ensures cause { IfOk result (λ cause. cause ≡ rule.effect_cause (rule.frame_effect self.old head.now payload.now (part_seen part.entry))) }
         ensures err { OnErr result ((self.new ≡ self.old) × (out.new.items ≡ out.old.items)) }
     {
         match part {
@@ -424,11 +445,12 @@ impl<'b, A: Allocator + Copy> State<'b, A> {
         payload: &[u8],
         part: Part<'_>,
         out: &mut Vec<u8, A>,
-    ) -> Result<(), AllocError>
+    ) -> Result<Option<Cause>, AllocError>
         requires fits { length payload.now < 2 ^ 24 }
         requires part { part_of head.now payload.now ≡ Ok (part_seen part) }
         requires passed { checks.refusal (rule.block_stream self.old.block) self.old.core.phase head.now ≡ None }
         ensures ok { OnOk result (Does (stepped (rule.concluded self.old payload.now (rule.frame_effect self.old head.now payload.now (part_seen part.entry)))) out.old.items self.new out.new.items) }
+        ensures cause { IfOk result (λ cause. cause ≡ rule.effect_cause (rule.frame_effect self.old head.now payload.now (part_seen part.entry))) }
         ensures err { OnErr result ((self.new ≡ self.old) × (out.new.items ≡ out.old.items)) }
     {
         match part {
@@ -448,25 +470,30 @@ impl<'b, A: Allocator + Copy> State<'b, A> {
     }
 
     /// A frame: the checks of its head, the form of its payload, and then what it holds.
-    #[tactic(auto, unfolding(h2_spec::specs::Effect::effect))]
-    fn on_frame(&mut self, frame: FrameRef<'_>, out: &mut Vec<u8, A>) -> Result<(), AllocError>
+    #[tactic(auto, unfolding(h2_spec::specs::Effect::effect, h2_spec::specs::Effect::cause_of))]
+    fn on_frame(
+        &mut self,
+        frame: FrameRef<'_>,
+        out: &mut Vec<u8, A>,
+    ) -> Result<Option<Cause>, AllocError>
         requires fits { length frame.payload.now < 2 ^ 24 }
         ensures ok { OnOk result (Does (stepped (rule.effect self.old (WholeFrame frame.entry.head frame.entry.payload.now))) out.old.items self.new out.new.items) }
+        ensures cause { IfOk result (λ cause. cause ≡ rule.cause_of self.old (WholeFrame frame.entry.head frame.entry.payload.now)) }
         ensures err { OnErr result ((self.new ≡ self.old) × (out.new.items ≡ out.old.items)) }
     {
         match refusal(self.block_stream(), self.core.phase, &frame.head) {
-            Some(code) => self.fail(code, out),
+            Some(cause) => self.fail(cause, out),
             None => match part_of(frame) {
-                Err(PayloadFault::SizeFault) => self.fail(ErrorCode::FrameSizeError, out),
-                Err(PayloadFault::PadFault) => self.fail(ErrorCode::ProtocolError, out),
+                Err(cause) => self.fail(cause, out),
                 Ok(part) => self.on_part(&frame.head, frame.payload, part, out),
             },
         }
     }
 
     /// The client's preface has come: SETTINGS is awaited (RFC 9113, 3.4).
-    fn on_preface(&mut self, out: &mut Vec<u8, A>) -> Result<(), AllocError>
+    fn on_preface(&mut self, out: &mut Vec<u8, A>) -> Result<Option<Cause>, AllocError>
         ensures ok { OnOk result (Does (stepped (changes.made self.old [] (changes.only_counts (record self.old.core { phase = phase.Settings })))) out.old.items self.new out.new.items) }
+        ensures cause { IfOk result (λ cause. cause ≡ None) }
         ensures err { OnErr result ((self.new ≡ self.old) × (out.new.items ≡ out.old.items)) }
     {
         let change = only_counts(ConnectionState {
@@ -476,22 +503,28 @@ impl<'b, A: Allocator + Copy> State<'b, A> {
         self.apply_change(change, &[], out)
     }
 
-    /// One item: what it does, and then what waits is sent; whole, or not at all.
+    /// One item: what it does, and then what waits is sent; whole, or not at all. Answers the cause of the connection
+    /// error or stream error that it results in, if it does.
     ///
     /// # Errors
     ///
     /// `AllocError` where memory was refused: the state, its open block included, and `out` are as before the item.
     #[inline(always)]
-    #[tactic(auto, unfolding(h2_spec::specs::Effect::effect, h2_spec::specs::Trace::step))]
-    pub fn item(&mut self, item: &Item<'_>, out: &mut Vec<u8, A>) -> Result<(), AllocError>
+    #[tactic(auto, unfolding(h2_spec::specs::Effect::effect, h2_spec::specs::Effect::cause_of, h2_spec::specs::Trace::step))]
+    pub fn item(
+        &mut self,
+        item: &Item<'_>,
+        out: &mut Vec<u8, A>,
+    ) -> Result<Option<Cause>, AllocError>
         requires short { IsShort (item_of item.now) }
         ensures ok { OnOk result (Does (step self.old (item_of item.now)) out.old.items self.new out.new.items) }
+        ensures cause { IfOk result (λ cause. cause ≡ rule.cause_of self.old (item_of item.now)) }
         ensures err { OnErr result ((self.new ≡ self.old) × (out.new.items ≡ out.old.items)) }
     {
         match item {
             Item::Preface => self.on_preface(out),
-            Item::BadPreface => self.fail(ErrorCode::ProtocolError, out),
-            Item::Oversize(_) => self.fail(ErrorCode::FrameSizeError, out),
+            Item::BadPreface => self.fail(Cause::BadPreface, out),
+            Item::Oversize(head) => self.fail(oversize(head), out),
             Item::Frame(frame) => self.on_frame(*frame, out),
         }
     }

@@ -41,7 +41,7 @@ fn opening_payload<A: Allocator>(alloc: A, config: Config) -> Result<Vec<u8, A>,
     ensures { IfOk result (λ payload. payload.items ≡ opening_payload config) }
 {
     let first = LocalSettings::initial();
-    // Room for five settings.
+    // Space for five settings.
     let mut payload = Vec::with_capacity(alloc, 30)?;
     append_unless(first.table, 1, config.table, &mut payload)?;
     payload.extend_from_slice(&setting_of(3, config.streams))?;

@@ -1,7 +1,7 @@
 //! The acknowledgement of the server's settings, with which they come into force (RFC 9113, 6.5.3).
 //! Rests on `apply_change`; definition: `acknowledged` of h2_spec's `specs/SettingsFrame.antt`.
 
-ghost use Rattle.std.specs.Prelude.{◌≡◌, ◌<◌, ◌^◌, length, OnOk, OnErr};
+ghost use Rattle.std.specs.Prelude.{◌≡◌, ◌<◌, ◌^◌, length, None, IfOk, OnOk, OnErr};
 ghost use Rattle.h2_spec.specs.Change as changes;
 ghost use Rattle.h2_spec.specs.Effect as rule;
 ghost use Rattle.h2_spec.specs.Headers.{makes};
@@ -15,6 +15,7 @@ use crate::apply_change::{send_and_update, with_sent};
 use crate::state::State;
 use h2_rules::change::only_counts;
 use h2_rules::settings::comes_into_force;
+use h2_spec::causes::Cause;
 use std::alloc::{AllocError, Allocator};
 
 impl<'b, A: Allocator + Copy> State<'b, A> {
@@ -24,10 +25,11 @@ impl<'b, A: Allocator + Copy> State<'b, A> {
         &mut self,
         payload: &[u8],
         out: &mut Vec<u8, A>,
-    ) -> Result<(), AllocError>
+    ) -> Result<Option<Cause>, AllocError>
         requires fits { length payload.now < 2 ^ 24 }
         requires stopped { IsStopped self.old.block }
         ensures ok { OnOk result (Does (stepped (rule.concluded self.old payload.now (makes self.old (settings.acknowledged self.old.config self.old.core)))) out.old.items self.new out.new.items) }
+        ensures cause { IfOk result (λ cause. cause ≡ rule.effect_cause (makes self.old (settings.acknowledged self.old.config self.old.core))) }
         ensures err { OnErr result ((self.new ≡ self.old) × (out.new.items ≡ out.old.items)) }
     {
         if self.core.acked {
@@ -43,10 +45,15 @@ impl<'b, A: Allocator + Copy> State<'b, A> {
     /// # Errors
     ///
     /// `AllocError` where memory was refused for the entries that a higher limit lets the table hold: nothing is done.
-    fn come_into_force(&mut self, payload: &[u8], out: &mut Vec<u8, A>) -> Result<(), AllocError>
+    fn come_into_force(
+        &mut self,
+        payload: &[u8],
+        out: &mut Vec<u8, A>,
+    ) -> Result<Option<Cause>, AllocError>
         requires fits { length payload.now < 2 ^ 24 }
         requires stopped { IsStopped self.old.block }
         ensures ok { OnOk result (Does (then_sent self.old.core.phase (changes.made self.old payload.now (settings.comes_into_force self.old.core (configured self.old.config)))) out.old.items self.new out.new.items) }
+        ensures cause { IfOk result (λ cause. cause ≡ None) }
         ensures err { OnErr result ((self.new ≡ self.old) × (out.new.items ≡ out.old.items)) }
     {
         let own = self.config.configured();
@@ -57,7 +64,7 @@ impl<'b, A: Allocator + Copy> State<'b, A> {
             Ok(count) => {
                 self.core = with_sent(change.core, count);
                 self.table.lower_limit(own.table);
-                Ok(())
+                Ok(None)
             }
             Err(error) => {
                 self.table.lower_limit(before);

@@ -2,17 +2,19 @@
 //! Rests on h2_fields and h2_table; definitions: `decoded` of h2_spec's `specs/Block.antt`, and `specs/Blocks.antt`
 //! here.
 
-ghost use Rattle.std.specs.Prelude.{◌≡◌, ◌≢◌, ◌++◌, ◌==◌, ◌&&◌, not, length, IfErr, OnOk};
+ghost use Rattle.std.specs.Prelude.{◌≡◌, ◌≢◌, ◌++◌, length, IfErr, OnOk};
 ghost use Rattle.h2_spec.specs.Block as block;
 ghost use Rattle.h2_fields.specs.declared.fault.BlockFault.TheVariants.{NoMemory};
 ghost use Rattle.h2_table.specs.Edits.{IsEdit, edited};
-ghost use Rattle.h2_conn.specs.Fragments.{IsFaulty, after_fragment, before_fragment};
+ghost use Rattle.h2_conn.specs.Blocks.{bad_end};
+ghost use Rattle.h2_conn.specs.Fragments.{HasFault, after_fragment, before_fragment};
 
 use crate::state::Decoding;
 use h2_fields::collected::{Collected, Mark};
 use h2_fields::fault::BlockFault;
 use h2_fields::fragment::decode_piece;
 use h2_fields::rest::RestChange;
+use h2_spec::causes::Cause;
 use h2_spec::connection::Purpose;
 use h2_table::{DynTable, Edit};
 use std::alloc::Allocator;
@@ -78,7 +80,7 @@ impl<A: Allocator + Copy> Tentative<A> {
         ensures purpose { result.0.after.purpose ≡ decoding.purpose }
         ensures belongs { OnOk result.2 (IsEdit table.now result.1) }
         ensures decoded { OnOk result.2 (block.decoded table.now.limit (before_fragment table.now.table decoding) (decoding.rest ++ octets.now) ≡ after_fragment (edited table.now.table.entries result.1) result.0.after) }
-        ensures faulty { IfErr result.2 (λ fault. fault ≢ NoMemory → IsFaulty (block.decoded table.now.limit (before_fragment table.now.table decoding) (decoding.rest ++ octets.now))) }
+        ensures faulty { IfErr result.2 (λ fault. fault ≢ NoMemory → HasFault fault (block.decoded table.now.limit (before_fragment table.now.table decoding) (decoding.rest ++ octets.now))) }
     {
         let Decoding {
             purpose,
@@ -147,11 +149,17 @@ impl<A: Allocator> Tentative<A> {
         &self.collected
     }
 
-    /// Whether the block can end after the fragment: no instruction is begun and not ended, and no size update is due
-    /// (RFC 9113, 4.3; RFC 7541, 4.2).
-    pub fn is_whole(&self) -> bool
-        ensures { result ≡ (length self.now.after.rest == 0 && not self.now.after.due) }
+    /// Why the block can't end after the fragment, if it can't: an instruction is begun and not ended, or a size update
+    /// is due (RFC 9113, 4.3 and 4.3.1).
+    pub fn bad_end(&self) -> Option<Cause>
+        ensures { result ≡ bad_end self.now.after }
     {
-        self.rest.is_whole() && !self.collected.is_due()
+        if !self.rest.is_whole() {
+            return Some(Cause::BlockTruncated);
+        }
+        if self.collected.is_due() {
+            return Some(Cause::SizeUpdateMissing);
+        }
+        None
     }
 }

@@ -11,7 +11,7 @@ pub use h2_text::view::View;
 use std::alloc::Allocator;
 
 /// What is shown of an open block.
-fn shown_block<A: Allocator>(block: &Option<OpenBlock<A>>) -> Option<BlockView>
+pub(crate) fn shown_block<A: Allocator>(block: &Option<OpenBlock<A>>) -> Option<BlockView>
     ensures { result ≡ shown_block block.now }
 {
     match block {

@@ -57,7 +57,9 @@ pub fn write_second<A: Allocator>(
 {
     match second {
         StreamFrame::NoStreamFrame => Ok(()),
-        StreamFrame::Reset(id, code) => write_number(RST_STREAM, id, code.number(), out),
+        StreamFrame::Reset(id, cause) => {
+            write_number(RST_STREAM, id, cause.code().number(), out)
+        }
         StreamFrame::StreamCredit(id, count) => write_number(WINDOW_UPDATE, id, count, out),
     }
 }

@@ -18,6 +18,8 @@ mod payloads;
 #[cfg(test)]
 mod records;
 #[cfg(test)]
+mod reports;
+#[cfg(test)]
 mod request_checks;
 #[cfg(test)]
 mod rules;

@@ -6,16 +6,20 @@ ghost use Rattle.h2_spec.specs.Settings.{initial_local_settings};
 
 use crate::same::same;
 use h2_frame::{FrameRef, Head, settings_of};
-use h2_rules::checks::refusal;
+use h2_rules::checks::{oversize, refusal};
 use h2_rules::control::{on_goaway, on_ping};
 use h2_rules::data::on_data;
 use h2_rules::headers::{request_outcome, trailers_outcome};
+use h2_rules::ignored::{
+    fragment_ignored, reason_if, reset_ignored, unless_caused, where_reset, window_ignored,
+};
 use h2_rules::reset::on_reset;
 use h2_rules::settings::{comes_into_force, settings_rule};
 use h2_rules::window_update::{connection_window, on_window};
-use h2_spec::connection::{Config, ConnectionState, Phase};
-use h2_spec::errors::ErrorCode;
+use h2_spec::causes::Cause;
+use h2_spec::connection::{Config, ConnectionState, Phase, Purpose};
 use h2_spec::flow::{Credit, LocalSettings, Settings, Window};
+use h2_spec::ignored::Ignored;
 use h2_spec::reactions::{
     BlockSummary, Change, ConnectionFrame, Reaction, ReceivedData, RecordUpdate, StreamFrame,
 };
@@ -69,9 +73,9 @@ fn change_of(reaction: Reaction) -> Option<Change> {
 }
 
 /// The error that ends the connection.
-fn error_of(reaction: Reaction) -> Option<ErrorCode> {
+fn error_of(reaction: Reaction) -> Option<Cause> {
     match reaction {
-        Reaction::ConnectionError(code) => Some(code),
+        Reaction::ConnectionError(cause) => Some(cause),
         Reaction::Continues(_) => None,
     }
 }
@@ -146,7 +150,7 @@ fn data_refused(reaction: Reaction) -> Option<(Sent, Counts, Kind)> {
 #[test]
 fn data_after_the_end_of_the_peer_is_counted_and_refused(rt: HostRuntime) {
     // DATA is a stream error of type STREAM_CLOSED (5.1, half-closed (remote)).
-    let reset = StreamFrame::Reset(1, ErrorCode::StreamClosed);
+    let reset = StreamFrame::Reset(1, Cause::DataAfterEndStream);
     let wanted = (
         (ConnectionFrame::NoConnectionFrame, reset),
         (65_530, 5),
@@ -162,14 +166,17 @@ fn data_after_the_end_of_the_peer_is_counted_and_refused(rt: HostRuntime) {
 
 #[test]
 fn data_fills_a_window_and_no_more(rt: HostRuntime) {
-    for (octets, error) in [(65_535, None), (65_536, Some(ErrorCode::FlowControlError))] {
+    let exceeded = Cause::ConnectionWindowExceeded;
+    for (octets, error) in [(65_535, None), (65_536, Some(exceeded))] {
         let after = data(65_535, octets, octets, Kind::BothOpen);
         same(&rt, &error_of(after), &error, &octets);
     }
 }
 
-/// The errors that DATA, RST_STREAM and WINDOW_UPDATE result in on a stream in a state.
-fn errors(kind: Kind) -> (Option<ErrorCode>, Option<ErrorCode>, Option<ErrorCode>) {
+/// Why DATA, RST_STREAM and WINDOW_UPDATE are connection errors on a stream in a state.
+type Errors = (Option<Cause>, Option<Cause>, Option<Cause>);
+
+fn errors(kind: Kind) -> Errors {
     (
         error_of(data(65_535, 1, 1, kind)),
         error_of(on_reset(running(), stream(kind))),
@@ -177,36 +184,101 @@ fn errors(kind: Kind) -> (Option<ErrorCode>, Option<ErrorCode>, Option<ErrorCode
     )
 }
 
-const IDLE: Option<ErrorCode> = Some(ErrorCode::ProtocolError);
+/// On an idle stream.
+const IDLE: Errors = (
+    Some(Cause::DataOnIdle),
+    Some(Cause::RstStreamOnIdle),
+    Some(Cause::WindowUpdateOnIdle),
+);
 
-const CLOSED: Option<ErrorCode> = Some(ErrorCode::StreamClosed);
-
-/// The state of a stream, the error that DATA results in, and the one that RST_STREAM and WINDOW_UPDATE result in.
-static STATES: [(Kind, Option<ErrorCode>, Option<ErrorCode>); 8] = [
+/// The state of a stream, and why the three frames are errors there.
+static STATES: [(Kind, Errors); 8] = [
     // Any frame but HEADERS and PRIORITY is a connection error of type PROTOCOL_ERROR (5.1, idle).
-    (Kind::Idle, IDLE, IDLE),
-    (Kind::BothOpen, None, None),
-    (Kind::HalfRemote, None, None),
-    (Kind::HalfLocal, None, None),
+    (Kind::Idle, IDLE),
+    (Kind::BothOpen, (None, None, None)),
+    (Kind::HalfRemote, (None, None, None)),
+    (Kind::HalfLocal, (None, None, None)),
     // WINDOW_UPDATE and RST_STREAM can still be under way when a stream is closed (5.1, closed).
-    (Kind::Skipped, CLOSED, None),
-    (Kind::Ended, CLOSED, None),
-    (Kind::PeerReset, CLOSED, None),
+    (Kind::Skipped, (Some(Cause::DataOnSkipped), None, None)),
+    (Kind::Ended, (Some(Cause::DataOnClosed), None, None)),
+    (Kind::PeerReset, (Some(Cause::DataOnClosed), None, None)),
     // What comes after RST_STREAM was sent is processed and then discarded (5.1, closed).
-    (Kind::WeReset, None, None),
+    (Kind::WeReset, (None, None, None)),
 ];
 
 #[test]
 fn frames_come_in_each_state_of_a_stream(rt: HostRuntime) {
-    for (kind, data, others) in &STATES {
-        same(&rt, &errors(*kind), &(*data, *others, *others), kind);
+    for (kind, wanted) in &STATES {
+        same(&rt, &errors(*kind), wanted, kind);
     }
 }
 
+/// Why RST_STREAM and WINDOW_UPDATE are ignored in the states of a stream in which they are (5.1).
+static IGNORED: [(Kind, Ignored, Ignored); 4] = [
+    (
+        Kind::Skipped,
+        Ignored::RstStreamOnSkipped,
+        Ignored::WindowUpdateOnSkipped,
+    ),
+    (
+        Kind::Ended,
+        Ignored::RstStreamOnClosed,
+        Ignored::WindowUpdateOnClosed,
+    ),
+    (
+        Kind::PeerReset,
+        Ignored::RstStreamOnClosed,
+        Ignored::WindowUpdateOnClosed,
+    ),
+    (
+        Kind::WeReset,
+        Ignored::RstStreamOnReset,
+        Ignored::WindowUpdateOnReset,
+    ),
+];
+
+/// Why DATA is ignored on a stream in a state: on one that the server has reset.
+fn data_ignored(kind: Kind) -> Option<Ignored> {
+    where_reset(Ignored::DataOnReset, kind)
+}
+
+#[test]
+fn frames_that_are_ignored_say_why(rt: HostRuntime) {
+    for (kind, reset, window) in &IGNORED {
+        same(&rt, &reset_ignored(*kind), &Some(*reset), kind);
+        same(&rt, &window_ignored(*kind), &Some(*window), kind);
+    }
+    same(&rt, &reset_ignored(Kind::HalfRemote), &None, &"RST_STREAM");
+    same(
+        &rt,
+        &window_ignored(Kind::BothOpen),
+        &None,
+        &"WINDOW_UPDATE",
+    );
+    let reset = Some(Ignored::DataOnReset);
+    same(&rt, &data_ignored(Kind::WeReset), &reset, &"DATA");
+    same(&rt, &data_ignored(Kind::Ended), &None, &"DATA");
+    let table_only = Some(Ignored::TableOnlyBlock);
+    let found = fragment_ignored(Purpose::TableOnly);
+    same(&rt, &found, &table_only, &"a block for the table alone");
+    let request = fragment_ignored(Purpose::Request);
+    same(&rt, &request, &None, &"a request's block");
+}
+
+#[test]
+fn an_error_is_not_ignored(rt: HostRuntime) {
+    let reason = reason_if(true, Ignored::PingAcknowledgement);
+    same(&rt, &unless_caused(None, reason), &reason, &"no error");
+    let cause = Some(Cause::PingOnStream);
+    same(&rt, &unless_caused(cause, reason), &None, &"an error");
+    let none = reason_if(false, Ignored::PingAcknowledgement);
+    same(&rt, &none, &None, &"no reason");
+}
+
 /// What WINDOW_UPDATE does to the connection's send window.
-fn connection_sends(increment: u32) -> Result<i32, ErrorCode> {
+fn connection_sends(increment: u32) -> Result<i32, Cause> {
     match connection_window(running(), increment) {
-        Reaction::ConnectionError(code) => Err(code),
+        Reaction::ConnectionError(cause) => Err(cause),
         Reaction::Continues(change) => Ok(change.core.send.value()),
     }
 }
@@ -215,10 +287,10 @@ fn connection_sends(increment: u32) -> Result<i32, ErrorCode> {
 fn window_update_on_the_connection(rt: HostRuntime) {
     // An increment of 0 is a connection error (6.9); no window exceeds 2^31 - 1 octets (6.9.1).
     for (increment, window) in [
-        (0, Err(ErrorCode::ProtocolError)),
+        (0, Err(Cause::ConnectionIncrementZero)),
         (1, Ok(65_536)),
         (2_147_418_112, Ok(2_147_483_647)),
-        (2_147_418_113, Err(ErrorCode::FlowControlError)),
+        (2_147_418_113, Err(Cause::ConnectionWindowOverflow)),
     ] {
         same(&rt, &connection_sends(increment), &window, &increment);
     }
@@ -238,12 +310,12 @@ fn stream_sends(increment: u32) -> Option<(i32, StreamFrame)> {
 #[test]
 fn window_update_of_0_and_to_the_largest_window(rt: HostRuntime) {
     // An increment of 0 is a stream error (6.9); no window exceeds 2^31 - 1 octets (6.9.1).
-    let reset = |code| StreamFrame::Reset(1, code);
+    let reset = |cause| StreamFrame::Reset(1, cause);
     for (increment, window, frame) in [
-        (0, 0, reset(ErrorCode::ProtocolError)),
+        (0, 0, reset(Cause::StreamIncrementZero)),
         (1, 65_536, StreamFrame::NoStreamFrame),
         (2_147_418_112, 2_147_483_647, StreamFrame::NoStreamFrame),
-        (2_147_418_113, 0, reset(ErrorCode::FlowControlError)),
+        (2_147_418_113, 0, reset(Cause::StreamWindowOverflow)),
     ] {
         let wanted = Some((window, frame));
         same(&rt, &stream_sends(increment), &wanted, &increment);
@@ -299,24 +371,24 @@ fn settings_are_taken_whole(rt: HostRuntime) {
 }
 
 /// Whether SETTINGS move a window of 2^31 - 1 octets, their payload, and the error that they result in.
-static REFUSED_SETTINGS: [(bool, &[u8], ErrorCode); 3] = [
+static REFUSED_SETTINGS: [(bool, &[u8], Cause); 3] = [
     // ENABLE_PUSH 2 behind a window of 1000: nothing of the frame stays (6.5.2).
     (
         false,
         b"\x00\x04\x00\x00\x03\xe8\x00\x02\x00\x00\x00\x02",
-        ErrorCode::ProtocolError,
+        Cause::EnablePushValue,
     ),
     // A window of 2^31 before ENABLE_PUSH 2: the first one that is refused decides.
     (
         false,
         b"\x00\x04\x80\x00\x00\x00\x00\x02\x00\x00\x00\x02",
-        ErrorCode::FlowControlError,
+        Cause::InitialWindowSizeValue,
     ),
     // A stream's window of 2^31 - 1 octets is moved up by 1 (6.9.2).
     (
         true,
         b"\x00\x04\x00\x01\x00\x00",
-        ErrorCode::FlowControlError,
+        Cause::InitialWindowSizeOverflow,
     ),
 ];
 
@@ -335,7 +407,7 @@ fn requested(live: usize, size: u64, declared: Option<u64>) -> (Kind, StreamFram
     let config = Config::new(2, 1);
     let summary = BlockSummary {
         size,
-        malformed: false,
+        malformed: None,
         declared,
         pick: Pick::NotFound,
     };
@@ -345,18 +417,18 @@ fn requested(live: usize, size: u64, declared: Option<u64>) -> (Kind, StreamFram
 
 #[test]
 fn requests_at_their_limits(rt: HostRuntime) {
-    let refused = |code| (Kind::WeReset, StreamFrame::Reset(1, code), false);
+    let refused = |cause| (Kind::WeReset, StreamFrame::Reset(1, cause), false);
     let answered = (Kind::Ended, StreamFrame::NoStreamFrame, true);
     for (live, size, declared, wanted) in [
         // Below the limit of streams, and at it (5.1.2).
         (1, 42, None, answered),
-        (2, 42, None, refused(ErrorCode::RefusedStream)),
+        (2, 42, None, refused(Cause::TooManyStreams)),
         // A list of as many octets as are taken, and one more (10.5.1).
         (0, 65_536, None, answered),
-        (0, 65_537, None, refused(ErrorCode::EnhanceYourCalm)),
+        (0, 65_537, None, refused(Cause::ListTooLarge)),
         // END_STREAM where content is declared (8.1.1).
         (0, 42, Some(0), answered),
-        (0, 42, Some(1), refused(ErrorCode::ProtocolError)),
+        (0, 42, Some(1), refused(Cause::ContentMissing)),
     ] {
         let answer = requested(live, size, declared);
         same(&rt, &answer, &wanted, &(live, size, declared));
@@ -369,7 +441,7 @@ fn opened(body: u64, early: bool, ends: bool) -> (Kind, Option<u64>, bool) {
     let config = Config::new(1, 1);
     let summary = BlockSummary {
         size: 42,
-        malformed: false,
+        malformed: None,
         declared: None,
         pick: Pick::Listed(0),
     };
@@ -398,20 +470,22 @@ fn early_answers_begin_at_the_end_of_the_fields(rt: HostRuntime) {
 }
 
 /// What trailers do to an open stream.
-fn trailed(size: u64, malformed: bool, ends: bool) -> (Kind, StreamFrame) {
+fn trailed(size: u64, malformed: Option<Cause>, ends: bool) -> (Kind, StreamFrame) {
     let outcome = trailers_outcome(size, malformed, 0, false, ends, stream(Kind::BothOpen));
     (outcome.stream.kind, outcome.frame)
 }
 
 #[test]
 fn trailers_end_the_side_of_the_peer(rt: HostRuntime) {
-    let refused = |code| (Kind::WeReset, StreamFrame::Reset(1, code));
+    let refused = |cause| (Kind::WeReset, StreamFrame::Reset(1, cause));
+    let pseudo = Cause::TrailersPseudoField;
     for (size, malformed, ends, wanted) in [
-        (42, false, true, (Kind::Ended, StreamFrame::NoStreamFrame)),
+        (42, None, true, (Kind::Ended, StreamFrame::NoStreamFrame)),
         // Trailers without END_STREAM, and with a pseudo-header field, are malformed (8.1).
-        (42, false, false, refused(ErrorCode::ProtocolError)),
-        (42, true, true, refused(ErrorCode::ProtocolError)),
-        (65_537, false, true, refused(ErrorCode::EnhanceYourCalm)),
+        (42, None, false, refused(Cause::TrailersWithoutEndStream)),
+        (42, Some(pseudo), true, refused(pseudo)),
+        (42, Some(pseudo), false, refused(pseudo)),
+        (65_537, None, true, refused(Cause::ListTooLarge)),
     ] {
         let answer = trailed(size, malformed, ends);
         same(&rt, &answer, &wanted, &(size, malformed, ends));
@@ -481,50 +555,110 @@ fn settings_come_into_force_at_their_acknowledgement(rt: HostRuntime) {
     same(&rt, &in_force_with(own), &(own, moved), &"SETTINGS ACK");
 }
 
-/// Why the head of an empty frame is refused.
-fn refused(
-    block: Option<u32>,
-    phase: Phase,
-    kind: u8,
-    flags: u8,
-    stream: u32,
-) -> Option<ErrorCode> {
-    let head = Head {
-        length: 0,
+/// The head of a frame.
+fn head(length: u32, kind: u8, flags: u8, stream: u32) -> Head {
+    Head {
+        length,
         kind,
         flags,
         reserved: false,
         stream,
-    };
-    refusal(block, phase, &head)
+    }
 }
 
-/// The stream of an open block, the phase, the type, flags and stream of a frame, and whether it is refused.
-static HEADS: [(Option<u32>, Phase, u8, u8, u32, bool); 13] = [
+/// The stream of an open block, the phase, the type, flags and stream of a frame, and why its head is refused.
+static HEADS: [(Option<u32>, Phase, u8, u8, u32, Option<Cause>); 16] = [
     // The first frame is SETTINGS (3.4).
-    (None, Phase::Settings, 4, 0, 0, false),
-    (None, Phase::Settings, 4, 1, 0, true),
-    (None, Phase::Settings, 6, 0, 0, true),
+    (None, Phase::Settings, 4, 0, 0, None),
+    (
+        None,
+        Phase::Settings,
+        4,
+        1,
+        0,
+        Some(Cause::FirstIsSettingsAck),
+    ),
+    (
+        None,
+        Phase::Settings,
+        6,
+        0,
+        0,
+        Some(Cause::FirstNotSettings),
+    ),
     // Only CONTINUATION of the same stream is allowed inside a block (6.10).
-    (Some(1), Phase::Running, 9, 0, 1, false),
-    (Some(1), Phase::Running, 9, 0, 3, true),
-    (Some(1), Phase::Running, 0, 0, 1, true),
-    // DATA is on a stream (6.1), SETTINGS, PING and GOAWAY are on none (6.5, 6.7 and 6.8), WINDOW_UPDATE is on either
-    // (6.9).
-    (None, Phase::Running, 0, 0, 0, true),
-    (None, Phase::Running, 4, 0, 1, true),
-    (None, Phase::Running, 6, 0, 1, true),
-    (None, Phase::Running, 7, 0, 1, true),
-    (None, Phase::Running, 8, 0, 0, false),
-    (None, Phase::Running, 8, 0, 1, false),
-    (None, Phase::Running, 99, 0, 0, false),
+    (Some(1), Phase::Running, 9, 0, 1, None),
+    (
+        Some(1),
+        Phase::Running,
+        9,
+        0,
+        3,
+        Some(Cause::BlockInterrupted),
+    ),
+    (
+        Some(1),
+        Phase::Running,
+        0,
+        0,
+        1,
+        Some(Cause::BlockInterrupted),
+    ),
+    // DATA, HEADERS, RST_STREAM and CONTINUATION are on a stream (6.1, 6.2, 6.4 and 6.10), SETTINGS, PING and GOAWAY
+    // are on none (6.5, 6.7 and 6.8), WINDOW_UPDATE is on either (6.9).
+    (None, Phase::Running, 0, 0, 0, Some(Cause::DataOnStreamZero)),
+    (
+        None,
+        Phase::Running,
+        1,
+        0,
+        0,
+        Some(Cause::HeadersOnStreamZero),
+    ),
+    (
+        None,
+        Phase::Running,
+        3,
+        0,
+        0,
+        Some(Cause::RstStreamOnStreamZero),
+    ),
+    (
+        None,
+        Phase::Running,
+        9,
+        0,
+        0,
+        Some(Cause::ContinuationOnStreamZero),
+    ),
+    (None, Phase::Running, 4, 0, 1, Some(Cause::SettingsOnStream)),
+    (None, Phase::Running, 6, 0, 1, Some(Cause::PingOnStream)),
+    (None, Phase::Running, 7, 0, 1, Some(Cause::GoawayOnStream)),
+    (None, Phase::Running, 8, 0, 0, None),
+    (None, Phase::Running, 8, 0, 1, None),
+    (None, Phase::Running, 99, 0, 0, None),
 ];
 
 #[test]
 fn heads_that_are_refused(rt: HostRuntime) {
-    for (block, phase, kind, flags, stream, is_refused) in &HEADS {
-        let answer = refused(*block, *phase, *kind, *flags, *stream);
-        let wanted = is_refused.then_some(ErrorCode::ProtocolError);
-        same(&rt, &answer, &wanted, &(kind, flags, stream));
+    for (block, phase, kind, flags, stream, wanted) in &HEADS {
+        let answer = refusal(*block, *phase, &head(0, *kind, *flags, *stream));
+        same(&rt, &answer, wanted, &(kind, flags, stream));
+    }
+}
+
+#[test]
+fn frames_that_are_too_long(rt: HostRuntime) {
+    // An error in the size of a frame that carries a field block or SETTINGS, or of one on stream 0, is one of the
+    // connection (4.2).
+    for (kind, stream, wanted) in [
+        (0, 1, Cause::StreamFrameTooLarge),
+        (0, 0, Cause::FrameTooLarge),
+        (1, 1, Cause::FrameTooLarge),
+        (4, 1, Cause::FrameTooLarge),
+        (8, 1, Cause::StreamFrameTooLarge),
+    ] {
+        let answer = oversize(&head(16_385, kind, 0, stream));
+        same(&rt, &answer, &wanted, &(kind, stream));
     }
 }

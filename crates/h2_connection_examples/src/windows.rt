@@ -1,7 +1,8 @@
 //! Worked numbers of flow control: settings, windows and credit (RFC 9113, 5.2, 6.5.2 and 6.9).
 
 use crate::same::same;
-use h2_spec::errors::{ErrorCode, FlowFault};
+use h2_spec::causes::Cause;
+use h2_spec::errors::FlowFault;
 use h2_spec::flow::{
     Credit, LocalSettings, SETTINGS_ENABLE_PUSH, SETTINGS_HEADER_TABLE_SIZE,
     SETTINGS_INITIAL_WINDOW_SIZE, SETTINGS_MAX_FRAME_SIZE, Settings, Window,
@@ -19,22 +20,22 @@ static APPLIED: [(u16, u32, Result<i64, FlowFault>); 10] = [
     (
         SETTINGS_INITIAL_WINDOW_SIZE,
         2_147_483_648,
-        Err(FlowFault::BadSetting(ErrorCode::FlowControlError)),
+        Err(FlowFault::BadSetting(Cause::InitialWindowSizeValue)),
     ),
     (
         SETTINGS_ENABLE_PUSH,
         2,
-        Err(FlowFault::BadSetting(ErrorCode::ProtocolError)),
+        Err(FlowFault::BadSetting(Cause::EnablePushValue)),
     ),
     (
         SETTINGS_MAX_FRAME_SIZE,
         16_383,
-        Err(FlowFault::BadSetting(ErrorCode::ProtocolError)),
+        Err(FlowFault::BadSetting(Cause::MaxFrameSizeValue)),
     ),
     (
         SETTINGS_MAX_FRAME_SIZE,
         16_777_216,
-        Err(FlowFault::BadSetting(ErrorCode::ProtocolError)),
+        Err(FlowFault::BadSetting(Cause::MaxFrameSizeValue)),
     ),
     (SETTINGS_MAX_FRAME_SIZE, 16_777_215, Ok(0)),
     (SETTINGS_HEADER_TABLE_SIZE, 0, Ok(0)),
@@ -75,7 +76,7 @@ fn settings_applied_to_the_first_ones(rt: HostRuntime) {
     );
     same(
         &rt,
-        &FlowFault::BadSetting(ErrorCode::ProtocolError).number(),
+        &FlowFault::BadSetting(Cause::EnablePushValue).number(),
         &9,
         &"the number of the fault",
     );

@@ -66,7 +66,7 @@ end-few r = few-upto next_event (length r.octets) (start r) r.octets
 -- ---- a debugger moves
 
 -- a place and what is kept of it
-pub place-restored : (k : Kept) (p : Placed) (c : Connection) → k ≡ kept_of p → c ≡ p.connection → record { connection = c; position = k.position; used = k.used; sent = k.sent } ≡ p
+pub place-restored : (k : Kept) (p : Placed) (c : Connection) → k ≡ kept_of p → c ≡ p.connection → record { connection = c; position = k.position; used = k.used; reasons = k.reasons; sent = k.sent } ≡ p
 place-restored k p c e h = rw (e, h) refl
 
 pub kept-start : (r : Source) (p : Placed) → IsAt r p → p.position ≡ 0 → IsKept r p p [] 0 0

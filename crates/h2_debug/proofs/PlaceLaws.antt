@@ -1,5 +1,5 @@
 -- From one place of a run to the next.
-use Rattle.std.proofs.Common.{◌≡◌, ◌∙◌, ◌⊎◌, inl, inr, ℕ, zero, suc, ◌+◌, ◌<◌, ◌≤◌, List, [], ◌∷◌, length, drop, refl, sym, ap, subst, arith, length-drop, Bool, false, cond, None, ◌==◌}
+use Rattle.std.proofs.Common.{◌≡◌, ◌∙◌, ◌⊎◌, inl, inr, ℕ, zero, suc, ◌+◌, ◌<◌, ◌≤◌, List, [], ◌∷◌, length, drop, refl, sym, ap, subst, arith, length-drop, Bool, false, cond, Some, None, ◌==◌}
 use Rattle.std.proofs.lemmas.Bool.{cases_lt, ne_eqb}
 use Rattle.std.proofs.lemmas.List.{append-nil, drop-drop}
 use Rattle.h2_spec.specs.Debug.{state_at, sent_at}
@@ -7,16 +7,19 @@ use Rattle.h2_spec.specs.Frame.{Frame, frames_octets, head_at, Next, NoItem, Got
 use Rattle.h2_spec.specs.Opening.{opening_octets}
 use Rattle.h2_spec.specs.Parse.{Front, Stop, One, Parsed, parse_all, parse_first}
 use Rattle.h2_spec.specs.State.{State}
-use Rattle.h2_spec.specs.Trace.{Event, event_on, next_event, next_item, trace}
+use Rattle.h2_spec.specs.Trace.{Event, event_on, next_event, next_item, step, trace}
 use Rattle.h2_spec.proofs.ParseLaws.{Uses, parse_all-step}
 use Rattle.h2_spec.proofs.TraceLaws.{event-uses}
 use Rattle.h2_conn.specs.Connection.{Connection, awaits_preface, going}
 use Rattle.h2_conn.specs.First.{TakesFirst}
+use Rattle.h2_conn.specs.Reports.{report_of, reported}
+use Rattle.h2_conn.specs.declared.report.TakenItem.{TakenItem}
+use Rattle.h2_debug.specs.Reasons.{no_reasons, reasons_by, reasons_in, reasons_of}
 use Rattle.h2_conn.specs.Marks.{Follows}
 use Rattle.h2_conn.proofs.Items.{comes-past}
 use Rattle.h2_conn.proofs.MarkLaws.{follows-refl, follows-then}
 use Rattle.h2_debug.proofs.BreakLaws.{comes-head}
-use Rattle.h2_debug.specs.Places.{Source, Placed, IsAt, TakesItem, HasNoItem, start, events, at, frames_at}
+use Rattle.h2_debug.specs.Places.{Source, Placed, IsAt, TakesItem, HasNoItem, start, events, at, frames_at, reasons_at}
 
 -- ---- the items of octets
 
@@ -66,9 +69,27 @@ next-sent o (suc n) (x ∷ xs) more e h = next-sent x.sent n xs more e h
 none-last : (n : ℕ) (es : List Event) → n ≤ length es → drop n es ≡ [] → n ≡ length es
 none-last n es w h = omega (arith, length-drop n es, ap length h)
 
+next-reasons : (s : State) (n : ℕ) (es more : List Event) (e : Event) → drop n es ≡ e ∷ more → reasons_in s es (suc n) ≡ reasons_of (state_at s es n) e.item
+next-reasons s zero [] more e h = cc
+next-reasons s zero (x ∷ xs) more e h = let same : x ≡ e = cc in ap (λ (y : Event). reasons_of s y.item) same
+next-reasons s (suc n) [] more e h = cc
+next-reasons s (suc n) (x ∷ xs) more e h = next-reasons x.state n xs more e h
+
+-- what is reported of the item of an event
+event-reasons : (s t : State) (n : Next) (e : Event) (used : ℕ) (taken : TakenItem) → event_on s n ≡ One e t used → Some taken ≡ reported s n → reasons_by taken ≡ reasons_of s e.item
+event-reasons s t NoItem e used taken h w = cc
+event-reasons s t (Got x u) e used taken h w =
+    let is : taken ≡ report_of s x u = cc in
+    let same : record { item = x; state = (step s x).state; sent = (step s x).sent } ≡ e = cc in
+    ap reasons_by is ∙ ap (λ (v : Event). reasons_of s v.item) same
+
+taken-reasons : (s t : State) (b out out' : List ℕ) (used : ℕ) (taken : TakenItem) (y : TakesFirst s b out t out' used) → Some taken ≡ reported s (next_item s b) → reasons_by taken ≡ reasons_of s y.event.item
+unfolding next_event
+taken-reasons s t b out out' used taken y w = event-reasons s t (next_item s b) y.event used taken y.comes w
+
 -- ---- the start
 
-pub place-start : (r : Source) (c : Connection) (sent : List ℕ) → c ≡ going (start r) [] → sent ≡ opening_octets r.config → IsAt r (record { connection = c; position = 0; used = 0; sent = sent })
+pub place-start : (r : Source) (c : Connection) (sent : List ℕ) → c ≡ going (start r) [] → sent ≡ opening_octets r.config → IsAt r (record { connection = c; position = 0; used = 0; reasons = no_reasons; sent = sent })
 unfolding opening_octets
 place-start r c sent new said = record {
   within = omega arith;
@@ -77,6 +98,7 @@ place-start r c sent new said = record {
   goes = new;
   later = refl;
   begun = λ h. absurd (omega (arith, h));
+  reasons = refl;
   sent = said ∙ sym (append-nil _);
   follows = λ q le. let none : 0 ≡ q = omega (arith, le) in subst (λ (n : ℕ). Follows (at r n) (at r 0)) none (follows-refl (at r 0));
 }
@@ -96,10 +118,11 @@ follows-next r n earlier one q le = by (cases_lt n q)
     by (inl last) = let same : n + 1 ≡ q = omega (arith, le, last) in subst (λ (m : ℕ). Follows (at r m) (at r (n + 1))) same (follows-refl (at r (n + 1)))
     by (inr before) = follows-then (at r q) (at r n) (at r (n + 1)) (earlier q before) one
 
-pub place-next : (r : Source) (p : Placed) (c' : Connection) (out : List ℕ) (count : ℕ) → IsAt r p → c' ≡ going c'.state [] → TakesFirst p.connection.state (drop p.used r.octets) [] c'.state out count
-    → Follows p.connection.state c'.state
-    → TakesItem r p (record { connection = c'; position = p.position + 1; used = p.used + count; sent = out }) × (p.used + count ≤ length r.octets)
-place-next r p c' out count x g y f =
+pub place-next : (r : Source) (p : Placed) (c' : Connection) (out : List ℕ) (taken : TakenItem) → IsAt r p → c' ≡ going c'.state [] → TakesFirst p.connection.state (drop p.used r.octets) [] c'.state out taken.used
+    → Follows p.connection.state c'.state → Some taken ≡ reported p.connection.state (next_item p.connection.state (drop p.used r.octets))
+    → TakesItem r p (record { connection = c'; position = p.position + 1; used = p.used + taken.used; reasons = reasons_by taken; sent = out }) × (p.used + taken.used ≤ length r.octets)
+place-next r p c' out taken x g y f w =
+    let count : ℕ = taken.used in
     let s : State = at r p.position in
     let t : State = c'.state in
     let b : List ℕ = drop p.used r.octets in
@@ -121,6 +144,7 @@ place-next r p c' out count x g y f =
           goes = g ∙ ap (λ (u : State). going u []) (sym state');
           later = next-later p.position (events r) _ y.event first ∙ ap (λ (u : State). (trace u (drop (p.used + count) r.octets)).events) (sym state');
           begun = λ _. rw state' (comes-past s t b y.event count comes);
+          reasons = taken-reasons p.connection.state t b [] out count taken y w ∙ ap (λ (u : State). reasons_of u y.event.item) state ∙ sym (ap (reasons_at r) next ∙ next-reasons (start r) p.position (events r) _ y.event first);
           sent = y.sent ∙ ap frames_octets (sym (ap (frames_at r) next ∙ next-sent _ p.position (events r) _ y.event first));
           follows = follows-next r p.position x.follows (subst (Follows s) (sym state') (subst (λ (u : State). Follows u t) state f));
         };

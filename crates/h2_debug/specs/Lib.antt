@@ -3,3 +3,4 @@ pub mod Debugging
 pub mod Faults
 pub mod Items
 pub mod Places
+pub mod Reasons

@@ -1,6 +1,8 @@
 -- Places in the run of a new connection over octets.
-use Rattle.std.specs.Prelude.{◌≡◌, ℕ, ◌+◌, ◌*◌, ◌<◌, ◌≤◌, Bool, true, false, List, [], ◌∷◌, length, drop}
+use Rattle.std.specs.Prelude.{◌≡◌, ℕ, ◌+◌, ◌*◌, ◌<◌, ◌≤◌, Bool, true, false, List, [], ◌∷◌, length, drop, Option}
+use Rattle.h2_spec.specs.declared.causes.Cause.{Cause}
 use Rattle.h2_spec.specs.declared.connection.Config.{Config}
+use Rattle.h2_spec.specs.declared.ignored.Ignored.{Ignored}
 use Rattle.h2_spec.specs.Answer.{Entry}
 use Rattle.h2_spec.specs.Debug.{state_at, sent_at}
 use Rattle.h2_spec.specs.Frame.{Frame, frames_octets}
@@ -11,6 +13,8 @@ use Rattle.h2_conn.specs.Connection.{Connection, awaits_preface, going}
 use Rattle.h2_conn.specs.Mark.{IsConsistent, Marked, mark_of}
 use Rattle.h2_conn.specs.Marks.{Follows}
 use Rattle.h2_debug.specs.Items.{IsItem}
+use Rattle.h2_debug.specs.Reasons.{reasons_in}
+use Rattle.h2_debug.specs.declared.reasons.Reasons.{Reasons}
 
 -- the input of a run: the book and the limits of a new connection, and the octets that it is fed
 pub record Source : Type 0 where
@@ -39,11 +43,23 @@ frames_at r p = sent_at (opening_settings r.config ∷ []) (events r) p
 abbrev pub sent_octets_at : Source → ℕ → List ℕ
 sent_octets_at r p = frames_octets (frames_at r p)
 
--- a connection, how many items it took, how many octets it was fed, and what was sent for the last item
+-- why the item at a position was an error, or was ignored; none at 0
+abbrev pub reasons_at : Source → ℕ → Reasons
+reasons_at r p = reasons_in (start r) (events r) p
+
+abbrev pub cause_at : Source → ℕ → Option Cause
+cause_at r p = (reasons_at r p).cause
+
+abbrev pub ignored_at : Source → ℕ → Option Ignored
+ignored_at r p = (reasons_at r p).ignored
+
+-- a connection, how many items it took, how many octets it was fed, why the last item was an error or was ignored, and
+-- what was sent for it
 pub record Placed : Type 0 where
   pub connection : Connection
   pub position : ℕ
   pub used : ℕ
+  pub reasons : Reasons
   pub sent : List ℕ
 
 -- a place of a run: all items to come are those of the run from its state over the octets behind it
@@ -54,6 +70,7 @@ pub record IsAt (r : Source) (p : Placed) : Type 0 where
   pub goes : p.connection ≡ going (at r p.position) []
   pub later : drop p.position (events r) ≡ (trace (at r p.position) (drop p.used r.octets)).events
   pub begun : 0 < p.position → awaits_preface (at r p.position).core.phase ≡ false
+  pub reasons : p.reasons ≡ reasons_at r p.position
   pub sent : p.sent ≡ sent_octets_at r p.position
   pub follows : (q : ℕ) → q ≤ p.position → Follows (at r q) (at r p.position)
 
@@ -74,16 +91,18 @@ abbrev pub Advances : Source → Placed → Placed → Bool → Type 0
 Advances r before after true = TakesItem r before after
 Advances r before after false = HasNoItem r before after
 
--- a mark of a connection, how many items and how many octets it took, and what was sent for the last item
+-- a mark of a connection, how many items and how many octets it took, why the last item was an error or was ignored,
+-- and what was sent for it
 pub record Kept : Type 0 where
   pub mark : Marked
   pub position : ℕ
   pub used : ℕ
+  pub reasons : Reasons
   pub sent : List ℕ
 
 -- what is kept of a place
 abbrev pub kept_of : Placed → Kept
-kept_of p = record { mark = mark_of p.connection.state; position = p.position; used = p.used; sent = p.sent }
+kept_of p = record { mark = mark_of p.connection.state; position = p.position; used = p.used; reasons = p.reasons; sent = p.sent }
 
 -- what is kept of a place of a run
 pub record IsKeptOf (r : Source) (k : Kept) : Type 0 where

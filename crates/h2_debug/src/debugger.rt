@@ -13,7 +13,7 @@ ghost use Rattle.h2_spec.specs.State.{is_allowed};
 ghost use Rattle.h2_debug.specs.Debugging as spec;
 ghost use Rattle.h2_debug.specs.Debugging.{farthest_or, moved, moved_counting, replay_start};
 ghost use Rattle.h2_debug.specs.Faults.{IsRefused, load_fault, start_fault};
-ghost use Rattle.h2_debug.specs.Places.{IsAt, at, end, events, sent_octets_at};
+ghost use Rattle.h2_debug.specs.Places.{IsAt, at, cause_at, end, events, ignored_at, sent_octets_at};
 ghost use Rattle.h2_debug.specs.declared.fault.DebugFault.TheVariants.{AtEnd, NoMemory, OutOfRange};
 
 use crate::breakpoints::Break;
@@ -25,7 +25,9 @@ use crate::source::Source;
 use h2_conn::view::View;
 use h2_conn::{Conn, ConnFault};
 use h2_request::book::Book;
+use h2_spec::causes::Cause;
 use h2_spec::connection::Config;
+use h2_spec::ignored::Ignored;
 use std::alloc::{AllocError, Allocator};
 use std::marker::Model;
 use std::mem;
@@ -414,6 +416,21 @@ impl<'b, A: Allocator + Copy> Debugger<'b, A> {
         ensures { result.now ≡ sent_octets_at self.now.run self.now.position }
     {
         self.present.sent()
+    }
+
+    /// Why the item that leads to the present position was a connection error or a stream error, if it was one; none at
+    /// position 0. It takes no memory.
+    pub fn cause(&self) -> Option<Cause>
+        ensures { result ≡ cause_at self.now.run self.now.position }
+    {
+        self.present.reasons().cause
+    }
+
+    /// Why the item that leads to the present position was ignored, if it was; none at position 0. It takes no memory.
+    pub fn ignored(&self) -> Option<Ignored>
+        ensures { result ≡ ignored_at self.now.run self.now.position }
+    {
+        self.present.reasons().ignored
     }
 
     /// The present position: how many items came before it. It takes no memory.

@@ -9,6 +9,7 @@ ghost use Rattle.h2_conn.specs.Marks.{Follows};
 ghost use Rattle.h2_debug.specs.Places.{Placed, kept_of};
 
 use crate::place::{Place, copy_of};
+use crate::reasons::Reasons;
 use h2_conn::Mark;
 use std::alloc::{AllocError, Allocator};
 use std::marker::Model;
@@ -19,6 +20,7 @@ pub struct Kept<'b, A: Allocator> {
     mark: Mark<'b, A>,
     position: usize,
     used: usize,
+    reasons: Reasons,
     sent: Vec<u8, A>,
 }
 
@@ -27,7 +29,7 @@ impl<'b, A: Allocator> Model for Kept<'b, A> {
 
     ghost Value = { places.Kept };
 
-    ghost view = { λ k. record { mark = k.mark; position = k.position; used = k.used; sent = k.sent.items } };
+    ghost view = { λ k. record { mark = k.mark; position = k.position; used = k.used; reasons = k.reasons; sent = k.sent.items } };
 }
 
 impl<'b, A: Allocator + Copy> Kept<'b, A> {
@@ -42,6 +44,7 @@ impl<'b, A: Allocator + Copy> Kept<'b, A> {
             mark,
             position: place.position(),
             used: place.used(),
+            reasons: place.reasons(),
             sent,
         })
     }
@@ -53,6 +56,6 @@ impl<'b, A: Allocator + Copy> Kept<'b, A> {
     {
         let conn = self.mark.restore(later.conn())?;
         let sent = copy_of(&self.sent)?;
-        Ok(Place::of(conn, self.position, self.used, sent))
+        Ok(Place::of(conn, self.position, self.used, self.reasons, sent))
     }
 }

@@ -11,6 +11,7 @@ mod fault;
 mod forward;
 mod kept;
 mod place;
+mod reasons;
 mod source;
 
 pub use debugger::Debugger;

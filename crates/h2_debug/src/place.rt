@@ -1,5 +1,5 @@
-//! A place in a run: a connection, how many items it took, how many octets it was fed, and what was sent for the last
-//! item.
+//! A place in a run: a connection, how many items it took, how many octets it was fed, why the last item was an error
+//! or was ignored, and what was sent for it.
 //! Rests on h2_conn; definitions: `specs/Places.antt`.
 
 ghost use Rattle.std.specs.Prelude.{◌≡◌, true, IfErr, IfOk, OnErr, OnOk};
@@ -9,6 +9,7 @@ ghost use Rattle.h2_spec.specs.State.{is_allowed};
 ghost use Rattle.h2_conn.specs.Faults.{refusal_for};
 ghost use Rattle.h2_debug.specs.Places.{Advances, IsAt};
 
+use crate::reasons::Reasons;
 use crate::source::Source;
 use h2_conn::view::View;
 use h2_conn::{Conn, ConnFault};
@@ -21,6 +22,7 @@ pub struct Place<'b, A: Allocator> {
     conn: Conn<'b, A>,
     position: usize,
     used: usize,
+    reasons: Reasons,
     sent: Vec<u8, A>,
 }
 
@@ -29,7 +31,7 @@ impl<'b, A: Allocator> Model for Place<'b, A> {
 
     ghost Value = { Placed };
 
-    ghost view = { λ p. record { connection = p.conn; position = p.position; used = p.used; sent = p.sent.items } };
+    ghost view = { λ p. record { connection = p.conn; position = p.position; used = p.used; reasons = p.reasons; sent = p.sent.items } };
 }
 
 impl<'b, A: Allocator + Copy> Place<'b, A> {
@@ -45,18 +47,27 @@ impl<'b, A: Allocator + Copy> Place<'b, A> {
             conn,
             position: 0,
             used: 0,
+            reasons: Reasons::none(),
             sent,
         })
     }
 
-    /// The place of a connection at a position, which was fed so many octets, and for whose last item this was sent.
-    pub fn of(conn: Conn<'b, A>, position: usize, used: usize, sent: Vec<u8, A>) -> Self
-        ensures { result ≡ record { connection = conn.entry; position = position; used = used; sent = sent.items } }
+    /// The place of a connection at a position, which was fed so many octets; with the reasons of its last item, and
+    /// what was sent for it.
+    pub fn of(
+        conn: Conn<'b, A>,
+        position: usize,
+        used: usize,
+        reasons: Reasons,
+        sent: Vec<u8, A>,
+    ) -> Self
+        ensures { result ≡ record { connection = conn.entry; position = position; used = used; reasons = reasons; sent = sent.items } }
     {
         Place {
             conn,
             position,
             used,
+            reasons,
             sent,
         }
     }
@@ -71,6 +82,7 @@ impl<'b, A: Allocator + Copy> Place<'b, A> {
             conn,
             position: self.position,
             used: self.used,
+            reasons: self.reasons,
             sent,
         })
     }
@@ -90,11 +102,12 @@ impl<'b, A: Allocator + Copy> Place<'b, A> {
     {
         let mut sent = Vec::new(*self.sent.allocator());
         let octets = source.octets_from(self.used);
-        let Some(used) = self.conn.take_first(octets, &mut sent)? else {
+        let Some(taken) = self.conn.take_and_report(octets, &mut sent)? else {
             return Ok(false);
         };
-        self.used += used;
+        self.used += taken.used;
         self.position += 1;
+        self.reasons = Reasons::of(taken);
         self.sent = sent;
         Ok(true)
     }
@@ -120,6 +133,13 @@ impl<'b, A: Allocator + Copy> Place<'b, A> {
         ensures { result.now ≡ self.now.sent }
     {
         self.sent.as_slice()
+    }
+
+    /// Why the item at this position was an error, or was ignored.
+    pub fn reasons(&self) -> Reasons
+        ensures { result ≡ self.now.reasons }
+    {
+        self.reasons
     }
 
     /// What is shown of the state.

@@ -27,13 +27,13 @@ impl Text for HexText<'_> {
     }
 }
 
-/// The digits of octets in lower-case hex, written into room for just these.
-fn spelled<'r>(octets: &[u8], room: &'r mut [u8]) -> &'r [u8]
-    requires { length room.old ≡ 2 * length octets.now }
+/// The digits of octets in lower-case hex, written into space for just these.
+fn spelled<'r>(octets: &[u8], buffer: &'r mut [u8]) -> &'r [u8]
+    requires { length buffer.old ≡ 2 * length octets.now }
     ensures { result.now ≡ encode_lower octets.now }
 {
-    let Ok(()) = hex::encode_to_slice(octets, room) else {
+    let Ok(()) = hex::encode_to_slice(octets, buffer) else {
         unreachable!();
     };
-    room
+    buffer
 }

@@ -18,10 +18,10 @@ pub trait Input {
     /// Reads some octets to the front of the buffer, and says how many; 0 are the end of the input.
     ///
     /// `DeviceFault` where the read failed, an interruption too: nothing was read.
-    fn read(&mut self, room: &mut [u8]) -> Result<usize, DeviceFault>
-        requires { 0 < length room.old }
-        ensures bound { IfOk result (λ count. count ≤ length room.new) }
-        ensures octets { IfOk result (λ count. Consumes (remaining self.old) (remaining self.new) (take count room.new)) }
+    fn read(&mut self, buffer: &mut [u8]) -> Result<usize, DeviceFault>
+        requires { 0 < length buffer.old }
+        ensures bound { IfOk result (λ count. count ≤ length buffer.new) }
+        ensures octets { IfOk result (λ count. Consumes (remaining self.old) (remaining self.new) (take count buffer.new)) }
         ensures end { IfOk result (λ count. count ≡ 0 → IsAtEnd (remaining self.new)) }
         ensures kept { OnErr result (Keeps (remaining self.old) (remaining self.new)) }
         ensures flag { has_failed self.new ≡ is_err result }

@@ -45,8 +45,8 @@ impl<R: Read> Input for FromRead<'_, R> {
 
     ghost name = { λ d. d.inner.ghost_name };
 
-    fn read(&mut self, room: &mut [u8]) -> Result<usize, DeviceFault> {
-        match self.inner.read(room) {
+    fn read(&mut self, buffer: &mut [u8]) -> Result<usize, DeviceFault> {
+        match self.inner.read(buffer) {
             Ok(count) => {
                 self.failed = false;
                 Ok(count)

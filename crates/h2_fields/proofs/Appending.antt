@@ -1,4 +1,4 @@
--- What stands where things are appended one behind another, and what is kept of the octets before them.
+-- What is where things are appended one behind another, and what is kept of the octets before them.
 use Rattle.std.proofs.Common.{◌≡◌, List, [], ℕ, ◌++◌, take, drop, Vec, Result, Ok, Err, if◌then◌else◌, ap, ◌∙◌, sym, append_assoc}
 use Rattle.std.specs.Result.{OnOk, OnErr, is_ok}
 use Rattle.std.specs.Vec.{vec_len}

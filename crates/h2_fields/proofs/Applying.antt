@@ -1,8 +1,9 @@
 -- What the code does with an instruction is what the definitions say of it.
-use Rattle.std.proofs.Common.{◌≡◌, ℕ, suc, ◌+◌, ◌-◌, ◌≤◌, ◌<◌, ◌^◌, ◌⊎◌, inl, inr, Bool, true, false, not, List, [], ◌∷◌, ◌++◌, length, take, drop, min, Some, Result, Ok, Err, refl, ap, ◌∙◌, arith, le-leb}
+use Rattle.std.proofs.Common.{◌≡◌, ℕ, suc, ◌+◌, ◌-◌, ◌≤◌, ◌<◌, ◌^◌, ◌⊎◌, inl, inr, Bool, true, false, not, List, [], ◌∷◌, ◌++◌, length, map, take, drop, min, sym, Some, Result, Ok, Err, refl, ap, ◌∙◌, arith, le-leb}
 use Rattle.std.proofs.lemmas.Bool.{lt-leb}
 use Rattle.std.proofs.lemmas.Bool.Decides.{leb_tells}
 use Rattle.std.proofs.Math.Seq.{take-append_seam, drop-append_seam}
+use Rattle.std.proofs.lemmas.List.{map-append}
 use Rattle.h2_spec.specs.Block.{Fault, FieldsSoFar, Progress, applied, list_size, name_of, table_after, text_result}
 use Rattle.h2_spec.specs.DynamicTable.{Table, entry_at, field_at}
 use Rattle.h2_spec.specs.Field.{Field, field, size}
@@ -10,6 +11,8 @@ use Rattle.h2_spec.specs.Instruction.{Mode, WithoutIndexing, NeverIndexed, NameR
 use Rattle.h2_spec.specs.StaticTable.{static_field}
 use Rattle.h2_spec.proofs.BlockLaws.{applied-literal, applied-name_refused, applied-value_refused}
 use Rattle.h2_spec.proofs.TableLaws.{total_size-append}
+use Rattle.h2_mark.specs.Mark.{mark_of}
+use Rattle.h2_mark.specs.declared.mark.FieldMark.{FieldMark}
 use Rattle.h2_table.specs.Edits.{Drafted}
 use Rattle.h2_list.specs.Listed.{Listed}
 use Rattle.h2_fields.specs.Drafts.{first_refusal, progress_in}
@@ -58,6 +61,11 @@ refusal-is r fault f e k = ap refusal e ∙ ap Some k
 pub size-added : (fields : List Field) (f : Field) (old add : ℕ) → old ≡ list_size fields → add ≡ min (size f) (2 ^ 64 - 1) → min (old + add) (2 ^ 64 - 1) ≡ list_size (fields ++ f ∷ [])
 size-added fields f old add e k = let sum = total_size-append fields (f ∷ []) in omega (arith, e, k, sum)
 
+-- ---- the marks of a list
+
+pub marks-added : (marks : List FieldMark) (fields now : List Field) (f : Field) (mark : FieldMark) → marks ≡ map mark_of fields → mark ≡ mark_of f → now ≡ fields ++ f ∷ [] → marks ++ mark ∷ [] ≡ map mark_of now
+marks-added marks fields now f mark e k n = rw (e, k, n) (sym (map-append mark_of fields (f ∷ [])))
+
 -- ---- a literal
 
 -- the octets behind the fields once a value was put there, and once a name and a value were
@@ -76,6 +84,10 @@ spelled l0 l1 l2 l3 l4 n v split h1 h2 h3 hs h4 =
     let count : split ≡ length n = hs ∙ ap length name in
     let fields : l3.fields ≡ l0.fields = ap (λ (l : Listed). l.fields) h3 ∙ ap (λ (l : Listed). l.fields) h2 ∙ ap (λ (l : Listed). l.fields) h1 in
     ap (λ (l : Listed). l.fields) h4 ∙ rw (fields, both, count, take-append_seam n v, drop-append_seam n v) refl
+
+-- the first octets as a name, and the others as a value
+pub parts : (octets n v : List ℕ) (split : ℕ) → octets ≡ n ++ v → split ≡ length n → field (take split octets) (drop split octets) ≡ field n v
+parts octets n v split e k = rw (e, k, take-append_seam n v, drop-append_seam n v) refl
 
 -- and once a value was put behind them and closed with a name
 pub named : (l0 l1 l2 l3 : Listed) (n v : List ℕ) → l1 ≡ record l0 { next = [] } → l2 ≡ record l1 { next = l1.next ++ v } → l3 ≡ record { fields = l2.fields ++ field n l2.next ∷ []; next = [] } → l3.fields ≡ l0.fields ++ field n v ∷ []

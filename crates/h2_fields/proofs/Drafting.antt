@@ -5,7 +5,7 @@ use Rattle.std.proofs.Math.Seq.{take-append_seam}
 use Rattle.h2_spec.specs.Block.{FieldsSoFar, Progress, applied, decoded}
 use Rattle.h2_spec.specs.Instruction.{Shape, instr_at}
 use Rattle.h2_spec.specs.Read.{Whole, TooLong}
-use Rattle.h2_spec.proofs.BlockLaws.{Stands, stands-refused, stands-too_long}
+use Rattle.h2_spec.proofs.BlockLaws.{LeadsTo, leads-refused, leads-too_long}
 use Rattle.h2_fields.specs.Blocks.{faulted}
 use Rattle.h2_fields.specs.Drafts.{Grows, IsStopped}
 use Rattle.h2_fields.specs.Faults.{refusal}
@@ -25,18 +25,18 @@ grows-restored old mid new count h n e =
     ([], e ∙ ap (λ k. take k mid.fields) n ∙ ap (take (length old.fields)) h.1 ∙ take-append_seam old.fields h.0 ∙ sym (append-nil old.fields))
 
 -- an instruction is refused
-pub refused-stopped : (limit m : ℕ) (p q now : Progress) (b : List ℕ) (at used : ℕ) (i : Shape) (f : BlockFault) → Stands limit p b at q → m ≡ limit → instr_at (drop at b) ≡ Whole i used →
+pub refused-stopped : (limit m : ℕ) (p q now : Progress) (b : List ℕ) (at used : ℕ) (i : Shape) (f : BlockFault) → LeadsTo limit p b at q → m ≡ limit → instr_at (drop at b) ≡ Whole i used →
     (f ≢ faults.NoMemory → (now ≡ q) × (refusal (applied m q i) ≡ Some f)) → IsStopped limit p b now f
 refused-stopped limit m p q now b at used i f s same e k = record {
   exact = λ h.
       let t = k h in
       let r = refused (applied limit q i) f (ap (λ l. refusal (applied l q i)) (sym same) ∙ t.1) in
-      let d = stands-refused limit p q b at used i r.fault s e r.is in
+      let d = leads-refused limit p q b at used i r.fault s e r.is in
       (ap (λ x. x.progress) d ∙ sym t.0, ap (λ x. faulted x.outcome) d ∙ ap Some r.named);
 }
 
 -- an integer is too long
-pub too_long-stopped : (limit : ℕ) (p q : Progress) (b : List ℕ) (at : ℕ) → Stands limit p b at q → instr_at (drop at b) ≡ TooLong → IsStopped limit p b q faults.Integer
+pub too_long-stopped : (limit : ℕ) (p q : Progress) (b : List ℕ) (at : ℕ) → LeadsTo limit p b at q → instr_at (drop at b) ≡ TooLong → IsStopped limit p b q faults.Integer
 too_long-stopped limit p q b at s e = record {
-  exact = λ _. let d = stands-too_long limit p q b at s e in (ap (λ x. x.progress) d, ap (λ x. faulted x.outcome) d);
+  exact = λ _. let d = leads-too_long limit p q b at s e in (ap (λ x. x.progress) d, ap (λ x. faulted x.outcome) d);
 }

@@ -8,5 +8,6 @@ mod Responding
 mod ResponseReading
 mod Resting
 mod Resuming
-mod Standing
+mod FoundFaults
 mod Writing
+mod Ticking

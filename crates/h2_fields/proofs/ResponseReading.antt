@@ -12,7 +12,7 @@ use Rattle.h2_spec.specs.Field.{Field}
 use Rattle.h2_spec.specs.Instruction.{Shape, WithoutIndexing, Ref, Named, Update, IsSpellable, instr_at, spell}
 use Rattle.h2_spec.specs.Read.{Whole, More}
 use Rattle.h2_spec.specs.StaticTable.{static_field, static_entries}
-use Rattle.h2_spec.proofs.BlockLaws.{stands-start, stands-step, applied-update, applied-indexed, applied-literal, decoded-more}
+use Rattle.h2_spec.proofs.BlockLaws.{leads-start, leads-step, applied-update, applied-indexed, applied-literal, decoded-more}
 use Rattle.h2_spec.proofs.InstructionLaws.{whole-stays}
 use Rattle.h2_spec.proofs.InstructionWriting.{shape-written}
 
@@ -22,7 +22,7 @@ step : (limit : ℕ) (p q : Progress) (i : Shape) (more : List ℕ) → IsSpella
 step limit p q i more h e =
     let b = spell i ++ more in
     let whole : instr_at b ≡ Whole i (length (spell i)) = whole-stays (spell i) more i (length (spell i)) (shape-written i h) in
-    let s = stands-step limit p p q b 0 (length (spell i)) i (stands-start limit p b) whole e in
+    let s = leads-step limit p p q b 0 (length (spell i)) i (leads-start limit p b) whole e in
     let count : length (spell i) ≡ 0 + length (spell i) = omega arith in
     s.rest ∙ ap (decoded limit q) (drop_at (spell i) more (0 + length (spell i)) count)
 

@@ -75,8 +75,8 @@ unfolding int_at
 flag-stays [] c n used e = absurd cc
 flag-stays (o ∷ xs) c n used e = refl
 
-length-tells : (xs : List ℕ) (n used : ℕ) → int_at 7 xs ≡ Whole n used → string_at xs ≡ read_past used (octets_at (huffman_flag xs) n (drop used xs))
-length-tells xs n used e = flagged xs ∙ ap (λ r. read_then xs r (octets_at (huffman_flag xs))) e
+length-decides : (xs : List ℕ) (n used : ℕ) → int_at 7 xs ≡ Whole n used → string_at xs ≡ read_past used (octets_at (huffman_flag xs) n (drop used xs))
+length-decides xs n used e = flagged xs ∙ ap (λ r. read_then xs r (octets_at (huffman_flag xs))) e
 
 string-more : (xs : List ℕ) → More ≡ int_at 7 xs → string_at xs ≡ More
 string-more xs e = flagged xs ∙ ap (λ r. read_then xs r (octets_at (huffman_flag xs))) (sym e)
@@ -104,7 +104,7 @@ pub value-length : (b : List ℕ) (at : ℕ) (mode : spec.Mode) (name : NameRef 
     SameOn b (ValueLength mode name) at (ValueOctets mode name (huffman_flag (drop at b)) n) (at + used)
 value-length b at mode name n used h e = behind b at (ValueLength mode name) (ValueOctets mode name (huffman_flag xs) n) used h
     (λ c.
-    ap (read_map (spec.Literal mode name)) (length-tells (xs ++ c) n used (stays 7 xs c n used (sym e)) ∙ ap (λ f. read_past used (octets_at f n (drop used (xs ++ c)))) (flag-stays xs c n used (sym e)))
+    ap (read_map (spec.Literal mode name)) (length-decides (xs ++ c) n used (stays 7 xs c n used (sym e)) ∙ ap (λ f. read_past used (octets_at f n (drop used (xs ++ c)))) (flag-stays xs c n used (sym e)))
     ∙ map-past (spec.Literal mode name) used (octets_at (huffman_flag xs) n (drop used (xs ++ c))))
   where
     xs : List ℕ
@@ -116,7 +116,7 @@ pub name-length : (b : List ℕ) (at : ℕ) (mode : spec.Mode) (n used : ℕ) �
 name-length b at mode n used h e = behind b at (NameLength mode) (NameOctets mode (huffman_flag xs) n) used h
     (λ c.
     let name = octets_at (huffman_flag xs) n (drop used (xs ++ c)) in
-    ap (λ r. read_then (xs ++ c) (read_map spec.Named r) (value_at mode)) (length-tells (xs ++ c) n used (stays 7 xs c n used (sym e)) ∙ ap (λ f. read_past used (octets_at f n (drop used (xs ++ c)))) (flag-stays xs c n used (sym e)))
+    ap (λ r. read_then (xs ++ c) (read_map spec.Named r) (value_at mode)) (length-decides (xs ++ c) n used (stays 7 xs c n used (sym e)) ∙ ap (λ f. read_past used (octets_at f n (drop used (xs ++ c)))) (flag-stays xs c n used (sym e)))
     ∙ ap (λ r. read_then (xs ++ c) r (value_at mode)) (map-past spec.Named used name)
     ∙ then-past (xs ++ c) used (read_map spec.Named name) (value_at mode))
   where

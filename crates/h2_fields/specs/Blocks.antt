@@ -4,7 +4,7 @@ use Rattle.h2_fields.specs.Faults.{fault_of}
 use Rattle.h2_fields.specs.Rests.{most_ticks}
 use Rattle.h2_fields.specs.declared.fault.BlockFault.{BlockFault}
 use Rattle.h2_fields.specs.declared.fault.BlockFault.TheVariants as fault
-use Rattle.h2_spec.specs.Block.{Index, Integer, Huffman, SizeUpdate, Outcome, Unfinished, Faulty, Progress, Decoded}
+use Rattle.h2_spec.specs.Block.{ZeroIndex, Index, Integer, Huffman, LateUpdate, LargeUpdate, MissingUpdate, Outcome, Unfinished, Faulty, Progress, Decoded}
 use Rattle.h2_spec.specs.DynamicTable.{Table}
 use Rattle.h2_spec.specs.Field.{Field}
 use Rattle.h2_spec.specs.Instruction.{instr_at}
@@ -59,16 +59,19 @@ faulted (Faulty f) = Some (fault_of f)
 abbrev pub outcome_of : List ℕ → Option BlockFault → Option Outcome
 outcome_of rest None = Some (Unfinished rest)
 outcome_of rest (Some fault.NoMemory) = None
+outcome_of rest (Some fault.ZeroIndex) = Some (Faulty ZeroIndex)
 outcome_of rest (Some fault.Index) = Some (Faulty Index)
 outcome_of rest (Some fault.Integer) = Some (Faulty Integer)
 outcome_of rest (Some fault.Huffman) = Some (Faulty Huffman)
-outcome_of rest (Some fault.SizeUpdate) = Some (Faulty SizeUpdate)
+outcome_of rest (Some fault.LateUpdate) = Some (Faulty LateUpdate)
+outcome_of rest (Some fault.LargeUpdate) = Some (Faulty LargeUpdate)
+outcome_of rest (Some fault.MissingUpdate) = Some (Faulty MissingUpdate)
 outcome_of rest (Some fault.Truncated) = Some (Unfinished rest)
 
 -- what is left begins an instruction and does not end it; the end of a block is no fault of its octets
-abbrev pub CanStand : List ℕ → Option BlockFault → Type 0
-CanStand rest None = instr_at rest ≡ More
-CanStand rest (Some f) = f ≢ fault.Truncated
+abbrev pub CanRemain : List ℕ → Option BlockFault → Type 0
+CanRemain rest None = instr_at rest ≡ More
+CanRemain rest (Some f) = f ≢ fault.Truncated
 
 -- what a further fragment is answered
 abbrev pub answer_of : Option Outcome → Result (Unit {0}) BlockFault
@@ -78,7 +81,7 @@ answer_of None = Err fault.NoMemory
 
 -- what the end of a block is answered that ends between two instructions: a size update may still be due
 abbrev pub whole_of : Bool → Result (Unit {0}) BlockFault
-whole_of true = Err fault.SizeUpdate
+whole_of true = Err fault.MissingUpdate
 whole_of false = Ok tt
 
 -- what the end of the block is answered

@@ -4,23 +4,29 @@ use Rattle.h2_fields.specs.declared.fault.BlockFault.{BlockFault}
 use Rattle.h2_fields.specs.declared.fault.BlockFault.TheVariants as fault
 use Rattle.h2_prim.specs.declared.fault.HuffFault.{HuffFault}
 use Rattle.h2_prim.specs.declared.fault.HuffFault.TheVariants as huffman
-use Rattle.h2_spec.specs.Block.{Fault, Index, Integer, Huffman, SizeUpdate}
+use Rattle.h2_spec.specs.Block.{Fault, ZeroIndex, Index, Integer, Huffman, LateUpdate, LargeUpdate, MissingUpdate}
 
 -- the number of a fault
 abbrev pub number_of : BlockFault → ℕ
 number_of fault.NoMemory = 0
+number_of fault.ZeroIndex = 4
 number_of fault.Index = 4
 number_of fault.Integer = 5
 number_of fault.Huffman = 6
-number_of fault.SizeUpdate = 7
+number_of fault.LateUpdate = 7
+number_of fault.LargeUpdate = 7
+number_of fault.MissingUpdate = 7
 number_of fault.Truncated = 8
 
 -- the code's name of a fault
 abbrev pub fault_of : Fault → BlockFault
+fault_of ZeroIndex = fault.ZeroIndex
 fault_of Index = fault.Index
 fault_of Integer = fault.Integer
 fault_of Huffman = fault.Huffman
-fault_of SizeUpdate = fault.SizeUpdate
+fault_of LateUpdate = fault.LateUpdate
+fault_of LargeUpdate = fault.LargeUpdate
+fault_of MissingUpdate = fault.MissingUpdate
 
 -- what a refused Huffman string is to a block
 abbrev pub of_huffman : HuffFault → BlockFault

@@ -17,7 +17,7 @@ use crate::collected::Collected;
 use crate::fault::BlockFault;
 use crate::field::Field;
 use crate::fragment::decode_piece;
-use crate::rest::Rest;
+use crate::rest::{Rest, RestChange};
 use h2_table::{DynTable, Edit};
 use std::alloc::{AllocError, Allocator};
 use std::marker::Model;
@@ -36,13 +36,13 @@ pub struct BlockDecoder<A: Allocator> {
 
 impl<A: Allocator> Model for BlockDecoder<A> {
     ghost use Rattle.std.specs.Prelude.{◌≡◌};
-    ghost use Rattle.h2_fields.specs.Blocks.{BlockSoFar, CanStand, outcome_of};
+    ghost use Rattle.h2_fields.specs.Blocks.{BlockSoFar, CanRemain, outcome_of};
 
     ghost Value = { BlockSoFar };
 
     ghost view = { λ d. record { fields = d.collected.fields; due = d.collected.due; outcome = outcome_of d.rest d.fault; ticks = d.ticks } };
 
-    ghost invariant = { λ d. (d.fields.items ≡ d.collected.fields) × CanStand d.rest d.fault };
+    ghost invariant = { λ d. (d.fields.items ≡ d.collected.fields) × CanRemain d.rest d.fault };
 }
 
 impl<A: Allocator + Copy> BlockDecoder<A> {
@@ -67,9 +67,9 @@ impl<A: Allocator + Copy> BlockDecoder<A> {
     ///
     /// # Errors
     ///
-    /// `Index`, `Integer`, `Huffman` and `SizeUpdate` as RFC 7541 has them, once the instruction is whole, an integer
+    /// `ZeroIndex`, `Index`, `Integer`, `Huffman`, `LateUpdate` and `LargeUpdate` as RFC 7541 has them, once the instruction is whole, an integer
     /// already at its fifth octet behind the prefix; the fields and the table are those after the instructions before
-    /// it. `SizeUpdate` also where an update is due and the first instruction is none; it is decided before `Index` and
+    /// it. `MissingUpdate` where an update is due and the first instruction is none; it is decided before `Index` and
     /// `Huffman`. `NoMemory` where memory was refused; the fields and the table are as they were. After an error each
     /// further call answers the same one and changes nothing.
     pub fn push(&mut self, table: &mut DynTable<A>, piece: &[u8]) -> Result<(), BlockFault>
@@ -104,7 +104,7 @@ impl<A: Allocator + Copy> BlockDecoder<A> {
     ///
     /// # Errors
     ///
-    /// `Truncated` where it ends inside an instruction, else `SizeUpdate` where there was no instruction and a size
+    /// `Truncated` where it ends inside an instruction, else `MissingUpdate` where there was no instruction and a size
     /// update is due; after an error of `push` the same one. Takes no memory.
     pub fn finish(&self) -> Result<(), BlockFault>
         ensures { result ≡ finish_of self.now.due self.now.outcome }
@@ -116,7 +116,7 @@ impl<A: Allocator + Copy> BlockDecoder<A> {
             return Err(BlockFault::Truncated);
         }
         if self.collected.is_due() {
-            return Err(BlockFault::SizeUpdate);
+            return Err(BlockFault::MissingUpdate);
         }
         Ok(())
     }
@@ -200,12 +200,20 @@ fn advance<A: Allocator + Copy>(
     }
     table.commit(&mut edit);
     *ticks = ticks.saturating_add(change.ticks()).saturating_add(1);
-    *rest = if answer.is_ok() {
+    *rest = left_of(change, answer.is_ok());
+    answer
+}
+
+/// What is left of a fragment that was decoded, or what was left before it.
+fn left_of<A: Allocator + Copy>(change: RestChange<A>, is_decoded: bool) -> Rest<A>
+    ensures decoded { is_decoded ≡ true → result ≡ change.after }
+    ensures refused { is_decoded ≡ false → result ≡ change.before }
+{
+    if is_decoded {
         change.take_over()
     } else {
         change.give_up()
-    };
-    answer
+    }
 }
 
 /// Copies the fields behind those that are copied already; false where memory was refused, and then the copies are as

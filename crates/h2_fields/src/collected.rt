@@ -1,7 +1,7 @@
-//! The fields that a field block has given so far, in a list whose memory is kept from block to block.
-//! It uses `FieldList` of h2_list; contracts see it as the record `FieldsSoFar` of `h2_spec`, specs/Block.antt.
+//! The fields that a field block has given so far, with the mark of each, in lists whose memory is kept from block to
+//! block. It uses `FieldList` of h2_list and the marks of h2_mark; contracts see it as the record `FieldsSoFar` of `h2_spec`, specs/Block.antt.
 
-ghost use Rattle.std.specs.Prelude.{◌≡◌, ◌≢◌, ◌-◌, ◌^◌, ℕ, List, [], ◌∷◌, ◌++◌, false, not, min, length, take, slice_get, option_map, Some, Ok, IfOk, IfErr, OnOk, OnErr};
+ghost use Rattle.std.specs.Prelude.{◌≡◌, ◌≢◌, ◌≤◌, ◌-◌, ◌^◌, ℕ, List, [], ◌∷◌, ◌++◌, false, not, min, length, take, drop, slice_get, option_map, Some, Ok, IfOk, IfErr, IfSome, OnOk, OnErr};
 ghost use Rattle.h2_spec.specs.Block.{has_fields, list_size, text_result};
 ghost use Rattle.h2_spec.specs.Field.{Field, field, size};
 ghost use Rattle.h2_spec.specs.Huffman.{Text};
@@ -10,37 +10,45 @@ ghost use Rattle.h2_fields.specs.Drafts.{IsReadAs};
 ghost use Rattle.h2_fields.specs.Faults.{refusal};
 ghost use Rattle.h2_fields.specs.Shapes.{string_of};
 ghost use Rattle.h2_fields.specs.declared.fault.BlockFault.TheVariants as faults;
-ghost use Rattle.h2_table.specs.Lent.{lent_field};
+ghost use Rattle.h2_mark.specs.Mark.{mark_of};
+ghost use Rattle.h2_table.specs.Lent.{lent_field, field_lent, IsMarked};
 
 use crate::fault::BlockFault;
 use crate::hints::Hints;
 use crate::shape::RawString;
 use h2_list::FieldList;
+use h2_mark::FieldMark;
+use h2_table::LentField;
 use std::alloc::{AllocError, Allocator};
 use std::marker::Model;
 
 /// The most octets of a field that is not shared: to look for them costs more than to copy them.
 const MAX_COPIED: usize = 32;
 
-/// The fields of a block so far, their size together, and whether the block must still begin with a table size update
+/// The most marks whose memory is kept for the next field block.
+const MAX_KEPT_MARKS: usize = 512;
+
+/// The fields of a block so far, what each can be malformed for by itself, their size together, and whether the block must still begin with a table size update
 /// (RFC 7541, 4.2).
 #[derive(Drop, Debug)]
 pub struct Collected<A: Allocator> {
     list: FieldList<A>,
+    marks: Vec<FieldMark, A>,
     hints: Hints<A>,
     size: u64,
     due: bool,
 }
 
 impl<A: Allocator> Model for Collected<A> {
-    ghost use Rattle.std.specs.Prelude.{◌≡◌};
+    ghost use Rattle.std.specs.Prelude.{◌≡◌, map};
+    ghost use Rattle.h2_mark.specs.Mark.{mark_of};
     ghost use Rattle.h2_spec.specs.Block.{FieldsSoFar, list_size};
 
     ghost Value = { FieldsSoFar };
 
     ghost view = { λ c. record { fields = c.list.fields; due = c.due } };
 
-    ghost invariant = { λ c. c.size ≡ list_size c.list.fields };
+    ghost invariant = { λ c. (c.size ≡ list_size c.list.fields) × (c.marks.items ≡ map mark_of c.list.fields) };
 }
 
 /// A place in a field block to which `Collected::restore` goes back; plain data.
@@ -63,6 +71,7 @@ impl<A: Allocator> Collected<A> {
     {
         Collected {
             list: FieldList::new(alloc),
+            marks: Vec::new(alloc),
             hints: Hints::new(alloc),
             size: 0,
             due: false,
@@ -75,6 +84,10 @@ impl<A: Allocator> Collected<A> {
         ensures { self.new ≡ record { fields = []; due = due } }
     {
         self.list.clear();
+        self.marks.clear();
+        if self.marks.capacity() > MAX_KEPT_MARKS {
+            self.marks.shrink_to_fit();
+        }
         self.size = 0;
         self.due = due;
     }
@@ -100,13 +113,30 @@ impl<A: Allocator> Collected<A> {
         self.list.get(place)
     }
 
-    /// The name and the value of the last field, if there is one.
-    pub(crate) fn last(&self) -> Option<(&[u8], &[u8])>
-        ensures { (fields : List Field) (f : Field) → self.now.fields ≡ fields ++ f ∷ [] → option_map lent_field result ≡ Some f }
+    /// The field at a place with its mark; none at `len()` and above.
+    pub fn lent(&self, place: usize) -> Option<LentField<'_>>
+        ensures field { option_map field_lent result ≡ slice_get self.now.fields place }
+        ensures marked { IfSome result IsMarked }
+    {
+        if place >= self.marks.len() {
+            return None;
+        }
+        let (name, value) = self.list.get(place)?;
+        Some(LentField {
+            name,
+            value,
+            mark: self.marks[place],
+        })
+    }
+
+    /// The last field with its mark, if there is one.
+    pub(crate) fn last(&self) -> Option<LentField<'_>>
+        ensures field { (fields : List Field) (f : Field) → self.now.fields ≡ fields ++ f ∷ [] → option_map field_lent result ≡ Some f }
+        ensures marked { IfSome result IsMarked }
     {
         let count = self.list.len();
         if count > 0 {
-            self.list.get(count - 1)
+            self.lent(count - 1)
         } else {
             None
         }
@@ -151,6 +181,7 @@ impl<A: Allocator> Collected<A> {
         ensures { self.new ≡ record { fields = take mark.count self.old.fields; due = mark.due } }
     {
         self.list.truncate(mark.count);
+        self.marks.truncate(mark.count);
         self.size = mark.size;
         self.due = mark.due;
     }
@@ -160,12 +191,16 @@ impl<A: Allocator> Collected<A> {
     /// # Errors
     ///
     /// `AllocError` where memory was refused; the fields are as they were.
-    pub fn add(&mut self, name: &[u8], value: &[u8]) -> Result<(), AllocError>
-        ensures ok { OnOk result (self.new ≡ record self.old { fields = self.old.fields ++ field name.now value.now ∷ [] }) }
+    pub fn add(&mut self, added: LentField<'_>) -> Result<(), AllocError>
+        requires marked { IsMarked added }
+        ensures ok { OnOk result (self.new ≡ record self.old { fields = self.old.fields ++ field_lent added.entry ∷ [] }) }
         ensures err { OnErr result (self.new ≡ self.old) }
     {
+        let LentField { name, value, mark } = added;
         let size = size_of(name, value);
+        self.marks.reserve(1)?;
         self.list.append(name, value)?;
+        self.marks.push_reserved(mark);
         self.size = self.size.saturating_add(size);
         Ok(())
     }
@@ -180,20 +215,23 @@ impl<A: Allocator> Collected<A> {
         &mut self,
         index: u64,
         limit: u32,
-        name: &[u8],
-        value: &[u8],
+        added: LentField<'_>,
     ) -> Result<(), AllocError>
-        ensures ok { OnOk result (self.new ≡ record self.old { fields = self.old.fields ++ field name.now value.now ∷ [] }) }
+        requires marked { IsMarked added }
+        ensures ok { OnOk result (self.new ≡ record self.old { fields = self.old.fields ++ field_lent added.entry ∷ [] }) }
         ensures err { OnErr result (self.new ≡ self.old) }
     {
+        let LentField { name, value, mark } = added;
         if is_short(name, value) {
-            return self.add(name, value);
+            return self.add(added);
         }
+        self.marks.reserve(1)?;
         let key = self.hints.key(index, limit);
         let place = self.hints.place(key);
         self.hints.set(key, limit, self.list.len())?;
         let size = size_of(name, value);
         self.list.append_like(place, name, value)?;
+        self.marks.push_reserved(mark);
         self.size = self.size.saturating_add(size);
         Ok(())
     }
@@ -211,18 +249,21 @@ impl<A: Allocator> Collected<A> {
     ) -> Result<(), BlockFault>
         ensures { IsReadAs (text_result (text_of (string_of name.entry))) (text_result (text_of (string_of value.entry))) self.old self.new result }
     {
+        self.marks.reserve(1)?;
         self.list.clear_next();
         put_text(&mut self.list, name)?;
         let split = self.list.next().len();
         put_text(&mut self.list, value)?;
+        let mark = mark_of_parts(self.list.next(), split);
         let size = size_of(self.list.next(), b"");
         self.list.close(split)?;
+        self.marks.push_reserved(mark);
         self.size = self.size.saturating_add(size);
         Ok(())
     }
 
-    /// Adds the field of a name that is that of an index of the tables, and a value that is spelled, behind the others;
-    /// `limit` is the most octets of the dynamic table. Where a field with the name of the index was added before, the
+    /// Adds the field of a name that is that of an entry of the tables, and a value that is spelled, behind the others;
+    /// `index` is the index of the entry, `limit` the most octets of the dynamic table. Where a field with the name of the index was added before, the
     /// octets of the name are shared, unless the field has at most 32.
     ///
     /// # Errors
@@ -233,16 +274,21 @@ impl<A: Allocator> Collected<A> {
         &mut self,
         index: u64,
         limit: u32,
-        name: &[u8],
+        named: LentField<'_>,
         value: RawString<'_>,
     ) -> Result<(), BlockFault>
-        ensures { IsReadAs (Ok name.now) (text_result (text_of (string_of value.entry))) self.old self.new result }
+        requires marked { IsMarked named }
+        ensures { IsReadAs (Ok named.entry.name.now) (text_result (text_of (string_of value.entry))) self.old self.new result }
     {
+        let name = named.name;
+        self.marks.reserve(1)?;
         self.list.clear_next();
         put_text(&mut self.list, value)?;
+        let mark = named.mark.with_value(self.list.next());
         let size = size_of(name, self.list.next());
         let like = like_named(&mut self.hints, &self.list, index, limit, name)?;
         self.list.close_named(like, name)?;
+        self.marks.push_reserved(mark);
         self.size = self.size.saturating_add(size);
         Ok(())
     }
@@ -278,11 +324,21 @@ impl<A: Allocator + Copy> Collected<A> {
     {
         Ok(Collected {
             list: self.list.try_clone()?,
+            marks: self.marks.clone()?,
             hints: Hints::new(self.list.allocator()),
             size: self.size,
             due: self.due,
         })
     }
+}
+
+/// The mark of the field whose name is the first `split` of these octets, and whose value is the others.
+fn mark_of_parts(octets: &[u8], split: usize) -> FieldMark
+    requires { split ≤ length octets.now }
+    ensures { result ≡ mark_of (field (take split octets.now) (drop split octets.now)) }
+{
+    let (name, value) = octets.split_at(split);
+    FieldMark::of(name, value)
 }
 
 /// Whether a field is copied in any case.

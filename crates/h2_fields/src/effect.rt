@@ -2,22 +2,23 @@
 //! drafts of h2_table and `Collected`. The definition is `applied` of `h2_spec`, specs/Block.antt: a size update is
 //! decided first, then an index, then a Huffman string.
 
-ghost use Rattle.std.specs.Prelude.{◌≡◌, List, [], ◌∷◌, ◌++◌, OnOk, option_map};
+ghost use Rattle.std.specs.Prelude.{◌≡◌, List, [], ◌∷◌, ◌++◌, OnOk, IfSome, option_map};
 ghost use Rattle.h2_spec.specs.Block as block;
 ghost use Rattle.h2_spec.specs.Block.{text_result};
 ghost use Rattle.h2_spec.specs.DynamicTable.{field_at, insert};
 ghost use Rattle.h2_spec.specs.Field.{Field};
 ghost use Rattle.h2_spec.specs.Instruction as spec;
 ghost use Rattle.h2_spec.specs.Instruction.{text_of};
-ghost use Rattle.h2_table.specs.Lent.{lent_field};
+ghost use Rattle.h2_table.specs.Lent.{field_lent, IsMarked};
 ghost use Rattle.h2_fields.specs.Drafts.{Grows, IsApplied, IsReadAs, progress_in};
+ghost use Rattle.h2_fields.specs.Faults.{fault_of};
 ghost use Rattle.h2_fields.specs.Shapes.{mode_of, string_of, name_of, shape_of};
 
 use crate::collected::Collected;
 use crate::fault::BlockFault;
 use crate::instruction::Mode;
 use crate::shape::{RawName, RawString, Shape};
-use h2_table::{Draft, static_field};
+use h2_table::{Draft, LentField, static_entry};
 use std::alloc::{AllocError, Allocator};
 
 /// Does what an instruction says, or refuses it. A refusal leaves the fields and the draft as they were, except where
@@ -48,14 +49,25 @@ fn apply_indexed<A: Allocator + Copy>(
     ensures grows { Grows collected.old collected.new }
 {
     if collected.is_due() {
-        return Err(BlockFault::SizeUpdate);
+        return Err(BlockFault::MissingUpdate);
     }
     match field_found(draft, index) {
-        Some((name, value)) => {
-            collected.add_indexed(index, draft.limit(), name, value)?;
+        Some(found) => {
+            collected.add_indexed(index, draft.limit(), found)?;
             Ok(())
         }
-        None => Err(BlockFault::Index),
+        None => Err(index_fault(index)),
+    }
+}
+
+/// Why an index has no field.
+fn index_fault(index: u64) -> BlockFault
+    ensures { result ≡ fault_of (block.index_fault index) }
+{
+    if index == 0 {
+        BlockFault::ZeroIndex
+    } else {
+        BlockFault::Index
     }
 }
 
@@ -70,14 +82,14 @@ fn apply_update<A: Allocator + Copy>(
     ensures grows { Grows collected.old collected.new }
 {
     if !collected.is_empty() {
-        return Err(BlockFault::SizeUpdate);
+        return Err(BlockFault::LateUpdate);
     }
     match draft.set_max(max) {
         Ok(()) => {
             collected.update_came();
             Ok(())
         }
-        Err(_) => Err(BlockFault::SizeUpdate),
+        Err(_) => Err(BlockFault::LargeUpdate),
     }
 }
 
@@ -94,7 +106,7 @@ fn apply_literal<A: Allocator + Copy>(
     ensures grows { Grows collected.old collected.new }
 {
     if collected.is_due() {
-        return Err(BlockFault::SizeUpdate);
+        return Err(BlockFault::MissingUpdate);
     }
     read_literal(collected, draft, name, value)?;
     match mode {
@@ -115,7 +127,7 @@ fn read_literal<A: Allocator + Copy>(
 {
     match name {
         RawName::Ref(index) => match field_found(draft, index) {
-            Some((name, _)) => collected.add_named(index, draft.limit(), name, value),
+            Some(named) => collected.add_named(index, draft.limit(), named, value),
             None => Err(BlockFault::Index),
         },
         RawName::Named(name) => collected.add_spelled(name, value),
@@ -131,22 +143,23 @@ fn enter_last<A: Allocator + Copy>(
     ensures base { draft.new.base ≡ draft.old.base }
     ensures fields { collected.new ≡ collected.old }
 {
-    let Some((name, value)) = collected.last() else {
+    let Some(last) = collected.last() else {
         return Ok(());
     };
-    draft.insert(name, value)?;
+    draft.insert(last.name, last.value, last.mark)?;
     collected.entry_added(draft.limit())
 }
 
-/// The field at an index of the tables: 1 to 61 are static, 62 is the newest entry (RFC 7541, 2.3.3).
+/// The field at an index of the tables, with its mark: 1 to 61 are static, 62 is the newest entry (RFC 7541, 2.3.3).
 fn field_found<'d, A: Allocator + Copy>(
     draft: &'d Draft<'_, A>,
     index: u64,
-) -> Option<(&'d [u8], &'d [u8])>
-    ensures { option_map lent_field result ≡ field_at index draft.now.table.entries }
+) -> Option<LentField<'d>>
+    ensures field { option_map field_lent result ≡ field_at index draft.now.table.entries }
+    ensures marked { IfSome result IsMarked }
 {
     if index <= 61 {
-        static_field(index as usize)
+        static_entry(index as usize)
     } else {
         draft.get((index - 61) as usize)
     }

@@ -14,7 +14,10 @@ pub enum BlockFault {
     /// Memory was refused.
     #[error("out of memory")]
     NoMemory,
-    /// An index of neither table (RFC 7541, 2.3.3).
+    /// An indexed field of index 0 (RFC 7541, 6.1).
+    #[error("an indexed field has the index 0")]
+    ZeroIndex,
+    /// An index beyond both tables (RFC 7541, 2.3.3).
     #[error("an index is of neither header table")]
     Index,
     /// An integer that goes on after its fifth octet behind the prefix (RFC 7541, 5.1).
@@ -23,25 +26,32 @@ pub enum BlockFault {
     /// A string that is no Huffman string (RFC 7541, 5.2).
     #[error("a string is no Huffman string")]
     Huffman,
-    /// A table size update behind a field, or above the limit, or none where one is due (RFC 7541, 4.2).
-    #[error("a table size update is missing, out of place or above the limit")]
-    SizeUpdate,
+    /// A table size update behind a field (RFC 7541, 4.2).
+    #[error("a table size update is behind a field")]
+    LateUpdate,
+    /// A table size update above the limit (RFC 7541, 6.3).
+    #[error("a table size update is above the limit")]
+    LargeUpdate,
+    /// No table size update where one is due (RFC 9113, 4.3.1).
+    #[error("a table size update is missing")]
+    MissingUpdate,
     /// The block ends inside an instruction.
     #[error("the block ends inside an instruction")]
     Truncated,
 }
 
 impl BlockFault {
-    /// The number of the fault, the same in all crates: 0, and 4 to 8.
+    /// The number of the fault, the same in all crates: 0, and 4 to 8; 4 is both faults of an index, 7 all three of a
+    /// table size update.
     pub fn number(self) -> u8
         ensures { result ≡ number_of self }
     {
         match self {
             BlockFault::NoMemory => 0,
-            BlockFault::Index => 4,
+            BlockFault::ZeroIndex | BlockFault::Index => 4,
             BlockFault::Integer => 5,
             BlockFault::Huffman => 6,
-            BlockFault::SizeUpdate => 7,
+            BlockFault::LateUpdate | BlockFault::LargeUpdate | BlockFault::MissingUpdate => 7,
             BlockFault::Truncated => 8,
         }
     }

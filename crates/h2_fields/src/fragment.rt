@@ -81,7 +81,7 @@ fn with_instruction(ticks: u64, passed: usize, shape: Shape<'_>) -> u64
 ///
 /// # Errors
 ///
-/// `Index`, `Integer`, `Huffman` and `SizeUpdate` as RFC 7541 has them, for the first instruction that is refused: the
+/// `ZeroIndex`, `Index`, `Integer`, `Huffman`, `LateUpdate` and `LargeUpdate` as RFC 7541 has them, for the first instruction that is refused: the
 /// fields and the edit are those of the instructions before it. `NoMemory` where memory was refused: the fields are as
 /// they were, and the edit should not be committed. The edit is returned in each case, so that its memory can be used
 /// again.
@@ -124,7 +124,7 @@ fn attempt<A: Allocator + Copy>(
 ///
 /// # Errors
 ///
-/// `Index`, `Integer`, `Huffman` and `SizeUpdate` as RFC 7541 has them, for the first instruction that is refused: the
+/// `ZeroIndex`, `Index`, `Integer`, `Huffman`, `LateUpdate` and `LargeUpdate` as RFC 7541 has them, for the first instruction that is refused: the
 /// fields and the edit are those of the instructions before it. `NoMemory` where memory was refused: the fields are as
 /// they were, and the edit should not be committed. The edit is returned in each case, so that its memory can be used
 /// again.

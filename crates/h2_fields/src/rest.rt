@@ -2,10 +2,10 @@
 //! where reading goes on in them (RFC 7541, 3; RFC 9113, 4.3).
 //! It rests on the points of `shape`. What a point is, is in `specs/Resume.antt`; contracts see the octets alone.
 
-ghost use Rattle.std.specs.Prelude.{◌≡◌, ◌==◌, ◌≤◌, [], length, drop, IfOk};
-ghost use Rattle.std.specs.Vec.{vec_len};
+ghost use Rattle.std.specs.Prelude.{◌≡◌, ◌==◌, [], length, IfOk};
 
 use crate::shape::Point;
+use h2_spec::octets::drop_front;
 use std::alloc::{AllocError, Allocator};
 use std::marker::Model;
 
@@ -170,15 +170,5 @@ impl<A: Allocator> RestChange<A> {
         ensures { result ≡ self.now.ticks }
     {
         self.ticks
-    }
-}
-
-/// Takes out the first octets, this many. Where they are none, nothing moves.
-fn drop_front<A: Allocator>(octets: &mut Vec<u8, A>, count: usize)
-    requires { count ≤ vec_len octets.old }
-    ensures { octets.new.items ≡ drop count octets.old.items }
-{
-    if count > 0 {
-        octets.drain(..count);
     }
 }

@@ -1,4 +1,4 @@
-//! Reading one instruction at the front of octets, its strings lent as they stand (RFC 7541, 5.2 and 6), and reading it
+//! Reading one instruction at the front of octets, its strings lent as they are (RFC 7541, 5.2 and 6), and reading it
 //! on from where its octets stopped.
 //! It rests on the integers of `h2_prim` and takes no memory.
 //! The definition is `instr_at` of `h2_spec`, specs/Instruction.antt; what is known of an instruction that is cut is in
@@ -61,21 +61,21 @@ pub struct Point {
     pub passed: usize,
 }
 
-/// A string as it stands: whether its octets are a Huffman string, and its octets.
+/// A string as it is: whether its octets are a Huffman string, and its octets.
 #[derive(Clone, Copy)]
 pub struct RawString<'a> {
     pub huffman: bool,
     pub octets: &'a [u8],
 }
 
-/// The name of a literal as it stands: an index of the tables, or a string.
+/// The name of a literal as it is: an index of the tables, or a string.
 #[derive(Clone, Copy)]
 pub enum RawName<'a> {
     Ref(u64),
     Named(RawString<'a>),
 }
 
-/// An instruction as it stands.
+/// An instruction as it is.
 #[derive(Clone, Copy)]
 pub enum Shape<'a> {
     Indexed(u64),

@@ -28,7 +28,7 @@ slice_get-setting_pairs (suc k) (a ∷ b ∷ c ∷ d ∷ e ∷ f ∷ rest) h =
     let six : 6 * suc k ≡ suc (suc (suc (suc (suc (suc (6 * k)))))) = omega arith in
     rw six more
 
--- six octets stand at the place of each setting
+-- there are six octets at the place of each setting
 pub length-drop-setting : (p : List ℕ) (k : ℕ) → k < length (setting_pairs p) → 6 ≤ length (drop (6 * k) p)
 length-drop-setting p k h = let count = length-setting_pairs p in let left = length-drop (6 * k) p in omega arith
 

@@ -8,8 +8,7 @@ use Rattle.h2_frame.specs.declared.payload.Part.{Part}
 use Rattle.h2_frame.specs.declared.payload.Part.TheVariants as code
 use Rattle.h2_spec.specs.Payload as spec
 use Rattle.h2_spec.specs.Payload.{setting_pairs}
-use Rattle.h2_spec.specs.declared.frames.PayloadFault.{PayloadFault}
-use Rattle.h2_spec.specs.declared.frames.PayloadFault.TheVariants.{PadFault}
+use Rattle.h2_spec.specs.declared.causes.Cause.{Cause}
 
 abbrev pub data_seen : DataPart → spec.DataPart
 data_seen d = record { pad = d.pad; content = d.content.now; padding = d.padding.now }
@@ -35,14 +34,14 @@ part_seen (code.WindowUpdate increment) = spec.OfWindowUpdate increment
 part_seen (code.Continuation fragment) = spec.OfContinuation fragment.now
 part_seen code.Unknown = spec.OfUnknown
 
--- a part as it is seen, or the fault
-abbrev pub seen : {A B : Type 0} → (A → B) → Result A PayloadFault → Result B PayloadFault
+-- a part as it is seen, or the cause
+abbrev pub seen : {A B : Type 0} → (A → B) → Result A Cause → Result B Cause
 seen f (Ok part) = Ok (f part)
-seen f (Err fault) = Err fault
+seen f (Err cause) = Err cause
 
 abbrev pub both_seen : Bor (List ℕ) × Bor (List ℕ) → List ℕ × List ℕ
 both_seen x = (x.0.now, x.1.now)
 
 -- the octets between the fixed ones in front and the padding, and the padding
-abbrev pub cut_between : ℕ → ℕ → List ℕ → Result (List ℕ × List ℕ) PayloadFault
-cut_between fixed pad p = if nat_lt (length p) (fixed + pad) then Err PadFault else Ok (take (length p - fixed - pad) (drop fixed p), drop (length p - pad) p)
+abbrev pub cut_between : Cause → ℕ → ℕ → List ℕ → Result (List ℕ × List ℕ) Cause
+cut_between cause fixed pad p = if nat_lt (length p) (fixed + pad) then Err cause else Ok (take (length p - fixed - pad) (drop fixed p), drop (length p - pad) p)

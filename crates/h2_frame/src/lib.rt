@@ -9,7 +9,7 @@ pub mod head;
 pub mod payload;
 pub mod splitter;
 
-pub use h2_spec::frames::{FrameType, Head, PayloadFault};
+pub use h2_spec::frames::{FrameType, Head};
 pub use head::{FrameRef, append_frame, read_head, write_frame};
 pub use payload::{
     DataPart, HeadersPart, Part, SettingsPart, data_of, goaway_of, headers_of, part_of, reset_of,

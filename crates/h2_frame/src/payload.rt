@@ -6,12 +6,13 @@ ghost use Rattle.h2_spec.specs.FrameType.{DATA, HEADERS, RST_STREAM, SETTINGS, G
 ghost use Rattle.h2_spec.specs.Payload as spec;
 ghost use Rattle.h2_spec.specs.Payload.Part.{OfPriority};
 ghost use Rattle.h2_spec.specs.Payload.{octets_if, fixed_len, pad_or_0, pad_length, priority_of, data_part, headers_part, settings_part, window_part, goaway_part, reset_part, with_part, of_length, settings_or_ack};
-ghost use Rattle.h2_spec.specs.declared.frames.PayloadFault.TheVariants.{SizeFault, PadFault};
+ghost use Rattle.h2_spec.specs.declared.causes.Cause.TheVariants.{PriorityLength};
 ghost use Rattle.h2_frame.specs.Parts.{both_seen, cut_between, data_seen, headers_seen, settings_in, part_seen, seen};
 
 use crate::cuts::{u16_at, u31_at, u32_at};
 use crate::head::FrameRef;
-use h2_spec::frames::{ACK, FrameType, PADDED, PayloadFault, WITH_PRIORITY};
+use h2_spec::causes::Cause;
+use h2_spec::frames::{ACK, FrameType, PADDED, WITH_PRIORITY};
 use h2_spec::octets::{octets_from, octets_up_to};
 
 /// What DATA holds (RFC 9113, 6.1).
@@ -74,19 +75,19 @@ impl SettingsPart<'_> {
 
 /// What DATA holds (RFC 9113, 6.1).
 ///
-/// `SizeFault` where the length of the padding is missing, then `PadFault` where the padding is longer than what
+/// `DataLength` where the length of the padding is missing, then `DataPadding` where the padding is longer than what
 /// follows.
 #[tactic(auto, unfolding(h2_spec::specs::Payload::data_part))]
-pub fn data_of(frame: FrameRef<'_>) -> Result<DataPart<'_>, PayloadFault>
+pub fn data_of(frame: FrameRef<'_>) -> Result<DataPart<'_>, Cause>
     requires { frame.head.kind ≡ DATA }
     ensures { seen data_seen result ≡ data_part frame.entry.head.flags frame.entry.payload.now }
 {
     let fixed = octets_if(frame.head.has(PADDED), 1);
     if frame.payload.len() < fixed {
-        return Err(PayloadFault::SizeFault);
+        return Err(Cause::DataLength);
     }
     let pad = pad_length(frame);
-    let (content, padding) = unpadded(frame.payload, fixed, pad)?;
+    let (content, padding) = unpadded(frame.payload, fixed, pad, Cause::DataPadding)?;
     Ok(DataPart {
         pad,
         content,
@@ -96,21 +97,21 @@ pub fn data_of(frame: FrameRef<'_>) -> Result<DataPart<'_>, PayloadFault>
 
 /// What HEADERS hold (RFC 9113, 6.2).
 ///
-/// `SizeFault` where the length of the padding, the dependency or the weight is missing, then `PadFault` where the
-/// padding is longer than what follows them.
+/// `HeadersLength` where the length of the padding, the dependency or the weight is missing, then `HeadersPadding`
+/// where the padding is longer than what follows them.
 #[tactic(auto, unfolding(h2_spec::specs::Payload::headers_part))]
-pub fn headers_of(frame: FrameRef<'_>) -> Result<HeadersPart<'_>, PayloadFault>
+pub fn headers_of(frame: FrameRef<'_>) -> Result<HeadersPart<'_>, Cause>
     requires { frame.head.kind ≡ HEADERS }
     ensures { seen headers_seen result ≡ headers_part frame.entry.head.flags frame.entry.payload.now }
 {
     let pad_octets = octets_if(frame.head.has(PADDED), 1);
     let fixed = pad_octets + octets_if(frame.head.has(WITH_PRIORITY), 5);
     if frame.payload.len() < fixed {
-        return Err(PayloadFault::SizeFault);
+        return Err(Cause::HeadersLength);
     }
     let pad = pad_length(frame);
     let priority = priority_of(frame, pad_octets);
-    let (fragment, padding) = unpadded(frame.payload, fixed, pad)?;
+    let (fragment, padding) = unpadded(frame.payload, fixed, pad, Cause::HeadersPadding)?;
     Ok(HeadersPart {
         pad,
         priority,
@@ -151,14 +152,19 @@ fn priority_of(frame: FrameRef<'_>, start: usize) -> Option<(u32, u8)>
     }
 }
 
-/// The octets between the fixed ones in front and the padding, and the padding; `PadFault` where they overlap.
-fn unpadded(octets: &[u8], fixed: usize, pad: Option<u8>) -> Result<(&[u8], &[u8]), PayloadFault>
+/// The octets between the fixed ones in front and the padding, and the padding; this cause where they overlap.
+fn unpadded(
+    octets: &[u8],
+    fixed: usize,
+    pad: Option<u8>,
+    cause: Cause,
+) -> Result<(&[u8], &[u8]), Cause>
     requires { fixed ≤ length octets.now }
-    ensures { seen both_seen result ≡ cut_between fixed (pad_or_0 pad) octets.now }
+    ensures { seen both_seen result ≡ cut_between cause fixed (pad_or_0 pad) octets.now }
 {
     let pad = usize::from(pad.unwrap_or(0));
     if octets.len() - fixed < pad {
-        return Err(PayloadFault::PadFault);
+        return Err(cause);
     }
     let end = octets.len() - pad;
     let content = octets_up_to(octets_from(octets, fixed), end - fixed);
@@ -167,19 +173,18 @@ fn unpadded(octets: &[u8], fixed: usize, pad: Option<u8>) -> Result<(&[u8], &[u8
 
 /// The settings of a SETTINGS frame, none in an acknowledgement (RFC 9113, 6.5).
 ///
-/// `SizeFault` where the length is no multiple of 6, or not 0 in an acknowledgement.
+/// `SettingsLength` where the length is no multiple of 6, `SettingsAckLength` where it is not 0 in an acknowledgement.
 #[tactic(auto, unfolding(h2_spec::specs::Payload::settings_part))]
-pub fn settings_of(frame: FrameRef<'_>) -> Result<SettingsPart<'_>, PayloadFault>
+pub fn settings_of(frame: FrameRef<'_>) -> Result<SettingsPart<'_>, Cause>
     requires { frame.head.kind ≡ SETTINGS }
     ensures { seen settings_in result ≡ settings_part frame.entry.head.flags frame.entry.payload.now }
 {
-    let fits = if frame.head.has(ACK) {
-        frame.payload.is_empty()
-    } else {
-        frame.payload.len() % 6 == 0
-    };
-    if !fits {
-        return Err(PayloadFault::SizeFault);
+    if frame.head.has(ACK) {
+        if !frame.payload.is_empty() {
+            return Err(Cause::SettingsAckLength);
+        }
+    } else if frame.payload.len() % 6 != 0 {
+        return Err(Cause::SettingsLength);
     }
     Ok(SettingsPart {
         octets: frame.payload,
@@ -188,42 +193,42 @@ pub fn settings_of(frame: FrameRef<'_>) -> Result<SettingsPart<'_>, PayloadFault
 
 /// The increment of a WINDOW_UPDATE frame, below 2^31; 0 is not refused here (RFC 9113, 6.9).
 ///
-/// `SizeFault` where the payload is not 4 octets.
+/// `WindowUpdateLength` where the payload is not 4 octets.
 #[tactic(auto, unfolding(h2_spec::specs::Payload::window_part))]
-pub fn window_of(frame: FrameRef<'_>) -> Result<u32, PayloadFault>
+pub fn window_of(frame: FrameRef<'_>) -> Result<u32, Cause>
     requires { frame.head.kind ≡ WINDOW_UPDATE }
     ensures { result ≡ window_part frame.entry.payload.now }
 {
     if frame.payload.len() != 4 {
-        return Err(PayloadFault::SizeFault);
+        return Err(Cause::WindowUpdateLength);
     }
     Ok(u31_at(frame.payload, 0))
 }
 
 /// The last stream and the error code of a GOAWAY frame; what follows them is not looked at (RFC 9113, 6.8).
 ///
-/// `SizeFault` where the payload is below 8 octets.
+/// `GoawayLength` where the payload is below 8 octets.
 #[tactic(auto, unfolding(h2_spec::specs::Payload::goaway_part))]
-pub fn goaway_of(frame: FrameRef<'_>) -> Result<(u32, u32), PayloadFault>
+pub fn goaway_of(frame: FrameRef<'_>) -> Result<(u32, u32), Cause>
     requires { frame.head.kind ≡ GOAWAY }
     ensures { result ≡ goaway_part frame.entry.payload.now }
 {
     if frame.payload.len() < 8 {
-        return Err(PayloadFault::SizeFault);
+        return Err(Cause::GoawayLength);
     }
     Ok((u31_at(frame.payload, 0), u32_at(frame.payload, 4)))
 }
 
 /// The error code of a RST_STREAM frame (RFC 9113, 6.4).
 ///
-/// `SizeFault` where the payload is not 4 octets.
+/// `RstStreamLength` where the payload is not 4 octets.
 #[tactic(auto, unfolding(h2_spec::specs::Payload::reset_part))]
-pub fn reset_of(frame: FrameRef<'_>) -> Result<u32, PayloadFault>
+pub fn reset_of(frame: FrameRef<'_>) -> Result<u32, Cause>
     requires { frame.head.kind ≡ RST_STREAM }
     ensures { result ≡ reset_part frame.entry.payload.now }
 {
     if frame.payload.len() != 4 {
-        return Err(PayloadFault::SizeFault);
+        return Err(Cause::RstStreamLength);
     }
     Ok(u32_at(frame.payload, 0))
 }
@@ -253,10 +258,10 @@ pub enum Part<'a> {
     Unknown,
 }
 
-/// What a frame's payload holds, by the frame's type; the refusals are those of the readers above, and WITH_PRIORITY
+/// What a frame's payload holds, by the frame's type; the refusals are those of the readers above, and PRIORITY
 /// has 5 octets, PING 8 (RFC 9113, 6).
 #[tactic(auto, unfolding(h2_spec::specs::Payload::part_as))]
-pub fn part_of(frame: FrameRef<'_>) -> Result<Part<'_>, PayloadFault>
+pub fn part_of(frame: FrameRef<'_>) -> Result<Part<'_>, Cause>
     ensures { seen part_seen result ≡ spec.part_of frame.entry.head frame.entry.payload.now }
 {
     match frame.head.frame_type() {
@@ -266,7 +271,7 @@ pub fn part_of(frame: FrameRef<'_>) -> Result<Part<'_>, PayloadFault>
         FrameType::RstStream => Ok(Part::RstStream(reset_of(frame)?)),
         FrameType::Settings => settings_or_ack(frame),
         FrameType::PushPromise => Ok(Part::PushPromise),
-        FrameType::Ping => Ok(Part::Ping(octets_of_length(frame.payload, 8)?)),
+        FrameType::Ping => Ok(Part::Ping(octets_of_length(frame.payload, 8, Cause::PingLength)?)),
         FrameType::Goaway => {
             let (last, code) = goaway_of(frame)?;
             Ok(Part::Goaway(last, code))
@@ -278,25 +283,25 @@ pub fn part_of(frame: FrameRef<'_>) -> Result<Part<'_>, PayloadFault>
 }
 
 /// The octets, where they are this many.
-fn octets_of_length(octets: &[u8], count: usize) -> Result<&[u8], PayloadFault>
-    ensures { seen {B = List ℕ} (λ x. x.now) result ≡ (if length octets.now == count then Ok octets.now else Err SizeFault) }
+fn octets_of_length(octets: &[u8], count: usize, cause: Cause) -> Result<&[u8], Cause>
+    ensures { seen {B = List ℕ} (λ x. x.now) result ≡ (if length octets.now == count then Ok octets.now else Err cause) }
 {
     if octets.len() != count {
-        return Err(PayloadFault::SizeFault);
+        return Err(cause);
     }
     Ok(octets)
 }
 
-/// The five octets of a WITH_PRIORITY frame, which are not looked at.
-fn priority_part(octets: &[u8]) -> Result<Part<'_>, PayloadFault>
-    ensures { seen part_seen result ≡ of_length 5 OfPriority octets.now }
+/// The five octets of a PRIORITY frame, which are not looked at.
+fn priority_part(octets: &[u8]) -> Result<Part<'_>, Cause>
+    ensures { seen part_seen result ≡ of_length 5 PriorityLength OfPriority octets.now }
 {
-    octets_of_length(octets, 5)?;
+    octets_of_length(octets, 5, Cause::PriorityLength)?;
     Ok(Part::Priority)
 }
 
 /// The settings of a SETTINGS frame, or its acknowledgement.
-fn settings_or_ack(frame: FrameRef<'_>) -> Result<Part<'_>, PayloadFault>
+fn settings_or_ack(frame: FrameRef<'_>) -> Result<Part<'_>, Cause>
     requires { frame.head.kind ≡ SETTINGS }
     ensures { seen part_seen result ≡ with_part (settings_or_ack (has frame.entry.head.flags ACK)) (settings_part frame.entry.head.flags frame.entry.payload.now) }
 {

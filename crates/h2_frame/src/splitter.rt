@@ -3,7 +3,7 @@
 //! Rests on `head`; definitions: `next` of `h2_spec/specs/Frame.antt`, and `specs/Items.antt` for what a splitter
 //! holds.
 
-ghost use Rattle.std.specs.Prelude.{◌≡◌, ℕ, ◌+◌, ◌-◌, ◌≤◌, ◌<◌, ◌++◌, List, [], length, drop, vec_len, true, false, nat_eq, IfOk, IfSome, OnOk, OnErr, None};
+ghost use Rattle.std.specs.Prelude.{◌≡◌, ℕ, ◌+◌, ◌-◌, ◌≤◌, ◌<◌, ◌++◌, List, [], length, true, false, nat_eq, IfOk, IfSome, OnOk, OnErr, None};
 ghost use Rattle.std.specs.List.{common_prefix_len};
 ghost use Rattle.std.specs.Option.{option_map};
 ghost use Rattle.std.specs.Borrow.{sem};
@@ -14,7 +14,7 @@ ghost use Rattle.h2_frame.specs.contracts.splitter.Splitter.{the_row};
 
 use crate::head::{FrameRef, first_head};
 use h2_spec::frames::{Head, PREFACE};
-use h2_spec::octets::{octets_from, octets_up_to};
+use h2_spec::octets::{drop_front, octets_from, octets_up_to};
 use std::alloc::{AllocError, Allocator};
 use std::marker::Model;
 
@@ -162,16 +162,6 @@ impl<A: Allocator + Copy> Splitter<A> {
             is_over: self.is_over,
         })
     }
-}
-
-/// Takes out the first octets, this many; what follows them is moved once.
-fn drop_front<A: Allocator>(octets: &mut Vec<u8, A>, count: usize)
-    requires { count ≤ vec_len octets.old }
-    ensures { octets.new.items ≡ drop count octets.old.items }
-{
-    let left = octets.len() - count;
-    octets.copy_within(count.., 0);
-    octets.truncate(left);
 }
 
 impl Item<'_> {

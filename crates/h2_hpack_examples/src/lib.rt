@@ -18,6 +18,10 @@ mod integers;
 #[cfg(test)]
 mod limits;
 #[cfg(test)]
+mod marks;
+#[cfg(test)]
+mod octets;
+#[cfg(test)]
 mod same;
 #[cfg(test)]
 mod strings;

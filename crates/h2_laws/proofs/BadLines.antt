@@ -52,15 +52,15 @@ least_same line j k h i = go (nat_lt (kind_number j) (kind_number k)) (nat_lt (k
 
 -- ---- bad lines
 
-line_stands : (above : List (List ℕ)) (line : List ℕ) (below : List (List ℕ)) (octets : List ℕ) → AreLines (above ++ line ∷ below) octets → (o : List ℕ) × Line line o
-line_stands [] line below octets h = (h.0, h.2)
-line_stands (x ∷ xs) line below octets h = line_stands xs line below h.1 h.3
+line_assembles : (above : List (List ℕ)) (line : List ℕ) (below : List (List ℕ)) (octets : List ℕ) → AreLines (above ++ line ∷ below) octets → (o : List ℕ) × Line line o
+line_assembles [] line below octets h = (h.0, h.2)
+line_assembles (x ∷ xs) line below octets h = line_assembles xs line below h.1 h.3
 
 pub bad_read : (text : List ℕ) (n : ℕ) (k : SyntaxKind) → Bad text n k → assembled text ≡ Err (n, k)
 bad_read text n k bad = go (assembled text) (script_read text)
   where
     go : (r : Result (List ℕ) (ℕ × SyntaxKind)) → IsReadingOf text r → r ≡ Err (n, k)
-    go (Ok octets) h = let stands = line_stands bad.above bad.line bad.below octets (subst (λ (ls : List (List ℕ)). AreLines ls octets) bad.lines h) in absurd (bad.nothing stands.0 stands.1)
+    go (Ok octets) h = let assembles = line_assembles bad.above bad.line bad.below octets (subst (λ (ls : List (List ℕ)). AreLines ls octets) bad.lines h) in absurd (bad.nothing assembles.0 assembles.1)
     go (Err (m, j)) h =
         let same = first_same (λ l. (octets : List ℕ) × Line l octets) h.above bad.above h.line bad.line h.below bad.below (sym h.lines ∙ bad.lines) h.first bad.first (λ s. h.nothing s.0 s.1) (λ s. bad.nothing s.0 s.1) in
         let number : m ≡ n = h.number ∙ ap (λ (i : ℕ). i + 1) same.0 ∙ sym bad.number in

@@ -2,7 +2,7 @@
 use Rattle.std.specs.Prelude.{◌≡◌, ℕ, List, [], ◌∷◌, replicate, refl, codes, true, false}
 use Rattle.h2_spec.specs.Field.{field}
 use Rattle.h2_spec.specs.DynamicTable.{Table, total_size}
-use Rattle.h2_spec.specs.Block.{Decoded, Outcome, Unfinished, Faulty, Index, Integer, Huffman, SizeUpdate, decoded, carried_on, list_size, start}
+use Rattle.h2_spec.specs.Block.{Decoded, Outcome, Unfinished, Faulty, ZeroIndex, Index, Integer, Huffman, LateUpdate, LargeUpdate, MissingUpdate, decoded, carried_on, list_size, start}
 use Rattle.h2_laws.proofs.Hex.{hex}
 
 abbrev empty : ℕ → Table
@@ -59,19 +59,19 @@ size_update_opens_a_block : (block 4096 (hex (codes "3fe11f828684"))).outcome �
 unfolding block
 size_update_opens_a_block = refl
 
-size_update_above_the_limit : (block 4096 (hex (codes "3fe21f"))).outcome ≡ Faulty SizeUpdate
+size_update_above_the_limit : (block 4096 (hex (codes "3fe21f"))).outcome ≡ Faulty LargeUpdate
 unfolding block
 size_update_above_the_limit = refl
 
-size_update_after_a_field : (block 4096 (hex (codes "8220"))).outcome ≡ Faulty SizeUpdate
+size_update_after_a_field : (block 4096 (hex (codes "8220"))).outcome ≡ Faulty LateUpdate
 unfolding block
 size_update_after_a_field = refl
 
-no_update_where_one_is_due : (decoded 100 (start (empty 4096) true) (hex (codes "82"))).outcome ≡ Faulty SizeUpdate
+no_update_where_one_is_due : (decoded 100 (start (empty 4096) true) (hex (codes "82"))).outcome ≡ Faulty MissingUpdate
 unfolding decoded
 no_update_where_one_is_due = refl
 
-index_0 : (block 4096 (hex (codes "80"))).outcome ≡ Faulty Index
+index_0 : (block 4096 (hex (codes "80"))).outcome ≡ Faulty ZeroIndex
 unfolding block
 index_0 = refl
 
@@ -82,6 +82,21 @@ index_past_both_tables = refl
 padding_of_eight_ones : (block 4096 (hex (codes "4182ffff"))).outcome ≡ Faulty Huffman
 unfolding block
 padding_of_eight_ones = refl
+
+-- the code of EOS is thirty ones
+whole_code_of_eos : (block 4096 (hex (codes "4184ffffffff"))).outcome ≡ Faulty Huffman
+unfolding block
+whole_code_of_eos = refl
+
+-- a 0 in the padding: "0" is five zeros, and three zeros follow
+padding_with_a_zero : (block 4096 (hex (codes "418100"))).outcome ≡ Faulty Huffman
+unfolding block
+padding_with_a_zero = refl
+
+-- where a size update is allowed is decided before its size
+late_update_above_the_limit : (block 4096 (hex (codes "823fe21f"))).outcome ≡ Faulty LateUpdate
+unfolding block
+late_update_above_the_limit = refl
 
 -- an index is decided before a Huffman string
 index_before_huffman : (block 4096 (hex (codes "7f0182ffff"))).outcome ≡ Faulty Index

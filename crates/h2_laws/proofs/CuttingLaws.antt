@@ -139,7 +139,7 @@ allowance-cut book size n st h some within = record {
   next = record {
     before = take start body;
     behind = drop n (drop start body);
-    stands = sym (take-append-drop start body) ∙ ap (λ xs. take start body ++ xs) (sym (take-append-drop n (drop start body)));
+    parts = sym (take-append-drop start body) ∙ ap (λ xs. take start body ++ xs) (sym (take-append-drop n (drop start body)));
     count = count;
     left = omega (arith, count, length-drop n (drop start body), length-drop start body);
   };

@@ -2,7 +2,7 @@
 use Rattle.std.proofs.Common.{◌≡◌, ℕ, ◌+◌, ◌<◌, ◌≤◌, Bool, true, false, cond, Option, Some, None, Result, IfOk, unwrap_or, refl, arith, leb-true, leb-false}
 use Rattle.std.proofs.lemmas.Bool.{cond_both, false≢true}
 use Rattle.std.specs.Prelude.{nat_le, ◌&&◌, ◌==◌}
-use Rattle.h2_spec.specs.declared.errors.ErrorCode.{ErrorCode}
+use Rattle.h2_spec.specs.declared.causes.Cause.{Cause}
 use Rattle.h2_spec.specs.declared.flow.Settings.{Settings}
 use Rattle.h2_spec.specs.Settings.{IsAllowed, initial, with_setting}
 use Rattle.h2_spec.specs.Window.{given_back, still_owed}
@@ -34,7 +34,7 @@ with-frame s v h least most = record { push = h.push; window = h.window; least_f
 others : (s : Settings) (table : ℕ) (streams list : Option ℕ) (size_update_pending : Bool) → IsAllowed s → IsAllowed (record s { header_table = table; streams = streams; list = list; size_update_pending = size_update_pending })
 others s table streams list size_update_pending h = record { push = h.push; window = h.window; least_frame = h.least_frame; most_frame = h.most_frame }
 
-abbrev Allows : Result Settings ErrorCode → Type 0
+abbrev Allows : Result Settings Cause → Type 0
 Allows r = IfOk r IsAllowed
 
 both : (a b : Bool) → (a && b) ≡ true → (a ≡ true) × (b ≡ true)

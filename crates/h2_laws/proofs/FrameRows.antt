@@ -1,9 +1,8 @@
 -- Worked rows of items, payloads, settings and credit.
 use Rattle.std.specs.Prelude.{◌≡◌, [], ◌∷◌, refl, codes, true, false, Some, None, Ok, Err, pos, negsuc}
 use Prim.Native.String.{String}
-use Rattle.h2_spec.specs.declared.errors.ErrorCode.TheVariants.{ProtocolError, FlowControlError}
+use Rattle.h2_spec.specs.declared.causes.Cause.TheVariants.{DataLength, DataPadding, HeadersLength, SettingsAckLength, EnablePushValue, MaxFrameSizeValue, InitialWindowSizeValue}
 use Rattle.h2_spec.specs.declared.errors.FlowFault.TheVariants.{BadSetting}
-use Rattle.h2_spec.specs.declared.frames.PayloadFault.TheVariants.{SizeFault, PadFault}
 use Rattle.h2_spec.specs.Frame.{Next, NoItem, Got, Preface, BadPreface, WholeFrame, Oversize, next}
 use Rattle.h2_spec.specs.Payload.{data_part, headers_part, settings_part, window_part, goaway_part}
 use Rattle.h2_spec.specs.Settings.{initial, with_setting, window_change}
@@ -58,11 +57,11 @@ data_all_padding : data_part 0x08 (hex (codes "03610000")) ≡ Ok (record { pad 
 unfolding data_part
 data_all_padding = refl
 
-data_with_too_much_padding : data_part 0x08 (hex (codes "04610000")) ≡ Err PadFault
+data_with_too_much_padding : data_part 0x08 (hex (codes "04610000")) ≡ Err DataPadding
 unfolding data_part
 data_with_too_much_padding = refl
 
-padded_data_of_no_octets : data_part 0x08 [] ≡ Err SizeFault
+padded_data_of_no_octets : data_part 0x08 [] ≡ Err DataLength
 unfolding data_part
 padded_data_of_no_octets = refl
 
@@ -70,7 +69,7 @@ padded_headers_with_priority : headers_part 0x2c (hex (codes "01800000030f8200")
 unfolding headers_part
 padded_headers_with_priority = refl
 
-padded_headers_of_five_octets : headers_part 0x2c (hex (codes "0180000003")) ≡ Err SizeFault
+padded_headers_of_five_octets : headers_part 0x2c (hex (codes "0180000003")) ≡ Err HeadersLength
 unfolding headers_part
 padded_headers_of_five_octets = refl
 
@@ -78,7 +77,7 @@ two_settings : settings_part 0 (hex (codes "000300000064000600010000")) ≡ Ok (
 unfolding settings_part
 two_settings = refl
 
-settings_in_an_acknowledgement : settings_part 1 (hex (codes "000300000064")) ≡ Err SizeFault
+settings_in_an_acknowledgement : settings_part 1 (hex (codes "000300000064")) ≡ Err SettingsAckLength
 unfolding settings_part
 settings_in_an_acknowledgement = refl
 
@@ -100,15 +99,15 @@ initial_window_of_0 : window_change initial (with_setting initial 4 0) ≡ Ok (n
 unfolding with_setting
 initial_window_of_0 = refl
 
-push_that_is_no_flag : window_change initial (with_setting initial 2 2) ≡ Err (BadSetting ProtocolError)
+push_that_is_no_flag : window_change initial (with_setting initial 2 2) ≡ Err (BadSetting EnablePushValue)
 unfolding with_setting
 push_that_is_no_flag = refl
 
-initial_window_above_the_largest : window_change initial (with_setting initial 4 2147483648) ≡ Err (BadSetting FlowControlError)
+initial_window_above_the_largest : window_change initial (with_setting initial 4 2147483648) ≡ Err (BadSetting InitialWindowSizeValue)
 unfolding with_setting
 initial_window_above_the_largest = refl
 
-frame_size_below_the_least : window_change initial (with_setting initial 5 16383) ≡ Err (BadSetting ProtocolError)
+frame_size_below_the_least : window_change initial (with_setting initial 5 16383) ≡ Err (BadSetting MaxFrameSizeValue)
 unfolding with_setting
 frame_size_below_the_least = refl
 

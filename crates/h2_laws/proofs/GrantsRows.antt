@@ -72,8 +72,8 @@ fails-nothing test true rest e = (refl, e)
 fails-nothing test false rest e = absurd (cc)
 
 -- no test fails exactly where all that is asked for after an item holds
-failing-tells : (id : ℕ) (ends : Bool) (t : Tally) (sent : List Frame) → (failing id ends t sent ≡ [] → Meets id ends t sent) × (Meets id ends t sent → failing id ends t sent ≡ [])
-failing-tells id ends t sent = (hold, none)
+failing-decides : (id : ℕ) (ends : Bool) (t : Tally) (sent : List Frame) → (failing id ends t sent ≡ [] → Meets id ends t sent) × (Meets id ends t sent → failing id ends t sent ≡ [])
+failing-decides id ends t sent = (hold, none)
   where
     u : Tally
     u = sent_all id t sent

@@ -1,6 +1,8 @@
 pub mod BadLines
 mod BeginningLaws
 mod BlockRows
+mod CauseLaws
+mod CauseRows
 mod CuttingLaws
 mod DebugRows
 mod EarlyRows
@@ -10,6 +12,8 @@ mod FrameLaws
 mod FrameRows
 mod Hex
 mod HuffmanRows
+mod IgnoredLaws
+mod IgnoredRows
 mod IntegerRows
 mod GrantsRows
 pub mod grants

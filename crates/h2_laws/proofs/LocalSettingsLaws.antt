@@ -1,9 +1,11 @@
 -- The server's own settings come into force at the first acknowledgement and are changed by nothing else; no block
 -- takes the header table above the limit that is in force.
-use Rattle.std.proofs.Common.{◌≡◌, ℕ, zero, suc, ◌+◌, ◌≤◌, Bool, true, false, cond, ◌&&◌, not, List, ◌++◌, length, drop, refl, sym, ap, subst, ◌∙◌, arith, leb, leb-true, ltb, eqb, Option, Some, None, Result, Ok, Err}
+use Rattle.std.proofs.Common.{◌≡◌, ℕ, zero, suc, ◌+◌, ◌≤◌, Bool, true, false, cond, not, List, ◌++◌, length, drop, refl, sym, ap, subst, ◌∙◌, arith, leb, leb-true, ltb, eqb, Option, Some, None, Result, Ok, Err}
 use Rattle.std.proofs.lemmas.Bool.{le-ltb}
 use Rattle.std.proofs.Math.Nat.{le_trans}
 use Rattle.std.specs.Prelude.{pos, int_lt, ◌+ℤ◌, ◌-ℤ◌}
+use Rattle.h2_spec.specs.declared.causes.Cause.{Cause}
+use Rattle.h2_spec.specs.declared.causes.Cause.TheVariants.{ConnectionWindowExceeded, ConnectionWindowOverflow, BlockTooLarge, BlockTruncated, SizeUpdateMissing}
 use Rattle.h2_spec.specs.declared.connection.BlockView.{BlockView}
 use Rattle.h2_spec.specs.declared.connection.Config.{Config}
 use Rattle.h2_spec.specs.declared.connection.ConnectionState.{ConnectionState}
@@ -11,13 +13,9 @@ use Rattle.h2_spec.specs.declared.connection.Phase.{Phase}
 use Rattle.h2_spec.specs.declared.connection.Phase.TheVariants as phase
 use Rattle.h2_spec.specs.declared.connection.Purpose.{Purpose}
 use Rattle.h2_spec.specs.declared.connection.Purpose.TheVariants.{Request, Trailers, Closed, TableOnly}
-use Rattle.h2_spec.specs.declared.errors.ErrorCode.{ErrorCode}
-use Rattle.h2_spec.specs.declared.errors.ErrorCode.TheVariants.{FlowControlError, CompressionError, EnhanceYourCalm}
 use Rattle.h2_spec.specs.declared.flow.LocalSettings.{LocalSettings}
 use Rattle.h2_spec.specs.declared.flow.Settings.{Settings}
 use Rattle.h2_spec.specs.declared.frames.Head.{Head}
-use Rattle.h2_spec.specs.declared.frames.PayloadFault.{PayloadFault}
-use Rattle.h2_spec.specs.declared.frames.PayloadFault.TheVariants.{SizeFault, PadFault}
 use Rattle.h2_spec.specs.declared.reactions.ReceivedData.{ReceivedData}
 use Rattle.h2_spec.specs.declared.reactions.Change.{Change}
 use Rattle.h2_spec.specs.declared.reactions.ConnectionFrame.TheVariants.{PingAck}
@@ -34,7 +32,7 @@ use Rattle.h2_spec.specs.Read.{Read, Whole, More, TooLong}
 use Rattle.h2_spec.specs.Parse.{Front, Stop, One, parse_first, parse_upto, parse_all}
 use Rattle.h2_spec.specs.Instruction.{Shape, Indexed, Update, Literal, Mode, IncrementalIndexing, WithoutIndexing, NeverIndexed, instr_at, text_of}
 use Rattle.h2_spec.specs.Block as block
-use Rattle.h2_spec.specs.Block.{Fault, SizeUpdate, Given, Progress, Decoded, Outcome, Unfinished, Faulty, apply, decoded, next_instr, instr_taken, taken_unless, where_not_due, indexed_result, literal_result, name_of, text_result}
+use Rattle.h2_spec.specs.Block.{Fault, LateUpdate, LargeUpdate, Given, Progress, Decoded, Outcome, Unfinished, Faulty, apply, decoded, next_instr, instr_taken, taken_unless, where_not_due, indexed_result, literal_result, name_of, text_result}
 use Rattle.h2_spec.specs.Window.{is_above_max, given_back}
 use Rattle.h2_spec.specs.Settings.{initial_local_settings}
 use Rattle.h2_spec.specs.Answer.{Entry}
@@ -53,7 +51,7 @@ use Rattle.h2_laws.specs.LocalSettings.{HasSettingsInForce, AllHaveSettingsInFor
 
 -- ---- a field block keeps the table within the limit
 
--- what every element keeps of the state stands at the end
+-- what every element keeps of the state is so at the end
 module _ {S E : Type 0} (P : S → Type 0) (next : S → List ℕ → Front S E) where
   abbrev pub FrontKeeps : Front S E → Type 0
   FrontKeeps Stop = Unit {0}
@@ -80,9 +78,9 @@ module _ (limit most : ℕ) (low : limit ≤ most) where
   due-within true r h = tt
   due-within false r h = h
 
-  indexed-within : (d : block.DecoderState) (o : Option Field) → IsWithin d → GivenWithin (indexed_result d o)
-  indexed-within d None h = tt
-  indexed-within d (Some f) h = h
+  indexed-within : (d : block.DecoderState) (i : ℕ) (o : Option Field) → IsWithin d → GivenWithin (indexed_result d i o)
+  indexed-within d i None h = tt
+  indexed-within d i (Some f) h = h
 
   literal-within : (mode : Mode) (d : block.DecoderState) (name value : Result (List ℕ) Fault) → IsWithin d → GivenWithin (literal_result mode d name value)
   unfolding insert
@@ -94,13 +92,14 @@ module _ (limit most : ℕ) (low : limit ≤ most) where
 
   apply-within : (d : block.DecoderState) (i : Shape) → IsWithin d → GivenWithin (apply limit d i)
   unfolding apply resize
-  apply-within d (Indexed i) h = due-within d.due _ (indexed-within d (field_at i d.table.entries) h)
-  apply-within d (Update n) h = at (not d.begun) (leb n limit) refl
+  apply-within d (Indexed i) h = due-within d.due _ (indexed-within d i (field_at i d.table.entries) h)
+  apply-within d (Update n) h = at d.begun (leb n limit) refl
     where
-      at : (a b : Bool) → leb n limit ≡ b → GivenWithin (cond (a && b) (Ok (record { field = None; after = record d { table = resize d.table n; due = false } })) (Err SizeUpdate))
-      at true true e = le_trans (leb-true n limit e) low
-      at true false e = tt
-      at false b e = tt
+      at : (begun few : Bool) → leb n limit ≡ few →
+          GivenWithin (cond begun (Err LateUpdate) (cond few (Ok (record { field = None; after = record d { table = resize d.table n; due = false } })) (Err LargeUpdate)))
+      at true few e = tt
+      at false true e = le_trans (leb-true n limit e) low
+      at false false e = tt
   apply-within d (Literal mode name value) h = due-within d.due _ (literal-within mode d (name_of name d.table.entries) (text_result (text_of value)) h)
 
   next-within : (d : block.DecoderState) (b : List ℕ) → IsWithin d → FrontKeeps IsWithin (next_instr limit) (next_instr limit d b)
@@ -128,7 +127,7 @@ AreSame now before = (now.own ≡ before.own) × (now.acked ≡ before.acked)
 
 -- so they are after a reaction
 abbrev ReactionKeeps : ConnectionState → Reaction → Type 0
-ReactionKeeps core (ConnectionError code) = Unit {0}
+ReactionKeeps core (ConnectionError cause) = Unit {0}
 ReactionKeeps core (Continues c) = AreSame c.core core
 
 either-keeps : (core : ConnectionState) (b : Bool) (x y : Reaction) → ReactionKeeps core x → ReactionKeeps core y → ReactionKeeps core (cond b x y)
@@ -136,7 +135,7 @@ either-keeps core true x y h k = h
 either-keeps core false x y h k = k
 
 cell-keeps : {R : Type 0} (core : ConnectionState) (rule : R → Reaction) → ((r : R) → ReactionKeeps core (rule r)) → (c : Cell R) → ReactionKeeps core (run_cell ConnectionError (nothing core) rule c)
-cell-keeps core rule h (Error code) = tt
+cell-keeps core rule h (Error cause) = tt
 cell-keeps core rule h Nothing = (refl, refl)
 cell-keeps core rule h (Rule r) = h r
 
@@ -160,14 +159,14 @@ unfolding on_data data_taken data_refused data_counted
 data-keeps config core body d st = cell-keeps core _ by_rule (data_cell st.kind)
   where
     within : (c : Change) → AreSame c.core core → ReactionKeeps core (if_within core d.octets c)
-    within c e = either-keeps core (int_lt core.recv (pos d.octets)) (ConnectionError FlowControlError) (Continues c) tt e
+    within c e = either-keeps core (int_lt core.recv (pos d.octets)) (ConnectionError ConnectionWindowExceeded) (Continues c) tt e
 
     outcome-within : (t : StreamOutcome) → ReactionKeeps core (if_within core d.octets (with_outcome (counted config.credit core d.octets) t))
     outcome-within t = within (with_outcome (counted config.credit core d.octets) t) (same-twice (with_outcome (counted config.credit core d.octets) t).core (counted config.credit core d.octets).core core (outcome-own (counted config.credit core d.octets) t) (counted-own config.credit core d.octets))
 
     by_rule : (r : DataRule) → ReactionKeeps core (data_rule r config core body d st)
     by_rule Take = outcome-within (data_outcome config.credit core.peer.size_update_pending body d st)
-    by_rule (Refuse code) = outcome-within (stream_error core.peer.size_update_pending st.id code)
+    by_rule (Refuse cause) = outcome-within (stream_error core.peer.size_update_pending st.id cause)
     by_rule Count = within (counted config.credit core d.octets) (counted-own config.credit core d.octets)
 
 reset-keeps : (core : ConnectionState) (st : Stream) → ReactionKeeps core (on_reset core st)
@@ -188,21 +187,21 @@ connection-keeps : (core : ConnectionState) (n : ℕ) → ReactionKeeps core (co
 unfolding connection_window
 connection-keeps core n =
     either-keeps core (eqb n 0) _ _ tt
-    (either-keeps core (is_above_max (core.send +ℤ pos n)) (ConnectionError FlowControlError) _ tt (refl, refl))
+    (either-keeps core (is_above_max (core.send +ℤ pos n)) (ConnectionError ConnectionWindowOverflow) _ tt (refl, refl))
 
 settings-keeps : (streams : List Stream) (core : ConnectionState) (pairs : List (ℕ × ℕ)) → ReactionKeeps core (settings_rule streams core pairs)
 unfolding settings_rule
 settings-keeps streams core pairs = at (settings_applied streams core.peer core.peer pairs)
   where
-    at : (r : Result Settings ErrorCode) → ReactionKeeps core (settings_taken core r)
-    at (Err code) = tt
+    at : (r : Result Settings Cause) → ReactionKeeps core (settings_taken core r)
+    at (Err cause) = tt
     at (Ok peer) = (refl, refl)
 
 -- ---- what a frame results in
 
 -- the configuration and the settings in force are those of before, and the table is no larger than this
 abbrev EffectKeeps : State → ℕ → FrameEffect → Type 0
-EffectKeeps s most (Breaks code) = Unit {0}
+EffectKeeps s most (Breaks cause) = Unit {0}
 EffectKeeps s most (Makes t c) = (t.config ≡ s.config) × AreSame c.core s.core × (t.table.max ≤ most)
 
 ends-own : (s : State) (id : ℕ) (ends : Bool) (fields : List Field) (purpose : Purpose) → AreSame (block_ends s id ends fields purpose).core s.core
@@ -214,16 +213,18 @@ ends-own s id ends fields TableOnly = (refl, refl)
 -- within: the header table
 module _ (s : State) (most : ℕ) (within : s.table.max ≤ most) where
   makes-keeps : (r : Reaction) → ReactionKeeps s.core r → EffectKeeps s most (makes s r)
-  makes-keeps (ConnectionError code) h = tt
+  makes-keeps (ConnectionError cause) h = tt
   makes-keeps (Continues c) h = (refl, h, within)
 
   read-keeps : (b : BlockView) (d : Decoding) (ends : Bool) → EffectKeeps s most (fragment_read s b d ends)
   read-keeps b d false = (refl, (refl, refl), within)
-  read-keeps b d true = at (eqb (length d.rest) 0 && not d.due)
+  read-keeps b d true = at (not (eqb (length d.rest) 0)) d.due
     where
-      at : (c : Bool) → EffectKeeps s most (cond c (Makes (record s { block = None }) (block_ends s b.stream b.ends d.fields d.purpose)) (Breaks CompressionError))
-      at true = (refl, ends-own s b.stream b.ends d.fields d.purpose, within)
-      at false = tt
+      at : (cut due : Bool) →
+          EffectKeeps s most (cond cut (Breaks BlockTruncated) (cond due (Breaks SizeUpdateMissing) (Makes (record s { block = None }) (block_ends s b.stream b.ends d.fields d.purpose))))
+      at true due = tt
+      at false true = tt
+      at false false = (refl, ends-own s b.stream b.ends d.fields d.purpose, within)
 
 decoded-keeps : (s : State) (most : ℕ) (b : BlockView) (purpose : Purpose) (ends : Bool) (p : Progress) (o : Outcome) → p.table.max ≤ most →
     EffectKeeps s most (fragment_decoded s b purpose ends (record { progress = p; outcome = o }))
@@ -241,7 +242,7 @@ module _ (s : State) (most : ℕ) (low : s.core.own.table ≤ most) (within : s.
       few : all.progress.table.max ≤ most
       few = decoded-within s.core.own.table most low (record { fields = d.fields; table = s.table; due = d.due }) (d.rest ++ octets) within
 
-      at : (c : Bool) → EffectKeeps s most (cond c (Breaks EnhanceYourCalm) (fragment_decoded s (record b { octets = b.octets + length octets }) d.purpose ends all))
+      at : (c : Bool) → EffectKeeps s most (cond c (Breaks BlockTooLarge) (fragment_decoded s (record b { octets = b.octets + length octets }) d.purpose ends all))
       at true = tt
       at false = decoded-keeps s most (record b { octets = b.octets + length octets }) d.purpose ends all.progress all.outcome few
 
@@ -254,7 +255,7 @@ module _ (s : State) (most : ℕ) (low : s.core.own.table ≤ most) (within : s.
   continuation-keeps (Some b) octets ends = continued-keeps b.shown b.decoding octets ends
 
   headers-keeps : (h : Head) (part : HeadersPart) (c : Cell Purpose) → EffectKeeps s most (on_headers s h part c)
-  headers-keeps h part (Error code) = tt
+  headers-keeps h part (Error cause) = tt
   headers-keeps h part Nothing = (refl, (refl, refl), within)
   headers-keeps h part (Rule purpose) = fragment-keeps (fresh_block h) (fresh_decoding s purpose) part.fragment (has h.flags END_HEADERS)
 
@@ -262,7 +263,7 @@ module _ (s : State) (most : ℕ) (low : s.core.own.table ≤ most) (within : s.
 
 -- the settings in force after it, and the table within what they allowed
 abbrev EffectHas : Config → FrameEffect → Type 0
-EffectHas config (Breaks code) = Unit {0}
+EffectHas config (Breaks cause) = Unit {0}
 EffectHas config (Makes t c) = (t.config ≡ config) × (c.core.own ≡ settings_in_force config c.core.acked) × (t.table.max ≤ most_of_table config c.core.acked)
 
 -- the limit in force is within the most
@@ -279,7 +280,7 @@ module _ (config : Config) (s : State) (same : s.config ≡ config) (own : s.cor
   low = subst (λ (o : LocalSettings). o.table ≤ most) (sym own) (low-limit config s.core.acked)
 
   kept : (e : FrameEffect) → EffectKeeps s most e → EffectHas config e
-  kept (Breaks code) k = tt
+  kept (Breaks cause) k = tt
   kept (Makes t c) k = (
     k.0 ∙ same,
     k.1.0 ∙ own ∙ ap (settings_in_force config) (sym k.1.1),
@@ -311,14 +312,13 @@ module _ (config : Config) (s : State) (same : s.config ≡ config) (own : s.cor
   frame-has h p (OfContinuation octets) = kept _ (continuation-keeps s most low within s.block octets (has h.flags END_HEADERS))
   frame-has h p OfUnknown = (same, own, within)
 
-  part-has : (h : Head) (p : List ℕ) (r : Result Part PayloadFault) → EffectHas config (part_effect s h p r)
+  part-has : (h : Head) (p : List ℕ) (r : Result Part Cause) → EffectHas config (part_effect s h p r)
   part-has h p (Ok part) = frame-has h p part
-  part-has h p (Err SizeFault) = tt
-  part-has h p (Err PadFault) = tt
+  part-has h p (Err cause) = tt
 
-  checked-has : (h : Head) (p : List ℕ) (o : Option ErrorCode) → EffectHas config (checked_effect s h p o)
+  checked-has : (h : Head) (p : List ℕ) (o : Option Cause) → EffectHas config (checked_effect s h p o)
   checked-has h p None = part-has h p (part_of h p)
-  checked-has h p (Some code) = tt
+  checked-has h p (Some cause) = tt
 
   item-has : (item : Item) → EffectHas config (item_effect s item)
   item-has Preface = (same, own, within)
@@ -329,11 +329,11 @@ module _ (config : Config) (s : State) (same : s.config ≡ config) (own : s.cor
 -- ---- a run
 
 -- the configuration stays, and these settings are in force
-abbrev Stands : Config → State → Type 0
-Stands config s = (s.config ≡ config) × HasSettingsInForce config s
+abbrev KeepsSettings : Config → State → Type 0
+KeepsSettings config s = (s.config ≡ config) × HasSettingsInForce config s
 
-stands : (config : Config) (s : State) → s.config ≡ config → s.core.own ≡ settings_in_force config s.core.acked → s.table.max ≤ most_of_table config s.core.acked → Stands config s
-stands config s same own within = (
+keeps-settings : (config : Config) (s : State) → s.config ≡ config → s.core.own ≡ settings_in_force config s.core.acked → s.table.max ≤ most_of_table config s.core.acked → KeepsSettings config s
+keeps-settings config s same own within = (
   same,
   record {
     own = own;
@@ -345,36 +345,36 @@ stands config s same own within = (
   },
 )
 
-sending-keeps : (config : Config) (s : State) → Stands config s → Stands config (send_pending s).state
+sending-keeps : (config : Config) (s : State) → KeepsSettings config s → KeepsSettings config (send_pending s).state
 unfolding send_pending
-sending-keeps config s h = stands config _ h.0 h.1.own h.1.within
+sending-keeps config s h = keeps-settings config _ h.0 h.1.own h.1.within
 
-step-keeps : (config : Config) (s : State) (item : Item) → Stands config s → Stands config (step s item).state
+step-keeps : (config : Config) (s : State) (item : Item) → KeepsSettings config s → KeepsSettings config (step s item).state
 unfolding step effect
 step-keeps config s item h = at (item_effect s item) (item-has config s h.0 h.1.own h.1.within item)
   where
-    sends : (e : Step) → Stands config e.state → (p : Phase) → Stands config (then_sent p e).state
+    sends : (e : Step) → KeepsSettings config e.state → (p : Phase) → KeepsSettings config (then_sent p e).state
     sends e k (phase.Ended code) = k
     sends e k phase.Preface = sending-keeps config e.state k
     sends e k phase.Settings = sending-keeps config e.state k
     sends e k phase.Running = sending-keeps config e.state k
 
-    at : (e : FrameEffect) → EffectHas config e → Stands config (then_sent (concluded s (payload_of item) e).state.core.phase (concluded s (payload_of item) e)).state
-    at (Breaks code) k = stands config _ h.0 h.1.own h.1.within
-    at (Makes t c) k = sends (made t (payload_of item) c) (stands config _ k.0 k.1 k.2) c.core.phase
+    at : (e : FrameEffect) → EffectHas config e → KeepsSettings config (then_sent (concluded s (payload_of item) e).state.core.phase (concluded s (payload_of item) e)).state
+    at (Breaks cause) k = keeps-settings config _ h.0 h.1.own h.1.within
+    at (Makes t c) k = sends (made t (payload_of item) c) (keeps-settings config _ k.0 k.1 k.2) c.core.phase
 
-events-keep : (config : Config) (n : ℕ) (s : State) (b : List ℕ) → Stands config s → AllHaveSettingsInForce config (parse_upto next_event n s b).elements
+events-keep : (config : Config) (n : ℕ) (s : State) (b : List ℕ) → KeepsSettings config s → AllHaveSettingsInForce config (parse_upto next_event n s b).elements
 unfolding next_event
 events-keep config zero s b h = tt
 events-keep config (suc n) s b h = at (λ t rest k. events-keep config n t rest k) (next_item s b)
   where
-    at : ((t : State) (rest : List ℕ) → Stands config t → AllHaveSettingsInForce config (parse_upto next_event n t rest).elements) → (y : Next) → AllHaveSettingsInForce config (parse_first s b (event_on s y) (λ t rest. parse_upto next_event n t rest)).elements
+    at : ((t : State) (rest : List ℕ) → KeepsSettings config t → AllHaveSettingsInForce config (parse_upto next_event n t rest).elements) → (y : Next) → AllHaveSettingsInForce config (parse_first s b (event_on s y) (λ t rest. parse_upto next_event n t rest)).elements
     at more NoItem = tt
     at more (Got item used) = let k = step-keeps config s item h in (k.1, more (step s item).state (drop used b) k)
 
-opening-stands : (book : List Entry) (config : Config) → Stands config (opening book config)
-opening-stands book config = stands config (opening book config) refl refl (omega arith)
+opening-keeps : (book : List Entry) (config : Config) → KeepsSettings config (opening book config)
+opening-keeps book config = keeps-settings config (opening book config) refl refl (omega arith)
 
 pub settings-kept : (book : List Entry) (config : Config) (octets : List ℕ) → KeepsLocalSettings book config octets
 unfolding trace parse_all
-settings-kept book config b = ((opening-stands book config).1, events-keep config (length b) (opening book config) b (opening-stands book config))
+settings-kept book config b = ((opening-keeps book config).1, events-keep config (length b) (opening book config) b (opening-keeps book config))

@@ -2,7 +2,7 @@
 use Rattle.std.proofs.Common.{◌≡◌, ℕ, ◌+◌, ◌-◌, ◌≤◌, List, ◌++◌, length, take, drop, Result, IfOk, sym, ap, ◌∙◌, arith, length-drop, ltb, ltb-false}
 use Rattle.std.proofs.lemmas.Bool.{cond_both}
 use Rattle.std.proofs.lemmas.List.{take-append-drop, drop-drop}
-use Rattle.h2_spec.specs.declared.frames.PayloadFault.{PayloadFault}
+use Rattle.h2_spec.specs.declared.causes.Cause.{Cause}
 use Rattle.h2_spec.specs.FrameType.{PADDED, has}
 use Rattle.h2_spec.specs.Payload.{DataPart, HeadersPart, data_part, headers_part, octets_if, fixed_len, pad_length, pad_or_0}
 
@@ -17,7 +17,7 @@ cut-joined p fixed pad h =
 padding-length : (p : List ℕ) (pad : ℕ) → pad ≤ length p → length (drop (length p - pad) p) ≡ pad
 padding-length p pad h = let left = length-drop (length p - pad) p in omega (arith, h)
 
-abbrev DataJoined : ℕ → List ℕ → Result DataPart PayloadFault → Type 0
+abbrev DataJoined : ℕ → List ℕ → Result DataPart Cause → Type 0
 DataJoined flags p r = IfOk r (λ d. (take (octets_if (has flags PADDED) 1) p ++ (d.content ++ d.padding) ≡ p) × (length d.padding ≡ pad_or_0 d.pad))
 
 pub data_part-joined : (flags : ℕ) (p : List ℕ) → DataJoined flags p (data_part flags p)
@@ -29,7 +29,7 @@ data_part-joined flags p =
     (λ e. cond_both (ltb (length p) (fixed + pad)) _ _ (DataJoined flags p) (λ g. tt)
     (λ g. let within : fixed + pad ≤ length p = ltb-false (length p) (fixed + pad) g in (cut-joined p fixed pad within, padding-length p pad (omega (arith, within)))))
 
-abbrev HeadersJoined : ℕ → List ℕ → Result HeadersPart PayloadFault → Type 0
+abbrev HeadersJoined : ℕ → List ℕ → Result HeadersPart Cause → Type 0
 HeadersJoined flags p r = IfOk r (λ h. (take (fixed_len flags) p ++ (h.fragment ++ h.padding) ≡ p) × (length h.padding ≡ pad_or_0 h.pad))
 
 pub headers_part-joined : (flags : ℕ) (p : List ℕ) → HeadersJoined flags p (headers_part flags p)

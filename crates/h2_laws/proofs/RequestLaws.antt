@@ -38,12 +38,12 @@ not-true false e = refl
 
 -- ---- one field, and two
 
--- a field that passes the test stands somewhere
+-- a field that passes the test is somewhere
 pub some_field : (p : Field → Bool) (fields : List Field) → list_any p fields ≡ true → SomeField (λ f. IsTrue (p f)) fields
 some_field p [] e = absurd cc
 some_field p (f ∷ fs) e = elim (or-true (p f) (list_any p fs) e) [
-  | inl here ↦ record { place = 0; field = f; stands = refl; holds = here }
-  | inr further ↦ let s = some_field p fs further in record { place = suc s.place; field = s.field; stands = s.stands; holds = s.holds }
+  | inl here ↦ record { place = 0; field = f; found = refl; holds = here }
+  | inr further ↦ let s = some_field p fs further in record { place = suc s.place; field = s.field; found = s.found; holds = s.holds }
 ]
 
 any-at : (p : Field → Bool) (fields : List Field) (i : ℕ) (f : Field) → slice_get fields i ≡ Some f → p f ≡ true → list_any p fields ≡ true
@@ -52,18 +52,18 @@ any-at p (x ∷ xs) zero f at e = let same : x ≡ f = cc in or-left (p x) _ (ap
 any-at p (x ∷ xs) (suc i) f at e = or-right (p x) _ (any-at p xs i f at e)
 
 pub any_field : (p : Field → Bool) (fields : List Field) → SomeField (λ f. IsTrue (p f)) fields → list_any p fields ≡ true
-any_field p fields s = any-at p fields s.place s.field s.stands s.holds
+any_field p fields s = any-at p fields s.place s.field s.found s.holds
 
--- two fields that pass the test stand somewhere
+-- two fields that pass the test are somewhere in the list
 pub some_two : (p : Field → Field → Bool) (fields : List Field) → any_two p fields ≡ true → SomeTwo (λ f g. IsTrue (p f g)) fields
 some_two p [] e = absurd cc
 some_two p (f ∷ fs) e = elim (or-true (list_any (p f) fs) (any_two p fs) e) [
   | inl here ↦
       let s = some_field (p f) fs here in
-      record { earlier = 0; later = suc s.place; order = omega arith; former = f; latter = s.field; former_stands = refl; latter_stands = s.stands; holds = s.holds }
+      record { earlier = 0; later = suc s.place; order = omega arith; former = f; latter = s.field; former_found = refl; latter_found = s.found; holds = s.holds }
   | inr further ↦
       let s = some_two p fs further in
-      record { earlier = suc s.earlier; later = suc s.later; order = omega (arith, s.order); former = s.former; latter = s.latter; former_stands = s.former_stands; latter_stands = s.latter_stands; holds = s.holds }
+      record { earlier = suc s.earlier; later = suc s.later; order = omega (arith, s.order); former = s.former; latter = s.latter; former_found = s.former_found; latter_found = s.latter_found; holds = s.holds }
 ]
 
 two-at : (p : Field → Field → Bool) (fields : List Field) (i j : ℕ) (f g : Field) → i < j → slice_get fields i ≡ Some f → slice_get fields j ≡ Some g → p f g ≡ true → any_two p fields ≡ true
@@ -76,14 +76,14 @@ two-at p (x ∷ xs) (suc i) zero f g order at_i at_j e = absurd (omega arith)
 two-at p (x ∷ xs) (suc i) (suc j) f g order at_i at_j e = or-right (list_any (p x) xs) _ (two-at p xs i j f g (omega arith) at_i at_j e)
 
 pub any_two_fields : (p : Field → Field → Bool) (fields : List Field) → SomeTwo (λ f g. IsTrue (p f g)) fields → any_two p fields ≡ true
-any_two_fields p fields s = two-at p fields s.earlier s.later s.former s.latter s.order s.former_stands s.latter_stands s.holds
+any_two_fields p fields s = two-at p fields s.earlier s.later s.former s.latter s.order s.former_found s.latter_found s.holds
 
 -- a related pair of fields is so related, too
 related : {R S : Field → Field → Type 0} (fields : List Field) → ((f g : Field) → R f g → S f g) → SomeTwo R fields → SomeTwo S fields
-related fields h s = record { earlier = s.earlier; later = s.later; order = s.order; former = s.former; latter = s.latter; former_stands = s.former_stands; latter_stands = s.latter_stands; holds = h s.former s.latter s.holds }
+related fields h s = record { earlier = s.earlier; later = s.later; order = s.order; former = s.former; latter = s.latter; former_found = s.former_found; latter_found = s.latter_found; holds = h s.former s.latter s.holds }
 
 so : {P Q : Field → Type 0} (fields : List Field) → ((f : Field) → P f → Q f) → SomeField P fields → SomeField Q fields
-so fields h s = record { place = s.place; field = s.field; stands = s.stands; holds = h s.field s.holds }
+so fields h s = record { place = s.place; field = s.field; found = s.found; holds = h s.field s.holds }
 
 -- ---- the least of the rows
 
@@ -92,7 +92,7 @@ abbrev IsLeastFrom : (ℕ → Type 0) → ℕ → Option ℕ → Type 0
 IsLeastFrom R n None = (q : ℕ) → n ≤ q → ¬ (R q)
 IsLeastFrom R n (Some r) = R r × ((q : ℕ) → n ≤ q → R q → r ≤ q)
 
--- a reason from n on is m or later, where none stands between
+-- a reason from n on is m or later, where none is between
 reached : (R : ℕ → Type 0) (n m q : ℕ) → ((k : ℕ) → n ≤ k → k < m → ¬ (R k)) → n ≤ q → R q → m ≤ q
 reached R n m q none above reason = elim (leb_tells m q) [
   | inl at ↦ at.1
@@ -109,7 +109,7 @@ passed R m q free above reason = elim (eq-or-lt_of_le above) [
 false_is : false ≡ true → ⊥
 false_is e = cc
 
--- a row more: its test decides whether its reason holds, and no reason stands between
+-- a row more: its test decides whether its reason holds, and no reason is between
 row : (R : ℕ → Type 0) (n m : ℕ) (t : Bool) (o : Option ℕ) → ((k : ℕ) → n ≤ k → k < m → ¬ (R k)) → (t ≡ true → R m) → (R m → t ≡ true) → IsLeastFrom R (suc m) o → IsLeastFrom R n (cond t (Some m) o)
 row R n m true o none holds prints rest = (holds refl, λ q above reason. reached R n m q none above reason)
 row R n m false None none holds prints rest = λ q above reason. rest q (passed R m q (λ r. false_is (prints r)) (reached R n m q none above reason) reason) reason
@@ -285,7 +285,7 @@ behind name f fs None unlike h = none
     none : (i : ℕ) (g : Field) → slice_get (f ∷ fs) i ≡ Some g → g.name ≢ name
     none zero g at = let same : f ≡ g = cc in subst (λ (x : Field). x.name ≢ name) same unlike
     none (suc i) g at = h i g at
-behind name f fs (Some value) unlike h = record { place = suc h.place; field = h.field; stands = h.stands; named = h.named; has = h.has; first = first }
+behind name f fs (Some value) unlike h = record { place = suc h.place; field = h.field; found = h.found; named = h.named; has = h.has; first = first }
   where
     first : (i : ℕ) (g : Field) → i < suc h.place → slice_get (f ∷ fs) i ≡ Some g → g.name ≢ name
     first zero g below at = let same : f ≡ g = cc in subst (λ (x : Field). x.name ≢ name) same unlike
@@ -296,7 +296,7 @@ value_named-is name [] = λ i f at. absurd cc
 value_named-is name (f ∷ fs) = by (is_named name f) refl (value_named-is name fs)
   where
     by : (t : Bool) → is_named name f ≡ t → IsValueNamed name fs (value_named name fs) → IsValueNamed name (f ∷ fs) (cond t (Some f.value) (value_named name fs))
-    by true e h = record { place = 0; field = f; stands = refl; named = (bytes_eq-Decides f.name name).0 e; has = refl; first = λ i g below at. absurd (omega arith) }
+    by true e h = record { place = 0; field = f; found = refl; named = (bytes_eq-Decides f.name name).0 e; has = refl; first = λ i g below at. absurd (omega arith) }
     by false e h = behind name f fs (value_named name fs) (λ same. false_is (sym e ∙ (bytes_eq-Decides f.name name).1 same)) h
 
 -- ---- responses

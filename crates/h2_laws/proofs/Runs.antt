@@ -17,11 +17,11 @@ abbrev pub default : Config
 default = limits 100 32768
 
 -- an entry without fields
-abbrev entry_of : String → ℕ → List ℕ → Entry
+abbrev pub entry_of : String → ℕ → List ℕ → Entry
 entry_of method status body = record { method = codes method; path = codes "/"; answer = answer status [] body }
 
 -- a book of one answer: 200 to GET of /
-abbrev get : List ℕ → List Entry
+abbrev pub get : List ℕ → List Entry
 get body = entry_of "GET" 200 body ∷ []
 
 -- the preface and an empty SETTINGS
@@ -34,7 +34,7 @@ unfolding trace sent_octets
 sent book config octets = sent_octets (trace (opening book config) octets).events
 
 -- the state behind the beginning
-ready : List Entry → Config → State
+unfoldable pub ready : List Entry → Config → State
 unfolding trace
 ready book config = (trace (opening book config) beginning).state
 

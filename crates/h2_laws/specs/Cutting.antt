@@ -23,7 +23,7 @@ pub record IsCut (id size : ℕ) (ends : Bool) (octets : List ℕ) (frames : Lis
 pub record IsNext (body : List ℕ) (waiting n : ℕ) (octets : List ℕ) : Type 0 where
   pub before : List ℕ
   pub behind : List ℕ
-  pub stands : body ≡ before ++ (octets ++ behind)
+  pub parts : body ≡ before ++ (octets ++ behind)
   pub count : length octets ≡ n
   pub left : length octets + length behind ≡ waiting
 

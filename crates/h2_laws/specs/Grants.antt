@@ -3,11 +3,11 @@
 -- A tally follows the connection and one stream, item by item, and six tests are made of it after each item. What
 -- holds of one stream holds of each.
 use Rattle.std.specs.Prelude.{◌≡◌, ℕ, ◌+◌, ◌≤◌, ◌⊎◌, Bool, true, false, ◌&&◌, ◌||◌, not, List, [], ◌∷◌, ◌++◌, length, nat_le, ◌==◌, if◌then◌else◌, Option, Some, None, is_some, Result, Ok, Err}
+use Rattle.h2_spec.specs.declared.causes.Cause.{Cause}
 use Rattle.h2_spec.specs.declared.connection.Config.{Config}
 use Rattle.h2_spec.specs.declared.connection.Phase.{Phase}
 use Rattle.h2_spec.specs.declared.connection.Purpose.TheVariants.{Request}
 use Rattle.h2_spec.specs.declared.frames.Head.{Head}
-use Rattle.h2_spec.specs.declared.frames.PayloadFault.{PayloadFault}
 use Rattle.h2_spec.specs.FrameType.{DATA, HEADERS, RST_STREAM, END_STREAM, END_HEADERS, has}
 use Rattle.h2_spec.specs.Frame.{Frame, Item, Preface, BadPreface, WholeFrame, Oversize}
 use Rattle.h2_spec.specs.Payload.{Part, OfData, OfHeaders, OfPriority, OfRstStream, OfSettings, OfSettingsAck, OfPushPromise, OfPing, OfGoaway, OfWindowUpdate, OfContinuation, OfUnknown, part_of}
@@ -120,7 +120,7 @@ received_part book id s t h (OfGoaway last code) = t
 received_part book id s t h OfUnknown = t
 
 -- a frame, if its payload is one that its type allows
-abbrev pub received_frame : List Entry → ℕ → State → Tally → Head → Result Part PayloadFault → Tally
+abbrev pub received_frame : List Entry → ℕ → State → Tally → Head → Result Part Cause → Tally
 received_frame book id s t h (Ok part) = received_part book id s t h part
 received_frame book id s t h (Err fault) = t
 

@@ -1,7 +1,9 @@
 pub mod Cutting
+pub mod ErrorCodes
 pub mod Forms
 pub mod Grants
 pub mod GrantsTest
+pub mod Ignoring
 pub mod Order
 pub mod LocalSettings
 pub mod Reasons

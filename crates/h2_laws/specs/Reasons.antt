@@ -5,11 +5,11 @@ use Rattle.std.specs.Prelude.{◌≡◌, ◌≢◌, ℕ, ◌<◌, ◌≤◌, Lis
 use Rattle.h2_spec.specs.Field.{Field}
 use Rattle.h2_spec.specs.Request.{is_pseudo, has_bad_name, has_bad_value, is_unknown_pseudo, is_of_connection, has_bad_te, is_content_length, is_digits, decimal_value, value_named, is_connect}
 
--- a field of which P holds stands at some place of the list
+-- a field of which P holds is at some place of the list
 pub record SomeField (P : Field → Type 0) (fields : List Field) : Type 0 where
   pub place : ℕ
   pub field : Field
-  pub stands : slice_get fields place ≡ Some field
+  pub found : slice_get fields place ≡ Some field
   pub holds : P field
 
 -- two fields that are so related are in the list, the one before the other
@@ -19,8 +19,8 @@ pub record SomeTwo (R : Field → Field → Type 0) (fields : List Field) : Type
   pub order : earlier < later
   pub former : Field
   pub latter : Field
-  pub former_stands : slice_get fields earlier ≡ Some former
-  pub latter_stands : slice_get fields later ≡ Some latter
+  pub former_found : slice_get fields earlier ≡ Some former
+  pub latter_found : slice_get fields later ≡ Some latter
   pub holds : R former latter
 
 -- the reasons against a request, by number
@@ -29,7 +29,7 @@ pub data IsReason (fields : List Field) : ℕ → Type 0 where
   bad_name : SomeField (λ f. IsTrue (has_bad_name f)) fields → IsReason fields 1
   -- 8.2.1: a value has an octet 00, 0a or 0d, or begins or ends with a blank
   bad_value : SomeField (λ f. IsTrue (has_bad_value f)) fields → IsReason fields 2
-  -- 8.3: a pseudo-field stands after a regular field
+  -- 8.3: a pseudo-field follows a regular field
   late_pseudo : SomeTwo (λ f g. IsFalse (is_pseudo f) × IsTrue (is_pseudo g)) fields → IsReason fields 3
   -- 8.3: a pseudo-field is none of a request's
   unknown_pseudo : SomeField (λ f. IsTrue (is_unknown_pseudo f)) fields → IsReason fields 4
@@ -72,7 +72,7 @@ IsLeast Reason (Some r) = Reason r × ((q : ℕ) → Reason q → r ≤ q)
 pub record IsFirstNamed (name : List ℕ) (fields : List Field) (value : List ℕ) : Type 0 where
   pub place : ℕ
   pub field : Field
-  pub stands : slice_get fields place ≡ Some field
+  pub found : slice_get fields place ≡ Some field
   pub named : field.name ≡ name
   pub has : field.value ≡ value
   pub first : (i : ℕ) (f : Field) → i < place → slice_get fields i ≡ Some f → f.name ≢ name

@@ -6,6 +6,7 @@
 #![tactic(auto)]
 
 pub mod block_laws;
+pub mod cause_laws;
 pub mod flow_laws;
 pub mod frame_laws;
 pub mod grants_laws;

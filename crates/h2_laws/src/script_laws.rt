@@ -20,7 +20,7 @@ pub fn scripts_are_read()
 {}
 
 /// The script that is written for octets represents them, whatever they are, and is read so.
-pub fn what_is_written_stands_for_its_octets()
-    ensures stands { (octets : List ℕ) → IsBytes octets → Script (written octets) octets }
+pub fn what_is_written_assembles_to_its_octets()
+    ensures assembles { (octets : List ℕ) → IsBytes octets → Script (written octets) octets }
     ensures read { (octets : List ℕ) → IsBytes octets → assembled (written octets) ≡ Ok octets }
 {}

@@ -20,9 +20,9 @@ scaled-scaled a w i d TooLong = refl
 pub groups_at-drop : (cs : List ℕ) (i : ℕ) → i < length cs → i < 5 →
     groups_at (5 - i) (drop i cs) ≡ cond (ltb (get_or cs i 0) 128) (Whole (get_or cs i 0) 1) (scaled (get_or cs i 0 % 128) 128 1 (groups_at (5 - (i + 1)) (drop (i + 1) cs)))
 groups_at-drop cs i within below =
-    let room : 5 - i ≡ suc (5 - (i + 1)) = omega arith in
+    let enough : 5 - i ≡ suc (5 - (i + 1)) = omega arith in
     let next : i + 1 ≡ suc i = omega arith in
-    rw (room, drop-cons cs i 0 within, next) refl
+    rw (enough, drop-cons cs i 0 within, next) refl
 
 -- what five groups can weigh
 pub weight_small : (i : ℕ) → i < 5 → 128 ^ i ≤ 268435456
@@ -76,12 +76,12 @@ int_at-full n o v full xs cs r front e g h groups =
 
 -- ---- writing
 
--- what is left to write of a number: at most as many groups as there is room for
+-- what is left to write of a number: at most as many groups as there is space for
 pub record Left (out all : List ℕ) (len capacity v : ℕ) : Type 0 where
-  pub room : ℕ
-  pub small : v < 128 ^ suc room
-  pub fits : len + suc room ≤ capacity
-  pub same : out ++ groups_of (suc room) v ≡ all
+  pub enough : ℕ
+  pub small : v < 128 ^ suc enough
+  pub fits : len + suc enough ≤ capacity
+  pub same : out ++ groups_of (suc enough) v ≡ all
 
 -- the last group
 pub last_group : (out all : List ℕ) (len capacity v : ℕ) → v < 128 → Left out all len capacity v → out ++ v ∷ [] ≡ all
@@ -89,18 +89,18 @@ last_group out all len capacity v h l = rw (lt-ltb v 128 h) at l.same
 
 -- a group before others
 pub one_group : (out new all : List ℕ) (len more capacity v : ℕ) → 128 ≤ v → more ≡ len + 1 → new ≡ out ++ (v % 128 + 128) ∷ [] → Left out all len capacity v → Left new all more capacity (v / 128)
-one_group out new all len more capacity v h f e l = at l.room l.small l.fits l.same
+one_group out new all len more capacity v h f e l = at l.enough l.small l.fits l.same
   where
-    at : (room : ℕ) → v < 128 ^ suc room → len + suc room ≤ capacity → out ++ groups_of (suc room) v ≡ all → Left new all more capacity (v / 128)
+    at : (enough : ℕ) → v < 128 ^ suc enough → len + suc enough ≤ capacity → out ++ groups_of (suc enough) v ≡ all → Left new all more capacity (v / 128)
     at zero small fits same = absurd (omega arith)
-    at (suc room) small fits same =
-        let power : 128 ^ suc (suc room) ≡ 128 * 128 ^ suc room = omega arith in
-        let cut : out ++ ((v % 128 + 128) ∷ groups_of (suc room) (v / 128)) ≡ all = rw (le-ltb v 128 h) at same in
+    at (suc enough) small fits same =
+        let power : 128 ^ suc (suc enough) ≡ 128 * 128 ^ suc enough = omega arith in
+        let cut : out ++ ((v % 128 + 128) ∷ groups_of (suc enough) (v / 128)) ≡ all = rw (le-ltb v 128 h) at same in
         record {
-          room = room;
+          enough = enough;
           small = omega (arith, small, power);
           fits = omega arith;
-          same = ap (λ x. x ++ groups_of (suc room) (v / 128)) e ∙ append_assoc out ((v % 128 + 128) ∷ []) (groups_of (suc room) (v / 128)) ∙ cut;
+          same = ap (λ x. x ++ groups_of (suc enough) (v / 128)) e ∙ append_assoc out ((v % 128 + 128) ∷ []) (groups_of (suc enough) (v / 128)) ∙ cut;
         }
 
 pub write_fits : (p high v : ℕ) → 1 ≤ p → p ≤ 8 → high % 2 ^ p ≡ 0 → high < 256 → v ≤ 2 ^ p - 1 → high + v < 256

@@ -27,9 +27,9 @@ pub record IsCode (s len number : ℕ) : Type 0 where
   pub short : len ≤ 30
   pub small : number < 2 ^ len
 
-code_tells : (s len number : ℕ) → code_right s len number ≡ true → IsCode s len number
+code_decides : (s len number : ℕ) → code_right s len number ≡ true → IsCode s len number
 unfolding code_right
-code_tells s len number h =
+code_decides s len number h =
     let three = and-left (same (bits_of len number) (code s) && leb 5 len && leb len 30) (ltb number (2 ^ len)) h in
     let two = and-left (same (bits_of len number) (code s) && leb 5 len) (leb len 30) three in
     record {
@@ -40,7 +40,7 @@ code_tells s len number h =
     }
 
 pub code_at : (s : ℕ) → s < 256 → IsCode s (get_or LENGTHS s 0) (get_or CODES s 0)
-code_at s h = code_tells s (get_or LENGTHS s 0) (get_or CODES s 0) (both-at code_right LENGTHS CODES s 0 0 codes_right h)
+code_at s h = code_decides s (get_or LENGTHS s 0) (get_or CODES s 0) (both-at code_right LENGTHS CODES s 0 0 codes_right h)
 
 -- ---- the states
 
@@ -162,9 +162,9 @@ goes-is false s nibble next symbol e few h = λ rest ended.
     let nothing : symbol ≡ 0 = eqb-true symbol 0 (and-right (eqb next 256) (eqb symbol 0) h) in
     rw (state, stays, nothing) (record { octets = tt; rest = rest ++ bits_of 4 nibble; ended = λ small. absurd (omega arith); read = refl })
 
-move_tells : (k s nibble row symbol : ℕ) → k / 16 ≡ s → k % 16 ≡ nibble → s ≤ 256 → right paths k row symbol ≡ true → IsMove s nibble row symbol
+move_decides : (k s nibble row symbol : ℕ) → k / 16 ≡ s → k % 16 ≡ nibble → s ≤ 256 → right paths k row symbol ≡ true → IsMove s nibble row symbol
 unfolding right
-move_tells k s nibble row symbol q r few h =
+move_decides k s nibble row symbol q r few h =
     let found = goes paths (ltb (k / 16) 256) (k / 16) (k % 16) (row / 16) symbol in
     let three = and-left (eqb (row % 16) 0 && leb row 4096 && ltb symbol 512) found h in
     let two = and-left (eqb (row % 16) 0 && leb row 4096) (ltb symbol 512) three in
@@ -179,4 +179,4 @@ unfolding all_right move_right
 move_at row nibble at small =
     let k = row + nibble in
     let move = get_or MOVES k 0 in
-    move_tells k (row / 16) nibble (move / 65536) (move % 65536) (omega (arith, at.0, at.1)) (omega (arith, at.0, at.1)) (omega (arith, at.1)) (all-at (move_right paths) MOVES k 0 moves_right (omega (arith, at.1)))
+    move_decides k (row / 16) nibble (move / 65536) (move % 65536) (omega (arith, at.0, at.1)) (omega (arith, at.0, at.1)) (omega (arith, at.1)) (all-at (move_right paths) MOVES k 0 moves_right (omega (arith, at.1)))

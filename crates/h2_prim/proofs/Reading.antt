@@ -10,7 +10,7 @@ use Rattle.h2_spec.specs.Huffman.{bits, codes, IsText, HuffRead, huffman_text, T
 use Rattle.h2_spec.proofs.BitLaws.{length-bits_of, bits-more, bits_of-halves}
 use Rattle.h2_spec.proofs.HuffmanLaws.{codes-append, one_answer, is_padding}
 use Rattle.h2_spec.proofs.SpellingLaws.{length-bits}
-use Rattle.h2_prim.specs.States.{path_of, emitted, Stands, Leads, Prints}
+use Rattle.h2_prim.specs.States.{path_of, emitted, Represents, Leads, Prints}
 use Rattle.h2_prim.specs.declared.fault.HuffFault.{HuffFault}
 use Rattle.h2_prim.specs.declared.fault.HuffFault.TheVariants as fault
 use Rattle.h2_prim.specs.declared.tables.TheConstants.{LENGTHS, CODES}
@@ -18,7 +18,7 @@ use Rattle.h2_prim.proofs.HuffmanTable.{code_at, path_begins, path_ones, path_ot
 
 -- ---- four bits more
 
-pub starts : Stands (bits []) [] 0
+pub starts : Represents (bits []) [] 0
 unfolding bits codes
 starts = record { octets = tt; rest = []; ended = λ h. refl; read = sym (append-nil (path_of 0) ∙ path_start) }
 
@@ -26,7 +26,7 @@ text-append : (t u : List ℕ) → IsText t → IsText u → IsText (t ++ u)
 text-append [] u h k = k
 text-append (s ∷ t) u h k = (h.0, text-append t u h.1 k)
 
-pub stepped : (bs nibble : List Bool) (text : List ℕ) (s symbol next : ℕ) → Stands bs text s → Leads s nibble symbol next → Stands (bs ++ nibble) (text ++ emitted symbol) next
+pub stepped : (bs nibble : List Bool) (text : List ℕ) (s symbol next : ℕ) → Represents bs text s → Leads s nibble symbol next → Represents (bs ++ nibble) (text ++ emitted symbol) next
 stepped bs nibble text s symbol next at f =
     let to = f at.rest at.ended in
     record {
@@ -46,21 +46,21 @@ kept text len symbol h small = at (ltb symbol 256) refl
     at true e = let none : len + symbol / 256 ≡ len = omega (arith, ltb-true symbol 256 e) in rw none (append-nil (take len text) ∙ sym (take-set text len (symbol % 256)))
     at false e = let one : symbol / 256 ≡ 1 = omega (arith, small, ltb-false symbol 256 e) in rw one (sym (take_more_set text len (symbol % 256) h))
 
-pub stepped_at : (bs nibble : List Bool) (text : List ℕ) (len s symbol next : ℕ) → len < length text → symbol < 512 → Stands bs (take len text) s → Leads s nibble symbol next →
-    Stands (bs ++ nibble) (take (len + symbol / 256) (set text len (symbol % 256))) next
-stepped_at bs nibble text len s symbol next h small at f = subst (λ t. Stands (bs ++ nibble) t next) (kept text len symbol h small) (stepped bs nibble (take len text) s symbol next at f)
+pub stepped_at : (bs nibble : List Bool) (text : List ℕ) (len s symbol next : ℕ) → len < length text → symbol < 512 → Represents bs (take len text) s → Leads s nibble symbol next →
+    Represents (bs ++ nibble) (take (len + symbol / 256) (set text len (symbol % 256))) next
+stepped_at bs nibble text len s symbol next h small at f = subst (λ t. Represents (bs ++ nibble) t next) (kept text len symbol h small) (stepped bs nibble (take len text) s symbol next at f)
 
 -- the halves of an octet
-pub halves : (bs : List Bool) (octet : ℕ) (text : List ℕ) (s : ℕ) → Stands ((bs ++ bits_of 4 (octet / 16)) ++ bits_of 4 (octet % 16)) text s → Stands (bs ++ bits_of 8 octet) text s
-halves bs octet text s at = subst (λ b. Stands b text s) (append_assoc bs (bits_of 4 (octet / 16)) (bits_of 4 (octet % 16)) ∙ ap (λ b. bs ++ b) (sym (bits_of-halves octet))) at
+pub halves : (bs : List Bool) (octet : ℕ) (text : List ℕ) (s : ℕ) → Represents ((bs ++ bits_of 4 (octet / 16)) ++ bits_of 4 (octet % 16)) text s → Represents (bs ++ bits_of 8 octet) text s
+halves bs octet text s at = subst (λ b. Represents b text s) (append_assoc bs (bits_of 4 (octet / 16)) (bits_of 4 (octet % 16)) ∙ ap (λ b. bs ++ b) (sym (bits_of-halves octet))) at
 
 -- one octet more
-pub octet_more : (os text : List ℕ) (i octet s : ℕ) → i < length os → get_or os i 0 ≡ octet → Stands (bits (take i os) ++ bits_of 8 octet) text s → Stands (bits (take (i + 1) os)) text s
+pub octet_more : (os text : List ℕ) (i octet s : ℕ) → i < length os → get_or os i 0 ≡ octet → Represents (bits (take i os) ++ bits_of 8 octet) text s → Represents (bits (take (i + 1) os)) text s
 octet_more os text i octet s h e at =
     let read : octet ≡ get_or os i octet = sym e ∙ get_or_default os i 0 octet h in
-    subst (λ b. Stands b text s) (sym (bits-more os i octet h read ∙ ap (λ b. bits (take i os) ++ b) (sym (bits_of-halves octet)))) at
+    subst (λ b. Represents b text s) (sym (bits-more os i octet h read ∙ ap (λ b. bits (take i os) ++ b) (sym (bits_of-halves octet)))) at
 
--- ---- room
+-- ---- enough
 
 -- a code has five bits or more
 codes_long : (t : List ℕ) → IsText t → 5 * length t ≤ length (codes t)
@@ -71,9 +71,9 @@ codes_long (s ∷ t) h =
     let size : length (code s) ≡ get_or LENGTHS s 0 = ap length (sym c.spelled) ∙ length-bits_of (get_or LENGTHS s 0) (get_or CODES s 0) in
     omega (arith, c.long, size, codes_long t h.1, length-append (code s) (codes t))
 
--- so there is room for one more octet of text while an octet is being read
-pub has_room : (bs : List Bool) (text : List ℕ) (len s : ℕ) → Stands bs (take len text) s → len ≤ length text → length bs < 5 * length text → len < length text
-has_room bs text len s at within more =
+-- so there is space for one more octet of text while an octet is being read
+pub has_enough : (bs : List Bool) (text : List ℕ) (len s : ℕ) → Represents bs (take len text) s → len ≤ length text → length bs < 5 * length text → len < length text
+has_enough bs text len s at within more =
     let size : length (take len text) ≡ len = length-take-le len text within in
     omega (arith, size, more, ap length at.read, length-append (codes (take len text)) (path_of s ++ at.rest), codes_long (take len text) at.octets)
 
@@ -102,7 +102,7 @@ appended before len size front new rest items same count h k =
 
 -- ---- what a string is, by the state at its end
 
-pub whole : (octets text : List ℕ) (s : ℕ) → Stands (bits octets) text s → s < 8 → huffman_text octets ≡ Text text
+pub whole : (octets text : List ℕ) (s : ℕ) → Represents (bits octets) text s → s < 8 → huffman_text octets ≡ Text text
 whole octets text s at few =
     let none : at.rest ≡ [] = at.ended (omega arith) in
     one_answer octets (Text text) (record {
@@ -112,7 +112,7 @@ whole octets text s at few =
       spelled = at.read ∙ ap (λ r. codes text ++ (path_of s ++ r)) none ∙ ap (λ p. codes text ++ p) (append-nil (path_of s) ∙ path_ones s few);
     })
 
-pub ended : (octets text : List ℕ) (s : ℕ) → Stands (bits octets) text s → s ≡ 256 → huffman_text octets ≡ Eos
+pub ended : (octets text : List ℕ) (s : ℕ) → Represents (bits octets) text s → s ≡ 256 → huffman_text octets ≡ Eos
 ended octets text s at e =
     one_answer octets Eos (record {
       text = text;
@@ -121,7 +121,7 @@ ended octets text s at e =
       spelled = at.read ∙ ap (λ p. codes text ++ (p ++ at.rest)) (ap path_of e ∙ path_end);
     })
 
-pub neither : (octets text : List ℕ) (s : ℕ) → Stands (bits octets) text s → 8 ≤ s → s < 256 → huffman_text octets ≡ Padding
+pub neither : (octets text : List ℕ) (s : ℕ) → Represents (bits octets) text s → 8 ≤ s → s < 256 → huffman_text octets ≡ Padding
 neither octets text s at large small =
     let none : at.rest ≡ [] = at.ended small in
     let read : bits octets ≡ codes text ++ path_of s = at.read ∙ ap (λ r. codes text ++ (path_of s ++ r)) none ∙ ap (λ p. codes text ++ p) (append-nil (path_of s)) in

@@ -5,7 +5,7 @@ use Rattle.h2_prim.specs.declared.fault.HuffFault.TheVariants as fault
 use Rattle.h2_spec.specs.HuffmanCode.{code}
 use Rattle.h2_spec.specs.Huffman.{HuffRead, Text, Eos, Padding, IsText, codes}
 
--- where each state stands: within the code of a symbol, behind so many bits of it; first the states of no ones to seven
+-- where each state is: within the code of a symbol, behind so many bits of it; first the states of no ones to seven
 -- ones, and last that of the whole code of the end of a string
 unfoldable pub places : List (ℕ × ℕ)
 places =
@@ -42,7 +42,7 @@ unfoldable pub path_of : ℕ → List Bool
 path_of s = let place = slice_index_or places s (0, 0) in take place.1 (code place.0)
 
 -- bits are the codes of a text and then a state's; any bits may follow the end of a string
-pub record Stands (bs : List Bool) (text : List ℕ) (state : ℕ) : Type 0 where
+pub record Represents (bs : List Bool) (text : List ℕ) (state : ℕ) : Type 0 where
   pub octets : IsText text
   pub rest : List Bool
   pub ended : state < 256 → rest ≡ []
@@ -58,7 +58,7 @@ emitted symbol = if nat_lt symbol 256 then [] else symbol % 256 ∷ []
 
 -- what a move says: the state's bits, those that followed the end of a string, and four more lead to the next state
 abbrev pub Leads : ℕ → List Bool → ℕ → ℕ → Type 0
-Leads state nibble symbol next = (rest : List Bool) → (state < 256 → rest ≡ []) → Stands (path_of state ++ (rest ++ nibble)) (emitted symbol) next
+Leads state nibble symbol next = (rest : List Bool) → (state < 256 → rest ≡ []) → Represents (path_of state ++ (rest ++ nibble)) (emitted symbol) next
 
 -- what a string is refused for, if it is, says what it is
 abbrev pub Prints : HuffRead → List ℕ → Option HuffFault → Type 0

@@ -7,7 +7,7 @@ ghost use Rattle.std.specs.Prelude.{◌≡◌, ℕ, ◌+◌, ◌*◌, ◌/◌, �
 ghost use Rattle.std.specs.Vec.{vec_len, vec_capacity};
 ghost use Rattle.h2_spec.specs.HuffmanCode.{bits_of, code};
 ghost use Rattle.h2_spec.specs.Huffman.{bits, huffman_text, spell_huffman, Text, Eos, Padding};
-ghost use Rattle.h2_prim.specs.States.{IsRow, Leads, Stands, Prints};
+ghost use Rattle.h2_prim.specs.States.{IsRow, Leads, Represents, Prints};
 ghost use Rattle.h2_prim.specs.Written.{Written};
 ghost use Rattle.h2_prim.specs.declared.fault.HuffFault.TheVariants as fault;
 
@@ -97,7 +97,7 @@ fn code_of(octet: u8) -> (u32, u8)
     (CODES[usize::from(octet)], LENGTHS[usize::from(octet)])
 }
 
-/// Room for the text of this many octets: a code has 5 bits or more, so 8/5 of them are enough, and 13/8 are found with no
+/// Space for the text of this many octets: a code has 5 bits or more, so 8/5 of them are enough, and 13/8 are found with no
 /// division.
 fn room_for(octets: usize) -> usize
     requires { octets < 2 ^ 63 }
@@ -122,10 +122,10 @@ fn move_at(row: usize, nibble: u8) -> (usize, u16)
 /// Takes four bits: writes the octet that they may make whole at `len`, and returns the text's length and the row behind
 /// them.
 fn step(text: &mut [u8], len: usize, row: usize, nibble: u8) -> (usize, usize)
-    requires room { len < length text.now }
+    requires enough { len < length text.now }
     requires row { IsRow row }
     requires nibble { nibble < 16 }
-    ensures read { (bs : List Bool) → Stands bs (take len text.old) (row / 16) → Stands (bs ++ bits_of 4 nibble) (take result.0 text.new) (result.1 / 16) }
+    ensures read { (bs : List Bool) → Represents bs (take len text.old) (row / 16) → Represents (bs ++ bits_of 4 nibble) (take result.0 text.new) (result.1 / 16) }
     ensures within { result.0 ≤ length text.new }
     ensures row { IsRow result.1 }
 {
@@ -134,12 +134,12 @@ fn step(text: &mut [u8], len: usize, row: usize, nibble: u8) -> (usize, usize)
     (len + usize::from(symbol / 256), next)
 }
 
-/// Takes an octet that ends no later than the octets that `text` has room for, as `step` takes four bits.
+/// Takes an octet that ends no later than the octets that `text` has space for, as `step` takes four bits.
 fn take_octet(text: &mut [u8], len: usize, row: usize, octet: u8) -> (usize, usize)
-    requires room { (bs : List Bool) × Stands bs (take len text.now) (row / 16) × (length bs + 8 ≤ 5 * length text.now) }
+    requires enough { (bs : List Bool) × Represents bs (take len text.now) (row / 16) × (length bs + 8 ≤ 5 * length text.now) }
     requires within { len ≤ length text.now }
     requires row { IsRow row }
-    ensures read { (bs : List Bool) → Stands bs (take len text.old) (row / 16) → Stands (bs ++ bits_of 8 octet) (take result.0 text.new) (result.1 / 16) }
+    ensures read { (bs : List Bool) → Represents bs (take len text.old) (row / 16) → Represents (bs ++ bits_of 8 octet) (take result.0 text.new) (result.1 / 16) }
     ensures within { result.0 ≤ length text.new }
     ensures row { IsRow result.1 }
 {
@@ -151,7 +151,7 @@ fn take_octet(text: &mut [u8], len: usize, row: usize, octet: u8) -> (usize, usi
 /// taken at a turn, and the last of an odd number by itself.
 fn decode(octets: &[u8], text: &mut [u8]) -> (usize, usize)
     requires { 8 * length octets.now ≤ 5 * length text.now }
-    ensures read { Stands (bits octets.now) (take result.0 text.new) result.1 }
+    ensures read { Represents (bits octets.now) (take result.0 text.new) result.1 }
     ensures small { (result.0 ≤ length text.new) × (result.1 ≤ 256) }
 {
     let mut len = 0;
@@ -171,7 +171,7 @@ fn decode(octets: &[u8], text: &mut [u8]) -> (usize, usize)
 
 /// The state behind the octets, with no text written.
 fn state_after(octets: &[u8]) -> usize
-    ensures read { (text : List ℕ) × Stands (bits octets.now) text result }
+    ensures read { (text : List ℕ) × Represents (bits octets.now) text result }
     ensures small { result ≤ 256 }
 {
     let mut row = 0;
@@ -186,7 +186,7 @@ fn state_after(octets: &[u8]) -> usize
 /// 256 is that of the whole end of a string.
 fn fault_at(state: usize) -> Option<HuffFault>
     requires { state ≤ 256 }
-    ensures { (octets text : List ℕ) → Stands (bits octets) text state → Prints (huffman_text octets) text result }
+    ensures { (octets text : List ℕ) → Represents (bits octets) text state → Prints (huffman_text octets) text result }
 {
     match state {
         0..=7 => None,
@@ -195,7 +195,7 @@ fn fault_at(state: usize) -> Option<HuffFault>
     }
 }
 
-/// Appends the codes of the text's octets, and then ones up to a whole octet; there is room for them.
+/// Appends the codes of the text's octets, and then ones up to a whole octet; there is space for them.
 fn write_codes<A: Allocator>(text: &[u8], out: &mut Vec<u8, A>)
     requires { vec_len out.old + length (spell_huffman text.now) ≤ vec_capacity out.old }
     ensures { out.new.items ≡ out.old.items ++ spell_huffman text.now }
@@ -226,12 +226,12 @@ fn power(bits: u8) -> u64
     1 << bits
 }
 
-/// Appends the whole octets of a number of `count` bits, for which there is room; returns what is left, and how many
+/// Appends the whole octets of a number of `count` bits, for which there is space; returns what is left, and how many
 /// bits it has.
 fn flush<A: Allocator>(out: &mut Vec<u8, A>, number: u64, count: u8) -> (u64, u8)
     requires few { count ≤ 40 }
     requires small { number < 2 ^ count }
-    requires room { 8 * vec_len out.old + count ≤ 8 * vec_capacity out.old }
+    requires enough { 8 * vec_len out.old + count ≤ 8 * vec_capacity out.old }
     ensures few { result.1 < 8 }
     ensures small { result.0 < 2 ^ result.1 }
     ensures written { (before : List ℕ) (bs : List Bool) → Written before out.old.items count number bs → Written before out.new.items result.1 result.0 bs }

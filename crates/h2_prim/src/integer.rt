@@ -102,10 +102,10 @@ fn read_groups(octets: &[u8]) -> IntRead
     }
 }
 
-/// Appends the groups of seven bits of `value`, the lowest first; there is room for five.
+/// Appends the groups of seven bits of `value`, the lowest first; there is space for five.
 fn write_groups<A: Allocator>(value: u64, out: &mut Vec<u8, A>)
     requires value { value < 2 ^ 35 }
-    requires room { vec_len out.old + 5 ≤ vec_capacity out.old }
+    requires enough { vec_len out.old + 5 ≤ vec_capacity out.old }
     ensures { out.new.items ≡ out.old.items ++ groups_of 5 value }
 {
     let mut value = value;

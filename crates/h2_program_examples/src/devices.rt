@@ -14,7 +14,7 @@ use std::test::Fail;
 struct Broken;
 
 impl Read for Broken {
-    fn read(&mut self, _room: &mut [u8]) -> io::Result<usize> {
+    fn read(&mut self, _buffer: &mut [u8]) -> io::Result<usize> {
         Err(io::Error::from(ErrorKind::Interrupted))
     }
 }
@@ -68,20 +68,20 @@ fn writers_fail(rt: HostRuntime) -> Result<(), Fail> {
 #[derive(Drop)]
 struct Narrow {
     taken: Vec<u8>,
-    room: usize,
+    limit: usize,
 }
 
 impl Write for Narrow {
     fn write(&mut self, text: &[u8]) -> io::Result<usize> {
-        let count = if text.len() < self.room {
+        let count = if text.len() < self.limit {
             text.len()
         } else {
-            self.room
+            self.limit
         };
         if count == 0 || self.taken.extend_from_slice(&text[..count]).is_err() {
             return Err(io::Error::from(ErrorKind::BrokenPipe));
         }
-        self.room -= count;
+        self.limit -= count;
         Ok(count)
     }
 
@@ -107,17 +107,17 @@ fn pings(alloc: Global) -> Result<Vec<u8>, AllocError> {
     filled(alloc, ping, &[(PREFACE, 0), (SETTINGS, 400)])
 }
 
-/// Compares the exit status, and what a writer with this room takes of the whole.
-fn compare_room(rt: &impl Abort, alloc: Global, input: &[u8], whole: &[u8], room: usize) {
+/// Compares the exit status, and what a writer that takes so much keeps of the whole.
+fn compare_limit(rt: &impl Abort, alloc: Global, input: &[u8], whole: &[u8], limit: usize) {
     let mut narrow = Narrow {
         taken: Vec::new(alloc),
-        room,
+        limit,
     };
     let status = narrowed(alloc, input, &mut narrow);
     let taken = narrow.taken.as_slice();
-    let wanted = if room == whole.len() { 0 } else { 3 };
-    same(rt, &(status, taken.len()), &(Ok(wanted), room), &room);
-    same(rt, &whole.starts_with(taken), &true, &room);
+    let wanted = if limit == whole.len() { 0 } else { 3 };
+    same(rt, &(status, taken.len()), &(Ok(wanted), limit), &limit);
+    same(rt, &whole.starts_with(taken), &true, &limit);
 }
 
 #[test]
@@ -127,8 +127,8 @@ fn places_are_written_until_a_write_fails(rt: HostRuntime) -> Result<(), Fail> {
     let whole = ran.1.as_slice();
     let length = whole.len();
     assert!(rt; length > 65536, "it takes two writes at least");
-    for room in [0, 1, 1000, 40000, 65536, length - 1, length] {
-        compare_room(&rt, rt.alloc(), input.as_slice(), whole, room);
+    for limit in [0, 1, 1000, 40000, 65536, length - 1, length] {
+        compare_limit(&rt, rt.alloc(), input.as_slice(), whole, limit);
     }
     Ok(())
 }

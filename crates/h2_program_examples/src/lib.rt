@@ -20,6 +20,8 @@ mod digits;
 #[cfg(test)]
 mod early;
 #[cfg(test)]
+mod explanations;
+#[cfg(test)]
 mod faults;
 #[cfg(test)]
 mod flow;

@@ -4,7 +4,8 @@
 use crate::digits::digits_of;
 use crate::same::same;
 use crate::{
-    blocks, early, faults, flow, items, local_settings, opening, order, requests, sessions, tables,
+    blocks, early, explanations, faults, flow, items, local_settings, opening, order, requests,
+    sessions, tables,
 };
 use h2_bench::{Words, run};
 use h2_script::assemble;
@@ -327,9 +328,10 @@ fn exchanges_are_under_the_settings_of_the_server(rt: HostRuntime) -> Result<(),
 
 #[test]
 fn runs_print_what_the_tables_say(rt: HostRuntime) {
-    let tables: [&[Run]; 5] = [
+    let tables: [&[Run]; 6] = [
         &order::ABOVE_THE_LIMIT,
         &items::EACH,
+        &explanations::EXPLANATIONS,
         &faults::REFUSED,
         &tables::LINES,
         &sessions::SESSIONS,

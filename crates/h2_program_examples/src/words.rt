@@ -3,7 +3,7 @@
 use crate::program::status_of;
 use crate::same::same;
 
-static REFUSED: [&[&str]; 18] = [
+static REFUSED: [&[&str]; 19] = [
     &[],
     &["help"],
     &["--help"],
@@ -22,6 +22,7 @@ static REFUSED: [&[&str]; 18] = [
     &["serve", "8080"],
     &["debug", "--each"],
     &["asm", "--book", "b.toml"],
+    &["explain", "--each"],
 ];
 
 #[test]

@@ -1,5 +1,4 @@
 pub mod BlockLaws
 pub mod BookLaws
-pub mod KnownNames
-pub mod OctetTables
+pub mod MarkedFields
 pub mod Seen

@@ -3,8 +3,7 @@ pub mod BlockLength
 pub mod Fault
 pub mod Fields
 pub mod Lent
-pub mod Mark
-pub mod Octets
+pub mod Marked
 pub mod ReasonNumber
 pub mod Seen
 pub mod Walk

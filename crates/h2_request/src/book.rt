@@ -1,5 +1,5 @@
 //! The book of answers: its entries in order, what it refuses, and the answer that a request picks. It rests on
-//! `h2_fields` and `octets`; the definitions are `entry_fault` of `h2_spec`, specs/Book.antt, and `pick_of` and
+//! `h2_fields` and the tests of `h2_mark`; the definitions are `entry_fault` of `h2_spec`, specs/Book.antt, and `pick_of` and
 //! `picked` of specs/Answer.antt.
 
 ghost use Rattle.std.specs.Prelude.{None, ◌≡◌, ◌≤◌, ◌==◌, ◌&&◌, ◌||◌, [], ◌∷◌, ◌++◌, OnOk, OnErr, IfOk, IfErr, option_map, codes, length, nat_lt, position, bytes_eq, take};
@@ -14,11 +14,11 @@ ghost use Rattle.h2_spec.specs.declared.streams.Pick.TheVariants.{Listed};
 
 use crate::block_length::is_block_too_long;
 use crate::fault::{BookFault, EntryFault};
-use crate::octets;
 use crate::well_formed::Request;
 use h2_fields::field::Field;
 use h2_fields::octets::Octets;
 use h2_fields::response::response_block;
+use h2_mark::octets;
 pub use h2_spec::streams::Pick;
 use std::alloc::Allocator;
 use std::marker::Model;

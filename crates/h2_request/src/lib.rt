@@ -1,16 +1,13 @@
 //! Requests and the book of answers: which fields make a request or trailers (RFC 9113, 8.1 to 8.5), and what is
 //! answered.
-//! It rests on `h2_fields` (fields, response blocks) and the definitions of `h2_spec`: Request, Answer, Book and
+//! It rests on `h2_fields` (fields, response blocks), the marks of `h2_mark`, and the definitions of `h2_spec`: Request, Answer, Book and
 //! AnswerWords.
 #![tactic(auto)]
 
 mod block_length;
 pub mod book;
-mod classes;
 pub mod fault;
 pub mod fields;
-mod mark;
-mod octets;
 pub mod reason;
 mod walk;
 pub mod well_formed;

@@ -1,18 +1,17 @@
 //! What one walk over a list of fields notes: marks of fields alone, the pseudo-fields, and the content-length.
-//! It uses `mark`; how a field more changes each is `marked`, `noted` and `measured` of specs/Walk.antt, and by the
-//! field's mark `marked_by`, `noted_by` and `measured_by` of specs/Mark.antt. That they then say what the definitions
+//! It uses the marks of `h2_mark`; how a field more changes each is `marked`, `noted` and `measured` of specs/Walk.antt,
+//! and by the field's mark `marked_by`, `noted_by` and `measured_by` of specs/Marked.antt. That they then say what the definitions
 //! test of the whole list is proved in proofs/Seen.antt.
 
 ghost use Rattle.std.specs.Prelude.{◌≡◌, ◌||◌, false, Some, is_some, unwrap_or};
 ghost use Rattle.std.specs.Option.{option_copied};
 ghost use Rattle.h2_request.specs.Fields.{fields_in};
-ghost use Rattle.h2_request.specs.Mark.{marked_by, noted_by, measured_by, counted};
+ghost use Rattle.h2_request.specs.Marked.{marked_by, noted_by, measured_by, counted};
 ghost use Rattle.h2_request.specs.Walk.{pseudo_of};
 ghost use Rattle.h2_request.specs.Seen.{AreSeen};
 
 use crate::fields::Fields;
-use crate::mark::{KnownName, Mark};
-use crate::octets;
+use h2_mark::{FieldMark, KnownName, octets};
 use std::alloc::Allocator;
 
 /// Which tests of a field alone some field has passed.
@@ -40,7 +39,7 @@ impl Marks {
     }
 
     /// With the mark of one field more.
-    pub fn with(self, mark: Mark) -> Self
+    pub fn with(self, mark: FieldMark) -> Self
         ensures { result ≡ marked_by self mark }
     {
         Marks {
@@ -181,11 +180,10 @@ impl<'a> Seen<'a> {
         let mut pseudo = PseudoFields::none(fields);
         let mut length = ContentLength::none();
         for place in 0..count {
-            if let Some((name, value)) = fields.get(place) {
-                let mark = Mark::of(name, value);
-                marks = marks.with(mark);
-                pseudo.note(mark.known, value);
-                length = length.with(mark.known, value);
+            if let Some(found) = fields.get(place) {
+                marks = marks.with(found.mark);
+                pseudo.note(found.mark.known, found.value);
+                length = length.with(found.mark.known, found.value);
             }
         }
         Seen {

@@ -12,10 +12,10 @@ ghost use Rattle.h2_request.specs.Seen.{seen_reason, seen_trailers_reason, is_la
 ghost use Rattle.h2_request.specs.Walk.{pseudo_of};
 
 use crate::fields::Fields;
-use crate::octets;
 use crate::reason::{Malformed, Reason};
 use crate::walk::{Marks, PseudoFields, Seen};
 use h2_fields::field::Field;
+use h2_mark::octets;
 use std::alloc::Allocator;
 
 /// What well-formed fields ask for; method and path are lent by the fields.

@@ -1,5 +1,6 @@
 -- The stream of an open block, and what becomes of it at the block's end.
-use Rattle.std.proofs.Common.{◌≡◌, ℕ, ◌%◌, ◌<◌, ◌≤◌, Bool, true, false, cond, eqb, ltb, length, List, Option, Some, None, is_some, max, nat_lt, refl, ap, ◌∙◌, arith}
+use Rattle.std.proofs.Common.{◌≡◌, ℕ, ◌%◌, ◌<◌, ◌≤◌, Bool, true, false, cond, eqb, ltb, length, List, Option, Some, None, max, nat_lt, refl, ap, ◌∙◌, arith}
+use Rattle.std.specs.Option.{option_map}
 use Rattle.h2_spec.specs.declared.connection.Config.{Config}
 use Rattle.h2_spec.specs.declared.connection.ConnectionState.{ConnectionState}
 use Rattle.h2_spec.specs.declared.reactions.BlockSummary.{BlockSummary}
@@ -10,7 +11,7 @@ use Rattle.h2_spec.specs.Answer.{Entry, picked}
 use Rattle.h2_spec.specs.Block.{list_size}
 use Rattle.h2_spec.specs.Field.{Field}
 use Rattle.h2_spec.specs.Headers.{max_list, request_summary, request_outcome}
-use Rattle.h2_spec.specs.Request.{malformed}
+use Rattle.h2_spec.specs.Request.{malformed, request_cause, request_fault}
 use Rattle.h2_spec.specs.Stream.{Records, is_live, is_peer_open, kind_of, not_live, record_of, recorded, stream_at}
 use Rattle.h2_streams.specs.Put.{CanPut, can_become}
 use Rattle.h2_rules.proofs.RequestOutcomeLaws.{large-turn, malformed-turn}
@@ -49,7 +50,7 @@ opening-put r id st above odd same = ((λ over. ap (λ n. n % 2) same ∙ odd, �
 -- facts that agree with those of the fields as far as these are looked at do the same: a list that is too large is
 -- refused whatever its fields are
 pub same-opening : (book : List Entry) (config : Config) (live : ℕ) (core : ConnectionState) (id : ℕ) (ends : Bool) (fields : List Field) (f : BlockSummary) →
-    f.size ≡ list_size fields → (nat_lt max_list f.size ≡ false → f.malformed ≡ is_some (malformed fields)) → (nat_lt max_list f.size ≡ false → malformed fields ≡ None → f ≡ request_summary book fields) →
+    f.size ≡ list_size fields → (nat_lt max_list f.size ≡ false → f.malformed ≡ request_fault fields) → (nat_lt max_list f.size ≡ false → malformed fields ≡ None → f ≡ request_summary book fields) →
     request_outcome config live (length (picked book f.pick).body) (picked book f.pick).early core id ends f ≡ (let g = request_summary book fields in request_outcome config live (length (picked book g.pick).body) (picked book g.pick).early core id ends g)
 same-opening book config live core id ends fields f size bad well = by_size (nat_lt max_list f.size) refl
   where
@@ -60,7 +61,7 @@ same-opening book config live core id ends fields f size bad well = by_size (nat
     at small None e = ap (λ (g : BlockSummary). request_outcome config live (length (picked book g.pick).body) (picked book g.pick).early core id ends g) (well small e)
     at small (Some k) e =
         let g = request_summary book fields in
-        malformed-turn config live (length (picked book f.pick).body) (length (picked book g.pick).body) (picked book f.pick).early (picked book g.pick).early core id ends f g size (bad small ∙ ap is_some e) (ap is_some e)
+        malformed-turn config live (length (picked book f.pick).body) (length (picked book g.pick).body) (picked book f.pick).early (picked book g.pick).early core id ends f g (request_cause k) size (bad small ∙ ap (option_map request_cause) e) (ap (option_map request_cause) e)
 
     by_size : (large : Bool) → nat_lt max_list f.size ≡ large → Same
     by_size true e =

@@ -1,5 +1,6 @@
 -- What decides about the stream that a request opens.
-use Rattle.std.proofs.Common.{◌≡◌, ℕ, Bool, true, false, nat_lt, refl, sym, ap, ◌∙◌}
+use Rattle.std.proofs.Common.{◌≡◌, ℕ, Bool, true, false, Option, Some, nat_lt, refl, sym, ap, ◌∙◌}
+use Rattle.h2_spec.specs.declared.causes.Cause.{Cause}
 use Rattle.h2_spec.specs.declared.connection.Config.{Config}
 use Rattle.h2_spec.specs.declared.connection.ConnectionState.{ConnectionState}
 use Rattle.h2_spec.specs.declared.reactions.BlockSummary.{BlockSummary}
@@ -7,10 +8,10 @@ use Rattle.h2_spec.specs.declared.streams.Stream.{Stream}
 use Rattle.h2_spec.specs.Headers.{max_list, request_outcome, trailers_outcome}
 
 -- of malformed fields only the size of their list is looked at, and nothing of the answer
-pub malformed-turn : (config : Config) (live body body' : ℕ) (early early' : Bool) (core : ConnectionState) (id : ℕ) (ends : Bool) (f f' : BlockSummary) → f.size ≡ f'.size → f.malformed ≡ true → f'.malformed ≡ true →
+pub malformed-turn : (config : Config) (live body body' : ℕ) (early early' : Bool) (core : ConnectionState) (id : ℕ) (ends : Bool) (f f' : BlockSummary) (cause : Cause) → f.size ≡ f'.size → f.malformed ≡ Some cause → f'.malformed ≡ Some cause →
     request_outcome config live body early core id ends f ≡ request_outcome config live body' early' core id ends f'
 unfolding request_outcome
-malformed-turn config live body body' early early' core id ends f f' size bad bad' = rw (size, bad, bad') refl
+malformed-turn config live body body' early early' core id ends f f' cause size bad bad' = rw (size, bad, bad') refl
 
 -- of a list that is too large only the size is looked at, and nothing of its fields or the answer
 pub large-turn : (config : Config) (live body body' : ℕ) (early early' : Bool) (core : ConnectionState) (id : ℕ) (ends : Bool) (f f' : BlockSummary) → f.size ≡ f'.size → nat_lt max_list f.size ≡ true →
@@ -19,7 +20,7 @@ unfolding request_outcome
 large-turn config live body body' early early' core id ends f f' size large = rw (large, sym (ap (λ n. nat_lt max_list n) size) ∙ large) refl
 
 -- so it is of trailers
-pub trailers-turn : (size : ℕ) (bad bad' : Bool) (body : ℕ) (pending ends : Bool) (st : Stream) → (nat_lt max_list size ≡ false → bad ≡ bad') →
+pub trailers-turn : (size : ℕ) (bad bad' : Option Cause) (body : ℕ) (pending ends : Bool) (st : Stream) → (nat_lt max_list size ≡ false → bad ≡ bad') →
     trailers_outcome size bad body pending ends st ≡ trailers_outcome size bad' body pending ends st
 unfolding trailers_outcome
 trailers-turn size bad bad' body pending ends st same = by_size (nat_lt max_list size) refl

@@ -4,8 +4,8 @@ use Rattle.std.specs.Prelude.{slice_get, nat_le, ◌&&◌, ◌==◌}
 use Rattle.std.proofs.lemmas.Bool.{cond_both, false≢true}
 use Rattle.std.proofs.lemmas.List.{drop_more}
 use Rattle.std.proofs.lemmas.Option.{get_or_from_slice_get, slice_get_within}
-use Rattle.h2_spec.specs.declared.errors.ErrorCode.{ErrorCode}
-use Rattle.h2_spec.specs.declared.errors.ErrorCode.TheVariants.{FlowControlError}
+use Rattle.h2_spec.specs.declared.causes.Cause.{Cause}
+use Rattle.h2_spec.specs.declared.causes.Cause.TheVariants.{InitialWindowSizeOverflow}
 use Rattle.h2_spec.specs.declared.flow.Settings.{Settings}
 use Rattle.h2_spec.specs.declared.streams.Stream.{Stream}
 use Rattle.h2_spec.specs.Settings.{with_setting}
@@ -21,12 +21,12 @@ use Rattle.h2_rules.specs.Sound.{IsSoundConnectionState, IsSoundState, IsSoundRe
 use Rattle.h2_rules.proofs.SoundLaws.{still}
 
 abbrev Applied : Type 0
-Applied = Result Settings ErrorCode
+Applied = Result Settings Cause
 
 ok_same : (x y : Settings) → (let r : Applied = Ok x in r ≡ Ok y) → x ≡ y
 ok_same x y e = cc
 
-ok_not_err : (x : Settings) (y : ErrorCode) → (let r : Applied = Ok x in r ≡ Err y) → ⊥
+ok_not_err : (x : Settings) (y : Cause) → (let r : Applied = Ok x in r ≡ Err y) → ⊥
 ok_not_err x y e = cc
 
 -- what is applied first decides how it goes on
@@ -35,28 +35,28 @@ pub applied-ok : (streams : List Stream) (from now next : Settings) (id value : 
 unfolding settings_applied one_setting
 applied-ok streams from now next id value ps e = at (with_setting now id value) e
   where
-    moved : (t : Settings) (b : Bool) → cond b (Err FlowControlError) (Ok t) ≡ Ok next → cond b (Err FlowControlError) (settings_applied streams from t ps) ≡ settings_applied streams from next ps
-    moved t true h = absurd (ok_not_err next FlowControlError (sym h))
+    moved : (t : Settings) (b : Bool) → cond b (Err InitialWindowSizeOverflow) (Ok t) ≡ Ok next → cond b (Err InitialWindowSizeOverflow) (settings_applied streams from t ps) ≡ settings_applied streams from next ps
+    moved t true h = absurd (ok_not_err next InitialWindowSizeOverflow (sym h))
     moved t false h = ap (λ x. settings_applied streams from x ps) (ok_same t next h)
 
-    at : (r : Result Settings ErrorCode) → setting_next streams from r (λ x. Ok x) ≡ Ok next → setting_next streams from r (λ x. settings_applied streams from x ps) ≡ settings_applied streams from next ps
+    at : (r : Result Settings Cause) → setting_next streams from r (λ x. Ok x) ≡ Ok next → setting_next streams from r (λ x. settings_applied streams from x ps) ≡ settings_applied streams from next ps
     at (Err code) h = absurd (ok_not_err next code (sym h))
     at (Ok t) h = moved t (overflows (moved_by from.window t.window) streams) h
 
-pub applied-err : (streams : List Stream) (from now : Settings) (code : ErrorCode) (id value : ℕ) (ps : List (ℕ × ℕ)) → one_setting streams from now id value ≡ Err code →
+pub applied-err : (streams : List Stream) (from now : Settings) (code : Cause) (id value : ℕ) (ps : List (ℕ × ℕ)) → one_setting streams from now id value ≡ Err code →
     settings_applied streams from now ((id, value) ∷ ps) ≡ Err code
 unfolding settings_applied one_setting
 applied-err streams from now code id value ps e = at (with_setting now id value) e
   where
-    moved : (t : Settings) (b : Bool) → cond b (Err FlowControlError) (Ok t) ≡ Err code → cond b (Err FlowControlError) (settings_applied streams from t ps) ≡ Err code
+    moved : (t : Settings) (b : Bool) → cond b (Err InitialWindowSizeOverflow) (Ok t) ≡ Err code → cond b (Err InitialWindowSizeOverflow) (settings_applied streams from t ps) ≡ Err code
     moved t true h = h
     moved t false h = absurd (ok_not_err t code h)
 
-    at : (r : Result Settings ErrorCode) → setting_next streams from r (λ x. Ok x) ≡ Err code → setting_next streams from r (λ x. settings_applied streams from x ps) ≡ Err code
+    at : (r : Result Settings Cause) → setting_next streams from r (λ x. Ok x) ≡ Err code → setting_next streams from r (λ x. settings_applied streams from x ps) ≡ Err code
     at (Err c) h = h
     at (Ok t) h = moved t (overflows (moved_by from.window t.window) streams) h
 
--- what stands at a place, and then what is behind it
+-- what is at a place, and then what is behind it
 pub drop-at : (n : ℕ) (ps : List (ℕ × ℕ)) (p : ℕ × ℕ) → slice_get ps n ≡ Some p → drop n ps ≡ p ∷ drop (n + 1) ps
 drop-at n ps p e = drop_more ps n (0, 0) (slice_get_within ps n p e) ∙ ap (λ q. q ∷ drop (n + 1) ps) (get_or_from_slice_get ps n p (0, 0) e)
 
@@ -76,12 +76,12 @@ applied-fits streams from now peer (p ∷ ps) fits e = at (λ t g h. applied-fit
     More : Type 0
     More = (t : Settings) → overflows (moved_by from.window t.window) streams ≡ false → settings_applied streams from t ps ≡ Ok peer → overflows (moved_by from.window peer.window) streams ≡ false
 
-    moved : More → (t : Settings) (b : Bool) → overflows (moved_by from.window t.window) streams ≡ b → cond b (Err FlowControlError) (settings_applied streams from t ps) ≡ Ok peer →
+    moved : More → (t : Settings) (b : Bool) → overflows (moved_by from.window t.window) streams ≡ b → cond b (Err InitialWindowSizeOverflow) (settings_applied streams from t ps) ≡ Ok peer →
         overflows (moved_by from.window peer.window) streams ≡ false
-    moved more t true g h = absurd (ok_not_err peer FlowControlError (sym h))
+    moved more t true g h = absurd (ok_not_err peer InitialWindowSizeOverflow (sym h))
     moved more t false g h = more t g h
 
-    at : More → (r : Result Settings ErrorCode) → setting_next streams from r (λ x. settings_applied streams from x ps) ≡ Ok peer → overflows (moved_by from.window peer.window) streams ≡ false
+    at : More → (r : Result Settings Cause) → setting_next streams from r (λ x. settings_applied streams from x ps) ≡ Ok peer → overflows (moved_by from.window peer.window) streams ≡ false
     at more (Err code) h = absurd (ok_not_err peer code (sym h))
     at more (Ok t) h = moved more t (overflows (moved_by from.window t.window) streams) refl h
 
@@ -119,8 +119,8 @@ applied-fit streams from now peer (p ∷ ps) fit e = at (λ t g h. applied-fit s
     More : Type 0
     More = (t : Settings) → IsFit t → settings_applied streams from t ps ≡ Ok peer → IsFit peer
 
-    moved : More → (t : Settings) (b : Bool) → IsFit t → cond b (Err FlowControlError) (settings_applied streams from t ps) ≡ Ok peer → IsFit peer
-    moved more t true g h = absurd (ok_not_err peer FlowControlError (sym h))
+    moved : More → (t : Settings) (b : Bool) → IsFit t → cond b (Err InitialWindowSizeOverflow) (settings_applied streams from t ps) ≡ Ok peer → IsFit peer
+    moved more t true g h = absurd (ok_not_err peer InitialWindowSizeOverflow (sym h))
     moved more t false g h = more t g h
 
     at : More → (r : Applied) → Fits r → setting_next streams from r (λ x. settings_applied streams from x ps) ≡ Ok peer → IsFit peer

@@ -25,7 +25,7 @@ IsCredit recv owed = (recv +ℤ pos owed) ≤ℤ pos 2147483647
 abbrev pub IsWindow : ℤ → Type 0
 IsWindow w = negsuc 2147483647 ≤ℤ w
 
--- settings of the server that windows and lengths of frames have room for
+-- settings of the server that windows and lengths of frames can hold
 abbrev pub AreInRange : LocalSettings → Type 0
 AreInRange own = (own.window ≤ 2147483647) × (own.frame < 2 ^ 24)
 

@@ -1,19 +1,21 @@
 //! What a field block results in at its end (RFC 9113, 4.3, 5.1 and 8.1).
 //! Rests on `headers` and on h2_request; definition: `block_ends` of h2_spec's `specs/Headers.antt`.
 
-ghost use Rattle.std.specs.Prelude.{◌≡◌, true, false, length, nat_lt, is_some, Option, None};
+ghost use Rattle.std.specs.Prelude.{◌≡◌, true, false, length, nat_lt, Option, None, Some};
 ghost use Rattle.h2_spec.specs.declared.connection.Config.{Config};
 ghost use Rattle.h2_spec.specs.declared.connection.Purpose.TheVariants.{Closed, Request, Trailers};
-ghost use Rattle.h2_spec.specs.declared.errors.ErrorCode.TheVariants.{StreamClosed};
+ghost use Rattle.h2_spec.specs.declared.causes.Cause.{Cause};
+ghost use Rattle.h2_spec.specs.declared.causes.Cause.TheVariants.{HeadersAfterEndStream};
 ghost use Rattle.h2_spec.specs.declared.streams.Pick.TheVariants.{NotFound};
 ghost use Rattle.h2_spec.specs.Answer.{picked};
 ghost use Rattle.h2_spec.specs.Block.{list_size};
 ghost use Rattle.h2_spec.specs.Change as changes;
 ghost use Rattle.h2_spec.specs.DynamicTable.{Table};
 ghost use Rattle.h2_spec.specs.Headers as rule;
-ghost use Rattle.h2_spec.specs.Request.{malformed, malformed_trailers};
+ghost use Rattle.h2_spec.specs.Request.{malformed, request_fault, trailers_fault, request_cause, trailers_cause};
 ghost use Rattle.h2_spec.specs.State.{OpenBlock};
 ghost use Rattle.h2_request.specs.Lent.{IsPickOf};
+ghost use Rattle.h2_request.specs.ReasonNumber.{reason_number};
 ghost use Rattle.h2_rules.specs.Open.{IsOpenAt, state_of};
 ghost use Rattle.h2_rules.specs.Sound.{HasBody, IsSoundChange, IsSoundConnectionState, IsSoundState, IsSoundStream, in_force, is_recorded};
 
@@ -22,9 +24,10 @@ use crate::headers::{is_too_large, request_outcome, trailers_outcome};
 use h2_fields::collected::Collected;
 use h2_request::book::Book;
 use h2_request::fields::Fields;
+use h2_request::reason::{Malformed, Reason};
 use h2_request::well_formed::{check_fields, check_trailer_fields};
+use h2_spec::causes::Cause;
 use h2_spec::connection::{BlockView, Config, ConnectionState, Purpose};
-use h2_spec::errors::ErrorCode;
 use h2_spec::reactions::{BlockSummary, Change, StreamOutcome};
 use h2_spec::streams::Pick;
 use h2_streams::Streams;
@@ -35,32 +38,32 @@ use std::alloc::Allocator;
 /// one long entry many times. Of malformed fields nothing but the size is looked at. Neither declares or picks anything.
 fn request_summary<A: Allocator>(book: &Book<A>, fields: &Collected<A>) -> BlockSummary
     ensures size { result.size ≡ list_size fields.now.fields }
-    ensures malformed { nat_lt rule.max_list result.size ≡ false → result.malformed ≡ is_some (malformed fields.now.fields) }
+    ensures malformed { nat_lt rule.max_list result.size ≡ false → result.malformed ≡ request_fault fields.now.fields }
     ensures well_formed { nat_lt rule.max_list result.size ≡ false → malformed fields.now.fields ≡ None → result ≡ rule.request_summary book.now fields.now.fields }
     ensures pick { IsPickOf book.now result.pick }
 {
     let size = fields.list_size();
     if is_too_large(size) {
-        return refused_summary(size);
+        return refused_summary(size, Cause::ListTooLarge);
     }
     match check_fields(&Fields::Block(fields)) {
         Ok(request) => BlockSummary {
             size,
-            malformed: false,
+            malformed: None,
             declared: request.declared,
             pick: book.find(&request),
         },
-        Err(_) => refused_summary(size),
+        Err(Malformed(reason)) => refused_summary(size, request_cause(reason)),
     }
 }
 
 /// What the fields of a request that is refused result in: they declare nothing and pick nothing.
-fn refused_summary(size: u64) -> BlockSummary
-    ensures { result ≡ record { size = size; malformed = true; declared = None; pick = NotFound } }
+fn refused_summary(size: u64, cause: Cause) -> BlockSummary
+    ensures { result ≡ record { size = size; malformed = Some cause; declared = None; pick = NotFound } }
 {
     BlockSummary {
         size,
-        malformed: true,
+        malformed: Some(cause),
         declared: None,
         pick: Pick::NotFound,
     }
@@ -134,7 +137,7 @@ fn trailers_end<A: Allocator + Copy>(
 {
     let stream = streams.stream_at(shown.stream);
     let size = fields.list_size();
-    let malformed = are_no_trailers(size, fields);
+    let malformed = trailers_fault(size, fields);
     let body = body_length(book, stream.pick);
     let size_update_pending = core.peer.size_update_pending;
     let outcome = trailers_outcome(
@@ -148,17 +151,51 @@ fn trailers_end<A: Allocator + Copy>(
     with_outcome(only_counts(core), outcome)
 }
 
-/// Whether there is a reason against fields as trailers (RFC 9113, 8.1). The fields of a list that is too large are not
-/// looked at, since it is refused whatever they are.
-fn are_no_trailers<A: Allocator>(size: u64, fields: &Collected<A>) -> bool
-    ensures { nat_lt rule.max_list size ≡ false → result ≡ is_some (malformed_trailers fields.now.fields) }
+/// Why fields make no trailers (RFC 9113, 8.1). The fields of a list that is too large are not looked at, since it is
+/// refused whatever they are.
+fn trailers_fault<A: Allocator>(size: u64, fields: &Collected<A>) -> Option<Cause>
+    ensures { nat_lt rule.max_list size ≡ false → result ≡ trailers_fault fields.now.fields }
 {
     if is_too_large(size) {
-        return true;
+        return Some(Cause::ListTooLarge);
     }
     match check_trailer_fields(&Fields::Block(fields)) {
-        Ok(()) => false,
-        Err(_) => true,
+        Ok(()) => None,
+        Err(Malformed(reason)) => Some(trailers_cause(reason)),
+    }
+}
+
+/// The cause by a reason against a request.
+fn request_cause(reason: Reason) -> Cause
+    ensures { result ≡ request_cause (reason_number reason) }
+{
+    match reason {
+        Reason::BadName => Cause::BadName,
+        Reason::BadValue => Cause::BadValue,
+        Reason::LatePseudoField => Cause::LatePseudoField,
+        Reason::UnknownPseudoField => Cause::UnknownPseudoField,
+        Reason::DoublePseudoField => Cause::DoublePseudoField,
+        Reason::LackingPseudoField => Cause::LackingPseudoField,
+        Reason::ConnectionField => Cause::ConnectionField,
+        Reason::BadTe => Cause::BadTe,
+        Reason::BadContentLength => Cause::BadContentLength,
+    }
+}
+
+/// The cause by a reason against trailers.
+fn trailers_cause(reason: Reason) -> Cause
+    ensures { result ≡ trailers_cause (reason_number reason) }
+{
+    match reason {
+        Reason::BadName => Cause::TrailersBadName,
+        Reason::BadValue => Cause::TrailersBadValue,
+        Reason::UnknownPseudoField => Cause::TrailersPseudoField,
+        Reason::ConnectionField => Cause::TrailersConnectionField,
+        Reason::LatePseudoField
+        | Reason::DoublePseudoField
+        | Reason::LackingPseudoField
+        | Reason::BadTe
+        | Reason::BadContentLength => Cause::TrailersBadTe,
     }
 }
 
@@ -171,10 +208,14 @@ fn closed_end<A: Allocator>(
 ) -> Change
     requires sound { IsSoundState book.now core streams.now }
     requires open { IsOpenAt streams.now id Closed }
-    ensures rule { result ≡ changes.with_outcome (changes.only_counts core) (changes.stream_error core.peer.size_update_pending id StreamClosed) }
+    ensures rule { result ≡ changes.with_outcome (changes.only_counts core) (changes.stream_error core.peer.size_update_pending id HeadersAfterEndStream) }
     ensures sound { IsSoundChange book.now streams.now (in_force core) result }
 {
-    let outcome = stream_error(core.peer.size_update_pending, id, ErrorCode::StreamClosed);
+    let outcome = stream_error(
+        core.peer.size_update_pending,
+        id,
+        Cause::HeadersAfterEndStream,
+    );
     with_outcome(only_counts(core), outcome)
 }
 

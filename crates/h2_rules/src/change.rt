@@ -3,14 +3,15 @@
 
 ghost use Rattle.std.specs.Prelude.{◌≡◌, ℕ, true, List, max};
 ghost use Rattle.h2_spec.specs.Change as changes;
+ghost use Rattle.h2_spec.specs.Effect as effect;
 ghost use Rattle.h2_spec.specs.Stream.{Records};
 ghost use Rattle.h2_streams.specs.Put.{CanPut};
 ghost use Rattle.h2_spec.specs.declared.connection.ConnectionState.{ConnectionState};
 ghost use Rattle.h2_spec.specs.Answer.{Entry};
 ghost use Rattle.h2_rules.specs.Sound.{HasBody, InForce, IsCalm, IsSoundChange, IsSoundStream, in_force, is_recorded};
 
+use h2_spec::causes::Cause;
 use h2_spec::connection::ConnectionState;
-use h2_spec::errors::ErrorCode;
 use h2_spec::flow::Settings;
 use h2_spec::reactions::{Change, ConnectionFrame, RecordUpdate, StreamFrame, StreamOutcome};
 use h2_spec::streams::{Kind, Stream};
@@ -32,8 +33,8 @@ pub fn outcome_without_frame(size_update_pending: bool, stream: Stream) -> Strea
 
 /// A stream error (RFC 9113, 5.4.2): RST_STREAM with this code is sent, and the stream is one that the server has reset.
 #[tactic(auto, unfolding(h2_spec::specs::Stream::octets_waiting))]
-pub fn stream_error(size_update_pending: bool, id: u32, code: ErrorCode) -> StreamOutcome
-    ensures rule { result ≡ changes.stream_error size_update_pending id code }
+pub fn stream_error(size_update_pending: bool, id: u32, cause: Cause) -> StreamOutcome
+    ensures rule { result ≡ changes.stream_error size_update_pending id cause }
     ensures id { result.stream.id ≡ id }
     ensures sound { (f : InForce) → IsSoundStream f result.stream }
     ensures waits { (book : List Entry) → HasBody book result.stream }
@@ -41,7 +42,7 @@ pub fn stream_error(size_update_pending: bool, id: u32, code: ErrorCode) -> Stre
 {
     StreamOutcome {
         stream: not_live(id, Kind::WeReset),
-        frame: StreamFrame::Reset(id, code),
+        frame: StreamFrame::Reset(id, cause),
         answer: None,
         size_update_pending,
     }
@@ -77,5 +78,16 @@ pub fn with_outcome(change: Change, outcome: StreamOutcome) -> Change
         first: change.first,
         second: outcome.frame,
         answer: outcome.answer,
+    }
+}
+
+/// The cause of a stream error, where one is sent.
+#[inline(always)]
+pub fn stream_cause(frame: StreamFrame) -> Option<Cause>
+    ensures { result ≡ effect.stream_cause frame }
+{
+    match frame {
+        StreamFrame::Reset(_, cause) => Some(cause),
+        StreamFrame::NoStreamFrame | StreamFrame::StreamCredit(_, _) => None,
     }
 }

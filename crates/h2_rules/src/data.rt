@@ -9,9 +9,9 @@ ghost use Rattle.h2_spec.specs.Stream.{Records, is_live, stream_at};
 ghost use Rattle.h2_rules.specs.Sound.{HasBody, InForce, IsCalm, IsCredit, IsSound, IsSoundConnectionState, IsSoundStream, IsWindow, in_force, is_recorded};
 
 use crate::change::{only_counts, outcome_without_frame, stream_error, with_outcome};
-use crate::ends::{breaks_length, peer_ended};
+use crate::ends::{length_broken, peer_ended};
+use h2_spec::causes::Cause;
 use h2_spec::connection::{Config, ConnectionState};
-use h2_spec::errors::ErrorCode;
 use h2_spec::flow::{Credit, Window};
 use h2_spec::reactions::{
     Change, ConnectionFrame, Reaction, ReceivedData, StreamFrame, StreamOutcome,
@@ -118,13 +118,13 @@ fn data_outcome(
 {
     let numbers = stream.numbers;
     if exceeds(numbers.recv, incoming.octets) {
-        return stream_error(size_update_pending, stream.id, ErrorCode::FlowControlError);
+        return stream_error(size_update_pending, stream.id, Cause::StreamWindowExceeded);
     }
     let content_received = numbers
         .content_received
         .saturating_add(u64::from(incoming.content));
-    if breaks_length(numbers.declared, content_received, incoming.ends) {
-        return stream_error(size_update_pending, stream.id, ErrorCode::ProtocolError);
+    if let Some(cause) = length_broken(numbers.declared, content_received, incoming.ends) {
+        return stream_error(size_update_pending, stream.id, cause);
     }
     let after = taken(stream, incoming);
     if incoming.ends {
@@ -163,12 +163,11 @@ pub fn on_data(
     ensures sound { (book : List Entry) (r : Records) → body ≡ length (picked book stream.pick).body → HasBody book stream → stream ≡ stream_at r.last r.streams stream.id → r.last ≡ core.last → IsSound book r (in_force core) result }
 {
     match stream.kind {
-        Kind::Idle => Reaction::ConnectionError(ErrorCode::ProtocolError),
-        Kind::Skipped | Kind::Ended | Kind::PeerReset => {
-            Reaction::ConnectionError(ErrorCode::StreamClosed)
-        }
+        Kind::Idle => Reaction::ConnectionError(Cause::DataOnIdle),
+        Kind::Skipped => Reaction::ConnectionError(Cause::DataOnSkipped),
+        Kind::Ended | Kind::PeerReset => Reaction::ConnectionError(Cause::DataOnClosed),
         Kind::BothOpen | Kind::HalfLocal => data_taken(config, core, body, incoming, stream),
-        Kind::HalfRemote => data_refused(config, core, incoming, stream, ErrorCode::StreamClosed),
+        Kind::HalfRemote => data_refused(config, core, incoming, stream, Cause::DataAfterEndStream),
         Kind::WeReset => data_counted(config, core, incoming),
     }
 }
@@ -190,7 +189,7 @@ fn data_taken(
 {
     let threshold = config.credit;
     if core.recv.is_below(incoming.octets) {
-        return Reaction::ConnectionError(ErrorCode::FlowControlError);
+        return Reaction::ConnectionError(Cause::ConnectionWindowExceeded);
     }
     let size_update_pending = core.peer.size_update_pending;
     let change = counted(threshold, core, incoming.octets);
@@ -205,18 +204,18 @@ fn data_refused(
     core: ConnectionState,
     incoming: ReceivedData,
     stream: Stream,
-    code: ErrorCode,
+    cause: Cause,
 ) -> Reaction
     requires core { IsSoundConnectionState core }
-    ensures rule { result ≡ rule.data_refused config core incoming stream code }
+    ensures rule { result ≡ rule.data_refused config core incoming stream cause }
     ensures sound { (book : List Entry) (r : Records) → stream ≡ stream_at r.last r.streams stream.id → is_live stream.kind ≡ true → r.last ≡ core.last → IsSound book r (in_force core) result }
 {
     if core.recv.is_below(incoming.octets) {
-        return Reaction::ConnectionError(ErrorCode::FlowControlError);
+        return Reaction::ConnectionError(Cause::ConnectionWindowExceeded);
     }
     let size_update_pending = core.peer.size_update_pending;
     let change = counted(config.credit, core, incoming.octets);
-    let outcome = stream_error(size_update_pending, stream.id, code);
+    let outcome = stream_error(size_update_pending, stream.id, cause);
     Reaction::Continues(with_outcome(change, outcome))
 }
 
@@ -228,7 +227,7 @@ fn data_counted(config: Config, core: ConnectionState, incoming: ReceivedData) -
     ensures sound { (book : List Entry) (r : Records) → r.last ≡ core.last → IsSound book r (in_force core) result }
 {
     if core.recv.is_below(incoming.octets) {
-        return Reaction::ConnectionError(ErrorCode::FlowControlError);
+        return Reaction::ConnectionError(Cause::ConnectionWindowExceeded);
     }
     Reaction::Continues(counted(config.credit, core, incoming.octets))
 }

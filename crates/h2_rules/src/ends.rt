@@ -8,6 +8,7 @@ ghost use Rattle.h2_spec.specs.Answer.{Entry, picked};
 ghost use Rattle.h2_rules.specs.Sound.{HasBody, InForce, IsSoundStream, is_recorded};
 
 use crate::change::outcome_without_frame;
+use h2_spec::causes::Cause;
 use h2_spec::reactions::{Answering, StreamFrame, StreamOutcome};
 use h2_spec::streams::{Kind, Numbers, Stream};
 use h2_streams::not_live;
@@ -112,12 +113,16 @@ pub fn peer_ended(size_update_pending: bool, body: u64, stream: Stream) -> Strea
     }
 }
 
-/// Whether the content does not fit what was declared (RFC 9113, 8.1.1).
-pub fn breaks_length(declared: Option<u64>, content_received: u64, ends: bool) -> bool
-    ensures { result ≡ data_rule.breaks_length declared content_received ends }
+/// Why the content does not fit what was declared (RFC 9113, 8.1.1).
+pub fn length_broken(declared: Option<u64>, content_received: u64, ends: bool) -> Option<Cause>
+    ensures { result ≡ data_rule.length_broken declared content_received ends }
 {
-    match declared {
-        None => false,
-        Some(count) => count < content_received || (ends && content_received != count),
+    let count = declared?;
+    if count < content_received {
+        return Some(Cause::ContentTooLong);
     }
+    if ends && content_received != count {
+        return Some(Cause::ContentTooShort);
+    }
+    None
 }

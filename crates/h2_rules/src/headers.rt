@@ -4,13 +4,16 @@
 ghost use Rattle.std.specs.Prelude.{◌≡◌, ℕ, ◌≤◌, true, ◌&&◌, ◌||◌, List, length, nat_le, nat_lt};
 ghost use Rattle.h2_spec.specs.Headers as rule;
 ghost use Rattle.h2_spec.specs.Answer.{Entry, picked};
+ghost use Rattle.h2_spec.specs.Cause.{first_of};
+ghost use Rattle.h2_spec.specs.Data.{length_broken};
 ghost use Rattle.h2_request.specs.Lent.{IsPickOf};
 ghost use Rattle.h2_rules.specs.Sound.{HasBody, InForce, IsSoundConnectionState, IsSoundStream, in_force, is_recorded};
 
 use crate::change::{outcome_without_frame, stream_error};
-use crate::ends::{answered, breaks_length, peer_ended};
+use crate::checks::first_of;
+use crate::ends::{answered, length_broken, peer_ended};
+use h2_spec::causes::Cause;
 use h2_spec::connection::{Config, ConnectionState};
-use h2_spec::errors::ErrorCode;
 use h2_spec::flow::{Credit, Window};
 use h2_spec::reactions::{BlockSummary, StreamOutcome};
 use h2_spec::streams::{Kind, Numbers, Stream};
@@ -68,11 +71,41 @@ fn declares_content(declared: Option<u64>) -> bool
     }
 }
 
-/// Whether a request is malformed: by its fields, or since it ends without the content that it declares.
-fn is_malformed(ends: bool, summary: BlockSummary) -> bool
-    ensures { result ≡ (summary.malformed || (ends && rule.declares_content summary.declared)) }
+/// Why a request that ends is malformed: it lacks the content that it declares.
+fn missing(ends: bool, declared: Option<u64>) -> Option<Cause>
+    ensures { result ≡ rule.missing ends declared }
 {
-    summary.malformed || (ends && declares_content(summary.declared))
+    if ends && declares_content(declared) {
+        Some(Cause::ContentMissing)
+    } else {
+        None
+    }
+}
+
+/// Why a request is malformed: by its fields, or since it ends without the content that it declares.
+fn request_broken(ends: bool, summary: BlockSummary) -> Option<Cause>
+    ensures { result ≡ first_of summary.malformed (rule.missing ends summary.declared) }
+{
+    first_of(summary.malformed, missing(ends, summary.declared))
+}
+
+/// Why trailers are malformed that do not end the stream.
+fn unended(ends: bool) -> Option<Cause>
+    ensures { result ≡ rule.unended ends }
+{
+    if ends {
+        None
+    } else {
+        Some(Cause::TrailersWithoutEndStream)
+    }
+}
+
+/// Why trailers are refused: by their fields, or since they do not end the stream, or by the content before them.
+fn trailers_broken(malformed: Option<Cause>, ends: bool, numbers: Numbers) -> Option<Cause>
+    ensures { result ≡ first_of malformed (first_of (rule.unended ends) (length_broken numbers.declared numbers.content_received true)) }
+{
+    let length = length_broken(numbers.declared, numbers.content_received, true);
+    first_of(malformed, first_of(unended(ends), length))
 }
 
 /// What becomes of the stream that a request opens (RFC 9113, 8.1): it is answered where the request has ended or its
@@ -106,13 +139,13 @@ pub fn request_outcome(
 {
     let size_update_pending = core.peer.size_update_pending;
     if is_full(config, live) {
-        return stream_error(size_update_pending, id, ErrorCode::RefusedStream);
+        return stream_error(size_update_pending, id, Cause::TooManyStreams);
     }
     if is_too_large(summary.size) {
-        return stream_error(size_update_pending, id, ErrorCode::EnhanceYourCalm);
+        return stream_error(size_update_pending, id, Cause::ListTooLarge);
     }
-    if is_malformed(ends, summary) {
-        return stream_error(size_update_pending, id, ErrorCode::ProtocolError);
+    if let Some(cause) = request_broken(ends, summary) {
+        return stream_error(size_update_pending, id, cause);
     }
     let stream = new_stream(core, id, summary);
     if ends {
@@ -125,7 +158,7 @@ pub fn request_outcome(
 }
 
 /// What trailers do to their stream (RFC 9113, 8.1): they end the peer's side, and the request is answered. `size` is the
-/// size of their list in octets, `malformed` whether a reason holds against them, `body` the length of the answer's body.
+/// size of their list in octets, `malformed` why their fields are malformed, if they are, `body` the length of the answer's body.
 ///
 /// # Errors
 ///
@@ -136,7 +169,7 @@ pub fn request_outcome(
 #[tactic(auto, unfolding(h2_spec::specs::Headers::trailers_outcome, h2_spec::specs::Stream::octets_waiting))]
 pub fn trailers_outcome(
     size: u64,
-    malformed: bool,
+    malformed: Option<Cause>,
     body: u64,
     size_update_pending: bool,
     ends: bool,
@@ -149,12 +182,10 @@ pub fn trailers_outcome(
     ensures recorded { is_recorded stream.kind ≡ true → is_recorded result.stream.kind ≡ true }
 {
     if is_too_large(size) {
-        return stream_error(size_update_pending, stream.id, ErrorCode::EnhanceYourCalm);
+        return stream_error(size_update_pending, stream.id, Cause::ListTooLarge);
     }
-    let numbers = stream.numbers;
-    let breaks = breaks_length(numbers.declared, numbers.content_received, true);
-    if malformed || !ends || breaks {
-        return stream_error(size_update_pending, stream.id, ErrorCode::ProtocolError);
+    if let Some(cause) = trailers_broken(malformed, ends, stream.numbers) {
+        return stream_error(size_update_pending, stream.id, cause);
     }
     peer_ended(size_update_pending, body, stream)
 }

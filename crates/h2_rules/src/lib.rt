@@ -13,6 +13,7 @@ pub mod control;
 pub mod data;
 pub mod ends;
 pub mod headers;
+pub mod ignored;
 pub mod reset;
 pub mod settings;
 pub mod window_update;

@@ -8,8 +8,8 @@ ghost use Rattle.h2_spec.specs.Answer.{Entry};
 ghost use Rattle.h2_rules.specs.Sound.{IsSound, IsSoundConnectionState, in_force};
 
 use crate::change::{only_counts, outcome_without_frame, with_outcome};
+use h2_spec::causes::Cause;
 use h2_spec::connection::ConnectionState;
-use h2_spec::errors::ErrorCode;
 use h2_spec::reactions::Reaction;
 use h2_spec::streams::{Kind, Stream};
 use h2_streams::not_live;
@@ -27,7 +27,7 @@ pub fn on_reset(core: ConnectionState, stream: Stream) -> Reaction
     ensures sound { (book : List Entry) (r : Records) → stream ≡ stream_at r.last r.streams stream.id → r.last ≡ core.last → IsSound book r (in_force core) result }
 {
     match stream.kind {
-        Kind::Idle => Reaction::ConnectionError(ErrorCode::ProtocolError),
+        Kind::Idle => Reaction::ConnectionError(Cause::RstStreamOnIdle),
         Kind::Skipped | Kind::Ended | Kind::PeerReset | Kind::WeReset => {
             Reaction::Continues(only_counts(core))
         }

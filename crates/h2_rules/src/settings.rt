@@ -14,8 +14,9 @@ ghost use Rattle.h2_rules.specs.Sound.{IsSound, IsSoundState, in_force};
 
 use crate::change::only_counts;
 use h2_frame::SettingsPart;
+use h2_spec::causes::Cause;
 use h2_spec::connection::{ConnectionState, Phase};
-use h2_spec::errors::{ErrorCode, FlowFault};
+use h2_spec::errors::FlowFault;
 use h2_spec::flow::{LocalSettings, Settings, Window};
 use h2_spec::reactions::{Change, ConnectionFrame, Reaction, RecordUpdate};
 
@@ -39,19 +40,19 @@ fn one_setting(
     now: Settings,
     id: u16,
     value: u32,
-) -> Result<Settings, ErrorCode>
+) -> Result<Settings, Cause>
     ensures { (streams : List Stream) → IsGreatest greatest.now streams → result ≡ one_setting streams from now id value }
 {
     let mut next = now;
     match next.apply(id, value) {
         Ok(_) => {
             if overflows(*greatest, from.window, next.window) {
-                Err(ErrorCode::FlowControlError)
+                Err(Cause::InitialWindowSizeOverflow)
             } else {
                 Ok(next)
             }
         }
-        Err(FlowFault::BadSetting(code)) => Err(code),
+        Err(FlowFault::BadSetting(cause)) => Err(cause),
         Err(_) => unreachable!(),
     }
 }
@@ -61,7 +62,7 @@ fn settings_applied(
     greatest: &Option<Window>,
     from: Settings,
     part: SettingsPart<'_>,
-) -> Result<Settings, ErrorCode>
+) -> Result<Settings, Cause>
     ensures { (streams : List Stream) → IsGreatest greatest.now streams → result ≡ rule.settings_applied streams from from (settings_in part.entry) }
 {
     let mut now = from;
@@ -69,7 +70,7 @@ fn settings_applied(
         let (id, value) = part.pair_at(place);
         match one_setting(greatest, from, now, id, value) {
             Ok(next) => now = next,
-            Err(code) => return Err(code),
+            Err(cause) => return Err(cause),
         }
     }
     Ok(now)
@@ -96,7 +97,7 @@ pub fn settings_rule(
 {
     let before = core.peer.window;
     match settings_applied(greatest, core.peer, part) {
-        Err(code) => Reaction::ConnectionError(code),
+        Err(cause) => Reaction::ConnectionError(cause),
         Ok(peer) => {
             let change = only_counts(ConnectionState {
                 peer,

@@ -9,8 +9,8 @@ ghost use Rattle.h2_spec.specs.Answer.{Entry};
 ghost use Rattle.h2_rules.specs.Sound.{HasBody, InForce, IsSound, IsSoundConnectionState, IsSoundStream, in_force, is_recorded};
 
 use crate::change::{only_counts, outcome_without_frame, stream_error, with_outcome};
+use h2_spec::causes::Cause;
 use h2_spec::connection::ConnectionState;
-use h2_spec::errors::ErrorCode;
 use h2_spec::reactions::{Reaction, StreamOutcome};
 use h2_spec::streams::{Kind, Numbers, Stream};
 
@@ -24,11 +24,11 @@ fn window_outcome(size_update_pending: bool, increment: u32, stream: Stream) -> 
     ensures recorded { is_recorded stream.kind ≡ true → is_recorded result.stream.kind ≡ true }
 {
     if increment == 0 {
-        return stream_error(size_update_pending, stream.id, ErrorCode::ProtocolError);
+        return stream_error(size_update_pending, stream.id, Cause::StreamIncrementZero);
     }
     let numbers = stream.numbers;
     if numbers.send.overflows(increment) {
-        return stream_error(size_update_pending, stream.id, ErrorCode::FlowControlError);
+        return stream_error(size_update_pending, stream.id, Cause::StreamWindowOverflow);
     }
     let numbers = Numbers {
         send: numbers.send.plus(increment),
@@ -53,7 +53,7 @@ pub fn on_window(core: ConnectionState, increment: u32, stream: Stream) -> React
     ensures sound { (book : List Entry) (r : Records) → HasBody book stream → stream ≡ stream_at r.last r.streams stream.id → r.last ≡ core.last → IsSound book r (in_force core) result }
 {
     match stream.kind {
-        Kind::Idle => Reaction::ConnectionError(ErrorCode::ProtocolError),
+        Kind::Idle => Reaction::ConnectionError(Cause::WindowUpdateOnIdle),
         Kind::Skipped | Kind::Ended | Kind::PeerReset | Kind::WeReset => {
             Reaction::Continues(only_counts(core))
         }
@@ -77,10 +77,10 @@ pub fn connection_window(core: ConnectionState, increment: u32) -> Reaction
     ensures sound { (book : List Entry) (r : Records) → r.last ≡ core.last → IsSound book r (in_force core) result }
 {
     if increment == 0 {
-        return Reaction::ConnectionError(ErrorCode::ProtocolError);
+        return Reaction::ConnectionError(Cause::ConnectionIncrementZero);
     }
     if core.send.overflows(increment) {
-        return Reaction::ConnectionError(ErrorCode::FlowControlError);
+        return Reaction::ConnectionError(Cause::ConnectionWindowOverflow);
     }
     let send = core.send.plus(increment);
     Reaction::Continues(only_counts(ConnectionState { send, ..core }))

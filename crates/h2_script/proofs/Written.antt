@@ -120,9 +120,9 @@ next_headed first b h no_preface head fits = go (nat_lt (length b) 9) refl head
         let nine : 9 ≤ length b = ltb-false _ _ e in
         let size = length-drop 9 b in
         let len : (head_of b).length ≡ h.length = ap (λ (x : Head). x.length) (sym same) in
-        let room : 9 + (head_of b).length ≤ length b = omega (arith, fits, size, len) in
+        let enough : 9 + (head_of b).length ≤ length b = omega (arith, fits, size, len) in
         let main : next_said first b ≡ One (frame_said (head_of b) (take (head_of b).length (drop 9 b))) false (9 + (head_of b).length) =
-        rw (no_preface, e, le-ltb (length b) (9 + (head_of b).length) room) refl in
+        rw (no_preface, e, le-ltb (length b) (9 + (head_of b).length) enough) refl in
         subst (λ (x : Head). next_said first b ≡ One (frame_said x (take x.length (drop 9 b))) false (9 + x.length)) (sym same) main
 
 -- the whole frame at the front

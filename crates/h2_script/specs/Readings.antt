@@ -17,13 +17,13 @@ IsBuilt (Some (built.Whole v)) read = (p : Payload) × (read ≡ Some p) × (v.i
 IsBuilt (Some built.Long) read = (p : Payload) × (read ≡ Some p) × (2 ^ 24 ≤ length (payload_octets p))
 
 -- the octets were written out, or they are more than a frame holds
-abbrev pub Stands : Bool → List ℕ → List ℕ → Type 0
-Stands long items octets = (long ≡ false → items ≡ octets) × (long ≡ true → 2 ^ 24 ≤ length octets)
+abbrev pub WrittenOut : Bool → List ℕ → List ℕ → Type 0
+WrittenOut long items octets = (long ≡ false → items ≡ octets) × (long ≡ true → 2 ^ 24 ≤ length octets)
 
 -- the instruction at the front was added, and this is left behind it, or there is none
 abbrev pub AddsFirst : Bool → List ℕ → Bool → List ℕ → Option (List ℕ) → Option (Instruction × List ℕ) → Type 0
 AddsFirst long old long' new None read = None ≡ read
-AddsFirst long old long' new (Some left) read = (i : Instruction) × (Some (i, left) ≡ read) × ((o : List ℕ) → Stands long old o → Stands long' new (o ++ instruction_octets i))
+AddsFirst long old long' new (Some left) read = (i : Instruction) × (Some (i, left) ≡ read) × ((o : List ℕ) → WrittenOut long old o → WrittenOut long' new (o ++ instruction_octets i))
 
 -- the octets of a statement behind others
 abbrev pub with_octets : List ℕ → Result Statement SyntaxKind → Result (List ℕ) SyntaxKind
@@ -52,7 +52,7 @@ abbrev pub Refuses : ScriptFault → Result (List ℕ) (ℕ × SyntaxKind) → T
 Refuses script.NoMemory read = Unit {0}
 Refuses (script.Syntax at kind) read = read ≡ Err (at, kind)
 
--- a script was assembled, or its first bad line was told
+-- a script was assembled, or its first bad line was found
 abbrev pub Assembles : {X : Type 0} → (X → List ℕ) → Result X ScriptFault → Result (List ℕ) (ℕ × SyntaxKind) → Type 0
 Assembles view (Ok x) read = read ≡ Ok (view x)
 Assembles view (Err fault) read = Refuses fault read

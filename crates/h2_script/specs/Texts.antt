@@ -22,7 +22,7 @@ abbrev pub IsNext : List ℕ → List ℕ → Option ℕ → Front Bool Statemen
 IsNext old new None front = (front ≡ Stop) × (new ≡ old)
 IsNext old new (Some used) front = (s : Statement) × (front ≡ One s false used) × (new ≡ old ++ line_text s)
 
--- the head and the payload of the frame at the front, or no whole frame stands there
+-- the head and the payload of the frame at the front, or no whole frame is there
 abbrev pub IsFrame : Option (Head × List ℕ) → List ℕ → Type 0
 IsFrame None b = (h : Head) → Some h ≡ head_at b → length (drop 9 b) < h.length
 IsFrame (Some f) b = (Some f.0 ≡ head_at b) × (f.0.length ≤ length (drop 9 b)) × (f.1 ≡ take f.0.length (drop 9 b))

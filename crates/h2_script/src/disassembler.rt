@@ -1,6 +1,6 @@
 //! Disassembling octets, frame by frame. It rests on `said` for payloads and on `h2_frame` for heads; the definition is
 //! `written` of `h2_spec`, specs/Written.antt, and the law that this is a script of the octets is
-//! `h2_laws::script_laws::what_is_written_stands_for_its_octets`.
+//! `h2_laws::script_laws::what_is_written_assembles_to_its_octets`.
 
 ghost use Rattle.std.specs.Prelude.{◌≡◌, ◌<◌, ◌≤◌, ◌^◌, ◌++◌, ◌&&◌, true, nat_eq, length, option_map, IfOk, IfSome, OnOk};
 ghost use Rattle.std.specs.List.{starts_with};
@@ -25,7 +25,7 @@ use std::alloc::{AllocError, Allocator};
 #[tactic(auto, unfolding(h2_spec::specs::Written::written, h2_spec::specs::Parse::parse_all))]
 pub fn disassemble<A: Allocator + Copy>(alloc: A, octets: &[u8]) -> Result<String<A>, AllocError>
     ensures value { IfOk result (λ t. string_bytes t ≡ written octets.now) }
-    ensures stands { IfOk result (λ t. Script (string_bytes t) octets.now) }
+    ensures assembles { IfOk result (λ t. Script (string_bytes t) octets.now) }
 {
     let mut out = String::new(alloc);
     push_all(alloc, octets, &mut out)?;

@@ -8,7 +8,7 @@ ghost use Rattle.h2_fields.specs.Shapes.{mode_of};
 ghost use Rattle.h2_spec.specs.Assemble.{all_at, instruction_at, is_quote, literal_at, name_at, numbered_at, string_at, string_of, value_at};
 ghost use Rattle.h2_spec.specs.Instruction.{Indexed, Update};
 ghost use Rattle.h2_spec.specs.Script.{Instructions, Payload, cut_at, instruction_octets, payload_octets};
-ghost use Rattle.h2_script.specs.Readings.{AddsFirst, IsBuilt, Stands};
+ghost use Rattle.h2_script.specs.Readings.{AddsFirst, IsBuilt, WrittenOut};
 ghost use Rattle.h2_script.specs.Writable.{can_write, can_write_name, indexed_name};
 
 use crate::built::Built;
@@ -45,7 +45,7 @@ pub(crate) fn instructions_at<A: Allocator + Copy>(
 
 /// What was written out, or that it is too long.
 fn built<A: Allocator>(octets: Vec<u8, A>, long: bool) -> Built<A>
-    ensures { (p : Payload) → Stands long octets.items (payload_octets p) → IsBuilt (Some result) (Some p) }
+    ensures { (p : Payload) → WrittenOut long octets.items (payload_octets p) → IsBuilt (Some result) (Some p) }
 {
     if long {
         Built::Long
@@ -76,7 +76,7 @@ fn push_instr<A: Allocator, B: Allocator>(
     long: &mut bool,
 ) -> Result<(), AllocError>
     requires { can_write (instr_of instr.now) ≡ false → 2 ^ 24 ≤ length (instruction_octets (instr_of instr.now)) }
-    ensures { OnOk result ((o : List ℕ) → Stands long.old octets.old.items o → Stands long.new octets.new.items (o ++ instruction_octets (instr_of instr.now))) }
+    ensures { OnOk result ((o : List ℕ) → WrittenOut long.old octets.old.items o → WrittenOut long.new octets.new.items (o ++ instruction_octets (instr_of instr.now))) }
 {
     if !can_write(instr) {
         *long = true;

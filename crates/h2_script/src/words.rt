@@ -18,7 +18,7 @@ pub(crate) fn is_word(text: &[u8], word: &[u8]) -> bool
     text == word
 }
 
-/// Where an octet first stands.
+/// Where an octet first is.
 fn place_of(text: &[u8], octet: u8) -> Option<usize>
     ensures { result ≡ position (λ b. b == octet) text.now }
 {
@@ -35,7 +35,7 @@ pub(crate) fn cut(text: &[u8], octet: u8) -> Option<(&[u8], &[u8])>
     }
 }
 
-/// Where an octet first stands, or the end of the text.
+/// Where an octet first is, or the end of the text.
 fn place_or_end(text: &[u8], octet: u8) -> usize
     ensures place { result ≡ position_or_len (λ b. b == octet) text.now }
     ensures within { result ≤ length text.now }

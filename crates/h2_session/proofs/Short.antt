@@ -43,7 +43,8 @@ word-long line long =
     let run : bytes_eq line (codes "run") ≡ false = unequal line (codes "run") (omega arith) in
     let clear : bytes_eq line (codes "clear") ≡ false = unequal line (codes "clear") (omega arith) in
     let show : bytes_eq line (codes "show") ≡ false = unequal line (codes "show") (omega arith) in
-    rw (run, clear, show) refl
+    let why : bytes_eq line (codes "why") ≡ false = unequal line (codes "why") (omega arith) in
+    rw (run, clear, show, why) refl
 
 command-long : (line : List ℕ) → longest ≤ length line → command_of line ≡ None
 command-long line long =

@@ -54,7 +54,7 @@ taken-cut before mid after first last failed line t u = (
   record { plain = t.plain; taken = t.taken; unread = rw t.passed at u },
 )
 
--- the first octets of a line, kept where there is room
+-- the first octets of a line, kept where there is space
 pub keeps-short : (octets : List ℕ) (octet : ℕ) → length octets < longest → octets ++ octet ∷ [] ≡ take longest (octets ++ octet ∷ [])
 keeps-short octets octet h = sym (take_all longest (octets ++ octet ∷ []) (omega (arith, length-append octets (octet ∷ []))))
 

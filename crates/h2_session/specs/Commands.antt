@@ -14,6 +14,7 @@ pub data Command : Type 0 where
   BreakOn : Break → Command
   Clear : Command
   Show : Command
+  Why : Command
 
 -- what follows a word at the front of a text
 abbrev pub behind : List ℕ → List ℕ → Option (List ℕ)
@@ -42,6 +43,7 @@ word_of line =
     if bytes_eq line (codes "run") then Some Run
     else if bytes_eq line (codes "clear") then Some Clear
     else if bytes_eq line (codes "show") then Some Show
+    else if bytes_eq line (codes "why") then Some Why
     else None
 
 -- `step N`, `back N`, `go P`, `break ..`, or one word

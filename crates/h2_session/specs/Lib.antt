@@ -7,4 +7,5 @@ pub mod Replies
 pub mod Responses
 pub mod Session
 pub mod Takes
+pub mod Why
 pub mod Words

@@ -1,13 +1,15 @@
 -- What a command does to a debugger, and what is printed for it.
-use Rattle.std.specs.Prelude.{◌≡◌, ◌⊎◌, ℕ, ◌+◌, ◌-◌, ◌++◌, ◌==◌, ◌&&◌, Bool, true, false, nat_lt, min, if◌then◌else◌, List, [], ◌∷◌, codes, decimal, Option, Some, None, Result, Ok, Err}
+use Rattle.std.specs.Prelude.{◌≡◌, ◌⊎◌, ℕ, ◌+◌, ◌-◌, ◌++◌, ◌==◌, ◌&&◌, Bool, true, false, nat_lt, min, if◌then◌else◌, List, [], ◌∷◌, codes, decimal, Option, Some, None, is_some, Result, Ok, Err}
 use Rattle.h2_spec.specs.Debug.{stop}
 use Rattle.h2_spec.specs.Show.{joined, octets_text, show}
 use Rattle.h2_spec.specs.View.{view}
 use Rattle.h2_debug.specs.Debugging.{Debugging, moved_counting, moved}
 use Rattle.h2_debug.specs.Faults.{fault_number}
-use Rattle.h2_debug.specs.Places.{at, end, events, sent_octets_at}
+use Rattle.h2_spec.specs.State.{ended_code}
+use Rattle.h2_debug.specs.Places.{at, cause_at, end, events, ignored_at, sent_octets_at}
 use Rattle.h2_debug.specs.declared.fault.DebugFault.{DebugFault}
-use Rattle.h2_session.specs.Commands.{Command, Step, Back, Go, Run, BreakOn, Clear, Show}
+use Rattle.h2_session.specs.Commands.{Command, Step, Back, Go, Run, BreakOn, Clear, Show, Why}
+use Rattle.h2_session.specs.Why.{why_lines}
 use Rattle.h2_session.specs.declared.reply.Reply.{Reply}
 use Rattle.h2_session.specs.declared.reply.Reply.TheVariants as code
 
@@ -30,6 +32,10 @@ place_text position sent state = joined (codes "at " ∷ decimal position ∷ co
 -- the same of a debugger
 abbrev pub shown_text : Debugging → List ℕ
 shown_text d = place_text d.position (sent_octets_at d.run d.position) (show (view (at d.run d.position)))
+
+-- why the item at the position of a debugger was an error, or was ignored
+abbrev pub why_text : Debugging → List ℕ
+why_text d = why_lines (is_some (ended_code (at d.run d.position).core.phase)) (cause_at d.run d.position) (ignored_at d.run d.position)
 
 -- a text, and the debugger behind it
 pub record Answer : Type 0 where
@@ -60,6 +66,7 @@ answer d (Some Run) =
 answer d (Some (BreakOn b)) = done (record d { breaks = d.breaks ++ b ∷ [] })
 answer d (Some Clear) = done (record d { breaks = [] })
 answer d (Some Show) = record { text = shown_text d; after = d }
+answer d (Some Why) = record { text = why_text d; after = d }
 
 -- whether a command takes memory: no text does
 abbrev pub takes_memory : Option Command → Bool
@@ -71,6 +78,7 @@ takes_memory (Some Run) = true
 takes_memory (Some (BreakOn b)) = true
 takes_memory (Some Clear) = false
 takes_memory (Some Show) = false
+takes_memory (Some Why) = false
 
 -- the answer, or memory was refused and the debugger is as it was
 abbrev pub Obeys : Debugging → Option Command → List ℕ → Debugging → Type 0
@@ -83,6 +91,7 @@ reply_text d (code.At position) = at_line position
 reply_text d code.Done = codes "ok\n"
 reply_text d (code.Refused fault) = fault_line fault
 reply_text d code.Shown = shown_text d
+reply_text d code.Explained = why_text d
 
 -- the reply to a move, and to a breakpoint
 abbrev pub moved_reply : Result ℕ DebugFault → Reply

@@ -20,3 +20,4 @@ asked_by code.Run = spec.Run
 asked_by (code.Break stop) = spec.BreakOn (break_on stop)
 asked_by code.Clear = spec.Clear
 asked_by code.Show = spec.Show
+asked_by code.Why = spec.Why

@@ -37,6 +37,8 @@ pub enum Command {
     Clear,
     /// Print the position, what its item sent, and the state.
     Show,
+    /// Print why the item at this position was an error, or was ignored.
+    Why,
 }
 
 /// Where `at N`, `type N`, `stream N` or `sent N` lets a run stop; `None` for any other text.
@@ -68,6 +70,9 @@ fn word_of(line: &[u8]) -> Option<Command>
     }
     if line == b"show".as_slice() {
         return Some(Command::Show);
+    }
+    if line == b"why".as_slice() {
+        return Some(Command::Why);
     }
     None
 }

@@ -11,5 +11,6 @@ mod obey;
 mod reader;
 mod reply;
 pub mod session;
+mod why;
 
 pub use session::debug_session;

@@ -95,7 +95,7 @@ pub fn spelled(alloc: Global, digits: &[u8]) -> Result<Vec<u8>, SessionFault>
     }
 }
 
-/// Puts an octet behind the others, where there is room.
+/// Puts an octet behind the others, where there is space.
 #[tactic(auto, using(crate::proofs::Taking::takes_short))]
 fn keep(line: &mut Line, octet: u8)
     ensures { line.new.items ≡ take longest (line.old.items ++ octet ∷ []) }

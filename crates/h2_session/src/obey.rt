@@ -60,5 +60,6 @@ pub fn obey(debugger: &mut Debugger<'_, Global>, command: Option<Command>) -> Re
             Reply::Done
         }
         Some(Command::Show) => Reply::Shown,
+        Some(Command::Why) => Reply::Explained,
     }
 }

@@ -14,7 +14,7 @@ use std::marker::Model;
 pub const LIMIT: usize = 16777216;
 
 /// How many octets are read at a time.
-const ROOM: usize = 4096;
+const BUFFER_OCTETS: usize = 4096;
 
 /// Nothing more can be taken from the input: a read failed, or it has more octets than the limit.
 #[derive(Clone, Copy)]
@@ -23,7 +23,7 @@ pub struct Unread;
 /// An input that is taken octet by octet.
 #[derive(Drop)]
 pub struct Reader {
-    room: [u8; ROOM],
+    buffer: [u8; BUFFER_OCTETS],
     start: usize,
     end: usize,
     passed: usize,
@@ -35,37 +35,37 @@ impl Model for Reader {
 
     ghost Value = { Reading };
 
-    ghost view = { λ r. record { held = slice_range r.room r.start r.end; passed = r.passed } };
+    ghost view = { λ r. record { held = slice_range r.buffer r.start r.end; passed = r.passed } };
 
     ghost invariant = { λ r. (r.start ≤ r.end) × (r.end ≤ 4096) × (r.passed + (r.end - r.start) ≤ most) };
 }
 
 /// How much is read at a time where this many octets were taken: no more than one octet above the limit.
-fn room_for(passed: usize) -> usize
+fn count_for(passed: usize) -> usize
     requires { passed ≤ most }
     ensures some { 0 < result }
-    ensures room { result ≤ ROOM }
+    ensures within_buffer { result ≤ BUFFER_OCTETS }
     ensures within { passed < most → passed + result ≤ most }
 {
     if passed == LIMIT {
         return 1;
     }
-    ROOM.min(LIMIT - passed)
+    BUFFER_OCTETS.min(LIMIT - passed)
 }
 
 /// Reads up to this many octets to the front of the buffer, and says how many; 0 are the end of the input.
-fn read_some<I: Input>(input: &mut I, room: &mut [u8], count: usize) -> Result<usize, DeviceFault>
+fn read_some<I: Input>(input: &mut I, buffer: &mut [u8], count: usize) -> Result<usize, DeviceFault>
     requires some { 0 < count }
-    requires within { count ≤ length room.old }
+    requires within { count ≤ length buffer.old }
     ensures bound { IfOk result (λ n. n ≤ count) }
-    ensures octets { IfOk result (λ n. Consumes (I.remaining input.old) (I.remaining input.new) (take n room.new)) }
+    ensures octets { IfOk result (λ n. Consumes (I.remaining input.old) (I.remaining input.new) (take n buffer.new)) }
     ensures end { IfOk result (λ n. n ≡ 0 → IsAtEnd (I.remaining input.new)) }
     ensures kept { OnErr result (Keeps (I.remaining input.old) (I.remaining input.new)) }
     ensures ok { OnOk result (I.has_failed input.new ≡ false) }
     ensures err { OnErr result (I.has_failed input.new ≡ true) }
     ensures name { I.name input.new ≡ I.name input.old }
 {
-    input.read(&mut room[..count])
+    input.read(&mut buffer[..count])
 }
 
 impl Reader {
@@ -74,7 +74,7 @@ impl Reader {
         ensures { (result.held ≡ []) × (result.passed ≡ 0) }
     {
         Reader {
-            room: [0; ROOM],
+            buffer: [0; BUFFER_OCTETS],
             start: 0,
             end: 0,
             passed: 0,
@@ -93,8 +93,8 @@ impl Reader {
         ensures unread { OnErr result (IsUnread (I.remaining input.old) (I.remaining input.new) self.old.passed (I.has_failed input.new)) }
         ensures name { I.name input.new ≡ I.name input.old }
     {
-        let room = room_for(self.passed);
-        let Ok(count) = read_some(input, &mut self.room, room) else {
+        let wanted = count_for(self.passed);
+        let Ok(count) = read_some(input, &mut self.buffer, wanted) else {
             return Err(Unread);
         };
         if count > 0 && self.passed == LIMIT {
@@ -112,7 +112,7 @@ impl Reader {
         ensures passed { self.new.passed ≡ self.old.passed + 1 }
         ensures within { self.new.passed ≤ most }
     {
-        let octet = self.room[self.start];
+        let octet = self.buffer[self.start];
         self.start += 1;
         self.passed += 1;
         octet

@@ -4,8 +4,10 @@
 
 ghost use Rattle.std.specs.Prelude.{◌≡◌, ℕ, List, OnOk, false, is_err};
 ghost use Rattle.std.specs.Io.KnownBytes.{Appends};
-ghost use Rattle.h2_session.specs.Replies.{fault_line, number_line, reply_text, shown_text};
+ghost use Rattle.h2_session.specs.Replies.{fault_line, number_line, reply_text, shown_text, why_text};
+ghost use Rattle.h2_session.specs.Why.{why_lines};
 
+use crate::why::WhyText;
 use h2_debug::Debugger;
 use h2_device::{DeviceFault, Number, Output, Text, texts};
 use h2_text::hex_text::OctetsText;
@@ -22,6 +24,8 @@ pub enum Reply {
     Refused(u8),
     /// The debugger's position, what its item sent, and the state.
     Shown,
+    /// Why the item at the debugger's position was an error, or was ignored.
+    Explained,
 }
 
 /// A word, a number and a line feed.
@@ -70,6 +74,17 @@ impl Text for PlaceText<'_, '_> {
     }
 }
 
+/// Why the item at the position of a debugger was an error, or was ignored.
+fn why_of(debugger: &Debugger<'_, Global>) -> WhyText
+    ensures { why_lines result.has_ended result.cause result.ignored ≡ why_text debugger.now }
+{
+    WhyText {
+        has_ended: debugger.conn().ended().is_some(),
+        cause: debugger.cause(),
+        ignored: debugger.ignored(),
+    }
+}
+
 /// A reply of a debugger.
 #[derive(Clone, Copy)]
 pub struct ReplyText<'d, 'b> {
@@ -91,6 +106,7 @@ impl Text for ReplyText<'_, '_> {
             Reply::Done => "ok\n".write_to(output),
             Reply::Refused(fault) => FaultLine(fault).write_to(output),
             Reply::Shown => PlaceText(self.debugger).write_to(output),
+            Reply::Explained => why_of(self.debugger).write_to(output),
         }
     }
 }

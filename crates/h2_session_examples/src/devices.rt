@@ -23,16 +23,16 @@ impl Input for Pieces<'_> {
 
     ghost name = { λ _. 0 };
 
-    fn read(&mut self, room: &mut [u8]) -> Result<usize, DeviceFault> {
+    fn read(&mut self, buffer: &mut [u8]) -> Result<usize, DeviceFault> {
         if self.reads == 0 {
             self.failed = true;
             return Err(DeviceFault);
         }
         self.reads -= 1;
         self.failed = false;
-        let count = self.size.min(room.len()).min(self.octets.len());
+        let count = self.size.min(buffer.len()).min(self.octets.len());
         let (taken, left) = self.octets.split_at(count);
-        room[..count].copy_from_slice(taken);
+        buffer[..count].copy_from_slice(taken);
         self.octets = left;
         Ok(count)
     }
@@ -111,15 +111,15 @@ impl Input for Asker<'_> {
 
     ghost name = { λ _. 0 };
 
-    fn read(&mut self, room: &mut [u8]) -> Result<usize, DeviceFault> {
+    fn read(&mut self, buffer: &mut [u8]) -> Result<usize, DeviceFault> {
         self.failed = self.held_back.get();
         if self.failed {
             return Err(DeviceFault);
         }
         let line = line_at(self.lines, self.next);
         self.next = self.next.saturating_add(1);
-        let count = line.len().min(room.len());
-        room[..count].copy_from_slice(&line[..count]);
+        let count = line.len().min(buffer.len());
+        buffer[..count].copy_from_slice(&line[..count]);
         Ok(count)
     }
 }

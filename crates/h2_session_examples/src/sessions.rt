@@ -42,6 +42,10 @@ fn after_hex(rt: &impl Abort, alloc: Global, commands: &str, printed: &str) -> R
     Ok(())
 }
 
+/// What `why` prints at the positions 0, 3, 4 and 5, and at 3 again (RFC 9113, 5.3.2, 8.3.1 and 6.9).
+const WHY: &str =
+    "no error\nat 3\nignored: priority, RFC 9113 5.3.2, own\nthis server does not use priorities\nat 4\nstream error PROTOCOL_ERROR: lacking-pseudo-field, RFC 9113 8.3.1, MUST\na pseudo-field is missing or empty, or CONNECT has one that it may not have\nat 5\nconnection error PROTOCOL_ERROR: connection-increment-zero, RFC 9113 6.9, MUST\nthe increment of WINDOW_UPDATE has to be 1 or more\nat 3\nignored: priority, RFC 9113 5.3.2, own\nthis server does not use priorities\n";
+
 #[test]
 fn moves_print_positions_and_refusals(rt: HostRuntime) -> Result<(), Fail> {
     after_hex(
@@ -85,6 +89,22 @@ fn the_state_is_shown(rt: HostRuntime) -> Result<(), Fail> {
         "show\nstep 1\nshow\ngo 3\nshow\n",
         "at 0\nsent 00000c040000000000000300000064000600010000\nphase preface last 0\nwindow recv 65535 owed 0 send 65535\npeer table 4096 push 1 streams - window 65535 frame 16384 list - signal 0\nacked 0 goaway -\nown table 4096 window 65535 frame 16384 due 0\nblock -\ntable 0 0 4096\nat 1\nat 1\nsent -\nphase settings last 0\nwindow recv 65535 owed 0 send 65535\npeer table 4096 push 1 streams - window 65535 frame 16384 list - signal 0\nacked 0 goaway -\nown table 4096 window 65535 frame 16384 due 0\nblock -\ntable 0 0 4096\nat 3\nat 3\nsent 0000080601000000000102030405060708\nphase running last 0\nwindow recv 65535 owed 0 send 65535\npeer table 4096 push 1 streams - window 65535 frame 16384 list - signal 0\nacked 0 goaway -\nown table 4096 window 65535 frame 16384 due 0\nblock -\ntable 0 0 4096\n",
     )
+}
+
+#[test]
+fn each_item_says_why_it_is_an_error_or_ignored(rt: HostRuntime) -> Result<(), Fail> {
+    // The preface, SETTINGS, PRIORITY, a request without :path, WINDOW_UPDATE of 0 on the connection.
+    let hex = concat!(
+        "505249202a20485454502f322e300d0a0d0a534d0d0a0d0a",
+        "000000040000000000",
+        "0000050200000000010000000010",
+        "0000020105000000018286",
+        "00000408000000000000000000"
+    );
+    let commands = "why\nstep 3\nwhy\nstep 1\nwhy\nstep 1\nwhy\nback 2\nwhy\n";
+    let input = format!(in rt.alloc(); "{hex}\n{commands}")?;
+    session(&rt, rt.alloc(), input.as_str(), WHY, 0);
+    Ok(())
 }
 
 #[test]

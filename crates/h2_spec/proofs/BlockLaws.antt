@@ -4,13 +4,13 @@ use Rattle.std.proofs.lemmas.Bool.{lt-leb}
 use Rattle.std.proofs.lemmas.List.{append-nil, drop-append-le, drop-drop, drop_all, length-take-le}
 use Rattle.std.proofs.Math.Seq.{take-add}
 use Rattle.std.specs.List.{concat}
-use Rattle.std.specs.Prelude.{option_to_list, nat_le, not, ◌&&◌}
+use Rattle.std.specs.Prelude.{option_to_list, nat_le}
 use Rattle.h2_spec.specs.DynamicTable.{Table, field_at, resize}
 use Rattle.h2_spec.specs.Field.{Field, field}
 use Rattle.h2_spec.specs.Instruction.{Shape, Indexed, Update, Literal, Mode, NameRef, Str, instr_at, text_of}
 use Rattle.h2_spec.specs.Parse.{Front, Stop, One, Parsed, after_one, parse_first, parse_all}
 use Rattle.h2_spec.specs.Read.{Read, Whole, More, TooLong}
-use Rattle.h2_spec.specs.Block.{Fault, Index, Integer, SizeUpdate, DecoderState, Given, literal_result, indexed_result, where_not_due, table_after, name_of, text_result, apply, taken_unless, instr_taken, next_instr, Outcome, Unfinished, Faulty, refused_by, outcome_of, fields_given, Progress, Decoded, has_fields, decoding, decoded, carried_on, carried_through, progress_after, progress_by, applied, StandsWithin}
+use Rattle.h2_spec.specs.Block.{Fault, Integer, LateUpdate, LargeUpdate, MissingUpdate, DecoderState, Given, literal_result, index_fault, indexed_result, where_not_due, table_after, name_of, text_result, apply, taken_unless, instr_taken, next_instr, Outcome, Unfinished, Faulty, refused_by, outcome_of, fields_given, Progress, Decoded, has_fields, decoding, decoded, carried_on, carried_through, progress_after, progress_by, applied, ProgressWithin}
 use Rattle.h2_spec.proofs.InstructionLaws.{Stays, Within, Takes, instr-stays, instr-within, instr-takes, whole-takes, whole-exact}
 use Rattle.h2_spec.proofs.ParseLaws as laws
 
@@ -67,18 +67,19 @@ literal-begins mode d (Ok name) (Ok value) = refl
 literal-begins mode d (Ok name) (Err fault) = tt
 literal-begins mode d (Err fault) value = tt
 
-indexed-begins : (d : DecoderState) (f : Option Field) → Begins d.begun (indexed_result d f)
-indexed-begins d (Some f) = refl
-indexed-begins d None = tt
+indexed-begins : (d : DecoderState) (i : ℕ) (f : Option Field) → Begins d.begun (indexed_result d i f)
+indexed-begins d i (Some f) = refl
+indexed-begins d i None = tt
 
-update-begins : (d : DecoderState) (table : Table) (t : Bool) → Begins d.begun (cond t (Ok (record { field = None; after = record d { table = table; due = false } })) (Err SizeUpdate))
-update-begins d table true = refl
-update-begins d table false = tt
+update-begins : (d : DecoderState) (table : Table) (begun fits : Bool) → Begins d.begun (cond begun (Err LateUpdate) (cond fits (Ok (record { field = None; after = record d { table = table; due = false } })) (Err LargeUpdate)))
+update-begins d table true fits = tt
+update-begins d table false true = refl
+update-begins d table false false = tt
 
 apply-begins : (limit : ℕ) (d : DecoderState) (i : Shape) → Begins d.begun (apply limit d i)
 unfolding apply
-apply-begins limit d (Update n) = update-begins d _ (not d.begun && nat_le n limit)
-apply-begins limit d (Indexed i) = due-begins d.begun d.due _ (indexed-begins d (field_at i d.table.entries))
+apply-begins limit d (Update n) = update-begins d (resize d.table n) d.begun (nat_le n limit)
+apply-begins limit d (Indexed i) = due-begins d.begun d.due _ (indexed-begins d i (field_at i d.table.entries))
 apply-begins limit d (Literal mode name value) = due-begins d.begun d.due _ (literal-begins mode d (name_of name d.table.entries) (text_result (text_of value)))
 
 has-fields : (fields : List Field) (f : Option Field) → has_fields (fields ++ option_to_list f) ≡ begun_with (has_fields fields) f
@@ -205,15 +206,15 @@ pub applied-update : (limit : ℕ) (p : Progress) (n : ℕ) → has_fields p.fie
 unfolding applied apply
 applied-update limit p n e h = rw (e, le-leb n limit h) (ap (λ (fs : List Field). let q : Progress = record { fields = fs; table = resize p.table n; due = false } in Ok q) (append-nil p.fields))
 
-pub applied-update_late : (limit : ℕ) (p : Progress) (n : ℕ) → has_fields p.fields ≡ true → applied limit p (Update n) ≡ Err SizeUpdate
+pub applied-update_late : (limit : ℕ) (p : Progress) (n : ℕ) → has_fields p.fields ≡ true → applied limit p (Update n) ≡ Err LateUpdate
 unfolding applied apply
 applied-update_late limit p n e = rw e refl
 
-pub applied-update_large : (limit : ℕ) (p : Progress) (n : ℕ) → has_fields p.fields ≡ false → limit < n → applied limit p (Update n) ≡ Err SizeUpdate
+pub applied-update_large : (limit : ℕ) (p : Progress) (n : ℕ) → has_fields p.fields ≡ false → limit < n → applied limit p (Update n) ≡ Err LargeUpdate
 unfolding applied apply
 applied-update_large limit p n e h = rw (e, lt-leb n limit h) refl
 
-pub applied-indexed_due : (limit : ℕ) (p : Progress) (i : ℕ) → p.due ≡ true → applied limit p (Indexed i) ≡ Err SizeUpdate
+pub applied-indexed_due : (limit : ℕ) (p : Progress) (i : ℕ) → p.due ≡ true → applied limit p (Indexed i) ≡ Err MissingUpdate
 unfolding applied apply
 applied-indexed_due limit p i e = rw e refl
 
@@ -221,11 +222,11 @@ pub applied-indexed : (limit : ℕ) (p : Progress) (i : ℕ) (f : Field) → p.d
 unfolding applied apply
 applied-indexed limit p i f e h = rw (e, h) refl
 
-pub applied-no_index : (limit : ℕ) (p : Progress) (i : ℕ) → p.due ≡ false → field_at i p.table.entries ≡ None → applied limit p (Indexed i) ≡ Err Index
+pub applied-no_index : (limit : ℕ) (p : Progress) (i : ℕ) → p.due ≡ false → field_at i p.table.entries ≡ None → applied limit p (Indexed i) ≡ Err (index_fault i)
 unfolding applied apply
 applied-no_index limit p i e h = rw (e, h) refl
 
-pub applied-literal_due : (limit : ℕ) (p : Progress) (mode : Mode) (name : NameRef Str) (value : Str) → p.due ≡ true → applied limit p (Literal mode name value) ≡ Err SizeUpdate
+pub applied-literal_due : (limit : ℕ) (p : Progress) (mode : Mode) (name : NameRef Str) (value : Str) → p.due ≡ true → applied limit p (Literal mode name value) ≡ Err MissingUpdate
 unfolding applied apply
 applied-literal_due limit p mode name value e = rw e refl
 
@@ -247,7 +248,7 @@ applied-value_refused limit p mode name value n fault e h k = rw (e, h, k) refl
 -- ---- a loop over the instructions of a block
 
 -- the first octets, so many, are whole instructions that lead to q, and the block goes on from there
-pub record Stands (limit : ℕ) (p : Progress) (b : List ℕ) (at : ℕ) (q : Progress) : Type 0 where
+pub record LeadsTo (limit : ℕ) (p : Progress) (b : List ℕ) (at : ℕ) (q : Progress) : Type 0 where
   pub within : at ≤ length b
   pub front : decoded limit p (take at b) ≡ record { progress = q; outcome = Unfinished [] }
   pub rest : decoded limit p b ≡ decoded limit q (drop at b)
@@ -256,8 +257,8 @@ nothing-whole : instr_at [] ≡ More
 unfolding instr_at
 nothing-whole = refl
 
-pub stands-start : (limit : ℕ) (p : Progress) (b : List ℕ) → Stands limit p b 0 p
-stands-start limit p b = record { within = omega arith; front = decoded-more limit p [] nothing-whole; rest = refl }
+pub leads-start : (limit : ℕ) (p : Progress) (b : List ℕ) → LeadsTo limit p b 0 p
+leads-start limit p b = record { within = omega arith; front = decoded-more limit p [] nothing-whole; rest = refl }
 
 applied-step : (limit : ℕ) (p q : Progress) (b : List ℕ) (i : Shape) (used : ℕ) (r : Result Given Fault) → instr_at b ≡ Whole i used → apply limit (decoding p) i ≡ r → progress_by p r ≡ Ok q → decoded limit p b ≡ decoded limit q (drop used b)
 applied-step limit p q b i used (Ok g) e k h = let same : progress_after p g ≡ q = cc in decoded-step limit p b i used g e k ∙ ap (λ x. decoded limit x (drop used b)) same
@@ -270,9 +271,9 @@ applied-stop limit p b i used fault (Ok g) e k h = absurd cc
 applied-stop limit p b i used fault (Err f) e k h = let same : f ≡ fault = cc in decoded-refused limit p b i used f e k ∙ ap (λ x. with_outcome p (Faulty x)) same
 
 -- an instruction more
-pub stands-step : (limit : ℕ) (p q r : Progress) (b : List ℕ) (at used : ℕ) (i : Shape) → Stands limit p b at q → instr_at (drop at b) ≡ Whole i used → applied limit q i ≡ Ok r → Stands limit p b (at + used) r
+pub leads-step : (limit : ℕ) (p q r : Progress) (b : List ℕ) (at used : ℕ) (i : Shape) → LeadsTo limit p b at q → instr_at (drop at b) ≡ Whole i used → applied limit q i ≡ Ok r → LeadsTo limit p b (at + used) r
 unfolding applied carried_on
-stands-step limit p q r b at used i s e k =
+leads-step limit p q r b at used i s e k =
     let u = whole-takes (drop at b) i used e in
     let len = length-drop at b in
     let whole = whole-exact (drop at b) i used e in
@@ -287,16 +288,16 @@ stands-step limit p q r b at used i s e k =
     }
 
 -- no whole instruction more
-pub stands-more : (limit : ℕ) (p q : Progress) (b : List ℕ) (at : ℕ) → Stands limit p b at q → instr_at (drop at b) ≡ More → decoded limit p b ≡ record { progress = q; outcome = Unfinished (drop at b) }
-stands-more limit p q b at s e = s.rest ∙ decoded-more limit q (drop at b) e
+pub leads-more : (limit : ℕ) (p q : Progress) (b : List ℕ) (at : ℕ) → LeadsTo limit p b at q → instr_at (drop at b) ≡ More → decoded limit p b ≡ record { progress = q; outcome = Unfinished (drop at b) }
+leads-more limit p q b at s e = s.rest ∙ decoded-more limit q (drop at b) e
 
-pub stands-too_long : (limit : ℕ) (p q : Progress) (b : List ℕ) (at : ℕ) → Stands limit p b at q → instr_at (drop at b) ≡ TooLong → decoded limit p b ≡ record { progress = q; outcome = Faulty Integer }
-stands-too_long limit p q b at s e = s.rest ∙ decoded-too_long limit q (drop at b) e
+pub leads-too_long : (limit : ℕ) (p q : Progress) (b : List ℕ) (at : ℕ) → LeadsTo limit p b at q → instr_at (drop at b) ≡ TooLong → decoded limit p b ≡ record { progress = q; outcome = Faulty Integer }
+leads-too_long limit p q b at s e = s.rest ∙ decoded-too_long limit q (drop at b) e
 
-pub stands-refused : (limit : ℕ) (p q : Progress) (b : List ℕ) (at used : ℕ) (i : Shape) (fault : Fault) → Stands limit p b at q → instr_at (drop at b) ≡ Whole i used → applied limit q i ≡ Err fault →
+pub leads-refused : (limit : ℕ) (p q : Progress) (b : List ℕ) (at used : ℕ) (i : Shape) (fault : Fault) → LeadsTo limit p b at q → instr_at (drop at b) ≡ Whole i used → applied limit q i ≡ Err fault →
     decoded limit p b ≡ record { progress = q; outcome = Faulty fault }
 unfolding applied
-stands-refused limit p q b at used i fault s e k = s.rest ∙ applied-stop limit q (drop at b) i used fault (apply limit (decoding q) i) e refl k
+leads-refused limit p q b at used i fault s e k = s.rest ∙ applied-stop limit q (drop at b) i used fault (apply limit (decoding q) i) e refl k
 
-pub stands-within : (limit : ℕ) (p q : Progress) (b : List ℕ) (at : ℕ) → Stands limit p b at q → StandsWithin limit p b q
-stands-within limit p q b at s = (at, s.front)
+pub leads-within : (limit : ℕ) (p q : Progress) (b : List ℕ) (at : ℕ) → LeadsTo limit p b at q → ProgressWithin limit p b q
+leads-within limit p q b at s = (at, s.front)

@@ -1,4 +1,4 @@
--- What stands at the front of octets stays there with more octets behind it: strings, and instructions.
+-- What is at the front of octets stays there with more octets behind it: strings, and instructions.
 use Rattle.std.proofs.Common.{◌≡◌, ℕ, zero, suc, ◌+◌, ◌-◌, ◌<◌, ◌≤◌, Bool, true, false, cond, List, [], ◌∷◌, ◌++◌, length, take, drop, refl, ap, sym, ◌∙◌, subst, arith, leb, leb-true, le-leb, length-append, length-drop}
 use Rattle.std.proofs.lemmas.List.{append-nil, take-append-le, drop-append-le, drop-take, length-take-le, take_all}
 use Rattle.std.proofs.Math.Seq.{take-add}
@@ -87,7 +87,7 @@ past-whole used (Whole a m) x n e =
 past-whole used More x n e = absurd cc
 past-whole used TooLong x n e = absurd cc
 
--- what two things that stand one behind the other took
+-- what two things, one behind the other, took
 pub record Both {A B : Type 0} (b : List ℕ) (r : Read A) (f : A → List ℕ → Read B) (x : B) (n : ℕ) : Type 0 where
   pub one : A
   pub used : ℕ
@@ -268,7 +268,7 @@ by-takes o b =
     (choice-takes (leb 32 o) (read_map Update (int_at 5 b)) _ (map-takes Update (int_at 5 b) (number-first 5 b))
     (choice-takes (leb 16 o) (literal_at NeverIndexed b) (literal_at WithoutIndexing b) (literal-takes NeverIndexed b) (literal-takes WithoutIndexing b))))
 
--- no spelling begins another: an instruction that stands there stays there
+-- no spelling begins another: an instruction that is there stays there
 pub instr-stays : (b c : List ℕ) → Stays (instr_at b) (instr_at (b ++ c))
 unfolding instr_at
 instr-stays [] c = tt
@@ -290,7 +290,7 @@ instr-exact [] shape used e = absurd cc
 instr-exact (o ∷ b) shape zero e = absurd (omega (arith, subst Takes e (instr-takes (o ∷ b))))
 instr-exact (o ∷ b) shape (suc used) e = (by-reader o).exact (o ∷ b) shape (suc used) e
 
--- the same of what is known to stand there
+-- the same of what is known to be there
 pub whole-takes : (octets : List ℕ) (shape : Shape) (used : ℕ) → instr_at octets ≡ Whole shape used → (0 < used) × (used ≤ length octets)
 whole-takes octets shape used e = (subst Takes e (instr-takes octets), subst (Within (length octets)) e (instr-within octets))
 

@@ -2,7 +2,7 @@
 use Rattle.std.proofs.Common.{◌≡◌, ℕ, Bool, true, false, List, ◌++◌, length, take, Option, Some, None, if◌then◌else◌, refl, sym, ap, ◌∙◌, subst}
 use Rattle.std.proofs.lemmas.List.{length-take-le}
 use Rattle.h2_spec.specs.Huffman.{HuffRead, Text, Eos, Padding, IsHuffman, IsDecodingOf, huffman_text}
-use Rattle.h2_spec.specs.Instruction.{Mode, NameRef, Ref, Named, Indexed, Update, Literal, Str, TextStr, Shape, Instruction, instr_at, text_of, with_text, text_str, named_text, name_text, literal_text, instruction_of, instruction_at, StandsFor, IsStringOf, IsNameOf, IsShapeOf, IsSpelling}
+use Rattle.h2_spec.specs.Instruction.{Mode, NameRef, Ref, Named, Indexed, Update, Literal, Str, TextStr, Shape, Instruction, instr_at, text_of, with_text, text_str, named_text, name_text, literal_text, instruction_of, instruction_at, RepresentsText, IsStringOf, IsNameOf, IsShapeOf, IsSpelling}
 use Rattle.h2_spec.specs.Read.{Read, Whole, More, TooLong, read_map}
 use Rattle.h2_spec.proofs.HuffmanLaws.{text_read, one_answer}
 use Rattle.h2_spec.proofs.InstructionLaws.{whole-stays, whole-exact, whole-takes}
@@ -12,7 +12,7 @@ use Rattle.h2_spec.proofs.InstructionLaws.{whole-stays, whole-exact, whole-takes
 huffman-is : (o t : List ℕ) → IsHuffman t o → huffman_text o ≡ Text t
 huffman-is o t h = one_answer o (Text t) h
 
-string-has : (h : Bool) (o : List ℕ) (t : TextStr) → h ≡ t.huffman → StandsFor h o t.text → with_text h (if h then huffman_text o else Text o) ≡ Some t
+string-has : (h : Bool) (o : List ℕ) (t : TextStr) → h ≡ t.huffman → RepresentsText h o t.text → with_text h (if h then huffman_text o else Text o) ≡ Some t
 string-has true o t e s = ap (with_text true) (huffman-is o t.text s) ∙ ap (λ (b : Bool). let x : TextStr = record { huffman = b; text = t.text } in Some x) e
 string-has false o t e s = ap (λ (x : List ℕ). let y : TextStr = record { huffman = false; text = x } in Some y) s ∙ ap (λ (b : Bool). let x : TextStr = record { huffman = b; text = t.text } in Some x) e
 
@@ -46,12 +46,12 @@ text-given h (Text x) t e =
 text-given h Eos t e = absurd cc
 text-given h Padding t e = absurd cc
 
-string-stands : (h : Bool) (o : List ℕ) (t : List ℕ) → (if h then huffman_text o else Text o) ≡ Text t → StandsFor h o t
-string-stands true o t e = decoded-huffman o t e
-string-stands false o t e = cc
+string-represents : (h : Bool) (o : List ℕ) (t : List ℕ) → (if h then huffman_text o else Text o) ≡ Text t → RepresentsText h o t
+string-represents true o t e = decoded-huffman o t e
+string-represents false o t e = cc
 
 string-of : (s : Str) (t : TextStr) → text_str s ≡ Some t → IsStringOf s t
-string-of s t e = let g = text-given s.huffman (text_of s) t e in (g.0, string-stands s.huffman s.octets t.text g.1)
+string-of s t e = let g = text-given s.huffman (text_of s) t e in (g.0, string-represents s.huffman s.octets t.text g.1)
 
 named-given : (r : Option TextStr) (n : NameRef TextStr) → named_text r ≡ Some n → (t : TextStr) × (r ≡ Some t) × (n ≡ Named t)
 named-given (Some t) n e = (t, refl, let same : Some (Named t) ≡ Some n = e in cc)

@@ -5,7 +5,7 @@ use Rattle.std.proofs.lemmas.List.{append-nil, drop_at, take_at}
 use Rattle.std.proofs.lemmas.Nat.{pow_pos}
 use Rattle.h2_spec.specs.Huffman.{IsText}
 use Rattle.h2_spec.specs.Integer.{int_at, groups_of, spell_int}
-use Rattle.h2_spec.specs.Instruction.{Mode, IncrementalIndexing, WithoutIndexing, NeverIndexed, NameRef, Ref, Named, Indexed, Update, Literal, Str, TextStr, Shape, Instruction, read_past, read_then, octets_at, string_at, mode_prefix, mode_high, name_by, value_at, literal_at, instr_by, instr_at, StandsFor, IsStringOf, IsNameOf, IsShapeOf, IsSpelling, coded, coded_str, coded_name, shape_of, spell_string, spell_name, spell, IsSpellable, IsSpellableName, IsNameText, HasTexts}
+use Rattle.h2_spec.specs.Instruction.{Mode, IncrementalIndexing, WithoutIndexing, NeverIndexed, NameRef, Ref, Named, Indexed, Update, Literal, Str, TextStr, Shape, Instruction, read_past, read_then, octets_at, string_at, mode_prefix, mode_high, name_by, value_at, literal_at, instr_by, instr_at, RepresentsText, IsStringOf, IsNameOf, IsShapeOf, IsSpelling, coded, coded_str, coded_name, shape_of, spell_string, spell_name, spell, IsSpellable, IsSpellableName, IsNameText, HasTexts}
 use Rattle.h2_spec.specs.Read.{Whole, read_map}
 use Rattle.h2_spec.proofs.IntegerLaws.{spelled_read}
 use Rattle.h2_spec.proofs.SpellingLaws as spelling
@@ -150,12 +150,12 @@ shape-written (Literal mode name value) h = literal-written mode name value h.0 
 
 -- ---- an instruction by its texts
 
-coded-stands : (huffman : Bool) (t : List ℕ) → IsText t → StandsFor huffman (coded huffman t) t
-coded-stands true t h = spelling.spelled t h
-coded-stands false t h = refl
+coded-represents : (huffman : Bool) (t : List ℕ) → IsText t → RepresentsText huffman (coded huffman t) t
+coded-represents true t h = spelling.spelled t h
+coded-represents false t h = refl
 
 string-coded : (t : TextStr) → IsText t.text → IsStringOf (coded_str t) t
-string-coded t h = (refl, coded-stands t.huffman t.text h)
+string-coded t h = (refl, coded-represents t.huffman t.text h)
 
 name-coded : (name : NameRef TextStr) → IsNameText name → IsNameOf (coded_name name) name
 name-coded (Ref i) h = refl

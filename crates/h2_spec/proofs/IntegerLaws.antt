@@ -9,29 +9,29 @@ use Rattle.h2_spec.specs.Integer.{groups, IsContinuation, IsInt, IsUnfinished, I
 
 -- the same of the groups behind the prefix
 abbrev GroupsRead : ℕ → List ℕ → Read ℕ → Type 0
-GroupsRead room cs (Whole v used) = (used ≤ length cs) × (used ≤ room) × IsContinuation (take used cs) × (v ≡ groups (take used cs))
-GroupsRead room cs More = AllByRecursion (λ c. 128 ≤ c) cs × (length cs < room)
-GroupsRead room cs TooLong = (room ≤ length cs) × AllByRecursion (λ c. 128 ≤ c) (take room cs)
+GroupsRead most cs (Whole v used) = (used ≤ length cs) × (used ≤ most) × IsContinuation (take used cs) × (v ≡ groups (take used cs))
+GroupsRead most cs More = AllByRecursion (λ c. 128 ≤ c) cs × (length cs < most)
+GroupsRead most cs TooLong = (most ≤ length cs) × AllByRecursion (λ c. 128 ≤ c) (take most cs)
 
 pub continues : (c : ℕ) (cs : List ℕ) → 128 ≤ c → IsContinuation cs → IsContinuation (c ∷ cs)
 continues c [] h k = absurd k
 continues c (d ∷ cs) h k = (h, k)
 
-more_groups : (room c : ℕ) (cs : List ℕ) (r : Read ℕ) → 128 ≤ c → GroupsRead room cs r → GroupsRead (suc room) (c ∷ cs) (scaled (c % 128) 128 1 r)
-more_groups room c cs (Whole v used) h k =
+more_groups : (most c : ℕ) (cs : List ℕ) (r : Read ℕ) → 128 ≤ c → GroupsRead most cs r → GroupsRead (suc most) (c ∷ cs) (scaled (c % 128) 128 1 r)
+more_groups most c cs (Whole v used) h k =
     let one : 1 + used ≡ suc used = omega arith in
     rw one (omega (arith, k.0), omega (arith, k.1), continues c (take used cs) h k.2, ap (λ n. c % 128 + 128 * n) k.3)
-more_groups room c cs More h k = ((h, k.0), omega (arith, k.1))
-more_groups room c cs TooLong h k = (omega (arith, k.0), (h, k.1))
+more_groups most c cs More h k = ((h, k.0), omega (arith, k.1))
+more_groups most c cs TooLong h k = (omega (arith, k.0), (h, k.1))
 
-groups_read : (room : ℕ) (cs : List ℕ) → GroupsRead room cs (groups_at room cs)
+groups_read : (most : ℕ) (cs : List ℕ) → GroupsRead most cs (groups_at most cs)
 groups_read zero cs = (omega arith, tt)
-groups_read (suc room) [] = (tt, omega arith)
-groups_read (suc room) (c ∷ cs) = at (groups_read room cs) (ltb c 128) refl
+groups_read (suc most) [] = (tt, omega arith)
+groups_read (suc most) (c ∷ cs) = at (groups_read most cs) (ltb c 128) refl
   where
-    at : GroupsRead room cs (groups_at room cs) → (t : Bool) → ltb c 128 ≡ t → GroupsRead (suc room) (c ∷ cs) (cond t (Whole c 1) (scaled (c % 128) 128 1 (groups_at room cs)))
+    at : GroupsRead most cs (groups_at most cs) → (t : Bool) → ltb c 128 ≡ t → GroupsRead (suc most) (c ∷ cs) (cond t (Whole c 1) (scaled (c % 128) 128 1 (groups_at most cs)))
     at more true e = let small = ltb-true c 128 e in (omega arith, omega arith, small, omega (arith, small))
-    at more false e = more_groups room c cs (groups_at room cs) (ltb-false c 128 e) more
+    at more false e = more_groups most c cs (groups_at most cs) (ltb-false c 128 e) more
 
 full_prefix : (n o : ℕ) → 2 ^ n - 1 ≤ o % 2 ^ n → o % 2 ^ n ≡ 2 ^ n - 1
 full_prefix n o h = let below : o % 2 ^ n < 2 ^ n = mod-lt o (pow_pos n) in omega (arith, h, below)
@@ -67,15 +67,15 @@ scaled-stays base scale used (Whole v more) y e = ap (scaled base scale used) e
 scaled-stays base scale used More y e = tt
 scaled-stays base scale used TooLong y e = ap (scaled base scale used) e
 
-groups-stays : (room : ℕ) (cs ds : List ℕ) → Stays (groups_at room cs) (groups_at room (cs ++ ds))
+groups-stays : (most : ℕ) (cs ds : List ℕ) → Stays (groups_at most cs) (groups_at most (cs ++ ds))
 groups-stays zero cs ds = refl
-groups-stays (suc room) [] ds = tt
-groups-stays (suc room) (c ∷ cs) ds = at (groups-stays room cs ds) (ltb c 128)
+groups-stays (suc most) [] ds = tt
+groups-stays (suc most) (c ∷ cs) ds = at (groups-stays most cs ds) (ltb c 128)
   where
-    at : Stays (groups_at room cs) (groups_at room (cs ++ ds)) → (t : Bool) →
-        Stays (cond t (Whole c 1) (scaled (c % 128) 128 1 (groups_at room cs))) (cond t (Whole c 1) (scaled (c % 128) 128 1 (groups_at room (cs ++ ds))))
+    at : Stays (groups_at most cs) (groups_at most (cs ++ ds)) → (t : Bool) →
+        Stays (cond t (Whole c 1) (scaled (c % 128) 128 1 (groups_at most cs))) (cond t (Whole c 1) (scaled (c % 128) 128 1 (groups_at most (cs ++ ds))))
     at more true = refl
-    at more false = scaled-stays (c % 128) 128 1 (groups_at room cs) (groups_at room (cs ++ ds)) more
+    at more false = scaled-stays (c % 128) 128 1 (groups_at most cs) (groups_at most (cs ++ ds)) more
 
 pub int-stays : (n : ℕ) (xs ys : List ℕ) → Stays (int_at n xs) (int_at n (xs ++ ys))
 unfolding int_at
@@ -88,25 +88,25 @@ int-stays n (o ∷ cs) ys = at (ltb (o % 2 ^ n) (2 ^ n - 1))
 
 -- ---- what the octets spell is what is read
 
-groups_whole : (room : ℕ) (cs ys : List ℕ) → IsContinuation cs → length cs ≤ room → groups_at room (cs ++ ys) ≡ Whole (groups cs) (length cs)
-groups_whole room [] ys h k = absurd h
+groups_whole : (most : ℕ) (cs ys : List ℕ) → IsContinuation cs → length cs ≤ most → groups_at most (cs ++ ys) ≡ Whole (groups cs) (length cs)
+groups_whole most [] ys h k = absurd h
 groups_whole zero (c ∷ cs) ys h k = absurd (omega arith)
-groups_whole (suc room) (c ∷ []) ys h k =
+groups_whole (suc most) (c ∷ []) ys h k =
     let value : c ≡ c % 128 + 128 * 0 = omega arith in
     rw (lt-ltb c 128 h) (ap (λ n. Whole n 1) value)
-groups_whole (suc room) (c ∷ d ∷ cs) ys h k =
+groups_whole (suc most) (c ∷ d ∷ cs) ys h k =
     let one : 1 + suc (length cs) ≡ suc (suc (length cs)) = omega arith in
-    rw (le-ltb c 128 h.0) (ap (scaled (c % 128) 128 1) (groups_whole room (d ∷ cs) ys h.1 (omega arith)) ∙ ap (λ u. Whole (c % 128 + 128 * groups (d ∷ cs)) u) one)
+    rw (le-ltb c 128 h.0) (ap (scaled (c % 128) 128 1) (groups_whole most (d ∷ cs) ys h.1 (omega arith)) ∙ ap (λ u. Whole (c % 128 + 128 * groups (d ∷ cs)) u) one)
 
-groups_unfinished : (room : ℕ) (cs : List ℕ) → AllByRecursion (λ c. 128 ≤ c) cs → length cs < room → groups_at room cs ≡ More
+groups_unfinished : (most : ℕ) (cs : List ℕ) → AllByRecursion (λ c. 128 ≤ c) cs → length cs < most → groups_at most cs ≡ More
 groups_unfinished zero cs h k = absurd (omega arith)
-groups_unfinished (suc room) [] h k = refl
-groups_unfinished (suc room) (c ∷ cs) h k = rw (le-ltb c 128 h.0) (ap (scaled (c % 128) 128 1) (groups_unfinished room cs h.1 (omega arith)))
+groups_unfinished (suc most) [] h k = refl
+groups_unfinished (suc most) (c ∷ cs) h k = rw (le-ltb c 128 h.0) (ap (scaled (c % 128) 128 1) (groups_unfinished most cs h.1 (omega arith)))
 
-groups_too_long : (room : ℕ) (cs : List ℕ) → AllByRecursion (λ c. 128 ≤ c) (take room cs) → room ≤ length cs → groups_at room cs ≡ TooLong
+groups_too_long : (most : ℕ) (cs : List ℕ) → AllByRecursion (λ c. 128 ≤ c) (take most cs) → most ≤ length cs → groups_at most cs ≡ TooLong
 groups_too_long zero cs h k = refl
-groups_too_long (suc room) [] h k = absurd (omega arith)
-groups_too_long (suc room) (c ∷ cs) h k = rw (le-ltb c 128 h.0) (ap (scaled (c % 128) 128 1) (groups_too_long room cs h.1 (omega arith)))
+groups_too_long (suc most) [] h k = absurd (omega arith)
+groups_too_long (suc most) (c ∷ cs) h k = rw (le-ltb c 128 h.0) (ap (scaled (c % 128) 128 1) (groups_too_long most cs h.1 (omega arith)))
 
 -- a full prefix leads to the groups
 full : (n o : ℕ) (cs : List ℕ) (r : Read ℕ) → o % 2 ^ n ≡ 2 ^ n - 1 → groups_at 5 cs ≡ r → int_at n (o ∷ cs) ≡ scaled (2 ^ n - 1) 1 1 r
@@ -146,37 +146,37 @@ one_int n v w xs ys h g =
 -- ---- the shortest spelling
 
 -- groups that write a number, and no fewer do
-record AreShortest (room v : ℕ) (cs : List ℕ) : Type 0 where
+record AreShortest (most v : ℕ) (cs : List ℕ) : Type 0 where
   continued : IsContinuation cs
-  within : length cs ≤ room
+  within : length cs ≤ most
   value : groups cs ≡ v
   shortest : (ds : List ℕ) → IsContinuation ds → groups ds ≡ v → length cs ≤ length ds
 
-one_group : (room v : ℕ) → v < 128 → AreShortest (suc room) v (v ∷ [])
-one_group room v h = record { continued = h; within = omega arith; value = omega arith; shortest = some }
+one_group : (most v : ℕ) → v < 128 → AreShortest (suc most) v (v ∷ [])
+one_group most v h = record { continued = h; within = omega arith; value = omega arith; shortest = some }
   where
     some : (ds : List ℕ) → IsContinuation ds → groups ds ≡ v → 1 ≤ length ds
     some [] h e = absurd h
     some (d ∷ ds) h e = omega arith
 
-group_more : (room v : ℕ) (cs : List ℕ) → 128 ≤ v → AreShortest room (v / 128) cs → AreShortest (suc room) v ((v % 128 + 128) ∷ cs)
-group_more room v cs h r = record { continued = continues (v % 128 + 128) cs (omega arith) r.continued; within = omega (arith, r.within); value = omega (arith, r.value); shortest = some }
+group_more : (most v : ℕ) (cs : List ℕ) → 128 ≤ v → AreShortest most (v / 128) cs → AreShortest (suc most) v ((v % 128 + 128) ∷ cs)
+group_more most v cs h r = record { continued = continues (v % 128 + 128) cs (omega arith) r.continued; within = omega (arith, r.within); value = omega (arith, r.value); shortest = some }
   where
     some : (ds : List ℕ) → IsContinuation ds → groups ds ≡ v → suc (length cs) ≤ length ds
     some [] g e = absurd g
     some (d ∷ []) g e = absurd (omega arith)
     some (d ∷ b ∷ ds) g e = let more = r.shortest (b ∷ ds) g.1 (omega arith) in omega arith
 
-groups_of_shortest : (room v : ℕ) → v < 128 ^ suc room → AreShortest (suc room) v (groups_of (suc room) v)
+groups_of_shortest : (most v : ℕ) → v < 128 ^ suc most → AreShortest (suc most) v (groups_of (suc most) v)
 groups_of_shortest zero v h = let small : v < 128 = omega arith in rw (lt-ltb v 128 small) (one_group zero v small)
-groups_of_shortest (suc room) v h = at (λ g. groups_of_shortest room (v / 128) g) (ltb v 128) refl
+groups_of_shortest (suc most) v h = at (λ g. groups_of_shortest most (v / 128) g) (ltb v 128) refl
   where
-    at : (v / 128 < 128 ^ suc room → AreShortest (suc room) (v / 128) (groups_of (suc room) (v / 128))) →
-        (t : Bool) → ltb v 128 ≡ t → AreShortest (suc (suc room)) v (cond t (v ∷ []) ((v % 128 + 128) ∷ groups_of (suc room) (v / 128)))
-    at more true e = one_group (suc room) v (ltb-true v 128 e)
+    at : (v / 128 < 128 ^ suc most → AreShortest (suc most) (v / 128) (groups_of (suc most) (v / 128))) →
+        (t : Bool) → ltb v 128 ≡ t → AreShortest (suc (suc most)) v (cond t (v ∷ []) ((v % 128 + 128) ∷ groups_of (suc most) (v / 128)))
+    at more true e = one_group (suc most) v (ltb-true v 128 e)
     at more false e =
-        let power : 128 ^ suc (suc room) ≡ 128 * 128 ^ suc room = omega arith in
-        group_more (suc room) v _ (ltb-false v 128 e) (more (omega (arith, h, power)))
+        let power : 128 ^ suc (suc most) ≡ 128 * 128 ^ suc most = omega arith in
+        group_more (suc most) v _ (ltb-false v 128 e) (more (omega (arith, h, power)))
 
 -- bits above the prefix leave it as it is
 low_bits : (m high v : ℕ) → high % m ≡ 0 → v < m → (high + v) % m ≡ v

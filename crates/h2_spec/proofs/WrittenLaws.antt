@@ -346,8 +346,8 @@ says_frame : (b : List ℕ) → IsBytes b → 9 + (head_of b).length ≤ length 
 unfolding head_of
 says_frame b h whole =
     let p = payload_in b in
-    let room : (head_of b).length ≤ length (drop 9 b) = simp length-drop (omega arith) in
-    let exact : length p ≡ (head_of b).length = length-take-le (head_of b).length (drop 9 b) room in
+    let enough : (head_of b).length ≤ length (drop 9 b) = simp length-drop (omega arith) in
+    let exact : length p ≡ (head_of b).length = length-take-le (head_of b).length (drop 9 b) enough in
     let small = length_small b h in
     let said = payload_again (head_of b).kind (head_of b).flags p (bytes_below (head_of b).length (drop 9 b) (bytes_after 9 b h)) in
     let len : length (payload_octets (payload_said (head_of b).kind (head_of b).flags p)) ≡ (head_of b).length = ap length said.1 ∙ exact in (

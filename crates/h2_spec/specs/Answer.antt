@@ -70,7 +70,7 @@ indexed_statuses = 200 ∷ 204 ∷ 206 ∷ 304 ∷ 400 ∷ 404 ∷ 500 ∷ []
 abbrev pub status_digits : ℕ → List ℕ
 status_digits status = (48 + status / 100) ∷ (48 + status / 10 % 10) ∷ (48 + status % 10) ∷ []
 
--- a status that stands at this place among those: its index; any other: a literal with the name of index 8, :status
+-- a status at this place among those: its index; any other: a literal with the name of index 8, :status
 -- (8.3.2)
 abbrev pub status_at : Option ℕ → ℕ → Shape
 status_at (Some place) status = Indexed (8 + place)

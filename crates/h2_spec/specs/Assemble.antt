@@ -71,7 +71,7 @@ abbrev pub with_octet : Option ℕ → Option (List ℕ) → Option (List ℕ)
 with_octet None more = None
 with_octet (Some c) more = option_map (λ cs. c ∷ cs) more
 
--- the octets that stand between quotes
+-- the octets between quotes
 unfoldable pub unescaped : List ℕ → Option (List ℕ)
 unescaped [] = Some []
 unescaped (c ∷ []) = if is_plain c then Some (c ∷ []) else None

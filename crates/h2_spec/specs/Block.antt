@@ -1,5 +1,5 @@
 -- What a field block does: its fields, and the table after it (RFC 7541, 3; RFC 9113, 4.3).
-use Rattle.std.specs.Prelude.{◌≡◌, ℕ, ◌-◌, ◌^◌, Bool, true, false, ◌&&◌, not, List, [], ◌∷◌, ◌++◌, take, min, nat_le, if◌then◌else◌, Option, Some, None, option_map, option_to_list, Result, Ok, Err}
+use Rattle.std.specs.Prelude.{◌≡◌, ℕ, ◌-◌, ◌^◌, Bool, true, false, List, [], ◌∷◌, ◌++◌, take, min, nat_le, ◌==◌, if◌then◌else◌, Option, Some, None, option_map, option_to_list, Result, Ok, Err}
 use Rattle.h2_spec.specs.Field.{Field, field}
 use Rattle.h2_spec.specs.DynamicTable.{Table, total_size, insert, resize, field_at}
 use Rattle.h2_spec.specs.Huffman.{HuffRead, Text, Eos, Padding, huffman_text}
@@ -9,14 +9,20 @@ use Rattle.h2_spec.specs.Parse.{Front, Stop, One, parse_all}
 
 -- why a block is refused
 pub data Fault : Type 0 where
-  -- an index of neither table
+  -- an indexed field of index 0 (RFC 7541, 6.1)
+  ZeroIndex : Fault
+  -- an index of neither table (RFC 7541, 2.3.3)
   Index : Fault
-  -- an integer that is too long
+  -- an integer that is too long (RFC 7541, 5.1)
   Integer : Fault
-  -- a string that is no Huffman code
+  -- a string that is no Huffman code (RFC 7541, 5.2)
   Huffman : Fault
-  -- a table size update after a field, or above the limit, or none where one is due
-  SizeUpdate : Fault
+  -- a table size update after a field (RFC 7541, 4.2)
+  LateUpdate : Fault
+  -- a table size update above the limit (RFC 7541, 6.3)
+  LargeUpdate : Fault
+  -- no table size update where one is due (RFC 9113, 4.3.1)
+  MissingUpdate : Fault
 
 -- ---- one instruction
 
@@ -64,22 +70,33 @@ literal_result mode d (Ok name) (Ok value) = Ok (given d (table_after mode d.tab
 literal_result mode d (Ok name) (Err fault) = Err fault
 literal_result mode d (Err fault) value = Err fault
 
+-- why an index has no field
+abbrev pub index_fault : ℕ → Fault
+index_fault i = if i == 0 then ZeroIndex else Index
+
 -- the field at an index, or why there is none
-abbrev pub indexed_result : DecoderState → Option Field → Result Given Fault
-indexed_result d (Some f) = Ok (given d d.table f)
-indexed_result d None = Err Index
+abbrev pub indexed_result : DecoderState → ℕ → Option Field → Result Given Fault
+indexed_result d i (Some f) = Ok (given d d.table f)
+indexed_result d i None = Err (index_fault i)
 
 -- an instruction that is no size update, where none is due (RFC 9113, 4.3.1)
 abbrev pub where_not_due : Bool → Result Given Fault → Result Given Fault
-where_not_due true r = Err SizeUpdate
+where_not_due true r = Err MissingUpdate
 where_not_due false r = r
+
+-- a table size update, where it may come, or why it is refused (4.2, 6.3)
+abbrev pub update_result : ℕ → DecoderState → ℕ → Result Given Fault
+update_result limit d n =
+    if d.begun then Err LateUpdate
+    else if nat_le n limit then Ok (record { field = None; after = record d { table = resize d.table n; due = false } })
+    else Err LargeUpdate
 
 -- the effect of one instruction, or why it is refused: a size update is decided first, then an index, then a Huffman
 -- string
 unfoldable pub apply : ℕ → DecoderState → Shape → Result Given Fault
 unfolding field_at insert resize huffman_text
-apply limit d (Update n) = if not d.begun && nat_le n limit then Ok (record { field = None; after = record d { table = resize d.table n; due = false } }) else Err SizeUpdate
-apply limit d (Indexed i) = where_not_due d.due (indexed_result d (field_at i d.table.entries))
+apply limit d (Update n) = update_result limit d n
+apply limit d (Indexed i) = where_not_due d.due (indexed_result d i (field_at i d.table.entries))
 apply limit d (Literal mode name value) = where_not_due d.due (literal_result mode d (name_of name d.table.entries) (text_result (text_of value)))
 
 -- ---- one after another
@@ -110,7 +127,7 @@ abbrev pub refused_by : List ℕ → Result Given Fault → Outcome
 refused_by b (Ok g) = Unfinished b
 refused_by b (Err fault) = Faulty fault
 
--- how a block ends so far, by what stands at the front of the octets left
+-- how a block ends so far, by what is at the front of the octets left
 unfoldable pub outcome_of : ℕ → DecoderState → List ℕ → Read Shape → Outcome
 unfolding apply
 outcome_of limit d b (Whole i used) = refused_by b (apply limit d i)
@@ -202,9 +219,9 @@ progress_with table s = record { fields = s.fields; table = table; due = s.due }
 abbrev pub decoded_with : Table → BlockSoFar → Option Decoded
 decoded_with table s = option_map (λ o. let d : Decoded = record { progress = record { fields = s.fields; table = table; due = s.due }; outcome = o } in d) s.outcome
 
--- a block stands as after some of its first octets, which are whole instructions
-abbrev pub StandsWithin : ℕ → Progress → List ℕ → Progress → Type 0
-StandsWithin limit before b now = (n : ℕ) × (decoded limit before (take n b) ≡ record { progress = now; outcome = Unfinished [] })
+-- a block is as after some of its first octets, which are whole instructions
+abbrev pub ProgressWithin : ℕ → Progress → List ℕ → Progress → Type 0
+ProgressWithin limit before b now = (n : ℕ) × (decoded limit before (take n b) ≡ record { progress = now; outcome = Unfinished [] })
 
 -- the size of a list of fields, as far as 64 bits go (RFC 9113, 6.5.2)
 abbrev pub list_size : List Field → ℕ

@@ -1,5 +1,6 @@
 -- What an item changes and what is sent for it (RFC 9113, 5.4).
 use Rattle.std.specs.Prelude.{ℕ, ◌+◌, Bool, true, false, ◌&&◌, List, [], ◌∷◌, ◌++◌, length, map, ◌==◌, if◌then◌else◌, Option, Some, None, ℤ, pos, ◌+ℤ◌, ◌-ℤ◌}
+use Rattle.h2_spec.specs.declared.causes.Cause.{Cause}
 use Rattle.h2_spec.specs.declared.connection.ConnectionState.{ConnectionState}
 use Rattle.h2_spec.specs.declared.connection.Phase.TheVariants as phase
 use Rattle.h2_spec.specs.declared.errors.ErrorCode.{ErrorCode}
@@ -20,6 +21,7 @@ use Rattle.h2_spec.specs.declared.streams.Stream.{Stream}
 use Rattle.h2_spec.specs.Octets.{big_endian}
 use Rattle.h2_spec.specs.FrameType.{HEADERS, RST_STREAM, SETTINGS, PING, GOAWAY, WINDOW_UPDATE, END_STREAM, END_HEADERS, ACK}
 use Rattle.h2_spec.specs.Frame.{Frame}
+use Rattle.h2_spec.specs.Cause.{code_of}
 use Rattle.h2_spec.specs.Errors.{code_number}
 use Rattle.h2_spec.specs.Window.{is_above_max}
 use Rattle.h2_spec.specs.Stream.{is_live, not_live, put}
@@ -33,8 +35,13 @@ abbrev pub outcome_without_frame : Bool → Stream → StreamOutcome
 outcome_without_frame size_update_pending st = record { stream = st; frame = NoStreamFrame; answer = None; size_update_pending = size_update_pending }
 
 -- a stream error (5.4.2)
-abbrev pub stream_error : Bool → ℕ → ErrorCode → StreamOutcome
-stream_error size_update_pending id code = record { stream = not_live id WeReset; frame = Reset id code; answer = None; size_update_pending = size_update_pending }
+abbrev pub stream_error : Bool → ℕ → Cause → StreamOutcome
+stream_error size_update_pending id cause = record { stream = not_live id WeReset; frame = Reset id cause; answer = None; size_update_pending = size_update_pending }
+
+-- a stream error where there is a cause for one
+abbrev pub unless_broken : Option Cause → Bool → ℕ → StreamOutcome → StreamOutcome
+unless_broken (Some cause) size_update_pending id turn = stream_error size_update_pending id cause
+unless_broken None size_update_pending id turn = turn
 
 -- ---- changes
 
@@ -143,7 +150,7 @@ first_frames p (Credit n) = window_update 0 n ∷ []
 -- what is sent on a stream
 abbrev pub second_frames : StreamFrame → List Frame
 second_frames NoStreamFrame = []
-second_frames (Reset id code) = rst_stream id code ∷ []
+second_frames (Reset id cause) = rst_stream id (code_of cause) ∷ []
 second_frames (StreamCredit id n) = window_update id n ∷ []
 
 -- HEADERS of an answer that begins
@@ -170,8 +177,8 @@ abbrev pub ended : State → ErrorCode → State
 ended s code = record s { core = record s.core { phase = phase.Ended code }; block = only_shown s.block }
 
 -- a connection error: GOAWAY is sent (5.4.1)
-abbrev pub broken : State → ErrorCode → Step
-broken s code = record { state = ended s code; sent = goaway s.core.last code ∷ [] }
+abbrev pub broken : State → Cause → Step
+broken s cause = record { state = ended s (code_of cause); sent = goaway s.core.last (code_of cause) ∷ [] }
 
 -- a change is made, for an item with this payload
 abbrev pub made : State → List ℕ → Change → Step
@@ -179,5 +186,5 @@ made s p c = record { state = after s c; sent = frames_of s.book p c }
 
 -- what an item's reaction results in
 abbrev pub settled : State → List ℕ → Reaction → Step
-settled s p (ConnectionError code) = broken s code
+settled s p (ConnectionError cause) = broken s cause
 settled s p (Continues c) = made s p c

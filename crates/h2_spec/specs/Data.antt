@@ -1,9 +1,9 @@
 -- The rule for DATA (RFC 9113, 6.1 and 6.9).
-use Rattle.std.specs.Prelude.{ℕ, ◌+◌, ◌^◌, ◌-◌, Bool, false, ◌&&◌, ◌||◌, not, min, nat_lt, ◌==◌, if◌then◌else◌, Option, Some, None, pos, ◌+ℤ◌, ◌-ℤ◌, int_lt}
+use Rattle.std.specs.Prelude.{ℕ, ◌+◌, ◌^◌, ◌-◌, Bool, ◌&&◌, not, min, nat_lt, ◌==◌, if◌then◌else◌, Option, Some, None, pos, ◌+ℤ◌, ◌-ℤ◌, int_lt}
+use Rattle.h2_spec.specs.declared.causes.Cause.{Cause}
+use Rattle.h2_spec.specs.declared.causes.Cause.TheVariants.{ConnectionWindowExceeded, StreamWindowExceeded, ContentTooLong, ContentTooShort}
 use Rattle.h2_spec.specs.declared.connection.Config.{Config}
 use Rattle.h2_spec.specs.declared.connection.ConnectionState.{ConnectionState}
-use Rattle.h2_spec.specs.declared.errors.ErrorCode.{ErrorCode}
-use Rattle.h2_spec.specs.declared.errors.ErrorCode.TheVariants.{ProtocolError, FlowControlError}
 use Rattle.h2_spec.specs.declared.reactions.ReceivedData.{ReceivedData}
 use Rattle.h2_spec.specs.declared.reactions.Change.{Change}
 use Rattle.h2_spec.specs.declared.reactions.ConnectionFrame.TheVariants.{Credit}
@@ -13,7 +13,7 @@ use Rattle.h2_spec.specs.declared.reactions.StreamFrame.TheVariants.{StreamCredi
 use Rattle.h2_spec.specs.declared.reactions.StreamOutcome.{StreamOutcome}
 use Rattle.h2_spec.specs.declared.streams.Stream.{Stream}
 use Rattle.h2_spec.specs.Window.{given_back}
-use Rattle.h2_spec.specs.Change.{only_counts, with_outcome, outcome_without_frame, stream_error}
+use Rattle.h2_spec.specs.Change.{only_counts, with_outcome, outcome_without_frame, stream_error, unless_broken}
 use Rattle.h2_spec.specs.StreamEnds.{peer_ended}
 
 -- ---- on the connection
@@ -47,10 +47,10 @@ returned_as None size_update_pending st = outcome_without_frame size_update_pend
 unfoldable pub returned : ℕ → Bool → Stream → StreamOutcome
 returned threshold size_update_pending st = returned_as (given_back threshold st.numbers.owed) size_update_pending st
 
--- whether the content does not fit what was declared (8.1.1)
-abbrev pub breaks_length : Option ℕ → ℕ → Bool → Bool
-breaks_length None content_received ends = false
-breaks_length (Some d) content_received ends = nat_lt d content_received || (ends && not (content_received == d))
+-- why the content does not fit what was declared (8.1.1)
+abbrev pub length_broken : Option ℕ → ℕ → Bool → Option Cause
+length_broken None content_received ends = None
+length_broken (Some d) content_received ends = if nat_lt d content_received then Some ContentTooLong else if ends && not (content_received == d) then Some ContentTooShort else None
 
 -- the content received, as far as 64 bits go; what is declared is far below that
 abbrev pub content_with : ℕ → ℕ → ℕ
@@ -70,16 +70,16 @@ taken st d = record st {
 unfoldable pub data_outcome : ℕ → Bool → ℕ → ReceivedData → Stream → StreamOutcome
 unfolding peer_ended returned taken
 data_outcome threshold size_update_pending body d st =
-    if nat_lt 0 d.octets && int_lt st.numbers.recv (pos d.octets) then stream_error size_update_pending st.id FlowControlError
-    else if breaks_length st.numbers.declared (content_with st.numbers.content_received d.content) d.ends then stream_error size_update_pending st.id ProtocolError
-    else if d.ends then peer_ended size_update_pending body (taken st d)
-    else returned threshold size_update_pending (taken st d)
+    if nat_lt 0 d.octets && int_lt st.numbers.recv (pos d.octets) then stream_error size_update_pending st.id StreamWindowExceeded
+    else unless_broken (length_broken st.numbers.declared (content_with st.numbers.content_received d.content) d.ends) size_update_pending st.id
+    (if d.ends then peer_ended size_update_pending body (taken st d)
+    else returned threshold size_update_pending (taken st d))
 
 -- ---- the rule
 
 -- what follows on a stream, unless the connection's window is exceeded
 abbrev pub if_within : ConnectionState → ℕ → Change → Reaction
-if_within core n c = if int_lt core.recv (pos n) then ConnectionError FlowControlError else Continues c
+if_within core n c = if int_lt core.recv (pos n) then ConnectionError ConnectionWindowExceeded else Continues c
 
 -- DATA that the stream takes
 unfoldable pub data_taken : Config → ConnectionState → ℕ → ReceivedData → Stream → Reaction
@@ -88,10 +88,10 @@ data_taken config core body d st =
     if_within core d.octets (with_outcome (counted config.credit core d.octets) (data_outcome config.credit core.peer.size_update_pending body d st))
 
 -- DATA that is refused on its stream, and counted
-unfoldable pub data_refused : Config → ConnectionState → ReceivedData → Stream → ErrorCode → Reaction
+unfoldable pub data_refused : Config → ConnectionState → ReceivedData → Stream → Cause → Reaction
 unfolding counted with_outcome
-data_refused config core d st code =
-    if_within core d.octets (with_outcome (counted config.credit core d.octets) (stream_error core.peer.size_update_pending st.id code))
+data_refused config core d st cause =
+    if_within core d.octets (with_outcome (counted config.credit core d.octets) (stream_error core.peer.size_update_pending st.id cause))
 
 -- DATA that is counted on the connection alone
 unfoldable pub data_counted : Config → ConnectionState → ReceivedData → Reaction

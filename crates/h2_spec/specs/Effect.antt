@@ -1,29 +1,31 @@
 -- What one item does to a connection (RFC 9113, 5 and 6).
 use Rattle.std.specs.Prelude.{ℕ, Bool, List, [], length, ◌==◌, if◌then◌else◌, Option, Some, None, Result, Ok, Err}
+use Rattle.h2_spec.specs.declared.causes.Cause.{Cause}
+use Rattle.h2_spec.specs.declared.causes.Cause.TheVariants as cause
 use Rattle.h2_spec.specs.declared.connection.Config.{Config}
 use Rattle.h2_spec.specs.declared.connection.ConnectionState.{ConnectionState}
 use Rattle.h2_spec.specs.declared.connection.Phase.TheVariants as phase
 use Rattle.h2_spec.specs.declared.connection.Purpose.{Purpose}
-use Rattle.h2_spec.specs.declared.errors.ErrorCode.{ErrorCode}
-use Rattle.h2_spec.specs.declared.errors.ErrorCode.TheVariants.{ProtocolError, FrameSizeError}
 use Rattle.h2_spec.specs.declared.frames.Head.{Head}
 use Rattle.h2_spec.specs.declared.reactions.ReceivedData.{ReceivedData}
 use Rattle.h2_spec.specs.declared.reactions.ConnectionFrame.TheVariants.{PingAck}
 use Rattle.h2_spec.specs.declared.reactions.Reaction.{Reaction}
 use Rattle.h2_spec.specs.declared.reactions.Reaction.TheVariants.{ConnectionError, Continues}
+use Rattle.h2_spec.specs.declared.reactions.StreamFrame.{StreamFrame}
+use Rattle.h2_spec.specs.declared.reactions.StreamFrame.TheVariants.{NoStreamFrame, Reset, StreamCredit}
 use Rattle.h2_spec.specs.declared.reactions.StreamOutcome.{StreamOutcome}
 use Rattle.h2_spec.specs.declared.streams.Kind.TheVariants.{PeerReset}
 use Rattle.h2_spec.specs.declared.streams.Stream.{Stream}
 use Rattle.h2_spec.specs.FrameType.{ACK, END_STREAM, END_HEADERS, has}
 use Rattle.h2_spec.specs.Frame.{Item, Preface, BadPreface, WholeFrame, Oversize}
-use Rattle.h2_spec.specs.Payload.{DataPart, HeadersPart, Part, OfData, OfHeaders, OfPriority, OfRstStream, OfSettings, OfSettingsAck, OfPushPromise, OfPing, OfGoaway, OfWindowUpdate, OfContinuation, OfUnknown, PayloadFault, SizeFault, PadFault, part_as, part_of}
+use Rattle.h2_spec.specs.Payload.{DataPart, HeadersPart, Part, OfData, OfHeaders, OfPriority, OfRstStream, OfSettings, OfSettingsAck, OfPushPromise, OfPing, OfGoaway, OfWindowUpdate, OfContinuation, OfUnknown, part_as, part_of}
 use Rattle.h2_spec.specs.Block.{decoded}
 use Rattle.h2_spec.specs.Request.{malformed, malformed_trailers, declared_length, request_of}
 use Rattle.h2_spec.specs.Answer.{Entry, picked, pick_of, response_block}
 use Rattle.h2_spec.specs.Stream.{not_live, stream_at}
 use Rattle.h2_spec.specs.State.{State, OpenBlock}
 use Rattle.h2_spec.specs.Change.{Step, only_counts, with_outcome, outcome_without_frame, broken, made, frames_of, shifted, received}
-use Rattle.h2_spec.specs.Checks.{refusal}
+use Rattle.h2_spec.specs.Checks.{refusal, oversize}
 use Rattle.h2_spec.specs.ReactionTable.{Cell, DataRule, Take, Refuse, Count, ResetRule, PeerResets, WindowRule, MoveWindow, data_cell, headers_cell, reset_cell, window_cell, run_cell}
 use Rattle.h2_spec.specs.Data.{data_taken, data_refused, data_counted}
 use Rattle.h2_spec.specs.WindowUpdate.{window_outcome, connection_window}
@@ -39,7 +41,7 @@ nothing core = Continues (only_counts core)
 -- DATA by the rule that the table names
 abbrev pub data_rule : DataRule → Config → ConnectionState → ℕ → ReceivedData → Stream → Reaction
 data_rule Take config core body d st = data_taken config core body d st
-data_rule (Refuse code) config core body d st = data_refused config core d st code
+data_rule (Refuse cause) config core body d st = data_refused config core d st cause
 data_rule Count config core body d st = data_counted config core d
 
 -- DATA that comes on a stream, with the length of the body of the stream's answer
@@ -95,7 +97,7 @@ frame_effect s h p OfPriority = makes s (nothing s.core)
 frame_effect s h p (OfRstStream code) = makes s (on_reset s.core (stream_at s.core.last s.streams h.stream))
 frame_effect s h p (OfSettings pairs) = makes s (settings_rule s.streams s.core pairs)
 frame_effect s h p OfSettingsAck = makes s (acknowledged s.config s.core)
-frame_effect s h p OfPushPromise = Breaks ProtocolError
+frame_effect s h p OfPushPromise = Breaks cause.PushPromiseFromClient
 frame_effect s h p (OfPing octets) = makes s (if has h.flags ACK then nothing s.core else Continues (record (only_counts s.core) { first = PingAck }))
 frame_effect s h p (OfGoaway last code) = makes s (Continues (only_counts (record s.core { goaway = Some (last, code) })))
 frame_effect s h p (OfWindowUpdate increment) = makes s (if h.stream == 0 then connection_window s.core increment else on_window s.core increment (stream_at s.core.last s.streams h.stream))
@@ -105,15 +107,14 @@ frame_effect s h p OfUnknown = makes s (nothing s.core)
 -- ---- an item
 
 -- a payload of a bad length, or with too much padding, is a connection error
-abbrev pub part_effect : State → Head → List ℕ → Result Part PayloadFault → FrameEffect
-part_effect s h p (Err SizeFault) = Breaks FrameSizeError
-part_effect s h p (Err PadFault) = Breaks ProtocolError
+abbrev pub part_effect : State → Head → List ℕ → Result Part Cause → FrameEffect
+part_effect s h p (Err cause) = Breaks cause
 part_effect s h p (Ok part) = frame_effect s h p part
 
 -- after the checks of the head
-abbrev pub checked_effect : State → Head → List ℕ → Option ErrorCode → FrameEffect
+abbrev pub checked_effect : State → Head → List ℕ → Option Cause → FrameEffect
 checked_effect s h p None = part_effect s h p (part_of h p)
-checked_effect s h p (Some code) = Breaks code
+checked_effect s h p (Some cause) = Breaks cause
 
 -- the stream of the open block
 abbrev pub block_stream : Option OpenBlock → Option ℕ
@@ -123,8 +124,8 @@ block_stream (Some b) = Some b.shown.stream
 -- an item: the preface, a frame that is too large, or a frame
 abbrev pub item_effect : State → Item → FrameEffect
 item_effect s Preface = Makes s (only_counts (record s.core { phase = phase.Settings }))
-item_effect s BadPreface = Breaks ProtocolError
-item_effect s (Oversize h) = Breaks FrameSizeError
+item_effect s BadPreface = Breaks cause.BadPreface
+item_effect s (Oversize h) = Breaks (oversize h)
 item_effect s (WholeFrame h p) = checked_effect s h p (refusal (block_stream s.block) s.core.phase h)
 
 -- what a PING's answer holds
@@ -136,10 +137,28 @@ payload_of (WholeFrame h p) = p
 
 -- what an item results in is done: a connection error, or a change
 abbrev pub concluded : State → List ℕ → FrameEffect → Step
-concluded s p (Breaks code) = broken s code
+concluded s p (Breaks cause) = broken s cause
 concluded s p (Makes t c) = made t p c
 
 -- the effect of one item
 unfoldable pub effect : State → Item → Step
-unfolding refusal part_as on_data on_reset on_window connection_window settings_rule request_outcome trailers_outcome stream_at with_outcome decoded frames_of shifted received malformed malformed_trailers declared_length request_of pick_of response_block
+unfolding refusal oversize part_as on_data on_reset on_window connection_window settings_rule request_outcome trailers_outcome stream_at with_outcome decoded frames_of shifted received malformed malformed_trailers declared_length request_of pick_of response_block
 effect s item = concluded s (payload_of item) (item_effect s item)
+
+-- ---- why
+
+-- the cause of a stream error, where one is sent
+abbrev pub stream_cause : StreamFrame → Option Cause
+stream_cause NoStreamFrame = None
+stream_cause (Reset id cause) = Some cause
+stream_cause (StreamCredit id n) = None
+
+-- the cause of the error that a frame results in
+abbrev pub effect_cause : FrameEffect → Option Cause
+effect_cause (Breaks cause) = Some cause
+effect_cause (Makes t c) = stream_cause c.second
+
+-- why an item results in a connection error or a stream error, if it does (5.4)
+unfoldable pub cause_of : State → Item → Option Cause
+unfolding refusal oversize part_as on_data on_reset on_window connection_window settings_rule request_outcome trailers_outcome stream_at with_outcome decoded shifted received malformed malformed_trailers declared_length request_of pick_of
+cause_of s item = effect_cause (item_effect s item)

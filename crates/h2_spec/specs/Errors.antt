@@ -17,6 +17,6 @@ code_number EnhanceYourCalm = 11
 
 -- the number of what windows and settings refuse
 abbrev pub fault_number : FlowFault → ℕ
-fault_number (BadSetting code) = 9
+fault_number (BadSetting cause) = 9
 fault_number Overflow = 10
 fault_number Exceeded = 11

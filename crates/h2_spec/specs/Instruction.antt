@@ -24,17 +24,17 @@ pub data Instr (S : Type 0) : Type 0 where
   Update : ℕ → Instr S
   Literal : Mode → NameRef S → S → Instr S
 
--- a string as it stands: whether its octets are a Huffman string, and its octets (5.2)
+-- a string as it is: whether its octets are a Huffman string, and its octets (5.2)
 pub record Str : Type 0 where
   pub huffman : Bool
   pub octets : List ℕ
 
--- a string by its text: whether it stands as a Huffman string, and the octets that it means
+-- a string by its text: whether it is a Huffman string, and the octets that it means
 pub record TextStr : Type 0 where
   pub huffman : Bool
   pub text : List ℕ
 
--- an instruction with its strings as they stand, whatever their octets
+-- an instruction with its strings as they are, whatever their octets
 abbrev pub Shape : Type 0
 Shape = Instr Str
 
@@ -42,7 +42,7 @@ Shape = Instr Str
 abbrev pub Instruction : Type 0
 Instruction = Instr TextStr
 
--- ---- what stands at the front of octets
+-- ---- what is at the front of octets
 
 -- what was read behind this many octets
 abbrev pub read_past : {A : Type 0} → ℕ → Read A → Read A
@@ -156,20 +156,20 @@ unfolding instr_at huffman_text
 instruction_at xs = read_map instruction_of (instr_at xs)
 
 -- the octets of a string represent this text: as they are, or as a Huffman string of it (5.2)
-abbrev pub StandsFor : Bool → List ℕ → List ℕ → Type 0
-StandsFor true octets text = IsHuffman text octets
-StandsFor false octets text = octets ≡ text
+abbrev pub RepresentsText : Bool → List ℕ → List ℕ → Type 0
+RepresentsText true octets text = IsHuffman text octets
+RepresentsText false octets text = octets ≡ text
 
 -- a string represents this text
 abbrev pub IsStringOf : Str → TextStr → Type 0
-IsStringOf s t = (s.huffman ≡ t.huffman) × StandsFor s.huffman s.octets t.text
+IsStringOf s t = (s.huffman ≡ t.huffman) × RepresentsText s.huffman s.octets t.text
 
 -- a name represents this one
 abbrev pub IsNameOf : NameRef Str → NameRef TextStr → Type 0
 IsNameOf name (Ref i) = name ≡ Ref i
 IsNameOf name (Named t) = (s : Str) × (name ≡ Named s) × IsStringOf s t
 
--- the shape is the instruction's, its strings standing for the instruction's texts
+-- the shape is the instruction's, its strings representing the instruction's texts
 abbrev pub IsShapeOf : Shape → Instruction → Type 0
 IsShapeOf shape (Indexed i) = shape ≡ Indexed i
 IsShapeOf shape (Update n) = shape ≡ Update n
@@ -181,7 +181,7 @@ IsSpelling i o = (shape : Shape) × (instr_at o ≡ Whole shape (length o)) × I
 
 -- ---- the spelling with the shortest integers
 
--- the octets that a text stands as
+-- the octets that represent a text
 abbrev pub coded : Bool → List ℕ → List ℕ
 coded true text = spell_huffman text
 coded false text = text
@@ -254,7 +254,7 @@ unfoldable pub split : List ℕ → Parsed (Unit {0}) Shape
 unfolding instr_at parse_all
 split b = parse_all next_shape tt b
 
--- no whole instruction stands there
+-- no whole instruction is there
 abbrev pub IsNone : Read Shape → Type 0
 IsNone (Whole i used) = ⊥
 IsNone More = Unit {0}

@@ -39,18 +39,18 @@ scaled base scale used TooLong = TooLong
 -- the number that groups of seven bits write, the lowest first, in at most this many octets
 abbrev pub groups_at : ℕ → List ℕ → Read ℕ
 groups_at zero cs = TooLong
-groups_at (suc room) [] = More
-groups_at (suc room) (c ∷ cs) = if nat_lt c 128 then Whole c 1 else scaled (c % 128) 128 1 (groups_at room cs)
+groups_at (suc most) [] = More
+groups_at (suc most) (c ∷ cs) = if nat_lt c 128 then Whole c 1 else scaled (c % 128) 128 1 (groups_at most cs)
 
 -- the integer with a prefix of n bits at the front of the octets
 unfoldable pub int_at : ℕ → List ℕ → Read ℕ
 int_at n [] = More
 int_at n (o ∷ cs) = if nat_lt (o % 2 ^ n) (2 ^ n - 1) then Whole (o % 2 ^ n) 1 else scaled (2 ^ n - 1) 1 1 (groups_at 5 cs)
 
--- the groups of seven bits of a number below 128 ^ room, the lowest first
+-- the groups of seven bits of a number below 128 ^ most, the lowest first
 abbrev pub groups_of : ℕ → ℕ → List ℕ
 groups_of zero v = []
-groups_of (suc room) v = if nat_lt v 128 then v ∷ [] else (v % 128 + 128) ∷ groups_of room (v / 128)
+groups_of (suc most) v = if nat_lt v 128 then v ∷ [] else (v % 128 + 128) ∷ groups_of most (v / 128)
 
 -- the shortest spelling of a number below 2 ^ 35, with high in the bits above the prefix
 unfoldable pub spell_int : ℕ → ℕ → ℕ → List ℕ

@@ -3,6 +3,8 @@ pub mod AnswerWords
 pub mod Assemble
 pub mod Block
 pub mod Book
+pub mod Cause
+pub mod CauseWords
 pub mod Change
 pub mod Checks
 pub mod Data
@@ -16,6 +18,7 @@ pub mod Frame
 pub mod FrameType
 pub mod Headers
 pub mod Huffman
+pub mod Ignored
 pub mod HuffmanCode
 pub mod Instruction
 pub mod Integer

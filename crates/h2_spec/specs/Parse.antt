@@ -1,7 +1,7 @@
 -- Front elements off the front of octets, one after another, as long as there are any.
 use Rattle.std.specs.Prelude.{ℕ, zero, suc, List, [], ◌∷◌, length, drop}
 
--- what stands at the front of octets in a state: nothing whole, or a thing, the state after it, and how many octets
+-- what is at the front of octets in a state: nothing whole, or a thing, the state after it, and how many octets
 -- it takes
 pub data Front (S E : Type 0) : Type 0 where
   Stop : Front S E

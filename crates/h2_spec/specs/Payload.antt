@@ -1,10 +1,10 @@
 -- What the payload of a frame holds (RFC 9113, 6).
 use Rattle.std.specs.Prelude.{ℕ, ◌+◌, ◌-◌, ◌*◌, ◌%◌, Bool, true, false, List, [], ◌∷◌, length, take, drop, slice_index, nat_lt, ◌==◌, if◌then◌else◌, Option, Some, None, Result, Ok, Err}
+use Rattle.h2_spec.specs.declared.causes.Cause.{Cause}
+use Rattle.h2_spec.specs.declared.causes.Cause.TheVariants.{DataLength, HeadersLength, PriorityLength, RstStreamLength, SettingsLength, SettingsAckLength, PingLength, GoawayLength, WindowUpdateLength, DataPadding, HeadersPadding}
 use Rattle.h2_spec.specs.declared.frames.FrameType.{FrameType}
 use Rattle.h2_spec.specs.declared.frames.FrameType.TheVariants.{Data, Headers, Priority, RstStream, Settings, PushPromise, Ping, Goaway, WindowUpdate, Continuation, Unknown}
 use Rattle.h2_spec.specs.declared.frames.Head.{Head}
-pub use Rattle.h2_spec.specs.declared.frames.PayloadFault.{PayloadFault}
-pub use Rattle.h2_spec.specs.declared.frames.PayloadFault.TheVariants.{SizeFault, PadFault}
 use Rattle.h2_spec.specs.FrameType.{frame_type, has, PADDED, WITH_PRIORITY, ACK}
 use Rattle.h2_spec.specs.Octets.{four_octets, low_31_bits}
 
@@ -61,12 +61,12 @@ pad_or_0 None = 0
 pad_or_0 (Some n) = n
 
 -- DATA (6.1)
-unfoldable pub data_part : ℕ → List ℕ → Result DataPart PayloadFault
+unfoldable pub data_part : ℕ → List ℕ → Result DataPart Cause
 data_part flags p =
     let fixed = octets_if (has flags PADDED) 1 in
     let pad = pad_or_0 (pad_length flags p) in
-    if nat_lt (length p) fixed then Err SizeFault
-    else if nat_lt (length p) (fixed + pad) then Err PadFault
+    if nat_lt (length p) fixed then Err DataLength
+    else if nat_lt (length p) (fixed + pad) then Err DataPadding
     else Ok (record { pad = pad_length flags p; content = take (length p - fixed - pad) (drop fixed p); padding = drop (length p - pad) p })
 
 -- the dependency's 32 bits and the weight, where the flag is set
@@ -76,12 +76,12 @@ priority_of flags p =
     if has flags WITH_PRIORITY then Some (four_octets p at, slice_index p (at + 4)) else None
 
 -- HEADERS (6.2)
-unfoldable pub headers_part : ℕ → List ℕ → Result HeadersPart PayloadFault
+unfoldable pub headers_part : ℕ → List ℕ → Result HeadersPart Cause
 headers_part flags p =
     let fixed = fixed_len flags in
     let pad = pad_or_0 (pad_length flags p) in
-    if nat_lt (length p) fixed then Err SizeFault
-    else if nat_lt (length p) (fixed + pad) then Err PadFault
+    if nat_lt (length p) fixed then Err HeadersLength
+    else if nat_lt (length p) (fixed + pad) then Err HeadersPadding
     else Ok (record { pad = pad_length flags p; priority = priority_of flags p; fragment = take (length p - fixed - pad) (drop fixed p); padding = drop (length p - pad) p })
 
 -- the settings of a SETTINGS frame in order, as identifier and value (6.5.1)
@@ -90,27 +90,27 @@ setting_pairs (a ∷ b ∷ c ∷ d ∷ e ∷ f ∷ rest) = (256 * a + b, 1677721
 setting_pairs _ = []
 
 -- SETTINGS (6.5)
-unfoldable pub settings_part : ℕ → List ℕ → Result (List (ℕ × ℕ)) PayloadFault
+unfoldable pub settings_part : ℕ → List ℕ → Result (List (ℕ × ℕ)) Cause
 settings_part flags p =
-    if has flags ACK then (if length p == 0 then Ok [] else Err SizeFault)
-    else (if length p % 6 == 0 then Ok (setting_pairs p) else Err SizeFault)
+    if has flags ACK then (if length p == 0 then Ok [] else Err SettingsAckLength)
+    else (if length p % 6 == 0 then Ok (setting_pairs p) else Err SettingsLength)
 
 -- WINDOW_UPDATE: the increment (6.9)
-unfoldable pub window_part : List ℕ → Result ℕ PayloadFault
-window_part p = if length p == 4 then Ok (low_31_bits p 0) else Err SizeFault
+unfoldable pub window_part : List ℕ → Result ℕ Cause
+window_part p = if length p == 4 then Ok (low_31_bits p 0) else Err WindowUpdateLength
 
 -- GOAWAY: the last stream and the error code; what follows them is not looked at (6.8)
-unfoldable pub goaway_part : List ℕ → Result (ℕ × ℕ) PayloadFault
-goaway_part p = if nat_lt (length p) 8 then Err SizeFault else Ok (low_31_bits p 0, four_octets p 4)
+unfoldable pub goaway_part : List ℕ → Result (ℕ × ℕ) Cause
+goaway_part p = if nat_lt (length p) 8 then Err GoawayLength else Ok (low_31_bits p 0, four_octets p 4)
 
 -- RST_STREAM: the error code (6.4)
-unfoldable pub reset_part : List ℕ → Result ℕ PayloadFault
-reset_part p = if length p == 4 then Ok (four_octets p 0) else Err SizeFault
+unfoldable pub reset_part : List ℕ → Result ℕ Cause
+reset_part p = if length p == 4 then Ok (four_octets p 0) else Err RstStreamLength
 
--- a fault, or what is made of the part
-abbrev pub with_part : {A : Type 0} → (A → Part) → Result A PayloadFault → Result Part PayloadFault
+-- a cause, or what is made of the part
+abbrev pub with_part : {A : Type 0} → (A → Part) → Result A Cause → Result Part Cause
 with_part f (Ok a) = Ok (f a)
-with_part f (Err fault) = Err fault
+with_part f (Err cause) = Err cause
 
 -- SETTINGS with ACK hold nothing
 abbrev pub settings_or_ack : Bool → List (ℕ × ℕ) → Part
@@ -118,24 +118,24 @@ settings_or_ack true pairs = OfSettingsAck
 settings_or_ack false pairs = OfSettings pairs
 
 -- a part of a payload of the one length that is allowed
-abbrev pub of_length : ℕ → Part → List ℕ → Result Part PayloadFault
-of_length n part p = if length p == n then Ok part else Err SizeFault
+abbrev pub of_length : ℕ → Cause → Part → List ℕ → Result Part Cause
+of_length n cause part p = if length p == n then Ok part else Err cause
 
--- what a payload holds, by the frame's type: SizeFault is decided before PadFault
-unfoldable pub part_as : FrameType → ℕ → List ℕ → Result Part PayloadFault
+-- what a payload holds, by the frame's type: its length is decided before its padding
+unfoldable pub part_as : FrameType → ℕ → List ℕ → Result Part Cause
 unfolding data_part headers_part settings_part window_part goaway_part reset_part
 part_as Data flags p = with_part OfData (data_part flags p)
 part_as Headers flags p = with_part OfHeaders (headers_part flags p)
-part_as Priority flags p = of_length 5 OfPriority p
+part_as Priority flags p = of_length 5 PriorityLength OfPriority p
 part_as RstStream flags p = with_part OfRstStream (reset_part p)
 part_as Settings flags p = with_part (settings_or_ack (has flags ACK)) (settings_part flags p)
 part_as PushPromise flags p = Ok OfPushPromise
-part_as Ping flags p = of_length 8 (OfPing p) p
+part_as Ping flags p = of_length 8 PingLength (OfPing p) p
 part_as Goaway flags p = with_part (λ (g : ℕ × ℕ). OfGoaway g.0 g.1) (goaway_part p)
 part_as WindowUpdate flags p = with_part OfWindowUpdate (window_part p)
 part_as Continuation flags p = Ok (OfContinuation p)
 part_as (Unknown kind) flags p = Ok OfUnknown
 
 -- what the payload of a frame holds (6)
-abbrev pub part_of : Head → List ℕ → Result Part PayloadFault
+abbrev pub part_of : Head → List ℕ → Result Part Cause
 part_of h p = part_as (frame_type h.kind) h.flags p

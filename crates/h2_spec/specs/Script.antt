@@ -99,7 +99,7 @@ abbrev pub SaysText : List ℕ → List ℕ → Type 0
 SaysText text [] = text ≡ []
 SaysText text (c ∷ cs) = (first rest : List ℕ) × (text ≡ first ++ rest) × SaysCharacter first c × SaysText rest cs
 
--- a string stands between double quotes, or between single quotes where it is to be coded by Huffman
+-- a string is between double quotes, or between single quotes where it is to be coded by Huffman
 abbrev pub quote_of : Bool → ℕ
 quote_of huffman = if huffman then 39 else 34
 
@@ -253,7 +253,7 @@ IsLeastFault kind line = HasFault kind line × ((other : SyntaxKind) → kind_nu
 
 -- ---- scripts
 
--- the texts between line feeds; behind the last one an empty line may stand, which is no octets
+-- the texts between line feeds; behind the last one there may be an empty line, which is no octets
 abbrev pub lines_of : List ℕ → List (List ℕ)
 lines_of text = slice_split (λ b. b == 10) text
 

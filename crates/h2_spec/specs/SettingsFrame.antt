@@ -1,10 +1,10 @@
 -- The rule for SETTINGS (RFC 9113, 6.5 and 6.9.2).
 use Rattle.std.specs.Prelude.{ℕ, true, List, [], ◌∷◌, if◌then◌else◌, Result, Ok, Err}
 use Rattle.h2_spec.specs.declared.connection.Config.{Config}
+use Rattle.h2_spec.specs.declared.causes.Cause.{Cause}
+use Rattle.h2_spec.specs.declared.causes.Cause.TheVariants.{InitialWindowSizeOverflow}
 use Rattle.h2_spec.specs.declared.connection.ConnectionState.{ConnectionState}
 use Rattle.h2_spec.specs.declared.connection.Phase.TheVariants.{Running}
-use Rattle.h2_spec.specs.declared.errors.ErrorCode.{ErrorCode}
-use Rattle.h2_spec.specs.declared.errors.ErrorCode.TheVariants.{FlowControlError}
 use Rattle.h2_spec.specs.declared.flow.LocalSettings.{LocalSettings}
 use Rattle.h2_spec.specs.declared.flow.Settings.{Settings}
 use Rattle.h2_spec.specs.declared.reactions.Change.{Change}
@@ -18,20 +18,20 @@ use Rattle.h2_spec.specs.State.{configured}
 use Rattle.h2_spec.specs.Change.{only_counts, overflows, moved_by}
 
 -- the settings in order behind one of them, unless that is refused or takes a stream's window too far
-abbrev pub setting_next : List Stream → Settings → Result Settings ErrorCode → (Settings → Result Settings ErrorCode) → Result Settings ErrorCode
-setting_next streams from (Err code) follow = Err code
-setting_next streams from (Ok now) follow = if overflows (moved_by from.window now.window) streams then Err FlowControlError else follow now
+abbrev pub setting_next : List Stream → Settings → Result Settings Cause → (Settings → Result Settings Cause) → Result Settings Cause
+setting_next streams from (Err cause) follow = Err cause
+setting_next streams from (Ok now) follow = if overflows (moved_by from.window now.window) streams then Err InitialWindowSizeOverflow else follow now
 
 -- the settings after those of a frame in their order, where they were these before it; the first one that is refused
 -- decides
-unfoldable pub settings_applied : List Stream → Settings → Settings → List (ℕ × ℕ) → Result Settings ErrorCode
+unfoldable pub settings_applied : List Stream → Settings → Settings → List (ℕ × ℕ) → Result Settings Cause
 unfolding overflows with_setting
 settings_applied streams from now [] = Ok now
 settings_applied streams from now (p ∷ ps) = setting_next streams from (with_setting now p.0 p.1) (λ next. settings_applied streams from next ps)
 
 -- the settings are taken and acknowledged, or refused
-abbrev pub settings_taken : ConnectionState → Result Settings ErrorCode → Reaction
-settings_taken core (Err code) = ConnectionError code
+abbrev pub settings_taken : ConnectionState → Result Settings Cause → Reaction
+settings_taken core (Err cause) = ConnectionError cause
 settings_taken core (Ok peer) = Continues (record (only_counts (record core { peer = peer; phase = Running })) { record_update = Shift core.peer.window peer.window; first = SettingsAck })
 
 -- SETTINGS: all of the frame, or none of it

@@ -80,7 +80,7 @@ sent_octets es = flat_map (λ e. frames_octets e.sent) es
 unfoldable pub carried_on : Run → List ℕ → Run
 carried_on r more = let t = trace r.state (r.rest ++ more) in record { events = r.events ++ t.events; state = t.state; rest = t.rest }
 
--- the first answer stands, where it is an item
+-- the first answer, where it is an item
 abbrev pub IsKept : Next → Next → Type 0
 IsKept NoItem later = Unit {0}
 IsKept (Got item used) later = later ≡ Got item used

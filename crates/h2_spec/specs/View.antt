@@ -11,7 +11,7 @@ use Rattle.h2_spec.specs.Field.{Field}
 use Rattle.h2_spec.specs.DynamicTable.{Table, total_size}
 use Rattle.h2_spec.specs.State.{State, OpenBlock}
 
--- the table's fields stand newest first, the streams in the order of their opening
+-- the table's fields are newest first, the streams in the order of their opening
 pub record View : Type 0 where
   pub phase : Phase
   pub last : ℕ

@@ -1,9 +1,10 @@
 //! Error codes, and what the small types of this crate refuse (RFC 9113, 7).
-//! Rests on nothing; definitions: `specs/Errors.antt`.
+//! Rests on `causes`; definitions: `specs/Errors.antt`.
 
 ghost use Rattle.std.specs.Prelude.{◌≡◌};
 ghost use Rattle.h2_spec.specs.Errors.{code_number, fault_number};
 
+use crate::causes::Cause;
 use thiserror::Error;
 
 /// The error codes that this server sends (RFC 9113, 7).
@@ -38,9 +39,9 @@ impl ErrorCode {
 /// What windows and settings refuse.
 #[derive(Clone, Copy, Debug, PartialEq, Eq, Error)]
 pub enum FlowFault {
-    /// A setting has a value that is not allowed; the code of the connection error that follows (RFC 9113, 6.5.2).
-    #[error("a setting has a value that is not allowed: error code {}", .0.number())]
-    BadSetting(ErrorCode),
+    /// A setting has a value that is not allowed; the cause of the connection error that follows (RFC 9113, 6.5.2).
+    #[error("a setting has a value that is not allowed: error code {}", .0.code().number())]
+    BadSetting(Cause),
     /// A window would pass 2147483647 (RFC 9113, 6.9.1).
     #[error("a flow-control window would pass its largest value")]
     Overflow,

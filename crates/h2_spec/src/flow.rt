@@ -5,7 +5,8 @@ ghost use Rattle.std.specs.Prelude.{◌≡◌, ℕ, ℤ, pos, negsuc, ◌+◌, �
 ghost use Rattle.h2_spec.specs.Window.{max_window, given_back, still_owed};
 ghost use Rattle.h2_spec.specs.Settings.{initial, initial_local_settings, with_setting, window_change, settings_or};
 
-use crate::errors::{ErrorCode, FlowFault};
+use crate::causes::Cause;
+use crate::errors::FlowFault;
 use std::marker::Model;
 
 /// The largest window (RFC 9113, 6.9.1).
@@ -267,7 +268,7 @@ impl Settings {
     /// Applies one setting, and answers by how much the initial window changes; other identifiers change nothing (RFC
     /// 9113, 6.5.2).
     ///
-    /// `BadSetting` with the error code where the value is not allowed; then the settings stay as they are.
+    /// `BadSetting` with the cause where the value is not allowed; then the settings stay as they are.
     #[tactic(auto, unfolding(crate::specs::Settings::with_setting))]
     pub fn apply(&mut self, id: u16, value: u32) -> Result<i64, FlowFault>
         ensures answer { result ≡ window_change self.old (with_setting self.old id value) }
@@ -281,20 +282,20 @@ impl Settings {
             }
             SETTINGS_ENABLE_PUSH => {
                 if value > 1 {
-                    return Err(FlowFault::BadSetting(ErrorCode::ProtocolError));
+                    return Err(FlowFault::BadSetting(Cause::EnablePushValue));
                 }
                 self.push = value;
             }
             SETTINGS_MAX_CONCURRENT_STREAMS => self.streams = Some(value),
             SETTINGS_INITIAL_WINDOW_SIZE => {
                 if !is_window(value) {
-                    return Err(FlowFault::BadSetting(ErrorCode::FlowControlError));
+                    return Err(FlowFault::BadSetting(Cause::InitialWindowSizeValue));
                 }
                 self.window = value;
             }
             SETTINGS_MAX_FRAME_SIZE => {
                 if !is_frame_size(value) {
-                    return Err(FlowFault::BadSetting(ErrorCode::ProtocolError));
+                    return Err(FlowFault::BadSetting(Cause::MaxFrameSizeValue));
                 }
                 self.frame = value;
             }

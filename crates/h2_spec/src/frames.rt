@@ -4,8 +4,6 @@
 ghost use Rattle.std.specs.Prelude.{◌≡◌, ◌<◌};
 ghost use Rattle.h2_spec.specs.FrameType.{frame_type, type_number, has};
 
-use thiserror::Error;
-
 /// What a client sends first (RFC 9113, 3.4).
 pub static PREFACE: [u8; 24] = *b"PRI * HTTP/2.0\r\n\r\nSM\r\n\r\n";
 
@@ -129,13 +127,15 @@ impl Head {
     }
 }
 
-/// Why a payload is refused, each a connection error (RFC 9113, 4.2 and 6.1).
-#[derive(Clone, Copy, Debug, PartialEq, Eq, Error)]
-pub enum PayloadFault {
-    /// Its length is not one that its type allows: FRAME_SIZE_ERROR.
-    #[error("a payload of a length that its type does not allow")]
-    SizeFault,
-    /// More padding than there is room for: PROTOCOL_ERROR.
-    #[error("more padding than the payload has room for")]
-    PadFault,
+/// What an item of a connection is, without its payload (RFC 9113, 3.4 and 4.1).
+#[derive(Clone, Copy, Debug, PartialEq, Eq)]
+pub enum ItemHead {
+    /// The client's connection preface.
+    Preface,
+    /// Octets that are not the connection preface.
+    BadPreface,
+    /// A frame that is longer than frames may be; only its head has come.
+    Oversize(Head),
+    /// A whole frame.
+    Frame(Head),
 }

@@ -2,10 +2,12 @@
 //! in `h2_laws`; in `proofs/` here are the lemmas that code is proved with.
 #![tactic(auto)]
 
+pub mod causes;
 pub mod connection;
 pub mod errors;
 pub mod flow;
 pub mod frames;
+pub mod ignored;
 pub mod octets;
 pub mod reactions;
 pub mod scripts;

@@ -1,9 +1,9 @@
 //! What a rule answers: a connection error, or a small change with at most one frame of each place in the order of
 //! sending.
-//! Rests on `errors`, `streams` and `connection`; definitions: `specs/Change.antt`.
+//! Rests on `causes`, `streams` and `connection`; definitions: `specs/Change.antt`.
 
+use crate::causes::Cause;
 use crate::connection::ConnectionState;
-use crate::errors::ErrorCode;
 use crate::streams::{Pick, Stream};
 
 /// What becomes of the streams' records.
@@ -34,8 +34,8 @@ pub enum ConnectionFrame {
 #[derive(Clone, Copy, Debug, PartialEq, Eq)]
 pub enum StreamFrame {
     NoStreamFrame,
-    /// RST_STREAM on this stream, with this code.
-    Reset(u32, ErrorCode),
+    /// RST_STREAM on this stream, for this cause.
+    Reset(u32, Cause),
     /// WINDOW_UPDATE on this stream, with this increment.
     StreamCredit(u32, u32),
 }
@@ -72,7 +72,7 @@ pub struct Change {
 /// What an item results in: a connection error, or a change (RFC 9113, 5.4).
 #[derive(Clone, Copy)]
 pub enum Reaction {
-    ConnectionError(ErrorCode),
+    ConnectionError(Cause),
     Continues(Change),
 }
 
@@ -84,12 +84,12 @@ pub struct ReceivedData {
     pub ends: bool,
 }
 
-/// What the fields of a block result in: their size, whether a reason holds against them, what they declare, and the
-/// answer that is picked.
+/// What the fields of a block result in: their size, why they make no request, if they don't, what they declare, and
+/// the answer that is picked.
 #[derive(Clone, Copy)]
 pub struct BlockSummary {
     pub size: u64,
-    pub malformed: bool,
+    pub malformed: Option<Cause>,
     pub declared: Option<u64>,
     pub pick: Pick,
 }

@@ -7,10 +7,10 @@ ghost use Rattle.h2_streams.specs.Kept as kept;
 
 use std::alloc::Allocator;
 
-/// Puts an identifier into a rising list or takes it out. The list has room for it.
+/// Puts an identifier into a rising list or takes it out. The list has space for it.
 pub(crate) fn list<A: Allocator>(ids: &mut Vec<u32, A>, id: u32, is_in: bool)
     requires rising { kept.IdsRise 0 ids.old.items }
-    requires room { length (kept.listed is_in id ids.old.items) ≤ vec_capacity ids.old }
+    requires enough { length (kept.listed is_in id ids.old.items) ≤ vec_capacity ids.old }
     ensures items { ids.new.items ≡ kept.listed is_in id ids.old.items }
     ensures capacity { vec_capacity ids.old ≤ vec_capacity ids.new }
 {
@@ -52,10 +52,10 @@ fn remove<A: Allocator>(ids: &mut Vec<u32, A>, id: u32)
     }
 }
 
-/// Puts an identifier into a rising list, which has room for it.
+/// Puts an identifier into a rising list, which has space for it.
 fn place<A: Allocator>(ids: &mut Vec<u32, A>, id: u32)
     requires rising { kept.IdsRise 0 ids.old.items }
-    requires room { length (kept.placed id ids.old.items) ≤ vec_capacity ids.old }
+    requires enough { length (kept.placed id ids.old.items) ≤ vec_capacity ids.old }
     ensures items { ids.new.items ≡ kept.placed id ids.old.items }
     ensures capacity { vec_capacity ids.old ≤ vec_capacity ids.new }
 {
@@ -64,7 +64,7 @@ fn place<A: Allocator>(ids: &mut Vec<u32, A>, id: u32)
     }
 }
 
-/// Puts an identifier or a place behind the others, if it is to be listed. There is room for it.
+/// Puts an identifier or a place behind the others, if it is to be listed. There is space for it.
 pub(crate) fn append<T: Copy, A: Allocator>(list: &mut Vec<T, A>, x: T, is_in: bool)
     requires { vec_len list.old < vec_capacity list.old }
     ensures items { list.new.items ≡ list.old.items ++ (if is_in then x ∷ [] else []) }

@@ -16,7 +16,7 @@ use h2_spec::streams::Stream;
 use std::alloc::{AllocError, Allocator};
 
 /// How many more records there is space for at first.
-const ROOM: usize = 64;
+const SPARE_RECORDS: usize = 64;
 
 /// The first records, so many, once more.
 pub(crate) fn front_of<A: Allocator + Copy>(
@@ -27,13 +27,13 @@ pub(crate) fn front_of<A: Allocator + Copy>(
     ensures { IfOk result (λ copy. copy.items ≡ take count records.now.items) }
 {
     let front = &records.as_slice()[..count];
-    let mut copy = Vec::with_capacity(*records.allocator(), count.saturating_add(ROOM))?;
+    let mut copy = Vec::with_capacity(*records.allocator(), count.saturating_add(SPARE_RECORDS))?;
     copy.extend_from_slice(front)?;
     Ok(copy)
 }
 
 /// Writes records in the places of those with their identifiers, and puts the places of the live ones behind the
-/// others. There is room for them.
+/// others. There is space for them.
 pub(crate) fn write_each<A: Allocator>(
     records: &mut Vec<Stream, A>,
     changed: &[Stream],
@@ -42,7 +42,7 @@ pub(crate) fn write_each<A: Allocator>(
     requires rising { kept.Rise 0 records.old.items }
     requires changed { kept.Rise 0 changed.now }
     requires known { spec.AreKnown records.old.items changed.now }
-    requires room { length live.old.items + length changed.now ≤ vec_capacity live.old }
+    requires enough { length live.old.items + length changed.now ≤ vec_capacity live.old }
     ensures items { records.new.items ≡ map (spec.as_in changed.now) records.old.items }
     ensures live { live.new.items ≡ live.old.items ++ spec.live_places changed.now records.old.items }
 {
@@ -52,7 +52,7 @@ pub(crate) fn write_each<A: Allocator>(
     }
 }
 
-/// Puts the record behind the others, if there is one. There is room for it.
+/// Puts the record behind the others, if there is one. There is space for it.
 fn append_any<A: Allocator>(list: &mut Vec<Stream, A>, stream: Option<&Stream>)
     requires { length list.old.items + 1 ≤ vec_capacity list.old }
     ensures items { list.new.items ≡ list.old.items ++ spec.if_any (option_copied stream.entry) }

@@ -38,7 +38,7 @@ pub struct Streams<A: Allocator> {
     records: Vec<Stream, A>,
     /// The places of the live streams' records, rising. A record's place never changes.
     live: Vec<usize, A>,
-    /// The identifiers of the streams that can send, rising; it has room for all live ones.
+    /// The identifiers of the streams that can send, rising; it has space for all live ones.
     ready: Vec<u32, A>,
     last: u32,
 }
@@ -75,7 +75,7 @@ impl<A: Allocator + Copy> Streams<A> {
     {
         let records = copy_of(&self.records)?;
         let live = self.live.clone()?;
-        let ready = copy_with_room(&self.ready, live.as_slice().len())?;
+        let ready = copy_with_capacity(&self.ready, live.as_slice().len())?;
         Ok(Streams {
             records,
             live,
@@ -409,15 +409,15 @@ fn copy_of<A: Allocator + Copy>(records: &Vec<Stream, A>) -> Result<Vec<Stream, 
     Ok(copy)
 }
 
-/// The same identifiers again, with room for so many.
-fn copy_with_room<A: Allocator + Copy>(
+/// The same identifiers again, with space for so many.
+fn copy_with_capacity<A: Allocator + Copy>(
     ids: &Vec<u32, A>,
-    room: usize,
+    count: usize,
 ) -> Result<Vec<u32, A>, AllocError>
     ensures items { IfOk result (λ copy. copy.items ≡ ids.now.items) }
-    ensures room { IfOk result (λ copy. room ≤ vec_capacity copy) }
+    ensures enough { IfOk result (λ copy. count ≤ vec_capacity copy) }
 {
-    let mut copy = Vec::with_capacity(*ids.allocator(), room)?;
+    let mut copy = Vec::with_capacity(*ids.allocator(), count)?;
     copy.extend_from_slice(ids.as_slice())?;
     Ok(copy)
 }

@@ -13,7 +13,7 @@ use crate::places::record_at;
 use h2_spec::streams::Stream;
 use std::alloc::Allocator;
 
-/// Puts the stream behind the others, if there is one and it can send. There is room for it.
+/// Puts the stream behind the others, if there is one and it can send. There is space for it.
 fn append_ready<A: Allocator>(ready: &mut Vec<u32, A>, stream: Option<&Stream>)
     requires { vec_len ready.old < vec_capacity ready.old }
     ensures items { ready.new.items ≡ ready.old.items ++ kept.id_if kept.is_ready (option_copied stream.entry) }
@@ -25,7 +25,7 @@ fn append_ready<A: Allocator>(ready: &mut Vec<u32, A>, stream: Option<&Stream>)
     }
 }
 
-/// Lists those of the streams at these places that can send, in the place of what was listed. There is room for all of
+/// Lists those of the streams at these places that can send, in the place of what was listed. There is space for all of
 /// them.
 pub(crate) fn list_ready<A: Allocator>(
     records: &[Stream],

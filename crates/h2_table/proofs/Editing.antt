@@ -1,9 +1,9 @@
 -- What an edited table evicts, and what a commit moves.
-use Rattle.std.proofs.Common.{◌≡◌, ℕ, zero, suc, ◌+◌, ◌-◌, ◌<◌, ◌≤◌, List, [], ◌∷◌, ◌++◌, length, take, Some, None, get_or, refl, ap, ◌∙◌, sym, arith}
+use Rattle.std.proofs.Common.{◌≡◌, ℕ, zero, suc, ◌+◌, ◌-◌, ◌<◌, ◌≤◌, List, [], ◌∷◌, ◌++◌, length, take, Some, None, ap, ◌∙◌, sym, arith}
 use Rattle.std.proofs.lemmas.List.{take_more, append_assoc}
 use Rattle.std.proofs.lemmas.Option.{slice_get_within, get_or_from_slice_get}
 use Rattle.h2_spec.specs.Field.{Field, size}
-use Rattle.h2_spec.specs.DynamicTable.{Table, LimitedTable, total_size, fit, entry_at, insert, resize}
+use Rattle.h2_spec.specs.DynamicTable.{LimitedTable, total_size, fit, entry_at, insert, resize}
 use Rattle.h2_spec.proofs.TableLaws.{fit-cons, fit-none, fit-zero, fit-evict, total_size-append, total_size-length}
 use Rattle.h2_table.specs.Edits.{Drafted}
 use Rattle.h2_table.specs.Held.{places_for}
@@ -19,19 +19,19 @@ take-last es (suc n) x h =
     rw less (ap (λ k. take k es) (sym next) ∙ take_more es n x inside ∙ ap (λ y. take n es ++ y ∷ []) (get_or_from_slice_get es n x x at))
 
 -- it counts what the others don't, and what fits is the same without it
-pub record Leaves (added es : List Field) (last : ℕ) (x : Field) (room : ℕ) : Type 0 where
+pub record Leaves (added es : List Field) (last : ℕ) (x : Field) (available : ℕ) : Type 0 where
   pub counted : total_size (added ++ take last es) ≡ total_size (added ++ take (last - 1) es) + size x
-  pub same : fit (added ++ take (last - 1) es) room ≡ fit (added ++ take last es) room
+  pub same : fit (added ++ take (last - 1) es) available ≡ fit (added ++ take last es) available
 
-pub leaves : (added es : List Field) (last : ℕ) (x : Field) (room : ℕ) → Some x ≡ entry_at last es → room < total_size (added ++ take last es) → Leaves added es last x room
-leaves added es last x room h over =
+pub leaves : (added es : List Field) (last : ℕ) (x : Field) (available : ℕ) → Some x ≡ entry_at last es → available < total_size (added ++ take last es) → Leaves added es last x available
+leaves added es last x available h over =
     let rest = added ++ take (last - 1) es in
     let split : added ++ take last es ≡ rest ++ x ∷ [] = ap (λ r. added ++ r) (take-last es last x h) ∙ sym (append_assoc added (take (last - 1) es) (x ∷ [])) in
     let sizes = ap total_size split ∙ total_size-append rest (x ∷ []) in
-    let over_too : room < total_size (rest ++ x ∷ []) = omega (arith, ap total_size split) in
+    let over_too : available < total_size (rest ++ x ∷ []) = omega (arith, ap total_size split) in
     record {
       counted = omega (arith, sizes);
-      same = sym (ap (λ r. fit r room) split ∙ fit-evict rest x room over_too);
+      same = sym (ap (λ r. fit r available) split ∙ fit-evict rest x available over_too);
     }
 
 -- an entry that is not there
@@ -62,7 +62,7 @@ inserted-draft base entries now max f d v e = ap (λ x. draft base x max) e ∙ 
 pub emptied-draft : (base : LimitedTable) (entries now : List Field) (max : ℕ) (f : Field) (d : Drafted) → draft base entries max ≡ d → now ≡ fit entries 0 → max < size f → draft base now max ≡ record d { table = insert d.table f }
 emptied-draft base entries now max f d v e over = inserted-draft base entries now max f d v (e ∙ fit-zero entries ∙ sym (fit-none f entries max over))
 
--- a field that has room enters
+-- a field that has available enters
 pub entered-draft : (base : LimitedTable) (entries left now : List Field) (max : ℕ) (f : Field) (d : Drafted) → draft base entries max ≡ d → left ≡ fit entries (max - size f) → now ≡ f ∷ left → size f ≤ max → draft base now max ≡ record d { table = insert d.table f }
 entered-draft base entries left now max f d v e k fits = inserted-draft base entries now max f d v (k ∙ ap (λ r. f ∷ r) e ∙ sym (fit-cons f entries max fits))
 

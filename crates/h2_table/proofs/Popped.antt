@@ -21,26 +21,26 @@ last-none [] h = refl
 last-none (x ∷ xs) h = let e : last_item (x ∷ xs) ≡ Some (get_or (x ∷ xs) (length (x ∷ xs) - 1) x) = slice_get-get_or (x ∷ xs) (length (x ∷ xs) - 1) x (omega arith) in cc
 
 -- the oldest entry of too many: it counts what the others don't, and what fits is the same without it
-pub record Evicts (xs rest : List Field) (x : Field) (room : ℕ) : Type 0 where
+pub record Evicts (xs rest : List Field) (x : Field) (available : ℕ) : Type 0 where
   pub counted : total_size xs ≡ total_size rest + size x
-  pub same : fit rest room ≡ fit xs room
+  pub same : fit rest available ≡ fit xs available
 
-pub evicts-split : (xs rest : List Field) (x : Field) (room : ℕ) → xs ≡ rest ++ x ∷ [] → room < total_size xs → Evicts xs rest x room
-evicts-split xs rest x room split over =
+pub evicts-split : (xs rest : List Field) (x : Field) (available : ℕ) → xs ≡ rest ++ x ∷ [] → available < total_size xs → Evicts xs rest x available
+evicts-split xs rest x available split over =
     let sizes = ap total_size split ∙ total_size-append rest (x ∷ []) in
-    let over_too : room < total_size (rest ++ x ∷ []) = omega (arith, ap total_size split) in
+    let over_too : available < total_size (rest ++ x ∷ []) = omega (arith, ap total_size split) in
     record {
       counted = omega (arith, sizes);
-      same = sym (ap (λ es. fit es room) split ∙ fit-evict rest x room over_too);
+      same = sym (ap (λ es. fit es available) split ∙ fit-evict rest x available over_too);
     }
 
-pub evicts : (xs : List Field) (x : Field) (room : ℕ) → Some x ≡ last_item xs → room < total_size xs → Evicts xs (take (length xs - 1) xs) x room
-evicts xs x room h over = evicts-split xs (take (length xs - 1) xs) x room (last-split xs x (sym h)) over
+pub evicts : (xs : List Field) (x : Field) (available : ℕ) → Some x ≡ last_item xs → available < total_size xs → Evicts xs (take (length xs - 1) xs) x available
+evicts xs x available h over = evicts-split xs (take (length xs - 1) xs) x available (last-split xs x (sym h)) over
 
 -- where one more entry is within the limit, a place is free
 pub has_place : (es : List Field) (limit : ℕ) → total_size es + 32 ≤ limit → length es < places_for limit
 has_place es limit h = omega (arith, total_size-length es)
 
 -- a ring that holds too much has an oldest entry
-pub not_empty : (xs : List Field) (room : ℕ) → room < total_size xs → None ≡ last_item xs → ⊥
-not_empty xs room over none = omega (arith, ap total_size (last-none xs none))
+pub not_empty : (xs : List Field) (available : ℕ) → available < total_size xs → None ≡ last_item xs → ⊥
+not_empty xs available over none = omega (arith, ap total_size (last-none xs none))

@@ -1,3 +1,4 @@
 pub mod Edits
 pub mod Held
 pub mod Lent
+pub mod StaticMarks

@@ -3,15 +3,16 @@
 //! entries as the limit or the maximum lets in, whichever is larger.
 //! The definitions are `Table`, `insert` and `resize` of `h2_spec`, specs/DynamicTable.antt.
 
-ghost use Rattle.std.specs.Prelude.{◌≡◌, ◌<◌, ◌≤◌, [], ◌∷◌, ◌++◌, ◌↔◌, length, option_map, true, Ok, OnOk, OnErr, IfOk, IfErr, IsErr, nat_lt};
+ghost use Rattle.std.specs.Prelude.{◌≡◌, ◌<◌, ◌≤◌, [], ◌∷◌, ◌++◌, ◌↔◌, length, option_map, true, Ok, OnOk, OnErr, IfOk, IfErr, IfSome, IsErr, nat_lt};
 ghost use Rattle.circular_buffer.specs.Buffer.{buffer};
 ghost use Rattle.h2_spec.specs.DynamicTable.{fit, insert, resize, total_size, entry_at};
 ghost use Rattle.h2_table.specs.Held.{places_for};
-ghost use Rattle.h2_table.specs.Lent.{lent_field};
+ghost use Rattle.h2_table.specs.Lent.{lent_field, field_lent, IsMarked};
 ghost use Rattle.h2_table.specs.declared.fault.TableFault.TheVariants as faults;
 
 use crate::entry::TableEntry;
 use crate::fault::TableFault;
+use crate::lent::LentField;
 use circular_buffer::HeapCircularBuffer;
 use std::alloc::{AllocError, Allocator};
 use std::marker::Model;
@@ -115,11 +116,19 @@ impl<A: Allocator> DynTable<A> {
     pub fn get(&self, i: usize) -> Option<(&[u8], &[u8])>
         ensures { option_map lent_field result ≡ entry_at i self.now.table.entries }
     {
+        let entry = self.entry(i)?;
+        Some((entry.name, entry.value))
+    }
+
+    /// As `get`, with the mark of the entry.
+    pub(crate) fn entry(&self, i: usize) -> Option<LentField<'_>>
+        ensures field { option_map field_lent result ≡ entry_at i self.now.table.entries }
+        ensures marked { IfSome result IsMarked }
+    {
         if i == 0 {
             return None;
         }
-        let entry = self.ring.get(i - 1)?;
-        Some((entry.name(), entry.value()))
+        Some(lend(self.ring.get(i - 1)?))
     }
 
     /// Sets the maximum to `n` octets, and evicts the oldest entries until the others are within it (RFC 7541, 4.3).
@@ -144,7 +153,7 @@ impl<A: Allocator> DynTable<A> {
         Ok(())
     }
 
-    /// Adds a field as the newest entry, once the oldest ones have made room for it; one that counts more than the
+    /// Adds a field as the newest entry, once the oldest ones have made space for it; one that counts more than the
     /// maximum empties the table and is no error (RFC 7541, 4.4). No memory is taken.
     pub fn insert(&mut self, name: Vec<u8, A>, value: Vec<u8, A>)
         ensures { self.new ≡ record self.old { table = insert self.old.table (record { name = name.items; value = value.items }) } }
@@ -196,6 +205,18 @@ impl<A: Allocator + Copy> DynTable<A> {
     }
 }
 
+/// An entry, lent with its mark.
+pub(crate) fn lend<A: Allocator>(entry: &TableEntry<A>) -> LentField<'_>
+    ensures field { field_lent result ≡ entry.now }
+    ensures marked { IsMarked result }
+{
+    LentField {
+        name: entry.name(),
+        value: entry.value(),
+        mark: entry.mark(),
+    }
+}
+
 /// The places of a ring for entries that count so many octets together: each counts 32 or more.
 fn places_for(most: u32) -> usize
     ensures { result ≡ places_for most }
@@ -220,21 +241,21 @@ fn make_places<A: Allocator + Copy>(
     ring.resize(places)
 }
 
-/// Takes out the oldest entries until those left, which count `size` together, count at most `room`; what is left
+/// Takes out the oldest entries until those left, which count `size` together, count at most `available`; what is left
 /// counts the answer.
 fn evict<A: Allocator>(
     ring: &mut HeapCircularBuffer<TableEntry<A>, A>,
     size: usize,
-    room: usize,
+    available: usize,
 ) -> usize
     requires { size ≡ total_size ring.old.items }
-    ensures kept { ring.new.items ≡ fit ring.old.items room }
+    ensures kept { ring.new.items ≡ fit ring.old.items available }
     ensures counted { result ≡ total_size ring.new.items }
-    ensures within { result ≤ room }
+    ensures within { result ≤ available }
     ensures places { ring.new.capacity ≡ ring.old.capacity }
 {
     let mut left = size;
-    while left > room {
+    while left > available {
         match ring.pop_back() {
             Some(entry) => left -= entry.name().len() + entry.value().len() + 32,
             None => return left,

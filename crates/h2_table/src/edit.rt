@@ -3,28 +3,40 @@
 //! committed changes nothing. So a field block can be decoded without a copy of the table. The definitions are `Table`,
 //! `insert` and `resize` of `h2_spec`, specs/DynamicTable.antt, and those of `specs/Edits.antt`.
 
-ghost use Rattle.std.specs.Prelude.{◌≡◌, ◌<◌, ◌≤◌, [], ◌∷◌, ◌++◌, ◌↔◌, length, take, option_map, true, OnOk, OnErr, IfErr, IsErr};
+ghost use Rattle.std.specs.Prelude.{◌≡◌, ◌<◌, ◌≤◌, [], ◌∷◌, ◌++◌, ◌↔◌, length, take, option_map, true, OnOk, OnErr, IfOk, IfErr, IfSome, IsErr};
 ghost use Rattle.std.specs.VecDeque.{deque_len, deque_capacity};
 ghost use Rattle.circular_buffer.specs.Buffer.{buffer};
 ghost use Rattle.h2_spec.specs.DynamicTable.{fit, insert, resize, total_size, entry_at};
 ghost use Rattle.h2_spec.specs.Field.{field};
+ghost use Rattle.h2_mark.specs.Mark.{mark_of};
 ghost use Rattle.h2_table.specs.Edits.{IsEdit, edited};
-ghost use Rattle.h2_table.specs.Lent.{lent_field};
+ghost use Rattle.h2_table.specs.Lent.{field_lent, IsMarked};
 ghost use Rattle.h2_table.specs.declared.fault.TableFault.TheVariants as faults;
 
-use crate::dynamic_table::{DynTable, put_newest};
+use crate::dynamic_table::{DynTable, lend, put_newest};
 use crate::entry::TableEntry;
 use crate::fault::TableFault;
+use crate::lent::LentField;
 use circular_buffer::HeapCircularBuffer;
+use h2_mark::FieldMark;
 use std::alloc::{AllocError, Allocator};
 use std::collections::VecDeque;
 use std::marker::Model;
 
+/// How many evicted entries keep their memory for entries to come.
+const SPARE_ENTRIES: usize = 8;
+
+/// The most octets that the lists of such an entry have places for: a table whose entries all had such memory takes four
+/// times what they count.
+const SPARE_OCTETS: usize = 128;
+
 /// An edit of a dynamic table, without the table: the added entries, the newest first, how many of the table's own
-/// entries remain, what both count together, and the maximum.
+/// entries remain, what both count together, and the maximum. Besides it has the memory of some entries that were
+/// evicted.
 #[derive(Drop)]
 pub struct Edit<A: Allocator> {
     pub(crate) added: VecDeque<TableEntry<A>, A>,
+    pub(crate) spare: Vec<TableEntry<A>, A>,
     pub(crate) kept: usize,
     pub(crate) size: usize,
     pub(crate) max: u32,
@@ -41,10 +53,13 @@ impl<A: Allocator> Model for Edit<A> {
 impl<A: Allocator> Edit<A> {
     /// An edit for `Draft::start`. Takes no memory.
     pub fn new(alloc: A) -> Self
+    where
+        A: Copy,
         ensures { result ≡ record { added = []; kept = 0; size = 0; max = 0 } }
     {
         Edit {
             added: VecDeque::new(alloc),
+            spare: Vec::new(alloc),
             kept: 0,
             size: 0,
             max: 0,
@@ -58,6 +73,7 @@ impl<A: Allocator> Edit<A> {
 pub struct Draft<'t, A: Allocator> {
     base: &'t DynTable<A>,
     added: VecDeque<TableEntry<A>, A>,
+    spare: Vec<TableEntry<A>, A>,
     kept: usize,
     size: usize,
     max: u32,
@@ -74,8 +90,8 @@ impl<'t, A: Allocator> Model for Draft<'t, A> {
 }
 
 impl<'t, A: Allocator + Copy> Draft<'t, A> {
-    /// The table with no changes yet. `edit` may be of any table: its entries are dropped and its places are used
-    /// again. Takes no memory.
+    /// The table with no changes yet. `edit` may be of any table: its entries are dropped, and its places and the memory
+    /// of its evicted entries are used again. Takes no memory.
     pub fn start(base: &'t DynTable<A>, edit: Edit<A>) -> Self
         ensures { result ≡ record { base = base.now; table = base.now.table } }
     {
@@ -84,6 +100,7 @@ impl<'t, A: Allocator + Copy> Draft<'t, A> {
         Draft {
             base,
             added,
+            spare: edit.spare,
             kept: base.len(),
             size: base.size(),
             max: base.max(),
@@ -97,6 +114,7 @@ impl<'t, A: Allocator + Copy> Draft<'t, A> {
     {
         Edit {
             added: self.added,
+            spare: self.spare,
             kept: self.kept,
             size: self.size,
             max: self.max,
@@ -110,22 +128,22 @@ impl<'t, A: Allocator + Copy> Draft<'t, A> {
         self.base.limit()
     }
 
-    /// The name and the value of the `i`-th entry, counted from 1, the newest; none past the oldest, and none for 0.
-    pub fn get(&self, i: usize) -> Option<(&[u8], &[u8])>
-        ensures { option_map lent_field result ≡ entry_at i self.now.table.entries }
+    /// The `i`-th entry with its mark, counted from 1, the newest; none past the oldest, and none for 0.
+    pub fn get(&self, i: usize) -> Option<LentField<'_>>
+        ensures field { option_map field_lent result ≡ entry_at i self.now.table.entries }
+        ensures marked { IfSome result IsMarked }
     {
         if i == 0 {
             return None;
         }
         let count = self.added.len();
         if i <= count {
-            let entry = self.added.get(i - 1)?;
-            return Some((entry.name(), entry.value()));
+            return Some(lend(self.added.get(i - 1)?));
         }
         if i - count > self.kept {
             return None;
         }
-        self.base.get(i - count)
+        self.base.entry(i - count)
     }
 
     /// Sets the maximum to `n` octets, and evicts the oldest entries until the others are within it (RFC 7541, 4.3).
@@ -146,6 +164,7 @@ impl<'t, A: Allocator + Copy> Draft<'t, A> {
         let max = n as u32;
         let (kept, left) = evict_oldest(
             &mut self.added,
+            &mut self.spare,
             self.base,
             self.kept,
             self.size,
@@ -157,28 +176,37 @@ impl<'t, A: Allocator + Copy> Draft<'t, A> {
         Ok(())
     }
 
-    /// Adds a field as the newest entry, once the oldest ones have made room for it; one that counts more than the
-    /// maximum empties the table and is no error (RFC 7541, 4.4).
+    /// Adds a field as the newest entry, once the oldest ones have made space for it; one that counts more than the
+    /// maximum empties the table and is no error (RFC 7541, 4.4). `mark` is the mark of the field.
     ///
     /// # Errors
     ///
     /// `AllocError` where memory was refused; nothing has changed.
-    pub fn insert(&mut self, name: &[u8], value: &[u8]) -> Result<(), AllocError>
+    pub fn insert(&mut self, name: &[u8], value: &[u8], mark: FieldMark) -> Result<(), AllocError>
+        requires marked { mark ≡ mark_of (field name.now value.now) }
         ensures ok { OnOk result (self.new ≡ record self.old { table = insert self.old.table (field name.now value.now) }) }
         ensures err { OnErr result (self.new ≡ self.old) }
     {
         let size = name.len().saturating_add(value.len()).saturating_add(32);
         let max = self.max as usize;
         if size > max {
-            let (kept, left) = evict_oldest(&mut self.added, self.base, self.kept, self.size, 0);
+            let (kept, left) = evict_oldest(
+                &mut self.added,
+                &mut self.spare,
+                self.base,
+                self.kept,
+                self.size,
+                0,
+            );
             self.kept = kept;
             self.size = left;
             return Ok(());
         }
         self.added.reserve(1)?;
-        let entry = TableEntry::of(*self.added.allocator(), name, value)?;
+        let entry = entry_in(&mut self.spare, name, value, mark)?;
         let (kept, left) = evict_oldest(
             &mut self.added,
+            &mut self.spare,
             self.base,
             self.kept,
             self.size,
@@ -191,74 +219,106 @@ impl<'t, A: Allocator + Copy> Draft<'t, A> {
     }
 }
 
-/// Evicts the oldest entries until the others count at most `room` octets: first the table's own, then those that were
+/// An entry of this name and this value, in the memory of a spare one where there is one. Has places for spare entries
+/// from then on.
+fn entry_in<A: Allocator + Copy>(
+    spare: &mut Vec<TableEntry<A>, A>,
+    name: &[u8],
+    value: &[u8],
+    mark: FieldMark,
+) -> Result<TableEntry<A>, AllocError>
+    requires marked { mark ≡ mark_of (field name.now value.now) }
+    ensures { IfOk result (λ entry. entry ≡ record { name = name.now; value = value.now }) }
+{
+    if let Some(entry) = spare.pop() {
+        return entry.again(name, value, mark);
+    }
+    if spare.capacity() == 0 {
+        spare.reserve_exact(SPARE_ENTRIES)?;
+    }
+    TableEntry::of(*spare.allocator(), name, value, mark)
+}
+
+/// Keeps the memory of an entry that was evicted, if there is a place and it is little; drops it elsewhere.
+fn set_aside<A: Allocator>(spare: &mut Vec<TableEntry<A>, A>, entry: TableEntry<A>) {
+    if spare.len() < spare.capacity() && entry.places() <= SPARE_OCTETS {
+        spare.push_reserved(entry);
+    }
+}
+
+/// Evicts the oldest entries until the others count at most `available` octets: first the table's own, then those that were
 /// added. Returns how many of the table's own remain, and what all that remain count.
 fn evict_oldest<A: Allocator>(
     added: &mut VecDeque<TableEntry<A>, A>,
+    spare: &mut Vec<TableEntry<A>, A>,
     base: &DynTable<A>,
     kept: usize,
     size: usize,
-    room: usize,
+    available: usize,
 ) -> (usize, usize)
     requires counted { size ≡ total_size (added.old.items ++ take kept base.now.table.entries) }
     requires held { kept ≤ length base.now.table.entries }
-    ensures left { added.new.items ++ take result.0 base.now.table.entries ≡ fit (added.old.items ++ take kept base.now.table.entries) room }
+    ensures left { added.new.items ++ take result.0 base.now.table.entries ≡ fit (added.old.items ++ take kept base.now.table.entries) available }
     ensures held { result.0 ≤ length base.now.table.entries }
     ensures counted { result.1 ≡ total_size (added.new.items ++ take result.0 base.now.table.entries) }
-    ensures within { result.1 ≤ room }
+    ensures within { result.1 ≤ available }
     ensures fewer { deque_len added.new ≤ deque_len added.old }
     ensures places { deque_capacity added.new ≡ deque_capacity added.old }
 {
-    let (kept, left) = evict_own(added, base, kept, size, room);
-    if left <= room {
+    let (kept, left) = evict_own(added, base, kept, size, available);
+    if left <= available {
         return (kept, left);
     }
-    (0, evict_added(added, left, room))
+    (0, evict_added(added, spare, left, available))
 }
 
-/// Evicts the oldest of the entries until the others, all of which count `size` octets, count at most `room`; returns
+/// Evicts the oldest of the entries until the others, all of which count `size` octets, count at most `available`; returns
 /// what they count.
 fn evict_added<A: Allocator>(
     added: &mut VecDeque<TableEntry<A>, A>,
+    spare: &mut Vec<TableEntry<A>, A>,
     size: usize,
-    room: usize,
+    available: usize,
 ) -> usize
     requires { size ≡ total_size added.old.items }
-    ensures kept { added.new.items ≡ fit added.old.items room }
+    ensures kept { added.new.items ≡ fit added.old.items available }
     ensures counted { result ≡ total_size added.new.items }
-    ensures within { result ≤ room }
+    ensures within { result ≤ available }
     ensures fewer { deque_len added.new ≤ deque_len added.old }
     ensures places { deque_capacity added.new ≡ deque_capacity added.old }
 {
     let mut left = size;
-    while left > room {
+    while left > available {
         match added.pop_back() {
-            Some(entry) => left -= entry.name().len() + entry.value().len() + 32,
+            Some(entry) => {
+                left -= entry.name().len() + entry.value().len() + 32;
+                set_aside(spare, entry);
+            }
             None => return left,
         }
     }
     left
 }
 
-/// How many of the table's own entries remain where the oldest of them are evicted, until all count at most `room`
+/// How many of the table's own entries remain where the oldest of them are evicted, until all count at most `available`
 /// octets or none of the table's own is left, and what all that remain count.
 fn evict_own<A: Allocator>(
     added: &VecDeque<TableEntry<A>, A>,
     base: &DynTable<A>,
     kept: usize,
     size: usize,
-    room: usize,
+    available: usize,
 ) -> (usize, usize)
     requires counted { size ≡ total_size (added.now.items ++ take kept base.now.table.entries) }
     requires held { kept ≤ length base.now.table.entries }
-    ensures same { fit (added.now.items ++ take result.0 base.now.table.entries) room ≡ fit (added.now.items ++ take kept base.now.table.entries) room }
+    ensures same { fit (added.now.items ++ take result.0 base.now.table.entries) available ≡ fit (added.now.items ++ take kept base.now.table.entries) available }
     ensures held { result.0 ≤ length base.now.table.entries }
     ensures counted { result.1 ≡ total_size (added.now.items ++ take result.0 base.now.table.entries) }
-    ensures gone { room < result.1 → result.0 ≡ 0 }
+    ensures gone { available < result.1 → result.0 ≡ 0 }
 {
     let mut last = kept;
     let mut left = size;
-    while left > room && last > 0 {
+    while left > available && last > 0 {
         match base.get(last) {
             Some((name, value)) => left -= name.len() + value.len() + 32,
             None => return (last, left),
@@ -275,10 +335,26 @@ impl<A: Allocator> DynTable<A> {
         requires belongs { IsEdit self.old edit.old }
         ensures { self.new ≡ record self.old { table = edited self.old.table.entries edit.old } }
     {
-        self.ring.truncate_back(edit.kept);
+        evict_from(&mut self.ring, &mut edit.spare, edit.kept);
         move_newest(&mut self.ring, &mut edit.added);
         self.size = edit.size;
         self.max = edit.max;
+    }
+}
+
+/// Evicts the entries behind the newest `kept` ones.
+fn evict_from<A: Allocator>(
+    ring: &mut HeapCircularBuffer<TableEntry<A>, A>,
+    spare: &mut Vec<TableEntry<A>, A>,
+    kept: usize,
+)
+    ensures { ring.new ≡ buffer (take kept ring.old.items) ring.old.capacity }
+{
+    while ring.len() > kept {
+        match ring.pop_back() {
+            Some(entry) => set_aside(spare, entry),
+            None => return,
+        }
     }
 }
 

@@ -1,5 +1,6 @@
 //! The header tables of HPACK (RFC 7541, 2.3 and 4): the static table, and the dynamic table of one decoder.
-//! It rests on `circular_buffer`, which holds the dynamic table's entries, the newest at the front.
+//! It rests on `circular_buffer`, which holds the dynamic table's entries, the newest at the front, and on the marks of
+//! `h2_mark`: each entry has its mark beside it.
 //! The definitions are in `h2_spec`: StaticTable and DynamicTable; what a table holds privately, in `specs/Held.antt`.
 #![tactic(auto)]
 
@@ -7,9 +8,11 @@ pub mod dynamic_table;
 pub mod edit;
 pub mod entry;
 pub mod fault;
+pub mod lent;
 pub mod static_table;
 
 pub use dynamic_table::DynTable;
 pub use edit::{Draft, Edit};
 pub use fault::TableFault;
-pub use static_table::static_field;
+pub use lent::LentField;
+pub use static_table::{static_entry, static_field};

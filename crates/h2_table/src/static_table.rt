@@ -1,10 +1,16 @@
 //! The static table (RFC 7541, 2.3.1 and Appendix A): 61 fields that every decoder knows.
-//! It rests on nothing but its own constant table; the definition is `static_field` of `h2_spec`,
-//! specs/StaticTable.antt.
+//! It rests on its own constant tables; the definition is `static_field` of `h2_spec`, specs/StaticTable.antt, and the
+//! marks of the entries are those that `mark_of` of `h2_mark`, specs/Mark.antt, computes.
 
-ghost use Rattle.std.specs.Prelude.{◌≡◌, option_map, map, slice_get};
+ghost use Rattle.std.specs.Prelude.{◌≡◌, option_map, map, slice_get, Some, IfSome};
+ghost use Rattle.h2_spec.specs.Field.{Field};
 ghost use Rattle.h2_spec.specs.StaticTable as spec;
-ghost use Rattle.h2_table.specs.Lent.{lent_field};
+ghost use Rattle.h2_mark.specs.Mark.{mark_of};
+ghost use Rattle.h2_table.specs.Lent.{lent_field, field_lent, IsMarked};
+ghost use Rattle.h2_table.specs.StaticMarks.{mark_with};
+
+use crate::lent::LentField;
+use h2_mark::{FieldMark, KnownName};
 
 /// The entries in order, the first at index 1.
 static ENTRIES: [(&str, &str); 61] = [
@@ -71,6 +77,71 @@ static ENTRIES: [(&str, &str); 61] = [
     ("www-authenticate", ""),
 ];
 
+/// Which known name each entry has; no entry is malformed for anything.
+static KNOWN: [KnownName; 61] = [
+    KnownName::Authority,
+    KnownName::Method,
+    KnownName::Method,
+    KnownName::Path,
+    KnownName::Path,
+    KnownName::Scheme,
+    KnownName::Scheme,
+    KnownName::OtherPseudo,
+    KnownName::OtherPseudo,
+    KnownName::OtherPseudo,
+    KnownName::OtherPseudo,
+    KnownName::OtherPseudo,
+    KnownName::OtherPseudo,
+    KnownName::OtherPseudo,
+    KnownName::Other,
+    KnownName::Other,
+    KnownName::Other,
+    KnownName::Other,
+    KnownName::Other,
+    KnownName::Other,
+    KnownName::Other,
+    KnownName::Other,
+    KnownName::Other,
+    KnownName::Other,
+    KnownName::Other,
+    KnownName::Other,
+    KnownName::Other,
+    KnownName::ContentLength,
+    KnownName::Other,
+    KnownName::Other,
+    KnownName::Other,
+    KnownName::Other,
+    KnownName::Other,
+    KnownName::Other,
+    KnownName::Other,
+    KnownName::Other,
+    KnownName::Other,
+    KnownName::Other,
+    KnownName::Other,
+    KnownName::Other,
+    KnownName::Other,
+    KnownName::Other,
+    KnownName::Other,
+    KnownName::Other,
+    KnownName::Other,
+    KnownName::Other,
+    KnownName::Other,
+    KnownName::Other,
+    KnownName::Other,
+    KnownName::Other,
+    KnownName::Other,
+    KnownName::Other,
+    KnownName::Other,
+    KnownName::Other,
+    KnownName::Other,
+    KnownName::Other,
+    KnownName::OfConnection,
+    KnownName::Other,
+    KnownName::Other,
+    KnownName::Other,
+    KnownName::Other,
+];
+
 /// The table as a slice; read here alone, so that no other proof goes through its entries.
 #[tactic(auto, unfolding(h2_spec::specs::StaticTable::static_entries))]
 fn entries() -> &'static [(&'static str, &'static str)]
@@ -102,5 +173,47 @@ pub fn static_field(i: usize) -> Option<(&'static [u8], &'static [u8])>
         None
     } else {
         entry_of(entries(), i - 1)
+    }
+}
+
+/// As `static_field`, with the mark of the entry.
+pub fn static_entry(i: usize) -> Option<LentField<'static>>
+    ensures field { option_map field_lent result ≡ spec.static_field i }
+    ensures marked { IfSome result IsMarked }
+{
+    let (name, value) = static_field(i)?;
+    let mark = static_mark(i);
+    Some(LentField { name, value, mark })
+}
+
+/// The names of the table's entries as a slice; read here alone, as `entries` is.
+#[tactic(auto, unfolding(h2_spec::specs::StaticTable::static_entries, h2_mark::specs::Mark::mark_of, h2_mark::specs::Mark::known_of))]
+fn known_names() -> &'static [KnownName]
+    ensures { map mark_with result.now ≡ map mark_of spec.static_entries }
+{
+    &KNOWN
+}
+
+/// The mark of the entry at an index of the static table; any mark where there is none.
+fn static_mark(i: usize) -> FieldMark
+    ensures { (f : Field) → Some f ≡ spec.static_field i → result ≡ mark_of f }
+{
+    let known = known_names();
+    if i == 0 || i > known.len() {
+        mark_with(KnownName::Other)
+    } else {
+        mark_with(known[i - 1])
+    }
+}
+
+/// The mark of an entry with this name.
+fn mark_with(known: KnownName) -> FieldMark
+    ensures { result ≡ mark_with known }
+{
+    FieldMark {
+        known,
+        bad_name: false,
+        bad_value: false,
+        bad_te: false,
     }
 }

@@ -1,6 +1,6 @@
 -- The words of a command line: the commands as clap reads them, and what words ask for.
-use Rattle.std.specs.Prelude.{◌&&◌, ◌^◌, ℕ, Bool, true, false, List, [], ◌∷◌, Option, Some, None, codes, length, nat_lt, if◌then◌else◌, unwrap_or, option_and_then}
-use Rattle.std.specs.List.{list_all}
+use Rattle.std.specs.Prelude.{◌&&◌, ◌^◌, ℕ, Bool, true, false, List, [], ◌∷◌, Option, Some, None, codes, drop, length, nat_eq, nat_lt, if◌then◌else◌, unwrap_or, option_and_then}
+use Rattle.std.specs.List.{list_all, list_any}
 use Rattle.std.specs.Option.{option_map_or}
 use Rattle.std.specs.Str.{bytes_eq}
 use Rattle.std.specs.Str.Parse.{digits_value, without_leading_plus}
@@ -37,6 +37,14 @@ cut_rule = record (new_rule (codes "cut")) { long = Some (codes "cut"); action =
 -- whether each item is reported
 abbrev pub each_rule : Rule
 each_rule = record (new_rule (codes "each")) { long = Some (codes "each"); action = Some SetTrue }
+
+-- whether a connection is explained as JSON
+abbrev pub json_rule : Rule
+json_rule = record (new_rule (codes "json")) { long = Some (codes "json"); action = Some SetTrue }
+
+-- whether a text has colours
+abbrev pub color_rule : Rule
+color_rule = record (new_rule (codes "color")) { long = Some (codes "color"); action = Some SetTrue }
 
 -- the answers, any number of them
 abbrev pub answer_rule : Rule
@@ -92,13 +100,16 @@ count_rule = record (new_rule (codes "COUNT")) { required = true; action = Some 
 abbrev pub serve_app : App
 serve_app = with_rule (with_rule (with_rule (with_book (with_limits (new_app (codes "serve")))) port_rule) count_rule) answer_rule
 
+abbrev pub explain_app : App
+explain_app = with_rule (with_book (with_rule (with_rule (with_limits (new_app (codes "explain"))) json_rule) color_rule)) answer_rule
+
 abbrev pub top_app : App
 top_app = record (new_app (codes "h2_bench")) { top = record (new_app (codes "h2_bench")).top { subcommand_required = true } }
 
 unfoldable pub bench_app : App
 bench_app =
     let offline = with_subcommand (with_subcommand (with_subcommand (with_subcommand top_app play_app.top) asm_app.top) dis_app.top) table_app.top in
-    with_subcommand (with_subcommand offline debug_app.top) serve_app.top
+    with_subcommand (with_subcommand (with_subcommand offline debug_app.top) serve_app.top) explain_app.top
 
 -- ---- what words ask for
 
@@ -120,6 +131,7 @@ pub data Asked : Type 0 where
   batch : BatchAsked → Asked
   debug : (config : Config) → (book : BookAsked) → Asked
   serve : (config : Config) → (port : ℕ) → (count : ℕ) → (book : BookAsked) → Asked
+  explain : (config : Config) → (json : Bool) → (color : Bool) → (file : Text) → (book : BookAsked) → Asked
 
 -- the number that a text spells in decimal digits, if it is below 2 ^ 32
 abbrev pub number_of : Text → Option ℕ
@@ -156,6 +168,28 @@ config_at rows = record {
 abbrev pub book_at : List Row → BookAsked
 book_at rows = record { file = text_at (codes "book") rows; why = is_set (codes "why") rows; answers = texts_at (codes "ANSWER") rows }
 
+-- whether a word is an answer: it has a `|`
+abbrev pub is_answer : Text → Bool
+is_answer word = list_any (λ c. nat_eq c 124) word
+
+-- the file among the words of `explain`: the first one, where it is no answer
+abbrev pub file_among : List Text → Text
+file_among [] = []
+file_among (word ∷ words) = if is_answer word then [] else word
+
+-- how many files there are among them
+abbrev pub files_among : List Text → ℕ
+files_among [] = 0
+files_among (word ∷ words) = if is_answer word then 0 else 1
+
+-- the answers among them: all but the file
+abbrev pub answers_among : List Text → List Text
+answers_among words = drop (files_among words) words
+
+-- the book of `explain`
+abbrev pub explain_book_at : List Row → BookAsked
+explain_book_at rows = record (book_at rows) { answers = answers_among (texts_at (codes "ANSWER") rows) }
+
 abbrev pub asked_by : Text → List Row → Option Asked
 asked_by name rows =
     if bytes_eq name (codes "play") then Some (batch (play (config_at rows) (number_at (codes "cut") 0 rows) (is_set (codes "each") rows) (book_at rows)))
@@ -163,7 +197,8 @@ asked_by name rows =
     else if bytes_eq name (codes "dis") then Some (batch dis)
     else if bytes_eq name (codes "table") then Some (batch (table (number_at (codes "LIMIT") 0 rows)))
     else if bytes_eq name (codes "debug") then Some (debug (config_at rows) (book_at rows))
-    else (if bytes_eq name (codes "serve") then Some (serve (config_at rows) (number_at (codes "PORT") 0 rows) (number_at (codes "COUNT") 0 rows) (book_at rows)) else None)
+    else (if bytes_eq name (codes "serve") then Some (serve (config_at rows) (number_at (codes "PORT") 0 rows) (number_at (codes "COUNT") 0 rows) (book_at rows))
+    else (if bytes_eq name (codes "explain") then Some (explain (config_at rows) (is_set (codes "json") rows) (is_set (codes "color") rows) (file_among (texts_at (codes "ANSWER") rows)) (explain_book_at rows)) else None))
 
 -- what is asked, if no kind of error comes
 abbrev pub unless_refused : Kinds → Option Asked → Option Asked

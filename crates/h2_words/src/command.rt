@@ -1,10 +1,10 @@
 //! What the words of a command line ask for.
 //! Rests on `words` and on clap, whose definition of a command says which words are taken: `specs/Grammar.antt`.
 
-ghost use Rattle.std.specs.Prelude.{◌≡◌, IfOk, IfErr, bytes_eq, Some, None, codes, map, option_map};
+ghost use Rattle.std.specs.Prelude.{◌≡◌, ◌≤◌, length, IfOk, IfErr, bytes_eq, Some, None, codes, map, option_map};
 ghost use Rattle.clap.specs.Words.{App, Rule, found_of, kind_of, new_app, rows_of, subcommand_rows_of, with_rule, with_subcommand};
 ghost use Rattle.clap.specs.declared.error.ErrorKind.TheVariants.{OutOfMemory};
-ghost use Rattle.h2_words.specs.Grammar.{answer_rule, asked_at, asked_by, asked_of, asm_app, bench_app, book_at, book_rule, config_at, count_rule, credit_rule, cut_rule, debug_app, dis_app, each_rule, frame_rule, is_set, limit_rule, number_at, play_app, port_rule, serve_app, streams_rule, table_app, table_rule, text_at, texts_at, top_app, why_rule, window_rule, with_book, with_limits, with_settings};
+ghost use Rattle.h2_words.specs.Grammar.{answer_rule, answers_among, asked_at, asked_by, asked_of, asm_app, bench_app, book_at, book_rule, color_rule, config_at, count_rule, credit_rule, cut_rule, debug_app, dis_app, each_rule, explain_app, file_among, files_among, frame_rule, is_answer, is_set, json_rule, limit_rule, number_at, play_app, port_rule, serve_app, streams_rule, table_app, table_rule, text_at, texts_at, top_app, why_rule, window_rule, with_book, with_limits, with_settings};
 ghost use Rattle.h2_words.specs.Built.{IsArg, IsCommand, number_rule, option_rule};
 ghost use Rattle.h2_words.specs.Plans.{book_asked, planned, Refuses};
 
@@ -44,6 +44,19 @@ pub struct Debug<'a> {
     pub book: BookWords<'a>,
 }
 
+/// How a connection is explained.
+#[derive(Drop)]
+pub struct Explain<'a> {
+    pub config: Config,
+    /// Whether it is explained as JSON, an object a line.
+    pub json: bool,
+    /// Whether a text has colours.
+    pub color: bool,
+    /// The path of the file that has the octets as hex; empty where standard input has them.
+    pub file: &'a str,
+    pub book: BookWords<'a>,
+}
+
 /// How connections are served.
 #[derive(Drop)]
 pub struct Serve<'a> {
@@ -76,6 +89,8 @@ pub enum Plan<'a> {
     Debug(Debug<'a>),
     /// Serves connections of a port.
     Serve(Serve<'a>),
+    /// Explains a connection over the octets of a file or of the input.
+    Explain(Explain<'a>),
 }
 
 /// Why words were refused.
@@ -173,8 +188,26 @@ fn each_option<'a>(alloc: Global) -> Arg<'a>
     ensures { IsArg each_rule result }
 {
     Arg::new(alloc, "each")
-        .help("Tells the state at the start and after each item")
+        .help("Shows the state at the start and after each item")
         .long("each")
+        .action(ArgAction::SetTrue)
+}
+
+fn json_option<'a>(alloc: Global) -> Arg<'a>
+    ensures { IsArg json_rule result }
+{
+    Arg::new(alloc, "json")
+        .help("Writes one JSON object a line")
+        .long("json")
+        .action(ArgAction::SetTrue)
+}
+
+fn color_option<'a>(alloc: Global) -> Arg<'a>
+    ensures { IsArg color_rule result }
+{
+    Arg::new(alloc, "color")
+        .help("Colours the lines of the text by what they say")
+        .long("color")
         .action(ArgAction::SetTrue)
 }
 
@@ -201,6 +234,16 @@ fn answer_words<'a>(alloc: Global) -> Arg<'a>
 {
     Arg::new(alloc, "ANSWER")
         .help("METHOD|PATH|STATUS|BODYHEX, any number of |NAME=VALUE, and at most one |early")
+        .action(ArgAction::Append)
+}
+
+fn input_words<'a>(alloc: Global) -> Arg<'a>
+    ensures { IsArg answer_rule result }
+{
+    Arg::new(alloc, "ANSWER")
+        .help(
+            "A first word without | is a FILE of hex, in place of standard input; the others are answers: METHOD|PATH|STATUS|BODYHEX, any number of |NAME=VALUE, and at most one |early",
+        )
         .action(ArgAction::Append)
 }
 
@@ -349,6 +392,17 @@ fn serve_command<'a>(alloc: Global) -> Result<Command<'a>, AllocError>
     with_arg(command, answer_words(alloc))
 }
 
+fn explain_command<'a>(alloc: Global) -> Result<Command<'a>, AllocError>
+    ensures { IfOk result (IsCommand explain_app) }
+{
+    let about = "Explains one connection, item by item: what it is, what is sent for it, and why";
+    let command = with_limits(alloc, Ok(described(alloc, "explain", about)));
+    let command = with_arg(command, json_option(alloc));
+    let command = with_arg(command, color_option(alloc));
+    let command = with_book(alloc, command);
+    with_arg(command, input_words(alloc))
+}
+
 fn top_command<'a>(alloc: Global) -> Command<'a>
     ensures { IsCommand top_app result }
 {
@@ -364,7 +418,8 @@ fn bench_command<'a>(alloc: Global) -> Result<Command<'a>, AllocError>
     let command = with_subcommand(command, Ok(dis_command(alloc)));
     let command = with_subcommand(command, table_command(alloc));
     let command = with_subcommand(command, debug_command(alloc));
-    with_subcommand(command, serve_command(alloc))
+    let command = with_subcommand(command, serve_command(alloc));
+    with_subcommand(command, explain_command(alloc))
 }
 
 /// The number that an option or a positional was given, or another.
@@ -421,16 +476,23 @@ fn config_at(matches: &ArgMatches<'_>) -> Config
     }
 }
 
+/// The book that a command is given, with these answers.
+fn book_with<'a>(matches: &ArgMatches<'a>, answers: Vec<&'a str>) -> BookWords<'a>
+    ensures { book_asked result ≡ record (book_at (rows_of (found_of matches.now))) { answers = map (λ s. s.now) answers.entry.items } }
+{
+    BookWords {
+        file: text_at(matches, "book"),
+        why: is_set(matches, "why"),
+        answers,
+    }
+}
+
 /// The book of answers that a command is given.
 fn book_from<'a>(alloc: Global, matches: &ArgMatches<'a>) -> Result<BookWords<'a>, AllocError>
     ensures { IfOk result (λ book. book_asked book ≡ book_at (rows_of (found_of matches.now))) }
 {
     let answers = texts_at(alloc, matches, "ANSWER")?;
-    Ok(BookWords {
-        file: text_at(matches, "book"),
-        why: is_set(matches, "why"),
-        answers,
-    })
+    Ok(book_with(matches, answers))
 }
 
 /// How a connection is to be played.
@@ -473,6 +535,57 @@ fn serve_from<'a>(alloc: Global, matches: &ArgMatches<'a>) -> Result<Serve<'a>, 
     })
 }
 
+/// Whether a word is an answer: it has a `|`.
+fn is_answer(word: &str) -> bool
+    ensures { result ≡ is_answer word.now }
+{
+    word.as_bytes().contains(&b'|')
+}
+
+/// The file among the words of `explain`: the first one, where it is no answer; else empty.
+fn file_among<'a>(words: &[&'a str]) -> &'a str
+    ensures { result.now ≡ file_among (map (λ s. s.now) words.now) }
+{
+    match words.split_first() {
+        Some((first, _)) => { if is_answer(first) { "" } else { first } }
+        None => "",
+    }
+}
+
+/// How many files there are among the words of `explain`, 0 or 1.
+fn files_among(words: &[&str]) -> usize
+    ensures value { result ≡ files_among (map (λ s. s.now) words.now) }
+    ensures within { result ≤ length words.now }
+{
+    match words.split_first() {
+        Some((first, _)) => { if is_answer(first) { 0 } else { 1 } }
+        None => 0,
+    }
+}
+
+/// The answers among the words of `explain`: all but the file.
+fn answers_among<'w, 'a>(words: &'w [&'a str]) -> &'w [&'a str]
+    ensures { map (λ s. s.now) result.now ≡ answers_among (map (λ s. s.now) words.now) }
+{
+    &words[files_among(words)..]
+}
+
+/// How a connection is to be explained.
+fn explain_from<'a>(alloc: Global, matches: &ArgMatches<'a>) -> Result<Explain<'a>, AllocError>
+    ensures { IfOk result (λ explain. Some (planned (Plan.Explain explain)) ≡ asked_by (codes "explain") (rows_of
+        (found_of matches.now))) }
+{
+    let words = texts_at(alloc, matches, "ANSWER")?;
+    let answers = Vec::from_slice(alloc, answers_among(words.as_slice()))?;
+    Ok(Explain {
+        config: config_at(matches),
+        json: is_set(matches, "json"),
+        color: is_set(matches, "color"),
+        file: file_among(words.as_slice()),
+        book: book_with(matches, answers),
+    })
+}
+
 /// Whether a command has this name.
 fn is(name: &str, command: &str) -> bool
     ensures { result ≡ bytes_eq name.now command.now }
@@ -505,6 +618,9 @@ fn plan_from<'a>(
     }
     if is(name, "serve") {
         return Ok(Some(Plan::Serve(serve_from(alloc, matches)?)));
+    }
+    if is(name, "explain") {
+        return Ok(Some(Plan::Explain(explain_from(alloc, matches)?)));
     }
     Ok(None)
 }

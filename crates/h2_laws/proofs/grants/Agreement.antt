@@ -74,9 +74,9 @@ Either true P Q = P
 Either false P Q = Q
 
 -- the mark fits the stream's record, of which there is at most one
-abbrev pub Stands : List Entry → ℕ → ℕ → List Stream → Mark → Type 0
-Stands book window id [] m = Unasked m
-Stands book window id (st ∷ sts) m = Either (eqb st.id id) (Fits book window st m × Absent id sts) (Stands book window id sts m)
+abbrev pub FitsStreams : List Entry → ℕ → ℕ → List Stream → Mark → Type 0
+FitsStreams book window id [] m = Unasked m
+FitsStreams book window id (st ∷ sts) m = Either (eqb st.id id) (Fits book window st m × Absent id sts) (FitsStreams book window id sts m)
 
 -- a state that a record can have
 abbrev pub IsRecorded : Kind → Type 0
@@ -121,15 +121,15 @@ abbrev pub IsDecoding : ℕ → ℕ → List Stream → ℕ → Option Decoding 
 IsDecoding id last streams j None m = Unit {0}
 IsDecoding id last streams j (Some d) m = IsBlock id last streams j d.purpose m
 
-abbrev pub BlockStands : ℕ → ℕ → List Stream → Option OpenBlock → Mark → Type 0
-BlockStands id last streams None m = Unit {0}
-BlockStands id last streams (Some b) m = IsDecoding id last streams b.shown.stream b.decoding m
+abbrev pub FitsBlock : ℕ → ℕ → List Stream → Option OpenBlock → Mark → Type 0
+FitsBlock id last streams None m = Unit {0}
+FitsBlock id last streams (Some b) m = IsDecoding id last streams b.shown.stream b.decoding m
 
 -- it looks at two parts of the mark alone, and at which streams have a record
-pub BlockStands-same : (id last : ℕ) (streams others : List Stream) (o : Option OpenBlock) (m n : Mark) → n.promised ≡ m.promised → n.reset ≡ m.reset →
-    ((j : ℕ) → IsRecorded (stream_at last streams j).kind → IsRecorded (stream_at last others j).kind) → BlockStands id last streams o m → BlockStands id last others o n
-BlockStands-same id last streams others None m n e f r h = tt
-BlockStands-same id last streams others (Some b) m n e f r h = decoding b.decoding h
+pub FitsBlock-same : (id last : ℕ) (streams others : List Stream) (o : Option OpenBlock) (m n : Mark) → n.promised ≡ m.promised → n.reset ≡ m.reset →
+    ((j : ℕ) → IsRecorded (stream_at last streams j).kind → IsRecorded (stream_at last others j).kind) → FitsBlock id last streams o m → FitsBlock id last others o n
+FitsBlock-same id last streams others None m n e f r h = tt
+FitsBlock-same id last streams others (Some b) m n e f r h = decoding b.decoding h
   where
     j : ℕ
     j = b.shown.stream
@@ -163,12 +163,12 @@ pub record AgreementOf (book : List Entry) (id : ℕ) (entries : List Entry) (ph
   -- the connection's send window is what it was at first and the grants, less what was sent
   pub send_is : send +ℤ pos t.sent ≡ pos (65535 + t.granted)
   pub within : IsWithinConnection t
-  pub stands : Stands book t.window id streams t.mark
+  pub agreed : FitsStreams book t.window id streams t.mark
   pub bodies : Bodies book streams
   pub ordered : Rise 0 last streams
   -- a stream that is still idle has neither record nor mark
   pub idle : last < id → (t.mark ≡ blank) × Absent id streams
-  pub of_block : BlockStands id last streams block t.mark
+  pub of_block : FitsBlock id last streams block t.mark
 
 abbrev pub Agreement : List Entry → ℕ → State → Tally → Type 0
 Agreement book id s t = AgreementOf book id s.book s.core.phase s.core.last s.core.send s.core.peer.window s.core.peer.frame s.block s.streams t

@@ -1,13 +1,13 @@
 -- Field blocks keep the tests: the request that a block ends is the one whose body the tally takes as promised.
-use Rattle.std.proofs.Common.{◌≡◌, ℕ, ◌+◌, ◌<◌, ◌≤◌, Bool, true, false, cond, ◌&&◌, not, List, [], ◌∷◌, length, refl, sym, ap, subst, arith, eqb, Option, Some, None}
+use Rattle.std.proofs.Common.{◌≡◌, ℕ, ◌+◌, ◌<◌, ◌≤◌, Bool, true, false, cond, not, List, [], ◌∷◌, length, refl, sym, ap, subst, arith, eqb, Option, Some, None}
 use Rattle.std.proofs.lemmas.Bool.{eqb-true, false≢true}
 use Rattle.std.specs.Option.{is_some}
 use Rattle.std.specs.Prelude.{nat_lt}
+use Rattle.h2_spec.specs.declared.causes.Cause.TheVariants.{HeadersAfterEndStream}
 use Rattle.h2_spec.specs.declared.connection.BlockView.{BlockView}
 use Rattle.h2_spec.specs.declared.connection.ConnectionState.{ConnectionState}
 use Rattle.h2_spec.specs.declared.connection.Purpose.{Purpose}
 use Rattle.h2_spec.specs.declared.connection.Purpose.TheVariants.{Request, Trailers, Closed, TableOnly}
-use Rattle.h2_spec.specs.declared.errors.ErrorCode.TheVariants.{StreamClosed}
 use Rattle.h2_spec.specs.declared.reactions.Change.{Change}
 use Rattle.h2_spec.specs.declared.reactions.ConnectionFrame.TheVariants.{NoConnectionFrame}
 use Rattle.h2_spec.specs.declared.reactions.BlockSummary.{BlockSummary}
@@ -16,7 +16,7 @@ use Rattle.h2_spec.specs.declared.streams.Stream.{Stream}
 use Rattle.h2_spec.specs.Field.{Field}
 use Rattle.h2_spec.specs.DynamicTable.{Table}
 use Rattle.h2_spec.specs.Block.{Decoded, Outcome, Unfinished, Faulty, list_size}
-use Rattle.h2_spec.specs.Request.{malformed_trailers}
+use Rattle.h2_spec.specs.Request.{trailers_fault}
 use Rattle.h2_spec.specs.Answer.{Entry, picked}
 use Rattle.h2_spec.specs.Stream.{stream_at, octets_waiting, live_count, put}
 use Rattle.h2_spec.specs.State.{State, OpenBlock, Decoding}
@@ -25,7 +25,7 @@ use Rattle.h2_spec.specs.Headers.{FrameEffect, Breaks, request_summary, new_stre
 use Rattle.h2_spec.specs.Effect.{body_length}
 use Rattle.h2_laws.specs.Grants.{Mark, Tally, When, with_mark_on, body_promised, with_fields, fields_at_end}
 use Rattle.h2_laws.specs.Order.{Rise}
-use Rattle.h2_laws.proofs.grants.Agreement.{Fits, IsRecorded, IsBlock, BlockStands, Agreement}
+use Rattle.h2_laws.proofs.grants.Agreement.{Fits, IsRecorded, IsBlock, FitsBlock, Agreement}
 use Rattle.h2_laws.proofs.grants.Turns.{Proper, Good, just_asked, error-proper, error-good, Uncut-live, trailers_turn-proper, trailers_turn-good, request_turn-proper, request_turn-good}
 use Rattle.h2_laws.proofs.grants.Records.{at-id, put-last}
 use Rattle.h2_laws.proofs.grants.Rules.{Moves, Kept, stays, outcome-kept, record-kept}
@@ -95,11 +95,11 @@ request-kept id s t p j ends fields pos_id x none above =
       some_frame = x.some_frame;
       send_is = x.send_is;
       within = x.within;
-      stands = x.stands;
+      agreed = x.agreed;
       bodies = x.bodies;
       ordered = raised 0 s.core.last s.streams above x.ordered;
       idle = λ h. x.idle (omega arith);
-      of_block = subst (λ o. BlockStands id j s.streams o t.mark) (sym none) tt;
+      of_block = subst (λ o. FitsBlock id j s.streams o t.mark) (sym none) tt;
     }
 
     good : eqb j id ≡ true → Good s.book t.window (cond (eqb j id) asked t.mark) outcome
@@ -130,16 +130,16 @@ block-kept id s t p j ends fields purpose pos_id x none b = at purpose b
     at Trailers b =
         let for : (e : eqb j id ≡ true) → (is_some t.mark.promised ≡ true) × (t.mark.reset ≡ false) = λ e. whenever _ (eqb j id) e b.1 in
         promised _ (λ e. (for e).0)
-        (on_record (trailers_outcome (list_size fields) (is_some (malformed_trailers fields)) (body_length s.book st) s.core.peer.size_update_pending ends st) b.0
-        (trailers_turn-proper s.book (list_size fields) (is_some (malformed_trailers fields)) s.core.peer.size_update_pending ends st)
-        (λ e f. trailers_turn-good s.book t.window t.mark (list_size fields) (is_some (malformed_trailers fields)) s.core.peer.size_update_pending ends st f (for e).1))
+        (on_record (trailers_outcome (list_size fields) (trailers_fault fields) (body_length s.book st) s.core.peer.size_update_pending ends st) b.0
+        (trailers_turn-proper s.book (list_size fields) (trailers_fault fields) s.core.peer.size_update_pending ends st)
+        (λ e f. trailers_turn-good s.book t.window t.mark (list_size fields) (trailers_fault fields) s.core.peer.size_update_pending ends st f (for e).1))
     at Closed b =
         let for : (e : eqb j id ≡ true) → (is_some t.mark.promised ≡ true) × (t.mark.reset ≡ false) = λ e. whenever _ (eqb j id) e b.1 in
         let same : st.id ≡ j = at-id s.core.last s.streams j in
         promised _ (λ e. (for e).0)
-        (on_record (stream_error s.core.peer.size_update_pending j StreamClosed) b.0
-        (subst (λ i. Proper s.book st (stream_error s.core.peer.size_update_pending i StreamClosed)) same (error-proper s.book s.core.peer.size_update_pending st StreamClosed))
-        (λ e f. error-good s.book t.window t.mark s.core.peer.size_update_pending j StreamClosed (Uncut-live st.kind (picked s.book st.pick).body t.window st.numbers.send st.numbers.body_remaining t.mark f (for e).1)))
+        (on_record (stream_error s.core.peer.size_update_pending j HeadersAfterEndStream) b.0
+        (subst (λ i. Proper s.book st (stream_error s.core.peer.size_update_pending i HeadersAfterEndStream)) same (error-proper s.book s.core.peer.size_update_pending st HeadersAfterEndStream))
+        (λ e f. error-good s.book t.window t.mark s.core.peer.size_update_pending j HeadersAfterEndStream (Uncut-live st.kind (picked s.book st.pick).body t.window st.numbers.send st.numbers.body_remaining t.mark f (for e).1)))
     at TableOnly b = promised _ (λ e. whenever _ (eqb j id) e b.1) (stays s.book id t p s s.core NoConnectionFrame pos_id x)
 
 -- ---- a fragment
@@ -162,7 +162,7 @@ fragment-kept id s t p b d octets ends pos_id x of = over _ (cases ends)
     over u k = either u (nat_lt 65536 (b.octets + length octets)) (Breaks _) (fragment_decoded s c d.purpose ends r) tt k
 
     -- the same state with another table and block
-    with_table : (table : Table) (o : Option OpenBlock) → BlockStands id s.core.last s.streams o t.mark → Agreement s.book id (record s { table = table; block = o }) t
+    with_table : (table : Table) (o : Option OpenBlock) → FitsBlock id s.core.last s.streams o t.mark → Agreement s.book id (record s { table = table; block = o }) t
     with_table table o h = record {
       running = x.running;
       same_book = x.same_book;
@@ -171,7 +171,7 @@ fragment-kept id s t p b d octets ends pos_id x of = over _ (cases ends)
       some_frame = x.some_frame;
       send_is = x.send_is;
       within = x.within;
-      stands = x.stands;
+      agreed = x.agreed;
       bodies = x.bodies;
       ordered = x.ordered;
       idle = x.idle;
@@ -184,7 +184,10 @@ fragment-kept id s t p b d octets ends pos_id x of = over _ (cases ends)
 
     last : (o : Outcome) → Kept s.book id (with_mark_on id b.stream t (with_fields s.book t.mark (Some r.progress.fields))) p (fragment_decoded s c d.purpose true (record r { outcome = o }))
     last (Faulty fault) = tt
-    last (Unfinished rest) = either _ (eqb (length rest) 0 && not r.progress.due) _ (Breaks _) (block-kept id (record s { table = r.progress.table; block = None }) t p b.stream b.ends r.progress.fields d.purpose pos_id (with_table r.progress.table None tt) refl of) tt
+    last (Unfinished rest) =
+        either _ (not (eqb (length rest) 0)) (Breaks _) _ tt
+        (either _ r.progress.due (Breaks _) _ tt
+        (block-kept id (record s { table = r.progress.table; block = None }) t p b.stream b.ends r.progress.fields d.purpose pos_id (with_table r.progress.table None tt) refl of))
 
     cases : (e : Bool) → Kept s.book id (with_mark_on id b.stream t (with_fields s.book t.mark (fields_at_end s (Some d) octets e))) p (fragment_decoded s c d.purpose e r)
     cases false = subst (λ u. Kept s.book id u p (fragment_decoded s c d.purpose false r)) (sym (mark-same id b.stream t _ (λ e. ap (λ o. record t.mark { promised = o }) (no_fields s.book t.mark.promised)))) (more r.outcome)

@@ -2,15 +2,13 @@
 use Rattle.std.proofs.Common.{◌≡◌, ℕ, ◌+◌, ◌%◌, ◌≤◌, Bool, true, false, cond, ◌&&◌, List, [], refl, sym, subst, eqb, Option, Some, None, Result, Ok, Err}
 use Rattle.std.proofs.lemmas.Bool.{eqb-true, and_parts, not-false}
 use Rattle.std.specs.Option.{is_some}
+use Rattle.h2_spec.specs.declared.causes.Cause.{Cause}
+use Rattle.h2_spec.specs.declared.causes.Cause.TheVariants.{BlockInterrupted, HeadersOnEven}
 use Rattle.h2_spec.specs.declared.connection.Phase.{Phase}
 use Rattle.h2_spec.specs.declared.connection.Phase.TheVariants as phase
 use Rattle.h2_spec.specs.declared.connection.Purpose.{Purpose}
 use Rattle.h2_spec.specs.declared.connection.Purpose.TheVariants.{Request, Trailers, Closed, TableOnly}
-use Rattle.h2_spec.specs.declared.errors.ErrorCode.{ErrorCode}
-use Rattle.h2_spec.specs.declared.errors.ErrorCode.TheVariants.{ProtocolError}
 use Rattle.h2_spec.specs.declared.frames.Head.{Head}
-use Rattle.h2_spec.specs.declared.frames.PayloadFault.{PayloadFault}
-use Rattle.h2_spec.specs.declared.frames.PayloadFault.TheVariants.{SizeFault, PadFault}
 use Rattle.h2_spec.specs.declared.reactions.ConnectionFrame.TheVariants.{NoConnectionFrame, PingAck}
 use Rattle.h2_spec.specs.declared.reactions.Reaction.TheVariants.{Continues}
 use Rattle.h2_spec.specs.declared.streams.Kind.{Kind}
@@ -23,14 +21,15 @@ use Rattle.h2_spec.specs.Answer.{Entry, picked}
 use Rattle.h2_spec.specs.Stream.{record_of, stream_at}
 use Rattle.h2_spec.specs.State.{State, OpenBlock, Decoding}
 use Rattle.h2_spec.specs.Change.{only_counts}
-use Rattle.h2_spec.specs.Checks.{interrupts, is_early, is_misplaced, refusal}
+use Rattle.h2_spec.specs.Cause.{first_of}
+use Rattle.h2_spec.specs.Checks.{interrupts, early, misplaced, refusal}
 use Rattle.h2_spec.specs.ReactionTable.{Rule, Error, headers_cell}
 use Rattle.h2_spec.specs.WindowUpdate.{connection_window}
 use Rattle.h2_spec.specs.Headers.{makes, fresh_block, fresh_decoding, block_opens, continued}
 use Rattle.h2_spec.specs.Effect.{nothing, incoming, on_headers, on_window, frame_effect, part_effect, checked_effect, block_stream, item_effect, payload_of}
 use Rattle.h2_laws.specs.Grants.{Tally, When, with_mark_on, with_fields, with_fragment, fields_at_end, received_part, received_frame, received}
 use Rattle.h2_laws.proofs.grants.Tallies.{always}
-use Rattle.h2_laws.proofs.grants.Agreement.{FitsAs, IsRecorded, IsBlock, IsDecoding, BlockStands, Agreement}
+use Rattle.h2_laws.proofs.grants.Agreement.{FitsAs, IsRecorded, IsBlock, IsDecoding, FitsBlock, Agreement}
 use Rattle.h2_laws.proofs.grants.Turns.{granted_more, Uncut-live}
 use Rattle.h2_laws.proofs.grants.Records.{at-found, at-idle, found-fits}
 use Rattle.h2_laws.proofs.grants.Rules.{Kept, either-kept, stays, IsLive, live-reset, data-kept, reset-kept, window-kept, connection-kept}
@@ -63,7 +62,7 @@ module _ (id : ℕ) (s : State) (t : Tally) (h : Head) (p : List ℕ) (pos_id : 
       at false g = tt
       at true g =
           let found : record_of s.streams id ≡ Some st = subst (λ i. record_of s.streams i ≡ Some st) (eqb-true h.stream id g) (at-found s.core.last s.streams h.stream (subst IsRecorded (sym e) r)) in
-          f (subst (λ k. FitsAs k (picked s.book st.pick).body t.window st.numbers.send st.numbers.body_remaining t.mark) e (found-fits s.book t.window id s.streams t.mark st found x.stands))
+          f (subst (λ k. FitsAs k (picked s.book st.pick).body t.window st.numbers.send st.numbers.body_remaining t.mark) e (found-fits s.book t.window id s.streams t.mark st found x.agreed))
 
   live : (k : Kind) → IsLive k → IsRecorded k → st.kind ≡ k → When (eqb h.stream id) ((is_some t.mark.promised ≡ true) × (t.mark.reset ≡ false))
   live k l r e = own ((is_some t.mark.promised ≡ true) × (t.mark.reset ≡ false)) k r e
@@ -74,7 +73,7 @@ module _ (id : ℕ) (s : State) (t : Tally) (h : Head) (p : List ℕ) (pos_id : 
   headers-kept : (part : HeadersPart) → Kept s.book id (headers part) p (on_headers s h part (headers_cell h.stream st.kind))
   headers-kept part = at st.kind refl
     where
-      first : (b : Bool) → eqb (h.stream % 2) 1 ≡ b → st.kind ≡ Idle → Kept s.book id (headers part) p (on_headers s h part (cond b (Rule Request) (Error ProtocolError)))
+      first : (b : Bool) → eqb (h.stream % 2) 1 ≡ b → st.kind ≡ Idle → Kept s.book id (headers part) p (on_headers s h part (cond b (Rule Request) (Error HeadersOnEven)))
       first true odd e = opens part Request (at-idle s.book s.core.last s.streams h.stream x.bodies e odd, always (eqb h.stream id) tt)
       first false odd e = tt
 
@@ -114,11 +113,11 @@ module _ (id : ℕ) (s : State) (t : Tally) (h : Head) (p : List ℕ) (pos_id : 
 
 not-interrupting : (o : Option ℕ) (f : Phase) (h : Head) → refusal o f h ≡ None → interrupts o h ≡ false
 unfolding refusal
-not-interrupting o f h e = at (interrupts o h) (is_early f h) (is_misplaced h) e
+not-interrupting o f h e = at (interrupts o h) (first_of (early f h) (misplaced h)) e
   where
-    at : (a b c : Bool) → cond a (Some ProtocolError) (cond b (Some ProtocolError) (cond c (Some ProtocolError) None)) ≡ None → a ≡ false
-    at true b c e = absurd (cc)
-    at false b c e = refl
+    at : (a : Bool) (o : Option Cause) → cond a (Some BlockInterrupted) o ≡ None → a ≡ false
+    at true o e = absurd (cc)
+    at false o e = refl
 
 -- inside a block it is a CONTINUATION of its stream
 continues : (j : ℕ) (h : Head) → interrupts (Some j) h ≡ false → (h.kind ≡ 9) × (h.stream ≡ j)
@@ -134,16 +133,15 @@ continuation-part h p e = subst (λ k. part_as (frame_type k) h.flags p ≡ Ok (
 frame-kept : (id : ℕ) (s : State) (t : Tally) (h : Head) (p : List ℕ) → 1 ≤ id → Agreement s.book id s t → interrupts (block_stream s.block) h ≡ false → Kept s.book id (received_frame s.book id s t h (part_of h p)) p (part_effect s h p (part_of h p))
 frame-kept id s t h p pos_id x e = at s.block refl e
   where
-    outside : (r : Result Part PayloadFault) → s.block ≡ None → Kept s.book id (received_frame s.book id s t h r) p (part_effect s h p r)
+    outside : (r : Result Part Cause) → s.block ≡ None → Kept s.book id (received_frame s.book id s t h r) p (part_effect s h p r)
     outside (Ok part) g = part-kept id s t h p pos_id x g part
-    outside (Err SizeFault) g = tt
-    outside (Err PadFault) g = tt
+    outside (Err cause) g = tt
 
     inside : (b : OpenBlock) → s.block ≡ Some b → h.stream ≡ b.shown.stream → Kept s.book id (received_part s.book id s t h (OfContinuation p)) p (frame_effect s h p (OfContinuation p))
-    inside b g same = rw (g, same) (decoding b.decoding stands)
+    inside b g same = rw (g, same) (decoding b.decoding agreed)
       where
-        stands : BlockStands id s.core.last s.streams (Some b) t.mark
-        stands = subst (λ o. BlockStands id s.core.last s.streams o t.mark) g x.of_block
+        agreed : FitsBlock id s.core.last s.streams (Some b) t.mark
+        agreed = subst (λ o. FitsBlock id s.core.last s.streams o t.mark) g x.of_block
 
         decoding : (o : Option Decoding) → IsDecoding id s.core.last s.streams b.shown.stream o t.mark →
             Kept s.book id (with_mark_on id b.shown.stream t (with_fields s.book t.mark (fields_at_end s o p (has h.flags END_HEADERS)))) p (continued s b.shown o p (has h.flags END_HEADERS))
@@ -170,7 +168,7 @@ item-kept book id s t item pos_id x = subst (λ b. Agreement b id s t → Kept b
       some_frame = x.some_frame;
       send_is = x.send_is;
       within = x.within;
-      stands = x.stands;
+      agreed = x.agreed;
       bodies = x.bodies;
       ordered = x.ordered;
       idle = x.idle;
@@ -180,6 +178,6 @@ item-kept book id s t item pos_id x = subst (λ b. Agreement b id s t → Kept b
     at (Oversize h) x = tt
     at (WholeFrame h p) x = checked (refusal (block_stream s.block) s.core.phase h) refl
       where
-        checked : (o : Option ErrorCode) → refusal (block_stream s.block) s.core.phase h ≡ o → Kept s.book id (received_frame s.book id s t h (part_of h p)) p (checked_effect s h p o)
-        checked (Some code) e = tt
+        checked : (o : Option Cause) → refusal (block_stream s.block) s.core.phase h ≡ o → Kept s.book id (received_frame s.book id s t h (part_of h p)) p (checked_effect s h p o)
+        checked (Some cause) e = tt
         checked None e = frame-kept id s t h p pos_id x (not-interrupting (block_stream s.block) s.core.phase h e)

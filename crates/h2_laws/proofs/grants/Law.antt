@@ -12,6 +12,7 @@ use Rattle.h2_spec.specs.Parse.{parse_first, parse_all}
 use Rattle.h2_spec.specs.Frame.{Frame, Item, Next, NoItem, Got}
 use Rattle.h2_spec.specs.Answer.{Entry, picked}
 use Rattle.h2_spec.specs.State.{State, opening}
+use Rattle.h2_spec.specs.Cause.{code_of}
 use Rattle.h2_spec.specs.Change.{Step, goaway, made}
 use Rattle.h2_spec.specs.Headers.{FrameEffect, Breaks, Makes}
 use Rattle.h2_spec.specs.Effect.{item_effect, payload_of, concluded, effect}
@@ -22,7 +23,7 @@ use Rattle.h2_laws.specs.Order.{Rise, AreOrdered, KeepsOrder}
 use Rattle.h2_spec.proofs.ParseLaws.{Uses, parse_all-step}
 use Rattle.h2_spec.proofs.TraceLaws.{event-uses}
 use Rattle.h2_laws.proofs.grants.Tallies.{IsRight, Leads, Leads-append, AtEach-weaker, sends_data-append}
-use Rattle.h2_laws.proofs.grants.Agreement.{Fits, FitsAs, Absent, Either, Stands, Agreement}
+use Rattle.h2_laws.proofs.grants.Agreement.{Fits, FitsAs, Absent, Either, FitsStreams, Agreement}
 use Rattle.h2_laws.proofs.grants.Turns.{other-leads, Uncut-sends}
 use Rattle.h2_laws.proofs.grants.Sending.{PendingSent, sending-keeps}
 use Rattle.h2_laws.proofs.grants.Rules.{Kept, quiet-only, not_zero}
@@ -44,11 +45,11 @@ when_not : (P : Type 0) (b : Bool) → b ≡ false → When b P
 when_not P true e = absurd (both_ways true e refl)
 when_not P false e = tt
 
-stands-of_body : (book : List Entry) (window id : ℕ) (sts : List Stream) (m : Mark) → Stands book window id sts m → IsOfBody m
-stands-of_body book window id [] m f = (([], rw (f.content, f.promised) refl), when_not (m.content ≡ body_or_nothing m.promised) m.ended f.ended)
-stands-of_body book window id (x ∷ sts) m f = at (λ g. stands-of_body book window id sts m g) (eqb x.id id) f
+agreed-of_body : (book : List Entry) (window id : ℕ) (sts : List Stream) (m : Mark) → FitsStreams book window id sts m → IsOfBody m
+agreed-of_body book window id [] m f = (([], rw (f.content, f.promised) refl), when_not (m.content ≡ body_or_nothing m.promised) m.ended f.ended)
+agreed-of_body book window id (x ∷ sts) m f = at (λ g. agreed-of_body book window id sts m g) (eqb x.id id) f
   where
-    at : (Stands book window id sts m → IsOfBody m) → (c : Bool) → Either c (Fits book window x m × Absent id sts) (Stands book window id sts m) → IsOfBody m
+    at : (FitsStreams book window id sts m → IsOfBody m) → (c : Bool) → Either c (Fits book window x m × Absent id sts) (FitsStreams book window id sts m) → IsOfBody m
     at more true f = fits-of_body x.kind (picked book x.pick).body window x.numbers.send x.numbers.body_remaining m f.0
     at more false f = more f
 
@@ -88,12 +89,12 @@ steps book id s t item pos_id x = at (item_effect s item) (item-kept book id s t
     p = payload_of item
 
     at : (e : FrameEffect) → Kept book id u p e → Steps book id t u (then_sent (concluded s p e).state.core.phase (concluded s p e))
-    at (Breaks code) k = record {
+    at (Breaks cause) k = record {
       kept = λ g e.
-          let sent : List Frame = goaway s.core.last code ∷ [] in
+          let sent : List Frame = goaway s.core.last (code_of cause) ∷ [] in
           let quiet : sends_data id sent ≡ false = quiet-only id 0 sent (refl, refl, tt) in
           subst (λ v. Meets id true v sent) (sym e)
-          (meets id true t t sent (other-leads id 0 t sent (not_zero id pos_id) (refl, refl, tt)) x.within (when_not (IsWithinStream t) (sends_data id sent) quiet) (stands-of_body book t.window id s.streams t.mark x.stands) tt);
+          (meets id true t t sent (other-leads id 0 t sent (not_zero id pos_id) (refl, refl, tt)) x.within (when_not (IsWithinStream t) (sends_data id sent) quiet) (agreed-of_body book t.window id s.streams t.mark x.agreed) tt);
       ordered = x.ordered;
       agrees = λ e. absurd (both_ways true e refl);
     }
@@ -121,7 +122,7 @@ steps book id s t item pos_id x = at (item_effect s item) (item-kept book id s t
             kept =
                 meets id false u v all.sent both-lead y.agrees.within
                 (subst (λ b. When b (IsWithinStream v)) (sym (sends_data-append id e.sent q.sent ∙ ap (λ b. b || sends_data id q.sent) quiet)) y.stream)
-                (stands-of_body book v.window id q.state.streams v.mark y.agrees.stands)
+                (agreed-of_body book v.window id q.state.streams v.mark y.agrees.agreed)
                 (when_so (IsUsedUp v) (is_unfinished v.mark) y.used_up)
 
             both : Steps book id t u all
@@ -190,7 +191,7 @@ opening-agrees book config id = record {
   some_frame = omega arith;
   send_is = refl;
   within = omega arith;
-  stands = record { promised = refl; headers = refl; content = refl; ended = refl };
+  agreed = record { promised = refl; headers = refl; content = refl; ended = refl };
   bodies = tt;
   ordered = omega arith;
   idle = λ h. (refl, tt);

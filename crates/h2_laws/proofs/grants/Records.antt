@@ -8,7 +8,7 @@ use Rattle.h2_spec.specs.Answer.{Entry}
 use Rattle.h2_spec.specs.Stream.{not_live, record_of, recorded, stream_at, put}
 use Rattle.h2_laws.specs.Grants.{Mark}
 use Rattle.h2_laws.specs.Order.{Rise}
-use Rattle.h2_laws.proofs.grants.Agreement.{Fits, Absent, Unasked, Either, Stands, IsRecorded, HasBody, Bodies}
+use Rattle.h2_laws.proofs.grants.Agreement.{Fits, Absent, Unasked, Either, FitsStreams, IsRecorded, HasBody, Bodies}
 
 -- ---- what is found
 
@@ -28,11 +28,11 @@ found-body book j (x ∷ sts) st e b = at (λ g. found-body book j sts st g b.1)
     at more true e = let same : x ≡ st = cc in subst (HasBody book) same b.0
     at more false e = more e
 
-pub found-fits : (book : List Entry) (window id : ℕ) (sts : List Stream) (m : Mark) (st : Stream) → record_of sts id ≡ Some st → Stands book window id sts m → Fits book window st m
+pub found-fits : (book : List Entry) (window id : ℕ) (sts : List Stream) (m : Mark) (st : Stream) → record_of sts id ≡ Some st → FitsStreams book window id sts m → Fits book window st m
 found-fits book window id [] m st e f = absurd (cc)
 found-fits book window id (x ∷ sts) m st e f = at (λ g h. found-fits book window id sts m st g h) (eqb x.id id) e f
   where
-    at : (record_of sts id ≡ Some st → Stands book window id sts m → Fits book window st m) → (c : Bool) → cond c (Some x) (record_of sts id) ≡ Some st → Either c (Fits book window x m × Absent id sts) (Stands book window id sts m) → Fits book window st m
+    at : (record_of sts id ≡ Some st → FitsStreams book window id sts m → Fits book window st m) → (c : Bool) → cond c (Some x) (record_of sts id) ≡ Some st → Either c (Fits book window x m × Absent id sts) (FitsStreams book window id sts m) → Fits book window st m
     at more true e f = let same : x ≡ st = cc in subst (λ y. Fits book window y m) same f.0
     at more false e f = more e f
 
@@ -48,11 +48,11 @@ none-absent j (x ∷ sts) e = at (none-absent j sts) (eqb x.id j) refl e
     at more true g e = absurd (cc)
     at more false g e = (g, more e)
 
-pub unfound : (book : List Entry) (window id : ℕ) (sts : List Stream) (m : Mark) → record_of sts id ≡ None → Stands book window id sts m → Unasked m × Absent id sts
+pub unfound : (book : List Entry) (window id : ℕ) (sts : List Stream) (m : Mark) → record_of sts id ≡ None → FitsStreams book window id sts m → Unasked m × Absent id sts
 unfound book window id [] m e f = (f, tt)
 unfound book window id (x ∷ sts) m e f = at (λ g h. unfound book window id sts m g h) (eqb x.id id) refl e f
   where
-    at : (record_of sts id ≡ None → Stands book window id sts m → Unasked m × Absent id sts) → (c : Bool) → eqb x.id id ≡ c → cond c (Some x) (record_of sts id) ≡ None → Either c (Fits book window x m × Absent id sts) (Stands book window id sts m) → Unasked m × ((eqb x.id id ≡ false) × Absent id sts)
+    at : (record_of sts id ≡ None → FitsStreams book window id sts m → Unasked m × Absent id sts) → (c : Bool) → eqb x.id id ≡ c → cond c (Some x) (record_of sts id) ≡ None → Either c (Fits book window x m × Absent id sts) (FitsStreams book window id sts m) → Unasked m × ((eqb x.id id ≡ false) × Absent id sts)
     at more true g e f = absurd (cc)
     at more false g e f = let r = more e f in (r.0, (g, r.1))
 
@@ -165,22 +165,22 @@ put-bodies book y (x ∷ sts) h b = at (eqb x.id y.id) (put-bodies book y sts h 
     at true more = (h, b.1)
     at false more = (b.0, more)
 
-pub put-own : (book : List Entry) (window id : ℕ) (y : Stream) (sts : List Stream) (m n : Mark) → y.id ≡ id → Stands book window id sts m → Fits book window y n → Stands book window id (put y sts) n
+pub put-own : (book : List Entry) (window id : ℕ) (y : Stream) (sts : List Stream) (m n : Mark) → y.id ≡ id → FitsStreams book window id sts m → Fits book window y n → FitsStreams book window id (put y sts) n
 put-own book window id y [] m n e f h = rw (eq-eqb y.id id e) (h, tt)
 put-own book window id y (x ∷ sts) m n e f h = at (λ g. put-own book window id y sts m n e g h) (eqb x.id y.id) (ap (eqb x.id) e) f
   where
-    at : (Stands book window id sts m → Stands book window id (put y sts) n) → (b : Bool) → b ≡ eqb x.id id →
-        Either (eqb x.id id) (Fits book window x m × Absent id sts) (Stands book window id sts m) → Stands book window id (cond b (y ∷ sts) (x ∷ put y sts)) n
+    at : (FitsStreams book window id sts m → FitsStreams book window id (put y sts) n) → (b : Bool) → b ≡ eqb x.id id →
+        Either (eqb x.id id) (Fits book window x m × Absent id sts) (FitsStreams book window id sts m) → FitsStreams book window id (cond b (y ∷ sts) (x ∷ put y sts)) n
     at more true g f = rw (eq-eqb y.id id e) (h, (rw (sym g) at f).1)
     at more false g f = rw (sym g) (more (rw (sym g) at f))
 
-pub put-other : (book : List Entry) (window id : ℕ) (y : Stream) (sts : List Stream) (m : Mark) → eqb y.id id ≡ false → Stands book window id sts m → Stands book window id (put y sts) m
+pub put-other : (book : List Entry) (window id : ℕ) (y : Stream) (sts : List Stream) (m : Mark) → eqb y.id id ≡ false → FitsStreams book window id sts m → FitsStreams book window id (put y sts) m
 put-other book window id y [] m d f = rw d f
 put-other book window id y (x ∷ sts) m d f = at (λ k. put-other book window id y sts m d k) (eqb x.id y.id) refl (eqb x.id id) refl f
   where
-    at : (Stands book window id sts m → Stands book window id (put y sts) m) →
-        (b : Bool) → eqb x.id y.id ≡ b → (c : Bool) → eqb x.id id ≡ c → Either c (Fits book window x m × Absent id sts) (Stands book window id sts m) →
-        Stands book window id (cond b (y ∷ sts) (x ∷ put y sts)) m
+    at : (FitsStreams book window id sts m → FitsStreams book window id (put y sts) m) →
+        (b : Bool) → eqb x.id y.id ≡ b → (c : Bool) → eqb x.id id ≡ c → Either c (Fits book window x m × Absent id sts) (FitsStreams book window id sts m) →
+        FitsStreams book window id (cond b (y ∷ sts) (x ∷ put y sts)) m
     at more true g true k f = absurd (both_ways (eqb y.id id) d (subst (λ i. eqb i id ≡ true) (eqb-true x.id y.id g) k))
     at more true g false k f = rw d f
     at more false g true k f = rw k (f.0, put-absent id y sts d f.1)
@@ -213,14 +213,14 @@ put-last low high y (x ∷ sts) h r = at (put-last x.id high y sts h r.1) (eqb x
 -- ---- another mark
 
 -- the mark alone changes
-pub remarked : (book : List Entry) (window id : ℕ) (sts : List Stream) (m n : Mark) (st : Stream) → record_of sts id ≡ Some st → (Fits book window st m → Fits book window st n) → Stands book window id sts m → Stands book window id sts n
+pub remarked : (book : List Entry) (window id : ℕ) (sts : List Stream) (m n : Mark) (st : Stream) → record_of sts id ≡ Some st → (Fits book window st m → Fits book window st n) → FitsStreams book window id sts m → FitsStreams book window id sts n
 remarked book window id [] m n st e h f = absurd (cc)
 remarked book window id (x ∷ sts) m n st e h f = at (λ g k. remarked book window id sts m n st g h k) (eqb x.id id) e f
   where
-    at : (record_of sts id ≡ Some st → Stands book window id sts m → Stands book window id sts n) → (c : Bool) → cond c (Some x) (record_of sts id) ≡ Some st → Either c (Fits book window x m × Absent id sts) (Stands book window id sts m) → Either c (Fits book window x n × Absent id sts) (Stands book window id sts n)
+    at : (record_of sts id ≡ Some st → FitsStreams book window id sts m → FitsStreams book window id sts n) → (c : Bool) → cond c (Some x) (record_of sts id) ≡ Some st → Either c (Fits book window x m × Absent id sts) (FitsStreams book window id sts m) → Either c (Fits book window x n × Absent id sts) (FitsStreams book window id sts n)
     at more true e f = let same : x ≡ st = cc in (subst (λ y. Fits book window y m → Fits book window y n) (sym same) h f.0, f.1)
     at more false e f = more e f
 
-pub unmarked : (book : List Entry) (window id : ℕ) (sts : List Stream) (n : Mark) → Absent id sts → Unasked n → Stands book window id sts n
+pub unmarked : (book : List Entry) (window id : ℕ) (sts : List Stream) (n : Mark) → Absent id sts → Unasked n → FitsStreams book window id sts n
 unmarked book window id [] n a u = u
 unmarked book window id (x ∷ sts) n a u = rw a.0 (unmarked book window id sts n a.1 u)

@@ -4,8 +4,8 @@ use Rattle.std.proofs.Common.{◌≡◌, ℕ, ◌+◌, ◌<◌, ◌≤◌, Bool,
 use Rattle.std.proofs.lemmas.Bool.{eqb-true, ne_eqb}
 use Rattle.std.proofs.lemmas.Int.{ints}
 use Rattle.std.specs.Prelude.{ℤ, pos, int_lt, ◌+ℤ◌, ◌-ℤ◌}
+use Rattle.h2_spec.specs.declared.causes.Cause.TheVariants.{ConnectionWindowExceeded, DataAfterEndStream, ConnectionIncrementZero, ConnectionWindowOverflow}
 use Rattle.h2_spec.specs.declared.connection.ConnectionState.{ConnectionState}
-use Rattle.h2_spec.specs.declared.errors.ErrorCode.TheVariants.{ProtocolError, FlowControlError, StreamClosed}
 use Rattle.h2_spec.specs.declared.reactions.ReceivedData.{ReceivedData}
 use Rattle.h2_spec.specs.declared.reactions.Change.{Change}
 use Rattle.h2_spec.specs.declared.reactions.ConnectionFrame.{ConnectionFrame}
@@ -30,7 +30,7 @@ use Rattle.h2_spec.specs.Effect.{nothing, data_rule, on_data, body_length, reset
 use Rattle.h2_laws.specs.Grants.{Mark, Tally, with_mark_on, sends_data}
 use Rattle.h2_laws.specs.Order.{Rise}
 use Rattle.h2_laws.proofs.grants.Tallies.{Leads, Leads-append, quiet-append}
-use Rattle.h2_laws.proofs.grants.Agreement.{FitsAs, Fits, Absent, Unasked, Stands, IsRecorded, HasBody, BlockStands, Agreement}
+use Rattle.h2_laws.proofs.grants.Agreement.{FitsAs, Fits, Absent, Unasked, FitsStreams, IsRecorded, HasBody, FitsBlock, Agreement}
 use Rattle.h2_laws.proofs.grants.Turns.{OnlyOn, other-leads, own-leads, marked_all, outcome_frames, Proper, Good, Uncut-live, error-proper, error-good, data_turn-proper, data_turn-good, IsOver, now_reset, granted_more, reset_turn-proper, reset_turn-good, over-reset, window_turn-proper, window_turn-good, over-granted}
 use Rattle.h2_laws.proofs.grants.Records.{at-id, at-found, at-skipped, found-body, found-fits, found-not_absent, unfound, put-absent, put-bodies, put-own, put-other, put-in_order, remarked, unmarked}
 
@@ -43,7 +43,7 @@ pub record Moves (book : List Entry) (id : ℕ) (t : Tally) (p : List ℕ) (s : 
 
 -- unless the item ends the connection
 abbrev pub Kept : List Entry → ℕ → Tally → List ℕ → FrameEffect → Type 0
-Kept book id t p (Breaks code) = Unit {0}
+Kept book id t p (Breaks cause) = Unit {0}
 Kept book id t p (Makes s c) = Moves book id t p s c
 
 pub either-kept : (book : List Entry) (id : ℕ) (t : Tally) (p : List ℕ) (s : State) (b : Bool) (x y : Reaction) → Kept book id t p (makes s x) → Kept book id t p (makes s y) → Kept book id t p (makes s (cond b x y))
@@ -109,7 +109,7 @@ module _ (id : ℕ) (s : State) (t : Tally) (m : Mark) (p : List ℕ) (c : Chang
   silent = rw (frames-turned s.book p c outcome) (quiet-append id (first_frames p c.first) (outcome_frames s.book outcome) (quiet-only id 0 (first_frames p c.first) (first-only p c.first)) (quiet-only id st.id (outcome_frames s.book outcome) proper.only))
 
   -- the state after it agrees with another mark
-  agrees-with : (n : Mark) → Stands s.book t.window id streams n → (c.core.last < id → (n ≡ t.mark) × Absent id streams) → Agreement s.book id (after s (with_outcome c outcome)) (record t { mark = n })
+  agrees-with : (n : Mark) → FitsStreams s.book t.window id streams n → (c.core.last < id → (n ≡ t.mark) × Absent id streams) → Agreement s.book id (after s (with_outcome c outcome)) (record t { mark = n })
   unfolding with_outcome
   agrees-with n f i = record {
     running = x.running;
@@ -119,11 +119,11 @@ module _ (id : ℕ) (s : State) (t : Tally) (m : Mark) (p : List ℕ) (c : Chang
     some_frame = x.some_frame;
     send_is = x.send_is;
     within = x.within;
-    stands = f;
+    agreed = f;
     bodies = put-bodies s.book outcome.stream s.streams (proper.has_body body) x.bodies;
     ordered = ordered;
     idle = λ h. ((i h).0 ∙ (x.idle h).0, (i h).1);
-    of_block = subst (λ o. BlockStands id c.core.last streams o n) (sym no_block) tt;
+    of_block = subst (λ o. FitsBlock id c.core.last streams o n) (sym no_block) tt;
   }
 
   outcome-own : eqb st.id id ≡ true → Moves s.book id brought p s (with_outcome c outcome)
@@ -134,7 +134,7 @@ module _ (id : ℕ) (s : State) (t : Tally) (m : Mark) (p : List ℕ) (c : Chang
         tally = record t { mark = n };
         leads = joined (record t { mark = n }) (own-leads id st.id brought (outcome_frames s.book outcome) e proper.only g.in_turn);
         quiet = silent;
-        agrees = agrees-with n (put-own s.book t.window id outcome.stream s.streams t.mark n (proper.same_id ∙ eqb-true st.id id e) x.stands g.fits) (λ h. absurd (not_idle e h));
+        agrees = agrees-with n (put-own s.book t.window id outcome.stream s.streams t.mark n (proper.same_id ∙ eqb-true st.id id e) x.agreed g.fits) (λ h. absurd (not_idle e h));
       }
 
   outcome-other : eqb st.id id ≡ false → Moves s.book id brought p s (with_outcome c outcome)
@@ -144,7 +144,7 @@ module _ (id : ℕ) (s : State) (t : Tally) (m : Mark) (p : List ℕ) (c : Chang
         tally = brought;
         leads = joined brought (other-leads id st.id brought (outcome_frames s.book outcome) e proper.only);
         quiet = silent;
-        agrees = agrees-with m (subst (Stands s.book t.window id streams) (sym (other e)) (put-other s.book t.window id outcome.stream s.streams t.mark outcome_id x.stands))
+        agrees = agrees-with m (subst (FitsStreams s.book t.window id streams) (sym (other e)) (put-other s.book t.window id outcome.stream s.streams t.mark outcome_id x.agreed))
             (λ h. (other e, put-absent id outcome.stream s.streams outcome_id (x.idle h).1));
       }
 
@@ -168,7 +168,7 @@ record-kept id s t m p c j outcome pos_id x none r proper good other =
     let own : (e : eqb st.id id ≡ true) → record_of s.streams id ≡ Some st = λ e. subst (λ i. record_of s.streams i ≡ Some st) (sym same ∙ eqb-true st.id id e) found in
     outcome-kept id s t m p c st outcome pos_id x none proper (found-body s.book j s.streams st found x.bodies)
     (put-in_order 0 c.core.last outcome.stream s.streams st (subst (λ i. record_of s.streams i ≡ Some st) (sym (proper.same_id ∙ same)) found) x.ordered)
-    (λ e. good (subst (λ i. eqb i id ≡ true) same e) (found-fits s.book t.window id s.streams t.mark st (own e) x.stands))
+    (λ e. good (subst (λ i. eqb i id ≡ true) same e) (found-fits s.book t.window id s.streams t.mark st (own e) x.agreed))
     (λ e. other (subst (λ i. eqb i id ≡ false) same e))
     (λ e h. found-not_absent id s.streams st (own e) (x.idle h).1)
 
@@ -220,7 +220,7 @@ counted-moves id s t p threshold n pos_id x = at (given_back threshold (s.core.o
     at None = stays s.book id t p s _ NoConnectionFrame pos_id x
 
 within-kept : (id : ℕ) (s : State) (t : Tally) (p : List ℕ) (n : ℕ) (c : Change) → Moves s.book id t p s c → Kept s.book id t p (makes s (if_within s.core n c))
-within-kept id s t p n c h = either-kept s.book id t p s (int_lt s.core.recv (pos n)) (ConnectionError FlowControlError) (Continues c) tt h
+within-kept id s t p n c h = either-kept s.book id t p s (int_lt s.core.recv (pos n)) (ConnectionError ConnectionWindowExceeded) (Continues c) tt h
 
 pub data-kept : (id : ℕ) (s : State) (t : Tally) (p : List ℕ) (j : ℕ) (d : ReceivedData) → 1 ≤ id → Agreement s.book id s t → s.block ≡ None →
     let st : Stream = stream_at s.core.last s.streams j in
@@ -242,10 +242,10 @@ data-kept id s t p j d pos_id x none = at st.kind refl
         (on_record (data_outcome s.config.credit s.core.peer.size_update_pending (body_length s.book st) d st) (subst IsRecorded (sym e) r) (data_turn-proper s.book s.config.credit s.core.peer.size_update_pending d st)
         (λ f. data_turn-good s.book t.window t.mark s.config.credit s.core.peer.size_update_pending d st f (live-reset st.kind (picked s.book st.pick).body t.window st.numbers.send st.numbers.body_remaining t.mark (subst IsLive (sym e) l) f)))
 
-    refuse : st.kind ≡ HalfRemote → Kept s.book id t p (makes s (data_refused s.config s.core d st StreamClosed))
+    refuse : st.kind ≡ HalfRemote → Kept s.book id t p (makes s (data_refused s.config s.core d st DataAfterEndStream))
     refuse e = within-kept id s t p d.octets _
-        (on_record (stream_error s.core.peer.size_update_pending st.id StreamClosed) (subst IsRecorded (sym e) tt) (error-proper s.book s.core.peer.size_update_pending st StreamClosed)
-        (λ f. error-good s.book t.window t.mark s.core.peer.size_update_pending st.id StreamClosed
+        (on_record (stream_error s.core.peer.size_update_pending st.id DataAfterEndStream) (subst IsRecorded (sym e) tt) (error-proper s.book s.core.peer.size_update_pending st DataAfterEndStream)
+        (λ f. error-good s.book t.window t.mark s.core.peer.size_update_pending st.id DataAfterEndStream
         (Uncut-live st.kind (picked s.book st.pick).body t.window st.numbers.send st.numbers.body_remaining t.mark f (live-reset st.kind (picked s.book st.pick).body t.window st.numbers.send st.numbers.body_remaining t.mark (subst IsLive (sym e) tt) f))))
 
     count : Kept s.book id t p (makes s (data_counted s.config s.core d))
@@ -264,7 +264,7 @@ data-kept id s t p j d pos_id x none = at st.kind refl
 -- ---- RST_STREAM and WINDOW_UPDATE on a stream
 
 -- the same state agrees with another mark
-re-agrees : (id : ℕ) (s : State) (t : Tally) (n : Mark) → Agreement s.book id s t → s.block ≡ None → Stands s.book t.window id s.streams n → (s.core.last < id → ⊥) → Agreement s.book id s (record t { mark = n })
+re-agrees : (id : ℕ) (s : State) (t : Tally) (n : Mark) → Agreement s.book id s t → s.block ≡ None → FitsStreams s.book t.window id s.streams n → (s.core.last < id → ⊥) → Agreement s.book id s (record t { mark = n })
 re-agrees id s t n x none f busy = record {
   running = x.running;
   same_book = x.same_book;
@@ -273,11 +273,11 @@ re-agrees id s t n x none f busy = record {
   some_frame = x.some_frame;
   send_is = x.send_is;
   within = x.within;
-  stands = f;
+  agreed = f;
   bodies = x.bodies;
   ordered = x.ordered;
   idle = λ h. absurd (busy h);
-  of_block = subst (λ o. BlockStands id s.core.last s.streams o n) (sym none) tt;
+  of_block = subst (λ o. FitsBlock id s.core.last s.streams o n) (sym none) tt;
 }
 
 -- what is kept where a frame on stream j makes this of the mark of its stream, and has this rule where the stream is
@@ -300,19 +300,19 @@ module _ (id : ℕ) (s : State) (t : Tally) (p : List ℕ) (j : ℕ) (n : Mark) 
   marked = with_mark_on id j t n
 
   -- nothing changes but the mark
-  nothing-own : (b : Bool) → eqb j id ≡ b → (j ≡ id → Stands s.book t.window id s.streams n × (s.core.last < id → ⊥)) → Moves s.book id (record t { mark = cond b n t.mark }) p s (only_counts s.core)
+  nothing-own : (b : Bool) → eqb j id ≡ b → (j ≡ id → FitsStreams s.book t.window id s.streams n × (s.core.last < id → ⊥)) → Moves s.book id (record t { mark = cond b n t.mark }) p s (only_counts s.core)
   nothing-own false e f = stays s.book id t p s s.core NoConnectionFrame pos_id x
   nothing-own true e f = let g = f (eqb-true j id e) in stays s.book id (record t { mark = n }) p s s.core NoConnectionFrame pos_id (re-agrees id s t n x none g.0 g.1)
 
   nothing-over : (k : Kind) → IsOver k → IsRecorded k → st.kind ≡ k → Moves s.book id marked p s (only_counts s.core)
   nothing-over k o r e = nothing-own (eqb j id) refl (λ g.
       let found : record_of s.streams id ≡ Some st = subst (λ i. record_of s.streams i ≡ Some st) g (at-found s.core.last s.streams j (subst IsRecorded (sym e) r)) in
-      (remarked s.book t.window id s.streams t.mark n st found (over st (subst IsOver (sym e) o)) x.stands, λ h. found-not_absent id s.streams st found (x.idle h).1))
+      (remarked s.book t.window id s.streams t.mark n st found (over st (subst IsOver (sym e) o)) x.agreed, λ h. found-not_absent id s.streams st found (x.idle h).1))
 
   nothing-skipped : st.kind ≡ Skipped → Moves s.book id marked p s (only_counts s.core)
   nothing-skipped e = nothing-own (eqb j id) refl (λ g.
       let missing = at-skipped s.book s.core.last s.streams j x.bodies e in
-      let u = unfound s.book t.window id s.streams t.mark (subst (λ i. record_of s.streams i ≡ None) g missing.1) x.stands in
+      let u = unfound s.book t.window id s.streams t.mark (subst (λ i. record_of s.streams i ≡ None) g missing.1) x.agreed in
       (unmarked s.book t.window id s.streams n u.1 (unasked u.0), λ h. let passed = missing.0 in absurd (omega arith)))
 
   rule-live : (k : Kind) → IsLive k → IsRecorded k → st.kind ≡ k → Moves s.book id marked p s (with_outcome (only_counts s.core) (rule st))
@@ -375,8 +375,8 @@ unfolding connection_window
 connection-kept id s t p i pos_id x =
     let u : Tally = record t { granted = t.granted + i } in
     let core : ConnectionState = record s.core { send = s.core.send +ℤ pos i } in
-    either-kept s.book id u p s (eqb i 0) (ConnectionError ProtocolError) _ tt
-    (either-kept s.book id u p s (is_above_max (s.core.send +ℤ pos i)) (ConnectionError FlowControlError) (Continues (only_counts core)) tt
+    either-kept s.book id u p s (eqb i 0) (ConnectionError ConnectionIncrementZero) _ tt
+    (either-kept s.book id u p s (is_above_max (s.core.send +ℤ pos i)) (ConnectionError ConnectionWindowOverflow) (Continues (only_counts core)) tt
     (stays s.book id u p s core NoConnectionFrame pos_id (record {
       running = x.running;
       same_book = x.same_book;
@@ -385,7 +385,7 @@ connection-kept id s t p i pos_id x =
       some_frame = x.some_frame;
       send_is = let e = x.send_is in omega (arith, ints);
       within = let w = x.within in omega arith;
-      stands = x.stands;
+      agreed = x.agreed;
       bodies = x.bodies;
       ordered = x.ordered;
       idle = x.idle;

@@ -22,7 +22,7 @@ use Rattle.h2_laws.specs.Grants.{Mark, Tally, When, AtEach, IsWithinStream, IsUs
 use Rattle.h2_laws.specs.Order.{Rise}
 use Rattle.h2_laws.proofs.grants.Tallies.{always, IsRight, Leads, Leads-append, Leads-to, elsewhere, nowhere, data-elsewhere, data-own, sends_data-append, quiet-append, finished_by_end, finished_by_reset, not_begun}
 use Rattle.h2_laws.proofs.grants.Records.{still-recorded}
-use Rattle.h2_laws.proofs.grants.Agreement.{Waits, Sends, HasEnded, FitsAs, Fits, Absent, Either, Stands, HasBody, Bodies, BlockStands-same, Agreement}
+use Rattle.h2_laws.proofs.grants.Agreement.{Waits, Sends, HasEnded, FitsAs, Fits, Absent, Either, FitsStreams, HasBody, Bodies, FitsBlock-same, Agreement}
 
 -- ---- the octets of a share
 
@@ -294,7 +294,7 @@ or-false false = refl
 record Sent (book : List Entry) (id : ℕ) (t : Tally) (w : ℕ) (sts : List Stream) (frames : List Frame) (streams : List Stream) (left : ℕ) : Type 0 where
   mark : Mark
   leads : Leads id t frames (record t { sent = t.sent + (w - left); mark = mark })
-  stands : Stands book t.window id streams mark
+  agreed : FitsStreams book t.window id streams mark
   within : left ≤ w
   bodies : Bodies book streams
   promised : mark.promised ≡ t.mark.promised
@@ -303,13 +303,13 @@ record Sent (book : List Entry) (id : ℕ) (t : Tally) (w : ℕ) (sts : List Str
   stream : When (sends_data id frames) (length mark.content ≤ t.window + mark.granted)
   held : is_unfinished mark ≡ true → (t.window + mark.granted ≤ length mark.content) ⊎ (w - left ≡ w)
 
-sends : (book : List Entry) (id size : ℕ) (sts : List Stream) (t : Tally) (w : ℕ) → size ≡ t.frame → 1 ≤ size → Stands book t.window id sts t.mark → Bodies book sts →
+sends : (book : List Entry) (id size : ℕ) (sts : List Stream) (t : Tally) (w : ℕ) → size ≡ t.frame → 1 ≤ size → FitsStreams book t.window id sts t.mark → Bodies book sts →
     Sent book id t w sts (sent_frames book size w sts) (all_after_sending w sts) (window_left w sts)
 unfolding sent_frames all_after_sending window_left
 sends book id size [] t w g h f b = record {
   mark = t.mark;
   leads = Leads-to id _ _ _ _ (nowhere id t) (ap (elsewhere t) (omega arith));
-  stands = f;
+  agreed = f;
   within = omega arith;
   bodies = tt;
   promised = refl;
@@ -338,8 +338,8 @@ sends book id size (st ∷ sts) t w g h f b = at (λ x. sends book id size sts (
     le : (n ≤ w) × (n ≤ octets_waiting st) × (n ≤ sendable st.numbers.send)
     le = allowance-le w st
 
-    at : (Stands book t.window id sts t.mark → Sent book id (elsewhere t n) (w - n) sts back rest left) →
-        (c : Bool) → eqb st.id id ≡ c → Either c (Fits book t.window st t.mark × Absent id sts) (Stands book t.window id sts t.mark) →
+    at : (FitsStreams book t.window id sts t.mark → Sent book id (elsewhere t n) (w - n) sts back rest left) →
+        (c : Bool) → eqb st.id id ≡ c → Either c (Fits book t.window st t.mark × Absent id sts) (FitsStreams book t.window id sts t.mark) →
         Sent book id t w (st ∷ sts) (front ++ back) (after_sending n st ∷ rest) left
     at tail true e f =
         let one = own-allowance book id size w st.id st.kind st.numbers st.pick t n e g h f.0 refl in
@@ -349,7 +349,7 @@ sends book id size (st ∷ sts) t w g h f b = at (λ x. sends book id size sts (
         record {
           mark = one.mark;
           leads = Leads-to id _ _ _ _ (Leads-append id t u _ front back one.leads more.leads) (ap (λ k. record t { sent = k; mark = one.mark }) sum);
-          stands = rw (after-id n st, e) (one.fits, more.absent);
+          agreed = rw (after-id n st, e) (one.fits, more.absent);
           within = omega (arith, le.0, more.within);
           bodies = (after-has_body book n st b.0, more.bodies);
           promised = one.promised;
@@ -365,7 +365,7 @@ sends book id size (st ∷ sts) t w g h f b = at (λ x. sends book id size sts (
         record {
           mark = more.mark;
           leads = Leads-to id _ _ _ _ (Leads-append id t (elsewhere t n) _ front back one.0 more.leads) (ap (λ k. record t { sent = k; mark = more.mark }) sum);
-          stands = rw (after-id n st, e) more.stands;
+          agreed = rw (after-id n st, e) more.agreed;
           within = omega (arith, le.0, more.within);
           bodies = (after-has_body book n st b.0, more.bodies);
           promised = more.promised;
@@ -405,7 +405,7 @@ not_passed (negsuc n) sent granted left e h = omega arith
 pub sending-keeps : (book : List Entry) (id : ℕ) (s : State) (t : Tally) → Agreement book id s t → PendingSent book id t (send_pending s)
 unfolding send_pending
 sending-keeps book id s t x = at (subst (λ b. Sent book id t w s.streams (sent_frames b s.core.peer.frame w s.streams) streams left) (sym x.same_book)
-    (sends book id s.core.peer.frame s.streams t w x.same_frame (rw x.same_frame x.some_frame) x.stands x.bodies))
+    (sends book id s.core.peer.frame s.streams t w x.same_frame (rw x.same_frame x.some_frame) x.agreed x.bodies))
   where
     w : ℕ
     w = sendable s.core.send
@@ -433,11 +433,11 @@ sending-keeps book id s t x = at (subst (λ b. Sent book id t w s.streams (sent_
           some_frame = x.some_frame;
           send_is = let e = x.send_is in omega (arith, ints);
           within = not_passed s.core.send t.sent t.granted left x.send_is x.within;
-          stands = y.stands;
+          agreed = y.agreed;
           bodies = y.bodies;
           ordered = rises 0 s.core.last w s.streams x.ordered;
           idle = λ h. let i = x.idle h in let a = y.absent i.1 in (a.0 ∙ i.0, a.1);
-          of_block = BlockStands-same id s.core.last s.streams streams s.block t.mark y.mark y.promised y.reset (λ j. still-recorded s.book j s.core.last s.streams streams (still-absent j w s.streams) (subst (λ b. Bodies b streams) (sym x.same_book) y.bodies)) x.of_block;
+          of_block = FitsBlock-same id s.core.last s.streams streams s.block t.mark y.mark y.promised y.reset (λ j. still-recorded s.book j s.core.last s.streams streams (still-absent j w s.streams) (subst (λ b. Bodies b streams) (sym x.same_book) y.bodies)) x.of_block;
         } in
         let same : u ≡ sent_all id t frames = sym y.leads.tally in
         record {

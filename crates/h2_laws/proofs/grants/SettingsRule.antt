@@ -3,8 +3,8 @@ use Rattle.std.proofs.Common.{◌≡◌, ℕ, ◌≤◌, Bool, true, false, cond
 use Rattle.std.proofs.lemmas.Bool.{eqb-true, and_parts, leb-true}
 use Rattle.std.proofs.lemmas.Int.{ints}
 use Rattle.std.specs.Prelude.{◌&&◌, ℤ, ◌+ℤ◌}
-use Rattle.h2_spec.specs.declared.errors.ErrorCode.{ErrorCode}
-use Rattle.h2_spec.specs.declared.errors.ErrorCode.TheVariants.{ProtocolError, FlowControlError}
+use Rattle.h2_spec.specs.declared.causes.Cause.{Cause}
+use Rattle.h2_spec.specs.declared.causes.Cause.TheVariants.{EnablePushValue, InitialWindowSizeValue, MaxFrameSizeValue, InitialWindowSizeOverflow}
 use Rattle.h2_spec.specs.declared.flow.LocalSettings.{LocalSettings}
 use Rattle.h2_spec.specs.declared.flow.Settings.{Settings}
 use Rattle.h2_spec.specs.declared.reactions.ConnectionFrame.TheVariants.{NoConnectionFrame}
@@ -22,7 +22,7 @@ use Rattle.h2_spec.specs.Headers.{makes}
 use Rattle.h2_laws.specs.Grants.{Mark, Tally, with_settings}
 use Rattle.h2_laws.specs.Grants as tally
 use Rattle.h2_laws.specs.Order.{Rise}
-use Rattle.h2_laws.proofs.grants.Agreement.{Sends, Fits, Absent, Either, Stands, HasBody, Bodies, BlockStands, Agreement}
+use Rattle.h2_laws.proofs.grants.Agreement.{Sends, Fits, Absent, Either, FitsStreams, HasBody, Bodies, FitsBlock, Agreement}
 use Rattle.h2_laws.proofs.grants.Turns.{other-leads}
 use Rattle.h2_laws.proofs.grants.Rules.{Kept, either-kept, not_zero, stays}
 
@@ -33,8 +33,8 @@ abbrev with_peer : Tally → Settings → Tally
 with_peer t peer = record t { window = peer.window; frame = peer.frame }
 
 -- a tally has taken the settings that came to these, unless they are refused
-abbrev Takes : Tally → Tally → Result Settings ErrorCode → Type 0
-Takes t u (Err code) = Unit {0}
+abbrev Takes : Tally → Tally → Result Settings Cause → Type 0
+Takes t u (Err cause) = Unit {0}
 Takes t u (Ok peer) = (u ≡ with_peer t peer) × (1 ≤ peer.frame)
 
 -- one setting
@@ -45,15 +45,15 @@ setting-taken t s i v some = one (eqb i 1) refl
     Goal : ℕ → Type 0
     Goal k = Takes t (tally.with_setting (with_peer t s) k v) (with_setting s k v)
 
-    push : (b : Bool) → Takes t (with_peer t s) (cond b (Ok (record s { push = v })) (Err ProtocolError))
+    push : (b : Bool) → Takes t (with_peer t s) (cond b (Ok (record s { push = v })) (Err EnablePushValue))
     push true = (refl, some)
     push false = tt
 
-    window : (b : Bool) → Takes t (with_peer t (record s { window = v })) (cond b (Ok (record s { window = v })) (Err FlowControlError))
+    window : (b : Bool) → Takes t (with_peer t (record s { window = v })) (cond b (Ok (record s { window = v })) (Err InitialWindowSizeValue))
     window true = (refl, some)
     window false = tt
 
-    frame : (b : Bool) → (leb 16384 v && leb v 16777215) ≡ b → Takes t (with_peer t (record s { frame = v })) (cond b (Ok (record s { frame = v })) (Err ProtocolError))
+    frame : (b : Bool) → (leb 16384 v && leb v 16777215) ≡ b → Takes t (with_peer t (record s { frame = v })) (cond b (Ok (record s { frame = v })) (Err MaxFrameSizeValue))
     frame true e = let large = leb-true 16384 v (and_parts (leb 16384 v) (leb v 16777215) e).0 in (refl, omega arith)
     frame false e = tt
 
@@ -91,13 +91,13 @@ settings-applied streams from t u s (p ∷ ps) e some =
     v : Tally
     v = tally.with_setting u p.0 p.1
 
-    passed : (b : Bool) (r : Result Settings ErrorCode) → Takes t (with_settings v ps) r → Takes t (with_settings v ps) (cond b (Err FlowControlError) r)
+    passed : (b : Bool) (r : Result Settings Cause) → Takes t (with_settings v ps) r → Takes t (with_settings v ps) (cond b (Err InitialWindowSizeOverflow) r)
     passed true r h = tt
     passed false r h = h
 
-    next : (o : Result Settings ErrorCode) → Takes t v o → ((r : Settings) → v ≡ with_peer t r → 1 ≤ r.frame → Takes t (with_settings v ps) (settings_applied streams from r ps)) →
+    next : (o : Result Settings Cause) → Takes t v o → ((r : Settings) → v ≡ with_peer t r → 1 ≤ r.frame → Takes t (with_settings v ps) (settings_applied streams from r ps)) →
         Takes t (with_settings v ps) (setting_next streams from o (λ r. settings_applied streams from r ps))
-    next (Err code) h more = tt
+    next (Err cause) h more = tt
     next (Ok r) h more = passed (overflows (moved_by from.window r.window) streams) (settings_applied streams from r ps) (more r h.0 h.1)
 
 -- ---- the records after a change of the initial window
@@ -144,16 +144,16 @@ shifted-fits book window new st m f = at st.kind f
     at PeerReset f = f
     at WeReset f = f
 
-shifted-stands : (book : List Entry) (window new id : ℕ) (sts : List Stream) (m : Mark) → Stands book window id sts m → Stands book new id (shifted (moved_by window new) sts) m
+shifted-agreed : (book : List Entry) (window new id : ℕ) (sts : List Stream) (m : Mark) → FitsStreams book window id sts m → FitsStreams book new id (shifted (moved_by window new) sts) m
 unfolding shifted
-shifted-stands book window new id [] m f = f
-shifted-stands book window new id (x ∷ sts) m f = rw (shifted-id (moved_by window new) x) (at (λ g. shifted-stands book window new id sts m g) (eqb x.id id) f)
+shifted-agreed book window new id [] m f = f
+shifted-agreed book window new id (x ∷ sts) m f = rw (shifted-id (moved_by window new) x) (at (λ g. shifted-agreed book window new id sts m g) (eqb x.id id) f)
   where
     rest : List Stream
     rest = shifted (moved_by window new) sts
 
-    at : (Stands book window id sts m → Stands book new id rest m) → (c : Bool) → Either c (Fits book window x m × Absent id sts) (Stands book window id sts m) →
-        Either c (Fits book new (shifted_one (moved_by window new) x) m × Absent id rest) (Stands book new id rest m)
+    at : (FitsStreams book window id sts m → FitsStreams book new id rest m) → (c : Bool) → Either c (Fits book window x m × Absent id sts) (FitsStreams book window id sts m) →
+        Either c (Fits book new (shifted_one (moved_by window new) x) m × Absent id rest) (FitsStreams book new id rest m)
     at more true f = (shifted-fits book window new x m f.0, shifted-absent id (moved_by window new) sts f.1)
     at more false f = more f
 
@@ -185,16 +185,16 @@ received-bodies book d (x ∷ sts) b = (at (is_live x.kind), received-bodies boo
     at true = b.0
     at false = b.0
 
-received-stands : (book : List Entry) (window id : ℕ) (d : ℤ) (sts : List Stream) (m : Mark) → Stands book window id sts m → Stands book window id (received d sts) m
+received-agreed : (book : List Entry) (window id : ℕ) (d : ℤ) (sts : List Stream) (m : Mark) → FitsStreams book window id sts m → FitsStreams book window id (received d sts) m
 unfolding received
-received-stands book window id d [] m f = f
-received-stands book window id d (x ∷ sts) m f = rw (received-id d x) (at (λ g. received-stands book window id d sts m g) (eqb x.id id) (is_live x.kind) f)
+received-agreed book window id d [] m f = f
+received-agreed book window id d (x ∷ sts) m f = rw (received-id d x) (at (λ g. received-agreed book window id d sts m g) (eqb x.id id) (is_live x.kind) f)
   where
     rest : List Stream
     rest = received d sts
 
-    at : (Stands book window id sts m → Stands book window id rest m) → (c l : Bool) → Either c (Fits book window x m × Absent id sts) (Stands book window id sts m) →
-        Either c (Fits book window (cond l (with_recv x (x.numbers.recv +ℤ d)) x) m × Absent id rest) (Stands book window id rest m)
+    at : (FitsStreams book window id sts m → FitsStreams book window id rest m) → (c l : Bool) → Either c (Fits book window x m × Absent id sts) (FitsStreams book window id sts m) →
+        Either c (Fits book window (cond l (with_recv x (x.numbers.recv +ℤ d)) x) m × Absent id rest) (FitsStreams book window id rest m)
     at more true true f = (f.0, received-absent id d sts f.1)
     at more true false f = (f.0, received-absent id d sts f.1)
     at more false l f = more f
@@ -218,11 +218,11 @@ acknowledged-kept id s t p pos_id x none =
         some_frame = x.some_frame;
         send_is = x.send_is;
         within = x.within;
-        stands = received-stands s.book t.window id d s.streams t.mark x.stands;
+        agreed = received-agreed s.book t.window id d s.streams t.mark x.agreed;
         bodies = received-bodies s.book d s.streams x.bodies;
         ordered = received-rise 0 s.core.last d s.streams x.ordered;
         idle = λ i. let j = x.idle i in (j.0, received-absent id d s.streams j.1);
-        of_block = subst (λ o. BlockStands id s.core.last (received d s.streams) o t.mark) (sym none) tt;
+        of_block = subst (λ o. FitsBlock id s.core.last (received d s.streams) o t.mark) (sym none) tt;
       };
     })
   where
@@ -241,8 +241,8 @@ settings-kept id s t p pairs pos_id x none =
     u : Tally
     u = with_settings t pairs
 
-    at : (r : Result Settings ErrorCode) → Takes t u r → Kept s.book id u p (makes s (settings_taken s.core r))
-    at (Err code) h = tt
+    at : (r : Result Settings Cause) → Takes t u r → Kept s.book id u p (makes s (settings_taken s.core r))
+    at (Err cause) h = tt
     at (Ok peer) h =
         let d : ℤ = moved_by s.core.peer.window peer.window in
         subst (λ v. Kept s.book id v p (makes s (settings_taken s.core (Ok peer)))) (sym h.0) (record {
@@ -257,10 +257,10 @@ settings-kept id s t p pairs pos_id x none =
             some_frame = h.1;
             send_is = x.send_is;
             within = x.within;
-            stands = shifted-stands s.book s.core.peer.window peer.window id s.streams t.mark (rw x.same_window x.stands);
+            agreed = shifted-agreed s.book s.core.peer.window peer.window id s.streams t.mark (rw x.same_window x.agreed);
             bodies = shifted-bodies s.book d s.streams x.bodies;
             ordered = shifted-rise 0 s.core.last d s.streams x.ordered;
             idle = λ i. let j = x.idle i in (j.0, shifted-absent id d s.streams j.1);
-            of_block = subst (λ o. BlockStands id s.core.last (shifted d s.streams) o t.mark) (sym none) tt;
+            of_block = subst (λ o. FitsBlock id s.core.last (shifted d s.streams) o t.mark) (sym none) tt;
           };
         })

@@ -5,10 +5,10 @@ use Rattle.std.proofs.lemmas.Int.{ints}
 use Rattle.std.proofs.lemmas.List.{nil_from_length, append-nil}
 use Rattle.std.specs.Option.{is_some}
 use Rattle.std.specs.Prelude.{ℤ, pos, ◌+ℤ◌}
+use Rattle.h2_spec.specs.declared.causes.Cause.{Cause}
+use Rattle.h2_spec.specs.declared.causes.Cause.TheVariants.{StreamWindowExceeded, StreamIncrementZero, StreamWindowOverflow, TooManyStreams, ListTooLarge}
 use Rattle.h2_spec.specs.declared.connection.Config.{Config}
 use Rattle.h2_spec.specs.declared.connection.ConnectionState.{ConnectionState}
-use Rattle.h2_spec.specs.declared.errors.ErrorCode.{ErrorCode}
-use Rattle.h2_spec.specs.declared.errors.ErrorCode.TheVariants.{ProtocolError, FlowControlError, RefusedStream, EnhanceYourCalm}
 use Rattle.h2_spec.specs.declared.reactions.ReceivedData.{ReceivedData}
 use Rattle.h2_spec.specs.declared.reactions.BlockSummary.{BlockSummary}
 use Rattle.h2_spec.specs.declared.reactions.StreamOutcome.{StreamOutcome}
@@ -21,7 +21,7 @@ use Rattle.h2_spec.specs.Frame.{Frame}
 use Rattle.h2_spec.specs.Answer.{Entry, picked}
 use Rattle.h2_spec.specs.Window.{given_back}
 use Rattle.h2_spec.specs.Stream.{octets_waiting}
-use Rattle.h2_spec.specs.Change.{outcome_without_frame, stream_error, second_frames, answer_frames, with_send}
+use Rattle.h2_spec.specs.Change.{outcome_without_frame, stream_error, unless_broken, second_frames, answer_frames, with_send}
 use Rattle.h2_spec.specs.StreamEnds.{server_ended, begun, with_body_remaining, with_kind, answered, answered_unless, peer_ended}
 use Rattle.h2_spec.specs.Data.{returned, returned_as, taken, data_outcome}
 use Rattle.h2_spec.specs.WindowUpdate.{window_outcome}
@@ -105,9 +105,9 @@ quiet-proper book size_update_pending st = record { same_id = refl; only = tt; h
 quiet-good : (book : List Entry) (window : ℕ) (m : Mark) (size_update_pending : Bool) (st : Stream) → Fits book window st m → Good book window m (outcome_without_frame size_update_pending st)
 quiet-good book window m size_update_pending st f = record { in_turn = tt; fits = f }
 
-pub error-proper : (book : List Entry) (size_update_pending : Bool) (st : Stream) (code : ErrorCode) → Proper book st (stream_error size_update_pending st.id code)
+pub error-proper : (book : List Entry) (size_update_pending : Bool) (st : Stream) (cause : Cause) → Proper book st (stream_error size_update_pending st.id cause)
 unfolding octets_waiting
-error-proper book size_update_pending st code = record { same_id = refl; only = (refl, refl, tt); has_body = λ h. (omega arith, tt) }
+error-proper book size_update_pending st cause = record { same_id = refl; only = (refl, refl, tt); has_body = λ h. (omega arith, tt) }
 
 -- the stream has a request and was not reset
 pub record Uncut (m : Mark) : Type 0 where
@@ -115,8 +115,8 @@ pub record Uncut (m : Mark) : Type 0 where
   pub of_body : IsOfBody m
   pub reset : m.reset ≡ false
 
-pub error-good : (book : List Entry) (window : ℕ) (m : Mark) (size_update_pending : Bool) (id : ℕ) (code : ErrorCode) → Uncut m → Good book window m (stream_error size_update_pending id code)
-error-good book window m size_update_pending id code u = record { in_turn = ((tt, u.reset), tt); fits = record { promised = u.promised; of_body = u.of_body; reset = refl } }
+pub error-good : (book : List Entry) (window : ℕ) (m : Mark) (size_update_pending : Bool) (id : ℕ) (cause : Cause) → Uncut m → Good book window m (stream_error size_update_pending id cause)
+error-good book window m size_update_pending id cause u = record { in_turn = ((tt, u.reset), tt); fits = record { promised = u.promised; of_body = u.of_body; reset = refl } }
 
 pub Uncut-sends : (body : List ℕ) (window : ℕ) (send : ℤ) (left : Option ℕ) (m : Mark) → Sends body window send left m → Uncut m
 Uncut-sends body window send left m f = record {
@@ -283,6 +283,16 @@ peer_ended-good book window m size_update_pending st f = at st.kind f
     at PeerReset f = quiet-good book window m size_update_pending (record st { kind = PeerReset }) f
     at WeReset f = quiet-good book window m size_update_pending (record st { kind = WeReset }) f
 
+-- ---- a stream error where there is a cause
+
+unless-proper : (book : List Entry) (size_update_pending : Bool) (st : Stream) (o : Option Cause) (turn : StreamOutcome) → Proper book st turn → Proper book st (unless_broken o size_update_pending st.id turn)
+unless-proper book size_update_pending st (Some cause) turn h = error-proper book size_update_pending st cause
+unless-proper book size_update_pending st None turn h = h
+
+unless-good : (book : List Entry) (window : ℕ) (m : Mark) (size_update_pending : Bool) (id : ℕ) (o : Option Cause) (turn : StreamOutcome) → Uncut m → Good book window m turn → Good book window m (unless_broken o size_update_pending id turn)
+unless-good book window m size_update_pending id (Some cause) turn u h = error-good book window m size_update_pending id cause u
+unless-good book window m size_update_pending id None turn u h = h
+
 -- ---- DATA
 
 returned-proper : (book : List Entry) (threshold : ℕ) (size_update_pending : Bool) (st : Stream) → Proper book st (returned threshold size_update_pending st)
@@ -305,8 +315,8 @@ pub data_turn-proper : (book : List Entry) (threshold : ℕ) (size_update_pendin
 unfolding data_outcome taken octets_waiting
 data_turn-proper book threshold size_update_pending d st =
     let after : Stream = taken st d in
-    either-proper book st _ _ _ (error-proper book size_update_pending st FlowControlError)
-    (either-proper book st _ _ _ (error-proper book size_update_pending st ProtocolError)
+    either-proper book st _ _ _ (error-proper book size_update_pending st StreamWindowExceeded)
+    (unless-proper book size_update_pending st _ _
     (either-proper book st d.ends _ _
     (moved-proper book st after _ refl (λ h. h) (peer_ended-proper book size_update_pending after))
     (moved-proper book st after _ refl (λ h. h) (returned-proper book threshold size_update_pending after))))
@@ -315,8 +325,8 @@ pub data_turn-good : (book : List Entry) (window : ℕ) (m : Mark) (threshold : 
 unfolding data_outcome taken
 data_turn-good book window m threshold size_update_pending d st f r =
     let u : Uncut m = Uncut-live st.kind (picked book st.pick).body window st.numbers.send st.numbers.body_remaining m f r in
-    either-good book window m _ _ _ (error-good book window m size_update_pending st.id FlowControlError u)
-    (either-good book window m _ _ _ (error-good book window m size_update_pending st.id ProtocolError u)
+    either-good book window m _ _ _ (error-good book window m size_update_pending st.id StreamWindowExceeded u)
+    (unless-good book window m size_update_pending st.id _ _ u
     (either-good book window m d.ends _ _ (peer_ended-good book window m size_update_pending (taken st d) f) (returned-good book window m threshold size_update_pending (taken st d) f r)))
 
 -- ---- WINDOW_UPDATE and RST_STREAM
@@ -387,8 +397,8 @@ over-reset HalfLocal body window send left m o f = absurd o
 pub window_turn-proper : (book : List Entry) (size_update_pending : Bool) (i : ℕ) (st : Stream) → Proper book st (window_outcome size_update_pending i st)
 unfolding window_outcome octets_waiting
 window_turn-proper book size_update_pending i st =
-    either-proper book st _ _ _ (error-proper book size_update_pending st ProtocolError)
-    (either-proper book st _ _ _ (error-proper book size_update_pending st FlowControlError) (record { same_id = refl; only = tt; has_body = λ h. h }))
+    either-proper book st _ _ _ (error-proper book size_update_pending st StreamIncrementZero)
+    (either-proper book st _ _ _ (error-proper book size_update_pending st StreamWindowOverflow) (record { same_id = refl; only = tt; has_body = λ h. h }))
 
 pub window_turn-good : (book : List Entry) (window : ℕ) (m : Mark) (size_update_pending : Bool) (i : ℕ) (st : Stream) → Fits book window st m → m.reset ≡ false → Good book window (granted_more i m) (window_outcome size_update_pending i st)
 unfolding window_outcome
@@ -396,8 +406,8 @@ window_turn-good book window m size_update_pending i st f r =
     let more : Mark = granted_more i m in
     let g : FitsAs st.kind (picked book st.pick).body window (st.numbers.send +ℤ pos i) st.numbers.body_remaining more = granted-fits st.kind (picked book st.pick).body window st.numbers.send st.numbers.body_remaining m i f in
     let u : Uncut more = Uncut-live st.kind (picked book st.pick).body window (st.numbers.send +ℤ pos i) st.numbers.body_remaining more g r in
-    either-good book window more _ _ _ (error-good book window more size_update_pending st.id ProtocolError u)
-    (either-good book window more _ _ _ (error-good book window more size_update_pending st.id FlowControlError u) (quiet-good book window more size_update_pending (with_send st (st.numbers.send +ℤ pos i)) g))
+    either-good book window more _ _ _ (error-good book window more size_update_pending st.id StreamIncrementZero u)
+    (either-good book window more _ _ _ (error-good book window more size_update_pending st.id StreamWindowOverflow u) (quiet-good book window more size_update_pending (with_send st (st.numbers.send +ℤ pos i)) g))
 
 pub reset_turn-proper : (book : List Entry) (size_update_pending : Bool) (st : Stream) → Proper book st (reset_outcome size_update_pending st)
 unfolding octets_waiting
@@ -410,28 +420,28 @@ reset_turn-good book window m size_update_pending st f r =
 
 -- ---- the ends of blocks
 
-pub trailers_turn-proper : (book : List Entry) (size : ℕ) (malformed size_update_pending ends : Bool) (st : Stream) → Proper book st (trailers_outcome size malformed (body_length book st) size_update_pending ends st)
+pub trailers_turn-proper : (book : List Entry) (size : ℕ) (malformed : Option Cause) (size_update_pending ends : Bool) (st : Stream) → Proper book st (trailers_outcome size malformed (body_length book st) size_update_pending ends st)
 unfolding trailers_outcome
 trailers_turn-proper book size malformed size_update_pending ends st =
-    either-proper book st _ _ _ (error-proper book size_update_pending st EnhanceYourCalm)
-    (either-proper book st _ _ _ (error-proper book size_update_pending st ProtocolError) (peer_ended-proper book size_update_pending st))
+    either-proper book st _ _ _ (error-proper book size_update_pending st ListTooLarge)
+    (unless-proper book size_update_pending st _ _ (peer_ended-proper book size_update_pending st))
 
-pub trailers_turn-good : (book : List Entry) (window : ℕ) (m : Mark) (size : ℕ) (malformed size_update_pending ends : Bool) (st : Stream) → Fits book window st m → m.reset ≡ false →
+pub trailers_turn-good : (book : List Entry) (window : ℕ) (m : Mark) (size : ℕ) (malformed : Option Cause) (size_update_pending ends : Bool) (st : Stream) → Fits book window st m → m.reset ≡ false →
     Good book window m (trailers_outcome size malformed (body_length book st) size_update_pending ends st)
 unfolding trailers_outcome
 trailers_turn-good book window m size malformed size_update_pending ends st f r =
     let u : Uncut m = Uncut-live st.kind (picked book st.pick).body window st.numbers.send st.numbers.body_remaining m f r in
-    either-good book window m _ _ _ (error-good book window m size_update_pending st.id EnhanceYourCalm u)
-    (either-good book window m _ _ _ (error-good book window m size_update_pending st.id ProtocolError u) (peer_ended-good book window m size_update_pending st f))
+    either-good book window m _ _ _ (error-good book window m size_update_pending st.id ListTooLarge u)
+    (unless-good book window m size_update_pending st.id _ _ u (peer_ended-good book window m size_update_pending st f))
 
 pub request_turn-proper : (book : List Entry) (config : Config) (live : ℕ) (core : ConnectionState) (id : ℕ) (ends : Bool) (f : BlockSummary) →
     Proper book (new_stream core id f) (request_outcome config live (body_length book (new_stream core id f)) (picked book f.pick).early core id ends f)
 unfolding request_outcome
 request_turn-proper book config live core id ends f =
     let st : Stream = new_stream core id f in
-    either-proper book st _ _ _ (error-proper book core.peer.size_update_pending st RefusedStream)
-    (either-proper book st _ _ _ (error-proper book core.peer.size_update_pending st EnhanceYourCalm)
-    (either-proper book st _ _ _ (error-proper book core.peer.size_update_pending st ProtocolError)
+    either-proper book st _ _ _ (error-proper book core.peer.size_update_pending st TooManyStreams)
+    (either-proper book st _ _ _ (error-proper book core.peer.size_update_pending st ListTooLarge)
+    (unless-proper book core.peer.size_update_pending st _ _
     (either-proper book st ends _ _ (peer_ended-proper book core.peer.size_update_pending st)
     (either-proper book st (picked book f.pick).early _ _ (answered-proper book core.peer.size_update_pending st) (quiet-proper book core.peer.size_update_pending st)))))
 
@@ -449,8 +459,8 @@ request_turn-good book config live core id ends f =
     let w : ℕ = core.peer.window in
     let g : Sends body w (pos w) None m = record { promised = refl; send_is = omega (arith, ints); waits = (refl, refl); ended = refl; reset = refl } in
     let u : Uncut m = Uncut-sends body w (pos w) None m g in
-    either-good book w m _ _ _ (error-good book w m core.peer.size_update_pending id RefusedStream u)
-    (either-good book w m _ _ _ (error-good book w m core.peer.size_update_pending id EnhanceYourCalm u)
-    (either-good book w m _ _ _ (error-good book w m core.peer.size_update_pending id ProtocolError u)
+    either-good book w m _ _ _ (error-good book w m core.peer.size_update_pending id TooManyStreams u)
+    (either-good book w m _ _ _ (error-good book w m core.peer.size_update_pending id ListTooLarge u)
+    (unless-good book w m core.peer.size_update_pending id _ _ u
     (either-good book w m ends _ _ (peer_ended-good book w m core.peer.size_update_pending st g)
     (either-good book w m (picked book f.pick).early _ _ (answered-good book w m core.peer.size_update_pending BothOpen id st.numbers f.pick tt g) (quiet-good book w m core.peer.size_update_pending st g)))))

@@ -3,6 +3,8 @@ use Rattle.h2_spec.specs.Answer.{Entry}
 use Rattle.h2_spec.specs.declared.connection.Config.{Config}
 use Rattle.h2_words.specs.Grammar.{BatchAsked, BookAsked}
 use Rattle.h2_bench.specs.Books.{book_in}
+use Rattle.h2_bench.specs.ExplainProgram.{EndsExplain, form_of}
+use Rattle.h2_explain.specs.declared.run.Form.{Form}
 use Rattle.h2_bench.specs.ProgramEnd.{AnswersAs, EndsBatch, EndsSession, EndsSomehow, Prints, no_files}
 use Rattle.h2_bench.specs.Printed.{Printed, cut_short, failed, places_with, places_within, printed_with, printed_within}
 use Rattle.h2_bench.specs.declared.fault.BenchFault.TheVariants.{Read}
@@ -64,3 +66,20 @@ returns-clause-debugs g c = λ config book planned.
     (g.W.Write.contents c.new-into.result.inner.now) (g.W.Write.contents c.args.output.now) (g.W.Write.contents c.run_on-status.new.output.inner.now) _
     c.run_on-status.result c.run_on-status.new.output.failed c.run_on-status.new.input.failed _
     (search rules) (search rules) (search rules) (search rules) c.run_on-status.ensures.flag refl (c.run_on-status.ensures.debugs config book planned (inr refl))
+
+explained-or-three : (form : Form) (config : Config) (file : List ℕ) (book : BookAsked) (input input' before before' after after' : Option (List ℕ)) (status : ℕ) (broken input_failed b : Bool)
+    → input ≡ input' → before ≡ before' → after ≡ after' → broken ≡ (status == 3) → (status == 3) ≡ b
+    → (broken ≡ false → EndsExplain form no_files config file book input input_failed before after status)
+    → (status ≡ 3) ⊎ ((failed : Bool) × EndsExplain form no_files config file book input' failed before' after' status)
+explained-or-three form config file book input input' before before' after after' status broken input_failed true i w o flag e printed = inl (eqb-true status 3 e)
+explained-or-three form config file book input input' before before' after after' status broken input_failed false i w o flag e printed =
+    inr (input_failed, rw (← i, ← w, ← o) (printed (flag ∙ e)))
+
+pub returns-clause-explains : goal.returns-clause-explains
+returns-clause-explains g c = λ config json color file book planned.
+    let from = c.into_inner-reader.ensures.same_reference ∙ c.run_on-status.ensures.input ∙ c.new-from.ensures.same_reference in
+    let into = c.into_inner-writer.ensures.same_reference ∙ c.run_on-status.ensures.name ∙ c.new-into.ensures.same_reference in
+    explained-or-three (form_of json color) config file book (g.R.Read.remaining c.new-from.result.inner.now) (g.R.Read.remaining c.args.input.now)
+    (g.W.Write.contents c.new-into.result.inner.now) (g.W.Write.contents c.args.output.now) (g.W.Write.contents c.run_on-status.new.output.inner.now) _
+    c.run_on-status.result c.run_on-status.new.output.failed c.run_on-status.new.input.failed _
+    (search rules) (search rules) (search rules) c.run_on-status.ensures.flag refl (c.run_on-status.ensures.explains config json color file book planned (inr refl) (inr refl))

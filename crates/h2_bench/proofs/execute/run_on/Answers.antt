@@ -13,6 +13,9 @@ returns-clause-printed g c = λ asked is file well held known. (failed NoMemory,
 pub returns-clause-debugs : goal.returns-clause-debugs
 returns-clause-debugs g c = λ config book is file well. inl (λ held known. (failed NoMemory, refl, c.print_fault.ensures.printed well held known))
 
+pub returns-clause-explains : goal.returns-clause-explains
+returns-clause-explains g c = λ config json color file book is bookfile textfile well held known. (failed NoMemory, inl refl, c.print_fault.ensures.printed well held known)
+
 pub returns-clause-serves : goal.returns-clause-serves
 returns-clause-serves g c = λ is well. inr (λ held known. (failed NoMemory, refl, c.print_fault.ensures.printed well held known))
 

@@ -14,5 +14,5 @@ loop-octet-preserved c =
           ∙ ap (λ n. all_in_front n rest) (sym c.push_reserved.ensures.items) ∙ sym taken.spelled;
       within = taken.within.1;
       few = omega (arith, taken.few);
-      capacity = omega (arith, taken.room, c.push_reserved.ensures.capacity, l.invariant.capacity);
+      capacity = omega (arith, taken.capacity, c.push_reserved.ensures.capacity, l.invariant.capacity);
     }

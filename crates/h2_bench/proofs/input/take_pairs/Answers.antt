@@ -22,7 +22,7 @@ loop-place-preserved-then-second-ge256 c =
       from = omega (arith, l.invariant.from);
       within = omega arith;
       few = omega (arith, c.push_reserved.ensures.len, l.invariant.few);
-      room = c.push_reserved.ensures.capacity ∙ l.invariant.room;
+      capacity = c.push_reserved.ensures.capacity ∙ l.invariant.capacity;
     }
 
 pub loop-place-preserved : goal.loop-place-preserved
@@ -38,5 +38,5 @@ loop-place-preserved c =
       from = omega (arith, l.invariant.from);
       within = omega arith;
       few = omega (arith, c.push_reserved.ensures.len, c.push_reserved-in-loop-place.ensures.len, l.invariant.few);
-      room = c.push_reserved-in-loop-place.ensures.capacity ∙ c.push_reserved.ensures.capacity ∙ l.invariant.room;
+      capacity = c.push_reserved-in-loop-place.ensures.capacity ∙ c.push_reserved.ensures.capacity ∙ l.invariant.capacity;
     }

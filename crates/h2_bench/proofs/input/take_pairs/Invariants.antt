@@ -9,7 +9,7 @@ invariant-loop-place l = record {
   from : l.start ≤ l.place;
   within : l.place ≤ length l.text;
   few : 2 * vec_len l.octets ≤ l.place;
-  room : vec_capacity l.octets ≡ vec_capacity l.fn.octets;
+  capacity : vec_capacity l.octets ≡ vec_capacity l.fn.octets;
 }
 
 abbrev pub decreases-loop-place : goal.decreases-loop-place

@@ -22,14 +22,14 @@ returns-in-Err-clause-printed g c = λ well held is. (
 pub returns-in-Ok-clause-printed : goal.returns-in-Ok-clause-printed
 returns-in-Ok-clause-printed g c = λ well. rw (c.in-Ok.ensures.ok, ← c.as_slice-in-Ok.ensures.value) (c.write_played.ensures.printed well)
 
-limits-told : (each : Bool) (book : List Entry) (config : Config) (spelled : Option (List ℕ)) → is_allowed config ≡ false → failed_after [] (limits_fault spelled) ≡ printed_play each book config spelled
-limits-told each book config None bad = refl
-limits-told each book config (Some octets) bad = rw bad refl
+limits-reported : (each : Bool) (book : List Entry) (config : Config) (spelled : Option (List ℕ)) → is_allowed config ≡ false → failed_after [] (limits_fault spelled) ≡ printed_play each book config spelled
+limits-reported each book config None bad = refl
+limits-reported each book config (Some octets) bad = rw bad refl
 
 pub returns-then-not-is_allowed-clause-printed : goal.returns-then-not-is_allowed-clause-printed
 returns-then-not-is_allowed-clause-printed g c = λ well held is. (
   [],
   unchanged held _ is,
   inl (ap (failed_after []) (rw c.as_slice.ensures.value at c.refused_limits.ensures)
-      ∙ limits-told c.args.play.now.each c.args.book.now c.args.play.now.config (octets_spelled c.args.input.items) (sym c.is_allowed.ensures ∙ c.if-not-is_allowed.true)),
+      ∙ limits-reported c.args.play.now.each c.args.book.now c.args.play.now.config (octets_spelled c.args.input.items) (sym c.is_allowed.ensures ∙ c.if-not-is_allowed.true)),
 )

@@ -2,14 +2,14 @@ use Rattle.std.proofs.Common.{◌≡◌, ℕ, Err, refl, ap, ◌∙◌, sym, sub
 use Rattle.std.proofs.lemmas.Result.{err_from_is_err_and}
 use Rattle.h2_spec.specs.Block.{applied}
 use Rattle.h2_spec.specs.Instruction.{instr_at}
-use Rattle.h2_spec.proofs.BlockLaws.{stands-start, stands-step, stands-more}
+use Rattle.h2_spec.proofs.BlockLaws.{leads-start, leads-step, leads-more}
 use Rattle.h2_fields.specs.Drafts.{progress_in}
 use Rattle.h2_fields.specs.Resume.{IfMore, IsRest, IsTaken, huffman_octets}
 use Rattle.h2_fields.specs.Shapes.{shape_of, read_of}
 use Rattle.h2_fields.specs.declared.shape.Shape.{Shape}
 use Rattle.h2_fields.proofs.Counting.{counts, counts-rest}
 use Rattle.h2_fields.proofs.Drafting.{grows-start, grows-then, refused-stopped, too_long-stopped}
-use Rattle.h2_fields.proofs.Standing.{fewer}
+use Rattle.h2_fields.proofs.FoundFaults.{fewer}
 use Rattle.h2_fields.proofs.fragment.decode.Goals as goal
 
 pub loop-shape-init : goal.loop-shape-init
@@ -17,7 +17,7 @@ loop-shape-init g c =
     let p = progress_in c.args.collected.now c.args.draft.now in
     record {
       base = refl;
-      stands = stands-start c.args.draft.now.base.limit p c.args.octets.now;
+      leads = leads-start c.args.draft.now.base.limit p c.args.octets.now;
       grows = grows-start c.args.collected.now;
       point = c.requires.point;
       passed = omega (arith, c.requires.passed);
@@ -31,12 +31,12 @@ returns-in_err-apply-in-Ok-clause-fault g c =
     let q = progress_in c.loop-shape.collected c.loop-shape.draft in
     let e = ap instr_at (sym c.octets_from-left.ensures) ∙ sym c.in-Ok.ensures.read in
     let same = ap (λ b. b.limit) c.loop-shape.invariant.base in
-    rw (r.1, r.2) (refused-stopped c.args.draft.now.base.limit c.loop-shape.draft.base.limit p q _ c.args.octets.now c.loop-shape.at c.in-Ok.used (shape_of c.in-Ok.shape) _ c.loop-shape.invariant.stands same e c.in_err-apply-in-Ok.ensures.applied)
+    rw (r.1, r.2) (refused-stopped c.args.draft.now.base.limit c.loop-shape.draft.base.limit p q _ c.args.octets.now c.loop-shape.at c.in-Ok.used (shape_of c.in-Ok.shape) _ c.loop-shape.invariant.leads same e c.in_err-apply-in-Ok.ensures.applied)
 
 pub loop-shape-smaller : goal.loop-shape-smaller
 loop-shape-smaller g c =
     let e = ap instr_at (sym c.octets_from-left.ensures) ∙ sym c.in-Ok.ensures.read in
-    fewer c.args.octets.now c.loop-shape.at c.in-Ok.used (shape_of c.in-Ok.shape) c.loop-shape.invariant.stands.within e
+    fewer c.args.octets.now c.loop-shape.at c.in-Ok.used (shape_of c.in-Ok.shape) c.loop-shape.invariant.leads.within e
 
 pub loop-shape-preserved : goal.loop-shape-preserved
 loop-shape-preserved g c =
@@ -49,10 +49,10 @@ loop-shape-preserved g c =
     let a = ap (λ l. applied l q (shape_of c.in-Ok.shape)) (sym same) ∙ c.in_ok-apply-in-Ok.ensures.applied in
     record {
       base = c.in_ok-apply-in-Ok.ensures.base ∙ c.loop-shape.invariant.base;
-      stands = stands-step limit p q _ c.args.octets.now c.loop-shape.at c.in-Ok.used (shape_of c.in-Ok.shape) c.loop-shape.invariant.stands e a;
+      leads = leads-step limit p q _ c.args.octets.now c.loop-shape.at c.in-Ok.used (shape_of c.in-Ok.shape) c.loop-shape.invariant.leads e a;
       grows = grows-then c.args.collected.now c.loop-shape.collected c.apply.new.collected c.loop-shape.invariant.grows c.in_ok-apply-in-Ok.ensures.grows;
       point = c.start-point.ensures.anywhere (drop (c.loop-shape.at + c.in-Ok.used) c.args.octets.now);
-      passed = omega (arith, c.start-point.ensures.passed, taken.within, c.loop-shape.invariant.stands.within, length-drop c.loop-shape.at c.args.octets.now);
+      passed = omega (arith, c.start-point.ensures.passed, taken.within, c.loop-shape.invariant.leads.within, length-drop c.loop-shape.at c.args.octets.now);
       counted = counts c.args.from.passed c.loop-shape.point.passed c.start-point.result.passed c.loop-shape.at c.in-Ok.used (huffman_octets (shape_of c.in-Ok.shape)) c.args.ticks.now c.loop-shape.ticks c.with_instruction.result
           c.loop-shape.invariant.counted taken.passed taken.huffman c.start-point.ensures.passed c.with_instruction.ensures;
     }
@@ -62,14 +62,14 @@ returns-in-Err-More-clause-used g c =
     let p = progress_in c.args.collected.now c.args.draft.now in
     let q = progress_in c.loop-shape.collected c.loop-shape.draft in
     let e = ap instr_at (sym c.octets_from-left.ensures) ∙ sym c.in-Err-More.ensures.read ∙ ap (λ x. read_of shape_of (Err x)) c.in-Err-More.field-0-is in
-    (c.loop-shape.invariant.stands.within, stands-more c.args.draft.now.base.limit p q c.args.octets.now c.loop-shape.at c.loop-shape.invariant.stands e)
+    (c.loop-shape.invariant.leads.within, leads-more c.args.draft.now.base.limit p q c.args.octets.now c.loop-shape.at c.loop-shape.invariant.leads e)
 
 pub returns-in-Err-TooLong-clause-fault : goal.returns-in-Err-TooLong-clause-fault
 returns-in-Err-TooLong-clause-fault g c =
     let p = progress_in c.args.collected.now c.args.draft.now in
     let q = progress_in c.loop-shape.collected c.loop-shape.draft in
     let e = ap instr_at (sym c.octets_from-left.ensures) ∙ sym c.in-Err-TooLong.ensures.read ∙ ap (λ x. read_of shape_of (Err x)) c.in-Err-TooLong.field-0-is in
-    too_long-stopped c.args.draft.now.base.limit p q c.args.octets.now c.loop-shape.at c.loop-shape.invariant.stands e
+    too_long-stopped c.args.draft.now.base.limit p q c.args.octets.now c.loop-shape.at c.loop-shape.invariant.leads e
 
 pub returns-in-Err-More-clause-rest : goal.returns-in-Err-More-clause-rest
 returns-in-Err-More-clause-rest g c =
@@ -82,6 +82,6 @@ returns-in-Err-More-clause-ticks g c =
     let octets = c.args.octets.now in
     let at = c.loop-shape.at in
     let left = length c.octets_from-left.result.now in
-    let is : at + left ≡ length octets = omega (arith, ap length c.octets_from-left.ensures, length-drop at octets, c.loop-shape.invariant.stands.within) in
+    let is : at + left ≡ length octets = omega (arith, ap length c.octets_from-left.ensures, length-drop at octets, c.loop-shape.invariant.leads.within) in
     counts-rest c.args.from.passed c.loop-shape.point.passed at left (length octets) c.args.ticks.now c.loop-shape.ticks c.saturating_add.result c.loop-shape.invariant.counted
     (omega (arith, is, c.loop-shape.invariant.passed)) is c.saturating_add.ensures

@@ -2,13 +2,13 @@ use Rattle.std.proofs.Common.{◌≡◌, ◌+◌, ◌-◌, ◌≤◌, length, dr
 use Rattle.h2_fields.specs.Drafts.{Grows, progress_in}
 use Rattle.h2_fields.specs.Resume.{IsPoint}
 use Rattle.h2_fields.specs.Rests.{IsCounted}
-use Rattle.h2_spec.proofs.BlockLaws.{Stands}
+use Rattle.h2_spec.proofs.BlockLaws.{LeadsTo}
 use Rattle.h2_fields.proofs.fragment.decode.Given as goal
 
 abbrev pub invariant-loop-shape : goal.invariant-loop-shape
 invariant-loop-shape g l = record {
   base : l.draft.base ≡ l.fn.draft.base;
-  stands : Stands l.fn.draft.base.limit (progress_in l.fn.collected l.fn.draft) l.octets l.at (progress_in l.collected l.draft);
+  leads : LeadsTo l.fn.draft.base.limit (progress_in l.fn.collected l.fn.draft) l.octets l.at (progress_in l.collected l.draft);
   grows : Grows l.fn.collected l.collected;
   point : IsPoint (drop l.at l.octets) l.point;
   passed : l.at + l.point.passed ≤ length l.octets;

@@ -31,13 +31,13 @@ returns-clause-ok g c =
     let s : Span = record { name = first; value = second; start = l.start; end = c.len-end.result } in
     let seen = ap (λ (o : Listed). length o.next) c.self.view_is in
     let more = drop l.start l.octets.items in
-    let room : c.args.name ≤ length more = omega (arith, seen, c.requires.within) in
+    let enough : c.args.name ≤ length more = omega (arith, seen, c.requires.within) in
     let fields = map (field_in (take l.start l.octets.items)) l.spans.items ++ field (take c.args.name more) (drop c.args.name more) ∷ [] in
     let end = c.len-end.ensures ∙ l.octets.ok.0 in
     let r = adds l.octets.items l.octets.items l.spans.items s l.start (take c.args.name more) (drop c.args.name more)
     (record { held = c.self.invariant.0; within = c.self.invariant.0; same = refl }) c.self.invariant.1 end
-    (front-part first l.octets.items l.start c.args.name c.self.invariant.0 refl refl room)
-    (last-part second l.octets.items l.start c.args.name c.self.invariant.0 refl end room) in
+    (front-part first l.octets.items l.start c.args.name c.self.invariant.0 refl refl enough)
+    (last-part second l.octets.items l.start c.args.name c.self.invariant.0 refl end enough) in
     ap (λ (spans : List Span). listed (map (field_in (take c.len-end.result l.octets.items)) spans) (drop c.len-end.result l.octets.items)) c.in_ok-push.ensures.items
     ∙ ap (λ (fs : List Field). listed fs (drop c.len-end.result l.octets.items)) r.fields
     ∙ ap (λ (n : List ℕ). listed fields n) r.next

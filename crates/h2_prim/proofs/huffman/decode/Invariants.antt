@@ -1,11 +1,11 @@
 use Rattle.std.proofs.Common.{◌≤◌, ◌*◌, ◌/◌, take, length}
 use Rattle.h2_spec.specs.Huffman.{bits}
-use Rattle.h2_prim.specs.States.{Stands, IsRow}
+use Rattle.h2_prim.specs.States.{Represents, IsRow}
 use Rattle.h2_prim.proofs.huffman.decode.Given as goal
 
 abbrev pub invariant-loop-pair : goal.invariant-loop-pair
 invariant-loop-pair l = record {
-  read : Stands (bits (take (2 * l.pair) l.octets)) (take l.len l.text) (l.row / 16);
+  read : Represents (bits (take (2 * l.pair) l.octets)) (take l.len l.text) (l.row / 16);
   within : l.len ≤ length l.text;
   row : IsRow l.row;
 }

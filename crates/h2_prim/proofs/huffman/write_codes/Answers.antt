@@ -17,8 +17,8 @@ flush-left-requires-clause-small g c =
     let k = c.code_of-code in
     rw (c.power.ensures, c.from.ensures) (join-small l.count k.result.1 l.number k.result.0 l.invariant.small k.ensures.small)
 
-pub flush-left-requires-clause-room : goal.flush-left-requires-clause-room
-flush-left-requires-clause-room g c =
+pub flush-left-requires-clause-enough : goal.flush-left-requires-clause-enough
+flush-left-requires-clause-enough g c =
     let l = c.loop-octet in
     let k = c.code_of-code in
     let within = counted_within c.args.text.now l.octet-index k.result.1 k.result.0 c.loop-octet-test.true k.ensures.code in

@@ -5,7 +5,7 @@ use Rattle.h2_prim.proofs.Groups.{one_group, last_group}
 use Rattle.h2_prim.proofs.integer.write_groups.Goals as goal
 
 pub loop-value-init : goal.loop-value-init
-loop-value-init g c = record { room = 4; small = omega arith; fits = omega arith; same = refl }
+loop-value-init g c = record { enough = 4; small = omega arith; fits = omega arith; same = refl }
 
 pub loop-value-preserved : goal.loop-value-preserved
 loop-value-preserved g c =

@@ -1,11 +1,11 @@
-use Rattle.std.proofs.Common.{◌≡◌, true, refl, sym, ap, subst, ◌∙◌, length, is_some}
+use Rattle.std.proofs.Common.{◌≡◌, true, refl, sym, ap, subst, ◌∙◌, length}
 use Rattle.h2_spec.specs.declared.reactions.Change.{Change}
 use Rattle.h2_spec.specs.declared.reactions.StreamOutcome.{StreamOutcome}
 use Rattle.h2_spec.specs.Answer.{picked}
 use Rattle.h2_spec.specs.Block.{list_size}
 use Rattle.h2_spec.specs.Change.{only_counts, with_outcome}
 use Rattle.h2_spec.specs.Headers.{trailers_outcome}
-use Rattle.h2_spec.specs.Request.{malformed_trailers}
+use Rattle.h2_spec.specs.Request.{trailers_fault}
 use Rattle.h2_spec.specs.declared.streams.Stream.{Stream}
 use Rattle.h2_spec.specs.Stream.{is_live, kind_of, stream_at}
 use Rattle.h2_rules.specs.Sound.{HasBody, IsCalm, IsSoundStream, in_force}
@@ -22,11 +22,11 @@ returns-clause-rule g c = λ config b table.
     let fields = a.fields.now.fields in
     let book = a.book.now in
     let st = c.stream_at-stream.result in
-    let bad = is_some (malformed_trailers fields) in
+    let bad = trailers_fault fields in
     let pending = a.core.peer.size_update_pending in
     let ends = a.shown.now.ends in
     let outcome =
-    c.trailers_outcome-outcome.ensures.rule ∙ trailers-turn c.list_size-size.result c.are_no_trailers-malformed.result bad c.body_length-body.result pending ends st c.are_no_trailers-malformed.ensures
+    c.trailers_outcome-outcome.ensures.rule ∙ trailers-turn c.list_size-size.result c.trailers_fault-malformed.result bad c.body_length-body.result pending ends st c.trailers_fault-malformed.ensures
     ∙ ap (λ n. trailers_outcome n bad c.body_length-body.result pending ends st) c.list_size-size.ensures
     ∙ ap (λ n. trailers_outcome (list_size fields) bad n pending ends st) c.body_length-body.ensures
     ∙ ap (λ (x : Stream). trailers_outcome (list_size fields) bad (length (picked book x.pick).body) pending ends x) (c.stream_at-stream.ensures.value ∙ ap (λ l. stream_at l r.streams id) c.requires.sound.last) in

@@ -17,27 +17,27 @@ unfolding request_outcome
 returns-then-is_too_large-clause-rule c =
     rw (← c.is_full.ensures, c.if-is_full.false, ← c.is_too_large.ensures, c.if-is_too_large.true) c.stream_error-then-is_too_large.ensures.rule
 
-pub returns-then-is_malformed-clause-rule : goal.returns-then-is_malformed-clause-rule
+pub returns-in-Some-clause-rule : goal.returns-in-Some-clause-rule
 unfolding request_outcome
-returns-then-is_malformed-clause-rule c =
-    rw (← c.is_full.ensures, c.if-is_full.false, ← c.is_too_large.ensures, c.if-is_too_large.false, ← c.is_malformed.ensures, c.if-is_malformed.true) c.stream_error-then-is_malformed.ensures.rule
+returns-in-Some-clause-rule c =
+    rw (← c.is_full.ensures, c.if-is_full.false, ← c.is_too_large.ensures, c.if-is_too_large.false, ← c.request_broken.ensures, c.in-Some.is) c.stream_error-in-Some.ensures.rule
 
 pub returns-then-ends-clause-rule : goal.returns-then-ends-clause-rule
 unfolding request_outcome
 returns-then-ends-clause-rule c =
-    rw (← c.is_full.ensures, c.if-is_full.false, ← c.is_too_large.ensures, c.if-is_too_large.false, ← c.is_malformed.ensures, c.if-is_malformed.false, c.if-ends.true)
+    rw (← c.is_full.ensures, c.if-is_full.false, ← c.is_too_large.ensures, c.if-is_too_large.false, ← c.request_broken.ensures, c.in_default.is, c.if-ends.true)
     (c.peer_ended.ensures.rule ∙ ap (peer_ended c.args.core.peer.size_update_pending c.args.body) c.new_stream-stream.ensures.rule)
 
 pub returns-then-early-clause-rule : goal.returns-then-early-clause-rule
 unfolding request_outcome
 returns-then-early-clause-rule c =
-    rw (← c.is_full.ensures, c.if-is_full.false, ← c.is_too_large.ensures, c.if-is_too_large.false, ← c.is_malformed.ensures, c.if-is_malformed.false, c.if-ends.false, c.if-early.true)
+    rw (← c.is_full.ensures, c.if-is_full.false, ← c.is_too_large.ensures, c.if-is_too_large.false, ← c.request_broken.ensures, c.in_default.is, c.if-ends.false, c.if-early.true)
     (c.answered.ensures.rule ∙ ap (answered c.args.core.peer.size_update_pending c.args.body) c.new_stream-stream.ensures.rule)
 
 pub returns-else-early-clause-rule : goal.returns-else-early-clause-rule
 unfolding request_outcome
 returns-else-early-clause-rule c =
-    rw (← c.is_full.ensures, c.if-is_full.false, ← c.is_too_large.ensures, c.if-is_too_large.false, ← c.is_malformed.ensures, c.if-is_malformed.false, c.if-ends.false, c.if-early.false)
+    rw (← c.is_full.ensures, c.if-is_full.false, ← c.is_too_large.ensures, c.if-is_too_large.false, ← c.request_broken.ensures, c.in_default.is, c.if-ends.false, c.if-early.false)
     (c.outcome_without_frame.ensures.rule ∙ ap (outcome_without_frame c.args.core.peer.size_update_pending) c.new_stream-stream.ensures.rule)
 
 pub returns-then-ends-clause-sound : goal.returns-then-ends-clause-sound

@@ -12,7 +12,7 @@ returns-in-Err c = λ streams is.
     let ps = settings_in a.part in
     let pair = c.pair_at-id.result in
     let now = sym (c.one_setting.ensures streams is) ∙ c.in-Err.is in
-    sym (sym (l.invariant streams is) ∙ ap (λ qs. settings_applied streams a.from l.now qs) (drop-at l.place ps pair c.pair_at-id.ensures) ∙ applied-err streams a.from l.now c.in-Err.code pair.0 pair.1 (drop (l.place + 1) ps) now)
+    sym (sym (l.invariant streams is) ∙ ap (λ qs. settings_applied streams a.from l.now qs) (drop-at l.place ps pair c.pair_at-id.ensures) ∙ applied-err streams a.from l.now c.in-Err.cause pair.0 pair.1 (drop (l.place + 1) ps) now)
 
 pub loop-place-preserved : goal.loop-place-preserved
 loop-place-preserved c = λ streams is.

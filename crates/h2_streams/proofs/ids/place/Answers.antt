@@ -21,7 +21,7 @@ returns-in-Err-clause-items g c =
     let found = placed-searched ids id i c.requires.rising (subst (λ xs. IsBinarySearchResult (λ y. nat_cmp y id) xs (Err i)) c.deref.ensures.value c.in-Err.ensures.position) in
     let within : i ≤ length ids = subst (λ xs. i ≤ length xs) c.deref.ensures.value c.in-Err.ensures.bound in
     let longer = ap length found ∙ length-insert ids i id within in
-    let room = c.requires.room in
+    let enough = c.requires.enough in
     let len = ap length (sym c.deref.ensures.value) ∙ c.deref.ensures.len in
-    let done = c.insert.ensures.succeeds (omega (arith, longer, room, len)) in
+    let done = c.insert.ensures.succeeds (omega (arith, longer, enough, len)) in
     c.insert.ensures.items ∙ ap (λ (t : Bool). cond t (insert ids i id) ids) done ∙ sym found

@@ -5,21 +5,21 @@ use Rattle.h2_table.proofs.dynamic_table.evict.Goals as goal
 
 pub overflow_add-left-in-Some : goal.overflow_add-left-in-Some
 overflow_add-left-in-Some g c =
-    let e = evicts c.loop-left.ring.items c.in-Some.entry c.args.room c.in-Some.ensures.value (omega arith) in
+    let e = evicts c.loop-left.ring.items c.in-Some.entry c.args.available c.in-Some.ensures.value (omega arith) in
     let name = ap length c.name.ensures in
     let value = ap length c.value.ensures in
     omega arith
 
 pub overflow_sub-left : goal.overflow_sub-left
 overflow_sub-left g c =
-    let e = evicts c.loop-left.ring.items c.in-Some.entry c.args.room c.in-Some.ensures.value (omega arith) in
+    let e = evicts c.loop-left.ring.items c.in-Some.entry c.args.available c.in-Some.ensures.value (omega arith) in
     let name = ap length c.name.ensures in
     let value = ap length c.value.ensures in
     omega arith
 
 pub loop-left-preserved : goal.loop-left-preserved
 loop-left-preserved g c =
-    let e = evicts c.loop-left.ring.items c.in-Some.entry c.args.room c.in-Some.ensures.value (omega arith) in
+    let e = evicts c.loop-left.ring.items c.in-Some.entry c.args.available c.in-Some.ensures.value (omega arith) in
     let name = ap length c.name.ensures in
     let value = ap length c.value.ensures in
     record {
@@ -29,13 +29,13 @@ loop-left-preserved g c =
     }
 
 pub returns-in-None-clause-kept : goal.returns-in-None-clause-kept
-returns-in-None-clause-kept g c = absurd (not_empty c.loop-left.ring.items c.args.room (omega arith) c.in-None.ensures.value)
+returns-in-None-clause-kept g c = absurd (not_empty c.loop-left.ring.items c.args.available (omega arith) c.in-None.ensures.value)
 
 pub returns-in-None-clause-counted : goal.returns-in-None-clause-counted
-returns-in-None-clause-counted g c = absurd (not_empty c.loop-left.ring.items c.args.room (omega arith) c.in-None.ensures.value)
+returns-in-None-clause-counted g c = absurd (not_empty c.loop-left.ring.items c.args.available (omega arith) c.in-None.ensures.value)
 
 pub returns-in-None-clause-within : goal.returns-in-None-clause-within
-returns-in-None-clause-within g c = absurd (not_empty c.loop-left.ring.items c.args.room (omega arith) c.in-None.ensures.value)
+returns-in-None-clause-within g c = absurd (not_empty c.loop-left.ring.items c.args.available (omega arith) c.in-None.ensures.value)
 
 pub returns-clause-kept : goal.returns-clause-kept
-returns-clause-kept g c = sym (fit-all c.loop-left.ring.items c.args.room (omega arith)) ∙ c.loop-left.invariant.same
+returns-clause-kept g c = sym (fit-all c.loop-left.ring.items c.args.available (omega arith)) ∙ c.loop-left.invariant.same

@@ -6,7 +6,7 @@ use Rattle.h2_table.proofs.edit.evict_added.Given as goal
 abbrev pub invariant-loop-left : goal.invariant-loop-left
 invariant-loop-left g l = record {
   counted : l.left ≡ total_size l.added.items;
-  same : fit l.added.items l.room ≡ fit l.fn.added.items l.room;
+  same : fit l.added.items l.available ≡ fit l.fn.added.items l.available;
   fewer : deque_len l.added ≤ deque_len l.fn.added;
   places : deque_capacity l.added ≡ deque_capacity l.fn.added;
 }

@@ -1,5 +1,4 @@
-use Rattle.std.proofs.Common.{◌≡◌, ◌++◌, [], ap, ◌∙◌, sym}
-use Rattle.circular_buffer.specs.Buffer.{buffer}
+use Rattle.std.proofs.Common.{ap, ◌∙◌}
 use Rattle.h2_table.proofs.Editing.{moved}
 use Rattle.h2_table.proofs.edit.move_newest.Goals as goal
 

@@ -1,5 +1,6 @@
-use Rattle.std.proofs.Common.{◌≡◌, ℕ, List, Bool, Option, Some, None, ap, refl, subst, sym}
+use Rattle.std.proofs.Common.{◌≡◌, ◌∙◌, ℕ, List, Bool, Option, Some, None, ap, refl, subst, sym}
 use Rattle.h2_spec.specs.declared.connection.BlockView.{BlockView}
+use Rattle.h2_spec.specs.Cause.{code_of}
 use Rattle.h2_spec.specs.Change.{Step, broken, ended, only_shown}
 use Rattle.h2_spec.specs.Effect as rule
 use Rattle.h2_spec.specs.FrameType.{END_HEADERS, has}
@@ -25,8 +26,12 @@ shown-alone (Some b) = refl
 
 -- with the block only shown, an effect is made as with the block
 concluded-stopped : (s : State) (p : List ℕ) (e : FrameEffect) → rule.concluded (stopped s) p e ≡ rule.concluded s p e
-concluded-stopped s p (Breaks code) = ap (λ (b : Option OpenBlock). record (broken s code) { state = record (ended s code) { block = b } }) (shown-alone s.block)
+concluded-stopped s p (Breaks cause) = ap (λ (b : Option OpenBlock). record (broken s cause) { state = record (ended s (code_of cause)) { block = b } }) (shown-alone s.block)
 concluded-stopped s p (Makes t c) = refl
+
+-- with the block only shown, a fragment has the same cause
+cause-stopped : (s : State) (shown : BlockView) (d : Decoding) (octets : List ℕ) (ends : Bool) → rule.effect_cause (headers.fragment (stopped s) shown d octets ends) ≡ rule.effect_cause (headers.fragment s shown d octets ends)
+cause-stopped s shown d octets ends = refl
 
 pub returns-in-Ok-clause-ok : goal.returns-in-Ok-clause-ok
 returns-in-Ok-clause-ok g c =
@@ -40,3 +45,15 @@ returns-in-Ok-clause-ok g c =
     let flagged = subst (λ (b : Bool). Q (stopped s) (headers.fragment s x.0 x.1 octets b)) c.has-end_headers.ensures taken in
     let whole = subst (λ (e : Step). Does (stepped e) c.args.out.now.items c.on_fragment.new.self c.on_fragment.new.out.items) (concluded-stopped s p (headers.fragment s x.0 x.1 octets ends)) flagged in
     subst (λ (e : FrameEffect). Q s e) (sym (goes-on s s.block x octets ends c.in-Some.ensures.taken)) whole
+
+-- the cause is that of the block that was taken out
+pub returns-in-Ok-clause-cause : goal.returns-in-Ok-clause-cause
+returns-in-Ok-clause-cause g c =
+    let s = c.args.self.now in
+    let octets = c.args.octets.now in
+    let x : BlockView × Decoding = (c.in-Some.shown, c.in-Some.decoding) in
+    let Q : FrameEffect → Type 0 = λ e. c.in-Ok.cause ≡ rule.effect_cause e in
+    let taken = subst (λ (t : State). Q (headers.fragment t x.0 x.1 octets c.has-end_headers.result)) c.take_decoding.ensures.stopped c.in-Ok.ensures.cause in
+    let flagged = subst (λ (b : Bool). Q (headers.fragment (stopped s) x.0 x.1 octets b)) c.has-end_headers.ensures taken in
+    let whole = flagged ∙ cause-stopped s x.0 x.1 octets (has c.args.head.now.flags END_HEADERS) in
+    subst Q (sym (goes-on s s.block x octets (has c.args.head.now.flags END_HEADERS) c.in-Some.ensures.taken)) whole

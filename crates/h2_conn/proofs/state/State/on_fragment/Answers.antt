@@ -38,3 +38,17 @@ returns-in-Ok-clause-ok g c =
     subst (λ (t : State). P a.self.now (frag a.self.now) t) (sym c.keep_edit.ensures)
     (subst (λ (s : State). P s (frag s) c.finish-result.new.self) c.take_edit-edit.ensures
     (subst (λ (e : FrameEffect). P mid e c.finish-result.new.self) is c.finish-result.ensures.ok))
+
+pub returns-in-Ok-clause-cause : goal.returns-in-Ok-clause-cause
+returns-in-Ok-clause-cause g c =
+    let a = c.args in
+    let inside = c.self.inside in
+    let effect = c.in-Ok.effect in
+    let after = c.fragment-tentative.result.0.after in
+    let edit = c.fragment-tentative.result.1 in
+    let mid = c.take_edit-edit.new.self in
+    let frag : State → FrameEffect = λ s. headers.fragment s a.shown a.decoding a.octets.now a.end_headers in
+    let all = subst (λ r. IfOk r (λ e. (b : _) → effect_seen (record { book = inside.book.now; config = inside.config; core = inside.core; block = b; table = inside.table.table; streams = inside.streams.streams }) edit after e ≡ frag (record { book = inside.book.now; config = inside.config; core = inside.core; block = b; table = inside.table.table; streams = inside.streams.streams }))) c.in-Ok.is c.fragment-tentative.ensures.effect in
+    let is : effect_seen mid edit after effect ≡ frag mid = subst (λ (s : State). effect_seen s edit after effect ≡ frag s) c.self.view_is (all inside.block) in
+    let Q : FrameEffect → Type 0 = λ e. IfOk c.finish-result.result (λ cause. cause ≡ rule.effect_cause e) in
+    subst (λ (s : State). Q (frag s)) c.take_edit-edit.ensures (subst Q is c.finish-result.ensures.cause)

@@ -1,7 +1,7 @@
 use Rattle.std.proofs.Common.{◌≡◌, ◌≢◌, ℕ, ◌++◌, Option, Some, None, Err, option_map, refl, ap, ◌∙◌, subst, sym, rules}
 use Rattle.h2_spec.specs.Block.{Decoded, FieldsSoFar, Unfinished, carried_on, decoded, progress_with}
-use Rattle.h2_fields.specs.Blocks.{BlockSoFar, CanStand, answer_of, decoded_with, outcome_of}
-use Rattle.h2_fields.proofs.Standing.{answers-faulty, faulty_outcome, shows_nothing, carried-faulty, carried-open, shown-faulty, stopped-named}
+use Rattle.h2_fields.specs.Blocks.{BlockSoFar, CanRemain, answer_of, decoded_with, outcome_of}
+use Rattle.h2_fields.proofs.FoundFaults.{answers-faulty, faulty_outcome, shows_nothing, carried-faulty, carried-open, shown-faulty, stopped-named}
 use Rattle.h2_fields.specs.declared.fault.BlockFault.{BlockFault}
 use Rattle.h2_fields.specs.declared.fault.BlockFault.TheVariants as faults
 use Rattle.h2_fields.proofs.block.BlockDecoder.push.Goals as goal
@@ -10,8 +10,8 @@ pub returns-in-Some-clause-carried : goal.returns-in-Some-clause-carried
 returns-in-Some-clause-carried g c = λ h.
     let rest = c.self.inside.rest in
     let shown : outcome_of rest (Some c.in-Some.repeated) ≡ c.args.self.now.outcome = ap (outcome_of rest) (sym c.in-Some.is) ∙ ap (λ (s : BlockSoFar). s.outcome) c.self.view_is in
-    let stands = subst (CanStand rest) c.in-Some.is c.self.invariant.1 in
-    let faulty = faulty_outcome rest c.in-Some.repeated stands (λ e. h (sym shown ∙ e)) in
+    let leads = subst (CanRemain rest) c.in-Some.is c.self.invariant.1 in
+    let faulty = faulty_outcome rest c.in-Some.repeated leads (λ e. h (sym shown ∙ e)) in
     carried-faulty c.args.table.now.limit c.args.table.now.table c.args.self.now c.args.piece.now faulty.0 (sym shown ∙ faulty.1)
 
 pub returns-in-Ok-clause-carried : goal.returns-in-Ok-clause-carried
@@ -43,7 +43,7 @@ returns-in-Err-clause-carried g c = λ h.
     ∙ ap (λ (s : BlockSoFar). option_map (λ (before : Decoded). carried_on limit before piece) (decoded_with table s)) c.self.view_is
 
 pub invariant_of-self : goal.invariant_of-self
-invariant_of-self g c = (c.advance.ensures.copied, subst (CanStand c.advance.new.rest) (sym c.in_default.is) c.in-Ok.ensures.cut)
+invariant_of-self g c = (c.advance.ensures.copied, subst (CanRemain c.advance.new.rest) (sym c.in_default.is) c.in-Ok.ensures.cut)
 
 pub returns-in-Ok-clause-answer : goal.returns-in-Ok-clause-answer
 returns-in-Ok-clause-answer g c = sym (ap (λ (f : Option BlockFault). answer_of (outcome_of c.advance.new.rest f)) c.in_default.is)

@@ -1,12 +1,12 @@
 use Rattle.std.proofs.Common.{ℕ, List, ap, ◌∙◌, subst, sym}
 use Rattle.h2_spec.specs.Block.{FieldsSoFar}
-use Rattle.h2_fields.specs.Blocks.{BlockSoFar, CanStand, outcome_of}
+use Rattle.h2_fields.specs.Blocks.{BlockSoFar, CanRemain, outcome_of}
 use Rattle.h2_fields.proofs.block.BlockDecoder.try_clone.Goals as goal
 
 pub invariant_of-result : goal.invariant_of-result
 invariant_of-result g c =
     let d = c.self.inside in
-    (c.in_ok-copy_rest.ensures.copied ∙ sym (ap (λ (s : FieldsSoFar). s.fields) c.in_ok-try_clone.ensures.same), subst (λ (r : List ℕ). CanStand r d.fault) (sym c.in_ok-try_clone-2.ensures.same) c.self.invariant.1)
+    (c.in_ok-copy_rest.ensures.copied ∙ sym (ap (λ (s : FieldsSoFar). s.fields) c.in_ok-try_clone.ensures.same), subst (λ (r : List ℕ). CanRemain r d.fault) (sym c.in_ok-try_clone-2.ensures.same) c.self.invariant.1)
 
 pub returns : goal.returns
 returns g c =

@@ -1,7 +1,8 @@
 use Rattle.std.proofs.Common.{◌≡◌, ◌++◌, ◌∷◌, ◌-◌, ◌^◌, Bool, List, [], length, min, ap, ◌∙◌, sym, arith, length-append}
 use Rattle.h2_spec.specs.Block.{FieldsSoFar, list_size, text_result}
 use Rattle.h2_spec.specs.Field.{Field, field, size}
-use Rattle.h2_fields.proofs.Applying.{both-next, spelled, size-added}
+use Rattle.h2_mark.specs.Mark.{mark_of}
+use Rattle.h2_fields.proofs.Applying.{marks-added, parts, put-next, both-next, spelled, size-added}
 use Rattle.h2_fields.proofs.collected.Collected.add_spelled.Goals as goal
 
 so_far : List Field → Bool → FieldsSoFar
@@ -14,8 +15,12 @@ invariant_of-self-2 g c =
     let value = c.in_ok-put_text-2.ensures.text in
     let fields = spelled l c.clear_next.new.self c.put_text.new.list c.put_text-2.new.list c.close.new.self name.0 value.0 _ c.clear_next.ensures name.2 value.2 (ap length c.next-split.ensures) c.in_ok-close.ensures.ok in
     let next : c.put_text-2.new.list.next ≡ name.0 ++ value.0 = both-next l c.clear_next.new.self c.put_text.new.list c.put_text-2.new.list name.0 value.0 c.clear_next.ensures name.2 value.2 in
-    let count : c.size_of-size.result ≡ min (size (field name.0 value.0)) (2 ^ 64 - 1) = omega (arith, c.size_of-size.ensures, ap length c.next.ensures, ap length next, length-append name.0 value.0) in
-    c.saturating_add-self-inside.ensures ∙ size-added l.fields (field name.0 value.0) c.self.inside.size c.size_of-size.result c.self.invariant count ∙ ap list_size (sym fields)
+    let count : c.size_of-size.result ≡ min (size (field name.0 value.0)) (2 ^ 64 - 1) = omega (arith, c.size_of-size.ensures, ap length c.next-2.ensures, ap length next, length-append name.0 value.0) in
+    let first = ap length (c.next-split.ensures ∙ put-next l c.clear_next.new.self c.put_text.new.list name.0 c.clear_next.ensures name.2) in
+    let mark = c.mark_of_parts-mark.ensures ∙ ap mark_of (parts c.next.result.now name.0 value.0 _ (c.next.ensures ∙ next) first) in (
+      c.saturating_add-self-inside.ensures ∙ size-added l.fields (field name.0 value.0) c.self.inside.size c.size_of-size.result c.self.invariant.0 count ∙ ap list_size (sym fields),
+      c.push_reserved.ensures.items ∙ ap (λ ms. ms ++ c.mark_of_parts-mark.result ∷ []) c.in_ok-reserve.ensures.items ∙ marks-added c.self.inside.marks.items l.fields _ (field name.0 value.0) c.mark_of_parts-mark.result c.self.invariant.1 mark fields,
+    )
 
 pub returns : goal.returns
 unfolding so_far

@@ -23,6 +23,6 @@ invariant_of-self-2 g c =
     let live = ap length (c.as_slice.ensures.value ∙ c.reserve.ensures.items) in
     let ready = ap length c.as_slice-2.ensures.value in
     let len = c.as_slice-2.ensures.len in
-    let room = c.in_ok-reserve-2.ensures.ok in
+    let enough = c.in_ok-reserve-2.ensures.ok in
     let grown = c.append-2.ensures.capacity in
-    rw (c.in_ok-push.ensures.items, c.append.ensures.items, place, c.append-2.ensures.items, c.reserve.ensures.items, c.reserve-2.ensures.items, c.is_live-live.ensures, c.is_ready-ready.ensures) (kept, omega (arith, few, longer, live, ready, len, room, grown))
+    rw (c.in_ok-push.ensures.items, c.append.ensures.items, place, c.append-2.ensures.items, c.reserve.ensures.items, c.reserve-2.ensures.items, c.is_live-live.ensures, c.is_ready-ready.ensures) (kept, omega (arith, few, longer, live, ready, len, enough, grown))

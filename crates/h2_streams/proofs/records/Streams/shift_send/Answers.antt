@@ -17,9 +17,9 @@ invariant_of-self g c =
     let d = c.args.delta in
     let moved = rw (to_z-of_z c.ranges.delta, c.as_slice.ensures.value) at c.move_each.ensures in
     let listed = rw (c.as_slice-2.ensures.value, c.as_slice-3.ensures.value, moved) at c.list_ready.ensures.items in
-    let room = c.self.invariant.1 in
+    let enough = c.self.invariant.1 in
     let more = c.list_ready.ensures.capacity in
-    rw (moved, listed) (kept-moved d s.records.items s.live.items s.ready.items s.last c.self.invariant.0, omega (arith, room, more))
+    rw (moved, listed) (kept-moved d s.records.items s.live.items s.ready.items s.last c.self.invariant.0, omega (arith, enough, more))
 
 pub returns-clause-moved : goal.returns-clause-moved
 returns-clause-moved g c =

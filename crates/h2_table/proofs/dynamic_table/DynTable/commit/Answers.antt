@@ -12,4 +12,4 @@ move_newest-requires g c =
     let es = e.added.items ++ take e.kept t.ring.items in
     let most = max t.max t.limit in
     let small : total_size es ≤ most = omega (arith, belongs.counted, belongs.within, belongs.limited) in
-    rw c.truncate_back.ensures (omega (arith, have_places es most small, c.self.invariant.has_places))
+    rw c.evict_from.ensures (omega (arith, have_places es most small, c.self.invariant.has_places))

@@ -5,5 +5,5 @@ use Rattle.h2_table.proofs.dynamic_table.DynTable.set_limit.Goals as goal
 pub make_places-requires : goal.make_places-requires
 make_places-requires g c =
     let i = c.self.invariant in
-    let room = have_places c.self.inside.ring.items c.self.inside.max (omega (arith, i.counted, i.within)) in
-    omega (arith, room)
+    let available = have_places c.self.inside.ring.items c.self.inside.max (omega (arith, i.counted, i.within)) in
+    omega (arith, available)

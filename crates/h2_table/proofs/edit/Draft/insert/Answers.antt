@@ -1,4 +1,4 @@
-use Rattle.std.proofs.Common.{arith, ◌≡◌, ◌-◌, ◌≤◌, ◌<◌, ◌++◌, ◌∙◌, ◌∷◌, ap, take}
+use Rattle.std.proofs.Common.{arith, ◌≡◌, ◌-◌, ◌++◌, ◌∙◌, ◌∷◌, ap, take}
 use Rattle.h2_spec.specs.DynamicTable.{fit}
 use Rattle.h2_spec.specs.Field.{field, size}
 use Rattle.h2_table.proofs.Editing.{emptied-draft, entered-draft}

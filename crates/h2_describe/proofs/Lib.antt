@@ -1,0 +1,5 @@
+pub mod Agreeing
+pub mod Fronts
+pub mod Keeping
+pub mod ReadingOn
+pub mod Stepping

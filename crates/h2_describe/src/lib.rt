@@ -1,0 +1,11 @@
+//! Frames, settings, error codes and fields in words.
+//! `frame_words` has a frame in words, `spelled` the fields of field blocks, each with how it was spelled; `say` puts
+//! texts together.
+#![tactic(auto)]
+
+pub mod frame_words;
+pub mod names;
+mod reading;
+pub mod say;
+pub mod sent;
+pub mod spelled;

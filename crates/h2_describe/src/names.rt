@@ -1,0 +1,181 @@
+//! Frame types, flags, settings, error codes and states of streams by name (RFC 9113, 5.1, 6 and 7).
+//! Rests on `say`; the names are defined in specs/Names.antt, and a live stream in `h2_spec`, specs/Stream.antt.
+
+ghost use Rattle.std.specs.Prelude.{◌≡◌, ℕ, List, map, option_map};
+ghost use Rattle.std.specs.Borrow.{Bor};
+ghost use Rattle.h2_describe.specs.Names as spec;
+ghost use Rattle.h2_spec.specs.Stream as stream;
+
+use crate::say::{HexOctet, Say};
+use crate::say_all;
+use h2_spec::errors::ErrorCode;
+use h2_spec::frames::{ACK, END_HEADERS, END_STREAM, FrameType, Head, PADDED, WITH_PRIORITY};
+use h2_spec::streams::Kind;
+use std::alloc::AllocError;
+
+impl Say for FrameType {
+    fn say(&self, out: &mut String) -> Result<(), AllocError> {
+        match self {
+            FrameType::Data => out.push_str("DATA"),
+            FrameType::Headers => out.push_str("HEADERS"),
+            FrameType::Priority => out.push_str("PRIORITY"),
+            FrameType::RstStream => out.push_str("RST_STREAM"),
+            FrameType::Settings => out.push_str("SETTINGS"),
+            FrameType::PushPromise => out.push_str("PUSH_PROMISE"),
+            FrameType::Ping => out.push_str("PING"),
+            FrameType::Goaway => out.push_str("GOAWAY"),
+            FrameType::WindowUpdate => out.push_str("WINDOW_UPDATE"),
+            FrameType::Continuation => out.push_str("CONTINUATION"),
+            FrameType::Unknown(kind) => {
+                out.push_str("type ")?;
+                HexOctet(*kind).say(out)
+            }
+        }
+    }
+}
+
+/// A flag: the value of its bit, and its name with a blank before it.
+type Flag = (u8, &'static str);
+
+/// The flags of a frame's type, in the order in which they are written (RFC 9113, 6).
+fn flags_of(kind: FrameType) -> &'static [Flag]
+    ensures { map spec.flag_seen result.now ≡ spec.flags_of kind }
+{
+    match kind {
+        FrameType::Data => &[(END_STREAM, " END_STREAM"), (PADDED, " PADDED")],
+        FrameType::Headers => &[
+            (END_STREAM, " END_STREAM"),
+            (END_HEADERS, " END_HEADERS"),
+            (PADDED, " PADDED"),
+            (WITH_PRIORITY, " PRIORITY"),
+        ],
+        FrameType::Settings | FrameType::Ping => &[(ACK, " ACK")],
+        FrameType::Continuation => &[(END_HEADERS, " END_HEADERS")],
+        FrameType::PushPromise => &[(END_HEADERS, " END_HEADERS"), (PADDED, " PADDED")],
+        FrameType::Priority
+        | FrameType::RstStream
+        | FrameType::Goaway
+        | FrameType::WindowUpdate
+        | FrameType::Unknown(_) => &[],
+    }
+}
+
+/// Puts the flags of a frame last, each after a blank: those of its type by name, the others as a number.
+pub fn say_flags(head: &Head, out: &mut String) -> Result<(), AllocError> {
+    let mut rest = head.flags;
+    for (bit, name) in flags_of(head.frame_type()) {
+        if *bit > 0 && head.has(*bit) {
+            say_all!(out; *name);
+            rest = rest.saturating_sub(*bit);
+        }
+    }
+    if rest > 0 {
+        say_all!(out; " flags ", HexOctet(rest));
+    }
+    Ok(())
+}
+
+/// An error code (RFC 9113, 7).
+#[derive(Clone, Copy)]
+pub struct Code(pub u32);
+
+/// The name of an error code; none above 13 (RFC 9113, 7).
+pub fn code_name(code: u32) -> Option<&'static str>
+    ensures { option_map (λ (name : Bor (List ℕ)). name.now) result ≡ spec.code_name code }
+{
+    Some(match code {
+        0 => "NO_ERROR",
+        1 => "PROTOCOL_ERROR",
+        2 => "INTERNAL_ERROR",
+        3 => "FLOW_CONTROL_ERROR",
+        4 => "SETTINGS_TIMEOUT",
+        5 => "STREAM_CLOSED",
+        6 => "FRAME_SIZE_ERROR",
+        7 => "REFUSED_STREAM",
+        8 => "CANCEL",
+        9 => "COMPRESSION_ERROR",
+        10 => "CONNECT_ERROR",
+        11 => "ENHANCE_YOUR_CALM",
+        12 => "INADEQUATE_SECURITY",
+        13 => "HTTP_1_1_REQUIRED",
+        _ => return None,
+    })
+}
+
+impl Say for Code {
+    fn say(&self, out: &mut String) -> Result<(), AllocError> {
+        match code_name(self.0) {
+            Some(name) => out.push_str(name),
+            None => {
+                out.push_str("code ")?;
+                self.0.say(out)
+            }
+        }
+    }
+}
+
+/// The name of an error code that the server sends (RFC 9113, 7).
+pub fn error_name(code: ErrorCode) -> &'static str
+    ensures { result.now ≡ spec.error_name code }
+{
+    match code_name(code.number()) {
+        Some(name) => name,
+        None => "",
+    }
+}
+
+/// An error of the connection, which has ended, or of a stream, with a blank behind it (RFC 9113, 5.4).
+pub fn scope_word(has_ended: bool) -> &'static str
+    ensures { result.now ≡ spec.scope_word has_ended }
+{
+    if has_ended {
+        "connection error "
+    } else {
+        "stream error "
+    }
+}
+
+/// Whether the RFC demands something, or this server chose it.
+pub fn force_word(is_must: bool) -> &'static str
+    ensures { result.now ≡ spec.force_word is_must }
+{
+    if is_must { "MUST" } else { "own" }
+}
+
+/// The name of a setting without `SETTINGS_`; none but for 1 to 6 (RFC 9113, 6.5.2).
+pub fn setting_name(id: u16) -> Option<&'static str>
+    ensures { option_map (λ (name : Bor (List ℕ)). name.now) result ≡ spec.setting_name id }
+{
+    Some(match id {
+        1 => "HEADER_TABLE_SIZE",
+        2 => "ENABLE_PUSH",
+        3 => "MAX_CONCURRENT_STREAMS",
+        4 => "INITIAL_WINDOW_SIZE",
+        5 => "MAX_FRAME_SIZE",
+        6 => "MAX_HEADER_LIST_SIZE",
+        _ => return None,
+    })
+}
+
+/// The state of a stream in words (RFC 9113, 5.1).
+pub fn kind_name(kind: Kind) -> &'static str
+    ensures { result.now ≡ spec.kind_name kind }
+{
+    match kind {
+        Kind::Idle => "idle",
+        Kind::Skipped => "closed, unused",
+        Kind::BothOpen => "open",
+        Kind::HalfRemote => "half-closed (remote)",
+        Kind::HalfLocal => "half-closed (local)",
+        Kind::Ended => "closed, ended",
+        Kind::PeerReset => "closed, reset by the client",
+        Kind::WeReset => "closed, reset by the server",
+    }
+}
+
+/// Whether a stream in this state is counted as live: open or half-closed (RFC 9113, 5.1.2).
+pub fn is_live(kind: Kind) -> bool
+    ensures { result ≡ stream.is_live kind }
+{
+    matches!(kind, Kind::BothOpen | Kind::HalfRemote | Kind::HalfLocal)
+}

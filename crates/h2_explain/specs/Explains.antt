@@ -1,0 +1,82 @@
+-- A connection that is explained over all octets: its result, and what is written.
+use Rattle.std.specs.Prelude.{◌≡◌, ℕ, ◌+◌, ◌++◌, Bool, true, false, List, [], ◌∷◌, length, drop, nat_lt, Option, Some, None, option_map, Result, Ok, Err}
+use Rattle.h2_spec.specs.Errors.{code_number}
+use Rattle.h2_spec.specs.Parse.{Stop}
+use Rattle.h2_spec.specs.State.{State, ended_code}
+use Rattle.h2_spec.specs.Trace.{Run, next_event, trace}
+use Rattle.h2_conn.specs.Connection.{Connection}
+use Rattle.h2_explain.specs.Explained.{ExplainsItem}
+use Rattle.h2_explain.specs.Lines.{Words, ended, lines_of}
+use Rattle.h2_explain.specs.declared.item.Explained.{Explained}
+use Rattle.h2_explain.specs.declared.run.ExplainFault.{ExplainFault}
+use Rattle.h2_explain.specs.declared.run.ExplainFault.TheVariants.{NoMemory, NotWritten}
+use Rattle.h2_explain.specs.declared.run.Form.{Form}
+use Rattle.h2_explain.specs.declared.run.Summary.{Summary}
+
+-- how many items a run had, and the code of the connection error that ended it, if one did
+abbrev pub summary_of : Run → Summary
+summary_of run = record { items = length run.events; ended = option_map code_number (ended_code run.state.core.phase) }
+
+-- the same of the run of a connection over octets
+abbrev pub summary_over : State → List ℕ → Summary
+summary_over s octets = summary_of (trace s octets)
+
+-- whether a write failed
+abbrev pub not_written : {A : Type 0} → Result A ExplainFault → Bool
+not_written (Ok x) = false
+not_written (Err NoMemory) = false
+not_written (Err NotWritten) = true
+
+-- ---- what is written
+
+-- the output gained a text of which P holds
+abbrev pub Gains : (List ℕ → Type 0) → Option (List ℕ) → Option (List ℕ) → Type 0
+Gains P before after = (held : List ℕ) → before ≡ Some held → (text : List ℕ) × (after ≡ Some (held ++ text)) × P text
+
+-- a text of one line, or of more
+abbrev pub EndsLine : Bool → List ℕ → Type 0
+EndsLine color t = (front : List ℕ) × (t ≡ front ++ ended color)
+
+-- the text of an item: a line of JSON, or its lines
+abbrev pub IsTextOf : (json color : Bool) → Explained → List ℕ → Type 0
+IsTextOf true color x t = EndsLine false t
+IsTextOf false color x t = (w : Words) × (t ≡ lines_of color x w)
+
+abbrev pub IsItemText : Form → Explained → List ℕ → Type 0
+IsItemText form x t = IsTextOf form.json form.color x t
+
+-- a line, or nothing
+abbrev pub EndsLineIf : Bool → (color : Bool) → List ℕ → Type 0
+EndsLineIf false color t = t ≡ []
+EndsLineIf true color t = EndsLine color t
+
+-- the text after the last item: a line where octets are left, and in JSON always
+abbrev pub IsRestOf : (json color : Bool) → ℕ → List ℕ → Type 0
+IsRestOf true color left t = EndsLine false t
+IsRestOf false color left t = EndsLineIf (nat_lt 0 left) color t
+
+abbrev pub IsRestText : Form → ℕ → List ℕ → Type 0
+IsRestText form left t = IsRestOf form.json form.color left t
+
+-- how an explanation ends where these octets are left: it is cut short, as memory was refused; or there is no item more
+abbrev pub Ends : Form → (cut : Bool) → State → List ℕ → List ℕ → Type 0
+Ends form true s b t = t ≡ []
+Ends form false s b t = (next_event s b ≡ Stop) × IsRestText form (length b) t
+
+-- the texts of these items, one after another, each of which the connection takes after the others; the first has this
+-- number and this offset
+abbrev pub AreExplained : Form → (cut : Bool) → State → List ℕ → (number offset : ℕ) → List Explained → List ℕ → Type 0
+AreExplained form cut s b number offset [] t = Ends form cut s b t
+AreExplained form cut s b number offset (x ∷ xs) t =
+    (c : Connection) × ExplainsItem s b number offset c x
+    × (first : List ℕ) × (rest : List ℕ) × IsItemText form x first × (t ≡ first ++ rest)
+    × AreExplained form cut c.state (drop x.taken.used b) (number + 1) (offset + x.taken.used) xs rest
+
+-- the explanation of a connection over octets: of each of its items and of what is left, or of some first items
+abbrev pub IsExplanation : Form → (cut : Bool) → State → List ℕ → List ℕ → Type 0
+IsExplanation form cut s b t = (xs : List Explained) × AreExplained form cut s b 1 0 xs t
+
+-- what was written of an item, or of what is left: nothing where memory was refused
+abbrev pub IsWritten : {A : Type 0} → (List ℕ → Type 0) → Result A ExplainFault → List ℕ → Type 0
+IsWritten P (Ok x) t = P t
+IsWritten P (Err fault) t = t ≡ []

@@ -1,0 +1,246 @@
+//! What there is to show of an item: values of which the text and the JSON are views.
+//! Rests on `item`, `notes`, `changes` and `sentence`; definitions: `specs/Account.antt`.
+
+ghost use Rattle.std.specs.Prelude.{◌≡◌, ◌++◌, IfOk, OnOk};
+ghost use Rattle.std.specs.BTreeMap.{IsEmpty};
+ghost use Rattle.std.specs.Option.{option_map};
+ghost use Rattle.h2_conn.specs.Connection.{is_ended};
+ghost use Rattle.h2_spec.specs.Payload.{part_of};
+ghost use Rattle.h2_spec.specs.Stream.{stream_at};
+ghost use Rattle.h2_explain.specs.Explained.{head_in};
+ghost use Rattle.h2_explain.specs.Account.{ListsChanges, begun_after, changes_of_sent, changes_since, ended_with, unread, fragment_in, is_of_block, is_of_fields, reads_fields, shows_fields_with};
+ghost use Rattle.h2_explain.specs.Notes.{AreNotes, note_of, with_later_note};
+
+use crate::changes::{Changes, connection_changes, stream_changes};
+use crate::error_context::ErrorContext;
+use crate::item::Explained;
+use crate::notes::Notes;
+use crate::sentence::say_sentence;
+use h2_conn::Conn;
+use h2_describe::sent::next_frame;
+use h2_describe::spelled::BlockReader;
+use h2_frame::{FrameRef, Part, part_of};
+use h2_spec::causes::Cause;
+use h2_spec::connection::Phase;
+use h2_spec::errors::ErrorCode;
+use h2_spec::frames::{CONTINUATION, END_HEADERS, HEADERS, Head};
+use std::alloc::{AllocError, Global};
+
+/// What is known of a connection while it is explained.
+#[derive(Drop)]
+pub struct Explainer {
+    pub notes: Notes,
+    pub reader: BlockReader,
+}
+
+/// What there is to say of an item, beside the item itself.
+#[derive(Drop)]
+pub struct Account {
+    /// The sentence of its cause, empty where it is no error.
+    pub sentence: String,
+    /// Whether the fields of its block are shown with it: the block ends here, or is refused here.
+    pub shows_fields: bool,
+    pub changes: Changes,
+}
+
+/// Whether a connection error ended the connection (RFC 9113, 5.4.1).
+pub(crate) fn has_ended(phase: Phase) -> bool
+    ensures { result ≡ is_ended phase }
+{
+    matches!(phase, Phase::Ended(_))
+}
+
+/// The fragment of a field block that a frame has, if its payload can be read as one (RFC 9113, 6.2 and 6.10).
+fn fragment_of(frame: FrameRef<'_>) -> Option<&[u8]>
+    ensures { option_map (λ x. x.now) result ≡ fragment_in (part_of frame.entry.head frame.entry.payload.now) }
+{
+    match part_of(frame) {
+        Ok(Part::Headers(part)) => Some(part.fragment),
+        Ok(Part::Continuation(fragment)) => Some(fragment),
+        _ => None,
+    }
+}
+
+/// Whether a frame belongs to the field block: HEADERS where none is open, CONTINUATION where it is the block's (RFC
+/// 9113, 4.3 and 6.10).
+fn is_of_block(item: &Explained<'_>, head: &Head) -> bool
+    ensures { result ≡ is_of_block item.now.before.block head.now }
+{
+    match item.before.block {
+        None => head.kind == HEADERS,
+        Some(block) => head.kind == CONTINUATION && head.stream == block.stream,
+    }
+}
+
+/// Whether an error is found in the fields of a block while they are decoded (RFC 9113, 4.3 and 10.5.1).
+fn is_of_fields(cause: Cause) -> bool
+    ensures { result ≡ is_of_fields cause }
+{
+    cause == Cause::ListTooLarge || cause.code() == ErrorCode::CompressionError
+}
+
+/// Whether the fields of a block are read up to an error: any but a connection error that came before them.
+fn reads_fields(item: &Explained<'_>) -> bool
+    ensures { result ≡ reads_fields item.now.taken.cause item.now.after.counts.phase }
+{
+    match item.taken.cause {
+        None => true,
+        Some(cause) => !has_ended(item.after.counts.phase) || is_of_fields(cause),
+    }
+}
+
+impl Explainer {
+    /// Nothing is known.
+    pub fn new(alloc: Global) -> Result<Explainer, AllocError>
+        ensures streams { IfOk result (λ explainer. IsEmpty explainer.notes.streams) }
+        ensures reader { IfOk result (λ explainer. explainer.reader ≡ unread 4096) }
+        ensures blocks { IfOk result (λ explainer. (explainer.notes.block ≡ 0) × (explainer.notes.block_end ≡ 0)) }
+    {
+        Ok(Explainer {
+            notes: Notes::new(alloc),
+            reader: BlockReader::new(alloc, 4096)?,
+        })
+    }
+
+    /// Reads what a frame has of a field block, and says whether the fields of the block are shown with it (RFC 9113,
+    /// 4.3).
+    fn read_block(&mut self, alloc: Global, item: &Explained<'_>) -> Result<bool, AllocError>
+        ensures shows { IfOk result (λ shows. shows ≡ shows_fields_with item.now) }
+        ensures notes { OnOk result (self.new.notes ≡ record self.old.notes { block = begun_after self.old.notes.block item.now.number item.now.before.block item.now.taken.item }) }
+    {
+        let Some(frame) = item.frame() else {
+            return Ok(false);
+        };
+        let head = frame.head;
+        if !is_of_block(item, &head) {
+            return Ok(false);
+        }
+        if item.before.block.is_none() {
+            self.notes.begin(item.number);
+            self.reader.begin();
+            self.reader.set_limit(item.before.counts.own.table)?;
+        }
+        if !reads_fields(item) {
+            return Ok(false);
+        }
+        if let Some(fragment) = fragment_of(frame) {
+            self.reader.read(alloc, fragment)?;
+        }
+        Ok(head.has(END_HEADERS) || has_ended(item.after.counts.phase))
+    }
+
+    /// The item that has the END_STREAM of the frame on hand: that of its HEADERS for a frame of a block.
+    fn end_of(&self, item: &Explained<'_>) -> u64
+        ensures { result ≡ ended_with self.now.notes.block item.now.number item.now.before.block (head_in item.now.taken.item) }
+    {
+        match item.head() {
+            Some(head) if is_of_block(item, &head) => self.notes.block,
+            _ => item.number,
+        }
+    }
+
+    /// Appends what is other than before on the streams that frames were sent on, and notes them.
+    fn see_sent(
+        &mut self,
+        conn: &Conn<'_, Global>,
+        item: &Explained<'_>,
+        out: &mut Changes,
+    ) -> Result<(), AllocError>
+        ensures { OnOk result (out.new.items ≡ out.old.items ++ changes_of_sent item.now conn.now.state (note_of self.old.notes)) }
+    {
+        let mut rest = item.sent.as_slice();
+        for _frame in 0..item.sent.len() {
+            let Some((frame, after)) = next_frame(rest) else {
+                return Ok(());
+            };
+            rest = after;
+            self.see(conn, item, frame.head.stream, out)?;
+        }
+        Ok(())
+    }
+
+    /// Appends what is other than when a stream was noted last, and notes it as it is now; nothing where it was not
+    /// noted.
+    fn see(
+        &mut self,
+        conn: &Conn<'_, Global>,
+        item: &Explained<'_>,
+        stream: u32,
+        out: &mut Changes,
+    ) -> Result<(), AllocError>
+        ensures changes { OnOk result (out.new.items ≡ out.old.items ++ changes_since (note_of self.old.notes stream) (stream_at conn.now.state.core.last conn.now.state.streams stream) item.now.after.counts.send) }
+        ensures notes { OnOk result (AreNotes self.new.notes (with_later_note (note_of self.old.notes stream) item.now.number (stream_at conn.now.state.core.last conn.now.state.streams stream) (note_of self.old.notes))) }
+    {
+        let Some(note) = self.notes.of(stream) else {
+            return Ok(());
+        };
+        let now = conn.stream(stream);
+        stream_changes(&note.seen, &now, item.after.counts.send, out)?;
+        self.notes.see(item.number, item.number, now)
+    }
+
+    /// The sentence of an item's cause, empty where it has none.
+    fn sentence(
+        &self,
+        alloc: Global,
+        conn: &Conn<'_, Global>,
+        item: &Explained<'_>,
+    ) -> Result<String, AllocError> {
+        let mut text = String::new(alloc);
+        if let Some(cause) = item.taken.cause {
+            let context = ErrorContext {
+                item,
+                notes: &self.notes,
+                reader: &self.reader,
+                config: conn.config(),
+            };
+            say_sentence(cause, context, &mut text)?;
+        }
+        Ok(text)
+    }
+
+    /// What there is to show of the item that a connection has just taken.
+    ///
+    /// `AllocError` where memory is refused; then some of the item may have been noted.
+    pub fn account(
+        &mut self,
+        alloc: Global,
+        conn: &Conn<'_, Global>,
+        item: &Explained<'_>,
+    ) -> Result<Account, AllocError>
+        ensures fields { IfOk result (λ account. account.shows_fields ≡ shows_fields_with item.now) }
+        ensures changes { IfOk result (λ account. ListsChanges item.now conn.now.state (begun_after self.old.notes.block item.now.number item.now.before.block item.now.taken.item) (note_of self.old.notes) account.changes.items) }
+    {
+        let shows_fields = self.read_block(alloc, item)?;
+        let sentence = self.sentence(alloc, conn, item)?;
+        let changes = self.changes(alloc, conn, item)?;
+        if let Some(head) = item.head() {
+            self.notes.end(item.number, &head);
+        }
+        Ok(Account {
+            sentence,
+            shows_fields,
+            changes,
+        })
+    }
+
+    /// What an item changed: on the connection, on its stream, and on the streams that frames were sent on for it; these
+    /// streams are noted.
+    fn changes(
+        &mut self,
+        alloc: Global,
+        conn: &Conn<'_, Global>,
+        item: &Explained<'_>,
+    ) -> Result<Changes, AllocError>
+        ensures { IfOk result (λ list. ListsChanges item.now conn.now.state self.old.notes.block (note_of self.old.notes) list.items) }
+    {
+        let mut list = Vec::new(alloc);
+        let (before, after) = (&item.before, &item.after);
+        connection_changes(before, after, &mut list)?;
+        stream_changes(&before.stream, &after.stream, after.counts.send, &mut list)?;
+        let ended = self.end_of(item);
+        self.notes.see(item.number, ended, item.after.stream)?;
+        self.see_sent(conn, item, &mut list)?;
+        Ok(list)
+    }
+}

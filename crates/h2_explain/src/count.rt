@@ -1,0 +1,80 @@
+//! The numbers of a connection and of its streams that an item can change, by name.
+//! Rests on nothing; definition: `specs/Counts.antt`, the names are in docs/FORMATS.md.
+
+ghost use Rattle.std.specs.Prelude.{◌≡◌};
+ghost use Rattle.h2_explain.specs.Counts.{count_name};
+
+/// A number of a connection or of a stream that an item can change.
+#[derive(Clone, Copy, Debug, PartialEq, Eq)]
+pub enum Count {
+    /// The octets that the client may still send (RFC 9113, 6.9).
+    ReceiveWindow,
+    /// The octets received that the server has not yet given back by WINDOW_UPDATE (RFC 9113, 6.9).
+    UnreturnedOctets,
+    /// The octets that the server may still send (RFC 9113, 6.9).
+    SendWindow,
+    /// The highest stream that a request opened (RFC 9113, 5.1.1).
+    LastStream,
+    /// The last stream of the client's latest GOAWAY, -1 before the first (RFC 9113, 6.8).
+    GoawayLastStream,
+    /// The error code of the client's latest GOAWAY, -1 before the first (RFC 9113, 6.8).
+    GoawayCode,
+    /// The client's SETTINGS_HEADER_TABLE_SIZE, in octets (RFC 9113, 6.5.2).
+    ClientHeaderTableSize,
+    /// The client's SETTINGS_ENABLE_PUSH, 0 or 1.
+    ClientEnablePush,
+    /// The client's SETTINGS_MAX_CONCURRENT_STREAMS, -1 where it gave none.
+    ClientMaxConcurrentStreams,
+    /// The client's SETTINGS_INITIAL_WINDOW_SIZE, in octets.
+    ClientInitialWindowSize,
+    /// The client's SETTINGS_MAX_FRAME_SIZE, in octets.
+    ClientMaxFrameSize,
+    /// The client's SETTINGS_MAX_HEADER_LIST_SIZE, in octets, -1 where it gave none.
+    ClientMaxHeaderListSize,
+    /// Whether the next answer has to begin with a table size update, 0 or 1 (RFC 7541, 4.2).
+    SizeUpdatePending,
+    /// The server's SETTINGS_HEADER_TABLE_SIZE that is in force, in octets (RFC 9113, 6.5.3).
+    OwnHeaderTableSize,
+    /// The server's SETTINGS_INITIAL_WINDOW_SIZE that is in force, in octets.
+    OwnInitialWindowSize,
+    /// The server's SETTINGS_MAX_FRAME_SIZE that is in force, in octets.
+    OwnMaxFrameSize,
+    /// The entries of the header table (RFC 7541, 2.3.2).
+    TableEntries,
+    /// The size of the header table, in octets (RFC 7541, 4.1).
+    TableOctets,
+    /// The maximum of the header table, in octets (RFC 7541, 4.2).
+    TableMaximum,
+    /// The octets of content that a request has so far (RFC 9113, 8.1).
+    ContentReceived,
+}
+
+impl Count {
+    /// The name in the text and in JSON.
+    pub fn name(self) -> &'static str
+        ensures { result.now ≡ count_name self }
+    {
+        match self {
+            Count::ReceiveWindow => "receive window",
+            Count::UnreturnedOctets => "unreturned octets",
+            Count::SendWindow => "send window",
+            Count::LastStream => "last stream",
+            Count::GoawayLastStream => "last stream of client's GOAWAY",
+            Count::GoawayCode => "code of client's GOAWAY",
+            Count::ClientHeaderTableSize => "client's HEADER_TABLE_SIZE",
+            Count::ClientEnablePush => "client's ENABLE_PUSH",
+            Count::ClientMaxConcurrentStreams => "client's MAX_CONCURRENT_STREAMS",
+            Count::ClientInitialWindowSize => "client's INITIAL_WINDOW_SIZE",
+            Count::ClientMaxFrameSize => "client's MAX_FRAME_SIZE",
+            Count::ClientMaxHeaderListSize => "client's MAX_HEADER_LIST_SIZE",
+            Count::SizeUpdatePending => "size update pending",
+            Count::OwnHeaderTableSize => "own HEADER_TABLE_SIZE in force",
+            Count::OwnInitialWindowSize => "own INITIAL_WINDOW_SIZE in force",
+            Count::OwnMaxFrameSize => "own MAX_FRAME_SIZE in force",
+            Count::TableEntries => "header table entries",
+            Count::TableOctets => "header table octets",
+            Count::TableMaximum => "header table maximum",
+            Count::ContentReceived => "content received",
+        }
+    }
+}

@@ -1,0 +1,27 @@
+//! What a connection does with the octets of a client, item by item: what each is, what was sent for it, what it
+//! changed, and why it is an error or is ignored.
+//! The values of `item` and `account` say what happened; the text and the JSON are views of them.
+#![tactic(auto)]
+
+mod account;
+pub mod change_laws;
+mod changes;
+mod count;
+mod error_context;
+mod field_sentence;
+mod item;
+mod json;
+mod lines;
+mod notes;
+mod paint;
+mod rest;
+mod run;
+mod sentence;
+mod text;
+
+pub use account::{Account, Explainer};
+pub use changes::Change;
+pub use count::Count;
+pub use item::{Explained, Moment, moment_at, take_explained};
+pub use notes::{Notes, StreamNote};
+pub use run::{ExplainFault, Form, Summary, explain};

@@ -1,0 +1,289 @@
+//! The text of an item: a line with its number, its offset and the item in words, and below it the lines of its fields, of
+//! its error or of why it is ignored, of the frames that were sent, and of what changed.
+//! Rests on h2_device's `Text` and on `text`; definitions: `specs/Lines.antt`, the format: docs/FORMATS.md.
+
+ghost use Rattle.std.specs.Prelude.{◌≡◌, IfOk};
+ghost use Rattle.std.specs.String.{string_bytes};
+ghost use Rattle.h2_explain.specs.Lines.{Words, blanks, cause_lines, error_lines, first_line, ignored_lines, is_silent, lines, lines_of, reason_lines, scope};
+
+use crate::account::{Account, Explainer};
+use crate::item::Explained;
+use crate::paint::{Paint, Role};
+use crate::text::{say_changes, say_fields, say_item, say_sent};
+use h2_describe::names::{error_name, force_word, scope_word};
+use h2_device::{DeviceFault, Number, Output, Text, string_of, texts};
+use h2_spec::causes::Cause;
+use h2_spec::connection::Phase;
+use h2_spec::frames::ItemHead;
+use h2_spec::ignored::Ignored;
+use std::alloc::{AllocError, Global};
+
+/// The beginning of each line below the first one of an item.
+const INDENT: &str = "        ";
+
+/// The blanks after a number and an offset: the words begin at the ninth column, two blanks on at least.
+fn blanks(number: u64, offset: u64) -> &'static str
+    ensures { result.now ≡ blanks number offset }
+{
+    if number < 10 && offset < 10 {
+        "   "
+    } else {
+        "  "
+    }
+}
+
+/// The first line of an item.
+#[derive(Clone, Copy)]
+struct FirstLine<'w> {
+    paint: Paint,
+    number: u64,
+    offset: u64,
+    words: &'w str,
+}
+
+#[tactic(auto, unfolding(crate::specs::Lines::first_line))]
+impl Text for FirstLine<'_> {
+    ghost text = { λ l. first_line l.paint.0 l.number l.offset l.words.now };
+
+    fn write_to<O: Output>(&self, output: &mut O) -> Result<(), DeviceFault> {
+        let start = self.paint.started(Role::Item);
+        let blanks = blanks(self.number, self.offset);
+        let (number, offset) = (Number(self.number), Number(self.offset));
+        let end = self.paint.ended();
+        texts!(start, "#", number, " @", offset, blanks, self.words, end).write_to(output)
+    }
+}
+
+/// An error of the connection, which has ended, or of a stream.
+fn scope(phase: Phase) -> &'static str
+    ensures { result.now ≡ scope phase }
+{
+    match phase {
+        Phase::Preface | Phase::Settings | Phase::Running => scope_word(false),
+        Phase::Ended(_) => scope_word(true),
+    }
+}
+
+/// The two lines of an error: its code, its cause, and a sentence.
+#[derive(Clone, Copy)]
+struct ErrorLines<'w> {
+    paint: Paint,
+    phase: Phase,
+    cause: Cause,
+    sentence: &'w str,
+}
+
+#[tactic(auto, unfolding(crate::specs::Lines::error_lines))]
+impl Text for ErrorLines<'_> {
+    ghost text = { λ l. error_lines l.paint.0 l.phase l.cause l.sentence.now };
+
+    fn write_to<O: Output>(&self, output: &mut O) -> Result<(), DeviceFault> {
+        let cause = self.cause;
+        let start = self.paint.started(Role::Error);
+        let end = self.paint.ended();
+        let scope = scope(self.phase);
+        let code = error_name(cause.code());
+        let force = force_word(cause.is_must());
+        texts!(
+            INDENT,
+            start,
+            scope,
+            code,
+            ": ",
+            cause.name(),
+            ", ",
+            cause.section(),
+            ", ",
+            force,
+            end
+        )
+        .write_to(output)?;
+        texts!(INDENT, start, self.sentence, end).write_to(output)
+    }
+}
+
+/// The two lines of an item that is ignored.
+#[derive(Clone, Copy)]
+struct IgnoredLines {
+    paint: Paint,
+    reason: Ignored,
+}
+
+#[tactic(auto, unfolding(crate::specs::Lines::ignored_lines))]
+impl Text for IgnoredLines {
+    ghost text = { λ l. ignored_lines l.paint.0 l.reason };
+
+    fn write_to<O: Output>(&self, output: &mut O) -> Result<(), DeviceFault> {
+        let reason = self.reason;
+        let start = self.paint.started(Role::Ignored);
+        let end = self.paint.ended();
+        let force = force_word(reason.is_must());
+        texts!(
+            INDENT,
+            start,
+            "ignored: ",
+            reason.name(),
+            ", ",
+            reason.section(),
+            ", ",
+            force,
+            end
+        )
+        .write_to(output)?;
+        texts!(INDENT, start, reason.sentence(), end).write_to(output)
+    }
+}
+
+/// The lines of a cause, if there is one.
+#[derive(Clone, Copy)]
+struct CauseLines<'w> {
+    paint: Paint,
+    phase: Phase,
+    cause: Option<Cause>,
+    sentence: &'w str,
+}
+
+impl Text for CauseLines<'_> {
+    ghost text = { λ l. cause_lines l.paint.0 l.phase l.cause l.sentence.now };
+
+    fn write_to<O: Output>(&self, output: &mut O) -> Result<(), DeviceFault> {
+        match self.cause {
+            None => "".write_to(output),
+            Some(cause) => ErrorLines {
+                paint: self.paint,
+                phase: self.phase,
+                cause,
+                sentence: self.sentence,
+            }
+            .write_to(output),
+        }
+    }
+}
+
+/// The lines of why an item is ignored, if it is.
+#[derive(Clone, Copy)]
+struct ReasonLines {
+    paint: Paint,
+    ignored: Option<Ignored>,
+}
+
+impl Text for ReasonLines {
+    ghost text = { λ l. reason_lines l.paint.0 l.ignored };
+
+    fn write_to<O: Output>(&self, output: &mut O) -> Result<(), DeviceFault> {
+        match self.ignored {
+            None => "".write_to(output),
+            Some(reason) => IgnoredLines {
+                paint: self.paint,
+                reason,
+            }
+            .write_to(output),
+        }
+    }
+}
+
+/// The words of an item that no definition has.
+#[derive(Drop)]
+struct ItemWords {
+    item: String,
+    /// The lines of its fields, if they are shown with it.
+    fields: String,
+    /// The lines of the frames that were sent.
+    sent: String,
+    /// The lines of what changed.
+    changes: String,
+}
+
+/// The lines of the fields of the block that ends with an item, if they are shown with it.
+fn fields_text(
+    alloc: Global,
+    account: &Account,
+    explainer: &Explainer,
+    paint: Paint,
+) -> Result<String, AllocError> {
+    let mut fields = String::new(alloc);
+    if account.shows_fields {
+        say_fields(&explainer.reader, paint, &mut fields)?;
+    }
+    Ok(fields)
+}
+
+/// The words of an item.
+fn words_of(
+    alloc: Global,
+    item: &Explained<'_>,
+    account: &Account,
+    explainer: &Explainer,
+    paint: Paint,
+) -> Result<ItemWords, AllocError> {
+    let mut words = String::new(alloc);
+    say_item(item, &mut words)?;
+    let mut sent = String::new(alloc);
+    say_sent(alloc, item.sent.as_slice(), paint, &mut sent)?;
+    let mut changes = String::new(alloc);
+    say_changes(account.changes.as_slice(), paint, &mut changes)?;
+    Ok(ItemWords {
+        item: words,
+        fields: fields_text(alloc, account, explainer, paint)?,
+        sent,
+        changes,
+    })
+}
+
+/// The lines of an item with these words.
+fn lines_with(
+    alloc: Global,
+    item: &Explained<'_>,
+    words: &ItemWords,
+    sentence: &str,
+    paint: Paint,
+) -> Result<String, AllocError>
+    ensures { IfOk result (λ text. (w : Words) × (string_bytes text ≡ lines paint.0 item.now w)) }
+{
+    let first = FirstLine {
+        paint,
+        number: item.number,
+        offset: item.offset as u64,
+        words: words.item.as_str(),
+    };
+    let cause = CauseLines {
+        paint,
+        phase: item.after.counts.phase,
+        cause: item.taken.cause,
+        sentence,
+    };
+    let reason = ReasonLines {
+        paint,
+        ignored: item.taken.ignored,
+    };
+    let fields = words.fields.as_str();
+    let (sent, changes) = (words.sent.as_str(), words.changes.as_str());
+    string_of(alloc, &texts!(first, fields, cause, reason, sent, changes))
+}
+
+/// Whether nothing is said of an item: the preface, as it has to be.
+fn is_silent(item: ItemHead) -> bool
+    ensures { result ≡ is_silent item }
+{
+    match item {
+        ItemHead::Preface => true,
+        ItemHead::BadPreface | ItemHead::Oversize(_) | ItemHead::Frame(_) => false,
+    }
+}
+
+/// The text of an item; that of the preface is empty.
+pub(crate) fn lines_of(
+    alloc: Global,
+    item: &Explained<'_>,
+    account: &Account,
+    explainer: &Explainer,
+    paint: Paint,
+) -> Result<String, AllocError>
+    ensures { IfOk result (λ text. (w : Words) × (string_bytes text ≡ lines_of paint.0 item.now w)) }
+{
+    if is_silent(item.taken.item) {
+        return Ok(String::new(alloc));
+    }
+    let words = words_of(alloc, item, account, explainer, paint)?;
+    lines_with(alloc, item, &words, account.sentence.as_str(), paint)
+}

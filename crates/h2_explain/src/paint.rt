@@ -1,0 +1,71 @@
+//! The lines of a text, and their colours by what they say.
+//! Rests on `say`; definitions: `specs/Lines.antt`.
+
+ghost use Rattle.std.specs.Prelude.{◌≡◌};
+ghost use Rattle.h2_explain.specs.Lines.{colour, ended, started};
+
+use h2_describe::say_all;
+use std::alloc::AllocError;
+
+/// What a line says.
+#[derive(Clone, Copy, Debug, PartialEq, Eq)]
+pub(crate) enum Role {
+    Item,
+    Field,
+    Error,
+    Ignored,
+    Sent,
+    Change,
+}
+
+/// Whether lines are coloured.
+#[derive(Clone, Copy)]
+pub(crate) struct Paint(pub(crate) bool);
+
+/// The colour of a line, as terminals take it.
+fn colour(role: Role) -> &'static str
+    ensures { result.now ≡ colour role }
+{
+    match role {
+        Role::Item => "\u{1b}[1m",
+        Role::Field => "\u{1b}[36m",
+        Role::Error => "\u{1b}[31m",
+        Role::Ignored => "\u{1b}[33m",
+        Role::Sent => "\u{1b}[32m",
+        Role::Change => "\u{1b}[2m",
+    }
+}
+
+impl Paint {
+    /// The colour that a line begins with, empty without colours.
+    pub(crate) fn started(self, role: Role) -> &'static str
+        ensures { result.now ≡ started self.0 role }
+    {
+        if self.0 { colour(role) } else { "" }
+    }
+
+    /// The end of a line.
+    pub(crate) fn ended(self) -> &'static str
+        ensures { result.now ≡ ended self.0 }
+    {
+        if self.0 { "\u{1b}[0m\n" } else { "\n" }
+    }
+
+    /// Begins a line at its left end.
+    pub(crate) fn start(self, role: Role, out: &mut String) -> Result<(), AllocError> {
+        say_all!(out; self.started(role));
+        Ok(())
+    }
+
+    /// Begins a line below the first one of an item.
+    pub(crate) fn begin(self, role: Role, out: &mut String) -> Result<(), AllocError> {
+        say_all!(out; "        ");
+        self.start(role, out)
+    }
+
+    /// Ends a line.
+    pub(crate) fn end(self, out: &mut String) -> Result<(), AllocError> {
+        say_all!(out; self.ended());
+        Ok(())
+    }
+}

@@ -1,0 +1,163 @@
+//! The octets after the last item: those that make no whole item yet, and those that are not read after the end.
+//! Rests on `say` and `json`; definitions: `specs/Rest.antt` and `specs/Explains.antt`; the format is in
+//! docs/FORMATS.md.
+
+ghost use Rattle.std.specs.Prelude.{◌≡◌, false, IfOk};
+ghost use Rattle.std.specs.String.{string_bytes};
+ghost use Rattle.h2_explain.specs.Explains.{EndsLine, IsRestOf};
+ghost use Rattle.h2_explain.specs.Rest.{missing_of, rest_of};
+
+use crate::json::line_of;
+use crate::paint::{Paint, Role};
+use h2_conn::Conn;
+use h2_describe::say::Octets;
+use h2_describe::say_all;
+use h2_device::{string_of, texts};
+use h2_frame::read_head;
+use h2_spec::connection::Phase;
+use serde_json::json;
+use std::alloc::{AllocError, Global};
+
+/// What the next item is.
+#[derive(Clone, Copy, Debug, PartialEq, Eq)]
+pub enum Awaited {
+    /// The client's connection preface (RFC 9113, 3.4).
+    Preface,
+    /// A frame (RFC 9113, 4.1).
+    Frame,
+}
+
+/// What octets lack to be the next item.
+#[derive(Clone, Copy, Debug, PartialEq, Eq)]
+pub struct Missing {
+    pub what: Awaited,
+    /// How many octets it needs more.
+    pub needs: usize,
+    /// Whether it may need more than these: the head of the frame is not there yet.
+    pub at_least: bool,
+}
+
+/// What is after the last item.
+#[derive(Clone, Copy, Debug, PartialEq, Eq)]
+pub struct Rest {
+    /// How many items there were.
+    pub items: u64,
+    /// How many octets came before.
+    pub offset: usize,
+    /// How many octets there are.
+    pub octets: usize,
+    /// The code of the connection error that ended the connection, if one did: then no octet is read (RFC 9113, 5.4.1).
+    pub ended: Option<u32>,
+    /// What they lack to be an item.
+    pub missing: Missing,
+}
+
+/// What octets that begin the next item lack to be one: the preface has 24 octets, a frame nine and its payload (RFC
+/// 9113, 3.4 and 4.1).
+fn missing_of(phase: Phase, octets: &[u8]) -> Missing
+    ensures { result ≡ missing_of phase octets.now }
+{
+    if phase == Phase::Preface {
+        return Missing {
+            what: Awaited::Preface,
+            needs: 24usize.saturating_sub(octets.len()),
+            at_least: false,
+        };
+    }
+    match read_head(octets) {
+        Some(head) => Missing {
+            what: Awaited::Frame,
+            needs: (9 + head.length as usize).saturating_sub(octets.len()),
+            at_least: false,
+        },
+        None => Missing {
+            what: Awaited::Frame,
+            needs: 9usize.saturating_sub(octets.len()),
+            at_least: true,
+        },
+    }
+}
+
+/// What is after the last item of a connection that had so many items; `offset` is how many octets came before these.
+pub(crate) fn rest_of(conn: &Conn<'_, Global>, items: u64, offset: usize, octets: &[u8]) -> Rest
+    ensures { result ≡ rest_of conn.now.state items offset octets.now }
+{
+    Rest {
+        items,
+        offset,
+        octets: octets.len(),
+        ended: conn.ended(),
+        missing: missing_of(conn.counts().phase, octets),
+    }
+}
+
+/// Where the words of a line begin.
+const COLUMN: usize = 8;
+
+/// Puts blanks last, up to the column of the words, two at least.
+fn say_blanks(used: usize, out: &mut String) -> Result<(), AllocError> {
+    say_all!(out; "  ");
+    for _place in used.saturating_add(2)..COLUMN {
+        say_all!(out; " ");
+    }
+    Ok(())
+}
+
+/// The line of the octets after the last item, without its end.
+fn rest_words(alloc: Global, rest: Rest, paint: Paint) -> Result<String, AllocError> {
+    let mut place = String::new(alloc);
+    say_all!(&mut place; "@", rest.offset);
+    let used = place.len();
+    say_blanks(used, &mut place)?;
+    let mut words = String::new(alloc);
+    paint.start(Role::Item, &mut words)?;
+    say_all!(&mut words; place.as_str(), Octets(rest.octets as u64));
+    match rest.ended {
+        Some(_) => say_all!(&mut words; " not read"),
+        None => say_missing(rest.missing, &mut words)?,
+    }
+    Ok(words)
+}
+
+/// The line of the octets after the last item, empty if there are none.
+pub(crate) fn rest_line(alloc: Global, rest: Rest, paint: Paint) -> Result<String, AllocError>
+    ensures { IfOk result (λ text. IsRestOf false paint.0 rest.octets (string_bytes text)) }
+{
+    if 0 < rest.octets {
+        let words = rest_words(alloc, rest, paint)?;
+        string_of(alloc, &texts!(words.as_str(), paint.ended()))
+    } else {
+        Ok(String::new(alloc))
+    }
+}
+
+/// Puts last what octets lack to be an item.
+fn say_missing(missing: Missing, out: &mut String) -> Result<(), AllocError> {
+    let what = match missing.what {
+        Awaited::Preface => "the connection preface",
+        Awaited::Frame => "a frame",
+    };
+    say_all!(out; " of ", what, ", which needs ");
+    if missing.at_least {
+        say_all!(out; "at least ");
+    }
+    say_all!(out; missing.needs, " more");
+    Ok(())
+}
+
+/// The last line of JSON.
+pub(crate) fn rest_json(alloc: Global, rest: Rest) -> Result<String, AllocError>
+    ensures { IfOk result (λ text. EndsLine false (string_bytes text)) }
+{
+    let end = match rest.ended {
+        Some(code) => json!(in alloc; {
+            "items": (rest.items), "offset": (rest.offset), "octets": (rest.octets),
+            "ended": true, "code": code
+        })?,
+        None => json!(in alloc; {
+            "items": (rest.items), "offset": (rest.offset), "octets": (rest.octets),
+            "ended": false, "needs": (rest.missing.needs), "at_least": (rest.missing.at_least)
+        })?,
+    };
+    line_of(alloc, json!(in alloc; {"end": end})?)
+}

@@ -1,0 +1,279 @@
+-- What is ignored is no error, and changes no more than its reason allows.
+use Rattle.std.proofs.Common.{◌≡◌, ℕ, ◌+◌, Bool, true, false, cond, eqb, not, List, [], length, ltb, Option, Some, None, Result, Ok, Err, refl, sym, subst}
+use Rattle.std.proofs.lemmas.Bool.{false≢true}
+use Rattle.std.proofs.lemmas.Option.{none-some}
+use Rattle.std.specs.Prelude.{pos, int_lt, ◌-ℤ◌}
+use Rattle.h2_spec.specs.declared.causes.Cause.{Cause}
+use Rattle.h2_spec.specs.declared.causes.Cause.TheVariants.{ConnectionWindowExceeded, BlockTooLarge, BlockTruncated, SizeUpdateMissing}
+use Rattle.h2_spec.specs.declared.connection.BlockView.{BlockView}
+use Rattle.h2_spec.specs.declared.connection.Purpose.{Purpose}
+use Rattle.h2_spec.specs.declared.connection.Purpose.TheVariants.{Request, Trailers, Closed, TableOnly}
+use Rattle.h2_spec.specs.declared.frames.Head.{Head}
+use Rattle.h2_spec.specs.declared.ignored.Ignored.{Ignored}
+use Rattle.h2_spec.specs.declared.ignored.Ignored.TheVariants.{Priority, UnknownType, SecondAcknowledgement, PingAcknowledgement, RstStreamOnSkipped, RstStreamOnClosed, RstStreamOnReset, WindowUpdateOnSkipped, WindowUpdateOnClosed, WindowUpdateOnReset, DataOnReset, TableOnlyBlock}
+use Rattle.h2_spec.specs.declared.reactions.ConnectionFrame.TheVariants.{PingAck}
+use Rattle.h2_spec.specs.declared.reactions.Reaction.{Reaction}
+use Rattle.h2_spec.specs.declared.reactions.Reaction.TheVariants.{ConnectionError, Continues}
+use Rattle.h2_spec.specs.declared.reactions.ReceivedData.{ReceivedData}
+use Rattle.h2_spec.specs.declared.streams.Kind.{Kind}
+use Rattle.h2_spec.specs.declared.streams.Kind.TheVariants.{Idle, Skipped, BothOpen, HalfRemote, HalfLocal, Ended, PeerReset, WeReset}
+use Rattle.h2_spec.specs.declared.streams.Stream.{Stream}
+use Rattle.h2_spec.specs.FrameType.{END_HEADERS, ACK, has}
+use Rattle.h2_spec.specs.Frame.{Item, Preface, BadPreface, WholeFrame, Oversize}
+use Rattle.h2_spec.specs.Payload.{HeadersPart, Part, OfData, OfHeaders, OfPriority, OfRstStream, OfSettings, OfSettingsAck, OfPushPromise, OfPing, OfGoaway, OfWindowUpdate, OfContinuation, OfUnknown, part_of}
+use Rattle.h2_spec.specs.Block.{Decoded, Progress, Outcome, Unfinished, Faulty}
+use Rattle.h2_spec.specs.Window.{given_back}
+use Rattle.h2_spec.specs.State.{State, OpenBlock, Decoding, configured}
+use Rattle.h2_spec.specs.Change.{Step, only_counts, frames_of}
+use Rattle.h2_spec.specs.Checks.{refusal}
+use Rattle.h2_spec.specs.ReactionTable.{ResetRule, WindowRule, data_cell, headers_cell, reset_cell, window_cell, run_cell}
+use Rattle.h2_spec.specs.SettingsFrame.{comes_into_force}
+use Rattle.h2_spec.specs.WindowUpdate.{connection_window}
+use Rattle.h2_spec.specs.Data.{owed_as, owed_on_connection, counted, data_counted}
+use Rattle.h2_spec.specs.Headers.{FrameEffect, Breaks, Makes, makes, max_block, block_ends, fragment_read, fragment_decoded, decoded_with, fragment, fresh_block, fresh_decoding, continued, continuation}
+use Rattle.h2_spec.specs.Effect.{nothing, data_rule, on_data, on_reset, on_window, on_headers, frame_effect, part_effect, checked_effect, block_stream, item_effect, payload_of, concluded, effect, effect_cause, cause_of}
+use Rattle.h2_spec.specs.Ignored.{reset_ignored, window_ignored, where_reset, reason_if, fragment_ignored, decoding_ignored, block_ignored, kind_at, part_ignored, payload_ignored, item_ignored, unless_caused, ignored_of, changes_nothing}
+use Rattle.h2_laws.specs.Ignoring.{OnlyReceiveWindowChanges, OnlyHeaderTableChanges}
+
+-- ---- it is no error
+
+without-cause : (cause : Option Cause) (reason : Option Ignored) (r : Ignored) → unless_caused cause reason ≡ Some r → cause ≡ None
+without-cause (Some cause) reason r h = absurd (none-some r h)
+without-cause None reason r h = refl
+
+pub ignored-without-cause : (s : State) (item : Item) (r : Ignored) → ignored_of s item ≡ Some r → cause_of s item ≡ None
+unfolding ignored_of
+ignored-without-cause s item r h = without-cause (cause_of s item) (item_ignored s item) r h
+
+-- ---- what it changes
+
+abbrev IsUnchanged : State → Step → Type 0
+IsUnchanged s e = e ≡ record { state = s; sent = [] }
+
+-- what may change, by the reason
+abbrev IsIgnored : Ignored → State → Step → Type 0
+IsIgnored Priority s e = IsUnchanged s e
+IsIgnored UnknownType s e = IsUnchanged s e
+IsIgnored SecondAcknowledgement s e = IsUnchanged s e
+IsIgnored PingAcknowledgement s e = IsUnchanged s e
+IsIgnored RstStreamOnSkipped s e = IsUnchanged s e
+IsIgnored RstStreamOnClosed s e = IsUnchanged s e
+IsIgnored RstStreamOnReset s e = IsUnchanged s e
+IsIgnored WindowUpdateOnSkipped s e = IsUnchanged s e
+IsIgnored WindowUpdateOnClosed s e = IsUnchanged s e
+IsIgnored WindowUpdateOnReset s e = IsUnchanged s e
+IsIgnored DataOnReset s e = OnlyReceiveWindowChanges s e
+IsIgnored TableOnlyBlock s e = OnlyHeaderTableChanges s e
+
+-- p: the payload of the item
+module _ (s : State) (p : List ℕ) where
+  -- what a frame results in is what its reason allows, where it has one and is no error
+  record Allowed (e : FrameEffect) (reason : Option Ignored) : Type 0 where
+    by : (r : Ignored) → unless_caused (effect_cause e) reason ≡ Some r → IsIgnored r s (concluded s p e)
+
+  no-reason : (e : FrameEffect) → Allowed e None
+  no-reason e = record { by = λ r. at r (effect_cause e) }
+    where
+      at : (r : Ignored) (cause : Option Cause) → unless_caused cause None ≡ Some r → IsIgnored r s (concluded s p e)
+      at r (Some cause) h = absurd (none-some r h)
+      at r None h = absurd (none-some r h)
+
+  is-error : (cause : Cause) (reason : Option Ignored) → Allowed (Breaks cause) reason
+  is-error cause reason = record { by = λ r h. absurd (none-some r h) }
+
+  has-reason : (e : FrameEffect) (reason : Ignored) → IsIgnored reason s (concluded s p e) → Allowed e (Some reason)
+  has-reason e reason k = record { by = λ r. at r (effect_cause e) }
+    where
+      AllowedBy : Option Ignored → Type 0
+      AllowedBy (Some reason) = IsIgnored reason s (concluded s p e)
+      AllowedBy None = Unit {0}
+
+      at : (r : Ignored) (cause : Option Cause) → unless_caused cause (Some reason) ≡ Some r → IsIgnored r s (concluded s p e)
+      at r (Some cause) h = absurd (none-some r h)
+      at r None h = subst AllowedBy h k
+
+  -- ---- frames for which nothing changes
+
+  unchanged : IsUnchanged s (concluded s p (Makes s (only_counts s.core)))
+  unfolding frames_of
+  unchanged = refl
+
+  nothing-happens : (reason : Ignored) → IsIgnored reason s (concluded s p (Makes s (only_counts s.core))) → Allowed (makes s (nothing s.core)) (Some reason)
+  nothing-happens reason k = has-reason (Makes s (only_counts s.core)) reason k
+
+  resets : (rule : ResetRule → Reaction) (kind : Kind) → Allowed (makes s (run_cell ConnectionError (nothing s.core) rule (reset_cell kind))) (reset_ignored kind)
+  resets rule Idle = no-reason _
+  resets rule Skipped = nothing-happens RstStreamOnSkipped unchanged
+  resets rule BothOpen = no-reason _
+  resets rule HalfLocal = no-reason _
+  resets rule HalfRemote = no-reason _
+  resets rule Ended = nothing-happens RstStreamOnClosed unchanged
+  resets rule PeerReset = nothing-happens RstStreamOnClosed unchanged
+  resets rule WeReset = nothing-happens RstStreamOnReset unchanged
+
+  moves-window : (rule : WindowRule → Reaction) (kind : Kind) → Allowed (makes s (run_cell ConnectionError (nothing s.core) rule (window_cell kind))) (window_ignored kind)
+  moves-window rule Idle = no-reason _
+  moves-window rule Skipped = nothing-happens WindowUpdateOnSkipped unchanged
+  moves-window rule BothOpen = no-reason _
+  moves-window rule HalfLocal = no-reason _
+  moves-window rule HalfRemote = no-reason _
+  moves-window rule Ended = nothing-happens WindowUpdateOnClosed unchanged
+  moves-window rule PeerReset = nothing-happens WindowUpdateOnClosed unchanged
+  moves-window rule WeReset = nothing-happens WindowUpdateOnReset unchanged
+
+  moves-a-window : (increment : ℕ) (on_zero : Bool) (rule : WindowRule → Reaction) (kind : Kind) →
+      Allowed (makes s (cond on_zero (connection_window s.core increment) (run_cell ConnectionError (nothing s.core) rule (window_cell kind)))) (cond on_zero None (window_ignored kind))
+  moves-a-window increment true rule kind = no-reason _
+  moves-a-window increment false rule kind = moves-window rule kind
+
+  acknowledges : (acked : Bool) → Allowed (makes s (cond acked (Continues (only_counts s.core)) (Continues (comes_into_force s.core (configured s.config))))) (reason_if acked SecondAcknowledgement)
+  acknowledges true = nothing-happens SecondAcknowledgement unchanged
+  acknowledges false = no-reason _
+
+  pings : (acknowledges : Bool) → Allowed (makes s (cond acknowledges (nothing s.core) (Continues (record (only_counts s.core) { first = PingAck })))) (reason_if acknowledges PingAcknowledgement)
+  pings true = nothing-happens PingAcknowledgement unchanged
+  pings false = no-reason _
+
+  -- ---- DATA that is counted on the connection alone
+
+  counts : (d : ReceivedData) → Allowed (makes s (data_counted s.config s.core d)) (Some DataOnReset)
+  unfolding data_counted counted owed_on_connection frames_of
+  counts d = within (int_lt s.core.recv (pos d.octets))
+    where
+      owed : (o : Option ℕ) → IsIgnored DataOnReset s (concluded s p (Makes s (owed_as o (record s.core { recv = s.core.recv -ℤ pos d.octets }) (s.core.owed + d.octets))))
+      owed (Some n) = record { state = refl; sent = refl }
+      owed None = record { state = refl; sent = refl }
+
+      within : (exceeded : Bool) → Allowed (makes s (cond exceeded (ConnectionError ConnectionWindowExceeded) (Continues (counted s.config.credit s.core d.octets)))) (Some DataOnReset)
+      within true = is-error ConnectionWindowExceeded (Some DataOnReset)
+      within false = has-reason (Makes s (counted s.config.credit s.core d.octets)) DataOnReset (owed (given_back s.config.credit (s.core.owed + d.octets)))
+
+  brings-data : (body : ℕ) (d : ReceivedData) (st : Stream) (kind : Kind) →
+      Allowed (makes s (run_cell ConnectionError (nothing s.core) (λ rule. data_rule rule s.config s.core body d st) (data_cell kind))) (where_reset DataOnReset kind)
+  brings-data body d st Idle = no-reason _
+  brings-data body d st Skipped = no-reason _
+  brings-data body d st BothOpen = no-reason _
+  brings-data body d st HalfLocal = no-reason _
+  brings-data body d st HalfRemote = no-reason _
+  brings-data body d st Ended = no-reason _
+  brings-data body d st PeerReset = no-reason _
+  brings-data body d st WeReset = counts d
+
+  -- ---- blocks that are decoded for the header table alone
+
+  reads : (progress : Progress) (b : BlockView) (d : Decoding) (ends : Bool) → d.purpose ≡ TableOnly → Allowed (fragment_read (record s { table = progress.table }) b d ends) (Some TableOnlyBlock)
+  unfolding frames_of
+  reads progress b d false e = has-reason _ TableOnlyBlock (record { state = refl; sent = refl })
+  reads progress b d true e = at (not (eqb (length d.rest) 0)) d.due
+    where
+      ended : (purpose : Purpose) → purpose ≡ TableOnly → IsIgnored TableOnlyBlock s (concluded s p (Makes (record s { table = progress.table; block = None }) (block_ends (record s { table = progress.table }) b.stream b.ends d.fields purpose)))
+      ended purpose e = subst (λ q. IsIgnored TableOnlyBlock s (concluded s p (Makes (record s { table = progress.table; block = None }) (block_ends (record s { table = progress.table }) b.stream b.ends d.fields q)))) (sym e) (record { state = refl; sent = refl })
+
+      at : (cut due : Bool) →
+          Allowed (cond cut (Breaks BlockTruncated) (cond due (Breaks SizeUpdateMissing) (Makes (record s { table = progress.table; block = None }) (block_ends (record s { table = progress.table }) b.stream b.ends d.fields d.purpose)))) (Some TableOnlyBlock)
+      at true due = is-error BlockTruncated (Some TableOnlyBlock)
+      at false true = is-error SizeUpdateMissing (Some TableOnlyBlock)
+      at false false = has-reason (Makes (record s { table = progress.table; block = None }) (block_ends (record s { table = progress.table }) b.stream b.ends d.fields d.purpose)) TableOnlyBlock (ended d.purpose e)
+
+  decodes : (b : BlockView) (ends : Bool) (progress : Progress) (outcome : Outcome) → Allowed (fragment_decoded s b TableOnly ends (record { progress = progress; outcome = outcome })) (Some TableOnlyBlock)
+  decodes b ends progress (Unfinished rest) = reads progress _ _ ends refl
+  decodes b ends progress (Faulty fault) = is-error _ _
+
+  for-table : (b : BlockView) (d : Decoding) (octets : List ℕ) (ends : Bool) → d.purpose ≡ TableOnly → Allowed (fragment s b d octets ends) (Some TableOnlyBlock)
+  for-table b d octets ends e = at (ltb max_block (b.octets + length octets))
+    where
+      all : Decoded
+      all = decoded_with s d octets
+
+      decoded : Allowed (fragment_decoded s (record b { octets = b.octets + length octets }) d.purpose ends all) (Some TableOnlyBlock)
+      decoded = subst (λ q. Allowed (fragment_decoded s (record b { octets = b.octets + length octets }) q ends all) (Some TableOnlyBlock)) (sym e) (decodes (record b { octets = b.octets + length octets }) ends all.progress all.outcome)
+
+      at : (large : Bool) → Allowed (cond large (Breaks BlockTooLarge) (fragment_decoded s (record b { octets = b.octets + length octets }) d.purpose ends all)) (Some TableOnlyBlock)
+      at true = is-error BlockTooLarge (Some TableOnlyBlock)
+      at false = decoded
+
+  goes-on : (b : BlockView) (d : Decoding) (octets : List ℕ) (ends : Bool) → Allowed (fragment s b d octets ends) (fragment_ignored d.purpose)
+  goes-on b d octets ends = at d.purpose refl
+    where
+      at : (purpose : Purpose) → d.purpose ≡ purpose → Allowed (fragment s b d octets ends) (fragment_ignored purpose)
+      at Request e = no-reason _
+      at Trailers e = no-reason _
+      at Closed e = no-reason _
+      at TableOnly e = for-table b d octets ends e
+
+  continues : (o : Option OpenBlock) (octets : List ℕ) (ends : Bool) → Allowed (continuation s o octets ends) (block_ignored o)
+  continues None octets ends = no-reason _
+  continues (Some b) octets ends = at b.decoding
+    where
+      at : (o : Option Decoding) → Allowed (continued s b.shown o octets ends) (decoding_ignored o)
+      at None = no-reason _
+      at (Some d) = goes-on b.shown d octets ends
+
+  begins : (h : Head) (part : HeadersPart) (kind : Kind) → Allowed (on_headers s h part (headers_cell h.stream kind)) (where_reset TableOnlyBlock kind)
+  begins h part Idle = no-reason _
+  begins h part Skipped = no-reason _
+  begins h part BothOpen = no-reason _
+  begins h part HalfLocal = no-reason _
+  begins h part HalfRemote = no-reason _
+  begins h part Ended = no-reason _
+  begins h part PeerReset = no-reason _
+  begins h part WeReset = for-table (fresh_block h) (fresh_decoding s TableOnly) part.fragment (has h.flags END_HEADERS) refl
+
+  -- ---- a frame
+
+  of-part : (h : Head) (part : Part) → Allowed (frame_effect s h p part) (part_ignored s h part)
+  unfolding on_data on_reset on_window
+  of-part h (OfData part) = brings-data _ _ _ (kind_at s h)
+  of-part h (OfHeaders part) = begins h part (kind_at s h)
+  of-part h OfPriority = nothing-happens Priority unchanged
+  of-part h (OfRstStream code) = resets _ (kind_at s h)
+  of-part h (OfSettings pairs) = no-reason _
+  of-part h OfSettingsAck = acknowledges s.core.acked
+  of-part h OfPushPromise = no-reason _
+  of-part h (OfPing octets) = pings (has h.flags ACK)
+  of-part h (OfGoaway last code) = no-reason _
+  of-part h (OfWindowUpdate increment) = moves-a-window increment (eqb h.stream 0) _ (kind_at s h)
+  of-part h (OfContinuation octets) = continues s.block octets (has h.flags END_HEADERS)
+  of-part h OfUnknown = nothing-happens UnknownType unchanged
+
+  of-payload : (h : Head) (r : Result Part Cause) → Allowed (part_effect s h p r) (payload_ignored s h r)
+  of-payload h (Ok part) = of-part h part
+  of-payload h (Err cause) = is-error cause None
+
+  of-frame : (h : Head) (o : Option Cause) → Allowed (checked_effect s h p o) (payload_ignored s h (part_of h p))
+  of-frame h None = of-payload h (part_of h p)
+  of-frame h (Some cause) = is-error cause (payload_ignored s h (part_of h p))
+
+of-item : (s : State) (item : Item) → Allowed s (payload_of item) (item_effect s item) (item_ignored s item)
+of-item s Preface = no-reason s [] _
+of-item s BadPreface = no-reason s [] _
+of-item s (Oversize h) = no-reason s [] _
+of-item s (WholeFrame h p) = of-frame s p h (refusal (block_stream s.block) s.core.phase h)
+
+ignored-as-allowed : (s : State) (item : Item) (r : Ignored) → ignored_of s item ≡ Some r → IsIgnored r s (effect s item)
+unfolding ignored_of cause_of effect
+ignored-as-allowed s item = (of-item s item).by
+
+-- where nothing changes for the reason
+where-nothing : (r : Ignored) (s : State) (e : Step) → changes_nothing r ≡ true → IsIgnored r s e → IsUnchanged s e
+where-nothing Priority s e k h = h
+where-nothing UnknownType s e k h = h
+where-nothing SecondAcknowledgement s e k h = h
+where-nothing PingAcknowledgement s e k h = h
+where-nothing RstStreamOnSkipped s e k h = h
+where-nothing RstStreamOnClosed s e k h = h
+where-nothing RstStreamOnReset s e k h = h
+where-nothing WindowUpdateOnSkipped s e k h = h
+where-nothing WindowUpdateOnClosed s e k h = h
+where-nothing WindowUpdateOnReset s e k h = h
+where-nothing DataOnReset s e k h = absurd (false≢true k)
+where-nothing TableOnlyBlock s e k h = absurd (false≢true k)
+
+pub ignored-changes-nothing : (s : State) (item : Item) (r : Ignored) → ignored_of s item ≡ Some r → changes_nothing r ≡ true → effect s item ≡ record { state = s; sent = [] }
+ignored-changes-nothing s item r h k = where-nothing r s (effect s item) k (ignored-as-allowed s item r h)
+
+pub ignored-data : (s : State) (item : Item) → ignored_of s item ≡ Some DataOnReset → OnlyReceiveWindowChanges s (effect s item)
+ignored-data s item h = ignored-as-allowed s item DataOnReset h
+
+pub ignored-block : (s : State) (item : Item) → ignored_of s item ≡ Some TableOnlyBlock → OnlyHeaderTableChanges s (effect s item)
+ignored-block s item h = ignored-as-allowed s item TableOnlyBlock h

@@ -1,0 +1,77 @@
+//! Why a frame that is no error is ignored, by its stream's state or its block's purpose (RFC 9113, 4.3 and 5.1).
+//! Rests on h2_spec's types; definition: `specs/Ignored.antt` there.
+
+ghost use Rattle.std.specs.Prelude.{◌≡◌};
+ghost use Rattle.h2_spec.specs.Ignored as rule;
+
+use h2_spec::causes::Cause;
+use h2_spec::connection::Purpose;
+use h2_spec::ignored::Ignored;
+use h2_spec::streams::Kind;
+
+/// Why RST_STREAM is ignored on a stream of this state, if it is (RFC 9113, 5.1).
+pub fn reset_ignored(kind: Kind) -> Option<Ignored>
+    ensures { result ≡ rule.reset_ignored kind }
+{
+    match kind {
+        Kind::Skipped => Some(Ignored::RstStreamOnSkipped),
+        Kind::Ended | Kind::PeerReset => Some(Ignored::RstStreamOnClosed),
+        Kind::WeReset => Some(Ignored::RstStreamOnReset),
+        Kind::Idle | Kind::BothOpen | Kind::HalfLocal | Kind::HalfRemote => None,
+    }
+}
+
+/// Why WINDOW_UPDATE is ignored on a stream of this state, if it is (RFC 9113, 5.1).
+pub fn window_ignored(kind: Kind) -> Option<Ignored>
+    ensures { result ≡ rule.window_ignored kind }
+{
+    match kind {
+        Kind::Skipped => Some(Ignored::WindowUpdateOnSkipped),
+        Kind::Ended | Kind::PeerReset => Some(Ignored::WindowUpdateOnClosed),
+        Kind::WeReset => Some(Ignored::WindowUpdateOnReset),
+        Kind::Idle | Kind::BothOpen | Kind::HalfLocal | Kind::HalfRemote => None,
+    }
+}
+
+/// This reason, if the server has reset the stream (RFC 9113, 5.1).
+pub fn where_reset(reason: Ignored, kind: Kind) -> Option<Ignored>
+    ensures { result ≡ rule.where_reset reason kind }
+{
+    match kind {
+        Kind::WeReset => Some(reason),
+        Kind::Idle
+        | Kind::Skipped
+        | Kind::BothOpen
+        | Kind::HalfLocal
+        | Kind::HalfRemote
+        | Kind::Ended
+        | Kind::PeerReset => None,
+    }
+}
+
+/// This reason, if it holds.
+pub fn reason_if(holds: bool, reason: Ignored) -> Option<Ignored>
+    ensures { result ≡ rule.reason_if holds reason }
+{
+    if holds { Some(reason) } else { None }
+}
+
+/// Why a fragment of a block with this purpose is ignored, if it is: only the header table follows it (RFC 9113, 4.3).
+pub fn fragment_ignored(purpose: Purpose) -> Option<Ignored>
+    ensures { result ≡ rule.fragment_ignored purpose }
+{
+    match purpose {
+        Purpose::TableOnly => Some(Ignored::TableOnlyBlock),
+        Purpose::Request | Purpose::Trailers | Purpose::Closed => None,
+    }
+}
+
+/// The reason of an item that is ignored, unless it results in an error.
+pub fn unless_caused(cause: Option<Cause>, reason: Option<Ignored>) -> Option<Ignored>
+    ensures { result ≡ rule.unless_caused cause reason }
+{
+    match cause {
+        Some(_) => None,
+        None => reason,
+    }
+}

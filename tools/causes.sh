@@ -1,0 +1,52 @@
+#!/usr/bin/env bash
+# The examples of causes. First that examples/causes has one script for each cause of h2_spec, and that docs/TABLE.md
+# names each cause once and no other; then that `explain` prints of each script what its .txt says, by the program that
+# the launcher runs.
+#
+#   causes.sh            all of it
+#   causes.sh --names    the names alone: nothing is built or run
+set -eu
+top=$(cd "$(dirname "$0")/.." && pwd)
+folder=$top/examples/causes
+work=$(mktemp -d)
+trap 'rm -rf "$work"' EXIT
+
+# The names of the causes, as `Cause::name` has them.
+sed -n '/pub fn name(self)/,/^    }/s/.*Cause::[A-Za-z]* *=> *"\([a-z-]*\)",.*/\1/p' "$top/crates/h2_spec/src/causes.rt" | sort >"$work/causes"
+if [ ! -s "$work/causes" ]; then
+    echo "causes.sh: no cause was found in crates/h2_spec/src/causes.rt" >&2
+    exit 1
+fi
+
+find "$folder" -name '*.h2' -printf '%f\n' | sed 's/\.h2$//' | sort >"$work/scripts"
+diff "$work/causes" "$work/scripts" || { echo "causes.sh: examples/causes and the causes of h2_spec differ" >&2; exit 1; }
+
+# Other words between backticks that begin with a small letter and have a hyphen are four header fields.
+fields='content-length|keep-alive|proxy-connection|transfer-encoding'
+grep -o '`[a-z]\+\(-[a-z]\+\)\+`' "$top/docs/TABLE.md" | tr -d '`' | grep -vxE "$fields" | sort >"$work/table"
+diff "$work/causes" "$work/table" || { echo "causes.sh: docs/TABLE.md and the causes of h2_spec differ" >&2; exit 1; }
+if [ "${1-}" = --names ]; then
+    exit 0
+fi
+
+# One script, explained and compared: the cause's name has to be in it, and the status is 4 where the connection ended.
+run_one() {
+    local name=$1 words=() status=0 wanted=0
+    if [ -f "$folder/$name.args" ]; then
+        mapfile -t words <"$folder/$name.args"
+    fi
+    "$top/h2_bench" asm <"$folder/$name.h2" >"$work/hex"
+    "$top/h2_bench" explain "$work/hex" "${words[@]}" >"$work/text" || status=$?
+    diff "$folder/$name.txt" "$work/text"
+    grep -q " error [A-Z_]*: $name, RFC " "$work/text"
+    if grep -q '^        connection error ' "$work/text"; then
+        wanted=4
+    fi
+    [ "$status" = "$wanted" ]
+}
+
+failed=0
+while read -r name; do
+    run_one "$name" || { echo "causes.sh: $name differs" >&2; failed=1; }
+done <"$work/causes"
+exit "$failed"
