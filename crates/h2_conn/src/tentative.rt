@@ -87,6 +87,7 @@ impl<A: Allocator + Copy> Tentative<A> {
             mut collected,
             rest,
         } = decoding;
+        collected.share();
         let mark = collected.mark();
         let (edit, rest, result) = decode_piece(&mut collected, table, edit, rest, octets);
         let tentative = Tentative {

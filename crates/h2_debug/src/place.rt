@@ -15,6 +15,7 @@ use h2_conn::view::View;
 use h2_conn::{Conn, ConnFault};
 use std::alloc::{AllocError, Allocator};
 use std::marker::Model;
+use std::mem::swap;
 
 /// A place in a run.
 #[derive(Drop)]
@@ -24,6 +25,8 @@ pub struct Place<'b, A: Allocator> {
     used: usize,
     reasons: Reasons,
     sent: Vec<u8, A>,
+    /// Memory for what the next item sends.
+    spare: Vec<u8, A>,
 }
 
 impl<'b, A: Allocator> Model for Place<'b, A> {
@@ -49,6 +52,7 @@ impl<'b, A: Allocator + Copy> Place<'b, A> {
             used: 0,
             reasons: Reasons::none(),
             sent,
+            spare: Vec::new(alloc),
         })
     }
 
@@ -63,12 +67,14 @@ impl<'b, A: Allocator + Copy> Place<'b, A> {
     ) -> Self
         ensures { result ≡ record { connection = conn.entry; position = position; used = used; reasons = reasons; sent = sent.items } }
     {
+        let spare = Vec::new(*sent.allocator());
         Place {
             conn,
             position,
             used,
             reasons,
             sent,
+            spare,
         }
     }
 
@@ -78,13 +84,7 @@ impl<'b, A: Allocator + Copy> Place<'b, A> {
     {
         let conn = self.conn.try_clone()?;
         let sent = copy_of(&self.sent)?;
-        Ok(Place {
-            conn,
-            position: self.position,
-            used: self.used,
-            reasons: self.reasons,
-            sent,
-        })
+        Ok(Place::of(conn, self.position, self.used, self.reasons, sent))
     }
 
     /// What the item at this position sent, in memory of its own.
@@ -100,15 +100,15 @@ impl<'b, A: Allocator + Copy> Place<'b, A> {
         ensures advances { IfOk result (λ more. Advances source.now self.old self.new more) }
         ensures unchanged { OnErr result (self.new ≡ self.old) }
     {
-        let mut sent = Vec::new(*self.sent.allocator());
         let octets = source.octets_from(self.used);
-        let Some(taken) = self.conn.take_and_report(octets, &mut sent)? else {
+        self.spare.clear();
+        let Some(taken) = self.conn.take_and_report(octets, &mut self.spare)? else {
             return Ok(false);
         };
+        swap(&mut self.sent, &mut self.spare);
         self.used += taken.used;
         self.position += 1;
         self.reasons = Reasons::of(taken);
-        self.sent = sent;
         Ok(true)
     }
 }

@@ -1,5 +1,5 @@
 -- What the code does with an instruction is what the definitions say of it.
-use Rattle.std.proofs.Common.{◌≡◌, ℕ, suc, ◌+◌, ◌-◌, ◌≤◌, ◌<◌, ◌^◌, ◌⊎◌, inl, inr, Bool, true, false, not, List, [], ◌∷◌, ◌++◌, length, map, take, drop, min, sym, Some, Result, Ok, Err, refl, ap, ◌∙◌, arith, le-leb}
+use Rattle.std.proofs.Common.{◌≡◌, ℕ, suc, ◌+◌, ◌-◌, ◌≤◌, ◌<◌, ◌^◌, ◌⊎◌, inl, inr, Bool, true, false, not, List, [], ◌∷◌, ◌++◌, length, map, take, drop, min, sym, Some, Result, Ok, Err, refl, ap, ◌∙◌, arith, le-leb, append_assoc}
 use Rattle.std.proofs.lemmas.Bool.{lt-leb}
 use Rattle.std.proofs.lemmas.Bool.Decides.{leb_tells}
 use Rattle.std.proofs.Math.Seq.{take-append_seam, drop-append_seam}
@@ -60,6 +60,10 @@ refusal-is r fault f e k = ap refusal e ∙ ap Some k
 
 pub size-added : (fields : List Field) (f : Field) (old add : ℕ) → old ≡ list_size fields → add ≡ min (size f) (2 ^ 64 - 1) → min (old + add) (2 ^ 64 - 1) ≡ list_size (fields ++ f ∷ [])
 size-added fields f old add e k = let sum = total_size-append fields (f ∷ []) in omega (arith, e, k, sum)
+
+-- the same of fields behind others
+pub size-behind : (before fields now : List Field) (f : Field) (old add : ℕ) → old ≡ list_size (before ++ fields) → add ≡ min (size f) (2 ^ 64 - 1) → now ≡ fields ++ f ∷ [] → min (old + add) (2 ^ 64 - 1) ≡ list_size (before ++ now)
+size-behind before fields now f old add e k n = size-added (before ++ fields) f old add e k ∙ ap list_size (append_assoc before fields (f ∷ []) ∙ ap (λ fs. before ++ fs) (sym n))
 
 -- ---- the marks of a list
 

@@ -1,4 +1,5 @@
 mod Appending
+mod BatchLaws
 mod Applying
 mod Counting
 mod Drafting

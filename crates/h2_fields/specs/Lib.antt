@@ -1,6 +1,7 @@
 pub mod ResponseRead
 pub mod Rests
 pub mod Resume
+pub mod Batches
 pub mod Blocks
 pub mod Drafts
 pub mod Faults

@@ -1,5 +1,7 @@
 //! The fields that a field block has given so far, with the mark of each, in lists whose memory is kept from block to
-//! block. It uses `FieldList` of h2_list and the marks of h2_mark; contracts see it as the record `FieldsSoFar` of `h2_spec`, specs/Block.antt.
+//! block. Of a long block all but the last fields are in batches, which its copies share.
+//! It uses `batches`, `FieldList` of h2_list and the marks of h2_mark; contracts see it as the record `FieldsSoFar` of
+//! `h2_spec`, specs/Block.antt.
 
 ghost use Rattle.std.specs.Prelude.{◌≡◌, ◌≢◌, ◌≤◌, ◌-◌, ◌^◌, ℕ, List, [], ◌∷◌, ◌++◌, false, not, min, length, take, drop, slice_get, option_map, Some, Ok, IfOk, IfErr, IfSome, OnOk, OnErr};
 ghost use Rattle.h2_spec.specs.Block.{has_fields, list_size, text_result};
@@ -13,6 +15,7 @@ ghost use Rattle.h2_fields.specs.declared.fault.BlockFault.TheVariants as faults
 ghost use Rattle.h2_mark.specs.Mark.{mark_of};
 ghost use Rattle.h2_table.specs.Lent.{lent_field, field_lent, IsMarked};
 
+use crate::batches::{Batch, Batches, lent_at};
 use crate::fault::BlockFault;
 use crate::hints::Hints;
 use crate::shape::RawString;
@@ -21,34 +24,43 @@ use h2_mark::FieldMark;
 use h2_table::LentField;
 use std::alloc::{AllocError, Allocator};
 use std::marker::Model;
+use std::mem::replace;
 
 /// The most octets of a field that is not shared: to look for them costs more than to copy them.
 const MAX_COPIED: usize = 32;
 
+/// How many fields a batch has at least.
+const MIN_SHARED: usize = 256;
+
 /// The most marks whose memory is kept for the next field block.
 const MAX_KEPT_MARKS: usize = 512;
 
-/// The fields of a block so far, what each can be malformed for by itself, their size together, and whether the block must still begin with a table size update
-/// (RFC 7541, 4.2).
+/// The fields of a block so far, what each can be malformed for by itself, their size together, and whether the block
+/// must still begin with a table size update (RFC 7541, 4.2).
 #[derive(Drop, Debug)]
 pub struct Collected<A: Allocator> {
+    /// The first fields.
+    shared: Batches<A>,
+    /// The fields behind them.
     list: FieldList<A>,
+    /// The marks of those.
     marks: Vec<FieldMark, A>,
+    /// Where fields of the tables are in the list.
     hints: Hints<A>,
     size: u64,
     due: bool,
 }
 
 impl<A: Allocator> Model for Collected<A> {
-    ghost use Rattle.std.specs.Prelude.{◌≡◌, map};
+    ghost use Rattle.std.specs.Prelude.{◌≡◌, ◌++◌, map};
     ghost use Rattle.h2_mark.specs.Mark.{mark_of};
     ghost use Rattle.h2_spec.specs.Block.{FieldsSoFar, list_size};
 
     ghost Value = { FieldsSoFar };
 
-    ghost view = { λ c. record { fields = c.list.fields; due = c.due } };
+    ghost view = { λ c. record { fields = c.shared ++ c.list.fields; due = c.due } };
 
-    ghost invariant = { λ c. (c.size ≡ list_size c.list.fields) × (c.marks.items ≡ map mark_of c.list.fields) };
+    ghost invariant = { λ c. (c.size ≡ list_size (c.shared ++ c.list.fields)) × (c.marks.items ≡ map mark_of c.list.fields) };
 }
 
 /// A place in a field block to which `Collected::restore` goes back; plain data.
@@ -70,6 +82,7 @@ impl<A: Allocator> Collected<A> {
         ensures { result ≡ record { fields = []; due = false } }
     {
         Collected {
+            shared: Batches::new(alloc),
             list: FieldList::new(alloc),
             marks: Vec::new(alloc),
             hints: Hints::new(alloc),
@@ -83,6 +96,7 @@ impl<A: Allocator> Collected<A> {
     pub fn clear(&mut self, due: bool)
         ensures { self.new ≡ record { fields = []; due = due } }
     {
+        self.shared.clear();
         self.list.clear();
         self.marks.clear();
         if self.marks.capacity() > MAX_KEPT_MARKS {
@@ -96,21 +110,22 @@ impl<A: Allocator> Collected<A> {
     pub fn len(&self) -> usize
         ensures { result ≡ length self.now.fields }
     {
-        self.list.len()
+        self.shared.len() + self.marks.len()
     }
 
     /// Whether there is no field.
     pub fn is_empty(&self) -> bool
         ensures { result ≡ not (has_fields self.now.fields) }
     {
-        self.list.len() == 0
+        self.len() == 0
     }
 
     /// The name and the value of the field at a place, counted from 0; none at `len()` and above.
     pub fn get(&self, place: usize) -> Option<(&[u8], &[u8])>
         ensures { option_map lent_field result ≡ slice_get self.now.fields place }
     {
-        self.list.get(place)
+        let lent = self.lent(place)?;
+        Some((lent.name, lent.value))
     }
 
     /// The field at a place with its mark; none at `len()` and above.
@@ -118,15 +133,12 @@ impl<A: Allocator> Collected<A> {
         ensures field { option_map field_lent result ≡ slice_get self.now.fields place }
         ensures marked { IfSome result IsMarked }
     {
-        if place >= self.marks.len() {
-            return None;
+        let before = self.shared.len();
+        if place < before {
+            self.shared.lent(place)
+        } else {
+            lent_at(&self.list, self.marks.as_slice(), place - before)
         }
-        let (name, value) = self.list.get(place)?;
-        Some(LentField {
-            name,
-            value,
-            mark: self.marks[place],
-        })
     }
 
     /// The last field with its mark, if there is one.
@@ -134,7 +146,7 @@ impl<A: Allocator> Collected<A> {
         ensures field { (fields : List Field) (f : Field) → self.now.fields ≡ fields ++ f ∷ [] → option_map field_lent result ≡ Some f }
         ensures marked { IfSome result IsMarked }
     {
-        let count = self.list.len();
+        let count = self.len();
         if count > 0 {
             self.lent(count - 1)
         } else {
@@ -169,7 +181,7 @@ impl<A: Allocator> Collected<A> {
         ensures { result ≡ record { count = length self.now.fields; size = list_size self.now.fields; due = self.now.due } }
     {
         Mark {
-            count: self.list.len(),
+            count: self.len(),
             size: self.size,
             due: self.due,
         }
@@ -180,8 +192,10 @@ impl<A: Allocator> Collected<A> {
         requires size { mark.size ≡ list_size (take mark.count self.old.fields) }
         ensures { self.new ≡ record { fields = take mark.count self.old.fields; due = mark.due } }
     {
-        self.list.truncate(mark.count);
-        self.marks.truncate(mark.count);
+        let behind = mark.count.saturating_sub(self.shared.len());
+        self.shared.truncate(mark.count);
+        self.list.truncate(behind);
+        self.marks.truncate(behind);
         self.size = mark.size;
         self.due = mark.due;
     }
@@ -314,7 +328,27 @@ impl<A: Allocator + Copy> Collected<A> {
         self.list.allocator()
     }
 
-    /// The same fields in memory of their own.
+    /// Puts the fields into a batch, which copies made from now on share; where they are few, or memory is refused,
+    /// they stay where they are.
+    pub fn share(&mut self)
+        ensures { self.new ≡ self.old }
+    {
+        if self.list.len() < MIN_SHARED {
+            return;
+        }
+        let alloc = self.list.allocator();
+        let batch = Batch {
+            list: replace(&mut self.list, FieldList::new(alloc)),
+            marks: replace(&mut self.marks, Vec::new(alloc)),
+        };
+        if let Err(batch) = self.shared.push(batch) {
+            let Batch { list, marks } = batch;
+            self.list = list;
+            self.marks = marks;
+        }
+    }
+
+    /// The same fields once more: batches are shared, the others copied.
     ///
     /// # Errors
     ///
@@ -323,6 +357,7 @@ impl<A: Allocator + Copy> Collected<A> {
         ensures same { IfOk result (λ copy. copy ≡ self.now) }
     {
         Ok(Collected {
+            shared: self.shared.try_clone()?,
             list: self.list.try_clone()?,
             marks: self.marks.clone()?,
             hints: Hints::new(self.list.allocator()),

@@ -3,6 +3,7 @@
 //! Instruction and Block.
 #![tactic(auto)]
 
+mod batches;
 pub mod block;
 pub mod collected;
 mod effect;

@@ -138,3 +138,55 @@ fn the_fields_of_a_block_have_marks(rt: HostRuntime) -> Result<(), Fail> {
     }
     Ok(())
 }
+
+/// The field at this place in the test below: two literals in turn.
+fn wanted_at(place: usize) -> Option<Lent<'static>> {
+    if place >= 610 {
+        None
+    } else if place % 2 == 0 {
+        Some((b"a", b" ", false, false, true))
+    } else {
+        Some((b"upgrade", b"x", false, true, false))
+    }
+}
+
+/// Adds fields from one number of them up to another, and shares them with the copies to come.
+fn fill(
+    collected: &mut Collected<Global>,
+    table: &mut DynTable<Global>,
+    alloc: Global,
+    from: usize,
+    to: usize,
+) -> Result<(), BlockFault> {
+    let mut block = Vec::new(alloc);
+    for place in from..to {
+        let index: &[u8] = if place % 2 == 0 { &[0xbf] } else { &[0xbe] };
+        block.extend_from_slice(index)?;
+    }
+    decoded(collected, table, alloc, block.as_slice())?;
+    collected.share();
+    Ok(())
+}
+
+/// Places within a batch, at its ends, and behind the batches.
+static PLACES: [usize; 10] = [0, 1, 255, 299, 300, 301, 599, 600, 609, 610];
+
+/// Two entries of the table are referred to 610 times. The first 300 fields are a batch, and so are the next 300.
+#[test]
+fn long_blocks_share_their_fields(rt: HostRuntime) -> Result<(), Fail> {
+    let alloc = rt.alloc();
+    let mut table = empty_table(alloc, 4096)?;
+    let mut collected = Collected::new(alloc);
+    let entries = octets_of(alloc, "40016101204007757067726164650178")?;
+    decoded(&mut collected, &mut table, alloc, entries.as_slice())?;
+    collected.clear(false);
+    for (from, to) in &[(0, 300), (300, 600), (600, 610)] {
+        fill(&mut collected, &mut table, alloc, *from, *to)?;
+    }
+    let copy = collected.try_clone()?;
+    for place in &PLACES {
+        same(&rt, &lent_at(&collected, *place), &wanted_at(*place), place);
+        same(&rt, &lent_at(&copy, *place), &wanted_at(*place), place);
+    }
+    Ok(())
+}

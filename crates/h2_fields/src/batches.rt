@@ -1,0 +1,253 @@
+//! Fields of a field block in batches, which do not change any more and are shared by the copies of the block.
+//! It uses `FieldList` of h2_list and the marks of h2_mark; contracts see the fields alone, one batch behind another.
+//! Definitions: `specs/Batches.antt`.
+
+ghost use Rattle.std.specs.Prelude.{◌≡◌, ◌-◌, ◌≤◌, [], ◌++◌, length, map, take, slice_get, option_map, IfErr, IfOk, IfSome, OnErr, OnOk};
+ghost use Rattle.h2_mark.specs.Mark.{mark_of};
+ghost use Rattle.h2_table.specs.Lent.{field_lent, IsMarked};
+ghost use Rattle.h2_fields.specs.Batches.{AreBatches, before};
+
+use h2_list::FieldList;
+use h2_mark::FieldMark;
+use h2_table::LentField;
+use std::alloc::{AllocError, Allocator};
+use std::marker::Model;
+use std::rc::Rc;
+
+/// The most fields that are in batches: their number stays far below the greatest `usize`.
+const MAX_FIELDS: usize = 4_294_967_295;
+
+/// Fields, and what each can be malformed for by itself.
+#[derive(Drop, Debug)]
+pub(crate) struct Batch<A: Allocator> {
+    pub(crate) list: FieldList<A>,
+    pub(crate) marks: Vec<FieldMark, A>,
+}
+
+impl<A: Allocator> Model for Batch<A> {
+    ghost use Rattle.std.specs.Prelude.{◌≡◌, List, map};
+    ghost use Rattle.h2_mark.specs.Mark.{mark_of};
+    ghost use Rattle.h2_spec.specs.Field.{Field};
+
+    ghost Value = { List Field };
+
+    ghost view = { λ b. b.list.fields };
+
+    ghost invariant = { λ b. b.marks.items ≡ map mark_of b.list.fields };
+}
+
+impl<A: Allocator> Batch<A> {
+    /// The field at a place with its mark; none at the number of fields and above.
+    fn lent(&self, place: usize) -> Option<LentField<'_>>
+        ensures field { option_map field_lent result ≡ slice_get self.now place }
+        ensures marked { IfSome result IsMarked }
+    {
+        lent_at(&self.list, self.marks.as_slice(), place)
+    }
+}
+
+/// The field of a list at a place with its mark, where these are the marks of all of them; none at the length of the
+/// list and above.
+pub(crate) fn lent_at<'a, A: Allocator>(
+    list: &'a FieldList<A>,
+    marks: &[FieldMark],
+    place: usize,
+) -> Option<LentField<'a>>
+    requires marked { marks.now ≡ map mark_of list.now.fields }
+    ensures field { option_map field_lent result ≡ slice_get list.now.fields place }
+    ensures marked { IfSome result IsMarked }
+{
+    if place >= marks.len() {
+        return None;
+    }
+    let (name, value) = list.get(place)?;
+    Some(LentField {
+        name,
+        value,
+        mark: marks[place],
+    })
+}
+
+/// The first fields of a batch, and how many there are before them.
+#[derive(Drop, Debug)]
+struct Shared<A: Allocator> {
+    batch: Rc<Batch<A>, A>,
+    start: usize,
+    count: usize,
+}
+
+impl<A: Allocator> Model for Shared<A> {
+    ghost use Rattle.std.specs.Prelude.{take};
+    ghost use Rattle.h2_fields.specs.Batches.{FieldsFrom};
+
+    ghost Value = { FieldsFrom };
+
+    ghost view = { λ s. record { start = s.start; fields = take s.count s.batch.value } };
+}
+
+impl<A: Allocator> Clone for Shared<A> {
+    ghost use Rattle.std.specs.Prelude.{◌≡◌};
+
+    ghost is_clone = { λ s copy. copy ≡ s };
+
+    fn clone(&self) -> Result<Shared<A>, AllocError> {
+        Ok(Shared {
+            batch: self.batch.clone()?,
+            start: self.start,
+            count: self.count,
+        })
+    }
+}
+
+impl<A: Allocator> Shared<A> {
+    /// The field at a place with its mark; none at the number of fields and above.
+    fn lent(&self, place: usize) -> Option<LentField<'_>>
+        ensures field { option_map field_lent result ≡ slice_get self.now.fields place }
+        ensures marked { IfSome result IsMarked }
+    {
+        if place < self.count {
+            self.batch.as_ref().lent(place)
+        } else {
+            None
+        }
+    }
+
+    /// Drops the fields from this number on, those before the batch counted.
+    fn cut(&mut self, bound: usize)
+        ensures { self.new ≡ record self.old { fields = take (bound - self.old.start) self.old.fields } }
+    {
+        self.count = self.count.min(bound.saturating_sub(self.start));
+    }
+}
+
+/// Batches of fields, one behind another.
+#[derive(Drop, Debug)]
+pub(crate) struct Batches<A: Allocator> {
+    batches: Vec<Shared<A>, A>,
+    count: usize,
+}
+
+impl<A: Allocator> Model for Batches<A> {
+    ghost use Rattle.std.specs.Prelude.{◌≡◌, ◌≤◌, List, length};
+    ghost use Rattle.h2_spec.specs.Field.{Field};
+    ghost use Rattle.h2_fields.specs.Batches.{AreBatches, fields_in};
+
+    ghost Value = { List Field };
+
+    ghost view = { λ b. fields_in b.batches.items };
+
+    ghost invariant = { λ b. AreBatches 0 b.batches.items × (b.count ≡ length (fields_in b.batches.items)) × (b.count ≤ 4294967295) };
+}
+
+impl<A: Allocator> Batches<A> {
+    /// No fields. Takes no memory.
+    pub(crate) fn new(alloc: A) -> Self
+        ensures { result ≡ [] }
+    {
+        Batches {
+            batches: Vec::new(alloc),
+            count: 0,
+        }
+    }
+
+    /// Drops all fields.
+    pub(crate) fn clear(&mut self)
+        ensures { self.new ≡ [] }
+    {
+        self.batches.clear();
+        self.count = 0;
+    }
+
+    /// How many fields there are.
+    pub(crate) fn len(&self) -> usize
+        ensures count { result ≡ length self.now }
+        ensures few { result ≤ 4294967295 }
+    {
+        self.count
+    }
+
+    /// The field at a place with its mark; none at `len()` and above.
+    pub(crate) fn lent(&self, place: usize) -> Option<LentField<'_>>
+        ensures field { option_map field_lent result ≡ slice_get self.now place }
+        ensures marked { IfSome result IsMarked }
+    {
+        if place >= self.count {
+            return None;
+        }
+        let before = batches_before(self.batches.as_slice(), place + 1);
+        let shared = &self.batches[before - 1];
+        shared.lent(place - shared.start)
+    }
+
+    /// Drops all fields but the first `count`. Takes no memory.
+    pub(crate) fn truncate(&mut self, count: usize)
+        ensures { self.new ≡ take count self.old }
+    {
+        if count >= self.count {
+            return;
+        }
+        let before = batches_before(self.batches.as_slice(), count);
+        self.batches.truncate(before);
+        self.count = count;
+        if before > 0 {
+            self.batches[before - 1].cut(count);
+        }
+    }
+}
+
+/// How many batches begin before this number of fields.
+fn batches_before<A: Allocator>(batches: &[Shared<A>], bound: usize) -> usize
+    requires { AreBatches 0 batches.now }
+    ensures value { result ≡ before bound batches.now }
+    ensures within { result ≤ length batches.now }
+{
+    batches.partition_point(|shared| shared.start < bound)
+}
+
+impl<A: Allocator + Copy> Batches<A> {
+    /// Puts a batch behind the others.
+    ///
+    /// # Errors
+    ///
+    /// The batch, where memory was refused, or there would be more than 4,294,967,295 fields; nothing has changed.
+    pub(crate) fn push(&mut self, batch: Batch<A>) -> Result<(), Batch<A>>
+        ensures ok { OnOk result (self.new ≡ self.old ++ batch) }
+        ensures err { IfErr result (λ refused. refused ≡ batch) }
+        ensures unchanged { OnErr result (self.new ≡ self.old) }
+    {
+        let count = batch.list.len();
+        if count > MAX_FIELDS - self.count {
+            return Err(batch);
+        }
+        if self.batches.reserve(1).is_err() {
+            return Err(batch);
+        }
+        match Rc::new(*self.batches.allocator(), batch) {
+            Ok(batch) => {
+                self.batches.push_reserved(Shared {
+                    batch,
+                    start: self.count,
+                    count,
+                });
+                self.count += count;
+                Ok(())
+            }
+            Err(failed) => Err(failed.value),
+        }
+    }
+
+    /// The same batches once more; their fields are not copied.
+    ///
+    /// # Errors
+    ///
+    /// `AllocError` where memory was refused; `self` is as it was.
+    pub(crate) fn try_clone(&self) -> Result<Self, AllocError>
+        ensures { IfOk result (λ copy. copy ≡ self.now) }
+    {
+        let batches = self.batches.clone()?;
+        Ok(Batches {
+            batches,
+            count: self.count,
+        })
+    }
+}
