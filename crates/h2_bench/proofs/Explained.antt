@@ -1,5 +1,5 @@
 -- What an explanation reports: where its text is, and the status of its run.
-use Rattle.std.proofs.Common.{◌≡◌, ◌∙◌, ◌⊎◌, ◌<◌, ◌≤◌, ◌++◌, ℕ, Bool, true, false, List, [], ◌∷◌, Option, Some, None, Result, Ok, Err, refl, sym, ap, subst, inl, inr, is_some, option_map, length, le-ltb, lt-ltb, append_assoc}
+use Rattle.std.proofs.Common.{◌≡◌, ◌⊎◌, ◌<◌, ◌≤◌, ℕ, Bool, true, false, List, Option, Some, None, Ok, Err, refl, sym, subst, inl, inr, is_some, option_map, length, le-ltb, lt-ltb}
 use Rattle.std.specs.Option.{IsSomeAnd}
 use Rattle.h2_spec.specs.Answer.{Entry}
 use Rattle.h2_spec.specs.declared.connection.Config.{Config}
@@ -13,7 +13,7 @@ use Rattle.h2_explain.specs.declared.run.Form.{Form}
 use Rattle.h2_explain.specs.declared.run.Summary.{Summary}
 use Rattle.h2_explain.specs.declared.run.ExplainFault.{ExplainFault}
 use Rattle.h2_explain.specs.declared.run.ExplainFault.TheVariants as explained
-use Rattle.h2_bench.specs.ExplainProgram.{ReportsFile, ReportsFrom, ReportsIfShort, ReportsInput, ReportsRead, ReportsRun, ReportsSpelled, ReportsText, ReportsWith, IsExplained, cut_off, end_of, explained_after, run_status}
+use Rattle.h2_bench.specs.ExplainProgram.{ReportsFile, ReportsIfShort, ReportsInput, ReportsRead, ReportsRun, ReportsSpelled, ReportsText, end_of, explained_after, run_status}
 use Rattle.h2_bench.specs.Input.{IsUnread, most}
 use Rattle.h2_bench.specs.Limits.{limits_fault}
 use Rattle.h2_bench.specs.Printing.{Printed, failed}

@@ -1,5 +1,5 @@
 -- The body of an answer: what its keys say, and its octets.
-use Rattle.std.specs.Prelude.{◌≡◌, ℕ, zero, suc, ◌+◌, ◌%◌, ◌&&◌, ◌||◌, ◌==◌, ℤ, pos, negsuc, Bool, true, List, [], ◌∷◌, ◌++◌, length, nat_lt, slice_index, codes, if◌then◌else◌, Option, Some, None, Result, Ok, Err, is_some, unwrap_or}
+use Rattle.std.specs.Prelude.{ℕ, zero, suc, ◌+◌, ◌%◌, ◌==◌, ℤ, pos, negsuc, List, [], ◌∷◌, ◌++◌, length, nat_lt, slice_index, codes, if◌then◌else◌, Option, Some, None, Result, Ok, Err, unwrap_or}
 use Rattle.std.specs.Option.{option_map, option_and_then}
 use Rattle.std.specs.Path.{path_join, path_parent}
 use Rattle.toml.specs.Data.{Data, Items, no_items, item, Members, as_str, as_integer, as_array, get_member}

@@ -1,5 +1,5 @@
 -- The book that a file says: its entries in their order, or the number of the first fault.
-use Rattle.std.specs.Prelude.{◌≡◌, ℕ, ◌<◌, zero, Bool, List, [], ◌∷◌, ◌++◌, length, codes, bytes_eq, nat_lt, if◌then◌else◌, Option, Some, None, Result, Ok, Err}
+use Rattle.std.specs.Prelude.{◌≡◌, ℕ, ◌<◌, Bool, List, [], ◌∷◌, ◌++◌, length, codes, bytes_eq, nat_lt, if◌then◌else◌, Option, Some, None, Result, Ok, Err}
 use Rattle.std.specs.Option.{option_and_then}
 use Rattle.std.specs.Str.{is_utf8}
 use Rattle.toml.specs.Parse.{parse_document}

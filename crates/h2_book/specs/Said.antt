@@ -1,7 +1,7 @@
 -- One answer of a book's file: its keys and what they say.
-use Rattle.std.specs.Prelude.{ℕ, ℤ, pos, negsuc, Bool, false, ◌||◌, not, nat_lt, List, [], ◌∷◌, codes, bytes_eq, if◌then◌else◌, Option, Some, None}
+use Rattle.std.specs.Prelude.{ℕ, ℤ, pos, negsuc, Bool, false, ◌||◌, not, nat_lt, List, [], codes, bytes_eq, if◌then◌else◌, Option, Some, None}
 use Rattle.std.specs.Option.{option_map, option_and_then}
-use Rattle.toml.specs.Data.{Data, Items, no_items, item, Members, no_members, member, as_str, as_integer, as_bool, as_array, as_table, get_member}
+use Rattle.toml.specs.Data.{Data, Items, no_items, item, Members, no_members, member, as_str, as_integer, as_bool, as_array, get_member}
 use Rattle.toml.specs.View.{items_view}
 use Rattle.h2_spec.specs.Field.{Field, field}
 use Rattle.h2_spec.specs.AnswerWords.{with_field}

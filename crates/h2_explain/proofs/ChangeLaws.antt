@@ -1,5 +1,5 @@
 -- The rows of a table that are kept because their values differ.
-use Rattle.std.proofs.Common.{◌≡◌, ◌∙◌, ℕ, List, [], ◌∷◌, ◌++◌, Option, Some, None, Bool, true, false, not, ◌&&◌, ◌||◌, ◌<◌, nat_eq, ℤ, pos, negsuc, refl, sym, ap, ap₂, arith, append_assoc, cond, ◌==◌, rules}
+use Rattle.std.proofs.Common.{◌≡◌, ℕ, List, [], ◌∷◌, ◌++◌, Option, Some, None, Bool, true, false, ◌&&◌, ◌||◌, ◌<◌, nat_eq, ℤ, pos, refl, sym, ap, ap₂, arith, append_assoc, cond, ◌==◌, rules}
 use Rattle.std.specs.List.{filter, All}
 use Rattle.std.specs.Ordering.{int_eq}
 use Rattle.std.specs.Option.{option_eq, option_map}

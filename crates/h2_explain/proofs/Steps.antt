@@ -4,7 +4,7 @@ use Rattle.std.proofs.lemmas.List.{append-nil, drop-drop}
 use Rattle.h2_spec.specs.Parse.{Front, Stop, One, Parsed, parse_all, parse_first}
 use Rattle.h2_spec.specs.Errors.{code_number}
 use Rattle.h2_spec.specs.State.{State, ended_code}
-use Rattle.h2_spec.specs.Trace.{Event, Run, next_event, trace}
+use Rattle.h2_spec.specs.Trace.{Event, next_event, trace}
 use Rattle.h2_spec.proofs.ParseLaws.{Uses, parse_all-step}
 use Rattle.h2_spec.proofs.TraceLaws.{event-uses}
 use Rattle.h2_conn.specs.Connection.{Connection, going}
@@ -13,7 +13,7 @@ use Rattle.h2_explain.specs.declared.run.Summary.{Summary}
 use Rattle.h2_explain.specs.Explained.{ExplainsItem, ExplainsNone}
 use Rattle.h2_explain.specs.Explains.{AreExplained, Gains, IsExplanation, IsItemText, IsRestText, IsWritten, not_written, summary_over}
 use Rattle.std.specs.Io.KnownBytes.{Appends}
-use Rattle.h2_explain.specs.declared.run.ExplainFault.TheVariants.{NoMemory, NotWritten}
+use Rattle.h2_explain.specs.declared.run.ExplainFault.TheVariants.{NotWritten}
 use Rattle.h2_explain.specs.declared.run.ExplainFault.{ExplainFault}
 use Rattle.h2_explain.specs.declared.run.Form.{Form}
 

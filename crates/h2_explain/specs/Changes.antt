@@ -1,7 +1,7 @@
 -- What is other between two moments of a connection: tables of all counts with their values before and after, and the
 -- rows of them that differ.
 use Rattle.std.specs.Prelude.{◌≡◌, ℕ, min, Bool, true, false, not, ◌&&◌, ◌||◌, ◌==◌, nat_eq, if◌then◌else◌, List, [], ◌∷◌, ◌++◌, Option, Some, None, option_map, ℤ, pos, negsuc}
-use Rattle.std.specs.List.{filter, All}
+use Rattle.std.specs.List.{filter}
 use Rattle.std.specs.Option.{option_eq}
 use Rattle.std.specs.Ordering.{int_eq}
 use Rattle.h2_spec.specs.declared.connection.ConnectionState.{ConnectionState}
@@ -15,7 +15,6 @@ use Rattle.h2_spec.specs.declared.streams.Stream.{Stream}
 use Rattle.h2_spec.specs.Stream.{is_live}
 use Rattle.h2_explain.specs.declared.changes.Change.{Change}
 use Rattle.h2_explain.specs.declared.changes.Change.TheVariants.{Number, State, Acknowledged, Stops}
-use Rattle.h2_explain.specs.declared.count.Count.{Count}
 use Rattle.h2_explain.specs.declared.count.Count.TheVariants.{ReceiveWindow, UnreturnedOctets, SendWindow, LastStream, GoawayLastStream, GoawayCode, ClientHeaderTableSize, ClientEnablePush, ClientMaxConcurrentStreams, ClientInitialWindowSize, ClientMaxFrameSize, ClientMaxHeaderListSize, SizeUpdatePending, OwnHeaderTableSize, OwnInitialWindowSize, OwnMaxFrameSize, TableEntries, TableOctets, TableMaximum, ContentReceived}
 use Rattle.h2_explain.specs.declared.item.Moment.{Moment}
 

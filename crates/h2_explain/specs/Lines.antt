@@ -1,6 +1,6 @@
 -- The lines of the text of an item, as far as they are fixed: its number and its offset, the cause of an error, and why
 -- an item is ignored. The other words of an item are given to these definitions.
-use Rattle.std.specs.Prelude.{ℕ, Bool, true, false, List, [], ◌∷◌, ◌++◌, codes, decimal, nat_lt, ◌&&◌, if◌then◌else◌, Option, Some, None}
+use Rattle.std.specs.Prelude.{ℕ, Bool, true, false, List, [], ◌∷◌, codes, decimal, nat_lt, ◌&&◌, if◌then◌else◌, Option, Some, None}
 use Rattle.h2_spec.specs.declared.causes.Cause.{Cause}
 use Rattle.h2_spec.specs.declared.connection.Phase.{Phase}
 use Rattle.h2_spec.specs.declared.connection.Phase.TheVariants.{Preface, Settings, Running, Ended}

@@ -1,12 +1,11 @@
 -- What the octets after the last item lack to be an item.
-use Rattle.std.specs.Prelude.{ℕ, ◌+◌, ◌-◌, Bool, true, false, List, length, Option, Some, None, option_map}
+use Rattle.std.specs.Prelude.{ℕ, ◌+◌, ◌-◌, true, false, List, length, Option, Some, None, option_map}
 use Rattle.h2_spec.specs.declared.connection.Phase.{Phase}
 use Rattle.h2_spec.specs.declared.connection.Phase.TheVariants.{Preface, Settings, Running, Ended}
 use Rattle.h2_spec.specs.declared.frames.Head.{Head}
 use Rattle.h2_spec.specs.Errors.{code_number}
 use Rattle.h2_spec.specs.Frame.{head_at}
 use Rattle.h2_spec.specs.State.{State, ended_code}
-use Rattle.h2_explain.specs.declared.rest.Awaited.{Awaited}
 use Rattle.h2_explain.specs.declared.rest.Awaited.TheVariants as awaited
 use Rattle.h2_explain.specs.declared.rest.Missing.{Missing}
 use Rattle.h2_explain.specs.declared.rest.Rest.{Rest}

@@ -1,8 +1,8 @@
 -- How far the loop over the instructions has come.
-use Rattle.std.proofs.Common.{◌≡◌, ◌≢◌, ℕ, List, [], ◌++◌, length, take, drop, Some, refl, ap, ◌∙◌, sym}
+use Rattle.std.proofs.Common.{◌≡◌, ◌≢◌, ℕ, List, [], ◌++◌, length, take, drop, Some, ap, ◌∙◌, sym}
 use Rattle.std.proofs.lemmas.List.{append-nil, append_assoc}
 use Rattle.std.proofs.Math.Seq.{take-append_seam}
-use Rattle.h2_spec.specs.Block.{FieldsSoFar, Progress, applied, decoded}
+use Rattle.h2_spec.specs.Block.{FieldsSoFar, Progress, applied}
 use Rattle.h2_spec.specs.Instruction.{Shape, instr_at}
 use Rattle.h2_spec.specs.Read.{Whole, TooLong}
 use Rattle.h2_spec.proofs.BlockLaws.{LeadsTo, leads-refused, leads-too_long}

@@ -3,7 +3,7 @@ use Rattle.std.proofs.Common.{◌≡◌, ℕ, ◌+◌, ◌≤◌, List, [], ◌+
 use Rattle.std.proofs.lemmas.List.{drop-append-le, take-append-le}
 use Rattle.h2_spec.specs.Instruction as spec
 use Rattle.h2_spec.specs.Instruction.{instr_at}
-use Rattle.h2_fields.specs.Resume.{Nothing, NameLength, NameOctets, ValueLength, ValueOctets, resumed, name_at, begun_of, IsNameBefore, IsKnownBefore, IsPoint, IsRest, IsReadOn, IsTaken, IfMore, SameOn}
+use Rattle.h2_fields.specs.Resume.{Nothing, NameLength, NameOctets, ValueLength, ValueOctets, name_at, begun_of, IsNameBefore, IsKnownBefore, IsPoint, IsRest, IsReadOn, IfMore, SameOn}
 use Rattle.h2_fields.specs.Shapes.{mode_of, shape_of, read_of}
 use Rattle.h2_fields.specs.declared.shape.Known.{Known}
 use Rattle.h2_fields.specs.declared.shape.Known.TheVariants as known

@@ -1,5 +1,5 @@
 -- Reading an instruction on from what is known of it: one integer or one string further, whatever comes behind.
-use Rattle.std.proofs.Common.{◌≡◌, ℕ, zero, suc, ◌+◌, ◌<◌, ◌≤◌, Bool, true, false, cond, List, [], ◌∷◌, ◌++◌, length, take, drop, Result, Ok, Err, refl, ap, sym, ◌∙◌, subst, arith, append_assoc, leb, le-leb, length-append, length-drop}
+use Rattle.std.proofs.Common.{◌≡◌, ℕ, zero, suc, ◌+◌, ◌<◌, ◌≤◌, Bool, List, [], ◌∷◌, ◌++◌, length, take, drop, Result, Ok, Err, refl, ap, sym, ◌∙◌, subst, arith, le-leb, length-append, length-drop}
 use Rattle.std.proofs.lemmas.List.{append-nil, drop-append-le, drop-drop, take-append-le}
 use Rattle.h2_spec.specs.Integer.{int_at, IsReadOf, IsUnfinished}
 use Rattle.h2_spec.specs.Read.{Read, Whole, More, TooLong, read_map}
@@ -10,9 +10,7 @@ use Rattle.h2_spec.proofs.IntegerLaws as integers
 use Rattle.h2_prim.specs.Readings.{int_read}
 use Rattle.h2_prim.specs.declared.integer.IntRead.{IntRead}
 use Rattle.h2_prim.specs.declared.integer.IntRead.TheVariants as int
-use Rattle.h2_fields.specs.Resume.{Begun, Nothing, NameLength, NameOctets, ValueLength, ValueOctets, read_on, resumed, SameOn, BeginsLiteral, huffman_flag, name_at, begun_of, IsNameBefore, IsKnownBefore, IsPoint, IsRest, IsIntegerAt, IsStopped, IsReadOn}
-use Rattle.h2_fields.specs.Shapes.{mode_of, shape_of, read_of}
-use Rattle.h2_fields.specs.declared.shape.Known.{Known}
+use Rattle.h2_fields.specs.Resume.{Begun, Nothing, NameLength, NameOctets, ValueLength, ValueOctets, read_on, resumed, SameOn, BeginsLiteral, huffman_flag, name_at, begun_of, IsNameBefore, IsKnownBefore, IsPoint, IsIntegerAt, IsStopped, IsReadOn}
 use Rattle.h2_fields.specs.declared.shape.Known.TheVariants as known
 use Rattle.h2_fields.specs.declared.shape.KnownName.{KnownName}
 use Rattle.h2_fields.specs.declared.shape.KnownName.TheVariants as name

@@ -1,5 +1,5 @@
 -- Why the item at a position was an error, or was ignored, as `why` prints it.
-use Rattle.std.specs.Prelude.{ℕ, Bool, true, false, List, [], ◌∷◌, codes, Option, Some, None}
+use Rattle.std.specs.Prelude.{ℕ, Bool, List, [], ◌∷◌, codes, Option, Some, None}
 use Rattle.h2_describe.specs.Names.{error_name, force_word, scope_word}
 use Rattle.h2_spec.specs.declared.causes.Cause.{Cause}
 use Rattle.h2_spec.specs.declared.ignored.Ignored.{Ignored}

@@ -1,4 +1,4 @@
-use Rattle.std.proofs.Common.{◌∙◌, ap, inr, refl, subst}
+use Rattle.std.proofs.Common.{inr, refl, subst}
 use Rattle.h2_script.specs.Readings.{Refuses}
 use Rattle.h2_script.specs.declared.fault.ScriptFault.{ScriptFault}
 use Rattle.h2_spec.specs.Assemble.{assembled}

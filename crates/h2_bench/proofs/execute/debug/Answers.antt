@@ -1,4 +1,4 @@
-use Rattle.std.proofs.Common.{◌≡◌, ℕ, List, Result, ap, inl, inr, refl, subst, sym}
+use Rattle.std.proofs.Common.{ℕ, List, Result, ap, inl, inr, refl, subst, sym}
 use Rattle.h2_spec.specs.Answer.{Entry}
 use Rattle.h2_bench.specs.ProgramEnd.{SessionAs}
 use Rattle.h2_bench.specs.Printed.{failed}

@@ -1,4 +1,4 @@
-use Rattle.std.proofs.Common.{◌≡◌, ◌==◌, ◌∙◌, ◌⊎◌, ◌++◌, ℕ, Bool, true, false, List, Option, Some, None, Result, Ok, Err, eqb-true, inl, inr, refl, rules, subst}
+use Rattle.std.proofs.Common.{◌≡◌, ◌==◌, ◌∙◌, ◌⊎◌, ℕ, Bool, true, false, List, Option, Some, Result, Ok, Err, eqb-true, inl, inr, refl, rules, subst}
 use Rattle.h2_spec.specs.Answer.{Entry}
 use Rattle.h2_spec.specs.declared.connection.Config.{Config}
 use Rattle.h2_words.specs.Grammar.{BatchAsked, BookAsked}
@@ -6,7 +6,7 @@ use Rattle.h2_bench.specs.Books.{book_in}
 use Rattle.h2_bench.specs.ExplainProgram.{EndsExplain, form_of}
 use Rattle.h2_explain.specs.declared.run.Form.{Form}
 use Rattle.h2_bench.specs.ProgramEnd.{AnswersAs, EndsBatch, EndsSession, EndsSomehow, Prints, no_files}
-use Rattle.h2_bench.specs.Printed.{Printed, cut_short, failed, places_with, places_within, printed_with, printed_within}
+use Rattle.h2_bench.specs.Printed.{Printed, cut_short, failed, places_with, printed_with}
 use Rattle.h2_bench.specs.declared.fault.BenchFault.TheVariants.{Read}
 use Rattle.h2_bench.proofs.execute.run.Goals as goal
 

@@ -1,4 +1,4 @@
-use Rattle.std.proofs.Common.{◌∙◌, ap, Err, Result, Bool, is_err, subst, sym}
+use Rattle.std.proofs.Common.{◌∙◌, ap, Err, Result, is_err, subst, sym}
 use Rattle.h2_explain.specs.declared.run.Summary.{Summary}
 use Rattle.h2_explain.specs.declared.run.ExplainFault.{ExplainFault}
 use Rattle.h2_explain.specs.Explains.{IsExplanation, not_written}

@@ -1,5 +1,4 @@
-use Rattle.std.proofs.Common.{◌∙◌, ◌≤◌, ◌<◌, List, ℕ, Result, length, arith, ap, refl, sym, inl}
-use Rattle.std.specs.List.{concat}
+use Rattle.std.proofs.Common.{◌∙◌, ◌≤◌, ◌<◌, Result, length, arith, ap, refl, sym}
 use Rattle.h2_bench.specs.Each.{not_written}
 use Rattle.h2_bench.specs.TableProgram.{lines_of, printed_parts}
 use Rattle.h2_bench.specs.declared.each.PlacesFault.{PlacesFault}

@@ -1,8 +1,4 @@
-use Rattle.std.proofs.Common.{List, [], ℕ, ap, inr, refl, subst}
-use Rattle.h2_spec.specs.DynamicTable.{LimitedTable}
-use Rattle.h2_bench.specs.Each.{WritesSome}
-use Rattle.h2_bench.specs.Printing.{OrCutShort, done}
-use Rattle.h2_bench.specs.TableProgram.{lines_of, printed_parts, table_parts}
+use Rattle.std.proofs.Common.{[], inr, refl}
 use Rattle.h2_bench.proofs.Tables.{table-whole}
 use Rattle.h2_bench.proofs.Written.{unchanged}
 use Rattle.h2_bench.proofs.table.write_table.Goals as goal

@@ -1,7 +1,7 @@
 use Rattle.std.proofs.Common.{◌≡◌, ◌∙◌, Option, Some, true, false, codes, sym, ap, refl, option_and_then}
 use Rattle.toml.specs.Data.{Data, as_str, get_member}
-use Rattle.toml.specs.View.{items_view, table_view}
-use Rattle.h2_book.specs.Said.{has_other_key, is_key_of_answer, text_at, status_at, status_said, headers_in, headers_said, early_said}
+use Rattle.toml.specs.View.{table_view}
+use Rattle.h2_book.specs.Said.{has_other_key, is_key_of_answer, text_at, status_at, status_said, headers_said, early_said}
 use Rattle.h2_book.proofs.Keys.{has_other_key-keys}
 use Rattle.h2_book.proofs.answer.said_in.Goals as goal
 

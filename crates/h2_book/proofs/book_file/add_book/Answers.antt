@@ -1,9 +1,8 @@
-use Rattle.std.proofs.Common.{◌≡◌, ◌∙◌, ◌<◌, ◌≤◌, ℕ, List, true, Ok, Err, Result, length, sym, ap, arith}
+use Rattle.std.proofs.Common.{◌≡◌, ◌∙◌, ◌≤◌, ℕ, List, Err, length, sym, ap, arith}
 use Rattle.std.proofs.lemmas.Result.{IfErr-weaker, IfOk-weaker}
 use Rattle.std.specs.Str.{IsUtf8}
 use Rattle.toml.specs.Parse.{parse_document}
-use Rattle.h2_spec.specs.Answer.{Entry}
-use Rattle.h2_book.specs.Entries.{Directory, book_of_file, book_of_document}
+use Rattle.h2_book.specs.Entries.{Directory, book_of_document}
 use Rattle.h2_book.proofs.Appends.{book_of_file-appends}
 use Rattle.h2_book.proofs.Texts.{octets-no_text, octets-text}
 use Rattle.h2_book.proofs.book_file.add_book.Goals as goal

@@ -1,7 +1,6 @@
-use Rattle.std.proofs.Common.{◌≡◌, ◌∙◌, Option, true, false, sym, ap, refl}
-use Rattle.toml.specs.Data.{Data}
+use Rattle.std.proofs.Common.{◌≡◌, ◌∙◌, true, false, sym, refl}
 use Rattle.toml.specs.View.{table_view}
-use Rattle.h2_book.specs.Entries.{is_key_of_document, array_said}
+use Rattle.h2_book.specs.Entries.{is_key_of_document}
 use Rattle.h2_book.specs.Said.{has_other_key}
 use Rattle.h2_book.proofs.Keys.{has_other_key-keys}
 use Rattle.h2_book.proofs.book_file.answers_in.Goals as goal

@@ -1,4 +1,4 @@
-use Rattle.std.proofs.Common.{◌≡◌, ◌∙◌, ◌+◌, ◌++◌, [], ℕ, List, Result, Some, ap, arith, drop, refl, subst}
+use Rattle.std.proofs.Common.{◌∙◌, ◌+◌, ℕ, List, Result, ap, arith, drop, subst}
 use Rattle.std.proofs.lemmas.Result.{IfOk-weaker}
 use Rattle.h2_explain.specs.Explains.{Gains, IsItemText, IsWritten, not_written}
 use Rattle.h2_explain.specs.declared.run.ExplainFault.{ExplainFault}

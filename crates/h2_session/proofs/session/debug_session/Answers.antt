@@ -1,4 +1,4 @@
-use Rattle.std.proofs.Common.{◌∙◌, List, inl, inr, ap}
+use Rattle.std.proofs.Common.{◌∙◌, inl, inr, ap}
 use Rattle.h2_session.specs.Faults.{fault_number}
 use Rattle.h2_session.specs.Reading.{ahead}
 use Rattle.h2_session.specs.Session.{failed}

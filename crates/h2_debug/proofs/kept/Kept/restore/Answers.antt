@@ -1,6 +1,6 @@
 use Rattle.std.proofs.Common.{◌≡◌, ◌∙◌, ap, sym}
 use Rattle.h2_conn.specs.Mark.{mark_of}
-use Rattle.h2_debug.specs.Places.{Kept, Placed}
+use Rattle.h2_debug.specs.Places.{Kept}
 use Rattle.h2_debug.proofs.KeptLaws.{place-restored}
 use Rattle.h2_debug.proofs.kept.Kept.restore.Goals as goal
 

@@ -1,4 +1,4 @@
-use Rattle.std.proofs.Common.{◌≡◌, ◌∙◌, ◌-◌, ◌+◌, ◌++◌, suc, length, ap, arith, refl, sym}
+use Rattle.std.proofs.Common.{◌≡◌, ◌-◌, ◌+◌, suc, length, ap, arith, refl, sym}
 use Rattle.h2_describe.specs.Sent.{first_seen}
 use Rattle.h2_spec.specs.Stream.{stream_at}
 use Rattle.h2_explain.specs.Notes.{note_of}

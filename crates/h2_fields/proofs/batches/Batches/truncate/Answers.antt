@@ -1,4 +1,4 @@
-use Rattle.std.proofs.Common.{◌≡◌, ◌+◌, ◌-◌, ◌≤◌, ◌<◌, suc, ℕ, List, [], take, length, get_or, refl, sym, subst, ap, ◌∙◌, arith, length-take-le}
+use Rattle.std.proofs.Common.{◌≡◌, ◌-◌, ◌<◌, suc, ℕ, List, [], take, length, get_or, sym, subst, ap, ◌∙◌, arith, length-take-le}
 use Rattle.std.specs.Prelude.{slice_set}
 use Rattle.h2_spec.specs.Field.{Field}
 use Rattle.h2_fields.specs.Batches.{AreBatches, FieldsFrom, before, fields_in}
