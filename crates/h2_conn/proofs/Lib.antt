@@ -14,6 +14,7 @@ mod ApplyChangeLaws
 mod PartLaws
 pub mod Phases
 mod PiecesLaws
+mod PreparedLaws
 mod Plays
 mod RestoreLaws
 pub mod Runs

@@ -10,6 +10,7 @@ pub mod Granted
 pub mod Mark
 pub mod Marks
 pub mod Parted
+pub mod Prepared
 pub mod Reports
 pub mod Runs
 pub mod Sending

@@ -3,17 +3,18 @@
 //! Rests on `write` and `send_update`; definitions: h2_spec's `specs/Change.antt`, `specs/SendPending.antt`, and
 //! `specs/Sending.antt` here.
 
-ghost use Rattle.std.specs.Prelude.{◌≡◌, ◌<◌, ◌≤◌, ◌^◌, ◌++◌, length, pos, ◌-ℤ◌, Some, IfOk, OnOk, OnErr, take, vec_len};
+ghost use Rattle.std.specs.Prelude.{◌≡◌, ◌<◌, ◌≤◌, ◌^◌, ◌++◌, length, slice_index, pos, ◌-ℤ◌, Some, IfOk, OnOk, OnErr, take, vec_len};
 ghost use Rattle.h2_spec.specs.Change as changes;
 ghost use Rattle.h2_spec.specs.Change.{updated_streams};
 ghost use Rattle.h2_spec.specs.Effect as effect;
-ghost use Rattle.h2_spec.specs.Frame.{frames_octets};
+ghost use Rattle.h2_spec.specs.Answer.{picked};
+ghost use Rattle.h2_spec.specs.Frame.{frame_octets, frames_octets};
 ghost use Rattle.h2_spec.specs.Trace.{then_sent};
 ghost use Rattle.h2_spec.specs.Window.{sendable};
 ghost use Rattle.h2_spec.specs.declared.connection.Phase.TheVariants as phase;
 ghost use Rattle.h2_conn.specs.Blocks.{IsOpenFor};
 ghost use Rattle.h2_conn.specs.Counts.{with_counts};
-ghost use Rattle.h2_conn.specs.Does.{AreShort, Does};
+ghost use Rattle.h2_conn.specs.Does.{AreShort, Does, IsShortFrame};
 ghost use Rattle.h2_conn.specs.Sending as sending;
 ghost use Rattle.h2_conn.specs.Sending.{all_frames, records, records_after, sent_count, CanSend};
 ghost use Rattle.h2_rules.specs.Sound.{IsSoundChange, in_force, updated_records};
@@ -21,12 +22,14 @@ ghost use Rattle.h2_rules.specs.Sound.{IsSoundChange, in_force, updated_records}
 use crate::send_pending::{sendable, without};
 use crate::send_update::update_and_send;
 use crate::state::{OpenBlock, State};
-use crate::write::{write_first, write_goaway, write_response, write_second};
+use crate::write::{write_first, write_goaway, write_prepared, write_second};
+use h2_frame::append_frame;
 use h2_request::book::Book;
 use h2_rules::change::stream_cause;
 use h2_spec::causes::Cause;
 use h2_spec::connection::{ConnectionState, Phase};
 use h2_spec::errors::ErrorCode;
+use h2_spec::frames::HEADERS;
 use h2_spec::reactions::{Answering, Change};
 use h2_streams::Streams;
 use std::alloc::{AllocError, Allocator};
@@ -45,17 +48,36 @@ fn write_answer<A: Allocator>(
 {
     match answer {
         None => Ok(()),
-        Some(answer) => {
-            let is_empty = book.answer(answer.pick).body.is_empty();
-            write_response(
-                answer.size_update_pending,
-                answer.id,
-                is_empty,
-                book.block(answer.pick),
-                out,
-            )
-        }
+        Some(answer) => write_headers(book, answer, out),
     }
+}
+
+/// Writes the HEADERS of an answer, or nothing: those that the book has ready, or their field block behind a table size
+/// update to 0 (RFC 7541, 4.2 and 6.3).
+fn write_headers<A: Allocator>(
+    book: &Book<A>,
+    answer: Answering,
+    out: &mut Vec<u8, A>,
+) -> Result<(), AllocError>
+    ensures ok { OnOk result (out.new.items ≡ out.old.items ++ frame_octets (changes.response answer.size_update_pending answer.id (picked book.now answer.pick))) }
+    ensures short { IsShortFrame (changes.response answer.size_update_pending answer.id (picked book.now answer.pick)) }
+    ensures err { OnErr result (out.new.items ≡ out.old.items) }
+{
+    let headers = book.headers(answer.pick);
+    if answer.size_update_pending {
+        let block = book.block(answer.pick);
+        append_frame(HEADERS, flags_of(headers), answer.id, &[32], block, out)
+    } else {
+        write_prepared(headers, answer.id, out)
+    }
+}
+
+/// The flags in the head of a frame (RFC 9113, 4.1).
+fn flags_of(frame: &[u8]) -> u8
+    requires { 9 ≤ length frame.now }
+    ensures { result ≡ slice_index frame.now 4 }
+{
+    frame[4]
 }
 
 /// Writes the frames of a change, whole or in part.

@@ -6,7 +6,9 @@ ghost use Rattle.h2_spec.specs.Change as changes;
 ghost use Rattle.h2_spec.specs.Frame.{frames_octets};
 ghost use Rattle.h2_spec.specs.SendPending as rule;
 ghost use Rattle.h2_spec.specs.Stream.{octets_waiting};
+ghost use Rattle.h2_conn.specs.Prepared.{content, IsData};
 
+use crate::write::write_prepared;
 use h2_frame::append_frame;
 use h2_spec::frames::{DATA, END_STREAM};
 use h2_spec::octets::octets_from;
@@ -14,21 +16,27 @@ use h2_spec::streams::Stream;
 use h2_streams::octets_waiting;
 use std::alloc::{AllocError, Allocator};
 
-/// Writes the frames of a stream's share of its answer's body, whole or in part.
+/// Writes the frames of a stream's share of its answer's body, whole or in part. The body is given as one DATA that was
+/// made for stream 0 and ends it; where the share is all of it, and a frame may be that long, that DATA is sent.
 pub fn write_allowance<A: Allocator>(
     size: usize,
     allowance: u64,
     stream: &Stream,
-    body: &[u8],
+    prepared: &[u8],
     out: &mut Vec<u8, A>,
 ) -> Result<(), AllocError>
     requires size { (0 < size) × (size < 2 ^ 24) }
     requires some { 0 < allowance }
     requires waits { allowance ≤ octets_waiting stream.now }
-    requires left { octets_waiting stream.now ≤ length body.now }
-    ensures ok { OnOk result (out.new.items ≡ out.old.items ++ frames_octets (rule.data_frames stream.now.id (octets_waiting stream.now == allowance) size (take allowance (drop (length body.now - octets_waiting stream.now) body.now)))) }
+    requires made { IsData prepared.now }
+    requires left { octets_waiting stream.now ≤ length (content prepared.now) }
+    ensures ok { OnOk result (out.new.items ≡ out.old.items ++ frames_octets (rule.data_frames stream.now.id (octets_waiting stream.now == allowance) size (take allowance (drop (length (content prepared.now) - octets_waiting stream.now) (content prepared.now))))) }
     ensures kept { take (vec_len out.old) out.new.items ≡ out.old.items }
 {
+    let body = octets_from(prepared, 9);
+    if allowance as usize == body.len() && body.len() <= size {
+        return write_prepared(prepared, stream.id, out);
+    }
     let left = octets_waiting(stream);
     let octets = allowance_octets(body, left, allowance);
     write_pieces(stream.id, left == allowance, size, octets, out)

@@ -5,8 +5,6 @@
 
 ghost use Rattle.std.specs.Prelude.{◌≡◌, ◌-◌, ◌<◌, ◌≤◌, ◌++◌, find, IfOk, IfSome, IsTrue, OnErr, OnOk, take, vec_len, ◌^◌, pos, ◌-ℤ◌, ◌≤ℤ◌};
 ghost use Rattle.std.specs.List.{AllByRecursion};
-ghost use Rattle.h2_request.specs.Lent.{IsPickOf};
-ghost use Rattle.h2_spec.specs.Answer.{picked};
 ghost use Rattle.h2_spec.specs.Frame.{frames_octets};
 ghost use Rattle.h2_spec.specs.SendPending as rule;
 ghost use Rattle.h2_spec.specs.Stream.{octets_waiting, put, AreRising};
@@ -20,7 +18,7 @@ use crate::pieces::write_allowance;
 use h2_request::book::Book;
 use h2_rules::ends::{server_ended, with_body_remaining};
 use h2_spec::flow::Window;
-use h2_spec::streams::{Numbers, Pick, Stream};
+use h2_spec::streams::{Numbers, Stream};
 use h2_streams::{Streams, octets_waiting};
 use std::alloc::{AllocError, Allocator};
 
@@ -114,17 +112,9 @@ pub fn write_next<A: Allocator>(
 {
     let allowance = allowance(window, stream);
     if allowance > 0 {
-        write_allowance(size, allowance, stream, body_of(book, stream.pick), out)?;
+        write_allowance(size, allowance, stream, book.body_frame(stream.pick), out)?;
     }
     Ok(allowance)
-}
-
-/// The body of the answer that is picked.
-fn body_of<A: Allocator>(book: &Book<A>, pick: Pick) -> &[u8]
-    requires { IsPickOf book.now pick }
-    ensures { result.now ≡ (picked book.now pick).body }
-{
-    book.answer(pick).body
 }
 
 /// A send window without octets that it let pass.

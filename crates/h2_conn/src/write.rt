@@ -1,16 +1,15 @@
 //! The frames that are sent, as octets behind `out` (RFC 9113, 4.1 and 6).
 //! Rests on h2_frame; definitions: h2_spec's `specs/Change.antt` for what is sent, `specs/Frame.antt` for its octets.
 
-ghost use Rattle.std.specs.Prelude.{◌≡◌, ◌+◌, ◌<◌, ◌≤◌, ◌^◌, ◌++◌, ◌∷◌, [], length, OnOk, OnErr, if◌then◌else◌};
+ghost use Rattle.std.specs.Prelude.{◌≡◌, ◌+◌, ◌<◌, ◌≤◌, ◌^◌, ◌++◌, ◌∷◌, [], length, take, drop, vec_len, OnOk, OnErr};
 ghost use Rattle.h2_spec.specs.Change as changes;
 ghost use Rattle.h2_spec.specs.Frame.{frame, frame_octets, frames_octets};
 ghost use Rattle.h2_spec.specs.Octets.{big_endian};
+ghost use Rattle.h2_conn.specs.Prepared.{on_stream};
 
 use h2_frame::append_frame;
 use h2_spec::errors::ErrorCode;
-use h2_spec::frames::{
-    ACK, END_HEADERS, END_STREAM, GOAWAY, HEADERS, PING, RST_STREAM, SETTINGS, WINDOW_UPDATE,
-};
+use h2_spec::frames::{ACK, GOAWAY, PING, RST_STREAM, SETTINGS, WINDOW_UPDATE};
 use h2_spec::reactions::{ConnectionFrame, StreamFrame};
 use std::alloc::{AllocError, Allocator};
 
@@ -84,42 +83,28 @@ pub fn write_goaway<A: Allocator>(
     )
 }
 
-/// The table size update to 0 before a response's block, where one is to be sent (RFC 7541, 4.2 and 6.3).
-fn signal_octets(size_update_pending: bool) -> &'static [u8]
-    ensures { result.now ≡ (if size_update_pending then 32 ∷ [] else []) }
-{
-    if size_update_pending { &[32] } else { &[] }
-}
-
-/// END_HEADERS, and END_STREAM where the response has no body.
-fn response_flags(is_empty: bool) -> u8
-    ensures { result ≡ 4 + changes.flag_if is_empty 1 }
-{
-    if is_empty {
-        END_HEADERS + END_STREAM
-    } else {
-        END_HEADERS
-    }
-}
-
-/// Writes the HEADERS of a response, from its block without a table size update, or nothing.
-pub fn write_response<A: Allocator>(
-    size_update_pending: bool,
+/// Writes a frame that was made for stream 0, on this stream, or nothing: its octets in one piece, and then the
+/// identifier over those of stream 0.
+pub fn write_prepared<A: Allocator>(
+    prepared: &[u8],
     id: u32,
-    is_empty: bool,
-    block: &[u8],
     out: &mut Vec<u8, A>,
 ) -> Result<(), AllocError>
-    requires fits { length block.now ≤ 16383 }
-    ensures ok { OnOk result (out.new.items ≡ out.old.items ++ frame_octets (frame 1 (4 + changes.flag_if is_empty 1) id ((if size_update_pending then 32 ∷ [] else []) ++ block.now))) }
+    requires { 9 ≤ length prepared.now }
+    ensures ok { OnOk result (out.new.items ≡ out.old.items ++ on_stream id prepared.now) }
     ensures err { OnErr result (out.new.items ≡ out.old.items) }
 {
-    append_frame(
-        HEADERS,
-        response_flags(is_empty),
-        id,
-        signal_octets(size_update_pending),
-        block,
-        out,
-    )
+    let start = out.len();
+    out.extend_from_slice(prepared)?;
+    set_stream(out, start, id);
+    Ok(())
+}
+
+/// Writes the identifier into the head of the frame that begins at this place (RFC 9113, 4.1).
+#[inline(always)]
+fn set_stream<A: Allocator>(out: &mut Vec<u8, A>, start: usize, id: u32)
+    requires { start + 9 ≤ vec_len out.old }
+    ensures { out.new.items ≡ take (start + 5) out.old.items ++ big_endian 4 id ++ drop (start + 9) out.old.items }
+{
+    out[start + 5..start + 9].copy_from_slice(&id.to_be_bytes());
 }

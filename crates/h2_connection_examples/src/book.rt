@@ -174,3 +174,41 @@ fn picks_are_answered(rt: HostRuntime) -> Result<(), Fail> {
     compare_answers(&rt, &book);
     Ok(())
 }
+
+/// What is picked, the HEADERS of its answer, and its body as one DATA, both on stream 0 (RFC 9113, 4.1, 6.1 and 6.2).
+static FRAMES: [(Pick, &[u8], &[u8]); 3] = [
+    (
+        Pick::Listed(0),
+        b"\x00\x00\x06\x01\x04\x00\x00\x00\x00\x88\x00\x01a\x01b",
+        b"\x00\x00\x02\x00\x01\x00\x00\x00\x00hi",
+    ),
+    (
+        Pick::NotFound,
+        b"\x00\x00\x01\x01\x05\x00\x00\x00\x00\x8d",
+        b"\x00\x00\x00\x00\x01\x00\x00\x00\x00",
+    ),
+    (
+        Pick::Connect,
+        b"\x00\x00\x05\x01\x05\x00\x00\x00\x00\x08\x03501",
+        b"\x00\x00\x00\x00\x01\x00\x00\x00\x00",
+    ),
+];
+
+/// The frames of an answer that a book has ready.
+fn frames_of(book: &Book<Global>, pick: Pick) -> (&[u8], &[u8]) {
+    (book.headers(pick), book.body_frame(pick))
+}
+
+fn compare_frames(rt: &impl Abort, book: &Book<Global>) {
+    for (pick, headers, body) in &FRAMES {
+        let wanted = (*headers, *body);
+        same(rt, &frames_of(book, *pick), &wanted, pick);
+    }
+}
+
+#[test]
+fn answers_have_their_frames_ready(rt: HostRuntime) -> Result<(), Fail> {
+    let book = book_of_one(rt.alloc())?;
+    compare_frames(&rt, &book);
+    Ok(())
+}

@@ -32,6 +32,11 @@ allowed-block book e none =
     let within = neither (nat_le max_entries (length book) || nat_lt max_body (length e.answer.body)) (nat_lt max_response_block (length (response_block false e.answer.status e.answer.fields))) (allowed-length book e none) in
     ltb-false max_response_block (length (response_block false e.answer.status e.answer.fields)) within.1
 
+pub allowed-body : (book : List Entry) (e : Entry) → entry_fault book e ≡ None → length e.answer.body ≤ 1048576
+allowed-body book e none =
+    let within = neither (nat_le max_entries (length book) || nat_lt max_body (length e.answer.body)) (nat_lt max_response_block (length (response_block false e.answer.status e.answer.fields))) (allowed-length book e none) in
+    ltb-false max_body (length e.answer.body) (neither (nat_le max_entries (length book)) (nat_lt max_body (length e.answer.body)) within.0).1
+
 -- ---- what a pick answers, of a list that is the book
 
 pub picked-there : (items book : List Entry) (i : ℕ) (e : Entry) → items ≡ book → true ≡ nat_lt i (length items) → e ≡ get_or items i e → e.answer ≡ picked book (Listed i)

@@ -1,4 +1,5 @@
 pub mod BlockLaws
 pub mod BookLaws
+mod LentLaws
 pub mod MarkedFields
 pub mod Seen

@@ -2,14 +2,16 @@
 //! `h2_fields` and the tests of `h2_mark`; the definitions are `entry_fault` of `h2_spec`, specs/Book.antt, and `pick_of` and
 //! `picked` of specs/Answer.antt.
 
-ghost use Rattle.std.specs.Prelude.{None, ◌≡◌, ◌≤◌, ◌==◌, ◌&&◌, ◌||◌, [], ◌∷◌, ◌++◌, OnOk, OnErr, IfOk, IfErr, option_map, codes, length, nat_lt, position, bytes_eq, take};
+ghost use Rattle.std.specs.Prelude.{None, ◌≡◌, ◌+◌, ◌≤◌, ◌==◌, ◌&&◌, ◌||◌, [], ◌∷◌, ◌++◌, OnOk, OnErr, IfOk, IfErr, option_map, codes, length, nat_lt, position, bytes_eq, take};
 ghost use Rattle.std.specs.List.{list_any};
 ghost use Rattle.h2_spec.specs.Answer.{bare as bare_answer, pick_of, picked};
 ghost use Rattle.h2_spec.specs.Book.{entry_fault};
 ghost use Rattle.h2_spec.specs.Book as spec;
 ghost use Rattle.h2_request.specs.Asked.{asked};
 ghost use Rattle.h2_request.specs.Fault.{IsRefusal, entry_number};
-ghost use Rattle.h2_request.specs.Lent.{answered, block_of_answer, IsPickOf};
+ghost use Rattle.h2_spec.specs.Change.{flag_if};
+ghost use Rattle.h2_spec.specs.Frame.{frame, frame_octets};
+ghost use Rattle.h2_request.specs.Lent.{answered, AreFramesOf, block_of_answer, body_frame_of_answer, headers_of_answer, IsPickOf};
 ghost use Rattle.h2_spec.specs.declared.streams.Pick.TheVariants.{Listed};
 
 use crate::block_length::is_block_too_long;
@@ -18,9 +20,12 @@ use crate::well_formed::Request;
 use h2_fields::field::Field;
 use h2_fields::octets::Octets;
 use h2_fields::response::response_block;
+use h2_frame::append_frame;
 use h2_mark::octets;
+use h2_spec::frames::{DATA, END_HEADERS, END_STREAM, HEADERS};
+use h2_spec::octets::octets_from;
 pub use h2_spec::streams::Pick;
-use std::alloc::Allocator;
+use std::alloc::{AllocError, Allocator};
 use std::marker::Model;
 
 /// The most entries of a book.
@@ -68,22 +73,29 @@ pub struct Answer<'a, A: Allocator> {
     pub early: bool,
 }
 
-/// An entry, and the field block of its answer, without a table size update.
+/// An entry, with the frames of its answer on stream 0 as octets: HEADERS without a table size update, and one DATA of
+/// the whole body, which ends the stream.
 #[derive(Drop)]
 struct Stored<A: Allocator> {
-    entry: Entry<A>,
-    block: Vec<u8, A>,
+    method: Octets<A>,
+    path: Octets<A>,
+    status: u16,
+    fields: Vec<Field<A>, A>,
+    early: bool,
+    headers: Vec<u8, A>,
+    body_frame: Vec<u8, A>,
 }
 
 impl<A: Allocator> Model for Stored<A> {
-    ghost use Rattle.std.specs.Prelude.{◌≡◌, ◌≤◌, false, length};
+    ghost use Rattle.std.specs.Prelude.{◌≡◌, ◌≤◌, length, drop};
     ghost use Rattle.h2_spec.specs.Answer as spec;
+    ghost use Rattle.h2_request.specs.Lent.{AreFramesOf};
 
     ghost Value = { spec.Entry };
 
-    ghost view = { λ s. s.entry };
+    ghost view = { λ s. record { method = s.method; path = s.path; answer = record (spec.answer s.status s.fields.items (drop 9 s.body_frame.items)) { early = s.early } } };
 
-    ghost invariant = { λ s. (s.block.items ≡ spec.response_block false s.entry.answer.status s.entry.answer.fields) × (length s.block.items ≤ 16383) };
+    ghost invariant = { λ s. AreFramesOf (record (spec.answer s.status s.fields.items (drop 9 s.body_frame.items)) { early = s.early }) s.headers.items s.body_frame.items };
 }
 
 /// A list of entries, each of which may be answered with.
@@ -117,9 +129,24 @@ impl<A: Allocator + Copy> Book<A> {
         ensures kept { OnErr result (self.new ≡ self.old) }
         ensures refused { IfErr result (λ fault. IsRefusal (entry_fault self.old entry) fault) }
     {
-        let block = self.block_for(&entry)?;
-        self.entries.push(Stored { entry, block })?;
+        let headers = self.headers_for(&entry)?;
+        let body_frame = frame_of_body(*self.entries.allocator(), entry.body.as_slice())?;
+        self.entries.push(with_frames(entry, headers, body_frame))?;
         Ok(())
+    }
+
+    /// The HEADERS of an entry's answer on stream 0, where the entry is allowed.
+    fn headers_for(&self, entry: &Entry<A>) -> Result<Vec<u8, A>, BookFault>
+        ensures allowed { OnOk result (entry_fault self.now entry.now ≡ None) }
+        ensures headers { IfOk result (λ headers. headers.items ≡ headers_of_answer entry.now.answer) }
+        ensures within { OnOk result ((length (block_of_answer entry.now.answer) ≤ 16383) × (length entry.now.answer.body ≤ 1048576)) }
+        ensures refused { IfErr result (λ fault. IsRefusal (entry_fault self.now entry.now) fault) }
+    {
+        let block = self.block_for(entry)?;
+        let alloc = *self.entries.allocator();
+        let is_empty = entry.body.as_slice().is_empty();
+        let headers = headers_of_block(alloc, is_empty, block.as_slice())?;
+        Ok(headers)
     }
 
     /// The field block of an entry's answer, where the entry is allowed.
@@ -237,27 +264,57 @@ impl<A: Allocator> Book<A> {
         }
     }
 
-    /// The field block of that answer's HEADERS, at most 16,383 octets, without a table size update; it was made when
-    /// the entry was added.
+    /// The HEADERS of that answer, as octets that end the fields, and the stream where there is no body (RFC 9113, 6.2):
+    /// on stream 0, so its last four octets before the field block are to be those of the stream. It has no table size
+    /// update, and was made when the entry was added.
+    pub fn headers(&self, pick: Pick) -> &[u8]
+        ensures headers { result.now ≡ headers_of_answer (picked self.now pick) }
+        ensures within { length (block_of_answer (picked self.now pick)) ≤ 16383 }
+    {
+        match pick {
+            Pick::Listed(place) => self.headers_at(place),
+            Pick::NotFound => headers_404(),
+            Pick::Connect => headers_501(),
+        }
+    }
+
+    /// The HEADERS of the entry at a place, or those of a bare 404.
+    fn headers_at(&self, place: usize) -> &[u8]
+        ensures headers { result.now ≡ headers_of_answer (picked self.now (Listed place)) }
+        ensures within { length (block_of_answer (picked self.now (Listed place))) ≤ 16383 }
+    {
+        match self.entries.get(place) {
+            Some(stored) => headers_of(stored),
+            None => headers_404(),
+        }
+    }
+
+    /// The field block of those HEADERS, at most 16,383 octets, without a table size update.
     pub fn block(&self, pick: Pick) -> &[u8]
         ensures block { result.now ≡ block_of_answer (picked self.now pick) }
         ensures within { length result.now ≤ 16383 }
     {
+        octets_from(self.headers(pick), 9)
+    }
+
+    /// The whole body of that answer as one DATA that ends the stream, as octets (RFC 9113, 6.1): on stream 0, so the
+    /// last four octets of its head are to be those of the stream. It was made when the entry was added.
+    pub fn body_frame(&self, pick: Pick) -> &[u8]
+        ensures { result.now ≡ body_frame_of_answer (picked self.now pick) }
+    {
         match pick {
-            Pick::Listed(place) => self.block_at(place),
-            Pick::NotFound => block_404(),
-            Pick::Connect => block_501(),
+            Pick::Listed(place) => self.body_frame_at(place),
+            Pick::NotFound | Pick::Connect => frame_of_nothing(),
         }
     }
 
-    /// The field block of the entry at a place, or that of a bare 404.
-    fn block_at(&self, place: usize) -> &[u8]
-        ensures block { result.now ≡ block_of_answer (picked self.now (Listed place)) }
-        ensures within { length result.now ≤ 16383 }
+    /// The DATA of the entry at a place, or that of a bare 404.
+    fn body_frame_at(&self, place: usize) -> &[u8]
+        ensures { result.now ≡ body_frame_of_answer (picked self.now (Listed place)) }
     {
         match self.entries.get(place) {
-            Some(stored) => block_of(stored),
-            None => block_404(),
+            Some(stored) => body_frame_of(stored),
+            None => frame_of_nothing(),
         }
     }
 
@@ -274,48 +331,130 @@ impl<A: Allocator> Book<A> {
     }
 }
 
+/// An entry with the frames of its answer.
+fn with_frames<A: Allocator>(
+    entry: Entry<A>,
+    headers: Vec<u8, A>,
+    body_frame: Vec<u8, A>,
+) -> Stored<A>
+    requires { AreFramesOf entry.answer headers.items body_frame.items }
+    ensures { result ≡ entry }
+{
+    let Entry {
+        method,
+        path,
+        status,
+        fields,
+        body: _body,
+        early,
+    } = entry;
+    Stored {
+        method,
+        path,
+        status,
+        fields,
+        early,
+        headers,
+        body_frame,
+    }
+}
+
 fn is_entry_for<A: Allocator>(stored: &Stored<A>, method: &[u8], path: &[u8]) -> bool
     ensures { result ≡ (bytes_eq stored.now.method method.now && bytes_eq stored.now.path path.now) }
 {
-    let entry = &stored.entry;
-    octets::same(entry.method.as_slice(), method) && octets::same(entry.path.as_slice(), path)
+    octets::same(stored.method.as_slice(), method) && octets::same(stored.path.as_slice(), path)
 }
 
 fn answer_of<A: Allocator>(stored: &Stored<A>) -> Answer<'_, A>
     ensures { answered result ≡ stored.now.answer }
 {
-    let entry = &stored.entry;
     Answer {
-        status: entry.status,
-        fields: entry.fields.as_slice(),
-        body: entry.body.as_slice(),
-        early: entry.early,
+        status: stored.status,
+        fields: stored.fields.as_slice(),
+        body: octets_from(stored.body_frame.as_slice(), 9),
+        early: stored.early,
     }
 }
 
-fn block_of<A: Allocator>(stored: &Stored<A>) -> &[u8]
-    ensures block { result.now ≡ block_of_answer stored.now.answer }
-    ensures within { length result.now ≤ 16383 }
+fn headers_of<A: Allocator>(stored: &Stored<A>) -> &[u8]
+    ensures headers { result.now ≡ headers_of_answer stored.now.answer }
+    ensures within { length (block_of_answer stored.now.answer) ≤ 16383 }
 {
-    stored.block.as_slice()
+    stored.headers.as_slice()
 }
 
-/// The field block of a bare 404: the index of `:status: 404` (RFC 7541, Appendix A).
-#[tactic(auto, unfolding(h2_spec::specs::Answer::response_block))]
-fn block_404() -> &'static [u8]
-    ensures block { result.now ≡ block_of_answer (bare_answer 404) }
-    ensures within { length result.now ≤ 16383 }
+fn body_frame_of<A: Allocator>(stored: &Stored<A>) -> &[u8]
+    ensures { result.now ≡ body_frame_of_answer stored.now.answer }
 {
-    b"\x8d".as_slice()
+    stored.body_frame.as_slice()
 }
 
-/// The field block of a bare 501: the index of the name `:status`, and its value (RFC 7541, 6.2.2).
-#[tactic(auto, unfolding(h2_spec::specs::Answer::response_block))]
-fn block_501() -> &'static [u8]
-    ensures block { result.now ≡ block_of_answer (bare_answer 501) }
-    ensures within { length result.now ≤ 16383 }
+/// The DATA of no octets on stream 0, which is never sent.
+#[tactic(auto, unfolding(h2_spec::specs::Frame::frame_octets))]
+fn frame_of_nothing() -> &'static [u8]
+    ensures { result.now ≡ frame_octets (frame 0 1 0 []) }
 {
-    b"\x08\x03501".as_slice()
+    b"\x00\x00\x00\x00\x01\x00\x00\x00\x00".as_slice()
+}
+
+/// The HEADERS of a bare 404, whose block is the index of `:status: 404` (RFC 7541, Appendix A).
+#[tactic(auto, unfolding(h2_spec::specs::Answer::response_block, h2_spec::specs::Frame::frame_octets))]
+fn headers_404() -> &'static [u8]
+    ensures headers { result.now ≡ headers_of_answer (bare_answer 404) }
+    ensures within { length (block_of_answer (bare_answer 404)) ≤ 16383 }
+{
+    b"\x00\x00\x01\x01\x05\x00\x00\x00\x00\x8d".as_slice()
+}
+
+/// The HEADERS of a bare 501, whose block is the index of the name `:status`, and its value (RFC 7541, 6.2.2).
+#[tactic(auto, unfolding(h2_spec::specs::Answer::response_block, h2_spec::specs::Frame::frame_octets))]
+fn headers_501() -> &'static [u8]
+    ensures headers { result.now ≡ headers_of_answer (bare_answer 501) }
+    ensures within { length (block_of_answer (bare_answer 501)) ≤ 16383 }
+{
+    b"\x00\x00\x05\x01\x05\x00\x00\x00\x00\x08\x03501".as_slice()
+}
+
+/// The HEADERS with this field block on stream 0, which end the stream where the answer has no body.
+fn headers_of_block<A: Allocator>(
+    alloc: A,
+    is_empty: bool,
+    block: &[u8],
+) -> Result<Vec<u8, A>, AllocError>
+    requires { length block.now ≤ 16383 }
+    ensures { IfOk result (λ headers. headers.items ≡ frame_octets (frame 1 (4 + flag_if is_empty 1) 0 block.now)) }
+{
+    let mut headers = Vec::new(alloc);
+    append_frame(
+        HEADERS,
+        response_flags(is_empty),
+        0,
+        &[],
+        block,
+        &mut headers,
+    )?;
+    Ok(headers)
+}
+
+/// The DATA of these octets on stream 0, which ends the stream.
+fn frame_of_body<A: Allocator>(alloc: A, body: &[u8]) -> Result<Vec<u8, A>, AllocError>
+    requires { length body.now ≤ 1048576 }
+    ensures { IfOk result (λ octets. octets.items ≡ frame_octets (frame 0 1 0 body.now)) }
+{
+    let mut octets = Vec::new(alloc);
+    append_frame(DATA, END_STREAM, 0, &[], body, &mut octets)?;
+    Ok(octets)
+}
+
+/// END_HEADERS, and END_STREAM where the answer has no body.
+fn response_flags(is_empty: bool) -> u8
+    ensures { result ≡ 4 + flag_if is_empty 1 }
+{
+    if is_empty {
+        END_HEADERS + END_STREAM
+    } else {
+        END_HEADERS
+    }
 }
 
 /// Whether no answer has this status.

@@ -1,14 +1,27 @@
-use Rattle.std.proofs.Common.{◌≡◌, ◌≤◌, ◌++◌, ◌∙◌, ap, sym, arith}
+use Rattle.std.proofs.Common.{◌≡◌, ◌≤◌, ◌++◌, ◌∙◌, ℕ, List, length, ap, sym, subst, arith}
 use Rattle.std.proofs.lemmas.List.{append-nil}
+use Rattle.h2_spec.specs.Answer.{picked}
 use Rattle.h2_spec.specs.Frame.{frames_octets}
 use Rattle.h2_spec.specs.SendPending.{allowance_frames}
+use Rattle.h2_spec.specs.Stream.{octets_waiting}
+use Rattle.h2_conn.specs.Prepared.{content, IsData}
 use Rattle.h2_conn.proofs.AboveLaws.{body_frames, no_frames}
+use Rattle.h2_conn.proofs.PreparedLaws.{content-data, data-made}
 use Rattle.h2_conn.proofs.send_pending.write_next.Goals as goal
+
+pub write_allowance-requires-clause-made : goal.write_allowance-requires-clause-made
+write_allowance-requires-clause-made g c = subst IsData (sym c.body_frame.ensures) (data-made (picked c.args.book.now c.args.stream.now.pick).body)
+
+pub write_allowance-requires-clause-left : goal.write_allowance-requires-clause-left
+write_allowance-requires-clause-left g c =
+    let body = (picked c.args.book.now c.args.stream.now.pick).body in
+    subst (λ (xs : List ℕ). octets_waiting c.args.stream.now ≤ length xs) (sym (ap content c.body_frame.ensures ∙ content-data body)) c.requires.body.1
 
 pub returns-in_ok-write_allowance-clause-ok : goal.returns-in_ok-write_allowance-clause-ok
 returns-in_ok-write_allowance-clause-ok g c =
     let a = c.args in
-    let frames = body_frames a.book.now a.size c.allowance-allowance.result a.stream.now c.body_of.result.now c.body_of.ensures in
+    let body = (picked a.book.now a.stream.now.pick).body in
+    let frames = body_frames a.book.now a.size c.allowance-allowance.result a.stream.now (content c.body_frame.result.now) (ap content c.body_frame.ensures ∙ content-data body) in
     c.in_ok-write_allowance.ensures.ok ∙ ap (λ fs. a.out.now.items ++ frames_octets fs) (frames ∙ ap (λ n. allowance_frames a.book.now a.size n a.stream.now) c.allowance-allowance.ensures.allowance)
 
 pub returns-else-allowance-gt0-clause-ok : goal.returns-else-allowance-gt0-clause-ok
