@@ -18,7 +18,7 @@ ghost use Rattle.h2_conn.specs.Does.{Does, stepped, stopped};
 ghost use Rattle.h2_conn.specs.Sending.{records};
 ghost use Rattle.h2_rules.specs.Sound.{in_force};
 
-use crate::block::{FragmentEffect, fragment, fresh_block, headers_purpose};
+use crate::block::{FragmentEffect, fresh_block, headers_purpose};
 use crate::state::{Decoding, OpenBlock, State};
 use crate::tentative::Tentative;
 use h2_frame::HeadersPart;
@@ -187,12 +187,7 @@ impl<'b, A: Allocator + Copy> State<'b, A> {
         ensures err { IfErr result (λ before. (before ≡ decoding) × (self.new ≡ self.old) × (out.new.items ≡ out.old.items)) }
     {
         let edit = self.take_edit(*out.allocator());
-        let (tentative, mut edit, effect) = fragment(
-            self.book,
-            self.config,
-            self.core,
-            &self.streams,
-            &self.table,
+        let (tentative, mut edit, effect) = self.fragment(
             edit,
             shown,
             decoding,
