@@ -9,6 +9,7 @@ ghost use Rattle.h2_spec.specs.Stream.{Records, kind_of};
 ghost use Rattle.h2_spec.specs.ReactionTable.{headers_cell};
 ghost use Rattle.h2_table.specs.Edits.{EditOf, IsEdit};
 ghost use Rattle.h2_conn.specs.Blocks.{IsOpenAt, IsOpenFor, IsSoundEffect, block_after, cause_by, cell_of, effect_in, effect_seen, limited};
+ghost use Rattle.h2_conn.specs.Fragments.{IsCounted, after_of, before_of};
 ghost use Rattle.h2_conn.specs.Sending.{records};
 ghost use Rattle.h2_rules.specs.Sound.{AreSound, InForce, in_force};
 
@@ -54,15 +55,21 @@ fn fault_cause(fault: BlockFault) -> Option<Cause>
 
 impl<'b, A: Allocator + Copy> State<'b, A> {
     /// A fragment was decoded: the block goes on, or ends with HEADERS or CONTINUATION that have END_HEADERS.
-    fn read(&self, shown: BlockView, tentative: &Tentative<A>, end_headers: bool) -> FragmentEffect
-        requires open { IsOpenAt (records self.now) shown.stream tentative.now.after.purpose }
-        ensures effect { (table : Table) → effect_in (record self.now { table = table }) tentative.now.after result ≡ rule.fragment_read (record self.now { table = table }) shown tentative.now.after end_headers }
-        ensures sound { (base : LimitedTable) (edit : EditOf) → IsEdit base edit → IsSoundEffect self.now.book (records self.now) (in_force self.now.core) base edit tentative.now.after result }
+    fn read(
+        &self,
+        shown: BlockView,
+        decoding: &Decoding<A>,
+        tentative: &Tentative<A>,
+        end_headers: bool,
+    ) -> FragmentEffect
+        requires open { IsOpenAt (records self.now) shown.stream decoding.now.purpose }
+        ensures effect { (table : Table) → effect_in (record self.now { table = table }) (after_of decoding.now tentative.now) result ≡ rule.fragment_read (record self.now { table = table }) shown (after_of decoding.now tentative.now) end_headers }
+        ensures sound { (base : LimitedTable) (edit : EditOf) → IsEdit base edit → IsSoundEffect self.now.book (records self.now) (in_force self.now.core) base edit (after_of decoding.now tentative.now) result }
     {
         if !end_headers {
             return FragmentEffect::Makes(Some(shown), only_counts(self.core));
         }
-        match tentative.bad_end() {
+        match decoding.bad_end(tentative) {
             Some(cause) => FragmentEffect::Breaks(cause),
             None => {
                 let change = block_ends(
@@ -71,17 +78,17 @@ impl<'b, A: Allocator + Copy> State<'b, A> {
                     self.core,
                     &self.streams,
                     &shown,
-                    tentative.purpose(),
-                    tentative.collected(),
+                    decoding.purpose,
+                    &decoding.collected,
                 );
                 FragmentEffect::Makes(None, change)
             }
         }
     }
 
-    /// A fragment of a block whose stream is known by the block's purpose. The state does not change: the answer is how
-    /// far the block is decoded before and after the fragment, the edit that makes the header table the one after it,
-    /// and what the fragment results in. `edit` may be of any table: its memory is used again.
+    /// A fragment of a block whose stream is known by the block's purpose. The state does not change: the answer is the
+    /// edit that makes the header table the one after the fragment, what takes the block back or on, and what the
+    /// fragment results in. `edit` may be of any table: its memory is used again.
     ///
     /// # Errors
     ///
@@ -90,37 +97,38 @@ impl<'b, A: Allocator + Copy> State<'b, A> {
         &self,
         edit: Edit<A>,
         shown: BlockView,
-        decoding: Decoding<A>,
+        decoding: &mut Decoding<A>,
         octets: &[u8],
         end_headers: bool,
-    ) -> (Tentative<A>, Edit<A>, Result<FragmentEffect, AllocError>)
-        requires open { IsOpenAt (records self.now) shown.stream decoding.purpose }
-        ensures before { result.0.before ≡ decoding }
-        ensures effect { IfOk result.2 (λ e. effect_seen self.now result.1 result.0.after e ≡ rule.fragment self.now shown decoding octets.now end_headers) }
-        ensures sound { IfOk result.2 (λ e. IsSoundEffect self.now.book (records self.now) (in_force self.now.core) (limited self.now.core.own.table self.now.table) result.1 result.0.after e) }
+    ) -> (Edit<A>, Tentative<A>, Result<FragmentEffect, AllocError>)
+        requires open { IsOpenAt (records self.now) shown.stream decoding.old.purpose }
+        ensures before { before_of decoding.new result.1 ≡ decoding.old }
+        ensures counted { IsCounted decoding.new result.1 }
+        ensures effect { IfOk result.2 (λ e. effect_seen self.now result.0 (after_of decoding.new result.1) e ≡ rule.fragment self.now shown decoding.old octets.now end_headers) }
+        ensures sound { IfOk result.2 (λ e. IsSoundEffect self.now.book (records self.now) (in_force self.now.core) (limited self.now.core.own.table self.now.table) result.0 (after_of decoding.new result.1) e) }
     {
         let count = shown.octets as usize + octets.len();
         if MAX_BLOCK < count {
             let breaks = FragmentEffect::Breaks(Cause::BlockTooLarge);
-            return (Tentative::unchanged(decoding), edit, Ok(breaks));
+            return (edit, decoding.unchanged(), Ok(breaks));
         }
-        let (tentative, edit, result) = Tentative::decoded(decoding, &self.table, edit, octets);
-        match result {
+        let (edit, tentative, decoded) = decoding.decode(&self.table, edit, octets);
+        match decoded {
             Ok(()) => {
                 let shown = BlockView {
                     octets: count as u32,
-                    list_size: tentative.collected().list_size(),
+                    list_size: decoding.list_size(),
                     ..shown
                 };
-                let effect = self.read(shown, &tentative, end_headers);
-                (tentative, edit, Ok(effect))
+                let effect = self.read(shown, decoding, &tentative, end_headers);
+                (edit, tentative, Ok(effect))
             }
             Err(fault) => match fault_cause(fault) {
                 Some(cause) => {
                     let breaks = FragmentEffect::Breaks(cause);
-                    (tentative, edit, Ok(breaks))
+                    (edit, tentative, Ok(breaks))
                 }
-                None => (tentative, edit, Err(AllocError)),
+                None => (edit, tentative, Err(AllocError)),
             },
         }
     }

@@ -6,16 +6,17 @@ use Rattle.h2_spec.specs.Headers.{FrameEffect}
 use Rattle.h2_spec.specs.State.{State}
 use Rattle.h2_conn.specs.Blocks.{effect_seen}
 use Rattle.h2_conn.specs.Does.{Does, stepped}
+use Rattle.h2_conn.specs.Fragments.{after_of}
 use Rattle.h2_conn.proofs.state.State.on_fragment.Goals as goal
 
 pub returns-in-Ok-clause-ok : goal.returns-in-Ok-clause-ok
 returns-in-Ok-clause-ok g c =
     let a = c.args in
-    let after = c.fragment-tentative.result.0.after in
-    let edit = c.fragment-tentative.result.1 in
+    let after = after_of c.fragment-edit.new.decoding c.fragment-edit.result.1 in
+    let edit = c.fragment-edit.result.0 in
     let mid = c.take_edit-edit.new.self in
-    let frag : State → FrameEffect = λ s. headers.fragment s a.shown a.decoding a.octets.now a.end_headers in
-    let is = subst (λ r. IfOk r (λ e. effect_seen mid edit after e ≡ frag mid)) c.in-Ok.is c.fragment-tentative.ensures.effect in
+    let frag : State → FrameEffect = λ s. headers.fragment s a.shown a.decoding.now a.octets.now a.end_headers in
+    let is = subst (λ r. IfOk r (λ e. effect_seen mid edit after e ≡ frag mid)) c.in-Ok.is c.fragment-edit.ensures.effect in
     let out = c.finish-result.new.out.items in
     let P : State → FrameEffect → State → Type 0 = λ s e now. OnOk c.finish-result.result (Does (stepped (rule.concluded s a.payload.now e)) a.out.now.items now out) in
     subst (λ (t : State). P a.self.now (frag a.self.now) t) (sym c.keep_edit.ensures)
@@ -25,10 +26,10 @@ returns-in-Ok-clause-ok g c =
 pub returns-in-Ok-clause-cause : goal.returns-in-Ok-clause-cause
 returns-in-Ok-clause-cause g c =
     let a = c.args in
-    let after = c.fragment-tentative.result.0.after in
-    let edit = c.fragment-tentative.result.1 in
+    let after = after_of c.fragment-edit.new.decoding c.fragment-edit.result.1 in
+    let edit = c.fragment-edit.result.0 in
     let mid = c.take_edit-edit.new.self in
-    let frag : State → FrameEffect = λ s. headers.fragment s a.shown a.decoding a.octets.now a.end_headers in
-    let is = subst (λ r. IfOk r (λ e. effect_seen mid edit after e ≡ frag mid)) c.in-Ok.is c.fragment-tentative.ensures.effect in
+    let frag : State → FrameEffect = λ s. headers.fragment s a.shown a.decoding.now a.octets.now a.end_headers in
+    let is = subst (λ r. IfOk r (λ e. effect_seen mid edit after e ≡ frag mid)) c.in-Ok.is c.fragment-edit.ensures.effect in
     let Q : FrameEffect → Type 0 = λ e. IfOk c.finish-result.result (λ cause. cause ≡ rule.effect_cause e) in
     subst (λ (s : State). Q (frag s)) c.take_edit-edit.ensures (subst Q is c.finish-result.ensures.cause)
