@@ -1,20 +1,51 @@
 -- A fragment that is decoded and not taken over, and the block before it.
-use Rattle.std.proofs.Common.{◌≡◌, ◌≢◌, ℕ, List, ◌++◌, length, take, Result, Ok, Err, ap, sym, ◌∙◌}
+use Rattle.std.proofs.Common.{◌≡◌, ◌≢◌, ℕ, Bool, List, [], ◌++◌, length, take, Result, Ok, Err, ap, sym, ◌∙◌}
 use Rattle.std.specs.Prelude.{IfErr, OnOk}
+use Rattle.std.proofs.lemmas.List.{append-nil}
 use Rattle.std.proofs.Math.Seq.{take-append_seam}
 use Rattle.h2_fields.specs.Blocks.{faulted}
 use Rattle.h2_fields.specs.Drafts.{Grows, IsStopped}
 use Rattle.h2_fields.specs.declared.fault.BlockFault.{BlockFault}
 use Rattle.h2_fields.specs.declared.fault.BlockFault.TheVariants as fault
-use Rattle.h2_spec.specs.Block.{Decoded, FieldsSoFar, Progress, Unfinished, decoded, progress_with}
+use Rattle.h2_fields.specs.declared.collected.Mark.{Mark}
+use Rattle.h2_spec.specs.Block.{Decoded, FieldsSoFar, Progress, Unfinished, decoded, list_size, progress_with}
 use Rattle.h2_spec.specs.DynamicTable.{Table}
+use Rattle.h2_spec.specs.Field.{Field}
 use Rattle.h2_spec.specs.State.{Decoding}
 use Rattle.h2_spec.specs.declared.connection.Purpose.{Purpose}
 use Rattle.h2_conn.specs.Fragments.{HasFault, after_fragment, before_fragment}
 
 -- the fields before are those in front
-pub front : (old now : FieldsSoFar) (n : ℕ) → n ≡ length old.fields → Grows old now → take n now.fields ≡ old.fields
+front : (old now : FieldsSoFar) (n : ℕ) → n ≡ length old.fields → Grows old now → take n now.fields ≡ old.fields
 front old now n e g = ap (λ k. take k now.fields) e ∙ ap (take (length old.fields)) g.1 ∙ take-append_seam old.fields g.0
+
+-- the block before a fragment is known by the mark of its fields and by the octets that were left
+pub is-before : (purpose : Purpose) (old now : FieldsSoFar) (rest before : List ℕ) (mark : Mark) (d : Decoding) →
+    record { purpose = purpose; fields = old.fields; due = old.due; rest = rest } ≡ d →
+    mark ≡ record { count = length old.fields; size = list_size old.fields; due = old.due } → before ≡ rest → Grows old now →
+    record { purpose = purpose; fields = take mark.count now.fields; due = mark.due; rest = before } ≡ d
+is-before purpose old now rest before mark d view marked same g =
+    ap (λ (fields : List Field). block fields mark.due before) (front old now mark.count (ap (λ (m : Mark). m.count) marked) g)
+    ∙ ap (λ (due : Bool). block old.fields due before) (ap (λ (m : Mark). m.due) marked)
+    ∙ ap (λ (left : List ℕ). block old.fields old.due left) same
+    ∙ view
+  where
+    block : List Field → Bool → List ℕ → Decoding
+    block fields due left = record { purpose = purpose; fields = fields; due = due; rest = left }
+
+-- and the mark has their size
+pub is-counted : (old now : FieldsSoFar) (mark : Mark) → mark ≡ record { count = length old.fields; size = list_size old.fields; due = old.due } → Grows old now → mark.size ≡ list_size (take mark.count now.fields)
+is-counted old now mark marked g =
+    ap (λ (m : Mark). m.size) marked ∙ ap list_size (sym (front old now mark.count (ap (λ (m : Mark). m.count) marked) g))
+
+-- a block with the same octets left is the same
+pub same-block : (purpose : Purpose) (old : FieldsSoFar) (rest other : List ℕ) (d : Decoding) → record { purpose = purpose; fields = old.fields; due = old.due; rest = rest } ≡ d → other ≡ rest →
+    record { purpose = purpose; fields = old.fields; due = old.due; rest = other } ≡ d
+same-block purpose old rest other d view same = ap (λ (left : List ℕ). let d : Decoding = record { purpose = purpose; fields = old.fields; due = old.due; rest = left } in d) same ∙ view
+
+-- no field was added
+pub grows-not : (old : FieldsSoFar) → Grows old old
+grows-not old = ([], sym (append-nil old.fields))
 
 -- a fragment of a block, by its fields and the octets that are left
 same-decoded : (limit : ℕ) (table : Table) (old : FieldsSoFar) (rest octets : List ℕ) (purpose : Purpose) (d : Decoding) →

@@ -12,7 +12,7 @@ use Rattle.h2_spec.specs.Headers as headers
 use Rattle.h2_spec.specs.State.{Decoding, OpenBlock, State}
 use Rattle.h2_spec.specs.Stream.{Records}
 use Rattle.h2_spec.specs.ReactionTable.{Cell, Error, Rule}
-pub use Rattle.h2_rules.specs.Open.{IsOpenAt, state_of}
+pub use Rattle.h2_rules.specs.Open.{IsOpenAt}
 use Rattle.h2_rules.specs.Sound.{InForce, IsSoundChange, updated_records}
 use Rattle.h2_table.specs.Edits.{EditOf, IsEdit, edited}
 use Rattle.h2_conn.specs.declared.block.FragmentEffect.{FragmentEffect}

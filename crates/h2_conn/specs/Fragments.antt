@@ -1,15 +1,30 @@
 -- A fragment that is decoded over an edit of the table, and not taken over yet.
-use Rattle.std.specs.Prelude.{◌≡◌, Some}
+use Rattle.std.specs.Prelude.{◌≡◌, ℕ, List, Some, take}
+use Rattle.h2_fields.specs.declared.collected.Mark.{Mark}
 use Rattle.h2_fields.specs.Blocks.{faulted}
 use Rattle.h2_fields.specs.declared.fault.BlockFault.{BlockFault}
-use Rattle.h2_spec.specs.Block.{Decoded, Progress, Unfinished}
+use Rattle.h2_spec.specs.Block.{Decoded, Progress, Unfinished, list_size}
 use Rattle.h2_spec.specs.DynamicTable.{Table}
 use Rattle.h2_spec.specs.State.{Decoding}
 
--- how far a block is decoded before a fragment and after it
-pub record BeforeAfter : Type 0 where
-  pub before : Decoding
-  pub after : Decoding
+-- what takes a block that is decoded with a fragment more back or on: the end of the fields before the fragment, and
+-- the octets that are left before it and after it
+pub record Tentative : Type 0 where
+  pub mark : Mark
+  pub before : List ℕ
+  pub after : List ℕ
+
+-- the block as it was before the fragment
+abbrev pub before_of : Decoding → Tentative → Decoding
+before_of d t = record { purpose = d.purpose; fields = take t.mark.count d.fields; due = t.mark.due; rest = t.before }
+
+-- the block as it is after it
+abbrev pub after_of : Decoding → Tentative → Decoding
+after_of d t = record d { rest = t.after }
+
+-- the size of the fields before it is known
+abbrev pub IsCounted : Decoding → Tentative → Type 0
+IsCounted d t = t.mark.size ≡ list_size (take t.mark.count d.fields)
 
 -- how far the block has come before it
 abbrev pub before_fragment : Table → Decoding → Progress

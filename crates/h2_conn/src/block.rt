@@ -1,30 +1,29 @@
 //! Fragments of field blocks, from HEADERS and CONTINUATION (RFC 9113, 4.3, 6.2 and 6.10).
-//! Rests on `block_end` and on h2_fields; definition: `fragment` of h2_spec's `specs/Headers.antt`.
+//! Rests on `state`, `tentative` and h2_rules; definition: `fragment` of h2_spec's `specs/Headers.antt`.
 
-ghost use Rattle.std.specs.Prelude.{◌≡◌, ◌≢◌, ◌==◌, ℕ, List, Option, IfOk, OnOk, length};
+ghost use Rattle.std.specs.Prelude.{◌≡◌, ◌≢◌, ◌==◌, ℕ, List, IfOk, OnOk, length};
 ghost use Rattle.h2_spec.specs.Answer.{Entry};
 ghost use Rattle.h2_spec.specs.DynamicTable.{LimitedTable, Table};
 ghost use Rattle.h2_spec.specs.Headers as rule;
-ghost use Rattle.h2_spec.specs.State as state;
 ghost use Rattle.h2_spec.specs.Stream.{Records, kind_of};
 ghost use Rattle.h2_spec.specs.ReactionTable.{headers_cell};
 ghost use Rattle.h2_table.specs.Edits.{EditOf, IsEdit};
-ghost use Rattle.h2_conn.specs.Blocks.{IsOpenAt, IsOpenFor, IsSoundEffect, block_after, cause_by, cell_of, effect_in, effect_seen, state_of};
-ghost use Rattle.h2_rules.specs.Sound.{AreSound, InForce, IsSoundState, in_force};
+ghost use Rattle.h2_conn.specs.Blocks.{IsOpenAt, IsOpenFor, IsSoundEffect, block_after, cause_by, cell_of, effect_in, effect_seen, limited};
+ghost use Rattle.h2_conn.specs.Fragments.{IsCounted, after_of, before_of};
+ghost use Rattle.h2_conn.specs.Sending.{records};
+ghost use Rattle.h2_rules.specs.Sound.{AreSound, InForce, in_force};
 
-use crate::state::Decoding;
+use crate::state::{Decoding, State};
 use crate::tentative::Tentative;
 use h2_fields::fault::BlockFault;
-use h2_request::book::Book;
 use h2_rules::block_end::block_ends;
 use h2_rules::change::only_counts;
 use h2_spec::causes::Cause;
-use h2_spec::connection::{BlockView, Config, ConnectionState, Purpose};
+use h2_spec::connection::{BlockView, Purpose};
 use h2_spec::frames::{END_STREAM, Head};
 use h2_spec::reactions::Change;
 use h2_spec::streams::Kind;
-use h2_streams::Streams;
-use h2_table::{DynTable, Edit};
+use h2_table::Edit;
 use std::alloc::{AllocError, Allocator};
 
 /// The most octets of a block's fragments.
@@ -54,88 +53,84 @@ fn fault_cause(fault: BlockFault) -> Option<Cause>
     }
 }
 
-/// A fragment was decoded: the block goes on, or ends with HEADERS or CONTINUATION that have END_HEADERS.
-fn read<A: Allocator + Copy>(
-    book: &Book<A>,
-    config: Config,
-    core: ConnectionState,
-    streams: &Streams<A>,
-    shown: BlockView,
-    tentative: &Tentative<A>,
-    end_headers: bool,
-) -> FragmentEffect
-    requires sound { IsSoundState book.now core streams.now }
-    requires open { IsOpenAt streams.now shown.stream tentative.now.after.purpose }
-    ensures effect { (b : Option state.OpenBlock) (table : Table) → effect_in (state_of book.now config core b table streams.now.streams) tentative.now.after result ≡ rule.fragment_read (state_of book.now config core b table streams.now.streams) shown tentative.now.after end_headers }
-    ensures sound { (base : LimitedTable) (edit : EditOf) → IsEdit base edit → IsSoundEffect book.now streams.now (in_force core) base edit tentative.now.after result }
-{
-    if !end_headers {
-        return FragmentEffect::Makes(Some(shown), only_counts(core));
-    }
-    if let Some(cause) = tentative.bad_end() {
-        return FragmentEffect::Breaks(cause);
-    }
-    let change = block_ends(
-        book,
-        config,
-        core,
-        streams,
-        &shown,
-        tentative.purpose(),
-        tentative.collected(),
-    );
-    FragmentEffect::Makes(None, change)
-}
-
-/// A fragment of a block whose stream is known by the block's purpose. The table does not change: the answer is how far
-/// the block is decoded before and after the fragment, the edit that makes the table the one after it, and what the
-/// fragment results in.
-///
-/// # Errors
-///
-/// `AllocError` where memory for the added entries, the fields or the octets that are left was refused.
-pub fn fragment<A: Allocator + Copy>(
-    book: &Book<A>,
-    config: Config,
-    core: ConnectionState,
-    streams: &Streams<A>,
-    table: &DynTable<A>,
-    edit: Edit<A>,
-    shown: BlockView,
-    decoding: Decoding<A>,
-    octets: &[u8],
-    end_headers: bool,
-) -> (Tentative<A>, Edit<A>, Result<FragmentEffect, AllocError>)
-    requires sound { IsSoundState book.now core streams.now }
-    requires limit { table.now.limit ≡ core.own.table }
-    requires open { IsOpenAt streams.now shown.stream decoding.purpose }
-    ensures before { result.0.before ≡ decoding }
-    ensures effect { IfOk result.2 (λ e. (b : Option state.OpenBlock) → effect_seen (state_of book.now config core b table.now.table streams.now.streams) result.1 result.0.after e ≡ rule.fragment (state_of book.now config core b table.now.table streams.now.streams) shown decoding octets.now end_headers) }
-    ensures sound { IfOk result.2 (λ e. IsSoundEffect book.now streams.now (in_force core) table.now result.1 result.0.after e) }
-{
-    let count = shown.octets as usize + octets.len();
-    if MAX_BLOCK < count {
-        let breaks = FragmentEffect::Breaks(Cause::BlockTooLarge);
-        return (Tentative::unchanged(decoding), edit, Ok(breaks));
-    }
-    let (tentative, edit, result) = Tentative::decoded(decoding, table, edit, octets);
-    match result {
-        Ok(()) => {
-            let shown = BlockView {
-                octets: count as u32,
-                list_size: tentative.collected().list_size(),
-                ..shown
-            };
-            let effect = read(book, config, core, streams, shown, &tentative, end_headers);
-            (tentative, edit, Ok(effect))
+impl<'b, A: Allocator + Copy> State<'b, A> {
+    /// A fragment was decoded: the block goes on, or ends with HEADERS or CONTINUATION that have END_HEADERS.
+    fn read(
+        &self,
+        shown: BlockView,
+        decoding: &Decoding<A>,
+        tentative: &Tentative<A>,
+        end_headers: bool,
+    ) -> FragmentEffect
+        requires open { IsOpenAt (records self.now) shown.stream decoding.now.purpose }
+        ensures effect { (table : Table) → effect_in (record self.now { table = table }) (after_of decoding.now tentative.now) result ≡ rule.fragment_read (record self.now { table = table }) shown (after_of decoding.now tentative.now) end_headers }
+        ensures sound { (base : LimitedTable) (edit : EditOf) → IsEdit base edit → IsSoundEffect self.now.book (records self.now) (in_force self.now.core) base edit (after_of decoding.now tentative.now) result }
+    {
+        if !end_headers {
+            return FragmentEffect::Makes(Some(shown), only_counts(self.core));
         }
-        Err(fault) => match fault_cause(fault) {
-            Some(cause) => {
-                let breaks = FragmentEffect::Breaks(cause);
-                (tentative, edit, Ok(breaks))
+        match decoding.bad_end(tentative) {
+            Some(cause) => FragmentEffect::Breaks(cause),
+            None => {
+                let change = block_ends(
+                    self.book,
+                    self.config,
+                    self.core,
+                    &self.streams,
+                    &shown,
+                    decoding.purpose,
+                    &decoding.collected,
+                );
+                FragmentEffect::Makes(None, change)
             }
-            None => (tentative, edit, Err(AllocError)),
-        },
+        }
+    }
+
+    /// A fragment of a block whose stream is known by the block's purpose. The state does not change: the answer is the
+    /// edit that makes the header table the one after the fragment, what takes the block back or on, and what the
+    /// fragment results in. `edit` may be of any table: its memory is used again.
+    ///
+    /// # Errors
+    ///
+    /// `AllocError` where memory for the added entries, the fields or the octets that are left was refused.
+    pub fn fragment(
+        &self,
+        edit: Edit<A>,
+        shown: BlockView,
+        decoding: &mut Decoding<A>,
+        octets: &[u8],
+        end_headers: bool,
+    ) -> (Edit<A>, Tentative<A>, Result<FragmentEffect, AllocError>)
+        requires open { IsOpenAt (records self.now) shown.stream decoding.old.purpose }
+        ensures before { before_of decoding.new result.1 ≡ decoding.old }
+        ensures counted { IsCounted decoding.new result.1 }
+        ensures effect { IfOk result.2 (λ e. effect_seen self.now result.0 (after_of decoding.new result.1) e ≡ rule.fragment self.now shown decoding.old octets.now end_headers) }
+        ensures sound { IfOk result.2 (λ e. IsSoundEffect self.now.book (records self.now) (in_force self.now.core) (limited self.now.core.own.table self.now.table) result.0 (after_of decoding.new result.1) e) }
+    {
+        let count = shown.octets as usize + octets.len();
+        if MAX_BLOCK < count {
+            let breaks = FragmentEffect::Breaks(Cause::BlockTooLarge);
+            return (edit, decoding.unchanged(), Ok(breaks));
+        }
+        let (edit, tentative, decoded) = decoding.decode(&self.table, edit, octets);
+        match decoded {
+            Ok(()) => {
+                let shown = BlockView {
+                    octets: count as u32,
+                    list_size: decoding.list_size(),
+                    ..shown
+                };
+                let effect = self.read(shown, decoding, &tentative, end_headers);
+                (edit, tentative, Ok(effect))
+            }
+            Err(fault) => match fault_cause(fault) {
+                Some(cause) => {
+                    let breaks = FragmentEffect::Breaks(cause);
+                    (edit, tentative, Ok(breaks))
+                }
+                None => (edit, tentative, Err(AllocError)),
+            },
+        }
     }
 }
 

@@ -3,7 +3,7 @@
 //! Rests on `block` and on `apply_change`; definitions: `on_headers` of h2_spec's `specs/Effect.antt`, `continuation`
 //! of `specs/Headers.antt`.
 
-ghost use Rattle.std.specs.Prelude.{◌≡◌, ◌<◌, ◌^◌, length, Some, IfErr, IfNone, IfOk, IfSome, OnOk, OnErr};
+ghost use Rattle.std.specs.Prelude.{◌≡◌, ◌<◌, ◌^◌, length, Some, IfNone, IfOk, IfSome, OnOk, OnErr};
 ghost use Rattle.h2_frame.specs.Parts.{headers_seen};
 ghost use Rattle.h2_spec.specs.Change.{broken};
 ghost use Rattle.h2_spec.specs.Effect as rule;
@@ -15,10 +15,11 @@ ghost use Rattle.h2_spec.specs.ReactionTable.{headers_cell};
 ghost use Rattle.h2_spec.specs.declared.causes.Cause.TheVariants.{ContinuationOutsideBlock};
 ghost use Rattle.h2_conn.specs.Blocks.{IsOpenAt, IsSoundEffect, IsStopped, block_after, cell_of, decoding_of, effect_seen, limited};
 ghost use Rattle.h2_conn.specs.Does.{Does, stepped, stopped};
+ghost use Rattle.h2_conn.specs.Fragments.{IsCounted, after_of, before_of};
 ghost use Rattle.h2_conn.specs.Sending.{records};
 ghost use Rattle.h2_rules.specs.Sound.{in_force};
 
-use crate::block::{FragmentEffect, fragment, fresh_block, headers_purpose};
+use crate::block::{FragmentEffect, fresh_block, headers_purpose};
 use crate::state::{Decoding, OpenBlock, State};
 use crate::tentative::Tentative;
 use h2_frame::HeadersPart;
@@ -27,24 +28,24 @@ use h2_spec::connection::{BlockView, Purpose};
 use h2_spec::frames::{END_HEADERS, Head};
 use h2_table::Edit;
 use std::alloc::{AllocError, Allocator};
+use std::mem;
 
-/// The block that is open after a fragment, as it is shown and decoded; where none is, the memory for the next one.
+/// The block that is open after a fragment, as it is shown and decoded: its decoding is taken out. Where none is open,
+/// the decoding stays, as memory for the next one.
 fn block_after<A: Allocator + Copy>(
     shown: Option<BlockView>,
-    tentative: Tentative<A>,
-) -> (Option<OpenBlock<A>>, Option<Decoding<A>>)
-    ensures { result.0 ≡ block_after shown tentative.after }
+    decoding: &mut Decoding<A>,
+) -> Option<OpenBlock<A>>
+    ensures { result ≡ block_after shown decoding.old }
 {
-    let purpose = tentative.purpose();
-    let decoding = tentative.take_over();
     match shown {
-        None => (None, Some(decoding.renewed(purpose, false))),
+        None => None,
         Some(shown) => {
-            let block = OpenBlock {
+            let none = Decoding::fresh(decoding.collected.allocator(), decoding.purpose, false);
+            Some(OpenBlock {
                 shown,
-                decoding: Some(decoding),
-            };
-            (Some(block), None)
+                decoding: Some(mem::replace(decoding, none)),
+            })
         }
     }
 }
@@ -54,41 +55,50 @@ impl<'b, A: Allocator + Copy> State<'b, A> {
     ///
     /// # Errors
     ///
-    /// The block as it was before the fragment, where memory was refused.
+    /// `AllocError` where memory was refused; the block is as it was before the fragment.
     fn finish(
         &mut self,
         effect: FragmentEffect,
+        decoding: &mut Decoding<A>,
         tentative: Tentative<A>,
         edit: &mut Edit<A>,
         payload: &[u8],
         out: &mut Vec<u8, A>,
-    ) -> Result<Option<Cause>, Decoding<A>>
+    ) -> Result<Option<Cause>, AllocError>
         requires fits { length payload.now < 2 ^ 24 }
         requires stopped { IsStopped self.old.block }
-        requires sound { IsSoundEffect self.old.book (records self.old) (in_force self.old.core) (limited self.old.core.own.table self.old.table) edit.old tentative.after effect }
-        ensures ok { OnOk result (Does (stepped (rule.concluded self.old payload.now (effect_seen self.old edit.old tentative.after effect))) out.old.items self.new out.new.items) }
-        ensures cause { IfOk result (λ cause. cause ≡ rule.effect_cause (effect_seen self.old edit.old tentative.after effect)) }
-        ensures err { IfErr result (λ before. (before ≡ tentative.before) × (self.new ≡ self.old) × (out.new.items ≡ out.old.items)) }
+        requires counted { IsCounted decoding.old tentative }
+        requires sound { IsSoundEffect self.old.book (records self.old) (in_force self.old.core) (limited self.old.core.own.table self.old.table) edit.old (after_of decoding.old tentative) effect }
+        ensures ok { OnOk result (Does (stepped (rule.concluded self.old payload.now (effect_seen self.old edit.old (after_of decoding.old tentative) effect))) out.old.items self.new out.new.items) }
+        ensures cause { IfOk result (λ cause. cause ≡ rule.effect_cause (effect_seen self.old edit.old (after_of decoding.old tentative) effect)) }
+        ensures err { OnErr result ((decoding.new ≡ before_of decoding.old tentative) × (self.new ≡ self.old) × (out.new.items ≡ out.old.items)) }
     {
         match effect {
             FragmentEffect::Breaks(cause) => match self.fail(cause, out) {
                 Ok(found) => Ok(found),
-                Err(_) => Err(tentative.give_up()),
+                Err(_) => {
+                    decoding.give_up(tentative);
+                    Err(AllocError)
+                }
             },
             FragmentEffect::Makes(shown, change) => match self.apply_change(change, payload, out) {
                 Ok(cause) => {
-                    let (block, spare) = block_after(shown, tentative);
+                    decoding.take_over(tentative);
+                    let block = block_after(shown, decoding);
                     self.block = block;
-                    self.spare = spare;
                     self.table.commit(edit);
                     Ok(cause)
                 }
-                Err(_) => Err(tentative.give_up()),
+                Err(_) => {
+                    decoding.give_up(tentative);
+                    Err(AllocError)
+                }
             },
         }
     }
 
-    /// The open block's decoding, taken out of the state: it is only shown until the block is put in again.
+    /// The open block's decoding, taken out of the state: it is only shown until the block is put in again. Where it has
+    /// many fields, copies made from now on share them.
     fn take_decoding(&mut self) -> Option<(BlockView, Decoding<A>)>
         ensures taken { result ≡ decoding_of self.old.block }
         ensures stopped { self.new ≡ stopped self.old }
@@ -105,7 +115,10 @@ impl<'b, A: Allocator + Copy> State<'b, A> {
                 });
                 match decoding {
                     None => None,
-                    Some(decoding) => Some((shown, decoding)),
+                    Some(mut decoding) => {
+                        decoding.share();
+                        Some((shown, decoding))
+                    }
                 }
             }
         }
@@ -153,46 +166,46 @@ impl<'b, A: Allocator + Copy> State<'b, A> {
     {
         let due = self.is_due();
         match self.spare.take() {
-            Some(spare) => spare.renewed(purpose, due),
+            Some(mut spare) => {
+                spare.renew(purpose, due);
+                spare
+            }
             None => Decoding::fresh(alloc, purpose, due),
         }
     }
 
     /// Keeps the memory of a block's decoding for the next block.
-    fn keep_decoding(&mut self, decoding: Decoding<A>)
+    fn keep_decoding(&mut self, mut decoding: Decoding<A>)
         ensures { self.new ≡ self.old }
     {
+        let purpose = decoding.purpose;
+        decoding.renew(purpose, false);
         self.spare = Some(decoding);
     }
 
-    /// What a fragment of a block results in.
+    /// What a fragment of a block results in. The block's decoding is taken out where it goes on.
     ///
     /// # Errors
     ///
-    /// The block as it was before the fragment, where memory was refused.
+    /// `AllocError` where memory was refused; the block is as it was before the fragment.
     fn on_fragment(
         &mut self,
         shown: BlockView,
-        decoding: Decoding<A>,
+        decoding: &mut Decoding<A>,
         octets: &[u8],
         end_headers: bool,
         payload: &[u8],
         out: &mut Vec<u8, A>,
-    ) -> Result<Option<Cause>, Decoding<A>>
+    ) -> Result<Option<Cause>, AllocError>
         requires fits { length payload.now < 2 ^ 24 }
         requires stopped { IsStopped self.old.block }
-        requires known { IsOpenAt (records self.old) shown.stream decoding.purpose }
-        ensures ok { OnOk result (Does (stepped (rule.concluded self.old payload.now (headers.fragment self.old shown decoding octets.now end_headers))) out.old.items self.new out.new.items) }
-        ensures cause { IfOk result (λ cause. cause ≡ rule.effect_cause (headers.fragment self.old shown decoding octets.now end_headers)) }
-        ensures err { IfErr result (λ before. (before ≡ decoding) × (self.new ≡ self.old) × (out.new.items ≡ out.old.items)) }
+        requires known { IsOpenAt (records self.old) shown.stream decoding.old.purpose }
+        ensures ok { OnOk result (Does (stepped (rule.concluded self.old payload.now (headers.fragment self.old shown decoding.old octets.now end_headers))) out.old.items self.new out.new.items) }
+        ensures cause { IfOk result (λ cause. cause ≡ rule.effect_cause (headers.fragment self.old shown decoding.old octets.now end_headers)) }
+        ensures err { OnErr result ((decoding.new ≡ decoding.old) × (self.new ≡ self.old) × (out.new.items ≡ out.old.items)) }
     {
         let edit = self.take_edit(*out.allocator());
-        let (tentative, mut edit, effect) = fragment(
-            self.book,
-            self.config,
-            self.core,
-            &self.streams,
-            &self.table,
+        let (mut edit, tentative, effect) = self.fragment(
             edit,
             shown,
             decoding,
@@ -201,13 +214,14 @@ impl<'b, A: Allocator + Copy> State<'b, A> {
         );
         match effect {
             Ok(effect) => {
-                let result = self.finish(effect, tentative, &mut edit, payload, out);
+                let result = self.finish(effect, decoding, tentative, &mut edit, payload, out);
                 self.keep_edit(edit);
                 result
             }
             Err(_) => {
                 self.keep_edit(edit);
-                Err(tentative.give_up())
+                decoding.give_up(tentative);
+                Err(AllocError)
             }
         }
     }
@@ -237,12 +251,15 @@ impl<'b, A: Allocator + Copy> State<'b, A> {
     {
         match self.take_decoding() {
             None => self.not_open(out),
-            Some((shown, decoding)) => {
+            Some((shown, mut decoding)) => {
                 let end_headers = head.has(END_HEADERS);
-                match self.on_fragment(shown, decoding, octets, end_headers, payload, out) {
-                    Ok(cause) => Ok(cause),
-                    Err(before) => {
-                        self.put_back(shown, before);
+                match self.on_fragment(shown, &mut decoding, octets, end_headers, payload, out) {
+                    Ok(cause) => {
+                        self.keep_decoding(decoding);
+                        Ok(cause)
+                    }
+                    Err(_) => {
+                        self.put_back(shown, decoding);
                         Err(AllocError)
                     }
                 }
@@ -277,13 +294,23 @@ impl<'b, A: Allocator + Copy> State<'b, A> {
         match self.purpose_at(head.stream) {
             Err(cause) => self.fail(cause, out),
             Ok(purpose) => {
-                let decoding = self.begin_decoding(*out.allocator(), purpose);
+                let mut decoding = self.begin_decoding(*out.allocator(), purpose);
                 let end_headers = head.has(END_HEADERS);
                 let shown = fresh_block(head);
-                match self.on_fragment(shown, decoding, part.fragment, end_headers, payload, out) {
-                    Ok(cause) => Ok(cause),
-                    Err(before) => {
-                        self.keep_decoding(before);
+                match self.on_fragment(
+                    shown,
+                    &mut decoding,
+                    part.fragment,
+                    end_headers,
+                    payload,
+                    out,
+                ) {
+                    Ok(cause) => {
+                        self.keep_decoding(decoding);
+                        Ok(cause)
+                    }
+                    Err(_) => {
+                        self.keep_decoding(decoding);
                         Err(AllocError)
                     }
                 }

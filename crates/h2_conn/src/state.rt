@@ -3,6 +3,7 @@
 
 ghost use Rattle.std.specs.Prelude.{◌≡◌, [], IfOk};
 ghost use Rattle.h2_rules.specs.Sound.{AreInRange};
+ghost use Rattle.h2_spec.specs.Block.{list_size};
 ghost use Rattle.h2_spec.specs.State.{configured, opening, opening_core};
 
 use h2_fields::collected::Collected;
@@ -53,31 +54,37 @@ impl<A: Allocator + Copy> Decoding<A> {
     pub fn fresh(alloc: A, purpose: Purpose, due: bool) -> Self
         ensures { result ≡ record { purpose = purpose; fields = []; due = due; rest = [] } }
     {
-        let empty = Decoding {
+        let mut decoding = Decoding {
             purpose,
             collected: Collected::new(alloc),
             rest: Rest::new(alloc),
         };
-        empty.renewed(purpose, due)
+        decoding.renew(purpose, due);
+        decoding
     }
 
     /// Nothing of another block is decoded yet; `due` says whether it has to begin with a size update. The memory is
     /// used again, unless it is of a large block.
-    pub fn renewed(self, purpose: Purpose, due: bool) -> Self
-        ensures { result ≡ record { purpose = purpose; fields = []; due = due; rest = [] } }
+    pub fn renew(&mut self, purpose: Purpose, due: bool)
+        ensures { self.new ≡ record { purpose = purpose; fields = []; due = due; rest = [] } }
     {
-        let Decoding {
-            purpose: _,
-            mut collected,
-            mut rest,
-        } = self;
-        collected.clear(due);
-        rest.clear();
-        Decoding {
-            purpose,
-            collected,
-            rest,
-        }
+        self.purpose = purpose;
+        self.collected.clear(due);
+        self.rest.clear();
+    }
+
+    /// Where there are many fields, copies made from now on share them; the block stays the same.
+    pub fn share(&mut self)
+        ensures { self.new ≡ self.old }
+    {
+        self.collected.share();
+    }
+
+    /// The size of the fields (RFC 9113, 6.5.2).
+    pub fn list_size(&self) -> u64
+        ensures { result ≡ list_size self.now.fields }
+    {
+        self.collected.list_size()
     }
 
     /// The same once more, in memory of its own.

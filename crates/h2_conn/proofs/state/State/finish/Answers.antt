@@ -8,6 +8,7 @@ use Rattle.h2_spec.specs.Trace.{then_sent}
 use Rattle.h2_table.specs.Edits.{IsEdit, edited}
 use Rattle.h2_conn.specs.Blocks.{IsOpenFor, IsSoundEffect, block_after, effect_seen, limited}
 use Rattle.h2_conn.specs.Does.{Does, stepped}
+use Rattle.h2_conn.specs.Fragments.{after_of}
 use Rattle.h2_conn.specs.Sending.{records}
 use Rattle.h2_rules.specs.Sound.{in_force}
 use Rattle.h2_conn.proofs.FinishLaws.{open-then, rebound, same-settings, same-table}
@@ -18,7 +19,7 @@ commit-requires g c =
     let s = c.args.self.now in
     let edit = c.args.edit.now in
     let table = c.self.inside.table in
-    let effect = subst (λ e. IsSoundEffect s.book (records s) (in_force s.core) (limited s.core.own.table s.table) edit c.args.tentative.after e) c.in-Makes.is c.requires.sound in
+    let effect = subst (λ e. IsSoundEffect s.book (records s) (in_force s.core) (limited s.core.own.table s.table) edit (after_of c.args.decoding.now c.args.tentative) e) c.in-Makes.is c.requires.sound in
     let same : table.table ≡ s.table = ap (λ (x : State). x.table) c.self.view_is ∙ same-table s c.apply_change.new.self c.args.payload.now c.in-Makes.change c.args.out.now.items c.apply_change.new.out.items c.in-Ok-apply_change.ensures.ok in
     let own = same-settings s c.apply_change.new.self c.args.payload.now c.in-Makes.change c.args.out.now.items c.apply_change.new.out.items effect.0 c.in-Ok-apply_change.ensures.ok in
     let limit : table.limit ≡ s.core.own.table = c.self.invariant.1 ∙ ap (λ (x : State). x.core.own.table) c.self.view_is ∙ ap (λ (o : LocalSettings). o.table) own in
@@ -28,18 +29,19 @@ pub invariant_of-self : goal.invariant_of-self
 invariant_of-self g c =
     let s = c.args.self.now in
     let inside = c.self.inside in
-    let after = c.args.tentative.after in
+    let after = after_of c.args.decoding.now c.args.tentative in
     let effect = subst (λ e. IsSoundEffect s.book (records s) (in_force s.core) (limited s.core.own.table s.table) c.args.edit.now after e) c.in-Makes.is c.requires.sound in
     let held = ap (λ (x : State). x.streams) (sym c.self.view_is) in
+    let is = c.block_after-block.ensures ∙ ap (block_after c.in-Makes.shown) c.take_over.ensures in
     let opened = open-then s c.apply_change.new.self inside.streams c.args.payload.now c.in-Makes.change (block_after c.in-Makes.shown after) c.args.out.now.items c.apply_change.new.out.items effect.0 effect.2 c.in-Ok-apply_change.ensures.ok
     held (c.self.invariant.0.last ∙ ap (λ (x : State). x.core.last) c.self.view_is) in
-    (c.self.invariant.0, ap (λ (t : LimitedTable). t.limit) c.commit.ensures ∙ c.self.invariant.1, subst (λ (b : Option OpenBlock). IsOpenFor inside.streams b) (sym c.block_after-block.ensures) opened, c.self.invariant.3)
+    (c.self.invariant.0, ap (λ (t : LimitedTable). t.limit) c.commit.ensures ∙ c.self.invariant.1, subst (λ (b : Option OpenBlock). IsOpenFor inside.streams b) (sym is) opened, c.self.invariant.3)
 
 pub returns-in-Ok-apply_change-clause-ok : goal.returns-in-Ok-apply_change-clause-ok
 returns-in-Ok-apply_change-clause-ok g c =
     let s = c.args.self.now in
     let edit = c.args.edit.now in
-    let tentative = c.args.tentative in
+    let now = after_of c.args.decoding.now c.args.tentative in
     let payload = c.args.payload.now in
     let change = c.in-Makes.change in
     let out = c.args.out.now.items in
@@ -47,10 +49,11 @@ returns-in-Ok-apply_change-clause-ok g c =
     let held : State = record { book = inside.book.now; config = inside.config; core = inside.core; block = inside.block; table = inside.table.table; streams = inside.streams.streams } in
     let did = subst (λ (x : State). Does (then_sent change.core.phase (made s payload change)) out x c.apply_change.new.out.items) (sym c.self.view_is) c.in-Ok-apply_change.ensures.ok in
     let after = edited s.table.entries edit in
-    let block = block_after c.in-Makes.shown tentative.after in
+    let block = block_after c.in-Makes.shown now in
+    let is = c.block_after-block.ensures ∙ ap (block_after c.in-Makes.shown) c.take_over.ensures in
     let kept : c.commit.new.self.table ≡ after = ap (λ (t : LimitedTable). t.table) c.commit.ensures ∙ ap (λ (t : Table). edited t.entries edit) (same-table s held payload change out c.apply_change.new.out.items did) in
     let changed : State = record s { block = block; table = after } in
-    subst (λ e. Does (stepped (rule.concluded s payload (effect_seen s edit tentative.after e))) out (record held { block = c.block_after-block.result.0; table = c.commit.new.self.table }) c.apply_change.new.out.items) (sym c.in-Makes.is)
-    (subst (λ (b : Option OpenBlock). Does (then_sent change.core.phase (made changed payload change)) out (record held { block = b; table = c.commit.new.self.table }) c.apply_change.new.out.items) (sym c.block_after-block.ensures)
+    subst (λ e. Does (stepped (rule.concluded s payload (effect_seen s edit now e))) out (record held { block = c.block_after-block.result; table = c.commit.new.self.table }) c.apply_change.new.out.items) (sym c.in-Makes.is)
+    (subst (λ (b : Option OpenBlock). Does (then_sent change.core.phase (made changed payload change)) out (record held { block = b; table = c.commit.new.self.table }) c.apply_change.new.out.items) (sym is)
     (subst (λ (t : Table). Does (then_sent change.core.phase (made changed payload change)) out (record held { block = block; table = t }) c.apply_change.new.out.items) (sym kept)
     (rebound s held payload change block after out c.apply_change.new.out.items did)))

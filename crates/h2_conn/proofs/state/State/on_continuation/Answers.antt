@@ -44,7 +44,8 @@ returns-in-Ok-clause-ok g c =
     let taken = subst (λ (t : State). Q t (headers.fragment t x.0 x.1 octets c.has-end_headers.result)) c.take_decoding.ensures.stopped c.in-Ok.ensures.ok in
     let flagged = subst (λ (b : Bool). Q (stopped s) (headers.fragment s x.0 x.1 octets b)) c.has-end_headers.ensures taken in
     let whole = subst (λ (e : Step). Does (stepped e) c.args.out.now.items c.on_fragment.new.self c.on_fragment.new.out.items) (concluded-stopped s p (headers.fragment s x.0 x.1 octets ends)) flagged in
-    subst (λ (e : FrameEffect). Q s e) (sym (goes-on s s.block x octets ends c.in-Some.ensures.taken)) whole
+    let done = subst (λ (e : FrameEffect). Q s e) (sym (goes-on s s.block x octets ends c.in-Some.ensures.taken)) whole in
+    subst (λ (t : State). Does (stepped (rule.concluded s p (headers.continuation s s.block octets ends))) c.args.out.now.items t c.on_fragment.new.out.items) (sym c.keep_decoding.ensures) done
 
 -- the cause is that of the block that was taken out
 pub returns-in-Ok-clause-cause : goal.returns-in-Ok-clause-cause

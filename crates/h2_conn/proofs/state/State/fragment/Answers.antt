@@ -1,0 +1,48 @@
+use Rattle.std.proofs.Common.{◌≡◌, ◌≢◌, ◌+◌, ◌++◌, ℕ, length, false, nat_lt, Some, ap, sym, subst, ◌∙◌}
+use Rattle.std.specs.Prelude.{IfErr, OnOk}
+use Rattle.h2_spec.specs.Block.{decoded, list_size}
+use Rattle.h2_spec.specs.State.{State}
+use Rattle.h2_table.specs.Edits.{IsEdit, edited}
+use Rattle.h2_fields.specs.declared.fault.BlockFault.TheVariants.{NoMemory}
+use Rattle.h2_conn.specs.Blocks.{cause_by, limited}
+use Rattle.h2_conn.specs.Fragments.{HasFault, after_fragment, after_of, before_fragment}
+use Rattle.h2_conn.proofs.FragmentLaws.{few-octets, fragment-faulty, fragment-read, not-memory}
+use Rattle.h2_conn.proofs.state.State.fragment.Goals as goal
+
+pub returns-in-Ok-clause-effect : goal.returns-in-Ok-clause-effect
+returns-in-Ok-clause-effect g c =
+    let a = c.args in
+    let table = c.self.inside.table in
+    let decoded_is = c.decode-edit in
+    let now = after_of decoded_is.new.self decoded_is.result.1 in
+    let edit = decoded_is.result.0 in
+    let s = a.self.now in
+    let few : nat_lt 65536 (a.shown.octets + length a.octets.now) ≡ false = few-octets _ c.if-count-gt-MAX_BLOCK.false in
+    let done = subst (λ r. OnOk r (decoded table.limit (before_fragment table.table a.decoding.now) (a.decoding.now.rest ++ a.octets.now) ≡ after_fragment (edited table.table.entries edit) now)) c.in-Ok.is decoded_is.ensures.decoded in
+    let held = subst (λ (l : ℕ). decoded l (before_fragment table.table a.decoding.now) (a.decoding.now.rest ++ a.octets.now) ≡ after_fragment (edited table.table.entries edit) now) c.self.invariant.1 done in
+    let is = subst (λ (x : State). decoded x.core.own.table (before_fragment x.table a.decoding.now) (a.decoding.now.rest ++ a.octets.now) ≡ after_fragment (edited x.table.entries edit) now) c.self.view_is held in
+    let size : c.list_size.result ≡ list_size now.fields = c.list_size.ensures in
+    c.read-effect.ensures.effect (edited s.table.entries edit)
+    ∙ sym (fragment-read s a.shown a.decoding.now now a.octets.now a.end_headers (edited s.table.entries edit) c.list_size.result few decoded_is.ensures.purpose size is)
+
+pub returns-in-Ok-clause-sound : goal.returns-in-Ok-clause-sound
+returns-in-Ok-clause-sound g c =
+    let table = c.self.inside.table in
+    let s = c.args.self.now in
+    let edit = c.decode-edit.result.0 in
+    let belongs = subst (λ r. OnOk r (IsEdit table edit)) c.in-Ok.is c.decode-edit.ensures.belongs in
+    let held = subst (λ (l : ℕ). IsEdit (limited l table.table) edit) c.self.invariant.1 belongs in
+    c.read-effect.ensures.sound (limited s.core.own.table s.table) edit (subst (λ (x : State). IsEdit (limited x.core.own.table x.table) edit) c.self.view_is held)
+
+pub returns-in-Some-clause-effect : goal.returns-in-Some-clause-effect
+returns-in-Some-clause-effect g c =
+    let a = c.args in
+    let table = c.self.inside.table in
+    let decoded_is = c.decode-edit in
+    let s = a.self.now in
+    let few : nat_lt 65536 (a.shown.octets + length a.octets.now) ≡ false = few-octets _ c.if-count-gt-MAX_BLOCK.false in
+    let named : cause_by c.in-Err.fault ≡ Some c.in-Some.cause = sym c.fault_cause.ensures ∙ c.in-Some.is in
+    let found = subst (λ r. IfErr r (λ fault. fault ≢ NoMemory → HasFault fault (decoded table.limit (before_fragment table.table a.decoding.now) (a.decoding.now.rest ++ a.octets.now)))) c.in-Err.is decoded_is.ensures.faulty in
+    let held = subst (λ (l : ℕ). HasFault c.in-Err.fault (decoded l (before_fragment table.table a.decoding.now) (a.decoding.now.rest ++ a.octets.now))) c.self.invariant.1 (found (not-memory c.in-Err.fault c.in-Some.cause named)) in
+    let has = subst (λ (x : State). HasFault c.in-Err.fault (decoded x.core.own.table (before_fragment x.table a.decoding.now) (a.decoding.now.rest ++ a.octets.now))) c.self.view_is held in
+    sym (fragment-faulty s a.shown a.decoding.now a.octets.now a.end_headers c.in-Err.fault c.in-Some.cause few has named)
