@@ -34,8 +34,8 @@ is-before purpose old now rest before mark d view marked same g =
     block fields due left = record { purpose = purpose; fields = fields; due = due; rest = left }
 
 -- and the mark has their size
-pub is-counted : (old now : FieldsSoFar) (mark : Mark) → mark ≡ record { count = length old.fields; size = list_size old.fields; due = old.due } → Grows old now → mark.size ≡ list_size (take mark.count now.fields)
-is-counted old now mark marked g =
+pub is-sized : (old now : FieldsSoFar) (mark : Mark) → mark ≡ record { count = length old.fields; size = list_size old.fields; due = old.due } → Grows old now → mark.size ≡ list_size (take mark.count now.fields)
+is-sized old now mark marked g =
     ap (λ (m : Mark). m.size) marked ∙ ap list_size (sym (front old now mark.count (ap (λ (m : Mark). m.count) marked) g))
 
 -- a block with the same octets left is the same

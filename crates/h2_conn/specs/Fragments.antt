@@ -23,8 +23,8 @@ abbrev pub after_of : Decoding → Tentative → Decoding
 after_of d t = record d { rest = t.after }
 
 -- the size of the fields before it is known
-abbrev pub IsCounted : Decoding → Tentative → Type 0
-IsCounted d t = t.mark.size ≡ list_size (take t.mark.count d.fields)
+abbrev pub IsSized : Decoding → Tentative → Type 0
+IsSized d t = t.mark.size ≡ list_size (take t.mark.count d.fields)
 
 -- how far the block has come before it
 abbrev pub before_fragment : Table → Decoding → Progress

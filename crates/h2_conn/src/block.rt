@@ -9,7 +9,7 @@ ghost use Rattle.h2_spec.specs.Stream.{Records, kind_of};
 ghost use Rattle.h2_spec.specs.ReactionTable.{headers_cell};
 ghost use Rattle.h2_table.specs.Edits.{EditOf, IsEdit};
 ghost use Rattle.h2_conn.specs.Blocks.{IsOpenAt, IsOpenFor, IsSoundEffect, block_after, cause_by, cell_of, effect_in, effect_seen, limited};
-ghost use Rattle.h2_conn.specs.Fragments.{IsCounted, after_of, before_of};
+ghost use Rattle.h2_conn.specs.Fragments.{IsSized, after_of, before_of};
 ghost use Rattle.h2_conn.specs.Sending.{records};
 ghost use Rattle.h2_rules.specs.Sound.{AreSound, InForce, in_force};
 
@@ -103,7 +103,7 @@ impl<'b, A: Allocator + Copy> State<'b, A> {
     ) -> (Edit<A>, Tentative<A>, Result<FragmentEffect, AllocError>)
         requires open { IsOpenAt (records self.now) shown.stream decoding.old.purpose }
         ensures before { before_of decoding.new result.1 ≡ decoding.old }
-        ensures counted { IsCounted decoding.new result.1 }
+        ensures sized { IsSized decoding.new result.1 }
         ensures effect { IfOk result.2 (λ e. effect_seen self.now result.0 (after_of decoding.new result.1) e ≡ rule.fragment self.now shown decoding.old octets.now end_headers) }
         ensures sound { IfOk result.2 (λ e. IsSoundEffect self.now.book (records self.now) (in_force self.now.core) (limited self.now.core.own.table self.now.table) result.0 (after_of decoding.new result.1) e) }
     {

@@ -15,7 +15,7 @@ ghost use Rattle.h2_spec.specs.ReactionTable.{headers_cell};
 ghost use Rattle.h2_spec.specs.declared.causes.Cause.TheVariants.{ContinuationOutsideBlock};
 ghost use Rattle.h2_conn.specs.Blocks.{IsOpenAt, IsSoundEffect, IsStopped, block_after, cell_of, decoding_of, effect_seen, limited};
 ghost use Rattle.h2_conn.specs.Does.{Does, stepped, stopped};
-ghost use Rattle.h2_conn.specs.Fragments.{IsCounted, after_of, before_of};
+ghost use Rattle.h2_conn.specs.Fragments.{IsSized, after_of, before_of};
 ghost use Rattle.h2_conn.specs.Sending.{records};
 ghost use Rattle.h2_rules.specs.Sound.{in_force};
 
@@ -67,7 +67,7 @@ impl<'b, A: Allocator + Copy> State<'b, A> {
     ) -> Result<Option<Cause>, AllocError>
         requires fits { length payload.now < 2 ^ 24 }
         requires stopped { IsStopped self.old.block }
-        requires counted { IsCounted decoding.old tentative }
+        requires sized { IsSized decoding.old tentative }
         requires sound { IsSoundEffect self.old.book (records self.old) (in_force self.old.core) (limited self.old.core.own.table self.old.table) edit.old (after_of decoding.old tentative) effect }
         ensures ok { OnOk result (Does (stepped (rule.concluded self.old payload.now (effect_seen self.old edit.old (after_of decoding.old tentative) effect))) out.old.items self.new out.new.items) }
         ensures cause { IfOk result (λ cause. cause ≡ rule.effect_cause (effect_seen self.old edit.old (after_of decoding.old tentative) effect)) }

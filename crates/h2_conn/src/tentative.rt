@@ -8,7 +8,7 @@ ghost use Rattle.h2_spec.specs.Block as block;
 ghost use Rattle.h2_fields.specs.declared.fault.BlockFault.TheVariants.{NoMemory};
 ghost use Rattle.h2_table.specs.Edits.{IsEdit, edited};
 ghost use Rattle.h2_conn.specs.Blocks.{bad_end};
-ghost use Rattle.h2_conn.specs.Fragments.{HasFault, IsCounted, after_fragment, after_of, before_fragment, before_of};
+ghost use Rattle.h2_conn.specs.Fragments.{HasFault, IsSized, after_fragment, after_of, before_fragment, before_of};
 
 use crate::state::Decoding;
 use h2_fields::collected::Mark;
@@ -44,7 +44,7 @@ impl<A: Allocator + Copy> Decoding<A> {
     pub fn unchanged(&mut self) -> Tentative<A>
         ensures before { before_of self.new result ≡ self.old }
         ensures after { after_of self.new result ≡ self.old }
-        ensures counted { IsCounted self.new result }
+        ensures sized { IsSized self.new result }
     {
         let mark = self.collected.mark();
         let none = Rest::new(self.collected.allocator());
@@ -65,7 +65,7 @@ impl<A: Allocator + Copy> Decoding<A> {
         octets: &[u8],
     ) -> (Edit<A>, Tentative<A>, Result<(), BlockFault>)
         ensures before { before_of self.new result.1 ≡ self.old }
-        ensures counted { IsCounted self.new result.1 }
+        ensures sized { IsSized self.new result.1 }
         ensures purpose { self.new.purpose ≡ self.old.purpose }
         ensures belongs { OnOk result.2 (IsEdit table.now result.0) }
         ensures decoded { OnOk result.2 (block.decoded table.now.limit (before_fragment table.now.table self.old) (self.old.rest ++ octets.now) ≡ after_fragment (edited table.now.table.entries result.0) (after_of self.new result.1)) }
@@ -80,7 +80,7 @@ impl<A: Allocator + Copy> Decoding<A> {
 
     /// The block becomes what it was before the fragment.
     pub fn give_up(&mut self, tentative: Tentative<A>)
-        requires counted { IsCounted self.old tentative }
+        requires sized { IsSized self.old tentative }
         ensures { self.new ≡ before_of self.old tentative }
     {
         let Tentative { rest, mark } = tentative;

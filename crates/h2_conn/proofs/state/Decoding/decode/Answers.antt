@@ -1,6 +1,6 @@
 use Rattle.std.proofs.Common.{◌∙◌}
 use Rattle.h2_table.specs.Edits.{edited}
-use Rattle.h2_conn.proofs.TentativeLaws.{decoded-answered, faulty-answered, is-before, is-counted, same-block}
+use Rattle.h2_conn.proofs.TentativeLaws.{decoded-answered, faulty-answered, is-before, is-sized, same-block}
 use Rattle.h2_conn.proofs.state.Decoding.decode.Goals as goal
 
 pub returns-clause-before : goal.returns-clause-before
@@ -9,10 +9,10 @@ returns-clause-before g c =
     let piece = c.decode_piece-edit in
     is-before inside.purpose inside.collected piece.new.collected inside.rest piece.result.1.before c.mark-mark.result c.args.self.now c.self.view_is c.mark-mark.ensures (piece.ensures.before ∙ c.replace-before.ensures.value) piece.ensures.grows
 
-pub returns-clause-counted : goal.returns-clause-counted
-returns-clause-counted g c =
+pub returns-clause-sized : goal.returns-clause-sized
+returns-clause-sized g c =
     let piece = c.decode_piece-edit in
-    is-counted c.self.inside.collected piece.new.collected c.mark-mark.result c.mark-mark.ensures piece.ensures.grows
+    is-sized c.self.inside.collected piece.new.collected c.mark-mark.result c.mark-mark.ensures piece.ensures.grows
 
 pub returns-clause-decoded : goal.returns-clause-decoded
 returns-clause-decoded g c =

@@ -1,6 +1,6 @@
 use Rattle.std.proofs.Common.{◌≡◌, ◌∙◌, ap}
 use Rattle.h2_fields.specs.Rests.{RestChange}
-use Rattle.h2_conn.proofs.TentativeLaws.{grows-not, is-before, is-counted, same-block}
+use Rattle.h2_conn.proofs.TentativeLaws.{grows-not, is-before, is-sized, same-block}
 use Rattle.h2_conn.proofs.state.Decoding.unchanged.Goals as goal
 
 pub returns-clause-before : goal.returns-clause-before
@@ -15,7 +15,7 @@ returns-clause-after g c =
     let same = ap (λ (r : RestChange). r.after) c.unchanged-rest.ensures ∙ c.replace.ensures.value in
     same-block inside.purpose inside.collected inside.rest c.unchanged-rest.result.after c.args.self.now c.self.view_is same
 
-pub returns-clause-counted : goal.returns-clause-counted
-returns-clause-counted g c =
+pub returns-clause-sized : goal.returns-clause-sized
+returns-clause-sized g c =
     let inside = c.self.inside in
-    is-counted inside.collected inside.collected c.mark-mark.result c.mark-mark.ensures (grows-not inside.collected)
+    is-sized inside.collected inside.collected c.mark-mark.result c.mark-mark.ensures (grows-not inside.collected)
