@@ -1,5 +1,5 @@
 -- What a fragment that is decoded results in.
-use Rattle.std.proofs.Common.{◌≡◌, ◌≢◌, ℕ, Bool, true, false, cond, ◌+◌, nat_lt, List, ◌++◌, length, Option, Some, None, not, refl, sym, ap, subst, ◌∙◌, ◌==◌, ◌≤◌, arith}
+use Rattle.std.proofs.Common.{◌≡◌, ◌≢◌, ℕ, Bool, true, false, cond, ◌+◌, nat_lt, List, ◌++◌, length, Some, None, not, refl, sym, ap, subst, ◌∙◌, ◌==◌, ◌≤◌, arith}
 use Rattle.std.proofs.lemmas.Bool.Decides.{nat_tests}
 use Rattle.std.proofs.lemmas.Option.{none-some}
 use Rattle.h2_fields.specs.Blocks.{faulted}

@@ -1,6 +1,6 @@
 -- An item leaves the records of streams that have ended as they are.
-use Rattle.std.proofs.Common.{◌≡◌, ◌∙◌, ℕ, ◌+◌, ◌-◌, ◌<◌, ◌%◌, Bool, true, false, cond, ◌&&◌, ◌||◌, not, List, [], ◌∷◌, ◌++◌, length, map, Option, Some, None, Result, Ok, Err, refl, sym, ap, subst, arith, eqb, ltb, append_assoc, true≢false, zero, ◌≤◌}
-use Rattle.std.specs.Prelude.{nat_lt, pos, ◌+ℤ◌, ℤ, ◌-ℤ◌, int_lt, min}
+use Rattle.std.proofs.Common.{◌≡◌, ◌∙◌, ℕ, ◌+◌, ◌-◌, ◌<◌, ◌%◌, Bool, true, false, cond, ◌&&◌, ◌||◌, not, List, [], ◌∷◌, ◌++◌, length, map, Option, Some, None, Result, Ok, Err, refl, sym, ap, subst, arith, eqb, ltb, append_assoc, true≢false}
+use Rattle.std.specs.Prelude.{nat_lt, pos, ◌+ℤ◌, ℤ, ◌-ℤ◌, int_lt}
 use Rattle.std.specs.List.{filter}
 use Rattle.std.proofs.lemmas.Bool.{eqb-true, eq-eqb, both_ways, ltb-true}
 use Rattle.std.proofs.lemmas.List.{append-nil}
@@ -28,7 +28,7 @@ use Rattle.h2_spec.specs.declared.streams.Kind.TheVariants.{Idle, Skipped, BothO
 use Rattle.h2_spec.specs.declared.streams.Stream.{Stream}
 use Rattle.h2_spec.specs.Answer.{Entry}
 use Rattle.h2_spec.specs.Block.{Decoded, Outcome, Unfinished, Faulty, list_size}
-use Rattle.h2_spec.specs.Change.{Step, after, broken, follows_initial_window, made, moved_by, only_counts, received, received_one, shifted, shifted_one, stream_error, updated_streams, with_outcome, with_recv, with_send}
+use Rattle.h2_spec.specs.Change.{after, follows_initial_window, made, moved_by, only_counts, received, received_one, shifted, shifted_one, stream_error, updated_streams, with_outcome, with_recv, with_send}
 use Rattle.h2_spec.specs.Checks.{refusal}
 use Rattle.h2_spec.specs.Data.{counted, owed_on_connection, owed_as, if_within, data_taken, data_refused, data_counted, data_outcome}
 use Rattle.h2_spec.specs.DynamicTable.{Table}

@@ -1,5 +1,5 @@
 -- The phase after an item: the preface is awaited no more, and after what ends all items the connection has ended.
-use Rattle.std.proofs.Common.{◌≡◌, ◌∙◌, ℕ, Bool, true, false, ◌&&◌, not, List, Option, Some, None, Result, Ok, Err, refl, ap, ◌==◌}
+use Rattle.std.proofs.Common.{◌≡◌, ◌∙◌, ℕ, Bool, true, false, not, List, Option, Some, None, Result, Ok, Err, refl, ap, ◌==◌}
 use Rattle.std.proofs.lemmas.Bool.{cond_both}
 use Rattle.std.specs.Prelude.{if◌then◌else◌, length, nat_lt, int_lt, pos, ◌-ℤ◌, ◌+ℤ◌, ◌+◌}
 use Rattle.h2_spec.specs.declared.connection.BlockView.{BlockView}

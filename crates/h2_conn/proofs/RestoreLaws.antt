@@ -1,6 +1,5 @@
 -- A state is made again from its mark and the records of a state that follows it.
-use Rattle.std.proofs.Common.{◌≡◌, ◌≤◌, ℕ, List, length, take, ap, refl, subst, sym}
-use Rattle.std.specs.List.{filter}
+use Rattle.std.proofs.Common.{◌≡◌, ◌≤◌, List, length, take, ap, subst, sym}
 use Rattle.h2_spec.specs.declared.streams.Stream.{Stream}
 use Rattle.h2_spec.specs.State.{State}
 use Rattle.h2_spec.specs.Stream.{AreRising, Records}

@@ -1,7 +1,6 @@
-use Rattle.std.proofs.Common.{◌≡◌, ◌∙◌, false, true, refl, sym, ap, Some}
+use Rattle.std.proofs.Common.{◌≡◌, ◌∙◌, false, true, refl, sym, ap}
 use Rattle.h2_frame.specs.Items.{item_of}
-use Rattle.h2_spec.specs.Effect.{cause_of}
-use Rattle.h2_spec.specs.Ignored.{ignored_of, item_ignored, unless_caused}
+use Rattle.h2_spec.specs.Ignored.{ignored_of, unless_caused}
 use Rattle.h2_conn.specs.Connection.{is_ended}
 use Rattle.h2_conn.specs.Reports.{reported}
 use Rattle.h2_conn.proofs.FirstLaws.{first-none, first-short, first-taken, item-is, item-over}

@@ -1,4 +1,4 @@
-use Rattle.std.proofs.Common.{◌≡◌, ◌∙◌, refl, subst, sym}
+use Rattle.std.proofs.Common.{◌≡◌, subst, sym}
 use Rattle.h2_spec.specs.State.{State}
 use Rattle.h2_conn.specs.Mark.{Marked}
 use Rattle.h2_conn.proofs.RestoreLaws.{CanRebuild, IsRestored, can-rebuild, restored, restored-sound, state_of_mark, state-restored}

@@ -1,4 +1,4 @@
-use Rattle.std.proofs.Common.{◌≡◌, ◌∙◌, ap}
+use Rattle.std.proofs.Common.{◌∙◌, ap}
 use Rattle.h2_fields.specs.Rests.{RestChange}
 use Rattle.h2_conn.proofs.TentativeLaws.{grows-not, is-before, is-sized, same-block}
 use Rattle.h2_conn.proofs.state.Decoding.unchanged.Goals as goal

@@ -1,6 +1,5 @@
-use Rattle.std.proofs.Common.{◌≡◌, ◌∙◌, List, ap, refl}
+use Rattle.std.proofs.Common.{◌≡◌, ◌∙◌, refl}
 use Rattle.std.specs.List.{filter}
-use Rattle.h2_spec.specs.declared.streams.Stream.{Stream}
 use Rattle.h2_conn.specs.Marks.{can_change}
 use Rattle.h2_conn.proofs.MarkLaws.{changing-listed}
 use Rattle.h2_conn.proofs.state.State.mark.Goals as goal

@@ -1,5 +1,4 @@
 use Rattle.std.proofs.Common.{◌≡◌, ◌∙◌, ap, subst, sym}
-use Rattle.h2_spec.specs.declared.reactions.Change.{Change}
 use Rattle.h2_spec.specs.Change.{only_counts}
 use Rattle.h2_spec.specs.Headers as headers
 use Rattle.h2_spec.specs.State.{Decoding, State}
