@@ -121,6 +121,9 @@ def items(kind, count, stream):
             yield setting(4, 0 if place % 2 else 1)
         elif kind == "get":
             yield frame(HEADERS, END_STREAM | END_HEADERS, stream + 2 * place, GET)
+        elif kind == "spread-get":
+            # Identifiers that a table of a fixed hash may put into few groups.
+            yield frame(HEADERS, END_STREAM | END_HEADERS, stream + 8192 * place, GET)
         elif kind == "browser":
             yield frame(HEADERS, END_STREAM | END_HEADERS, stream + 2 * place, next_browser())
         elif kind == "browser-inserting":

@@ -12,7 +12,7 @@ export WORK=${WORK:-$(mktemp -d)}
 made=$WORK/peers
 mkdir -p "$made"
 gcc -O2 -o "$made/nghttp2" "$here/nghttp2.c" -lnghttp2
-"$here/../run.sh" conn 8000 1 < /dev/null > "$made/built" || { cat "$made/built"; exit 1; }
+"$here/../run.sh" conn 8000 1 0 < /dev/null > "$made/built" || { cat "$made/built"; exit 1; }
 ours=$WORK/crates/bench_conn/out/bench_conn
 
 # Instructions of a command whose input is a file.
@@ -23,11 +23,12 @@ counted() {
         sed -n 's/^==[0-9]*== Collected : //p'
 }
 
-# Instructions of one connection that is fed a file in pieces of 8,000 octets, its octets in memory.
+# Instructions of one connection that is fed a file in pieces of 8,000 octets, its octets in memory. The second word is
+# how many entries the book has before the two answers.
 connection() {
     local one two
-    one=$(counted "$1" "$ours" 8000 1)
-    two=$(counted "$1" "$ours" 8000 2)
+    one=$(counted "$1" "$ours" 8000 1 "$2")
+    two=$(counted "$1" "$ours" 8000 2 "$2")
     echo $((two - one))
 }
 
@@ -36,14 +37,15 @@ each() {
     if [ -n "$1" ] && [ -n "$2" ]; then echo $((($2 - $1) / $3)); else echo -; fi
 }
 
-# A row: its name, the kind, items of the first and of the second run, streams that are open or wait.
+# A row: its name, the kind, items of the first and of the second run, streams that are open or wait, and entries of the
+# book before the two answers, where there are any; nghttp2 has no book.
 row() {
     case $1 in *"$only"*) ;; *) return ;; esac
     /usr/bin/python3 "$here/octets.py" "$2" "$3" "$5" > "$made/few"
     /usr/bin/python3 "$here/octets.py" "$2" "$4" "$5" > "$made/many"
     local few many theirs_few theirs_many
-    few=$(connection "$made/few")
-    many=$(connection "$made/many")
+    few=$(connection "$made/few" "${6:-0}")
+    many=$(connection "$made/many" "${6:-0}")
     theirs_few=$(counted "$made/few" "$made/nghttp2" session "$made/few" 8000)
     theirs_many=$(counted "$made/many" "$made/nghttp2" session "$made/many" 8000)
     echo "| $1 | $(each "$few" "$many" $(($4 - $3))) | $(each "$theirs_few" "$theirs_many" $(($4 - $3))) |"
@@ -58,6 +60,8 @@ row "DATA of one octet" data 2000 12000 0
 row "DATA of 16,384 octets" full-data 200 1200 0
 row "GET of four indexed fields, answered with two octets" get 2000 12000 0
 row "the same beside 100 open streams" get 2000 12000 100
+row "the same, with identifiers 8,192 apart" spread-get 2000 12000 0
+row "the same, with 998 other entries in the book" get 2000 12000 0 998
 row "a browser's GET that inserts nothing" browser 1000 6000 0
 row "a browser's GET that inserts each time" browser-inserting 1000 6000 0
 row "PING beside 100 open streams" ping 2000 12000 100

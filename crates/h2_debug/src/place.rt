@@ -84,7 +84,14 @@ impl<'b, A: Allocator + Copy> Place<'b, A> {
     {
         let conn = self.conn.try_clone()?;
         let sent = copy_of(&self.sent)?;
-        Ok(Place::of(conn, self.position, self.used, self.reasons, sent))
+        Ok(Place {
+            conn,
+            position: self.position,
+            used: self.used,
+            reasons: self.reasons,
+            sent,
+            spare: Vec::new(*self.sent.allocator()),
+        })
     }
 
     /// What the item at this position sent, in memory of its own.
