@@ -148,27 +148,27 @@ fn numbers_of_small_frames(rt: HostRuntime) {
 }
 
 /// The part of a frame that is PING, PRIORITY or an acknowledgement, by name, and the octets of PING.
-fn part(kind: u8, flags: u8, payload: &[u8]) -> Result<(&str, &[u8]), Cause> {
+fn part(kind: u8, flags: u8, payload: &[u8]) -> Result<(&str, Option<[u8; 8]>), Cause> {
     match part_of(frame(kind, flags, payload))? {
-        Part::Ping(octets) => Ok(("PING", octets)),
-        Part::Priority => Ok(("PRIORITY", b"")),
-        Part::SettingsAck => Ok(("acknowledgement", b"")),
-        _ => Ok(("another part", b"")),
+        Part::Ping(octets) => Ok(("PING", Some(octets))),
+        Part::Priority => Ok(("PRIORITY", None)),
+        Part::SettingsAck => Ok(("acknowledgement", None)),
+        _ => Ok(("another part", None)),
     }
 }
 
 /// Types, flags and payloads, and what they hold.
-static PARTS: [(u8, u8, &[u8], Result<(&str, &[u8]), Cause>); 5] = [
+static PARTS: [(u8, u8, &[u8], Result<(&str, Option<[u8; 8]>), Cause>); 5] = [
     (
         6,
         0,
         b"\x01\x02\x03\x04\x05\x06\x07\x08",
-        Ok(("PING", b"\x01\x02\x03\x04\x05\x06\x07\x08")),
+        Ok(("PING", Some([1, 2, 3, 4, 5, 6, 7, 8]))),
     ),
     (6, 0, b"\x01", Err(Cause::PingLength)),
     (2, 0, b"\x01", Err(Cause::PriorityLength)),
-    (2, 0, b"\x00\x00\x00\x01\x0f", Ok(("PRIORITY", b""))),
-    (4, 0x01, b"", Ok(("acknowledgement", b""))),
+    (2, 0, b"\x00\x00\x00\x01\x0f", Ok(("PRIORITY", None))),
+    (4, 0x01, b"", Ok(("acknowledgement", None))),
 ];
 
 #[test]

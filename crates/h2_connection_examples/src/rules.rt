@@ -519,15 +519,16 @@ fn kept(reaction: Reaction) -> Option<Kept> {
 #[test]
 fn ping_is_answered_and_goaway_is_noted(rt: HostRuntime) {
     let quiet = ConnectionFrame::NoConnectionFrame;
+    let octets = [1, 2, 3, 4, 5, 6, 7, 8];
     let answered = Some((
-        ConnectionFrame::PingAck,
+        ConnectionFrame::PingAck(octets),
         RecordUpdate::Unchanged,
         None,
         false,
     ));
-    same(&rt, &kept(on_ping(fresh(), false)), &answered, &"PING");
+    same(&rt, &kept(on_ping(fresh(), false, octets)), &answered, &"PING");
     let ignored = Some((quiet, RecordUpdate::Unchanged, None, false));
-    same(&rt, &kept(on_ping(fresh(), true)), &ignored, &"an answer");
+    same(&rt, &kept(on_ping(fresh(), true, octets)), &ignored, &"an answer");
     let noted = Some((quiet, RecordUpdate::Unchanged, Some((7, 2)), false));
     same(&rt, &kept(on_goaway(fresh(), 7, 2)), &noted, &"GOAWAY");
 }

@@ -131,7 +131,7 @@ fn say_part(frame: FrameRef<'_>, part: Part<'_>, out: &mut String) -> Result<(),
         Part::Settings(settings) => say_settings(settings, out),
         Part::SettingsAck => Ok(()),
         Part::Ping(octets) => {
-            say_all!(out; " ", Hex(octets));
+            say_all!(out; " ", Hex(&octets));
             Ok(())
         }
         Part::Goaway(last, code) => say_goaway(last, code, frame.payload, out),

@@ -6,7 +6,7 @@ ghost use Rattle.h2_spec.specs.FrameType.{DATA, HEADERS, RST_STREAM, SETTINGS, G
 ghost use Rattle.h2_spec.specs.Payload as spec;
 ghost use Rattle.h2_spec.specs.Payload.Part.{OfPriority};
 ghost use Rattle.h2_spec.specs.Payload.{octets_if, fixed_len, pad_or_0, pad_length, priority_of, data_part, headers_part, settings_part, window_part, goaway_part, reset_part, with_part, of_length, settings_or_ack};
-ghost use Rattle.h2_spec.specs.declared.causes.Cause.TheVariants.{PriorityLength};
+ghost use Rattle.h2_spec.specs.declared.causes.Cause.TheVariants.{PingLength, PriorityLength};
 ghost use Rattle.h2_frame.specs.Parts.{both_seen, cut_between, data_seen, headers_seen, settings_in, part_seen, seen};
 
 use crate::cuts::{u16_at, u31_at, u32_at};
@@ -247,7 +247,7 @@ pub enum Part<'a> {
     /// Not looked at, since a client may not send it.
     PushPromise,
     /// Eight octets.
-    Ping(&'a [u8]),
+    Ping([u8; 8]),
     /// The last stream and the error code.
     Goaway(u32, u32),
     /// The increment.
@@ -271,7 +271,7 @@ pub fn part_of(frame: FrameRef<'_>) -> Result<Part<'_>, Cause>
         FrameType::RstStream => Ok(Part::RstStream(reset_of(frame)?)),
         FrameType::Settings => settings_or_ack(frame),
         FrameType::PushPromise => Ok(Part::PushPromise),
-        FrameType::Ping => Ok(Part::Ping(octets_of_length(frame.payload, 8, Cause::PingLength)?)),
+        FrameType::Ping => Ok(Part::Ping(ping_octets(frame.payload)?)),
         FrameType::Goaway => {
             let (last, code) = goaway_of(frame)?;
             Ok(Part::Goaway(last, code))
@@ -282,21 +282,23 @@ pub fn part_of(frame: FrameRef<'_>) -> Result<Part<'_>, Cause>
     }
 }
 
-/// The octets, where they are this many.
-fn octets_of_length(octets: &[u8], count: usize, cause: Cause) -> Result<&[u8], Cause>
-    ensures { seen {B = List ℕ} (λ x. x.now) result ≡ (if length octets.now == count then Ok octets.now else Err cause) }
+/// The eight octets of a PING.
+fn ping_octets(octets: &[u8]) -> Result<[u8; 8], Cause>
+    ensures { result ≡ (if length octets.now == 8 then Ok octets.now else Err PingLength) }
 {
-    if octets.len() != count {
-        return Err(cause);
+    match <[u8; 8]>::try_from(octets) {
+        Ok(eight) => Ok(eight),
+        Err(_) => Err(Cause::PingLength),
     }
-    Ok(octets)
 }
 
 /// The five octets of a PRIORITY frame, which are not looked at.
 fn priority_part(octets: &[u8]) -> Result<Part<'_>, Cause>
     ensures { seen part_seen result ≡ of_length 5 PriorityLength OfPriority octets.now }
 {
-    octets_of_length(octets, 5, Cause::PriorityLength)?;
+    if octets.len() != 5 {
+        return Err(Cause::PriorityLength);
+    }
     Ok(Part::Priority)
 }
 

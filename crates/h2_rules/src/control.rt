@@ -23,10 +23,11 @@ pub fn nothing(core: ConnectionState) -> Reaction
     Reaction::Continues(only_counts(core))
 }
 
-/// PING (RFC 9113, 6.7): answered, unless it is an answer itself (`is_answer`), which is ignored. There is no error.
-pub fn on_ping(core: ConnectionState, is_answer: bool) -> Reaction
+/// PING with these octets (RFC 9113, 6.7): they are sent back, unless it is an answer itself (`is_answer`), which is
+/// ignored. There is no error.
+pub fn on_ping(core: ConnectionState, is_answer: bool, octets: [u8; 8]) -> Reaction
     requires core { IsSoundConnectionState core }
-    ensures rule { result ≡ (if is_answer then rule.nothing core else reactions.Continues (record (changes.only_counts core) { first = frames.PingAck })) }
+    ensures rule { result ≡ (if is_answer then rule.nothing core else reactions.Continues (record (changes.only_counts core) { first = frames.PingAck octets })) }
     ensures sound { (book : List Entry) (r : Records) → r.last ≡ core.last → IsSound book r (in_force core) result }
 {
     let change = only_counts(core);
@@ -34,7 +35,7 @@ pub fn on_ping(core: ConnectionState, is_answer: bool) -> Reaction
         return Reaction::Continues(change);
     }
     Reaction::Continues(Change {
-        first: ConnectionFrame::PingAck,
+        first: ConnectionFrame::PingAck(octets),
         ..change
     })
 }

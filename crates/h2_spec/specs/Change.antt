@@ -8,8 +8,6 @@ use Rattle.h2_spec.specs.declared.reactions.Answering.{Answering}
 use Rattle.h2_spec.specs.declared.reactions.Change.{Change}
 use Rattle.h2_spec.specs.declared.reactions.ConnectionFrame.{ConnectionFrame}
 use Rattle.h2_spec.specs.declared.reactions.ConnectionFrame.TheVariants.{NoConnectionFrame, SettingsAck, PingAck, Credit}
-use Rattle.h2_spec.specs.declared.reactions.Reaction.{Reaction}
-use Rattle.h2_spec.specs.declared.reactions.Reaction.TheVariants.{ConnectionError, Continues}
 use Rattle.h2_spec.specs.declared.reactions.StreamFrame.{StreamFrame}
 use Rattle.h2_spec.specs.declared.reactions.StreamFrame.TheVariants.{NoStreamFrame, Reset, StreamCredit}
 use Rattle.h2_spec.specs.declared.reactions.RecordUpdate.{RecordUpdate}
@@ -140,12 +138,12 @@ flag_if false f = 0
 abbrev pub response : Bool → ℕ → Answer → Frame
 response size_update_pending id a = record { kind = HEADERS; flags = END_HEADERS + flag_if (length a.body == 0) END_STREAM; stream = id; payload = response_block size_update_pending a.status a.fields }
 
--- with the item's payload
-abbrev pub first_frames : List ℕ → ConnectionFrame → List Frame
-first_frames p NoConnectionFrame = []
-first_frames p SettingsAck = record { kind = SETTINGS; flags = ACK; stream = 0; payload = [] } ∷ []
-first_frames p PingAck = record { kind = PING; flags = ACK; stream = 0; payload = p } ∷ []
-first_frames p (Credit n) = window_update 0 n ∷ []
+-- what is sent on the connection
+abbrev pub first_frames : ConnectionFrame → List Frame
+first_frames NoConnectionFrame = []
+first_frames SettingsAck = record { kind = SETTINGS; flags = ACK; stream = 0; payload = [] } ∷ []
+first_frames (PingAck octets) = record { kind = PING; flags = ACK; stream = 0; payload = octets } ∷ []
+first_frames (Credit n) = window_update 0 n ∷ []
 
 -- what is sent on a stream
 abbrev pub second_frames : StreamFrame → List Frame
@@ -159,8 +157,8 @@ answer_frames book None = []
 answer_frames book (Some a) = response a.size_update_pending a.id (picked book a.pick) ∷ []
 
 -- what is sent for an item, in the order of its parts
-unfoldable pub frames_of : List Entry → List ℕ → Change → List Frame
-frames_of book p c = first_frames p c.first ++ second_frames c.second ++ answer_frames book c.answer
+unfoldable pub frames_of : List Entry → Change → List Frame
+frames_of book c = first_frames c.first ++ second_frames c.second ++ answer_frames book c.answer
 
 -- a state and the frames sent on the way to it
 pub record Step : Type 0 where
@@ -180,11 +178,6 @@ ended s code = record s { core = record s.core { phase = phase.Ended code }; blo
 abbrev pub broken : State → Cause → Step
 broken s cause = record { state = ended s (code_of cause); sent = goaway s.core.last (code_of cause) ∷ [] }
 
--- a change is made, for an item with this payload
-abbrev pub made : State → List ℕ → Change → Step
-made s p c = record { state = after s c; sent = frames_of s.book p c }
-
--- what an item's reaction results in
-abbrev pub settled : State → List ℕ → Reaction → Step
-settled s p (ConnectionError cause) = broken s cause
-settled s p (Continues c) = made s p c
+-- a change is made
+abbrev pub made : State → Change → Step
+made s c = record { state = after s c; sent = frames_of s.book c }

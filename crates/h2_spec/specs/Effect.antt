@@ -98,7 +98,7 @@ frame_effect s h p (OfRstStream code) = makes s (on_reset s.core (stream_at s.co
 frame_effect s h p (OfSettings pairs) = makes s (settings_rule s.streams s.core pairs)
 frame_effect s h p OfSettingsAck = makes s (acknowledged s.config s.core)
 frame_effect s h p OfPushPromise = Breaks cause.PushPromiseFromClient
-frame_effect s h p (OfPing octets) = makes s (if has h.flags ACK then nothing s.core else Continues (record (only_counts s.core) { first = PingAck }))
+frame_effect s h p (OfPing octets) = makes s (if has h.flags ACK then nothing s.core else Continues (record (only_counts s.core) { first = PingAck octets }))
 frame_effect s h p (OfGoaway last code) = makes s (Continues (only_counts (record s.core { goaway = Some (last, code) })))
 frame_effect s h p (OfWindowUpdate increment) = makes s (if h.stream == 0 then connection_window s.core increment else on_window s.core increment (stream_at s.core.last s.streams h.stream))
 frame_effect s h p (OfContinuation fragment) = continuation s s.block fragment (has h.flags END_HEADERS)
@@ -128,22 +128,15 @@ item_effect s BadPreface = Breaks cause.BadPreface
 item_effect s (Oversize h) = Breaks (oversize h)
 item_effect s (WholeFrame h p) = checked_effect s h p (refusal (block_stream s.block) s.core.phase h)
 
--- what a PING's answer holds
-abbrev pub payload_of : Item → List ℕ
-payload_of Preface = []
-payload_of BadPreface = []
-payload_of (Oversize h) = []
-payload_of (WholeFrame h p) = p
-
 -- what an item results in is done: a connection error, or a change
-abbrev pub concluded : State → List ℕ → FrameEffect → Step
-concluded s p (Breaks cause) = broken s cause
-concluded s p (Makes t c) = made t p c
+abbrev pub concluded : State → FrameEffect → Step
+concluded s (Breaks cause) = broken s cause
+concluded s (Makes t c) = made t c
 
 -- the effect of one item
 unfoldable pub effect : State → Item → Step
 unfolding refusal oversize part_as on_data on_reset on_window connection_window settings_rule request_outcome trailers_outcome stream_at with_outcome decoded frames_of shifted received malformed malformed_trailers declared_length request_of pick_of response_block
-effect s item = concluded s (payload_of item) (item_effect s item)
+effect s item = concluded s (item_effect s item)
 
 -- ---- why
 

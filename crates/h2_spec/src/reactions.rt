@@ -24,8 +24,8 @@ pub enum RecordUpdate {
 pub enum ConnectionFrame {
     NoConnectionFrame,
     SettingsAck,
-    /// With the payload of the PING that is answered.
-    PingAck,
+    /// With the octets of the PING that is answered.
+    PingAck([u8; 8]),
     /// WINDOW_UPDATE with this increment.
     Credit(u32),
 }
