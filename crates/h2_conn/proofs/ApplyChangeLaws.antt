@@ -98,10 +98,10 @@ not-less : (z : ℤ) → z -ℤ pos 0 ≡ z
 not-less z = grind arith
 
 -- a change, and then what waits is sent, by the parts of the state
-pub made-then : (s : State) (p : List ℕ) (c : Change) → then_sent c.core.phase (made s p c) ≡
-    record { state = record s { core = core_after c.core (updated_streams c.record_update s.streams); streams = streams_after c.core (updated_streams c.record_update s.streams) }; sent = all_frames s.book p c s.streams }
+pub made-then : (s : State) (c : Change) → then_sent c.core.phase (made s c) ≡
+    record { state = record s { core = core_after c.core (updated_streams c.record_update s.streams); streams = streams_after c.core (updated_streams c.record_update s.streams) }; sent = all_frames s.book c s.streams }
 unfolding send_pending
-made-then s p c = at c.core.phase
+made-then s c = at c.core.phase
   where
     now : List Stream
     now = updated_streams c.record_update s.streams
@@ -110,7 +110,7 @@ made-then s p c = at c.core.phase
     counted n = record c.core { send = c.core.send -ℤ pos n }
 
     parts : ConnectionState → List Stream → List Frame → Step
-    parts core streams frames = record { state = record s { core = core; streams = streams }; sent = frames_of s.book p c ++ frames }
+    parts core streams frames = record { state = record s { core = core; streams = streams }; sent = frames_of s.book c ++ frames }
 
     sending : ℕ → Step
     sending w = parts (counted (w - window_left w now)) (all_after_sending w now) (sent_frames s.book c.core.peer.frame w now)
@@ -118,12 +118,12 @@ made-then s p c = at c.core.phase
     nothing : counted (0 - window_left 0 now) ≡ c.core
     nothing = ap counted (no-count (window_left 0 now)) ∙ ap (λ (z : ℤ). let k : ConnectionState = record c.core { send = z } in k) (not-less c.core.send)
 
-    at : (ph : Phase) → then_sent ph (made s p c) ≡ sending (open_window_as ph c.core)
+    at : (ph : Phase) → then_sent ph (made s c) ≡ sending (open_window_as ph c.core)
     at phase.Preface = refl
     at phase.Settings = refl
     at phase.Running = refl
     at (phase.Ended code) =
-        ap (λ (fs : List Frame). let t : Step = record { state = record s { core = c.core; streams = now }; sent = fs } in t) (sym (append-nil (frames_of s.book p c)))
+        ap (λ (fs : List Frame). let t : Step = record { state = record s { core = c.core; streams = now }; sent = fs } in t) (sym (append-nil (frames_of s.book c)))
         ∙ ap (λ (k : ConnectionState). parts k now []) (sym nothing)
         ∙ ap (λ (ss : List Stream). parts (counted (0 - window_left 0 now)) ss []) (sym (after-none 0 now (none-spent now)))
         ∙ ap (λ (fs : List Frame). parts (counted (0 - window_left 0 now)) (all_after_sending 0 now) fs) (sym (sent-none s.book c.core.peer.frame 0 now (none-spent now)))
@@ -133,13 +133,13 @@ pub counts-sent : (core : ConnectionState) (streams : List Stream) (n : ℕ) (no
 counts-sent core streams n now count is = is ∙ ap (λ (k : ℕ). let x : ConnectionState = record core { send = core.send -ℤ pos k } in x) count
 
 -- what is done is what the definitions say
-pub did : (s : State) (p : List ℕ) (c : Change) (r now : Records) (core : ConnectionState) (out out' : List ℕ) → s.streams ≡ r.streams → core ≡ core_after c.core (updated_streams c.record_update s.streams) →
-    now ≡ records_after c.core (updated_records c.record_update r) → out' ≡ out ++ frames_octets (all_frames s.book p c s.streams) → AreShort (all_frames s.book p c s.streams) →
-    Does (then_sent c.core.phase (made s p c)) out (record s { core = core; streams = now.streams }) out'
-did s p c r now core out out' held counts sending sent short =
+pub did : (s : State) (c : Change) (r now : Records) (core : ConnectionState) (out out' : List ℕ) → s.streams ≡ r.streams → core ≡ core_after c.core (updated_streams c.record_update s.streams) →
+    now ≡ records_after c.core (updated_records c.record_update r) → out' ≡ out ++ frames_octets (all_frames s.book c s.streams) → AreShort (all_frames s.book c s.streams) →
+    Does (then_sent c.core.phase (made s c)) out (record s { core = core; streams = now.streams }) out'
+did s c r now core out out' held counts sending sent short =
     let streams : (updated_records c.record_update r).streams ≡ updated_streams c.record_update s.streams = updated-streams c.record_update r ∙ ap (updated_streams c.record_update) (sym held) in
     let after = ap (λ (x : Records). x.streams) sending ∙ ap (streams_after c.core) streams in
-    subst (λ (step : Step). Does step out (record s { core = core; streams = now.streams }) out') (sym (made-then s p c))
+    subst (λ (step : Step). Does step out (record s { core = core; streams = now.streams }) out') (sym (made-then s c))
     (record {
       state = ap (λ (k : ConnectionState). record s { core = k; streams = now.streams }) counts ∙ ap (λ (ss : List Stream). record s { core = core_after c.core (updated_streams c.record_update s.streams); streams = ss }) after;
       sent = sent;

@@ -33,8 +33,8 @@ counted-by core now r s same is h = subst (λ (k : ConnectionState). IsCounted k
 pub nothing-counted : (core : ConnectionState) → IsCounted core (nothing core)
 nothing-counted core = refl
 
-pub ping-counted : (core : ConnectionState) (is_answer : Bool) → IsCounted core (if is_answer then nothing core else Continues (record (only_counts core) { first = PingAck }))
-ping-counted core is_answer = by-test core is_answer (nothing core) (Continues (record (only_counts core) { first = PingAck })) refl refl
+pub ping-counted : (core : ConnectionState) (is_answer : Bool) (octets : List ℕ) → IsCounted core (if is_answer then nothing core else Continues (record (only_counts core) { first = PingAck octets }))
+ping-counted core is_answer octets = by-test core is_answer (nothing core) (Continues (record (only_counts core) { first = PingAck octets })) refl refl
 
 pub window-counted : (core : ConnectionState) (n : ℕ) → IsCounted core (connection_window core n)
 unfolding connection_window

@@ -24,27 +24,27 @@ use Rattle.h2_rules.proofs.SoundLaws.{same-own, updated-streams}
 abbrev after-step : State → Change → State
 after-step s c = record s { core = core_after c.core (updated_streams c.record_update s.streams); streams = streams_after c.core (updated_streams c.record_update s.streams) }
 
-state-after : (s now : State) (p : List ℕ) (c : Change) (out out' : List ℕ) → Does (then_sent c.core.phase (made s p c)) out now out' → now ≡ after-step s c
-state-after s now p c out out' d = d.state ∙ ap (λ (step : Step). step.state) (made-then s p c)
+state-after : (s now : State) (c : Change) (out out' : List ℕ) → Does (then_sent c.core.phase (made s c)) out now out' → now ≡ after-step s c
+state-after s now c out out' d = d.state ∙ ap (λ (step : Step). step.state) (made-then s c)
 
 -- the table stays as it was
-pub same-table : (s now : State) (p : List ℕ) (c : Change) (out out' : List ℕ) → Does (then_sent c.core.phase (made s p c)) out now out' → now.table ≡ s.table
-same-table s now p c out out' d = ap (λ (x : State). x.table) (state-after s now p c out out' d)
+pub same-table : (s now : State) (c : Change) (out out' : List ℕ) → Does (then_sent c.core.phase (made s c)) out now out' → now.table ≡ s.table
+same-table s now c out out' d = ap (λ (x : State). x.table) (state-after s now c out out' d)
 
 -- the server's settings stay as they were
-pub same-settings : (s now : State) (p : List ℕ) (c : Change) (out out' : List ℕ) → IsSoundChange s.book (records s) (in_force s.core) c → Does (then_sent c.core.phase (made s p c)) out now out' → now.core.own ≡ s.core.own
-same-settings s now p c out out' sound d = ap (λ (x : State). x.core.own) (state-after s now p c out out' d) ∙ same-own s.book (records s) (in_force s.core) c.core c.record_update sound.1
+pub same-settings : (s now : State) (c : Change) (out out' : List ℕ) → IsSoundChange s.book (records s) (in_force s.core) c → Does (then_sent c.core.phase (made s c)) out now out' → now.core.own ≡ s.core.own
+same-settings s now c out out' sound d = ap (λ (x : State). x.core.own) (state-after s now c out out' d) ∙ same-own s.book (records s) (in_force s.core) c.core c.record_update sound.1
 
 -- with another block and another table
-pub rebound : (s now : State) (p : List ℕ) (c : Change) (b : Option OpenBlock) (t : Table) (out out' : List ℕ) → Does (then_sent c.core.phase (made s p c)) out now out' →
-    Does (then_sent c.core.phase (made (record s { block = b; table = t }) p c)) out (record now { block = b; table = t }) out'
-rebound s now p c b t out out' d =
+pub rebound : (s now : State) (c : Change) (b : Option OpenBlock) (t : Table) (out out' : List ℕ) → Does (then_sent c.core.phase (made s c)) out now out' →
+    Does (then_sent c.core.phase (made (record s { block = b; table = t }) c)) out (record now { block = b; table = t }) out'
+rebound s now c b t out out' d =
     let other : State = record s { block = b; table = t } in
-    subst (λ (step : Step). Does step out (record now { block = b; table = t }) out') (sym (made-then other p c))
+    subst (λ (step : Step). Does step out (record now { block = b; table = t }) out') (sym (made-then other c))
     (record {
-      state = ap (λ (x : State). record x { block = b; table = t }) (state-after s now p c out out' d);
-      sent = d.sent ∙ ap (λ (step : Step). out ++ frames_octets step.sent) (made-then s p c);
-      short = subst (λ (step : Step). AreShort step.sent) (made-then s p c) d.short;
+      state = ap (λ (x : State). record x { block = b; table = t }) (state-after s now c out out' d);
+      sent = d.sent ∙ ap (λ (step : Step). out ++ frames_octets step.sent) (made-then s c);
+      short = subst (λ (step : Step). AreShort step.sent) (made-then s c) d.short;
     })
 
 -- the last stream that was opened is the one that the counts say
@@ -55,11 +55,11 @@ updated-last book r before now (Shift from to) h = sym h.3
 updated-last book r before now (Receive from to) h = absurd h
 
 -- an open block that is known with the records after the change is known with those after sending
-pub open-then : (s now : State) (r : Records) (p : List ℕ) (c : Change) (b : Option OpenBlock) (out out' : List ℕ) → IsSoundChange s.book (records s) (in_force s.core) c →
-    IsOpenFor (updated_records c.record_update (records s)) b → Does (then_sent c.core.phase (made s p c)) out now out' → now.streams ≡ r.streams → r.last ≡ now.core.last → IsOpenFor r b
-open-then s now r p c b out out' sound opened d held last =
+pub open-then : (s now : State) (r : Records) (c : Change) (b : Option OpenBlock) (out out' : List ℕ) → IsSoundChange s.book (records s) (in_force s.core) c →
+    IsOpenFor (updated_records c.record_update (records s)) b → Does (then_sent c.core.phase (made s c)) out now out' → now.streams ≡ r.streams → r.last ≡ now.core.last → IsOpenFor r b
+open-then s now r c b out out' sound opened d held last =
     let mid = updated_records c.record_update (records s) in
-    let is = state-after s now p c out out' d in
+    let is = state-after s now c out out' d in
     let streams : (records_after c.core mid).streams ≡ r.streams =
     ap (streams_after c.core) (updated-streams c.record_update (records s)) ∙ sym (ap (λ (x : State). x.streams) is) ∙ held in
     let counts : mid.last ≡ r.last =

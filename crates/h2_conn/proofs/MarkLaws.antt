@@ -32,7 +32,7 @@ use Rattle.h2_spec.specs.Change.{after, follows_initial_window, made, moved_by, 
 use Rattle.h2_spec.specs.Checks.{refusal}
 use Rattle.h2_spec.specs.Data.{counted, owed_on_connection, owed_as, if_within, data_taken, data_refused, data_counted, data_outcome}
 use Rattle.h2_spec.specs.DynamicTable.{Table}
-use Rattle.h2_spec.specs.Effect.{block_stream, body_length, checked_effect, concluded, data_rule, effect, frame_effect, incoming, item_effect, nothing, on_data, on_headers, on_reset, on_window, part_effect, payload_of, reset_outcome, reset_rule, window_rule}
+use Rattle.h2_spec.specs.Effect.{block_stream, body_length, checked_effect, concluded, data_rule, effect, frame_effect, incoming, item_effect, nothing, on_data, on_headers, on_reset, on_window, part_effect, reset_outcome, reset_rule, window_rule}
 use Rattle.h2_spec.specs.Field.{Field}
 use Rattle.h2_spec.specs.Frame.{Item, Preface, BadPreface, WholeFrame, Oversize}
 use Rattle.h2_spec.specs.FrameType.{ACK, END_HEADERS, has}
@@ -274,22 +274,22 @@ shown-resets : (id : ℕ) (b : Option OpenBlock) → is_reset_by id (Rattle.h2_s
 shown-resets id None = refl
 shown-resets id (Some b) = refl
 
-made-follows : (s t : State) (p : List ℕ) (c : Change) → MayChange s t c → Follows s (made t p c).state
-made-follows s t p c x = record {
+made-follows : (s t : State) (c : Change) → MayChange s t c → Follows s (made t c).state
+made-follows s t c x = record {
   book = x.book;
   config = x.config;
   records = subst (λ xs. Keeps s.block s.streams (updated_streams c.record_update xs)) (sym x.same) (updated-keeps s c.record_update x.update);
   settled = λ id st e h. settled-of t.block st (not-live s.block st h) (x.block id st e h);
 }
 
-result-follows : (s : State) (p : List ℕ) (e : FrameEffect) → MayResult s e → Follows s (concluded s p e).state
-result-follows s p (Breaks code) x = record {
+result-follows : (s : State) (e : FrameEffect) → MayResult s e → Follows s (concluded s e).state
+result-follows s (Breaks code) x = record {
   book = refl;
   config = refl;
   records = keeps-refl s.block s.streams;
   settled = λ id st e h. settled-of _ st (not-live s.block st h) (shown-resets st.id s.block);
 }
-result-follows s p (Makes t c) x = made-follows s t p c x
+result-follows s (Makes t c) x = made-follows s t c x
 
 -- ---- the rules, where the block stays
 
@@ -564,7 +564,7 @@ part-result s h p x (OfRstStream code) = reset-result s h.stream
 part-result s h p x (OfSettings pairs) = settings-result s pairs
 part-result s h p x OfSettingsAck = either s s.core.acked (Continues (only_counts s.core)) (Continues (comes_into_force s.core (configured s.config))) (stays s _ tt) (stays s _ tt)
 part-result s h p x OfPushPromise = tt
-part-result s h p x (OfPing octets) = either s (has h.flags ACK) (nothing s.core) (Continues (record (only_counts s.core) { first = PingAck })) (stays s _ tt) (stays s _ tt)
+part-result s h p x (OfPing octets) = either s (has h.flags ACK) (nothing s.core) (Continues (record (only_counts s.core) { first = PingAck octets })) (stays s _ tt) (stays s _ tt)
 part-result s h p x (OfGoaway last code) = stays s _ tt
 part-result s h p x (OfWindowUpdate n) = at (eqb h.stream 0)
   where
@@ -590,7 +590,7 @@ item-result s (WholeFrame h p) x = checked (refusal (block_stream s.block) s.cor
 
 effect-follows : (s : State) (item : Item) → IsOrdered s → Follows s (effect s item).state
 unfolding effect
-effect-follows s item x = result-follows s (payload_of item) (item_effect s item) (item-result s item x)
+effect-follows s item x = result-follows s (item_effect s item) (item-result s item x)
 
 -- what an item leaves of the records
 pub step-follows : (s : State) (item : Item) → IsOrdered s → Follows s (step s item).state

@@ -173,8 +173,8 @@ frame-past s head p (OfSettings pairs) h = makes-past s (settings_rule s.streams
 frame-past s head p OfSettingsAck h = makes-past s (acknowledged s.config s.core) (cond_both s.core.acked (Continues (only_counts s.core)) (Continues (comes_into_force s.core (configured s.config))) PastIn (λ e. h) (λ e. h))
 frame-past s head p OfPushPromise h = tt
 frame-past s head p (OfPing octets) h =
-    makes-past s (if has head.flags ACK then nothing s.core else Continues (record (only_counts s.core) { first = PingAck }))
-    (cond_both (has head.flags ACK) (nothing s.core) (Continues (record (only_counts s.core) { first = PingAck })) PastIn (λ e. h) (λ e. h))
+    makes-past s (if has head.flags ACK then nothing s.core else Continues (record (only_counts s.core) { first = PingAck octets }))
+    (cond_both (has head.flags ACK) (nothing s.core) (Continues (record (only_counts s.core) { first = PingAck octets })) PastIn (λ e. h) (λ e. h))
 frame-past s head p (OfGoaway last code) h = h
 frame-past s head p (OfWindowUpdate increment) h =
     let st = stream_at s.core.last s.streams head.stream in
@@ -194,9 +194,9 @@ checked-past s head p (Some cause) h = tt
 
 -- ---- the step
 
-concluded-past : (s : State) (p : List ℕ) (e : FrameEffect) → PastBy e → Past (concluded s p e).state.core.phase
-concluded-past s p (Breaks code) h = refl
-concluded-past s p (Makes t c) h = h
+concluded-past : (s : State) (e : FrameEffect) → PastBy e → Past (concluded s e).state.core.phase
+concluded-past s (Breaks code) h = refl
+concluded-past s (Makes t c) h = h
 
 sent-phase : (p : Phase) (e : Step) → (then_sent p e).state.core.phase ≡ e.state.core.phase
 unfolding send_pending
@@ -211,7 +211,7 @@ step-phase s x = sent-phase (effect s x).state.core.phase (effect s x)
 
 pub frame-phase : (s : State) (head : Head) (p : List ℕ) → awaits_preface s.core.phase ≡ false → awaits_preface (step s (WholeFrame head p)).state.core.phase ≡ false
 unfolding effect
-frame-phase s head p h = ap awaits_preface (step-phase s (WholeFrame head p)) ∙ concluded-past s p _ (checked-past s head p (refusal (block_stream s.block) s.core.phase head) h)
+frame-phase s head p h = ap awaits_preface (step-phase s (WholeFrame head p)) ∙ concluded-past s _ (checked-past s head p (refusal (block_stream s.block) s.core.phase head) h)
 
 pub preface-phase : (s : State) → (step s Preface).state.core.phase ≡ phase.Settings
 unfolding effect

@@ -2,13 +2,11 @@
 use Rattle.std.proofs.Common.{ℕ, zero, suc, ◌-◌, ◌<◌, ◌^◌, List, [], ◌∷◌, ◌++◌, Bool, false, length, take, drop, leb-true, arith, length-take}
 use Rattle.std.proofs.lemmas.Bool.{cond_both}
 use Rattle.std.specs.Prelude.{nat_le}
-use Rattle.h2_spec.specs.declared.reactions.ConnectionFrame.{ConnectionFrame}
-use Rattle.h2_spec.specs.declared.reactions.ConnectionFrame.TheVariants.{NoConnectionFrame, SettingsAck, PingAck, Credit}
 use Rattle.h2_spec.specs.declared.reactions.StreamFrame.{StreamFrame}
 use Rattle.h2_spec.specs.declared.reactions.StreamFrame.TheVariants.{NoStreamFrame, Reset, StreamCredit}
 use Rattle.h2_spec.specs.declared.streams.Stream.{Stream}
 use Rattle.h2_spec.specs.Answer.{Entry}
-use Rattle.h2_spec.specs.Change.{first_frames, second_frames}
+use Rattle.h2_spec.specs.Change.{second_frames}
 use Rattle.h2_spec.specs.Frame.{Frame}
 use Rattle.h2_spec.specs.SendPending.{data_frames, data_upto, piece, sent_frames, allowance, allowance_frames}
 use Rattle.h2_conn.specs.Does.{AreShort}
@@ -16,12 +14,6 @@ use Rattle.h2_conn.specs.Does.{AreShort}
 pub short-append : (fs gs : List Frame) → AreShort fs → AreShort gs → AreShort (fs ++ gs)
 short-append [] gs h k = k
 short-append (f ∷ fs) gs h k = (h.0, short-append fs gs h.1 k)
-
-pub first-short : (p : List ℕ) (first : ConnectionFrame) → length p < 2 ^ 24 → AreShort (first_frames p first)
-first-short p NoConnectionFrame h = tt
-first-short p SettingsAck h = (omega arith, tt)
-first-short p PingAck h = (h, tt)
-first-short p (Credit n) h = (omega arith, tt)
 
 pub second-short : (second : StreamFrame) → AreShort (second_frames second)
 second-short NoStreamFrame = tt

@@ -45,9 +45,9 @@ sent_count core streams = open_window core - window_left (open_window core) stre
 abbrev pub core_after : ConnectionState → List Stream → ConnectionState
 core_after core streams = record core { send = core.send -ℤ pos (sent_count core streams) }
 
--- all that is sent for a change, with the item's payload, and behind it
-abbrev pub all_frames : List Entry → List ℕ → Change → List Stream → List Frame
-all_frames book p c streams = frames_of book p c ++ waiting_frames book c.core (updated_streams c.record_update streams)
+-- all that is sent for a change, and behind it
+abbrev pub all_frames : List Entry → Change → List Stream → List Frame
+all_frames book c streams = frames_of book c ++ waiting_frames book c.core (updated_streams c.record_update streams)
 
 -- the records of a state, with the last stream that was opened
 abbrev pub records : State → Records

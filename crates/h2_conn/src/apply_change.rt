@@ -86,15 +86,13 @@ fn flags_of(frame: &[u8]) -> u8
 fn write_change<A: Allocator>(
     book: &Book<A>,
     change: &Change,
-    payload: &[u8],
     out: &mut Vec<u8, A>,
 ) -> Result<(), AllocError>
-    requires fits { length payload.now < 2 ^ 24 }
-    ensures ok { OnOk result (out.new.items ≡ out.old.items ++ frames_octets (changes.frames_of book.now payload.now change.now)) }
-    ensures short { OnOk result (AreShort (changes.frames_of book.now payload.now change.now)) }
+    ensures ok { OnOk result (out.new.items ≡ out.old.items ++ frames_octets (changes.frames_of book.now change.now)) }
+    ensures short { OnOk result (AreShort (changes.frames_of book.now change.now)) }
     ensures kept { take (vec_len out.old) out.new.items ≡ out.old.items }
 {
-    write_first(change.first, payload, out)?;
+    write_first(change.first, out)?;
     write_second(change.second, out)?;
     write_answer(book, change.answer, out)
 }
@@ -117,20 +115,18 @@ fn write_and_update<A: Allocator + Copy>(
     book: &Book<A>,
     streams: &mut Streams<A>,
     change: &Change,
-    payload: &[u8],
     out: &mut Vec<u8, A>,
 ) -> Result<u64, AllocError>
-    requires fits { length payload.now < 2 ^ 24 }
     requires frame { (0 < change.now.core.peer.frame) × (change.now.core.peer.frame < 2 ^ 24) }
     requires sends { CanSend book.now streams.old change.now.record_update }
     ensures count { IfOk result (λ count. (count ≡ sent_count change.now.core (updated_streams change.now.record_update streams.old.streams)) × (count ≤ sendable change.now.core.send)) }
-    ensures sent { OnOk result (out.new.items ≡ out.old.items ++ frames_octets (all_frames book.now payload.now change.now streams.old.streams)) }
-    ensures short { OnOk result (AreShort (all_frames book.now payload.now change.now streams.old.streams)) }
+    ensures sent { OnOk result (out.new.items ≡ out.old.items ++ frames_octets (all_frames book.now change.now streams.old.streams)) }
+    ensures short { OnOk result (AreShort (all_frames book.now change.now streams.old.streams)) }
     ensures records { OnOk result (streams.new ≡ records_after change.now.core (updated_records change.now.record_update streams.old)) }
     ensures err { OnErr result (streams.new ≡ streams.old) }
     ensures kept { take (vec_len out.old) out.new.items ≡ out.old.items }
 {
-    write_change(book, change, payload, out)?;
+    write_change(book, change, out)?;
     let window = open_window(&change.core);
     let size = change.core.peer.frame as usize;
     update_and_send(book, streams, change.record_update, size, window, out)
@@ -142,20 +138,18 @@ pub fn send_and_update<A: Allocator + Copy>(
     book: &Book<A>,
     streams: &mut Streams<A>,
     change: &Change,
-    payload: &[u8],
     out: &mut Vec<u8, A>,
 ) -> Result<u64, AllocError>
-    requires fits { length payload.now < 2 ^ 24 }
     requires frame { (0 < change.now.core.peer.frame) × (change.now.core.peer.frame < 2 ^ 24) }
     requires sends { CanSend book.now streams.old change.now.record_update }
     ensures count { IfOk result (λ count. (count ≡ sent_count change.now.core (updated_streams change.now.record_update streams.old.streams)) × (count ≤ sendable change.now.core.send)) }
-    ensures sent { OnOk result (out.new.items ≡ out.old.items ++ frames_octets (all_frames book.now payload.now change.now streams.old.streams)) }
-    ensures short { OnOk result (AreShort (all_frames book.now payload.now change.now streams.old.streams)) }
+    ensures sent { OnOk result (out.new.items ≡ out.old.items ++ frames_octets (all_frames book.now change.now streams.old.streams)) }
+    ensures short { OnOk result (AreShort (all_frames book.now change.now streams.old.streams)) }
     ensures records { OnOk result (streams.new ≡ records_after change.now.core (updated_records change.now.record_update streams.old)) }
     ensures err { OnErr result ((streams.new ≡ streams.old) × (out.new.items ≡ out.old.items)) }
 {
     let mark = out.len();
-    match write_and_update(book, streams, change, payload, out) {
+    match write_and_update(book, streams, change, out) {
         Ok(count) => Ok(count),
         Err(error) => {
             out.truncate(mark);
@@ -214,17 +208,15 @@ impl<'b, A: Allocator + Copy> State<'b, A> {
     pub fn apply_change(
         &mut self,
         change: Change,
-        payload: &[u8],
         out: &mut Vec<u8, A>,
     ) -> Result<Option<Cause>, AllocError>
-        requires fits { length payload.now < 2 ^ 24 }
         requires kept { IsOpenFor (updated_records change.record_update (records self.old)) self.old.block }
         requires sound { IsSoundChange self.old.book (records self.old) (in_force self.old.core) change }
-        ensures ok { OnOk result (Does (then_sent change.core.phase (changes.made self.old payload.now change)) out.old.items self.new out.new.items) }
+        ensures ok { OnOk result (Does (then_sent change.core.phase (changes.made self.old change)) out.old.items self.new out.new.items) }
         ensures cause { IfOk result (λ cause. cause ≡ effect.stream_cause change.second) }
         ensures err { OnErr result ((self.new ≡ self.old) × (out.new.items ≡ out.old.items)) }
     {
-        match send_and_update(self.book, &mut self.streams, &change, payload, out) {
+        match send_and_update(self.book, &mut self.streams, &change, out) {
             Ok(count) => {
                 self.core = with_sent(change.core, count);
                 Ok(stream_cause(change.second))
@@ -241,18 +233,16 @@ impl<'b, A: Allocator + Copy> State<'b, A> {
     pub fn apply_in_place(
         &mut self,
         change: &Change,
-        payload: &[u8],
         out: &mut Vec<u8, A>,
     ) -> Result<Option<Cause>, AllocError>
-        requires fits { length payload.now < 2 ^ 24 }
         requires kept { IsOpenFor (updated_records change.now.record_update (records self.old)) self.old.block }
         requires sound { IsSoundChange self.old.book (records self.old) (in_force self.old.core) change.now }
         requires same { change.now.core ≡ with_counts self.old.core change.now.core }
-        ensures ok { OnOk result (Does (then_sent change.now.core.phase (changes.made self.old payload.now change.now)) out.old.items self.new out.new.items) }
+        ensures ok { OnOk result (Does (then_sent change.now.core.phase (changes.made self.old change.now)) out.old.items self.new out.new.items) }
         ensures cause { IfOk result (λ cause. cause ≡ effect.stream_cause change.now.second) }
         ensures err { OnErr result ((self.new ≡ self.old) × (out.new.items ≡ out.old.items)) }
     {
-        match send_and_update(self.book, &mut self.streams, change, payload, out) {
+        match send_and_update(self.book, &mut self.streams, change, out) {
             Ok(count) => {
                 set_counts(&mut self.core, &change.core, count);
                 Ok(stream_cause(change.second))

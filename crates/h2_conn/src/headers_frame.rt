@@ -62,14 +62,12 @@ impl<'b, A: Allocator + Copy> State<'b, A> {
         decoding: &mut Decoding<A>,
         tentative: Tentative<A>,
         edit: &mut Edit<A>,
-        payload: &[u8],
         out: &mut Vec<u8, A>,
     ) -> Result<Option<Cause>, AllocError>
-        requires fits { length payload.now < 2 ^ 24 }
         requires stopped { IsStopped self.old.block }
         requires sized { IsSized decoding.old tentative }
         requires sound { IsSoundEffect self.old.book (records self.old) (in_force self.old.core) (limited self.old.core.own.table self.old.table) edit.old (after_of decoding.old tentative) effect }
-        ensures ok { OnOk result (Does (stepped (rule.concluded self.old payload.now (effect_seen self.old edit.old (after_of decoding.old tentative) effect))) out.old.items self.new out.new.items) }
+        ensures ok { OnOk result (Does (stepped (rule.concluded self.old (effect_seen self.old edit.old (after_of decoding.old tentative) effect))) out.old.items self.new out.new.items) }
         ensures cause { IfOk result (λ cause. cause ≡ rule.effect_cause (effect_seen self.old edit.old (after_of decoding.old tentative) effect)) }
         ensures err { OnErr result ((decoding.new ≡ before_of decoding.old tentative) × (self.new ≡ self.old) × (out.new.items ≡ out.old.items)) }
     {
@@ -81,7 +79,7 @@ impl<'b, A: Allocator + Copy> State<'b, A> {
                     Err(AllocError)
                 }
             },
-            FragmentEffect::Makes(shown, change) => match self.apply_change(change, payload, out) {
+            FragmentEffect::Makes(shown, change) => match self.apply_change(change, out) {
                 Ok(cause) => {
                     decoding.take_over(tentative);
                     let block = block_after(shown, decoding);
@@ -194,13 +192,11 @@ impl<'b, A: Allocator + Copy> State<'b, A> {
         decoding: &mut Decoding<A>,
         octets: &[u8],
         end_headers: bool,
-        payload: &[u8],
         out: &mut Vec<u8, A>,
     ) -> Result<Option<Cause>, AllocError>
-        requires fits { length payload.now < 2 ^ 24 }
         requires stopped { IsStopped self.old.block }
         requires known { IsOpenAt (records self.old) shown.stream decoding.old.purpose }
-        ensures ok { OnOk result (Does (stepped (rule.concluded self.old payload.now (headers.fragment self.old shown decoding.old octets.now end_headers))) out.old.items self.new out.new.items) }
+        ensures ok { OnOk result (Does (stepped (rule.concluded self.old (headers.fragment self.old shown decoding.old octets.now end_headers))) out.old.items self.new out.new.items) }
         ensures cause { IfOk result (λ cause. cause ≡ rule.effect_cause (headers.fragment self.old shown decoding.old octets.now end_headers)) }
         ensures err { OnErr result ((decoding.new ≡ decoding.old) × (self.new ≡ self.old) × (out.new.items ≡ out.old.items)) }
     {
@@ -214,7 +210,7 @@ impl<'b, A: Allocator + Copy> State<'b, A> {
         );
         match effect {
             Ok(effect) => {
-                let result = self.finish(effect, decoding, tentative, &mut edit, payload, out);
+                let result = self.finish(effect, decoding, tentative, &mut edit, out);
                 self.keep_edit(edit);
                 result
             }
@@ -241,11 +237,9 @@ impl<'b, A: Allocator + Copy> State<'b, A> {
         &mut self,
         head: &Head,
         octets: &[u8],
-        payload: &[u8],
         out: &mut Vec<u8, A>,
     ) -> Result<Option<Cause>, AllocError>
-        requires fits { length payload.now < 2 ^ 24 }
-        ensures ok { OnOk result (Does (stepped (rule.concluded self.old payload.now (headers.continuation self.old self.old.block octets.now (frames.has head.now.flags frames.END_HEADERS)))) out.old.items self.new out.new.items) }
+        ensures ok { OnOk result (Does (stepped (rule.concluded self.old (headers.continuation self.old self.old.block octets.now (frames.has head.now.flags frames.END_HEADERS)))) out.old.items self.new out.new.items) }
         ensures cause { IfOk result (λ cause. cause ≡ rule.effect_cause (headers.continuation self.old self.old.block octets.now (frames.has head.now.flags frames.END_HEADERS))) }
         ensures err { OnErr result ((self.new ≡ self.old) × (out.new.items ≡ out.old.items)) }
     {
@@ -253,7 +247,7 @@ impl<'b, A: Allocator + Copy> State<'b, A> {
             None => self.not_open(out),
             Some((shown, mut decoding)) => {
                 let end_headers = head.has(END_HEADERS);
-                match self.on_fragment(shown, &mut decoding, octets, end_headers, payload, out) {
+                match self.on_fragment(shown, &mut decoding, octets, end_headers, out) {
                     Ok(cause) => {
                         self.keep_decoding(decoding);
                         Ok(cause)
@@ -281,13 +275,11 @@ impl<'b, A: Allocator + Copy> State<'b, A> {
     pub fn on_headers(
         &mut self,
         head: &Head,
-        payload: &[u8],
         part: HeadersPart<'_>,
         out: &mut Vec<u8, A>,
     ) -> Result<Option<Cause>, AllocError>
-        requires fits { length payload.now < 2 ^ 24 }
         requires stopped { IsStopped self.old.block }
-        ensures ok { OnOk result (Does (stepped (rule.concluded self.old payload.now (rule.on_headers self.old head.now (headers_seen part.entry) (headers_cell head.now.stream (stream_at self.old.core.last self.old.streams head.now.stream).kind)))) out.old.items self.new out.new.items) }
+        ensures ok { OnOk result (Does (stepped (rule.concluded self.old (rule.on_headers self.old head.now (headers_seen part.entry) (headers_cell head.now.stream (stream_at self.old.core.last self.old.streams head.now.stream).kind)))) out.old.items self.new out.new.items) }
         ensures cause { IfOk result (λ cause. cause ≡ rule.effect_cause (rule.on_headers self.old head.now (headers_seen part.entry) (headers_cell head.now.stream (stream_at self.old.core.last self.old.streams head.now.stream).kind))) }
         ensures err { OnErr result ((self.new ≡ self.old) × (out.new.items ≡ out.old.items)) }
     {
@@ -297,14 +289,7 @@ impl<'b, A: Allocator + Copy> State<'b, A> {
                 let mut decoding = self.begin_decoding(*out.allocator(), purpose);
                 let end_headers = head.has(END_HEADERS);
                 let shown = fresh_block(head);
-                match self.on_fragment(
-                    shown,
-                    &mut decoding,
-                    part.fragment,
-                    end_headers,
-                    payload,
-                    out,
-                ) {
+                match self.on_fragment(shown, &mut decoding, part.fragment, end_headers, out) {
                     Ok(cause) => {
                         self.keep_decoding(decoding);
                         Ok(cause)

@@ -136,12 +136,12 @@ impl<'b, A: Allocator + Copy> State<'b, A> {
     }
 
     /// PING.
-    fn on_ping(&self, is_answer: bool) -> Reaction
-        ensures rule { result ≡ (if is_answer then rule.nothing self.now.core else reactions.Continues (record (changes.only_counts self.now.core) { first = frames.PingAck })) }
+    fn on_ping(&self, is_answer: bool, octets: [u8; 8]) -> Reaction
+        ensures rule { result ≡ (if is_answer then rule.nothing self.now.core else reactions.Continues (record (changes.only_counts self.now.core) { first = frames.PingAck octets })) }
         ensures counts { IsCounted self.now.core result }
         ensures sound { IsSound self.now.book (records self.now) (in_force self.now.core) result }
     {
-        on_ping(self.core(), is_answer)
+        on_ping(self.core(), is_answer, octets)
     }
 
     /// GOAWAY.
@@ -173,19 +173,17 @@ impl<'b, A: Allocator + Copy> State<'b, A> {
     fn conclude(
         &mut self,
         reaction: Reaction,
-        payload: &[u8],
         out: &mut Vec<u8, A>,
     ) -> Result<Option<Cause>, AllocError>
-        requires fits { length payload.now < 2 ^ 24 }
         requires stopped { IsStopped self.old.block }
         requires sound { IsSound self.old.book (records self.old) (in_force self.old.core) reaction }
-        ensures ok { OnOk result (Does (stepped (rule.concluded self.old payload.now (makes self.old reaction))) out.old.items self.new out.new.items) }
+        ensures ok { OnOk result (Does (stepped (rule.concluded self.old (makes self.old reaction))) out.old.items self.new out.new.items) }
         ensures cause { IfOk result (λ cause. cause ≡ rule.effect_cause (makes self.old reaction)) }
         ensures err { OnErr result ((self.new ≡ self.old) × (out.new.items ≡ out.old.items)) }
     {
         match reaction {
             Reaction::ConnectionError(cause) => self.fail(cause, out),
-            Reaction::Continues(change) => self.apply_change(change, payload, out),
+            Reaction::Continues(change) => self.apply_change(change, out),
         }
     }
 
@@ -194,20 +192,18 @@ impl<'b, A: Allocator + Copy> State<'b, A> {
     fn conclude_in_place(
         &mut self,
         reaction: Reaction,
-        payload: &[u8],
         out: &mut Vec<u8, A>,
     ) -> Result<Option<Cause>, AllocError>
-        requires fits { length payload.now < 2 ^ 24 }
         requires stopped { IsStopped self.old.block }
         requires sound { IsSound self.old.book (records self.old) (in_force self.old.core) reaction }
         requires counts { IsCounted self.old.core reaction }
-        ensures ok { OnOk result (Does (stepped (rule.concluded self.old payload.now (makes self.old reaction))) out.old.items self.new out.new.items) }
+        ensures ok { OnOk result (Does (stepped (rule.concluded self.old (makes self.old reaction))) out.old.items self.new out.new.items) }
         ensures cause { IfOk result (λ cause. cause ≡ rule.effect_cause (makes self.old reaction)) }
         ensures err { OnErr result ((self.new ≡ self.old) × (out.new.items ≡ out.old.items)) }
     {
         match reaction {
             Reaction::ConnectionError(cause) => self.fail(cause, out),
-            Reaction::Continues(change) => self.apply_in_place(&change, payload, out),
+            Reaction::Continues(change) => self.apply_in_place(&change, out),
         }
     }
 
@@ -233,12 +229,12 @@ impl<'b, A: Allocator + Copy> State<'b, A> {
         requires fits { length payload.now < 2 ^ 24 }
         requires part { part_of head.now payload.now ≡ Ok (OfData (data_seen part)) }
         requires stopped { IsStopped self.old.block }
-        ensures ok { OnOk result (Does (stepped (rule.concluded self.old payload.now (makes self.old (rule.on_data self.old.config self.old.core (rule.body_length self.old.book (stream_at self.old.core.last self.old.streams head.now.stream)) (rule.incoming head.now payload.now (data_seen part.entry)) (stream_at self.old.core.last self.old.streams head.now.stream))))) out.old.items self.new out.new.items) }
+        ensures ok { OnOk result (Does (stepped (rule.concluded self.old (makes self.old (rule.on_data self.old.config self.old.core (rule.body_length self.old.book (stream_at self.old.core.last self.old.streams head.now.stream)) (rule.incoming head.now payload.now (data_seen part.entry)) (stream_at self.old.core.last self.old.streams head.now.stream))))) out.old.items self.new out.new.items) }
         ensures cause { IfOk result (λ cause. cause ≡ rule.effect_cause (makes self.old (rule.on_data self.old.config self.old.core (rule.body_length self.old.book (stream_at self.old.core.last self.old.streams head.now.stream)) (rule.incoming head.now payload.now (data_seen part.entry)) (stream_at self.old.core.last self.old.streams head.now.stream)))) }
         ensures err { OnErr result ((self.new ≡ self.old) × (out.new.items ≡ out.old.items)) }
     {
         let reaction = self.on_data(head, payload, part);
-        self.conclude_in_place(reaction, payload, out)
+        self.conclude_in_place(reaction, out)
     }
 
     /// RST_STREAM is taken.
@@ -246,17 +242,15 @@ impl<'b, A: Allocator + Copy> State<'b, A> {
     fn take_reset(
         &mut self,
         id: u32,
-        payload: &[u8],
         out: &mut Vec<u8, A>,
     ) -> Result<Option<Cause>, AllocError>
-        requires fits { length payload.now < 2 ^ 24 }
         requires stopped { IsStopped self.old.block }
-        ensures ok { OnOk result (Does (stepped (rule.concluded self.old payload.now (makes self.old (rule.on_reset self.old.core (stream_at self.old.core.last self.old.streams id))))) out.old.items self.new out.new.items) }
+        ensures ok { OnOk result (Does (stepped (rule.concluded self.old (makes self.old (rule.on_reset self.old.core (stream_at self.old.core.last self.old.streams id))))) out.old.items self.new out.new.items) }
         ensures cause { IfOk result (λ cause. cause ≡ rule.effect_cause (makes self.old (rule.on_reset self.old.core (stream_at self.old.core.last self.old.streams id)))) }
         ensures err { OnErr result ((self.new ≡ self.old) × (out.new.items ≡ out.old.items)) }
     {
         let reaction = self.on_reset(id);
-        self.conclude_in_place(reaction, payload, out)
+        self.conclude_in_place(reaction, out)
     }
 
     /// SETTINGS without ACK is taken.
@@ -264,17 +258,15 @@ impl<'b, A: Allocator + Copy> State<'b, A> {
     fn take_settings(
         &mut self,
         part: SettingsPart<'_>,
-        payload: &[u8],
         out: &mut Vec<u8, A>,
     ) -> Result<Option<Cause>, AllocError>
-        requires fits { length payload.now < 2 ^ 24 }
         requires stopped { IsStopped self.old.block }
-        ensures ok { OnOk result (Does (stepped (rule.concluded self.old payload.now (makes self.old (settings.settings_rule self.old.streams self.old.core (settings_in part.entry))))) out.old.items self.new out.new.items) }
+        ensures ok { OnOk result (Does (stepped (rule.concluded self.old (makes self.old (settings.settings_rule self.old.streams self.old.core (settings_in part.entry))))) out.old.items self.new out.new.items) }
         ensures cause { IfOk result (λ cause. cause ≡ rule.effect_cause (makes self.old (settings.settings_rule self.old.streams self.old.core (settings_in part.entry)))) }
         ensures err { OnErr result ((self.new ≡ self.old) × (out.new.items ≡ out.old.items)) }
     {
         let reaction = self.on_settings(part);
-        self.conclude(reaction, payload, out)
+        self.conclude(reaction, out)
     }
 
     /// PING is taken.
@@ -282,17 +274,16 @@ impl<'b, A: Allocator + Copy> State<'b, A> {
     fn take_ping(
         &mut self,
         is_answer: bool,
-        payload: &[u8],
+        octets: [u8; 8],
         out: &mut Vec<u8, A>,
     ) -> Result<Option<Cause>, AllocError>
-        requires fits { length payload.now < 2 ^ 24 }
         requires stopped { IsStopped self.old.block }
-        ensures ok { OnOk result (Does (stepped (rule.concluded self.old payload.now (makes self.old (if is_answer then rule.nothing self.old.core else reactions.Continues (record (changes.only_counts self.old.core) { first = frames.PingAck }))))) out.old.items self.new out.new.items) }
-        ensures cause { IfOk result (λ cause. cause ≡ rule.effect_cause (makes self.old (if is_answer then rule.nothing self.old.core else reactions.Continues (record (changes.only_counts self.old.core) { first = frames.PingAck })))) }
+        ensures ok { OnOk result (Does (stepped (rule.concluded self.old (makes self.old (if is_answer then rule.nothing self.old.core else reactions.Continues (record (changes.only_counts self.old.core) { first = frames.PingAck octets }))))) out.old.items self.new out.new.items) }
+        ensures cause { IfOk result (λ cause. cause ≡ rule.effect_cause (makes self.old (if is_answer then rule.nothing self.old.core else reactions.Continues (record (changes.only_counts self.old.core) { first = frames.PingAck octets })))) }
         ensures err { OnErr result ((self.new ≡ self.old) × (out.new.items ≡ out.old.items)) }
     {
-        let reaction = self.on_ping(is_answer);
-        self.conclude_in_place(reaction, payload, out)
+        let reaction = self.on_ping(is_answer, octets);
+        self.conclude_in_place(reaction, out)
     }
 
     /// GOAWAY is taken.
@@ -301,17 +292,15 @@ impl<'b, A: Allocator + Copy> State<'b, A> {
         &mut self,
         last: u32,
         code: u32,
-        payload: &[u8],
         out: &mut Vec<u8, A>,
     ) -> Result<Option<Cause>, AllocError>
-        requires fits { length payload.now < 2 ^ 24 }
         requires stopped { IsStopped self.old.block }
-        ensures ok { OnOk result (Does (stepped (rule.concluded self.old payload.now (makes self.old (reactions.Continues (changes.only_counts (record self.old.core { goaway = Some (last, code) })))))) out.old.items self.new out.new.items) }
+        ensures ok { OnOk result (Does (stepped (rule.concluded self.old (makes self.old (reactions.Continues (changes.only_counts (record self.old.core { goaway = Some (last, code) })))))) out.old.items self.new out.new.items) }
         ensures cause { IfOk result (λ cause. cause ≡ rule.effect_cause (makes self.old (reactions.Continues (changes.only_counts (record self.old.core { goaway = Some (last, code) }))))) }
         ensures err { OnErr result ((self.new ≡ self.old) × (out.new.items ≡ out.old.items)) }
     {
         let reaction = self.on_goaway(last, code);
-        self.conclude(reaction, payload, out)
+        self.conclude(reaction, out)
     }
 
     /// WINDOW_UPDATE on the connection is taken.
@@ -319,17 +308,15 @@ impl<'b, A: Allocator + Copy> State<'b, A> {
     fn take_connection_window(
         &mut self,
         increment: u32,
-        payload: &[u8],
         out: &mut Vec<u8, A>,
     ) -> Result<Option<Cause>, AllocError>
-        requires fits { length payload.now < 2 ^ 24 }
         requires stopped { IsStopped self.old.block }
-        ensures ok { OnOk result (Does (stepped (rule.concluded self.old payload.now (makes self.old (window.connection_window self.old.core increment)))) out.old.items self.new out.new.items) }
+        ensures ok { OnOk result (Does (stepped (rule.concluded self.old (makes self.old (window.connection_window self.old.core increment)))) out.old.items self.new out.new.items) }
         ensures cause { IfOk result (λ cause. cause ≡ rule.effect_cause (makes self.old (window.connection_window self.old.core increment))) }
         ensures err { OnErr result ((self.new ≡ self.old) × (out.new.items ≡ out.old.items)) }
     {
         let reaction = self.on_connection_window(increment);
-        self.conclude_in_place(reaction, payload, out)
+        self.conclude_in_place(reaction, out)
     }
 
     /// WINDOW_UPDATE on a stream is taken.
@@ -338,51 +325,45 @@ impl<'b, A: Allocator + Copy> State<'b, A> {
         &mut self,
         id: u32,
         increment: u32,
-        payload: &[u8],
         out: &mut Vec<u8, A>,
     ) -> Result<Option<Cause>, AllocError>
-        requires fits { length payload.now < 2 ^ 24 }
         requires stopped { IsStopped self.old.block }
-        ensures ok { OnOk result (Does (stepped (rule.concluded self.old payload.now (makes self.old (rule.on_window self.old.core increment (stream_at self.old.core.last self.old.streams id))))) out.old.items self.new out.new.items) }
+        ensures ok { OnOk result (Does (stepped (rule.concluded self.old (makes self.old (rule.on_window self.old.core increment (stream_at self.old.core.last self.old.streams id))))) out.old.items self.new out.new.items) }
         ensures cause { IfOk result (λ cause. cause ≡ rule.effect_cause (makes self.old (rule.on_window self.old.core increment (stream_at self.old.core.last self.old.streams id)))) }
         ensures err { OnErr result ((self.new ≡ self.old) × (out.new.items ≡ out.old.items)) }
     {
         let reaction = self.on_stream_window(id, increment);
-        self.conclude_in_place(reaction, payload, out)
+        self.conclude_in_place(reaction, out)
     }
 
     /// A frame that changes nothing is taken.
     #[inline(never)]
     fn take_ignored(
         &mut self,
-        payload: &[u8],
         out: &mut Vec<u8, A>,
     ) -> Result<Option<Cause>, AllocError>
-        requires fits { length payload.now < 2 ^ 24 }
         requires stopped { IsStopped self.old.block }
-        ensures ok { OnOk result (Does (stepped (rule.concluded self.old payload.now (makes self.old (rule.nothing self.old.core)))) out.old.items self.new out.new.items) }
+        ensures ok { OnOk result (Does (stepped (rule.concluded self.old (makes self.old (rule.nothing self.old.core)))) out.old.items self.new out.new.items) }
         ensures cause { IfOk result (λ cause. cause ≡ rule.effect_cause (makes self.old (rule.nothing self.old.core))) }
         ensures err { OnErr result ((self.new ≡ self.old) × (out.new.items ≡ out.old.items)) }
     {
         let reaction = self.on_ignored();
-        self.conclude_in_place(reaction, payload, out)
+        self.conclude_in_place(reaction, out)
     }
 
     /// PUSH_PROMISE is taken.
     #[inline(never)]
     fn take_push_promise(
         &mut self,
-        payload: &[u8],
         out: &mut Vec<u8, A>,
     ) -> Result<Option<Cause>, AllocError>
-        requires fits { length payload.now < 2 ^ 24 }
         requires stopped { IsStopped self.old.block }
-        ensures ok { OnOk result (Does (stepped (rule.concluded self.old payload.now (makes self.old (ConnectionError PushPromiseFromClient)))) out.old.items self.new out.new.items) }
+        ensures ok { OnOk result (Does (stepped (rule.concluded self.old (makes self.old (ConnectionError PushPromiseFromClient)))) out.old.items self.new out.new.items) }
         ensures cause { IfOk result (λ cause. cause ≡ rule.effect_cause (makes self.old (ConnectionError PushPromiseFromClient))) }
         ensures err { OnErr result ((self.new ≡ self.old) × (out.new.items ≡ out.old.items)) }
     {
         let reaction = self.on_push_promise();
-        self.conclude(reaction, payload, out)
+        self.conclude(reaction, out)
     }
 
     /// WINDOW_UPDATE is taken.
@@ -391,19 +372,17 @@ impl<'b, A: Allocator + Copy> State<'b, A> {
         &mut self,
         id: u32,
         increment: u32,
-        payload: &[u8],
         out: &mut Vec<u8, A>,
     ) -> Result<Option<Cause>, AllocError>
-        requires fits { length payload.now < 2 ^ 24 }
         requires stopped { IsStopped self.old.block }
-        ensures ok { OnOk result (Does (stepped (rule.concluded self.old payload.now (makes self.old (if id == 0 then window.connection_window self.old.core increment else rule.on_window self.old.core increment (stream_at self.old.core.last self.old.streams id))))) out.old.items self.new out.new.items) }
+        ensures ok { OnOk result (Does (stepped (rule.concluded self.old (makes self.old (if id == 0 then window.connection_window self.old.core increment else rule.on_window self.old.core increment (stream_at self.old.core.last self.old.streams id))))) out.old.items self.new out.new.items) }
         ensures cause { IfOk result (λ cause. cause ≡ rule.effect_cause (makes self.old (if id == 0 then window.connection_window self.old.core increment else rule.on_window self.old.core increment (stream_at self.old.core.last self.old.streams id)))) }
         ensures err { OnErr result ((self.new ≡ self.old) × (out.new.items ≡ out.old.items)) }
     {
         if id == 0 {
-            return self.take_connection_window(increment, payload, out);
+            return self.take_connection_window(increment, out);
         }
-        self.take_stream_window(id, increment, payload, out)
+        self.take_stream_window(id, increment, out)
     }
 
     /// A frame that is no HEADERS, no CONTINUATION and no acknowledgement of settings, by what it holds.
@@ -419,21 +398,21 @@ impl<'b, A: Allocator + Copy> State<'b, A> {
         requires part { part_of head.now payload.now ≡ Ok (part_seen part) }
         requires plain { IsPlain part }
         requires stopped { IsStopped self.old.block }
-        ensures ok { OnOk result (Does (stepped (rule.concluded self.old payload.now (rule.frame_effect self.old head.now payload.now (part_seen part.entry)))) out.old.items self.new out.new.items) }
+        ensures ok { OnOk result (Does (stepped (rule.concluded self.old (rule.frame_effect self.old head.now payload.now (part_seen part.entry)))) out.old.items self.new out.new.items) }
         ensures cause { IfOk result (λ cause. cause ≡ rule.effect_cause (rule.frame_effect self.old head.now payload.now (part_seen part.entry))) }
         ensures err { OnErr result ((self.new ≡ self.old) × (out.new.items ≡ out.old.items)) }
     {
         match part {
             Part::Data(part) => self.take_data(head, part, payload, out),
-            Part::RstStream(_) => self.take_reset(head.stream, payload, out),
-            Part::Settings(part) => self.take_settings(part, payload, out),
-            Part::Ping(_) => self.take_ping(head.has(ACK), payload, out),
-            Part::Goaway(last, code) => self.take_goaway(last, code, payload, out),
+            Part::RstStream(_) => self.take_reset(head.stream, out),
+            Part::Settings(part) => self.take_settings(part, out),
+            Part::Ping(octets) => self.take_ping(head.has(ACK), octets, out),
+            Part::Goaway(last, code) => self.take_goaway(last, code, out),
             Part::WindowUpdate(increment) => {
-                self.take_window_update(head.stream, increment, payload, out)
+                self.take_window_update(head.stream, increment, out)
             }
-            Part::Priority | Part::Unknown => self.take_ignored(payload, out),
-            Part::PushPromise => self.take_push_promise(payload, out),
+            Part::Priority | Part::Unknown => self.take_ignored(out),
+            Part::PushPromise => self.take_push_promise(out),
             Part::Headers(_) | Part::Continuation(_) | Part::SettingsAck => unreachable!(),
         }
     }
@@ -449,14 +428,14 @@ impl<'b, A: Allocator + Copy> State<'b, A> {
         requires fits { length payload.now < 2 ^ 24 }
         requires part { part_of head.now payload.now ≡ Ok (part_seen part) }
         requires passed { checks.refusal (rule.block_stream self.old.block) self.old.core.phase head.now ≡ None }
-        ensures ok { OnOk result (Does (stepped (rule.concluded self.old payload.now (rule.frame_effect self.old head.now payload.now (part_seen part.entry)))) out.old.items self.new out.new.items) }
+        ensures ok { OnOk result (Does (stepped (rule.concluded self.old (rule.frame_effect self.old head.now payload.now (part_seen part.entry)))) out.old.items self.new out.new.items) }
         ensures cause { IfOk result (λ cause. cause ≡ rule.effect_cause (rule.frame_effect self.old head.now payload.now (part_seen part.entry))) }
         ensures err { OnErr result ((self.new ≡ self.old) × (out.new.items ≡ out.old.items)) }
     {
         match part {
-            Part::Headers(part) => self.on_headers(head, payload, part, out),
-            Part::Continuation(octets) => self.on_continuation(head, octets, payload, out),
-            Part::SettingsAck => self.on_acknowledged(payload, out),
+            Part::Headers(part) => self.on_headers(head, part, out),
+            Part::Continuation(octets) => self.on_continuation(head, octets, out),
+            Part::SettingsAck => self.on_acknowledged(out),
             Part::Data(_)
             | Part::Priority
             | Part::RstStream(_)
@@ -492,7 +471,7 @@ impl<'b, A: Allocator + Copy> State<'b, A> {
 
     /// The client's preface has come: SETTINGS is awaited (RFC 9113, 3.4).
     fn on_preface(&mut self, out: &mut Vec<u8, A>) -> Result<Option<Cause>, AllocError>
-        ensures ok { OnOk result (Does (stepped (changes.made self.old [] (changes.only_counts (record self.old.core { phase = phase.Settings })))) out.old.items self.new out.new.items) }
+        ensures ok { OnOk result (Does (stepped (changes.made self.old (changes.only_counts (record self.old.core { phase = phase.Settings })))) out.old.items self.new out.new.items) }
         ensures cause { IfOk result (λ cause. cause ≡ None) }
         ensures err { OnErr result ((self.new ≡ self.old) × (out.new.items ≡ out.old.items)) }
     {
@@ -500,7 +479,7 @@ impl<'b, A: Allocator + Copy> State<'b, A> {
             phase: Phase::Settings,
             ..self.core
         });
-        self.apply_change(change, &[], out)
+        self.apply_change(change, out)
     }
 
     /// One item: what it does, and then what waits is sent; whole, or not at all. Answers the cause of the connection

@@ -23,19 +23,17 @@ impl<'b, A: Allocator + Copy> State<'b, A> {
     #[inline(never)]
     pub fn on_acknowledged(
         &mut self,
-        payload: &[u8],
         out: &mut Vec<u8, A>,
     ) -> Result<Option<Cause>, AllocError>
-        requires fits { length payload.now < 2 ^ 24 }
         requires stopped { IsStopped self.old.block }
-        ensures ok { OnOk result (Does (stepped (rule.concluded self.old payload.now (makes self.old (settings.acknowledged self.old.config self.old.core)))) out.old.items self.new out.new.items) }
+        ensures ok { OnOk result (Does (stepped (rule.concluded self.old (makes self.old (settings.acknowledged self.old.config self.old.core)))) out.old.items self.new out.new.items) }
         ensures cause { IfOk result (λ cause. cause ≡ rule.effect_cause (makes self.old (settings.acknowledged self.old.config self.old.core))) }
         ensures err { OnErr result ((self.new ≡ self.old) × (out.new.items ≡ out.old.items)) }
     {
         if self.core.acked {
-            self.apply_change(only_counts(self.core), payload, out)
+            self.apply_change(only_counts(self.core), out)
         } else {
-            self.come_into_force(payload, out)
+            self.come_into_force(out)
         }
     }
 
@@ -47,12 +45,10 @@ impl<'b, A: Allocator + Copy> State<'b, A> {
     /// `AllocError` where memory was refused for the entries that a higher limit lets the table hold: nothing is done.
     fn come_into_force(
         &mut self,
-        payload: &[u8],
         out: &mut Vec<u8, A>,
     ) -> Result<Option<Cause>, AllocError>
-        requires fits { length payload.now < 2 ^ 24 }
         requires stopped { IsStopped self.old.block }
-        ensures ok { OnOk result (Does (then_sent self.old.core.phase (changes.made self.old payload.now (settings.comes_into_force self.old.core (configured self.old.config)))) out.old.items self.new out.new.items) }
+        ensures ok { OnOk result (Does (then_sent self.old.core.phase (changes.made self.old (settings.comes_into_force self.old.core (configured self.old.config)))) out.old.items self.new out.new.items) }
         ensures cause { IfOk result (λ cause. cause ≡ None) }
         ensures err { OnErr result ((self.new ≡ self.old) × (out.new.items ≡ out.old.items)) }
     {
@@ -60,7 +56,7 @@ impl<'b, A: Allocator + Copy> State<'b, A> {
         let change = comes_into_force(self.core, own);
         let before = self.table.limit();
         self.table.set_limit(before.max(own.table))?;
-        match send_and_update(self.book, &mut self.streams, &change, payload, out) {
+        match send_and_update(self.book, &mut self.streams, &change, out) {
             Ok(count) => {
                 self.core = with_sent(change.core, count);
                 self.table.lower_limit(own.table);

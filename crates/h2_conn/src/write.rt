@@ -5,6 +5,7 @@ ghost use Rattle.std.specs.Prelude.{◌≡◌, ◌+◌, ◌<◌, ◌≤◌, ◌^
 ghost use Rattle.h2_spec.specs.Change as changes;
 ghost use Rattle.h2_spec.specs.Frame.{frame, frame_octets, frames_octets};
 ghost use Rattle.h2_spec.specs.Octets.{big_endian};
+ghost use Rattle.h2_conn.specs.Does.{AreShort};
 ghost use Rattle.h2_conn.specs.Prepared.{on_stream};
 
 use h2_frame::append_frame;
@@ -26,21 +27,20 @@ fn write_number<A: Allocator>(
     append_frame(kind, 0, stream, &[], &number.to_be_bytes(), out)
 }
 
-/// Writes what is sent on the connection, with the payload of the item, or nothing.
+/// Writes what is sent on the connection, or nothing.
 #[inline(always)]
 pub fn write_first<A: Allocator>(
     first: ConnectionFrame,
-    payload: &[u8],
     out: &mut Vec<u8, A>,
 ) -> Result<(), AllocError>
-    requires fits { length payload.now < 2 ^ 24 }
-    ensures ok { OnOk result (out.new.items ≡ out.old.items ++ frames_octets (changes.first_frames payload.now first)) }
+    ensures ok { OnOk result (out.new.items ≡ out.old.items ++ frames_octets (changes.first_frames first)) }
+    ensures short { AreShort (changes.first_frames first) }
     ensures err { OnErr result (out.new.items ≡ out.old.items) }
 {
     match first {
         ConnectionFrame::NoConnectionFrame => Ok(()),
         ConnectionFrame::SettingsAck => append_frame(SETTINGS, ACK, 0, &[], &[], out),
-        ConnectionFrame::PingAck => append_frame(PING, ACK, 0, &[], payload, out),
+        ConnectionFrame::PingAck(octets) => append_frame(PING, ACK, 0, &[], &octets, out),
         ConnectionFrame::Credit(count) => write_number(WINDOW_UPDATE, 0, count, out),
     }
 }

@@ -23,7 +23,7 @@ use Rattle.h2_spec.specs.State.{State}
 use Rattle.h2_spec.specs.Change.{Step, first_frames, second_frames, answer_frames, frames_of, goaway, rst_stream}
 use Rattle.h2_spec.specs.Headers.{FrameEffect, Breaks, Makes}
 use Rattle.h2_spec.specs.SendPending.{piece, data_upto, data_frames, allowance, allowance_frames, sent_frames, send_pending}
-use Rattle.h2_spec.specs.Effect.{cause_of, stream_cause, effect_cause, item_effect, payload_of, concluded, effect}
+use Rattle.h2_spec.specs.Effect.{cause_of, stream_cause, effect_cause, item_effect, concluded, effect}
 use Rattle.h2_spec.specs.Trace.{step, then_sent}
 use Rattle.h2_laws.specs.ErrorCodes.{error_code_in, error_codes_in, error_codes_of}
 
@@ -91,11 +91,11 @@ of-goaway last code = ap (λ n. n ∷ []) (code-back code)
 
 -- ---- what a change sends
 
-of-first : (p : List ℕ) (f : ConnectionFrame) → error_codes_in (first_frames p f) ≡ []
-of-first p NoConnectionFrame = refl
-of-first p SettingsAck = refl
-of-first p PingAck = refl
-of-first p (Credit n) = refl
+of-first : (f : ConnectionFrame) → error_codes_in (first_frames f) ≡ []
+of-first NoConnectionFrame = refl
+of-first SettingsAck = refl
+of-first (PingAck octets) = refl
+of-first (Credit n) = refl
 
 of-answer : (book : List Entry) (a : Option Answering) → error_codes_in (answer_frames book a) ≡ []
 of-answer book None = refl
@@ -106,16 +106,16 @@ of-second NoStreamFrame = refl
 of-second (Reset id cause) = of-rst_stream id (code_of cause)
 of-second (StreamCredit id n) = refl
 
-of-change : (book : List Entry) (p : List ℕ) (c : Change) → error_codes_in (frames_of book p c) ≡ error_codes_of (stream_cause c.second)
+of-change : (book : List Entry) (c : Change) → error_codes_in (frames_of book c) ≡ error_codes_of (stream_cause c.second)
 unfolding frames_of
-of-change book p c =
-    of-first-part (first_frames p c.first ++ second_frames c.second) (answer_frames book c.answer) (of-answer book c.answer)
-    ∙ of-last-part (first_frames p c.first) (second_frames c.second) (of-first p c.first)
+of-change book c =
+    of-first-part (first_frames c.first ++ second_frames c.second) (answer_frames book c.answer) (of-answer book c.answer)
+    ∙ of-last-part (first_frames c.first) (second_frames c.second) (of-first c.first)
     ∙ of-second c.second
 
-of-effect : (s : State) (p : List ℕ) (e : FrameEffect) → error_codes_in (concluded s p e).sent ≡ error_codes_of (effect_cause e)
-of-effect s p (Breaks cause) = of-goaway s.core.last (code_of cause)
-of-effect s p (Makes t c) = of-change t.book p c
+of-effect : (s : State) (e : FrameEffect) → error_codes_in (concluded s e).sent ≡ error_codes_of (effect_cause e)
+of-effect s (Breaks cause) = of-goaway s.core.last (code_of cause)
+of-effect s (Makes t c) = of-change t.book c
 
 -- ---- an item
 
@@ -127,4 +127,4 @@ then-waiting Running e = of-first-part e.sent (send_pending e.state).sent (of-pe
 
 pub step-has-code : (s : State) (item : Item) → error_codes_in (step s item).sent ≡ error_codes_of (cause_of s item)
 unfolding step effect cause_of
-step-has-code s item = then-waiting (effect s item).state.core.phase (effect s item) ∙ of-effect s (payload_of item) (item_effect s item)
+step-has-code s item = then-waiting (effect s item).state.core.phase (effect s item) ∙ of-effect s (item_effect s item)

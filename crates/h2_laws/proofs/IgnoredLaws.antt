@@ -31,7 +31,7 @@ use Rattle.h2_spec.specs.SettingsFrame.{comes_into_force}
 use Rattle.h2_spec.specs.WindowUpdate.{connection_window}
 use Rattle.h2_spec.specs.Data.{owed_as, owed_on_connection, counted, data_counted}
 use Rattle.h2_spec.specs.Headers.{FrameEffect, Breaks, Makes, makes, max_block, block_ends, fragment_read, fragment_decoded, decoded_with, fragment, fresh_block, fresh_decoding, continued, continuation}
-use Rattle.h2_spec.specs.Effect.{nothing, data_rule, on_data, on_reset, on_window, on_headers, frame_effect, part_effect, checked_effect, block_stream, item_effect, payload_of, concluded, effect, effect_cause, cause_of}
+use Rattle.h2_spec.specs.Effect.{nothing, data_rule, on_data, on_reset, on_window, on_headers, frame_effect, part_effect, checked_effect, block_stream, item_effect, concluded, effect, effect_cause, cause_of}
 use Rattle.h2_spec.specs.Ignored.{reset_ignored, window_ignored, where_reset, reason_if, fragment_ignored, decoding_ignored, block_ignored, kind_at, part_ignored, payload_ignored, item_ignored, unless_caused, ignored_of, changes_nothing}
 use Rattle.h2_laws.specs.Ignoring.{OnlyReceiveWindowChanges, OnlyHeaderTableChanges}
 
@@ -65,40 +65,39 @@ IsIgnored WindowUpdateOnReset s e = IsUnchanged s e
 IsIgnored DataOnReset s e = OnlyReceiveWindowChanges s e
 IsIgnored TableOnlyBlock s e = OnlyHeaderTableChanges s e
 
--- p: the payload of the item
-module _ (s : State) (p : List ℕ) where
+module _ (s : State) where
   -- what a frame results in is what its reason allows, where it has one and is no error
   record Allowed (e : FrameEffect) (reason : Option Ignored) : Type 0 where
-    by : (r : Ignored) → unless_caused (effect_cause e) reason ≡ Some r → IsIgnored r s (concluded s p e)
+    by : (r : Ignored) → unless_caused (effect_cause e) reason ≡ Some r → IsIgnored r s (concluded s e)
 
   no-reason : (e : FrameEffect) → Allowed e None
   no-reason e = record { by = λ r. at r (effect_cause e) }
     where
-      at : (r : Ignored) (cause : Option Cause) → unless_caused cause None ≡ Some r → IsIgnored r s (concluded s p e)
+      at : (r : Ignored) (cause : Option Cause) → unless_caused cause None ≡ Some r → IsIgnored r s (concluded s e)
       at r (Some cause) h = absurd (none-some r h)
       at r None h = absurd (none-some r h)
 
   is-error : (cause : Cause) (reason : Option Ignored) → Allowed (Breaks cause) reason
   is-error cause reason = record { by = λ r h. absurd (none-some r h) }
 
-  has-reason : (e : FrameEffect) (reason : Ignored) → IsIgnored reason s (concluded s p e) → Allowed e (Some reason)
+  has-reason : (e : FrameEffect) (reason : Ignored) → IsIgnored reason s (concluded s e) → Allowed e (Some reason)
   has-reason e reason k = record { by = λ r. at r (effect_cause e) }
     where
       AllowedBy : Option Ignored → Type 0
-      AllowedBy (Some reason) = IsIgnored reason s (concluded s p e)
+      AllowedBy (Some reason) = IsIgnored reason s (concluded s e)
       AllowedBy None = Unit {0}
 
-      at : (r : Ignored) (cause : Option Cause) → unless_caused cause (Some reason) ≡ Some r → IsIgnored r s (concluded s p e)
+      at : (r : Ignored) (cause : Option Cause) → unless_caused cause (Some reason) ≡ Some r → IsIgnored r s (concluded s e)
       at r (Some cause) h = absurd (none-some r h)
       at r None h = subst AllowedBy h k
 
   -- ---- frames for which nothing changes
 
-  unchanged : IsUnchanged s (concluded s p (Makes s (only_counts s.core)))
+  unchanged : IsUnchanged s (concluded s (Makes s (only_counts s.core)))
   unfolding frames_of
   unchanged = refl
 
-  nothing-happens : (reason : Ignored) → IsIgnored reason s (concluded s p (Makes s (only_counts s.core))) → Allowed (makes s (nothing s.core)) (Some reason)
+  nothing-happens : (reason : Ignored) → IsIgnored reason s (concluded s (Makes s (only_counts s.core))) → Allowed (makes s (nothing s.core)) (Some reason)
   nothing-happens reason k = has-reason (Makes s (only_counts s.core)) reason k
 
   resets : (rule : ResetRule → Reaction) (kind : Kind) → Allowed (makes s (run_cell ConnectionError (nothing s.core) rule (reset_cell kind))) (reset_ignored kind)
@@ -130,9 +129,9 @@ module _ (s : State) (p : List ℕ) where
   acknowledges true = nothing-happens SecondAcknowledgement unchanged
   acknowledges false = no-reason _
 
-  pings : (acknowledges : Bool) → Allowed (makes s (cond acknowledges (nothing s.core) (Continues (record (only_counts s.core) { first = PingAck })))) (reason_if acknowledges PingAcknowledgement)
-  pings true = nothing-happens PingAcknowledgement unchanged
-  pings false = no-reason _
+  pings : (octets : List ℕ) (acknowledges : Bool) → Allowed (makes s (cond acknowledges (nothing s.core) (Continues (record (only_counts s.core) { first = PingAck octets })))) (reason_if acknowledges PingAcknowledgement)
+  pings octets true = nothing-happens PingAcknowledgement unchanged
+  pings octets false = no-reason _
 
   -- ---- DATA that is counted on the connection alone
 
@@ -140,7 +139,7 @@ module _ (s : State) (p : List ℕ) where
   unfolding data_counted counted owed_on_connection frames_of
   counts d = within (int_lt s.core.recv (pos d.octets))
     where
-      owed : (o : Option ℕ) → IsIgnored DataOnReset s (concluded s p (Makes s (owed_as o (record s.core { recv = s.core.recv -ℤ pos d.octets }) (s.core.owed + d.octets))))
+      owed : (o : Option ℕ) → IsIgnored DataOnReset s (concluded s (Makes s (owed_as o (record s.core { recv = s.core.recv -ℤ pos d.octets }) (s.core.owed + d.octets))))
       owed (Some n) = record { state = refl; sent = refl }
       owed None = record { state = refl; sent = refl }
 
@@ -166,8 +165,8 @@ module _ (s : State) (p : List ℕ) where
   reads progress b d false e = has-reason _ TableOnlyBlock (record { state = refl; sent = refl })
   reads progress b d true e = at (not (eqb (length d.rest) 0)) d.due
     where
-      ended : (purpose : Purpose) → purpose ≡ TableOnly → IsIgnored TableOnlyBlock s (concluded s p (Makes (record s { table = progress.table; block = None }) (block_ends (record s { table = progress.table }) b.stream b.ends d.fields purpose)))
-      ended purpose e = subst (λ q. IsIgnored TableOnlyBlock s (concluded s p (Makes (record s { table = progress.table; block = None }) (block_ends (record s { table = progress.table }) b.stream b.ends d.fields q)))) (sym e) (record { state = refl; sent = refl })
+      ended : (purpose : Purpose) → purpose ≡ TableOnly → IsIgnored TableOnlyBlock s (concluded s (Makes (record s { table = progress.table; block = None }) (block_ends (record s { table = progress.table }) b.stream b.ends d.fields purpose)))
+      ended purpose e = subst (λ q. IsIgnored TableOnlyBlock s (concluded s (Makes (record s { table = progress.table; block = None }) (block_ends (record s { table = progress.table }) b.stream b.ends d.fields q)))) (sym e) (record { state = refl; sent = refl })
 
       at : (cut due : Bool) →
           Allowed (cond cut (Breaks BlockTruncated) (cond due (Breaks SizeUpdateMissing) (Makes (record s { table = progress.table; block = None }) (block_ends (record s { table = progress.table }) b.stream b.ends d.fields d.purpose)))) (Some TableOnlyBlock)
@@ -221,34 +220,34 @@ module _ (s : State) (p : List ℕ) where
 
   -- ---- a frame
 
-  of-part : (h : Head) (part : Part) → Allowed (frame_effect s h p part) (part_ignored s h part)
+  of-part : (h : Head) (p : List ℕ) (part : Part) → Allowed (frame_effect s h p part) (part_ignored s h part)
   unfolding on_data on_reset on_window
-  of-part h (OfData part) = brings-data _ _ _ (kind_at s h)
-  of-part h (OfHeaders part) = begins h part (kind_at s h)
-  of-part h OfPriority = nothing-happens Priority unchanged
-  of-part h (OfRstStream code) = resets _ (kind_at s h)
-  of-part h (OfSettings pairs) = no-reason _
-  of-part h OfSettingsAck = acknowledges s.core.acked
-  of-part h OfPushPromise = no-reason _
-  of-part h (OfPing octets) = pings (has h.flags ACK)
-  of-part h (OfGoaway last code) = no-reason _
-  of-part h (OfWindowUpdate increment) = moves-a-window increment (eqb h.stream 0) _ (kind_at s h)
-  of-part h (OfContinuation octets) = continues s.block octets (has h.flags END_HEADERS)
-  of-part h OfUnknown = nothing-happens UnknownType unchanged
+  of-part h p (OfData part) = brings-data _ _ _ (kind_at s h)
+  of-part h p (OfHeaders part) = begins h part (kind_at s h)
+  of-part h p OfPriority = nothing-happens Priority unchanged
+  of-part h p (OfRstStream code) = resets _ (kind_at s h)
+  of-part h p (OfSettings pairs) = no-reason _
+  of-part h p OfSettingsAck = acknowledges s.core.acked
+  of-part h p OfPushPromise = no-reason _
+  of-part h p (OfPing octets) = pings octets (has h.flags ACK)
+  of-part h p (OfGoaway last code) = no-reason _
+  of-part h p (OfWindowUpdate increment) = moves-a-window increment (eqb h.stream 0) _ (kind_at s h)
+  of-part h p (OfContinuation octets) = continues s.block octets (has h.flags END_HEADERS)
+  of-part h p OfUnknown = nothing-happens UnknownType unchanged
 
-  of-payload : (h : Head) (r : Result Part Cause) → Allowed (part_effect s h p r) (payload_ignored s h r)
-  of-payload h (Ok part) = of-part h part
-  of-payload h (Err cause) = is-error cause None
+  of-payload : (h : Head) (p : List ℕ) (r : Result Part Cause) → Allowed (part_effect s h p r) (payload_ignored s h r)
+  of-payload h p (Ok part) = of-part h p part
+  of-payload h p (Err cause) = is-error cause None
 
-  of-frame : (h : Head) (o : Option Cause) → Allowed (checked_effect s h p o) (payload_ignored s h (part_of h p))
-  of-frame h None = of-payload h (part_of h p)
-  of-frame h (Some cause) = is-error cause (payload_ignored s h (part_of h p))
+  of-frame : (h : Head) (p : List ℕ) (o : Option Cause) → Allowed (checked_effect s h p o) (payload_ignored s h (part_of h p))
+  of-frame h p None = of-payload h p (part_of h p)
+  of-frame h p (Some cause) = is-error cause (payload_ignored s h (part_of h p))
 
-of-item : (s : State) (item : Item) → Allowed s (payload_of item) (item_effect s item) (item_ignored s item)
-of-item s Preface = no-reason s [] _
-of-item s BadPreface = no-reason s [] _
-of-item s (Oversize h) = no-reason s [] _
-of-item s (WholeFrame h p) = of-frame s p h (refusal (block_stream s.block) s.core.phase h)
+of-item : (s : State) (item : Item) → Allowed s (item_effect s item) (item_ignored s item)
+of-item s Preface = no-reason s _
+of-item s BadPreface = no-reason s _
+of-item s (Oversize h) = no-reason s _
+of-item s (WholeFrame h p) = of-frame s h p (refusal (block_stream s.block) s.core.phase h)
 
 ignored-as-allowed : (s : State) (item : Item) (r : Ignored) → ignored_of s item ≡ Some r → IsIgnored r s (effect s item)
 unfolding ignored_of cause_of effect

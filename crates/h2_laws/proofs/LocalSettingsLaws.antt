@@ -44,7 +44,7 @@ use Rattle.h2_spec.specs.WindowUpdate.{connection_window, window_outcome}
 use Rattle.h2_spec.specs.SettingsFrame.{acknowledged, comes_into_force, settings_taken, settings_applied, settings_rule}
 use Rattle.h2_spec.specs.Headers.{FrameEffect, Breaks, Makes, makes, block_ends, fragment_read, fragment_decoded, decoded_with, fragment, max_block, fresh_block, fresh_decoding, continued, continuation}
 use Rattle.h2_spec.specs.Checks.{refusal}
-use Rattle.h2_spec.specs.Effect.{nothing, data_rule, on_data, reset_rule, reset_outcome, on_reset, window_rule, on_window, on_headers, frame_effect, part_effect, checked_effect, block_stream, item_effect, payload_of, concluded, effect}
+use Rattle.h2_spec.specs.Effect.{nothing, data_rule, on_data, reset_rule, reset_outcome, on_reset, window_rule, on_window, on_headers, frame_effect, part_effect, checked_effect, block_stream, item_effect, concluded, effect}
 use Rattle.h2_spec.specs.SendPending.{send_pending}
 use Rattle.h2_spec.specs.Trace.{then_sent, step, next_item, event_on, next_event, trace}
 use Rattle.h2_laws.specs.LocalSettings.{HasSettingsInForce, AllHaveSettingsInForce, KeepsLocalSettings, most_of_table, settings_in_force}
@@ -306,7 +306,7 @@ module _ (config : Config) (s : State) (same : s.config ≡ config) (own : s.cor
   frame-has h p (OfSettings pairs) = reacts _ (settings-keeps s.streams s.core pairs)
   frame-has h p OfSettingsAck = acknowledged-has
   frame-has h p OfPushPromise = tt
-  frame-has h p (OfPing octets) = reacts _ (either-keeps s.core (has h.flags ACK) (nothing s.core) (Continues (record (only_counts s.core) { first = PingAck })) (refl, refl) (refl, refl))
+  frame-has h p (OfPing octets) = reacts _ (either-keeps s.core (has h.flags ACK) (nothing s.core) (Continues (record (only_counts s.core) { first = PingAck octets })) (refl, refl) (refl, refl))
   frame-has h p (OfGoaway last code) = (same, own, within)
   frame-has h p (OfWindowUpdate n) = reacts _ (either-keeps s.core (eqb h.stream 0) (connection_window s.core n) _ (connection-keeps s.core n) (window-keeps s.core n _))
   frame-has h p (OfContinuation octets) = kept _ (continuation-keeps s most low within s.block octets (has h.flags END_HEADERS))
@@ -359,9 +359,9 @@ step-keeps config s item h = at (item_effect s item) (item-has config s h.0 h.1.
     sends e k phase.Settings = sending-keeps config e.state k
     sends e k phase.Running = sending-keeps config e.state k
 
-    at : (e : FrameEffect) → EffectHas config e → KeepsSettings config (then_sent (concluded s (payload_of item) e).state.core.phase (concluded s (payload_of item) e)).state
+    at : (e : FrameEffect) → EffectHas config e → KeepsSettings config (then_sent (concluded s e).state.core.phase (concluded s e)).state
     at (Breaks cause) k = keeps-settings config _ h.0 h.1.own h.1.within
-    at (Makes t c) k = sends (made t (payload_of item) c) (keeps-settings config _ k.0 k.1 k.2) c.core.phase
+    at (Makes t c) k = sends (made t c) (keeps-settings config _ k.0 k.1 k.2) c.core.phase
 
 events-keep : (config : Config) (n : ℕ) (s : State) (b : List ℕ) → KeepsSettings config s → AllHaveSettingsInForce config (parse_upto next_event n s b).elements
 unfolding next_event

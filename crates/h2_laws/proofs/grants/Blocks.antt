@@ -55,11 +55,11 @@ whenever P false e p = absurd (false≢true e)
 -- ---- a request
 
 -- m: the mark with the body that its fields promise
-request-kept : (id : ℕ) (s : State) (t : Tally) (p : List ℕ) (j : ℕ) (ends : Bool) (fields : List Field) → 1 ≤ id → Agreement s.book id s t → s.block ≡ None → s.core.last < j →
-    Moves s.book id (with_mark_on id j t (with_fields s.book t.mark (Some fields))) p s (block_ends s j ends fields Request)
+request-kept : (id : ℕ) (s : State) (t : Tally) (j : ℕ) (ends : Bool) (fields : List Field) → 1 ≤ id → Agreement s.book id s t → s.block ≡ None → s.core.last < j →
+    Moves s.book id (with_mark_on id j t (with_fields s.book t.mark (Some fields))) s (block_ends s j ends fields Request)
 unfolding octets_waiting
-request-kept id s t p j ends fields pos_id x none above =
-    outcome-kept id s t (cond (eqb j id) asked t.mark) p (only_counts core) st outcome pos_id agrees none proper (omega arith, tt) ordered good (λ e. rw e refl) (λ e h. absurd (omega (arith, eqb-true j id e)))
+request-kept id s t j ends fields pos_id x none above =
+    outcome-kept id s t (cond (eqb j id) asked t.mark) (only_counts core) st outcome pos_id agrees none proper (omega arith, tt) ordered good (λ e. rw e refl) (λ e h. absurd (omega (arith, eqb-true j id e)))
   where
     f : BlockSummary
     f = request_summary s.book fields
@@ -111,22 +111,22 @@ request-kept id s t p j ends fields pos_id x none above =
 
 -- ---- the end of a block
 
-block-kept : (id : ℕ) (s : State) (t : Tally) (p : List ℕ) (j : ℕ) (ends : Bool) (fields : List Field) (purpose : Purpose) → 1 ≤ id → Agreement s.book id s t → s.block ≡ None → IsBlock id s.core.last s.streams j purpose t.mark →
-    Moves s.book id (with_mark_on id j t (with_fields s.book t.mark (Some fields))) p s (block_ends s j ends fields purpose)
-block-kept id s t p j ends fields purpose pos_id x none b = at purpose b
+block-kept : (id : ℕ) (s : State) (t : Tally) (j : ℕ) (ends : Bool) (fields : List Field) (purpose : Purpose) → 1 ≤ id → Agreement s.book id s t → s.block ≡ None → IsBlock id s.core.last s.streams j purpose t.mark →
+    Moves s.book id (with_mark_on id j t (with_fields s.book t.mark (Some fields))) s (block_ends s j ends fields purpose)
+block-kept id s t j ends fields purpose pos_id x none b = at purpose b
   where
     st : Stream
     st = stream_at s.core.last s.streams j
 
     -- what was promised is promised
-    promised : (c : Change) → (eqb j id ≡ true → is_some t.mark.promised ≡ true) → Moves s.book id t p s c → Moves s.book id (with_mark_on id j t (with_fields s.book t.mark (Some fields))) p s c
-    promised c h = subst (λ u. Moves s.book id u p s c) (sym (mark-same id j t (with_fields s.book t.mark (Some fields)) (λ e. ap (λ o. record t.mark { promised = o }) (promised-same s.book t.mark.promised (Some fields) (h e)))))
+    promised : (c : Change) → (eqb j id ≡ true → is_some t.mark.promised ≡ true) → Moves s.book id t s c → Moves s.book id (with_mark_on id j t (with_fields s.book t.mark (Some fields))) s c
+    promised c h = subst (λ u. Moves s.book id u s c) (sym (mark-same id j t (with_fields s.book t.mark (Some fields)) (λ e. ap (λ o. record t.mark { promised = o }) (promised-same s.book t.mark.promised (Some fields) (h e)))))
 
-    on_record : (outcome : StreamOutcome) → IsRecorded st.kind → Proper s.book st outcome → (eqb j id ≡ true → Fits s.book t.window st t.mark → Good s.book t.window t.mark outcome) → Moves s.book id t p s (with_outcome (only_counts s.core) outcome)
-    on_record outcome r proper good = record-kept id s t t.mark p (only_counts s.core) j outcome pos_id x none r proper good (λ e. refl)
+    on_record : (outcome : StreamOutcome) → IsRecorded st.kind → Proper s.book st outcome → (eqb j id ≡ true → Fits s.book t.window st t.mark → Good s.book t.window t.mark outcome) → Moves s.book id t s (with_outcome (only_counts s.core) outcome)
+    on_record outcome r proper good = record-kept id s t t.mark (only_counts s.core) j outcome pos_id x none r proper good (λ e. refl)
 
-    at : (purpose : Purpose) → IsBlock id s.core.last s.streams j purpose t.mark → Moves s.book id (with_mark_on id j t (with_fields s.book t.mark (Some fields))) p s (block_ends s j ends fields purpose)
-    at Request b = request-kept id s t p j ends fields pos_id x none b.0
+    at : (purpose : Purpose) → IsBlock id s.core.last s.streams j purpose t.mark → Moves s.book id (with_mark_on id j t (with_fields s.book t.mark (Some fields))) s (block_ends s j ends fields purpose)
+    at Request b = request-kept id s t j ends fields pos_id x none b.0
     at Trailers b =
         let for : (e : eqb j id ≡ true) → (is_some t.mark.promised ≡ true) × (t.mark.reset ≡ false) = λ e. whenever _ (eqb j id) e b.1 in
         promised _ (λ e. (for e).0)
@@ -140,13 +140,13 @@ block-kept id s t p j ends fields purpose pos_id x none b = at purpose b
         (on_record (stream_error s.core.peer.size_update_pending j HeadersAfterEndStream) b.0
         (subst (λ i. Proper s.book st (stream_error s.core.peer.size_update_pending i HeadersAfterEndStream)) same (error-proper s.book s.core.peer.size_update_pending st HeadersAfterEndStream))
         (λ e f. error-good s.book t.window t.mark s.core.peer.size_update_pending j HeadersAfterEndStream (Uncut-live st.kind (picked s.book st.pick).body t.window st.numbers.send st.numbers.body_remaining t.mark f (for e).1)))
-    at TableOnly b = promised _ (λ e. whenever _ (eqb j id) e b.1) (stays s.book id t p s s.core NoConnectionFrame pos_id x)
+    at TableOnly b = promised _ (λ e. whenever _ (eqb j id) e b.1) (stays s.book id t s s.core NoConnectionFrame pos_id x)
 
 -- ---- a fragment
 
-pub fragment-kept : (id : ℕ) (s : State) (t : Tally) (p : List ℕ) (b : BlockView) (d : Decoding) (octets : List ℕ) (ends : Bool) → 1 ≤ id → Agreement s.book id s t → IsBlock id s.core.last s.streams b.stream d.purpose t.mark →
-    Kept s.book id (with_mark_on id b.stream t (with_fields s.book t.mark (fields_at_end s (Some d) octets ends))) p (fragment s b d octets ends)
-fragment-kept id s t p b d octets ends pos_id x of = over _ (cases ends)
+pub fragment-kept : (id : ℕ) (s : State) (t : Tally) (b : BlockView) (d : Decoding) (octets : List ℕ) (ends : Bool) → 1 ≤ id → Agreement s.book id s t → IsBlock id s.core.last s.streams b.stream d.purpose t.mark →
+    Kept s.book id (with_mark_on id b.stream t (with_fields s.book t.mark (fields_at_end s (Some d) octets ends))) (fragment s b d octets ends)
+fragment-kept id s t b d octets ends pos_id x of = over _ (cases ends)
   where
     c : BlockView
     c = record b { octets = b.octets + length octets }
@@ -154,11 +154,11 @@ fragment-kept id s t p b d octets ends pos_id x of = over _ (cases ends)
     r : Decoded
     r = decoded_with s d octets
 
-    either : (u : Tally) (z : Bool) (e f : FrameEffect) → Kept s.book id u p e → Kept s.book id u p f → Kept s.book id u p (cond z e f)
+    either : (u : Tally) (z : Bool) (e f : FrameEffect) → Kept s.book id u e → Kept s.book id u f → Kept s.book id u (cond z e f)
     either u true e f h g = h
     either u false e f h g = g
 
-    over : (u : Tally) → Kept s.book id u p (fragment_decoded s c d.purpose ends r) → Kept s.book id u p (fragment s b d octets ends)
+    over : (u : Tally) → Kept s.book id u (fragment_decoded s c d.purpose ends r) → Kept s.book id u (fragment s b d octets ends)
     over u k = either u (nat_lt 65536 (b.octets + length octets)) (Breaks _) (fragment_decoded s c d.purpose ends r) tt k
 
     -- the same state with another table and block
@@ -178,17 +178,17 @@ fragment-kept id s t p b d octets ends pos_id x of = over _ (cases ends)
       of_block = h;
     }
 
-    more : (o : Outcome) → Kept s.book id t p (fragment_decoded s c d.purpose false (record r { outcome = o }))
+    more : (o : Outcome) → Kept s.book id t (fragment_decoded s c d.purpose false (record r { outcome = o }))
     more (Faulty fault) = tt
-    more (Unfinished rest) = stays s.book id t p _ s.core NoConnectionFrame pos_id (with_table r.progress.table _ of)
+    more (Unfinished rest) = stays s.book id t _ s.core NoConnectionFrame pos_id (with_table r.progress.table _ of)
 
-    last : (o : Outcome) → Kept s.book id (with_mark_on id b.stream t (with_fields s.book t.mark (Some r.progress.fields))) p (fragment_decoded s c d.purpose true (record r { outcome = o }))
+    last : (o : Outcome) → Kept s.book id (with_mark_on id b.stream t (with_fields s.book t.mark (Some r.progress.fields))) (fragment_decoded s c d.purpose true (record r { outcome = o }))
     last (Faulty fault) = tt
     last (Unfinished rest) =
         either _ (not (eqb (length rest) 0)) (Breaks _) _ tt
         (either _ r.progress.due (Breaks _) _ tt
-        (block-kept id (record s { table = r.progress.table; block = None }) t p b.stream b.ends r.progress.fields d.purpose pos_id (with_table r.progress.table None tt) refl of))
+        (block-kept id (record s { table = r.progress.table; block = None }) t b.stream b.ends r.progress.fields d.purpose pos_id (with_table r.progress.table None tt) refl of))
 
-    cases : (e : Bool) → Kept s.book id (with_mark_on id b.stream t (with_fields s.book t.mark (fields_at_end s (Some d) octets e))) p (fragment_decoded s c d.purpose e r)
-    cases false = subst (λ u. Kept s.book id u p (fragment_decoded s c d.purpose false r)) (sym (mark-same id b.stream t _ (λ e. ap (λ o. record t.mark { promised = o }) (no_fields s.book t.mark.promised)))) (more r.outcome)
+    cases : (e : Bool) → Kept s.book id (with_mark_on id b.stream t (with_fields s.book t.mark (fields_at_end s (Some d) octets e))) (fragment_decoded s c d.purpose e r)
+    cases false = subst (λ u. Kept s.book id u (fragment_decoded s c d.purpose false r)) (sym (mark-same id b.stream t _ (λ e. ap (λ o. record t.mark { promised = o }) (no_fields s.book t.mark.promised)))) (more r.outcome)
     cases true = last r.outcome

@@ -26,7 +26,7 @@ use Rattle.h2_spec.specs.Checks.{interrupts, early, misplaced, refusal}
 use Rattle.h2_spec.specs.ReactionTable.{Rule, Error, headers_cell}
 use Rattle.h2_spec.specs.WindowUpdate.{connection_window}
 use Rattle.h2_spec.specs.Headers.{makes, fresh_block, fresh_decoding, block_opens, continued}
-use Rattle.h2_spec.specs.Effect.{nothing, incoming, on_headers, on_window, frame_effect, part_effect, checked_effect, block_stream, item_effect, payload_of}
+use Rattle.h2_spec.specs.Effect.{nothing, incoming, on_headers, on_window, frame_effect, part_effect, checked_effect, block_stream, item_effect}
 use Rattle.h2_laws.specs.Grants.{Tally, When, with_mark_on, with_fields, with_fragment, fields_at_end, received_part, received_frame, received}
 use Rattle.h2_laws.proofs.grants.Tallies.{always}
 use Rattle.h2_laws.proofs.grants.Agreement.{FitsAs, IsRecorded, IsBlock, IsDecoding, FitsBlock, Agreement}
@@ -45,10 +45,10 @@ module _ (id : ℕ) (s : State) (t : Tally) (h : Head) (p : List ℕ) (pos_id : 
   abbrev headers : HeadersPart → Tally
   headers part = with_fragment s.book id s t h (Some (fresh_decoding s Request)) part.fragment
 
-  opens : (part : HeadersPart) (purpose : Purpose) → IsBlock id s.core.last s.streams h.stream purpose t.mark → Kept s.book id (headers part) p (block_opens s purpose h part)
+  opens : (part : HeadersPart) (purpose : Purpose) → IsBlock id s.core.last s.streams h.stream purpose t.mark → Kept s.book id (headers part) (block_opens s purpose h part)
   opens part purpose of =
-      subst (λ fs. Kept s.book id (with_mark_on id h.stream t (with_fields s.book t.mark fs)) p (block_opens s purpose h part)) (same (has h.flags END_HEADERS))
-      (fragment-kept id s t p (fresh_block h) (fresh_decoding s purpose) part.fragment (has h.flags END_HEADERS) pos_id x of)
+      subst (λ fs. Kept s.book id (with_mark_on id h.stream t (with_fields s.book t.mark fs)) (block_opens s purpose h part)) (same (has h.flags END_HEADERS))
+      (fragment-kept id s t (fresh_block h) (fresh_decoding s purpose) part.fragment (has h.flags END_HEADERS) pos_id x of)
     where
       same : (ends : Bool) → fields_at_end s (Some (fresh_decoding s purpose)) part.fragment ends ≡ fields_at_end s (Some (fresh_decoding s Request)) part.fragment ends
       same true = refl
@@ -70,14 +70,14 @@ module _ (id : ℕ) (s : State) (t : Tally) (h : Head) (p : List ℕ) (pos_id : 
       let reset : t.mark.reset ≡ false = live-reset k (picked s.book st.pick).body t.window st.numbers.send st.numbers.body_remaining t.mark l f in
       ((Uncut-live k (picked s.book st.pick).body t.window st.numbers.send st.numbers.body_remaining t.mark f reset).promised, reset))
 
-  headers-kept : (part : HeadersPart) → Kept s.book id (headers part) p (on_headers s h part (headers_cell h.stream st.kind))
+  headers-kept : (part : HeadersPart) → Kept s.book id (headers part) (on_headers s h part (headers_cell h.stream st.kind))
   headers-kept part = at st.kind refl
     where
-      first : (b : Bool) → eqb (h.stream % 2) 1 ≡ b → st.kind ≡ Idle → Kept s.book id (headers part) p (on_headers s h part (cond b (Rule Request) (Error HeadersOnEven)))
+      first : (b : Bool) → eqb (h.stream % 2) 1 ≡ b → st.kind ≡ Idle → Kept s.book id (headers part) (on_headers s h part (cond b (Rule Request) (Error HeadersOnEven)))
       first true odd e = opens part Request (at-idle s.book s.core.last s.streams h.stream x.bodies e odd, always (eqb h.stream id) tt)
       first false odd e = tt
 
-      at : (k : Kind) → st.kind ≡ k → Kept s.book id (headers part) p (on_headers s h part (headers_cell h.stream k))
+      at : (k : Kind) → st.kind ≡ k → Kept s.book id (headers part) (on_headers s h part (headers_cell h.stream k))
       at Idle e = first (eqb (h.stream % 2) 1) refl e
       at Skipped e = tt
       at BothOpen e = opens part Trailers (subst IsRecorded (sym e) tt, live BothOpen tt tt e)
@@ -89,25 +89,25 @@ module _ (id : ℕ) (s : State) (t : Tally) (h : Head) (p : List ℕ) (pos_id : 
 
   -- ---- each type of frame, where no block is open
 
-  part-kept : (part : Part) → Kept s.book id (received_part s.book id s t h part) p (frame_effect s h p part)
-  part-kept (OfData part) = data-kept id s t p h.stream (incoming h p part) pos_id x none
+  part-kept : (part : Part) → Kept s.book id (received_part s.book id s t h part) (frame_effect s h p part)
+  part-kept (OfData part) = data-kept id s t h.stream (incoming h p part) pos_id x none
   part-kept (OfHeaders part) = headers-kept part
-  part-kept OfPriority = stays s.book id t p s s.core NoConnectionFrame pos_id x
-  part-kept (OfRstStream code) = reset-kept id s t p h.stream pos_id x none
-  part-kept (OfSettings pairs) = settings-kept id s t p pairs pos_id x none
-  part-kept OfSettingsAck = acknowledged-kept id s t p pos_id x none
+  part-kept OfPriority = stays s.book id t s s.core NoConnectionFrame pos_id x
+  part-kept (OfRstStream code) = reset-kept id s t h.stream pos_id x none
+  part-kept (OfSettings pairs) = settings-kept id s t pairs pos_id x none
+  part-kept OfSettingsAck = acknowledged-kept id s t pos_id x none
   part-kept OfPushPromise = tt
   part-kept (OfPing octets) =
-      either-kept s.book id t p s (has h.flags ACK) (nothing s.core) (Continues (record (only_counts s.core) { first = PingAck }))
-      (stays s.book id t p s s.core NoConnectionFrame pos_id x) (stays s.book id t p s s.core PingAck pos_id x)
-  part-kept (OfGoaway last code) = stays s.book id t p s (record s.core { goaway = Some (last, code) }) NoConnectionFrame pos_id x
+      either-kept s.book id t s (has h.flags ACK) (nothing s.core) (Continues (record (only_counts s.core) { first = PingAck octets }))
+      (stays s.book id t s s.core NoConnectionFrame pos_id x) (stays s.book id t s s.core (PingAck octets) pos_id x)
+  part-kept (OfGoaway last code) = stays s.book id t s (record s.core { goaway = Some (last, code) }) NoConnectionFrame pos_id x
   part-kept (OfWindowUpdate n) = at (eqb h.stream 0)
     where
-      at : (b : Bool) → Kept s.book id (cond b (record t { granted = t.granted + n }) (with_mark_on id h.stream t (granted_more n t.mark))) p (makes s (cond b (connection_window s.core n) (on_window s.core n st)))
-      at true = connection-kept id s t p n pos_id x
-      at false = window-kept id s t p h.stream pos_id x none n
+      at : (b : Bool) → Kept s.book id (cond b (record t { granted = t.granted + n }) (with_mark_on id h.stream t (granted_more n t.mark))) (makes s (cond b (connection_window s.core n) (on_window s.core n st)))
+      at true = connection-kept id s t n pos_id x
+      at false = window-kept id s t h.stream pos_id x none n
   part-kept (OfContinuation fragment) = rw none tt
-  part-kept OfUnknown = stays s.book id t p s s.core NoConnectionFrame pos_id x
+  part-kept OfUnknown = stays s.book id t s s.core NoConnectionFrame pos_id x
 
 -- ---- a frame that does not interrupt a block
 
@@ -130,25 +130,25 @@ continuation-part : (h : Head) (p : List ℕ) → h.kind ≡ 9 → part_of h p �
 unfolding part_as
 continuation-part h p e = subst (λ k. part_as (frame_type k) h.flags p ≡ Ok (OfContinuation p)) (sym e) refl
 
-frame-kept : (id : ℕ) (s : State) (t : Tally) (h : Head) (p : List ℕ) → 1 ≤ id → Agreement s.book id s t → interrupts (block_stream s.block) h ≡ false → Kept s.book id (received_frame s.book id s t h (part_of h p)) p (part_effect s h p (part_of h p))
+frame-kept : (id : ℕ) (s : State) (t : Tally) (h : Head) (p : List ℕ) → 1 ≤ id → Agreement s.book id s t → interrupts (block_stream s.block) h ≡ false → Kept s.book id (received_frame s.book id s t h (part_of h p)) (part_effect s h p (part_of h p))
 frame-kept id s t h p pos_id x e = at s.block refl e
   where
-    outside : (r : Result Part Cause) → s.block ≡ None → Kept s.book id (received_frame s.book id s t h r) p (part_effect s h p r)
+    outside : (r : Result Part Cause) → s.block ≡ None → Kept s.book id (received_frame s.book id s t h r) (part_effect s h p r)
     outside (Ok part) g = part-kept id s t h p pos_id x g part
     outside (Err cause) g = tt
 
-    inside : (b : OpenBlock) → s.block ≡ Some b → h.stream ≡ b.shown.stream → Kept s.book id (received_part s.book id s t h (OfContinuation p)) p (frame_effect s h p (OfContinuation p))
+    inside : (b : OpenBlock) → s.block ≡ Some b → h.stream ≡ b.shown.stream → Kept s.book id (received_part s.book id s t h (OfContinuation p)) (frame_effect s h p (OfContinuation p))
     inside b g same = rw (g, same) (decoding b.decoding agreed)
       where
         agreed : FitsBlock id s.core.last s.streams (Some b) t.mark
         agreed = subst (λ o. FitsBlock id s.core.last s.streams o t.mark) g x.of_block
 
         decoding : (o : Option Decoding) → IsDecoding id s.core.last s.streams b.shown.stream o t.mark →
-            Kept s.book id (with_mark_on id b.shown.stream t (with_fields s.book t.mark (fields_at_end s o p (has h.flags END_HEADERS)))) p (continued s b.shown o p (has h.flags END_HEADERS))
+            Kept s.book id (with_mark_on id b.shown.stream t (with_fields s.book t.mark (fields_at_end s o p (has h.flags END_HEADERS)))) (continued s b.shown o p (has h.flags END_HEADERS))
         decoding None f = tt
-        decoding (Some d) f = fragment-kept id s t p b.shown d p (has h.flags END_HEADERS) pos_id x f
+        decoding (Some d) f = fragment-kept id s t b.shown d p (has h.flags END_HEADERS) pos_id x f
 
-    at : (o : Option OpenBlock) → s.block ≡ o → interrupts (block_stream o) h ≡ false → Kept s.book id (received_frame s.book id s t h (part_of h p)) p (part_effect s h p (part_of h p))
+    at : (o : Option OpenBlock) → s.block ≡ o → interrupts (block_stream o) h ≡ false → Kept s.book id (received_frame s.book id s t h (part_of h p)) (part_effect s h p (part_of h p))
     at None g e = outside (part_of h p) g
     at (Some b) g e =
         let c = continues b.shown.stream h e in
@@ -156,11 +156,11 @@ frame-kept id s t h p pos_id x e = at s.block refl e
 
 -- ---- an item
 
-pub item-kept : (book : List Entry) (id : ℕ) (s : State) (t : Tally) (item : Item) → 1 ≤ id → Agreement book id s t → Kept book id (received book id s t item) (payload_of item) (item_effect s item)
-item-kept book id s t item pos_id x = subst (λ b. Agreement b id s t → Kept b id (received b id s t item) (payload_of item) (item_effect s item)) x.same_book (at item) x
+pub item-kept : (book : List Entry) (id : ℕ) (s : State) (t : Tally) (item : Item) → 1 ≤ id → Agreement book id s t → Kept book id (received book id s t item) (item_effect s item)
+item-kept book id s t item pos_id x = subst (λ b. Agreement b id s t → Kept b id (received b id s t item) (item_effect s item)) x.same_book (at item) x
   where
-    at : (item : Item) → Agreement s.book id s t → Kept s.book id (received s.book id s t item) (payload_of item) (item_effect s item)
-    at Preface x = stays s.book id t [] s (record s.core { phase = phase.Settings }) NoConnectionFrame pos_id (record {
+    at : (item : Item) → Agreement s.book id s t → Kept s.book id (received s.book id s t item) (item_effect s item)
+    at Preface x = stays s.book id t s (record s.core { phase = phase.Settings }) NoConnectionFrame pos_id (record {
       running = refl;
       same_book = x.same_book;
       same_window = x.same_window;
@@ -178,6 +178,6 @@ item-kept book id s t item pos_id x = subst (λ b. Agreement b id s t → Kept b
     at (Oversize h) x = tt
     at (WholeFrame h p) x = checked (refusal (block_stream s.block) s.core.phase h) refl
       where
-        checked : (o : Option Cause) → refusal (block_stream s.block) s.core.phase h ≡ o → Kept s.book id (received_frame s.book id s t h (part_of h p)) p (checked_effect s h p o)
+        checked : (o : Option Cause) → refusal (block_stream s.block) s.core.phase h ≡ o → Kept s.book id (received_frame s.book id s t h (part_of h p)) (checked_effect s h p o)
         checked (Some cause) e = tt
         checked None e = frame-kept id s t h p pos_id x (not-interrupting (block_stream s.block) s.core.phase h e)

@@ -15,7 +15,7 @@ use Rattle.h2_spec.specs.State.{State, opening}
 use Rattle.h2_spec.specs.Cause.{code_of}
 use Rattle.h2_spec.specs.Change.{Step, goaway, made}
 use Rattle.h2_spec.specs.Headers.{FrameEffect, Breaks, Makes}
-use Rattle.h2_spec.specs.Effect.{item_effect, payload_of, concluded, effect}
+use Rattle.h2_spec.specs.Effect.{item_effect, concluded, effect}
 use Rattle.h2_spec.specs.SendPending.{send_pending}
 use Rattle.h2_spec.specs.Trace.{then_sent, step, next_in, next_item, event_on, next_event, trace}
 use Rattle.h2_laws.specs.Grants.{Mark, Tally, When, IsWithinConnection, IsWithinStream, IsWithinFrameSize, IsInOrder, IsBeforeEnd, IsOfBody, body_or_nothing, IsUsedUp, is_unfinished, sends_data, sent_all, received, received_by, has_ended, start, Meets, Keeps, KeepsGrants}
@@ -85,10 +85,7 @@ steps book id s t item pos_id x = at (item_effect s item) (item-kept book id s t
     u : Tally
     u = received book id s t item
 
-    p : List ℕ
-    p = payload_of item
-
-    at : (e : FrameEffect) → Kept book id u p e → Steps book id t u (then_sent (concluded s p e).state.core.phase (concluded s p e))
+    at : (e : FrameEffect) → Kept book id u e → Steps book id t u (then_sent (concluded s e).state.core.phase (concluded s e))
     at (Breaks cause) k = record {
       kept = λ g e.
           let sent : List Frame = goaway s.core.last (code_of cause) ∷ [] in
@@ -98,7 +95,7 @@ steps book id s t item pos_id x = at (item_effect s item) (item-kept book id s t
       ordered = x.ordered;
       agrees = λ e. absurd (both_ways true e refl);
     }
-    at (Makes r c) k = sends (made r p c) k.leads k.quiet k.agrees
+    at (Makes r c) k = sends (made r c) k.leads k.quiet k.agrees
       where
         sends : (e : Step) → Leads id u e.sent k.tally → sends_data id e.sent ≡ false → Agreement book id e.state k.tally → Steps book id t u (then_sent e.state.core.phase e)
         sends e leads quiet agrees = by_phase e.state.core.phase agrees.running

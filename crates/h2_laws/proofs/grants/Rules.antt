@@ -34,21 +34,21 @@ use Rattle.h2_laws.proofs.grants.Agreement.{FitsAs, Fits, Absent, Unasked, FitsS
 use Rattle.h2_laws.proofs.grants.Turns.{OnlyOn, other-leads, own-leads, marked_all, outcome_frames, Proper, Good, Uncut-live, error-proper, error-good, data_turn-proper, data_turn-good, IsOver, now_reset, granted_more, reset_turn-proper, reset_turn-good, over-reset, window_turn-proper, window_turn-good, over-granted}
 use Rattle.h2_laws.proofs.grants.Records.{at-id, at-found, at-skipped, found-body, found-fits, found-not_absent, unfound, put-absent, put-bodies, put-own, put-other, put-in_order, remarked, unmarked}
 
--- what a change leaves, where the item has this payload; t: the tally with what the item brought
-pub record Moves (book : List Entry) (id : ℕ) (t : Tally) (p : List ℕ) (s : State) (c : Change) : Type 0 where
+-- what a change leaves; t: the tally with what the item brought
+pub record Moves (book : List Entry) (id : ℕ) (t : Tally) (s : State) (c : Change) : Type 0 where
   pub tally : Tally
-  pub leads : Leads id t (frames_of s.book p c) tally
-  pub quiet : sends_data id (frames_of s.book p c) ≡ false
+  pub leads : Leads id t (frames_of s.book c) tally
+  pub quiet : sends_data id (frames_of s.book c) ≡ false
   pub agrees : Agreement book id (after s c) tally
 
 -- unless the item ends the connection
-abbrev pub Kept : List Entry → ℕ → Tally → List ℕ → FrameEffect → Type 0
-Kept book id t p (Breaks cause) = Unit {0}
-Kept book id t p (Makes s c) = Moves book id t p s c
+abbrev pub Kept : List Entry → ℕ → Tally → FrameEffect → Type 0
+Kept book id t (Breaks cause) = Unit {0}
+Kept book id t (Makes s c) = Moves book id t s c
 
-pub either-kept : (book : List Entry) (id : ℕ) (t : Tally) (p : List ℕ) (s : State) (b : Bool) (x y : Reaction) → Kept book id t p (makes s x) → Kept book id t p (makes s y) → Kept book id t p (makes s (cond b x y))
-either-kept book id t p s true x y h g = h
-either-kept book id t p s false x y h g = g
+pub either-kept : (book : List Entry) (id : ℕ) (t : Tally) (s : State) (b : Bool) (x y : Reaction) → Kept book id t (makes s x) → Kept book id t (makes s y) → Kept book id t (makes s (cond b x y))
+either-kept book id t s true x y h g = h
+either-kept book id t s false x y h g = g
 
 -- ---- frames that are no DATA
 
@@ -64,31 +64,31 @@ only-append : (j : ℕ) (fs gs : List Frame) → OnlyOn j fs → OnlyOn j gs →
 only-append j [] gs o q = q
 only-append j (f ∷ fs) gs o q = (o.0, o.1, only-append j fs gs o.2 q)
 
-first-only : (p : List ℕ) (f : ConnectionFrame) → OnlyOn 0 (first_frames p f)
-first-only p NoConnectionFrame = tt
-first-only p SettingsAck = (refl, refl, tt)
-first-only p PingAck = (refl, refl, tt)
-first-only p (Credit n) = (refl, refl, tt)
+first-only : (f : ConnectionFrame) → OnlyOn 0 (first_frames f)
+first-only NoConnectionFrame = tt
+first-only SettingsAck = (refl, refl, tt)
+first-only (PingAck octets) = (refl, refl, tt)
+first-only (Credit n) = (refl, refl, tt)
 
 pub not_zero : (id : ℕ) → 1 ≤ id → eqb 0 id ≡ false
 not_zero id h = ne_eqb 0 id (λ e. absurd (omega arith))
 
 -- the counts change, and a frame is sent on stream 0
-pub stays : (book : List Entry) (id : ℕ) (t : Tally) (p : List ℕ) (s : State) (core : ConnectionState) (first : ConnectionFrame) → 1 ≤ id → Agreement book id (record s { core = core }) t →
-    Moves book id t p s (record (only_counts core) { first = first })
+pub stays : (book : List Entry) (id : ℕ) (t : Tally) (s : State) (core : ConnectionState) (first : ConnectionFrame) → 1 ≤ id → Agreement book id (record s { core = core }) t →
+    Moves book id t s (record (only_counts core) { first = first })
 unfolding frames_of
-stays book id t p s core first h x =
-    let only = only-append 0 (first_frames p first ++ []) [] (only-append 0 (first_frames p first) [] (first-only p first) tt) tt in
+stays book id t s core first h x =
+    let only = only-append 0 (first_frames first ++ []) [] (only-append 0 (first_frames first) [] (first-only first) tt) tt in
     record { tally = t; leads = other-leads id 0 t _ (not_zero id h) only; quiet = quiet-only id 0 _ only; agrees = x }
 
 -- ---- a turn of one stream
 
-frames-turned : (book : List Entry) (p : List ℕ) (c : Change) (outcome : StreamOutcome) → frames_of book p (with_outcome c outcome) ≡ first_frames p c.first ++ outcome_frames book outcome
+frames-turned : (book : List Entry) (c : Change) (outcome : StreamOutcome) → frames_of book (with_outcome c outcome) ≡ first_frames c.first ++ outcome_frames book outcome
 unfolding frames_of with_outcome
-frames-turned book p c outcome = append_assoc (first_frames p c.first) (second_frames outcome.frame) (answer_frames book outcome.answer)
+frames-turned book c outcome = append_assoc (first_frames c.first) (second_frames outcome.frame) (answer_frames book outcome.answer)
 
 -- m: the stream's mark with what the item brought
-module _ (id : ℕ) (s : State) (t : Tally) (m : Mark) (p : List ℕ) (c : Change) (st : Stream) (outcome : StreamOutcome)
+module _ (id : ℕ) (s : State) (t : Tally) (m : Mark) (c : Change) (st : Stream) (outcome : StreamOutcome)
     (pos_id : 1 ≤ id) (x : Agreement s.book id (record s { core = c.core }) t) (no_block : s.block ≡ None)
     (proper : Proper s.book st outcome) (body : HasBody s.book st) (ordered : Rise 0 c.core.last (put outcome.stream s.streams))
     (good : eqb st.id id ≡ true → Good s.book t.window m outcome)
@@ -100,13 +100,13 @@ module _ (id : ℕ) (s : State) (t : Tally) (m : Mark) (p : List ℕ) (c : Chang
   abbrev streams : List Stream
   streams = put outcome.stream s.streams
 
-  joined : (u : Tally) → Leads id brought (outcome_frames s.book outcome) u → Leads id brought (frames_of s.book p (with_outcome c outcome)) u
+  joined : (u : Tally) → Leads id brought (outcome_frames s.book outcome) u → Leads id brought (frames_of s.book (with_outcome c outcome)) u
   joined u l =
-      let front : Leads id brought (first_frames p c.first) brought = other-leads id 0 brought (first_frames p c.first) (not_zero id pos_id) (first-only p c.first) in
-      rw (frames-turned s.book p c outcome) (Leads-append id brought brought u (first_frames p c.first) (outcome_frames s.book outcome) front l)
+      let front : Leads id brought (first_frames c.first) brought = other-leads id 0 brought (first_frames c.first) (not_zero id pos_id) (first-only c.first) in
+      rw (frames-turned s.book c outcome) (Leads-append id brought brought u (first_frames c.first) (outcome_frames s.book outcome) front l)
 
-  silent : sends_data id (frames_of s.book p (with_outcome c outcome)) ≡ false
-  silent = rw (frames-turned s.book p c outcome) (quiet-append id (first_frames p c.first) (outcome_frames s.book outcome) (quiet-only id 0 (first_frames p c.first) (first-only p c.first)) (quiet-only id st.id (outcome_frames s.book outcome) proper.only))
+  silent : sends_data id (frames_of s.book (with_outcome c outcome)) ≡ false
+  silent = rw (frames-turned s.book c outcome) (quiet-append id (first_frames c.first) (outcome_frames s.book outcome) (quiet-only id 0 (first_frames c.first) (first-only c.first)) (quiet-only id st.id (outcome_frames s.book outcome) proper.only))
 
   -- the state after it agrees with another mark
   agrees-with : (n : Mark) → FitsStreams s.book t.window id streams n → (c.core.last < id → (n ≡ t.mark) × Absent id streams) → Agreement s.book id (after s (with_outcome c outcome)) (record t { mark = n })
@@ -126,7 +126,7 @@ module _ (id : ℕ) (s : State) (t : Tally) (m : Mark) (p : List ℕ) (c : Chang
     of_block = subst (λ o. FitsBlock id c.core.last streams o n) (sym no_block) tt;
   }
 
-  outcome-own : eqb st.id id ≡ true → Moves s.book id brought p s (with_outcome c outcome)
+  outcome-own : eqb st.id id ≡ true → Moves s.book id brought s (with_outcome c outcome)
   outcome-own e =
       let g : Good s.book t.window m outcome = good e in
       let n : Mark = marked_all m (outcome_frames s.book outcome) in
@@ -137,7 +137,7 @@ module _ (id : ℕ) (s : State) (t : Tally) (m : Mark) (p : List ℕ) (c : Chang
         agrees = agrees-with n (put-own s.book t.window id outcome.stream s.streams t.mark n (proper.same_id ∙ eqb-true st.id id e) x.agreed g.fits) (λ h. absurd (not_idle e h));
       }
 
-  outcome-other : eqb st.id id ≡ false → Moves s.book id brought p s (with_outcome c outcome)
+  outcome-other : eqb st.id id ≡ false → Moves s.book id brought s (with_outcome c outcome)
   outcome-other e =
       let outcome_id : eqb outcome.stream.id id ≡ false = rw proper.same_id e in
       record {
@@ -148,25 +148,25 @@ module _ (id : ℕ) (s : State) (t : Tally) (m : Mark) (p : List ℕ) (c : Chang
             (λ h. (other e, put-absent id outcome.stream s.streams outcome_id (x.idle h).1));
       }
 
-  pub outcome-kept : Moves s.book id brought p s (with_outcome c outcome)
+  pub outcome-kept : Moves s.book id brought s (with_outcome c outcome)
   outcome-kept = at (eqb st.id id) refl
     where
-      at : (b : Bool) → eqb st.id id ≡ b → Moves s.book id brought p s (with_outcome c outcome)
+      at : (b : Bool) → eqb st.id id ≡ b → Moves s.book id brought s (with_outcome c outcome)
       at true e = outcome-own e
       at false e = outcome-other e
 
 -- on a stream that has a record
-pub record-kept : (id : ℕ) (s : State) (t : Tally) (m : Mark) (p : List ℕ) (c : Change) (j : ℕ) (outcome : StreamOutcome) → 1 ≤ id → Agreement s.book id (record s { core = c.core }) t → s.block ≡ None →
+pub record-kept : (id : ℕ) (s : State) (t : Tally) (m : Mark) (c : Change) (j : ℕ) (outcome : StreamOutcome) → 1 ≤ id → Agreement s.book id (record s { core = c.core }) t → s.block ≡ None →
     let st : Stream = stream_at s.core.last s.streams j in
     IsRecorded st.kind → Proper s.book st outcome →
     (eqb j id ≡ true → Fits s.book t.window st t.mark → Good s.book t.window m outcome) → (eqb j id ≡ false → m ≡ t.mark) →
-    Moves s.book id (record t { mark = m }) p s (with_outcome c outcome)
-record-kept id s t m p c j outcome pos_id x none r proper good other =
+    Moves s.book id (record t { mark = m }) s (with_outcome c outcome)
+record-kept id s t m c j outcome pos_id x none r proper good other =
     let st : Stream = stream_at s.core.last s.streams j in
     let same : st.id ≡ j = at-id s.core.last s.streams j in
     let found : record_of s.streams j ≡ Some st = at-found s.core.last s.streams j r in
     let own : (e : eqb st.id id ≡ true) → record_of s.streams id ≡ Some st = λ e. subst (λ i. record_of s.streams i ≡ Some st) (sym same ∙ eqb-true st.id id e) found in
-    outcome-kept id s t m p c st outcome pos_id x none proper (found-body s.book j s.streams st found x.bodies)
+    outcome-kept id s t m c st outcome pos_id x none proper (found-body s.book j s.streams st found x.bodies)
     (put-in_order 0 c.core.last outcome.stream s.streams st (subst (λ i. record_of s.streams i ≡ Some st) (sym (proper.same_id ∙ same)) found) x.ordered)
     (λ e. good (subst (λ i. eqb i id ≡ true) same e) (found-fits s.book t.window id s.streams t.mark st (own e) x.agreed))
     (λ e. other (subst (λ i. eqb i id ≡ false) same e))
@@ -208,25 +208,25 @@ counted-agrees id s t threshold n x = at (given_back threshold (s.core.owed + n)
     at (Some k) = x
     at None = x
 
-counted-moves : (id : ℕ) (s : State) (t : Tally) (p : List ℕ) (threshold n : ℕ) → 1 ≤ id → Agreement s.book id s t → Moves s.book id t p s (counted threshold s.core n)
+counted-moves : (id : ℕ) (s : State) (t : Tally) (threshold n : ℕ) → 1 ≤ id → Agreement s.book id s t → Moves s.book id t s (counted threshold s.core n)
 unfolding counted owed_on_connection
-counted-moves id s t p threshold n pos_id x = at (given_back threshold (s.core.owed + n))
+counted-moves id s t threshold n pos_id x = at (given_back threshold (s.core.owed + n))
   where
     core : ConnectionState
     core = record s.core { recv = s.core.recv -ℤ pos n }
 
-    at : (o : Option ℕ) → Moves s.book id t p s (owed_as o core (core.owed + n))
-    at (Some k) = stays s.book id t p s _ (Credit k) pos_id x
-    at None = stays s.book id t p s _ NoConnectionFrame pos_id x
+    at : (o : Option ℕ) → Moves s.book id t s (owed_as o core (core.owed + n))
+    at (Some k) = stays s.book id t s _ (Credit k) pos_id x
+    at None = stays s.book id t s _ NoConnectionFrame pos_id x
 
-within-kept : (id : ℕ) (s : State) (t : Tally) (p : List ℕ) (n : ℕ) (c : Change) → Moves s.book id t p s c → Kept s.book id t p (makes s (if_within s.core n c))
-within-kept id s t p n c h = either-kept s.book id t p s (int_lt s.core.recv (pos n)) (ConnectionError ConnectionWindowExceeded) (Continues c) tt h
+within-kept : (id : ℕ) (s : State) (t : Tally) (n : ℕ) (c : Change) → Moves s.book id t s c → Kept s.book id t (makes s (if_within s.core n c))
+within-kept id s t n c h = either-kept s.book id t s (int_lt s.core.recv (pos n)) (ConnectionError ConnectionWindowExceeded) (Continues c) tt h
 
-pub data-kept : (id : ℕ) (s : State) (t : Tally) (p : List ℕ) (j : ℕ) (d : ReceivedData) → 1 ≤ id → Agreement s.book id s t → s.block ≡ None →
+pub data-kept : (id : ℕ) (s : State) (t : Tally) (j : ℕ) (d : ReceivedData) → 1 ≤ id → Agreement s.book id s t → s.block ≡ None →
     let st : Stream = stream_at s.core.last s.streams j in
-    Kept s.book id t p (makes s (on_data s.config s.core (body_length s.book st) d st))
+    Kept s.book id t (makes s (on_data s.config s.core (body_length s.book st) d st))
 unfolding on_data data_taken data_refused data_counted
-data-kept id s t p j d pos_id x none = at st.kind refl
+data-kept id s t j d pos_id x none = at st.kind refl
   where
     st : Stream
     st = stream_at s.core.last s.streams j
@@ -234,24 +234,24 @@ data-kept id s t p j d pos_id x none = at st.kind refl
     c : Change
     c = counted s.config.credit s.core d.octets
 
-    on_record : (outcome : StreamOutcome) → IsRecorded st.kind → Proper s.book st outcome → (Fits s.book t.window st t.mark → Good s.book t.window t.mark outcome) → Moves s.book id t p s (with_outcome c outcome)
-    on_record outcome r proper good = record-kept id s t t.mark p c j outcome pos_id (counted-agrees id s t s.config.credit d.octets x) none r proper (λ e f. good f) (λ e. refl)
+    on_record : (outcome : StreamOutcome) → IsRecorded st.kind → Proper s.book st outcome → (Fits s.book t.window st t.mark → Good s.book t.window t.mark outcome) → Moves s.book id t s (with_outcome c outcome)
+    on_record outcome r proper good = record-kept id s t t.mark c j outcome pos_id (counted-agrees id s t s.config.credit d.octets x) none r proper (λ e f. good f) (λ e. refl)
 
-    take : (k : Kind) → IsLive k → IsRecorded k → st.kind ≡ k → Kept s.book id t p (makes s (data_taken s.config s.core (body_length s.book st) d st))
-    take k l r e = within-kept id s t p d.octets _
+    take : (k : Kind) → IsLive k → IsRecorded k → st.kind ≡ k → Kept s.book id t (makes s (data_taken s.config s.core (body_length s.book st) d st))
+    take k l r e = within-kept id s t d.octets _
         (on_record (data_outcome s.config.credit s.core.peer.size_update_pending (body_length s.book st) d st) (subst IsRecorded (sym e) r) (data_turn-proper s.book s.config.credit s.core.peer.size_update_pending d st)
         (λ f. data_turn-good s.book t.window t.mark s.config.credit s.core.peer.size_update_pending d st f (live-reset st.kind (picked s.book st.pick).body t.window st.numbers.send st.numbers.body_remaining t.mark (subst IsLive (sym e) l) f)))
 
-    refuse : st.kind ≡ HalfRemote → Kept s.book id t p (makes s (data_refused s.config s.core d st DataAfterEndStream))
-    refuse e = within-kept id s t p d.octets _
+    refuse : st.kind ≡ HalfRemote → Kept s.book id t (makes s (data_refused s.config s.core d st DataAfterEndStream))
+    refuse e = within-kept id s t d.octets _
         (on_record (stream_error s.core.peer.size_update_pending st.id DataAfterEndStream) (subst IsRecorded (sym e) tt) (error-proper s.book s.core.peer.size_update_pending st DataAfterEndStream)
         (λ f. error-good s.book t.window t.mark s.core.peer.size_update_pending st.id DataAfterEndStream
         (Uncut-live st.kind (picked s.book st.pick).body t.window st.numbers.send st.numbers.body_remaining t.mark f (live-reset st.kind (picked s.book st.pick).body t.window st.numbers.send st.numbers.body_remaining t.mark (subst IsLive (sym e) tt) f))))
 
-    count : Kept s.book id t p (makes s (data_counted s.config s.core d))
-    count = within-kept id s t p d.octets c (counted-moves id s t p s.config.credit d.octets pos_id x)
+    count : Kept s.book id t (makes s (data_counted s.config s.core d))
+    count = within-kept id s t d.octets c (counted-moves id s t s.config.credit d.octets pos_id x)
 
-    at : (k : Kind) → st.kind ≡ k → Kept s.book id t p (makes s (run_cell ConnectionError (nothing s.core) (λ rule. data_rule rule s.config s.core (body_length s.book st) d st) (data_cell k)))
+    at : (k : Kind) → st.kind ≡ k → Kept s.book id t (makes s (run_cell ConnectionError (nothing s.core) (λ rule. data_rule rule s.config s.core (body_length s.book st) d st) (data_cell k)))
     at Idle e = tt
     at Skipped e = tt
     at BothOpen e = take BothOpen tt tt e
@@ -282,12 +282,12 @@ re-agrees id s t n x none f busy = record {
 
 -- what is kept where a frame on stream j makes this of the mark of its stream, and has this rule where the stream is
 -- live, and none where it is not
-record ByState (id : ℕ) (s : State) (t : Tally) (p : List ℕ) (j : ℕ) (n : Mark) (rule : Stream → StreamOutcome) : Type 0 where
-  live : (k : Kind) → IsLive k → IsRecorded k → (stream_at s.core.last s.streams j).kind ≡ k → Moves s.book id (with_mark_on id j t n) p s (with_outcome (only_counts s.core) (rule (stream_at s.core.last s.streams j)))
-  over : (k : Kind) → IsOver k → IsRecorded k → (stream_at s.core.last s.streams j).kind ≡ k → Moves s.book id (with_mark_on id j t n) p s (only_counts s.core)
-  skipped : (stream_at s.core.last s.streams j).kind ≡ Skipped → Moves s.book id (with_mark_on id j t n) p s (only_counts s.core)
+record ByState (id : ℕ) (s : State) (t : Tally) (j : ℕ) (n : Mark) (rule : Stream → StreamOutcome) : Type 0 where
+  live : (k : Kind) → IsLive k → IsRecorded k → (stream_at s.core.last s.streams j).kind ≡ k → Moves s.book id (with_mark_on id j t n) s (with_outcome (only_counts s.core) (rule (stream_at s.core.last s.streams j)))
+  over : (k : Kind) → IsOver k → IsRecorded k → (stream_at s.core.last s.streams j).kind ≡ k → Moves s.book id (with_mark_on id j t n) s (only_counts s.core)
+  skipped : (stream_at s.core.last s.streams j).kind ≡ Skipped → Moves s.book id (with_mark_on id j t n) s (only_counts s.core)
 
-module _ (id : ℕ) (s : State) (t : Tally) (p : List ℕ) (j : ℕ) (n : Mark) (rule : Stream → StreamOutcome)
+module _ (id : ℕ) (s : State) (t : Tally) (j : ℕ) (n : Mark) (rule : Stream → StreamOutcome)
     (pos_id : 1 ≤ id) (x : Agreement s.book id s t) (none : s.block ≡ None)
     (proper : (st : Stream) → Proper s.book st (rule st))
     (good : (st : Stream) → Fits s.book t.window st t.mark → t.mark.reset ≡ false → Good s.book t.window n (rule st))
@@ -300,47 +300,47 @@ module _ (id : ℕ) (s : State) (t : Tally) (p : List ℕ) (j : ℕ) (n : Mark) 
   marked = with_mark_on id j t n
 
   -- nothing changes but the mark
-  nothing-own : (b : Bool) → eqb j id ≡ b → (j ≡ id → FitsStreams s.book t.window id s.streams n × (s.core.last < id → ⊥)) → Moves s.book id (record t { mark = cond b n t.mark }) p s (only_counts s.core)
-  nothing-own false e f = stays s.book id t p s s.core NoConnectionFrame pos_id x
-  nothing-own true e f = let g = f (eqb-true j id e) in stays s.book id (record t { mark = n }) p s s.core NoConnectionFrame pos_id (re-agrees id s t n x none g.0 g.1)
+  nothing-own : (b : Bool) → eqb j id ≡ b → (j ≡ id → FitsStreams s.book t.window id s.streams n × (s.core.last < id → ⊥)) → Moves s.book id (record t { mark = cond b n t.mark }) s (only_counts s.core)
+  nothing-own false e f = stays s.book id t s s.core NoConnectionFrame pos_id x
+  nothing-own true e f = let g = f (eqb-true j id e) in stays s.book id (record t { mark = n }) s s.core NoConnectionFrame pos_id (re-agrees id s t n x none g.0 g.1)
 
-  nothing-over : (k : Kind) → IsOver k → IsRecorded k → st.kind ≡ k → Moves s.book id marked p s (only_counts s.core)
+  nothing-over : (k : Kind) → IsOver k → IsRecorded k → st.kind ≡ k → Moves s.book id marked s (only_counts s.core)
   nothing-over k o r e = nothing-own (eqb j id) refl (λ g.
       let found : record_of s.streams id ≡ Some st = subst (λ i. record_of s.streams i ≡ Some st) g (at-found s.core.last s.streams j (subst IsRecorded (sym e) r)) in
       (remarked s.book t.window id s.streams t.mark n st found (over st (subst IsOver (sym e) o)) x.agreed, λ h. found-not_absent id s.streams st found (x.idle h).1))
 
-  nothing-skipped : st.kind ≡ Skipped → Moves s.book id marked p s (only_counts s.core)
+  nothing-skipped : st.kind ≡ Skipped → Moves s.book id marked s (only_counts s.core)
   nothing-skipped e = nothing-own (eqb j id) refl (λ g.
       let missing = at-skipped s.book s.core.last s.streams j x.bodies e in
       let u = unfound s.book t.window id s.streams t.mark (subst (λ i. record_of s.streams i ≡ None) g missing.1) x.agreed in
       (unmarked s.book t.window id s.streams n u.1 (unasked u.0), λ h. let passed = missing.0 in absurd (omega arith)))
 
-  rule-live : (k : Kind) → IsLive k → IsRecorded k → st.kind ≡ k → Moves s.book id marked p s (with_outcome (only_counts s.core) (rule st))
+  rule-live : (k : Kind) → IsLive k → IsRecorded k → st.kind ≡ k → Moves s.book id marked s (with_outcome (only_counts s.core) (rule st))
   rule-live k l r e =
-      record-kept id s t (cond (eqb j id) n t.mark) p (only_counts s.core) j (rule st) pos_id x none (subst IsRecorded (sym e) r) (proper st)
+      record-kept id s t (cond (eqb j id) n t.mark) (only_counts s.core) j (rule st) pos_id x none (subst IsRecorded (sym e) r) (proper st)
       (λ own f. rw own (good st f (live-reset st.kind (picked s.book st.pick).body t.window st.numbers.send st.numbers.body_remaining t.mark (subst IsLive (sym e) l) f)))
       (λ other. rw other refl)
 
-  by-state : ByState id s t p j n rule
+  by-state : ByState id s t j n rule
   by-state = record { live = rule-live; over = nothing-over; skipped = nothing-skipped }
 
 -- by the state of the stream, with the table of RST_STREAM and that of WINDOW_UPDATE, which are alike
-module _ (id : ℕ) (s : State) (t : Tally) (p : List ℕ) (j : ℕ) (pos_id : 1 ≤ id) (x : Agreement s.book id s t) (none : s.block ≡ None) where
+module _ (id : ℕ) (s : State) (t : Tally) (j : ℕ) (pos_id : 1 ≤ id) (x : Agreement s.book id s t) (none : s.block ≡ None) where
   abbrev on : Stream
   on = stream_at s.core.last s.streams j
 
   unasked-more : (n : Mark) → n.promised ≡ t.mark.promised → n.headers ≡ t.mark.headers → n.content ≡ t.mark.content → n.ended ≡ t.mark.ended → Unasked t.mark → Unasked n
   unasked-more n a b c d u = record { promised = a ∙ u.promised; headers = b ∙ u.headers; content = c ∙ u.content; ended = d ∙ u.ended }
 
-  pub reset-kept : Kept s.book id (with_mark_on id j t (now_reset t.mark)) p (makes s (on_reset s.core on))
+  pub reset-kept : Kept s.book id (with_mark_on id j t (now_reset t.mark)) (makes s (on_reset s.core on))
   unfolding on_reset
   reset-kept = at on.kind refl
     where
-      rules : ByState id s t p j (now_reset t.mark) (reset_outcome s.core.peer.size_update_pending)
-      rules = by-state id s t p j (now_reset t.mark) (reset_outcome s.core.peer.size_update_pending) pos_id x none (reset_turn-proper s.book s.core.peer.size_update_pending) (reset_turn-good s.book t.window t.mark s.core.peer.size_update_pending)
+      rules : ByState id s t j (now_reset t.mark) (reset_outcome s.core.peer.size_update_pending)
+      rules = by-state id s t j (now_reset t.mark) (reset_outcome s.core.peer.size_update_pending) pos_id x none (reset_turn-proper s.book s.core.peer.size_update_pending) (reset_turn-good s.book t.window t.mark s.core.peer.size_update_pending)
           (λ st. over-reset st.kind (picked s.book st.pick).body t.window st.numbers.send st.numbers.body_remaining t.mark) (unasked-more (now_reset t.mark) refl refl refl refl)
 
-      at : (k : Kind) → on.kind ≡ k → Kept s.book id (with_mark_on id j t (now_reset t.mark)) p (makes s (run_cell ConnectionError (nothing s.core) (λ r. reset_rule r s.core on) (reset_cell k)))
+      at : (k : Kind) → on.kind ≡ k → Kept s.book id (with_mark_on id j t (now_reset t.mark)) (makes s (run_cell ConnectionError (nothing s.core) (λ r. reset_rule r s.core on) (reset_cell k)))
       at Idle e = tt
       at Skipped e = rules.skipped e
       at BothOpen e = rules.live BothOpen tt tt e
@@ -350,15 +350,15 @@ module _ (id : ℕ) (s : State) (t : Tally) (p : List ℕ) (j : ℕ) (pos_id : 1
       at PeerReset e = rules.over PeerReset tt tt e
       at WeReset e = rules.over WeReset tt tt e
 
-  pub window-kept : (i : ℕ) → Kept s.book id (with_mark_on id j t (granted_more i t.mark)) p (makes s (on_window s.core i on))
+  pub window-kept : (i : ℕ) → Kept s.book id (with_mark_on id j t (granted_more i t.mark)) (makes s (on_window s.core i on))
   unfolding on_window
   window-kept i = at on.kind refl
     where
-      rules : ByState id s t p j (granted_more i t.mark) (window_outcome s.core.peer.size_update_pending i)
-      rules = by-state id s t p j (granted_more i t.mark) (window_outcome s.core.peer.size_update_pending i) pos_id x none (window_turn-proper s.book s.core.peer.size_update_pending i) (window_turn-good s.book t.window t.mark s.core.peer.size_update_pending i)
+      rules : ByState id s t j (granted_more i t.mark) (window_outcome s.core.peer.size_update_pending i)
+      rules = by-state id s t j (granted_more i t.mark) (window_outcome s.core.peer.size_update_pending i) pos_id x none (window_turn-proper s.book s.core.peer.size_update_pending i) (window_turn-good s.book t.window t.mark s.core.peer.size_update_pending i)
           (λ st. over-granted st.kind (picked s.book st.pick).body t.window st.numbers.send st.numbers.body_remaining t.mark i) (unasked-more (granted_more i t.mark) refl refl refl refl)
 
-      at : (k : Kind) → on.kind ≡ k → Kept s.book id (with_mark_on id j t (granted_more i t.mark)) p (makes s (run_cell ConnectionError (nothing s.core) (λ r. window_rule r s.core i on) (window_cell k)))
+      at : (k : Kind) → on.kind ≡ k → Kept s.book id (with_mark_on id j t (granted_more i t.mark)) (makes s (run_cell ConnectionError (nothing s.core) (λ r. window_rule r s.core i on) (window_cell k)))
       at Idle e = tt
       at Skipped e = rules.skipped e
       at BothOpen e = rules.live BothOpen tt tt e
@@ -370,14 +370,14 @@ module _ (id : ℕ) (s : State) (t : Tally) (p : List ℕ) (j : ℕ) (pos_id : 1
 
 -- ---- the connection
 
-pub connection-kept : (id : ℕ) (s : State) (t : Tally) (p : List ℕ) (i : ℕ) → 1 ≤ id → Agreement s.book id s t → Kept s.book id (record t { granted = t.granted + i }) p (makes s (connection_window s.core i))
+pub connection-kept : (id : ℕ) (s : State) (t : Tally) (i : ℕ) → 1 ≤ id → Agreement s.book id s t → Kept s.book id (record t { granted = t.granted + i }) (makes s (connection_window s.core i))
 unfolding connection_window
-connection-kept id s t p i pos_id x =
+connection-kept id s t i pos_id x =
     let u : Tally = record t { granted = t.granted + i } in
     let core : ConnectionState = record s.core { send = s.core.send +ℤ pos i } in
-    either-kept s.book id u p s (eqb i 0) (ConnectionError ConnectionIncrementZero) _ tt
-    (either-kept s.book id u p s (is_above_max (s.core.send +ℤ pos i)) (ConnectionError ConnectionWindowOverflow) (Continues (only_counts core)) tt
-    (stays s.book id u p s core NoConnectionFrame pos_id (record {
+    either-kept s.book id u s (eqb i 0) (ConnectionError ConnectionIncrementZero) _ tt
+    (either-kept s.book id u s (is_above_max (s.core.send +ℤ pos i)) (ConnectionError ConnectionWindowOverflow) (Continues (only_counts core)) tt
+    (stays s.book id u s core NoConnectionFrame pos_id (record {
       running = x.running;
       same_book = x.same_book;
       same_window = x.same_window;

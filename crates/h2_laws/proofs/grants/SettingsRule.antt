@@ -202,10 +202,10 @@ received-agreed book window id d (x ∷ sts) m f = rw (received-id d x) (at (λ 
 -- ---- the rules
 
 -- the server's own settings come into force: no window of the peer's changes
-pub acknowledged-kept : (id : ℕ) (s : State) (t : Tally) (p : List ℕ) → 1 ≤ id → Agreement s.book id s t → s.block ≡ None → Kept s.book id t p (makes s (acknowledged s.config s.core))
+pub acknowledged-kept : (id : ℕ) (s : State) (t : Tally) → 1 ≤ id → Agreement s.book id s t → s.block ≡ None → Kept s.book id t (makes s (acknowledged s.config s.core))
 unfolding frames_of
-acknowledged-kept id s t p pos_id x none =
-    either-kept s.book id t p s s.core.acked (Continues (only_counts s.core)) (Continues (comes_into_force s.core own)) (stays s.book id t p s s.core NoConnectionFrame pos_id x)
+acknowledged-kept id s t pos_id x none =
+    either-kept s.book id t s s.core.acked (Continues (only_counts s.core)) (Continues (comes_into_force s.core own)) (stays s.book id t s s.core NoConnectionFrame pos_id x)
     (record {
       tally = t;
       leads = other-leads id 0 t _ (not_zero id pos_id) tt;
@@ -232,20 +232,20 @@ acknowledged-kept id s t p pos_id x none =
     d : ℤ
     d = moved_by s.core.own.window own.window
 
-pub settings-kept : (id : ℕ) (s : State) (t : Tally) (p : List ℕ) (pairs : List (ℕ × ℕ)) → 1 ≤ id → Agreement s.book id s t → s.block ≡ None → Kept s.book id (with_settings t pairs) p (makes s (settings_rule s.streams s.core pairs))
+pub settings-kept : (id : ℕ) (s : State) (t : Tally) (pairs : List (ℕ × ℕ)) → 1 ≤ id → Agreement s.book id s t → s.block ≡ None → Kept s.book id (with_settings t pairs) (makes s (settings_rule s.streams s.core pairs))
 unfolding settings_rule frames_of
-settings-kept id s t p pairs pos_id x none =
+settings-kept id s t pairs pos_id x none =
     at (settings_applied s.streams s.core.peer s.core.peer pairs)
     (settings-applied s.streams s.core.peer t t s.core.peer pairs (rw (x.same_window, x.same_frame) refl) (rw x.same_frame x.some_frame))
   where
     u : Tally
     u = with_settings t pairs
 
-    at : (r : Result Settings Cause) → Takes t u r → Kept s.book id u p (makes s (settings_taken s.core r))
+    at : (r : Result Settings Cause) → Takes t u r → Kept s.book id u (makes s (settings_taken s.core r))
     at (Err cause) h = tt
     at (Ok peer) h =
         let d : ℤ = moved_by s.core.peer.window peer.window in
-        subst (λ v. Kept s.book id v p (makes s (settings_taken s.core (Ok peer)))) (sym h.0) (record {
+        subst (λ v. Kept s.book id v (makes s (settings_taken s.core (Ok peer)))) (sym h.0) (record {
           tally = with_peer t peer;
           leads = other-leads id 0 (with_peer t peer) _ (not_zero id pos_id) (refl, refl, tt);
           quiet = rw (not_zero id pos_id) refl;

@@ -14,7 +14,7 @@ returns-clause-sent g c =
     let a = c.args in
     let change = a.change.now in
     let now = updated_streams change.record_update a.streams.now.streams in
-    on_ok_weaker c.update_and_send.result (λ sent. in-outcome a.out.now.items c.write_change.new.out.items c.update_and_send.new.out.items (frames_of a.book.now a.payload.now change) (waiting_frames a.book.now change.core now) c.in_ok-write_change.ensures.ok
+    on_ok_weaker c.update_and_send.result (λ sent. in-outcome a.out.now.items c.write_change.new.out.items c.update_and_send.new.out.items (frames_of a.book.now change) (waiting_frames a.book.now change.core now) c.in_ok-write_change.ensures.ok
     (sent ∙ ap (λ w. c.write_change.new.out.items ++ frames_octets (sent_frames a.book.now change.core.peer.frame w now)) c.open_window-window.ensures.window.0)) c.update_and_send.ensures.sent
 
 pub returns-clause-short : goal.returns-clause-short
@@ -22,7 +22,7 @@ returns-clause-short g c =
     let change = c.args.change.now in
     let book = c.args.book.now in
     let now = updated_streams change.record_update c.args.streams.now.streams in
-    on_ok_weaker c.update_and_send.result (λ _. short-append (frames_of book c.args.payload.now change) (waiting_frames book change.core now)
+    on_ok_weaker c.update_and_send.result (λ _. short-append (frames_of book change) (waiting_frames book change.core now)
     c.in_ok-write_change.ensures.short (sent_frames-short book change.core.peer.frame _ now c.requires.frame.1)) c.update_and_send.ensures.sent
 
 pub returns-clause-records : goal.returns-clause-records

@@ -47,7 +47,7 @@ returns-in-Ok-clause-ok g c =
     let change = c.args.change in
     let held : State = record { book = inside.book.now; config = inside.config; core = inside.core; block = inside.block; table = inside.table.table; streams = inside.streams.streams } in
     let counts = counts-sent change.core (updated_streams change.record_update inside.streams.streams) c.in-Ok.count c.with_sent-self-inside.result c.in-Ok.ensures.count.0 c.with_sent-self-inside.ensures in
-    subst (λ (s : State). Does (then_sent change.core.phase (made s c.args.payload.now change)) c.args.out.now.items
+    subst (λ (s : State). Does (then_sent change.core.phase (made s change)) c.args.out.now.items
     (record held { core = c.with_sent-self-inside.result; streams = c.send_and_update.new.streams.streams }) c.send_and_update.new.out.items) c.self.view_is
-    (did held c.args.payload.now change inside.streams c.send_and_update.new.streams c.with_sent-self-inside.result c.args.out.now.items c.send_and_update.new.out.items
+    (did held change inside.streams c.send_and_update.new.streams c.with_sent-self-inside.result c.args.out.now.items c.send_and_update.new.out.items
     refl counts c.in-Ok.ensures.records c.in-Ok.ensures.sent c.in-Ok.ensures.short)

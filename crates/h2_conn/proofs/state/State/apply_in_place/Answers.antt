@@ -48,9 +48,9 @@ returns-in-Ok-clause-ok g c =
     let change = c.args.change.now in
     let held : State = record { book = inside.book.now; config = inside.config; core = inside.core; block = inside.block; table = inside.table.table; streams = inside.streams.streams } in
     let counts = counts-sent change.core (updated_streams change.record_update inside.streams.streams) c.in-Ok.count c.set_counts.new.core c.in-Ok.ensures.count.0 c.set_counts.ensures in
-    subst (λ (s : State). Does (then_sent change.core.phase (made s c.args.payload.now change)) c.args.out.now.items
+    subst (λ (s : State). Does (then_sent change.core.phase (made s change)) c.args.out.now.items
     (record held { core = c.set_counts.new.core; streams = c.send_and_update.new.streams.streams }) c.send_and_update.new.out.items) c.self.view_is
-    (did held c.args.payload.now change inside.streams c.send_and_update.new.streams c.set_counts.new.core c.args.out.now.items c.send_and_update.new.out.items
+    (did held change inside.streams c.send_and_update.new.streams c.set_counts.new.core c.args.out.now.items c.send_and_update.new.out.items
     refl counts c.in-Ok.ensures.records c.in-Ok.ensures.sent c.in-Ok.ensures.short)
 
 pub set_counts-requires-clause-same : goal.set_counts-requires-clause-same

@@ -44,7 +44,6 @@ invariant_of-self-in-Ok g c =
 pub returns-in-Ok-clause-ok : goal.returns-in-Ok-clause-ok
 returns-in-Ok-clause-ok g c =
     let inside = c.self.inside in
-    let payload = c.args.payload.now in
     let own = c.configured-own.result in
     let change = c.comes_into_force-change.result in
     let out = c.args.out.now.items in
@@ -52,9 +51,9 @@ returns-in-Ok-clause-ok g c =
     let held : State = record { book = inside.book.now; config = inside.config; core = inside.core; block = inside.block; table = inside.table.table; streams = inside.streams.streams } in
     let sent : State = record held { core = c.with_sent-self-inside.result; streams = now.streams.streams } in
     let counts = counts-sent change.core (updated_streams change.record_update inside.streams.streams) c.in-Ok.count c.with_sent-self-inside.result c.in-Ok.ensures.count.0 c.with_sent-self-inside.ensures in
-    let does = did held payload change inside.streams now.streams c.with_sent-self-inside.result out now.out.items refl counts c.in-Ok.ensures.records c.in-Ok.ensures.sent c.in-Ok.ensures.short in
+    let does = did held change inside.streams now.streams c.with_sent-self-inside.result out now.out.items refl counts c.in-Ok.ensures.records c.in-Ok.ensures.sent c.in-Ok.ensures.short in
     let is : change ≡ comes_into_force inside.core (configured inside.config) = c.comes_into_force-change.ensures ∙ ap (comes_into_force inside.core) c.configured-own.ensures in
-    let came = subst (λ (x : Change). Does (then_sent x.core.phase (made held payload x)) out sent now.out.items) is does in
+    let came = subst (λ (x : Change). Does (then_sent x.core.phase (made held x)) out sent now.out.items) is does in
     let kept : c.lower_limit.new.self.table ≡ inside.table.table = ap (λ (t : LimitedTable). t.table) c.lower_limit.ensures ∙ ap (λ (t : LimitedTable). t.table) c.in_ok-set_limit.ensures.limited in
-    let whole = subst (λ (t : Table). Does (then_sent inside.core.phase (made held payload (comes_into_force inside.core (configured inside.config)))) out (record sent { table = t }) now.out.items) (sym kept) came in
-    subst (λ (s : State). Does (then_sent s.core.phase (made s payload (comes_into_force s.core (configured s.config)))) out (record sent { table = c.lower_limit.new.self.table }) now.out.items) c.self.view_is whole
+    let whole = subst (λ (t : Table). Does (then_sent inside.core.phase (made held (comes_into_force inside.core (configured inside.config)))) out (record sent { table = t }) now.out.items) (sym kept) came in
+    subst (λ (s : State). Does (then_sent s.core.phase (made s (comes_into_force s.core (configured s.config)))) out (record sent { table = c.lower_limit.new.self.table }) now.out.items) c.self.view_is whole

@@ -25,9 +25,9 @@ shown-alone None = refl
 shown-alone (Some b) = refl
 
 -- with the block only shown, an effect is made as with the block
-concluded-stopped : (s : State) (p : List ℕ) (e : FrameEffect) → rule.concluded (stopped s) p e ≡ rule.concluded s p e
-concluded-stopped s p (Breaks cause) = ap (λ (b : Option OpenBlock). record (broken s cause) { state = record (ended s (code_of cause)) { block = b } }) (shown-alone s.block)
-concluded-stopped s p (Makes t c) = refl
+concluded-stopped : (s : State) (e : FrameEffect) → rule.concluded (stopped s) e ≡ rule.concluded s e
+concluded-stopped s (Breaks cause) = ap (λ (b : Option OpenBlock). record (broken s cause) { state = record (ended s (code_of cause)) { block = b } }) (shown-alone s.block)
+concluded-stopped s (Makes t c) = refl
 
 -- with the block only shown, a fragment has the same cause
 cause-stopped : (s : State) (shown : BlockView) (d : Decoding) (octets : List ℕ) (ends : Bool) → rule.effect_cause (headers.fragment (stopped s) shown d octets ends) ≡ rule.effect_cause (headers.fragment s shown d octets ends)
@@ -36,16 +36,15 @@ cause-stopped s shown d octets ends = refl
 pub returns-in-Ok-clause-ok : goal.returns-in-Ok-clause-ok
 returns-in-Ok-clause-ok g c =
     let s = c.args.self.now in
-    let p = c.args.payload.now in
     let octets = c.args.octets.now in
     let x : BlockView × Decoding = (c.in-Some.shown, c.in-Some.decoding) in
     let ends = has c.args.head.now.flags END_HEADERS in
-    let Q : State → FrameEffect → Type 0 = λ t e. Does (stepped (rule.concluded t p e)) c.args.out.now.items c.on_fragment.new.self c.on_fragment.new.out.items in
+    let Q : State → FrameEffect → Type 0 = λ t e. Does (stepped (rule.concluded t e)) c.args.out.now.items c.on_fragment.new.self c.on_fragment.new.out.items in
     let taken = subst (λ (t : State). Q t (headers.fragment t x.0 x.1 octets c.has-end_headers.result)) c.take_decoding.ensures.stopped c.in-Ok.ensures.ok in
     let flagged = subst (λ (b : Bool). Q (stopped s) (headers.fragment s x.0 x.1 octets b)) c.has-end_headers.ensures taken in
-    let whole = subst (λ (e : Step). Does (stepped e) c.args.out.now.items c.on_fragment.new.self c.on_fragment.new.out.items) (concluded-stopped s p (headers.fragment s x.0 x.1 octets ends)) flagged in
+    let whole = subst (λ (e : Step). Does (stepped e) c.args.out.now.items c.on_fragment.new.self c.on_fragment.new.out.items) (concluded-stopped s (headers.fragment s x.0 x.1 octets ends)) flagged in
     let done = subst (λ (e : FrameEffect). Q s e) (sym (goes-on s s.block x octets ends c.in-Some.ensures.taken)) whole in
-    subst (λ (t : State). Does (stepped (rule.concluded s p (headers.continuation s s.block octets ends))) c.args.out.now.items t c.on_fragment.new.out.items) (sym c.keep_decoding.ensures) done
+    subst (λ (t : State). Does (stepped (rule.concluded s (headers.continuation s s.block octets ends))) c.args.out.now.items t c.on_fragment.new.out.items) (sym c.keep_decoding.ensures) done
 
 -- the cause is that of the block that was taken out
 pub returns-in-Ok-clause-cause : goal.returns-in-Ok-clause-cause
