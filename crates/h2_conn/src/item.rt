@@ -239,11 +239,7 @@ impl<'b, A: Allocator + Copy> State<'b, A> {
 
     /// RST_STREAM is taken.
     #[inline(never)]
-    fn take_reset(
-        &mut self,
-        id: u32,
-        out: &mut Vec<u8, A>,
-    ) -> Result<Option<Cause>, AllocError>
+    fn take_reset(&mut self, id: u32, out: &mut Vec<u8, A>) -> Result<Option<Cause>, AllocError>
         requires stopped { IsStopped self.old.block }
         ensures ok { OnOk result (Does (stepped (rule.concluded self.old (makes self.old (rule.on_reset self.old.core (stream_at self.old.core.last self.old.streams id))))) out.old.items self.new out.new.items) }
         ensures cause { IfOk result (λ cause. cause ≡ rule.effect_cause (makes self.old (rule.on_reset self.old.core (stream_at self.old.core.last self.old.streams id)))) }
@@ -338,10 +334,7 @@ impl<'b, A: Allocator + Copy> State<'b, A> {
 
     /// A frame that changes nothing is taken.
     #[inline(never)]
-    fn take_ignored(
-        &mut self,
-        out: &mut Vec<u8, A>,
-    ) -> Result<Option<Cause>, AllocError>
+    fn take_ignored(&mut self, out: &mut Vec<u8, A>) -> Result<Option<Cause>, AllocError>
         requires stopped { IsStopped self.old.block }
         ensures ok { OnOk result (Does (stepped (rule.concluded self.old (makes self.old (rule.nothing self.old.core)))) out.old.items self.new out.new.items) }
         ensures cause { IfOk result (λ cause. cause ≡ rule.effect_cause (makes self.old (rule.nothing self.old.core))) }
@@ -353,10 +346,7 @@ impl<'b, A: Allocator + Copy> State<'b, A> {
 
     /// PUSH_PROMISE is taken.
     #[inline(never)]
-    fn take_push_promise(
-        &mut self,
-        out: &mut Vec<u8, A>,
-    ) -> Result<Option<Cause>, AllocError>
+    fn take_push_promise(&mut self, out: &mut Vec<u8, A>) -> Result<Option<Cause>, AllocError>
         requires stopped { IsStopped self.old.block }
         ensures ok { OnOk result (Does (stepped (rule.concluded self.old (makes self.old (ConnectionError PushPromiseFromClient)))) out.old.items self.new out.new.items) }
         ensures cause { IfOk result (λ cause. cause ≡ rule.effect_cause (makes self.old (ConnectionError PushPromiseFromClient))) }

@@ -21,10 +21,7 @@ use std::alloc::{AllocError, Allocator};
 impl<'b, A: Allocator + Copy> State<'b, A> {
     /// The peer has acknowledged the server's settings: the first time they come into force, later nothing changes.
     #[inline(never)]
-    pub fn on_acknowledged(
-        &mut self,
-        out: &mut Vec<u8, A>,
-    ) -> Result<Option<Cause>, AllocError>
+    pub fn on_acknowledged(&mut self, out: &mut Vec<u8, A>) -> Result<Option<Cause>, AllocError>
         requires stopped { IsStopped self.old.block }
         ensures ok { OnOk result (Does (stepped (rule.concluded self.old (makes self.old (settings.acknowledged self.old.config self.old.core)))) out.old.items self.new out.new.items) }
         ensures cause { IfOk result (λ cause. cause ≡ rule.effect_cause (makes self.old (settings.acknowledged self.old.config self.old.core))) }
@@ -43,10 +40,7 @@ impl<'b, A: Allocator + Copy> State<'b, A> {
     /// # Errors
     ///
     /// `AllocError` where memory was refused for the entries that a higher limit lets the table hold: nothing is done.
-    fn come_into_force(
-        &mut self,
-        out: &mut Vec<u8, A>,
-    ) -> Result<Option<Cause>, AllocError>
+    fn come_into_force(&mut self, out: &mut Vec<u8, A>) -> Result<Option<Cause>, AllocError>
         requires stopped { IsStopped self.old.block }
         ensures ok { OnOk result (Does (then_sent self.old.core.phase (changes.made self.old (settings.comes_into_force self.old.core (configured self.old.config)))) out.old.items self.new out.new.items) }
         ensures cause { IfOk result (λ cause. cause ≡ None) }

@@ -526,9 +526,19 @@ fn ping_is_answered_and_goaway_is_noted(rt: HostRuntime) {
         None,
         false,
     ));
-    same(&rt, &kept(on_ping(fresh(), false, octets)), &answered, &"PING");
+    same(
+        &rt,
+        &kept(on_ping(fresh(), false, octets)),
+        &answered,
+        &"PING",
+    );
     let ignored = Some((quiet, RecordUpdate::Unchanged, None, false));
-    same(&rt, &kept(on_ping(fresh(), true, octets)), &ignored, &"an answer");
+    same(
+        &rt,
+        &kept(on_ping(fresh(), true, octets)),
+        &ignored,
+        &"an answer",
+    );
     let noted = Some((quiet, RecordUpdate::Unchanged, Some((7, 2)), false));
     same(&rt, &kept(on_goaway(fresh(), 7, 2)), &noted, &"GOAWAY");
 }
