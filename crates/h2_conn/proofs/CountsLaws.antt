@@ -1,6 +1,6 @@
 -- Which rules leave most counts of a connection as they are.
 use Rattle.std.proofs.Common.{◌≡◌, ℕ, ◌+◌, Bool, true, false, Option, Some, None, refl, ap, subst, sym, pos, ◌-ℤ◌, int_lt}
-use Rattle.std.specs.Prelude.{◌==◌, ◌+ℤ◌, if◌then◌else◌}
+use Rattle.std.specs.Prelude.{List, ◌==◌, ◌+ℤ◌, if◌then◌else◌}
 use Rattle.h2_spec.specs.declared.connection.Config.{Config}
 use Rattle.h2_spec.specs.declared.connection.ConnectionState.{ConnectionState}
 use Rattle.h2_spec.specs.declared.causes.Cause.TheVariants.{ConnectionIncrementZero, ConnectionWindowExceeded, ConnectionWindowOverflow, DataAfterEndStream}
