@@ -32,6 +32,7 @@ FIRST = (
     + b"\x60" + text(b"session=0f4a7c1e9b2d4f6a8c3e5d7b9a1c3e5f; theme=dark")
 )
 NEXT = b"\x82\x86" + PATH + b"\xc3\xc2\xc1\xc0\x90\xbf\xbe"
+FULL = GET + b"".join(b"\x40" + text(b"n%03d" % i) + text(b"") for i in range(113))  # fills the header table: 113 entries of 36
 
 
 def items(kind):
@@ -39,9 +40,11 @@ def items(kind):
     place = 0
     if kind == "data":
         yield frame(HEADERS, END_HEADERS, 1, GET)
+    if kind == "table":
+        yield frame(HEADERS, END_STREAM | END_HEADERS, 1, FULL)
     while True:
         stream = 2 * place + 1
-        if kind == "ping":
+        if kind in ("ping", "table"):
             yield frame(PING, 0, 0, b"12345678")
         elif kind == "get":
             yield frame(HEADERS, END_STREAM | END_HEADERS, stream, GET)

@@ -14,19 +14,19 @@ use crate::state::{OpenBlock, State, copy_of};
 use h2_request::book::Book;
 use h2_spec::connection::{Config, ConnectionState, Purpose};
 use h2_streams::Stream;
-use h2_table::DynTable;
+use h2_table::KeptTable;
 use std::alloc::{AllocError, Allocator};
 use std::marker::Model;
 
 /// A mark of a connection: its counts, its open block, its header table, how many records of streams it has, and those
-/// of them that can still change.
+/// of them that can still change. Entries of the table and the first fields of a long block are shared with other marks.
 #[derive(Drop)]
 pub struct Mark<'b, A: Allocator> {
     book: &'b Book<A>,
     config: Config,
     core: ConnectionState,
     block: Option<OpenBlock<A>>,
-    table: DynTable<A>,
+    table: KeptTable<A>,
     count: usize,
     changing: Vec<Stream, A>,
 }
@@ -69,14 +69,23 @@ impl<'b, A: Allocator> State<'b, A> {
     }
 }
 
+/// The header table of a mark, if there is a mark.
+fn table_of<'m, A: Allocator>(mark: Option<&'m Mark<'_, A>>) -> Option<&'m KeptTable<A>> {
+    match mark {
+        Some(mark) => Some(&mark.table),
+        None => None,
+    }
+}
+
 impl<'b, A: Allocator + Copy> State<'b, A> {
-    /// A mark of the state; `AllocError` where memory for it is refused.
-    fn mark(&self) -> Result<Mark<'b, A>, AllocError>
+    /// A mark of the state, which shares entries of the header table with an earlier one; `AllocError` where memory for
+    /// it is refused.
+    fn mark(&self, earlier: Option<&Mark<'b, A>>) -> Result<Mark<'b, A>, AllocError>
         ensures { IfOk result (λ mark. mark ≡ mark_of self.now) }
     {
         let changing = self.streams.live_or(reset_by(&self.block))?;
         let block = copy_of(&self.block)?;
-        let table = self.table.try_clone()?;
+        let table = self.table.keep(table_of(earlier))?;
         Ok(Mark {
             book: self.book,
             config: self.config,
@@ -99,7 +108,7 @@ impl<'b, A: Allocator + Copy> Mark<'b, A> {
         let changing = self.changing.as_slice();
         let streams = later.streams.rebuilt(self.count, self.core.last, changing)?;
         let block = copy_of(&self.block)?;
-        let table = self.table.try_clone()?;
+        let table = self.table.restore()?;
         Ok(State {
             book: self.book,
             config: self.config,
@@ -126,13 +135,16 @@ impl<'b, A: Allocator + Copy> Mark<'b, A> {
 }
 
 impl<'b, A: Allocator + Copy> Conn<'b, A> {
-    /// A mark of the connection, from which it can be made again later on; `AllocError` where memory for it is refused.
-    pub fn mark(&self) -> Result<Mark<'b, A>, AllocError>
+    /// A mark of the connection, from which it can be made again later on. What it has in common with an earlier mark of
+    /// the same connection is in memory once.
+    ///
+    /// `AllocError` where memory for it is refused.
+    pub fn mark(&self, earlier: Option<&Mark<'b, A>>) -> Result<Mark<'b, A>, AllocError>
         ensures marked { IfOk result (λ mark. mark ≡ mark_of self.now.state) }
         ensures consistent { IsConsistent self.now.state }
     {
         let state = self.inside();
         state.consistent();
-        state.mark()
+        state.mark(earlier)
     }
 }

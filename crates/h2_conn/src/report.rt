@@ -4,8 +4,7 @@
 
 ghost use Rattle.std.specs.Prelude.{◌≡◌, ◌==◌, None, IfOk, OnErr, OnOk, if◌then◌else◌};
 ghost use Rattle.h2_frame.specs.Items.{item_of};
-ghost use Rattle.h2_frame.specs.Parts.{part_seen};
-ghost use Rattle.h2_spec.specs.Frame.{WholeFrame};
+ghost use Rattle.h2_spec.specs.FrameType as frame;
 ghost use Rattle.h2_spec.specs.Ignored as rule;
 ghost use Rattle.h2_spec.specs.Trace.{next_item};
 ghost use Rattle.h2_conn.specs.First.{TakesIfAny};
@@ -15,12 +14,12 @@ ghost use Rattle.h2_conn.specs.Reports.{item_head, reported, used_by};
 use crate::conn::is_ended;
 use crate::first::awaits_preface;
 use crate::state::State;
-use h2_frame::{FrameRef, Item, Part, first_item, part_of};
+use h2_frame::{Item, first_item};
 use h2_rules::ignored::{
     fragment_ignored, reason_if, reset_ignored, unless_caused, where_reset, window_ignored,
 };
 use h2_spec::causes::Cause;
-use h2_spec::frames::{ACK, Head, ItemHead};
+use h2_spec::frames::{ACK, FrameType, Head, ItemHead};
 use h2_spec::ignored::Ignored;
 use h2_spec::streams::Kind;
 use std::alloc::{AllocError, Allocator};
@@ -71,21 +70,32 @@ impl<'b, A: Allocator + Copy> State<'b, A> {
         }
     }
 
-    /// Why a frame that is no error is ignored, if it is, by what it holds.
-    fn part_ignored(&self, head: &Head, part: Part<'_>) -> Option<Ignored>
-        ensures { result ≡ rule.part_ignored self.now head.now (part_seen part.entry) }
+    /// Why a frame that is no error is ignored, if it is, by its type.
+    fn frame_ignored(&self, head: &Head) -> Option<Ignored>
+        ensures { result ≡ rule.frame_ignored self.now head.now (frame.frame_type head.now.kind) }
     {
-        match part {
-            Part::Data(_) => where_reset(Ignored::DataOnReset, self.kind_at(head)),
-            Part::Headers(_) => where_reset(Ignored::TableOnlyBlock, self.kind_at(head)),
-            Part::Priority => Some(Ignored::Priority),
-            Part::RstStream(_) => reset_ignored(self.kind_at(head)),
-            Part::SettingsAck => reason_if(self.core.acked, Ignored::SecondAcknowledgement),
-            Part::Ping(_) => reason_if(head.has(ACK), Ignored::PingAcknowledgement),
-            Part::WindowUpdate(_) => self.window_ignored(head),
-            Part::Continuation(_) => self.block_ignored(),
-            Part::Unknown => Some(Ignored::UnknownType),
-            Part::Settings(_) | Part::PushPromise | Part::Goaway(_, _) => None,
+        match head.frame_type() {
+            FrameType::Data => where_reset(Ignored::DataOnReset, self.kind_at(head)),
+            FrameType::Headers => where_reset(Ignored::TableOnlyBlock, self.kind_at(head)),
+            FrameType::Priority => Some(Ignored::Priority),
+            FrameType::RstStream => reset_ignored(self.kind_at(head)),
+            FrameType::Settings => self.settings_ignored(head),
+            FrameType::Ping => reason_if(head.has(ACK), Ignored::PingAcknowledgement),
+            FrameType::WindowUpdate => self.window_ignored(head),
+            FrameType::Continuation => self.block_ignored(),
+            FrameType::Unknown(_) => Some(Ignored::UnknownType),
+            FrameType::PushPromise | FrameType::Goaway => None,
+        }
+    }
+
+    /// Why SETTINGS is ignored, if it is.
+    fn settings_ignored(&self, head: &Head) -> Option<Ignored>
+        ensures { result ≡ rule.settings_ignored (frame.has head.now.flags frame.ACK) self.now.core.acked }
+    {
+        if head.has(ACK) {
+            reason_if(self.core.acked, Ignored::SecondAcknowledgement)
+        } else {
+            None
         }
     }
 
@@ -100,22 +110,12 @@ impl<'b, A: Allocator + Copy> State<'b, A> {
         }
     }
 
-    /// Why a frame that is no error is ignored, if it is; none where its payload can't be read.
-    fn frame_ignored(&self, frame: FrameRef<'_>) -> Option<Ignored>
-        ensures { result ≡ rule.item_ignored self.now (WholeFrame frame.entry.head frame.entry.payload.now) }
-    {
-        match part_of(frame) {
-            Ok(part) => self.part_ignored(&frame.head, part),
-            Err(_) => None,
-        }
-    }
-
     /// Why an item that is no error is ignored, if it is.
     fn item_ignored(&self, item: &Item<'_>) -> Option<Ignored>
         ensures { result ≡ rule.item_ignored self.now (item_of item.now) }
     {
         match item {
-            Item::Frame(frame) => self.frame_ignored(*frame),
+            Item::Frame(frame) => self.frame_ignored(&frame.head),
             Item::Preface | Item::BadPreface | Item::Oversize(_) => None,
         }
     }

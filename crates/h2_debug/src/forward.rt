@@ -3,10 +3,11 @@
 //! Rests on `place`, `kept` and `breakpoints`; definitions: `specs/Places.antt`, and `stop` of h2_spec's
 //! `specs/Debug.antt`.
 
-ghost use Rattle.std.specs.Prelude.{◌≡◌, ◌*◌, ◌<◌, ◌≤◌, IfOk, OnErr, OnOk, length, min, map};
+ghost use Rattle.std.specs.Prelude.{◌≡◌, ◌*◌, ◌<◌, ◌≤◌, [], ◌∷◌, ◌++◌, IfOk, OnErr, OnOk, length, min, map};
 ghost use Rattle.h2_spec.specs.Debug.{stop};
+ghost use Rattle.h2_conn.specs.Mark.{IsConsistent};
 ghost use Rattle.h2_debug.specs.Breakpoints.{break_of};
-ghost use Rattle.h2_debug.specs.Places.{Advances, AreKept, IsAt, IsReached, Source, end, events};
+ghost use Rattle.h2_debug.specs.Places.{Advances, AreKept, IsAt, IsReached, Source, end, events, kept_of};
 
 use crate::breakpoints::{Break, any_match};
 use crate::kept::Kept;
@@ -17,7 +18,23 @@ use std::alloc::{AllocError, Allocator};
 /// How many items there are from one place of which something is kept to the next.
 pub const SPACING: usize = 64;
 
+/// Keeps a mark of a place behind those that are kept, with which it shares what it can.
+#[inline(never)]
+fn keep<'b, A: Allocator + Copy>(
+    place: &Place<'b, A>,
+    kept: &mut Vec<Kept<'b, A>, A>,
+) -> Result<(), AllocError>
+    ensures kept { OnOk result (kept.new.items ≡ kept.old.items ++ kept_of place.now ∷ []) }
+    ensures unchanged { OnErr result (kept.new.items ≡ kept.old.items) }
+    ensures consistent { OnOk result (IsConsistent place.now.connection.state) }
+{
+    let next = Kept::of(place, kept.last())?;
+    kept.push(next)?;
+    Ok(())
+}
+
 /// Keeps a mark of a place where it is at the next multiple of 64.
+#[inline(always)]
 pub fn keep_if_due<'b, A: Allocator + Copy>(
     place: &Place<'b, A>,
     kept: &mut Vec<Kept<'b, A>, A>,
@@ -28,7 +45,7 @@ pub fn keep_if_due<'b, A: Allocator + Copy>(
     ensures below { OnOk result (place.now.position < length kept.new.items * 64) }
 {
     if place.position() / SPACING == kept.len() {
-        kept.push(Kept::of(place)?)?;
+        keep(place, kept)?;
     }
     Ok(())
 }

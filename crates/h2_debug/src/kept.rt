@@ -32,13 +32,22 @@ impl<'b, A: Allocator> Model for Kept<'b, A> {
     ghost view = { λ k. record { mark = k.mark; position = k.position; used = k.used; reasons = k.reasons; sent = k.sent.items } };
 }
 
+/// The mark in what was kept of a place, if something was.
+fn mark_in<'m, 'b, A: Allocator>(kept: Option<&'m Kept<'b, A>>) -> Option<&'m Mark<'b, A>> {
+    match kept {
+        Some(kept) => Some(&kept.mark),
+        None => None,
+    }
+}
+
 impl<'b, A: Allocator + Copy> Kept<'b, A> {
-    /// What is kept of a place; `AllocError` if it is out of memory.
-    pub fn of(place: &Place<'b, A>) -> Result<Self, AllocError>
+    /// What is kept of a place, which shares what it can with what was kept of an earlier one; `AllocError` if it is out
+    /// of memory.
+    pub fn of(place: &Place<'b, A>, earlier: Option<&Kept<'b, A>>) -> Result<Self, AllocError>
         ensures same { IfOk result (λ kept. kept ≡ kept_of place.now) }
         ensures consistent { IsConsistent place.now.connection.state }
     {
-        let mark = place.conn().mark()?;
+        let mark = place.conn().mark(mark_in(earlier))?;
         let sent = place.copy_sent()?;
         Ok(Kept {
             mark,

@@ -97,6 +97,48 @@ fn copies_have_the_same_entries(rt: HostRuntime) -> Result<(), Fail> {
     Ok(())
 }
 
+/// Two tables that were made again: one kept with an entry, and one kept with a second, which shares the first.
+fn kept_twice(alloc: Global) -> Result<(DynTable<Global>, DynTable<Global>), AllocError> {
+    let mut table = small(alloc)?;
+    let earlier = table.keep(None)?;
+    add(&mut table, alloc, "c", "d")?;
+    let later = table.keep(Some(&earlier))?;
+    Ok((earlier.restore()?, later.restore()?))
+}
+
+/// An entry of each of two tables, if there is one.
+type Pair<'t> = (Option<(&'t [u8], &'t [u8])>, Option<(&'t [u8], &'t [u8])>);
+
+fn pair_at<'t>(
+    earlier: &'t DynTable<Global>,
+    later: &'t DynTable<Global>,
+    place: usize,
+) -> Pair<'t> {
+    (entry_at(earlier, place), entry_at(later, place))
+}
+
+/// Places, and the entries there of the earlier table and of the later one.
+static KEPT: [(usize, Pair<'static>); 3] = [
+    (0, (None, None)),
+    (1, (Some((b"a", b"b")), Some((b"c", b"d")))),
+    (2, (None, Some((b"a", b"b")))),
+];
+
+fn compare_kept(rt: &impl Abort, earlier: &DynTable<Global>, later: &DynTable<Global>) {
+    for (place, entries) in &KEPT {
+        same(rt, &pair_at(earlier, later, *place), entries, place);
+    }
+}
+
+#[test]
+fn kept_tables_are_made_again(rt: HostRuntime) -> Result<(), Fail> {
+    let (earlier, later) = kept_twice(rt.alloc())?;
+    same(&rt, &counts(&earlier), &(1, 34, 4096), &"the earlier");
+    same(&rt, &counts(&later), &(2, 68, 4096), &"the later");
+    compare_kept(&rt, &earlier, &later);
+    Ok(())
+}
+
 /// A table of one small entry.
 pub(crate) fn small(alloc: Global) -> Result<DynTable<Global>, AllocError> {
     let mut table = empty_table(alloc, 4096)?;

@@ -4,10 +4,12 @@ use Rattle.std.proofs.lemmas.Bool.{false≢true}
 use Rattle.std.proofs.lemmas.Option.{none-some}
 use Rattle.std.specs.Prelude.{pos, int_lt, ◌-ℤ◌}
 use Rattle.h2_spec.specs.declared.causes.Cause.{Cause}
-use Rattle.h2_spec.specs.declared.causes.Cause.TheVariants.{ConnectionWindowExceeded, BlockTooLarge, BlockTruncated, SizeUpdateMissing}
+use Rattle.h2_spec.specs.declared.causes.Cause.TheVariants.{ConnectionWindowExceeded, BlockTooLarge, BlockTruncated, SizeUpdateMissing, PriorityLength, PingLength}
 use Rattle.h2_spec.specs.declared.connection.BlockView.{BlockView}
 use Rattle.h2_spec.specs.declared.connection.Purpose.{Purpose}
 use Rattle.h2_spec.specs.declared.connection.Purpose.TheVariants.{Request, Trailers, Closed, TableOnly}
+use Rattle.h2_spec.specs.declared.frames.FrameType.{FrameType}
+use Rattle.h2_spec.specs.declared.frames.FrameType.TheVariants as types
 use Rattle.h2_spec.specs.declared.frames.Head.{Head}
 use Rattle.h2_spec.specs.declared.ignored.Ignored.{Ignored}
 use Rattle.h2_spec.specs.declared.ignored.Ignored.TheVariants.{Priority, UnknownType, SecondAcknowledgement, PingAcknowledgement, RstStreamOnSkipped, RstStreamOnClosed, RstStreamOnReset, WindowUpdateOnSkipped, WindowUpdateOnClosed, WindowUpdateOnReset, DataOnReset, TableOnlyBlock}
@@ -18,9 +20,9 @@ use Rattle.h2_spec.specs.declared.reactions.ReceivedData.{ReceivedData}
 use Rattle.h2_spec.specs.declared.streams.Kind.{Kind}
 use Rattle.h2_spec.specs.declared.streams.Kind.TheVariants.{Idle, Skipped, BothOpen, HalfRemote, HalfLocal, Ended, PeerReset, WeReset}
 use Rattle.h2_spec.specs.declared.streams.Stream.{Stream}
-use Rattle.h2_spec.specs.FrameType.{END_HEADERS, ACK, has}
+use Rattle.h2_spec.specs.FrameType.{END_HEADERS, ACK, frame_type, has}
 use Rattle.h2_spec.specs.Frame.{Item, Preface, BadPreface, WholeFrame, Oversize}
-use Rattle.h2_spec.specs.Payload.{HeadersPart, Part, OfData, OfHeaders, OfPriority, OfRstStream, OfSettings, OfSettingsAck, OfPushPromise, OfPing, OfGoaway, OfWindowUpdate, OfContinuation, OfUnknown, part_of}
+use Rattle.h2_spec.specs.Payload.{HeadersPart, Part, OfData, OfHeaders, OfPriority, OfRstStream, OfSettings, OfSettingsAck, OfPushPromise, OfPing, OfGoaway, OfWindowUpdate, OfContinuation, OfUnknown, part_of, part_as, with_part, settings_or_ack, data_part, headers_part, settings_part, window_part, goaway_part, reset_part}
 use Rattle.h2_spec.specs.Block.{Decoded, Progress, Outcome, Unfinished, Faulty}
 use Rattle.h2_spec.specs.Window.{given_back}
 use Rattle.h2_spec.specs.State.{State, OpenBlock, Decoding, configured}
@@ -32,7 +34,7 @@ use Rattle.h2_spec.specs.WindowUpdate.{connection_window}
 use Rattle.h2_spec.specs.Data.{owed_as, owed_on_connection, counted, data_counted}
 use Rattle.h2_spec.specs.Headers.{FrameEffect, Breaks, Makes, makes, max_block, block_ends, fragment_read, fragment_decoded, decoded_with, fragment, fresh_block, fresh_decoding, continued, continuation}
 use Rattle.h2_spec.specs.Effect.{nothing, data_rule, on_data, on_reset, on_window, on_headers, frame_effect, part_effect, checked_effect, block_stream, item_effect, concluded, effect, effect_cause, cause_of}
-use Rattle.h2_spec.specs.Ignored.{reset_ignored, window_ignored, where_reset, reason_if, fragment_ignored, decoding_ignored, block_ignored, kind_at, part_ignored, payload_ignored, item_ignored, unless_caused, ignored_of, changes_nothing}
+use Rattle.h2_spec.specs.Ignored.{reset_ignored, window_ignored, where_reset, reason_if, fragment_ignored, decoding_ignored, block_ignored, kind_at, settings_ignored, frame_ignored, item_ignored, unless_caused, ignored_of, changes_nothing}
 use Rattle.h2_laws.specs.Ignoring.{OnlyReceiveWindowChanges, OnlyHeaderTableChanges}
 
 -- ---- it is no error
@@ -220,28 +222,37 @@ module _ (s : State) where
 
   -- ---- a frame
 
-  of-part : (h : Head) (p : List ℕ) (part : Part) → Allowed (frame_effect s h p part) (part_ignored s h part)
-  unfolding on_data on_reset on_window
-  of-part h p (OfData part) = brings-data _ _ _ (kind_at s h)
-  of-part h p (OfHeaders part) = begins h part (kind_at s h)
-  of-part h p OfPriority = nothing-happens Priority unchanged
-  of-part h p (OfRstStream code) = resets _ (kind_at s h)
-  of-part h p (OfSettings pairs) = no-reason _
-  of-part h p OfSettingsAck = acknowledges s.core.acked
-  of-part h p OfPushPromise = no-reason _
-  of-part h p (OfPing octets) = pings octets (has h.flags ACK)
-  of-part h p (OfGoaway last code) = no-reason _
-  of-part h p (OfWindowUpdate increment) = moves-a-window increment (eqb h.stream 0) _ (kind_at s h)
-  of-part h p (OfContinuation octets) = continues s.block octets (has h.flags END_HEADERS)
-  of-part h p OfUnknown = nothing-happens UnknownType unchanged
+  -- a part that is read, or a cause
+  of-read : {A : Type 0} (h : Head) (p : List ℕ) (reason : Option Ignored) (f : A → Part) → ((a : A) → Allowed (frame_effect s h p (f a)) reason) → (r : Result A Cause) → Allowed (part_effect s h p (with_part f r)) reason
+  of-read h p reason f allowed (Ok a) = allowed a
+  of-read h p reason f allowed (Err cause) = is-error cause reason
 
-  of-payload : (h : Head) (p : List ℕ) (r : Result Part Cause) → Allowed (part_effect s h p r) (payload_ignored s h r)
-  of-payload h p (Ok part) = of-part h p part
-  of-payload h p (Err cause) = is-error cause None
+  -- a part of one length, or a cause
+  of-length : (h : Head) (p : List ℕ) (reason : Option Ignored) (part : Part) (cause : Cause) → Allowed (frame_effect s h p part) reason → (fits : Bool) → Allowed (part_effect s h p (cond fits (Ok part) (Err cause))) reason
+  of-length h p reason part cause allowed true = allowed
+  of-length h p reason part cause allowed false = is-error cause reason
 
-  of-frame : (h : Head) (p : List ℕ) (o : Option Cause) → Allowed (checked_effect s h p o) (payload_ignored s h (part_of h p))
-  of-frame h p None = of-payload h p (part_of h p)
-  of-frame h p (Some cause) = is-error cause (payload_ignored s h (part_of h p))
+  of-settings : (h : Head) (p : List ℕ) (pairs : List (ℕ × ℕ)) (ack : Bool) → Allowed (frame_effect s h p (settings_or_ack ack pairs)) (settings_ignored ack s.core.acked)
+  of-settings h p pairs true = acknowledges s.core.acked
+  of-settings h p pairs false = no-reason _
+
+  of-type : (h : Head) (p : List ℕ) (t : FrameType) → Allowed (part_effect s h p (part_as t h.flags p)) (frame_ignored s h t)
+  unfolding part_as on_data on_reset on_window
+  of-type h p types.Data = of-read h p _ OfData (λ part. brings-data _ _ _ (kind_at s h)) (data_part h.flags p)
+  of-type h p types.Headers = of-read h p _ OfHeaders (λ part. begins h part (kind_at s h)) (headers_part h.flags p)
+  of-type h p types.Priority = of-length h p _ OfPriority PriorityLength (nothing-happens Priority unchanged) (eqb (length p) 5)
+  of-type h p types.RstStream = of-read h p _ OfRstStream (λ code. resets _ (kind_at s h)) (reset_part p)
+  of-type h p types.Settings = of-read h p _ (settings_or_ack (has h.flags ACK)) (λ pairs. of-settings h p pairs (has h.flags ACK)) (settings_part h.flags p)
+  of-type h p types.PushPromise = no-reason _
+  of-type h p types.Ping = of-length h p _ (OfPing p) PingLength (pings p (has h.flags ACK)) (eqb (length p) 8)
+  of-type h p types.Goaway = of-read h p _ (λ (g : ℕ × ℕ). OfGoaway g.0 g.1) (λ g. no-reason _) (goaway_part p)
+  of-type h p types.WindowUpdate = of-read h p _ OfWindowUpdate (λ increment. moves-a-window increment (eqb h.stream 0) _ (kind_at s h)) (window_part p)
+  of-type h p types.Continuation = continues s.block p (has h.flags END_HEADERS)
+  of-type h p (types.Unknown kind) = nothing-happens UnknownType unchanged
+
+  of-frame : (h : Head) (p : List ℕ) (o : Option Cause) → Allowed (checked_effect s h p o) (frame_ignored s h (frame_type h.kind))
+  of-frame h p None = of-type h p (frame_type h.kind)
+  of-frame h p (Some cause) = is-error cause (frame_ignored s h (frame_type h.kind))
 
 of-item : (s : State) (item : Item) → Allowed s (item_effect s item) (item_ignored s item)
 of-item s Preface = no-reason s _

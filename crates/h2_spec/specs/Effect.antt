@@ -1,5 +1,5 @@
 -- What one item does to a connection (RFC 9113, 5 and 6).
-use Rattle.std.specs.Prelude.{ℕ, Bool, List, [], length, ◌==◌, if◌then◌else◌, Option, Some, None, Result, Ok, Err}
+use Rattle.std.specs.Prelude.{ℕ, Bool, List, length, ◌==◌, if◌then◌else◌, Option, Some, None, Result, Ok, Err}
 use Rattle.h2_spec.specs.declared.causes.Cause.{Cause}
 use Rattle.h2_spec.specs.declared.causes.Cause.TheVariants as cause
 use Rattle.h2_spec.specs.declared.connection.Config.{Config}

@@ -1,21 +1,22 @@
 -- Which frames are ignored, and why (RFC 9113, 4.1, 5.1 and 6).
-use Rattle.std.specs.Prelude.{ℕ, Bool, true, false, List, codes, ◌==◌, if◌then◌else◌, Option, Some, None, Result, Ok, Err}
+use Rattle.std.specs.Prelude.{ℕ, Bool, true, false, List, codes, ◌==◌, if◌then◌else◌, Option, Some, None}
 use Rattle.h2_spec.specs.declared.causes.Cause.{Cause}
 use Rattle.h2_spec.specs.declared.connection.Purpose.{Purpose}
 use Rattle.h2_spec.specs.declared.connection.Purpose.TheVariants.{Request, Trailers, Closed, TableOnly}
+use Rattle.h2_spec.specs.declared.frames.FrameType.{FrameType}
+use Rattle.h2_spec.specs.declared.frames.FrameType.TheVariants as types
 use Rattle.h2_spec.specs.declared.frames.Head.{Head}
 use Rattle.h2_spec.specs.declared.ignored.Ignored.{Ignored}
 use Rattle.h2_spec.specs.declared.ignored.Ignored.TheVariants.{Priority, UnknownType, SecondAcknowledgement, PingAcknowledgement, RstStreamOnSkipped, RstStreamOnClosed, RstStreamOnReset, WindowUpdateOnSkipped, WindowUpdateOnClosed, WindowUpdateOnReset, DataOnReset, TableOnlyBlock}
 use Rattle.h2_spec.specs.declared.streams.Kind.{Kind}
 use Rattle.h2_spec.specs.declared.streams.Kind.TheVariants.{Idle, Skipped, BothOpen, HalfRemote, HalfLocal, Ended, PeerReset, WeReset}
-use Rattle.h2_spec.specs.FrameType.{ACK, has}
+use Rattle.h2_spec.specs.FrameType.{ACK, frame_type, has}
 use Rattle.h2_spec.specs.Frame.{Item, Preface, BadPreface, WholeFrame, Oversize}
-use Rattle.h2_spec.specs.Payload.{Part, OfData, OfHeaders, OfPriority, OfRstStream, OfSettings, OfSettingsAck, OfPushPromise, OfPing, OfGoaway, OfWindowUpdate, OfContinuation, OfUnknown, part_of}
 use Rattle.h2_spec.specs.Stream.{stream_at}
 use Rattle.h2_spec.specs.State.{State, OpenBlock, Decoding}
 use Rattle.h2_spec.specs.Effect.{cause_of}
 
--- ---- by what a frame holds
+-- ---- by the type of a frame
 
 -- RST_STREAM, by the stream's state (5.1)
 abbrev pub reset_ignored : Kind → Option Ignored
@@ -76,34 +77,33 @@ block_ignored (Some b) = decoding_ignored b.decoding
 abbrev pub kind_at : State → Head → Kind
 kind_at s h = (stream_at s.core.last s.streams h.stream).kind
 
--- a frame without error, by what it holds
-abbrev pub part_ignored : State → Head → Part → Option Ignored
-part_ignored s h (OfData part) = where_reset DataOnReset (kind_at s h)
-part_ignored s h (OfHeaders part) = where_reset TableOnlyBlock (kind_at s h)
-part_ignored s h OfPriority = Some Priority
-part_ignored s h (OfRstStream code) = reset_ignored (kind_at s h)
-part_ignored s h (OfSettings pairs) = None
-part_ignored s h OfSettingsAck = reason_if s.core.acked SecondAcknowledgement
-part_ignored s h OfPushPromise = None
-part_ignored s h (OfPing octets) = reason_if (has h.flags ACK) PingAcknowledgement
-part_ignored s h (OfGoaway last code) = None
-part_ignored s h (OfWindowUpdate increment) = if h.stream == 0 then None else window_ignored (kind_at s h)
-part_ignored s h (OfContinuation fragment) = block_ignored s.block
-part_ignored s h OfUnknown = Some UnknownType
+-- SETTINGS, by whether it is an acknowledgement and whether one has come before (6.5.3)
+abbrev pub settings_ignored : Bool → Bool → Option Ignored
+settings_ignored true acked = reason_if acked SecondAcknowledgement
+settings_ignored false acked = None
+
+-- a frame without error, by its type: what its payload holds does not matter
+abbrev pub frame_ignored : State → Head → FrameType → Option Ignored
+frame_ignored s h types.Data = where_reset DataOnReset (kind_at s h)
+frame_ignored s h types.Headers = where_reset TableOnlyBlock (kind_at s h)
+frame_ignored s h types.Priority = Some Priority
+frame_ignored s h types.RstStream = reset_ignored (kind_at s h)
+frame_ignored s h types.Settings = settings_ignored (has h.flags ACK) s.core.acked
+frame_ignored s h types.PushPromise = None
+frame_ignored s h types.Ping = reason_if (has h.flags ACK) PingAcknowledgement
+frame_ignored s h types.Goaway = None
+frame_ignored s h types.WindowUpdate = if h.stream == 0 then None else window_ignored (kind_at s h)
+frame_ignored s h types.Continuation = block_ignored s.block
+frame_ignored s h (types.Unknown kind) = Some UnknownType
 
 -- ---- an item
-
--- a frame whose payload can be read
-abbrev pub payload_ignored : State → Head → Result Part Cause → Option Ignored
-payload_ignored s h (Ok part) = part_ignored s h part
-payload_ignored s h (Err cause) = None
 
 -- an item without error
 abbrev pub item_ignored : State → Item → Option Ignored
 item_ignored s Preface = None
 item_ignored s BadPreface = None
 item_ignored s (Oversize h) = None
-item_ignored s (WholeFrame h p) = payload_ignored s h (part_of h p)
+item_ignored s (WholeFrame h p) = frame_ignored s h (frame_type h.kind)
 
 -- unless it results in an error
 abbrev pub unless_caused : Option Cause → Option Ignored → Option Ignored

@@ -1,3 +1,4 @@
+mod Copied
 mod Editing
 mod Popped
 mod StaticEntries

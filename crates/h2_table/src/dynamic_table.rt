@@ -26,7 +26,9 @@ pub struct DynTable<A: Allocator> {
     pub(crate) ring: HeapCircularBuffer<TableEntry<A>, A>,
     pub(crate) size: usize,
     pub(crate) max: u32,
-    limit: u32,
+    pub(crate) limit: u32,
+    /// How many entries were ever added, round and round: it says only where to look for an entry that was kept.
+    pub(crate) added: usize,
 }
 
 impl<A: Allocator> Model for DynTable<A> {
@@ -55,6 +57,7 @@ impl<A: Allocator> DynTable<A> {
             size: 0,
             max: limit,
             limit,
+            added: 0,
         })
     }
 
@@ -166,6 +169,7 @@ impl<A: Allocator> DynTable<A> {
         }
         self.size = evict(&mut self.ring, self.size, max - size) + size;
         put_newest(&mut self.ring, TableEntry::new(name, value));
+        self.added = self.added.wrapping_add(1);
     }
 }
 
@@ -201,6 +205,7 @@ impl<A: Allocator + Copy> DynTable<A> {
             size: self.size,
             max: self.max,
             limit: self.limit,
+            added: self.added,
         })
     }
 }
@@ -218,7 +223,7 @@ pub(crate) fn lend<A: Allocator>(entry: &TableEntry<A>) -> LentField<'_>
 }
 
 /// The places of a ring for entries that count so many octets together: each counts 32 or more.
-fn places_for(most: u32) -> usize
+pub(crate) fn places_for(most: u32) -> usize
     ensures { result ≡ places_for most }
 {
     (most / 32).max(1) as usize
@@ -276,7 +281,10 @@ pub(crate) fn put_newest<A: Allocator>(
 }
 
 /// Puts an entry in a free place, as the oldest.
-fn put_oldest<A: Allocator>(ring: &mut HeapCircularBuffer<TableEntry<A>, A>, entry: TableEntry<A>)
+pub(crate) fn put_oldest<A: Allocator>(
+    ring: &mut HeapCircularBuffer<TableEntry<A>, A>,
+    entry: TableEntry<A>,
+)
     requires { length ring.old.items < ring.old.capacity }
     ensures { ring.new ≡ buffer (ring.old.items ++ entry ∷ []) ring.old.capacity }
 {

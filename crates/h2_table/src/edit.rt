@@ -335,6 +335,7 @@ impl<A: Allocator> DynTable<A> {
         requires belongs { IsEdit self.old edit.old }
         ensures { self.new ≡ record self.old { table = edited self.old.table.entries edit.old } }
     {
+        self.added = self.added.wrapping_add(edit.added.len());
         evict_from(&mut self.ring, &mut edit.spare, edit.kept);
         move_newest(&mut self.ring, &mut edit.added);
         self.size = edit.size;

@@ -8,11 +8,13 @@ pub mod dynamic_table;
 pub mod edit;
 pub mod entry;
 pub mod fault;
+pub mod kept;
 pub mod lent;
 pub mod static_table;
 
 pub use dynamic_table::DynTable;
 pub use edit::{Draft, Edit};
 pub use fault::TableFault;
+pub use kept::KeptTable;
 pub use lent::LentField;
 pub use static_table::{static_entry, static_field};

@@ -1,5 +1,5 @@
 -- Each item keeps the tests: its checks, and the rule of its type and of its stream's state.
-use Rattle.std.proofs.Common.{◌≡◌, ℕ, ◌+◌, ◌%◌, ◌≤◌, Bool, true, false, cond, ◌&&◌, List, [], refl, sym, subst, eqb, Option, Some, None, Result, Ok, Err}
+use Rattle.std.proofs.Common.{◌≡◌, ℕ, ◌+◌, ◌%◌, ◌≤◌, Bool, true, false, cond, ◌&&◌, List, refl, sym, subst, eqb, Option, Some, None, Result, Ok, Err}
 use Rattle.std.proofs.lemmas.Bool.{eqb-true, and_parts, not-false}
 use Rattle.std.specs.Option.{is_some}
 use Rattle.h2_spec.specs.declared.causes.Cause.{Cause}

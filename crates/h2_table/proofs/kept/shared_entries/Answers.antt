@@ -1,0 +1,18 @@
+use Rattle.std.proofs.Common.{arith, ◌≡◌, ◌<◌, length, sym, None, slice_get}
+use Rattle.h2_table.proofs.Copied.{copied_more, no_none}
+use Rattle.h2_table.proofs.kept.shared_entries.Goals as goal
+use Rattle.h2_table.proofs.kept.shared_entries.Goals.{in-Some+in_ok-shared+in_ok-push, in_default}
+
+pub loop-i-preserved : goal.loop-i-preserved
+loop-i-preserved g c =
+    let xs = c.args.ring.now.items in
+    let inside : c.loop-i.i < length xs = omega arith in
+    elim c.match-get.branch [
+      | in-Some+in_ok-shared+in_ok-push w ↦
+          rw w.list-is (rw w.in_ok-push.ensures.items (record {
+            same = copied_more xs c.loop-i.list.items c.loop-i.i w.in-Some.entry.now w.in_ok-shared.shared c.loop-i.invariant.same inside (sym w.in-Some.ensures) w.in_ok-shared.ensures;
+          }))
+      | in_default w ↦
+          let none : None ≡ slice_get xs c.loop-i.i = w.in_default.ensures in
+          absurd (no_none xs c.loop-i.i inside none)
+    ]
