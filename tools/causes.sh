@@ -11,8 +11,8 @@ folder=$top/examples/causes
 work=$(mktemp -d)
 trap 'rm -rf "$work"' EXIT
 
-# The names of the causes, as `Cause::name` has them.
-sed -n '/pub fn name(self)/,/^    }/s/.*Cause::[A-Za-z]* *=> *"\([a-z-]*\)",.*/\1/p' "$top/crates/h2_spec/src/causes.rt" | sort >"$work/causes"
+# The names of the causes, as `NAMES` has them.
+sed -n '/^static NAMES/,/^\];/s/^ *"\([a-z-]*\)",.*/\1/p' "$top/crates/h2_spec/src/causes.rt" | sort >"$work/causes"
 if [ ! -s "$work/causes" ]; then
     echo "causes.sh: no cause was found in crates/h2_spec/src/causes.rt" >&2
     exit 1

@@ -71,7 +71,6 @@ fn refused(failed: &mut bool) -> ConnFault
 ///
 /// A contract sees its state, the octets that wait for more, and whether memory was refused. No octets wait after the
 /// end.
-#[derive(Drop)]
 pub struct Conn<'b, A: Allocator> {
     splitter: Splitter<A>,
     state: State<'b, A>,
@@ -86,6 +85,18 @@ impl<'b, A: Allocator> Model for Conn<'b, A> {
     ghost view = { λ c. connection c.failed c.state c.splitter.octets };
 
     ghost invariant = { λ c. IsAtRest c.failed c.state c.splitter };
+}
+
+/// By hand, so that a function that drops a connection makes one call, where a derived `Drop` would drop each part
+/// there.
+impl<'b, A: Allocator> Drop for Conn<'b, A> {
+    fn drop(self) {
+        let Self {
+            splitter: _,
+            state: _,
+            failed: _,
+        } = self;
+    }
 }
 
 impl<'b, A: Allocator + Copy> Conn<'b, A> {

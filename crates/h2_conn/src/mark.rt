@@ -20,7 +20,6 @@ use std::marker::Model;
 
 /// A mark of a connection: its counts, its open block, its header table, how many records of streams it has, and those
 /// of them that can still change. Entries of the table and the first fields of a long block are shared with other marks.
-#[derive(Drop)]
 pub struct Mark<'b, A: Allocator> {
     book: &'b Book<A>,
     config: Config,
@@ -42,6 +41,21 @@ impl<'b, A: Allocator> Model for Mark<'b, A> {
     ghost view = { λ m. record { book = m.book.now; config = m.config; core = m.core; block = m.block; table = m.table.table; count = m.count; changing = m.changing.items } };
 
     ghost invariant = { λ m. (m.table.limit ≡ m.core.own.table) × AreInRange (configured m.config) };
+}
+
+/// By hand, as that of `Conn`.
+impl<'b, A: Allocator> Drop for Mark<'b, A> {
+    fn drop(self) {
+        let Self {
+            book: _,
+            config: _,
+            core: _,
+            block: _,
+            table: _,
+            count: _,
+            changing: _,
+        } = self;
+    }
 }
 
 /// The stream that the end of the open block resets, if it resets one.
@@ -84,8 +98,8 @@ impl<'b, A: Allocator + Copy> State<'b, A> {
         ensures { IfOk result (λ mark. mark ≡ mark_of self.now) }
     {
         let changing = self.streams.live_or(reset_by(&self.block))?;
-        let block = copy_of(&self.block)?;
         let table = self.table.keep(table_of(earlier))?;
+        let block = copy_of(&self.block)?;
         Ok(Mark {
             book: self.book,
             config: self.config,
@@ -106,9 +120,9 @@ impl<'b, A: Allocator + Copy> Mark<'b, A> {
     {
         later.consistent();
         let changing = self.changing.as_slice();
+        let table = self.table.restore()?;
         let streams = later.streams.rebuilt(self.count, self.core.last, changing)?;
         let block = copy_of(&self.block)?;
-        let table = self.table.restore()?;
         Ok(State {
             book: self.book,
             config: self.config,

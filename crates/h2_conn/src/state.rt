@@ -18,7 +18,6 @@ use std::marker::Model;
 
 /// How far a field block is decoded, and what it is for: its fields, whether it still has to begin with a size update,
 /// and the octets that begin an instruction and do not end it.
-#[derive(Drop)]
 pub struct Decoding<A: Allocator> {
     pub purpose: Purpose,
     pub collected: Collected<A>,
@@ -31,6 +30,17 @@ impl<A: Allocator> Model for Decoding<A> {
     ghost Value = { state.Decoding };
 
     ghost view = { λ d. record { purpose = d.purpose; fields = d.collected.fields; due = d.collected.due; rest = d.rest } };
+}
+
+/// By hand, as that of `Conn`.
+impl<A: Allocator> Drop for Decoding<A> {
+    fn drop(self) {
+        let Self {
+            purpose: _,
+            collected: _,
+            rest: _,
+        } = self;
+    }
 }
 
 /// A field block that has begun; after the end of the connection it is shown, and decoded no more.
@@ -141,7 +151,6 @@ impl<A: Allocator> OpenBlock<A> {
 /// All that an item can change, and the book and the limits that it is changed by. `edit` is memory that is used
 /// again for each fragment, and `spare` memory that is used again for each field block, while none is open; between
 /// two items they mean nothing.
-#[derive(Drop)]
 pub struct State<'b, A: Allocator> {
     pub book: &'b Book<A>,
     pub config: Config,
@@ -165,6 +174,22 @@ impl<'b, A: Allocator> Model for State<'b, A> {
     ghost view = { λ s. record { book = s.book.now; config = s.config; core = s.core; block = s.block; table = s.table.table; streams = s.streams.streams } };
 
     ghost invariant = { λ s. IsSoundState s.book.now s.core s.streams × (s.table.limit ≡ s.core.own.table) × IsOpenFor s.streams s.block × AreInRange (configured s.config) };
+}
+
+/// By hand, as that of `Conn`.
+impl<'b, A: Allocator> Drop for State<'b, A> {
+    fn drop(self) {
+        let Self {
+            book: _,
+            config: _,
+            core: _,
+            block: _,
+            table: _,
+            edit: _,
+            spare: _,
+            streams: _,
+        } = self;
+    }
 }
 
 /// The counts and settings before anything came.
@@ -211,9 +236,9 @@ impl<'b, A: Allocator + Copy> State<'b, A> {
     pub fn try_clone(&self) -> Result<Self, AllocError>
         ensures { IfOk result (λ copy. copy ≡ self.now) }
     {
-        let block = copy_of(&self.block)?;
         let table = self.table.try_clone()?;
         let streams = self.streams.try_clone()?;
+        let block = copy_of(&self.block)?;
         Ok(State {
             book: self.book,
             config: self.config,

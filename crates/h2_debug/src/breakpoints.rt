@@ -14,7 +14,7 @@ use h2_frame::read_head;
 use h2_spec::frames::Head;
 
 /// Where a run stops.
-#[derive(Clone, Copy, Debug, PartialEq, Eq)]
+#[derive(Clone, Copy)]
 pub enum Break {
     /// At this position.
     Position(usize),

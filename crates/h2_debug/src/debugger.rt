@@ -38,7 +38,6 @@ use std::mem;
 /// A contract sees the run, the breakpoints, the position, the greatest position that was reached, and how many items
 /// the last `back` or `go` ran again.
 /// Where a call is refused the debugger is as it was.
-#[derive(Drop)]
 pub struct Debugger<'b, A: Allocator> {
     book: &'b Book<A>,
     config: Config,
@@ -62,6 +61,23 @@ impl<'b, A: Allocator> Model for Debugger<'b, A> {
     ghost view = { λ d. record { run = record { book = d.book.now; config = d.config; octets = d.octets.items }; breaks = map break_of d.breaks.items; position = d.present.position; reached = d.reached; replayed = d.replayed } };
 
     ghost invariant = { λ d. IsKept (record { book = d.book.now; config = d.config; octets = d.octets.items }) d.present (farthest_or d.farthest d.present) d.kept.items d.reached d.replayed };
+}
+
+/// By hand, as that of `Place`.
+impl<'b, A: Allocator> Drop for Debugger<'b, A> {
+    fn drop(self) {
+        let Self {
+            book: _,
+            config: _,
+            octets: _,
+            breaks: _,
+            present: _,
+            farthest: _,
+            kept: _,
+            reached: _,
+            replayed: _,
+        } = self;
+    }
 }
 
 /// What is kept at an index.

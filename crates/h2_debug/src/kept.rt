@@ -15,7 +15,6 @@ use std::alloc::{AllocError, Allocator};
 use std::marker::Model;
 
 /// What is kept of a place.
-#[derive(Drop)]
 pub struct Kept<'b, A: Allocator> {
     mark: Mark<'b, A>,
     position: usize,
@@ -30,6 +29,19 @@ impl<'b, A: Allocator> Model for Kept<'b, A> {
     ghost Value = { places.Kept };
 
     ghost view = { λ k. record { mark = k.mark; position = k.position; used = k.used; reasons = k.reasons; sent = k.sent.items } };
+}
+
+/// By hand, as that of `Place`.
+impl<'b, A: Allocator> Drop for Kept<'b, A> {
+    fn drop(self) {
+        let Self {
+            mark: _,
+            position: _,
+            used: _,
+            reasons: _,
+            sent: _,
+        } = self;
+    }
 }
 
 /// The mark in what was kept of a place, if something was.
@@ -63,8 +75,8 @@ impl<'b, A: Allocator + Copy> Kept<'b, A> {
         requires { Precedes self.now.mark later.now.connection.state }
         ensures { IfOk result (λ place. (p : Placed) → self.now ≡ kept_of p → p.connection ≡ going p.connection.state [] → Follows p.connection.state later.now.connection.state → place ≡ p) }
     {
-        let conn = self.mark.restore(later.conn())?;
         let sent = copy_of(&self.sent)?;
+        let conn = self.mark.restore(later.conn())?;
         Ok(Place::of(conn, self.position, self.used, self.reasons, sent))
     }
 }

@@ -18,7 +18,6 @@ use std::marker::Model;
 use std::mem::swap;
 
 /// A place in a run.
-#[derive(Drop)]
 pub struct Place<'b, A: Allocator> {
     conn: Conn<'b, A>,
     position: usize,
@@ -35,6 +34,20 @@ impl<'b, A: Allocator> Model for Place<'b, A> {
     ghost Value = { Placed };
 
     ghost view = { λ p. record { connection = p.conn; position = p.position; used = p.used; reasons = p.reasons; sent = p.sent.items } };
+}
+
+/// By hand, so that a function that drops a place makes one call, where a derived `Drop` would drop each part there.
+impl<'b, A: Allocator> Drop for Place<'b, A> {
+    fn drop(self) {
+        let Self {
+            conn: _,
+            position: _,
+            used: _,
+            reasons: _,
+            sent: _,
+            spare: _,
+        } = self;
+    }
 }
 
 impl<'b, A: Allocator + Copy> Place<'b, A> {
@@ -82,8 +95,8 @@ impl<'b, A: Allocator + Copy> Place<'b, A> {
     pub fn try_clone(&self) -> Result<Self, AllocError>
         ensures same { IfOk result (λ copy. copy ≡ self.now) }
     {
-        let conn = self.conn.try_clone()?;
         let sent = copy_of(&self.sent)?;
+        let conn = self.conn.try_clone()?;
         Ok(Place {
             conn,
             position: self.position,

@@ -9,7 +9,7 @@ use h2_spec::causes::Cause;
 use h2_spec::ignored::Ignored;
 
 /// Why an item was an error, or was ignored.
-#[derive(Clone, Copy, Debug, PartialEq, Eq)]
+#[derive(Clone, Copy)]
 pub struct Reasons {
     /// Why it was a connection error or a stream error, if it was one.
     pub cause: Option<Cause>,

@@ -6,30 +6,34 @@ ghost use Rattle.std.specs.Borrow.{Bor};
 ghost use Rattle.h2_describe.specs.Names as spec;
 ghost use Rattle.h2_spec.specs.Stream as stream;
 
-use crate::say::{HexOctet, Say};
+use crate::say::{HexOctet, Say, Words};
 use crate::say_all;
 use h2_spec::errors::ErrorCode;
 use h2_spec::frames::{ACK, END_HEADERS, END_STREAM, FrameType, Head, PADDED, WITH_PRIORITY};
 use h2_spec::streams::Kind;
-use std::alloc::AllocError;
+
+/// The name of a frame's type; what comes before the number of a type that has none (RFC 9113, 6).
+fn type_word(kind: FrameType) -> &'static str {
+    match kind {
+        FrameType::Data => "DATA",
+        FrameType::Headers => "HEADERS",
+        FrameType::Priority => "PRIORITY",
+        FrameType::RstStream => "RST_STREAM",
+        FrameType::Settings => "SETTINGS",
+        FrameType::PushPromise => "PUSH_PROMISE",
+        FrameType::Ping => "PING",
+        FrameType::Goaway => "GOAWAY",
+        FrameType::WindowUpdate => "WINDOW_UPDATE",
+        FrameType::Continuation => "CONTINUATION",
+        FrameType::Unknown(_) => "type ",
+    }
+}
 
 impl Say for FrameType {
-    fn say(&self, out: &mut String) -> Result<(), AllocError> {
-        match self {
-            FrameType::Data => out.push_str("DATA"),
-            FrameType::Headers => out.push_str("HEADERS"),
-            FrameType::Priority => out.push_str("PRIORITY"),
-            FrameType::RstStream => out.push_str("RST_STREAM"),
-            FrameType::Settings => out.push_str("SETTINGS"),
-            FrameType::PushPromise => out.push_str("PUSH_PROMISE"),
-            FrameType::Ping => out.push_str("PING"),
-            FrameType::Goaway => out.push_str("GOAWAY"),
-            FrameType::WindowUpdate => out.push_str("WINDOW_UPDATE"),
-            FrameType::Continuation => out.push_str("CONTINUATION"),
-            FrameType::Unknown(kind) => {
-                out.push_str("type ")?;
-                HexOctet(*kind).say(out)
-            }
+    fn say(self, out: &mut Words) {
+        say_all!(out; type_word(self));
+        if let FrameType::Unknown(kind) = self {
+            say_all!(out; HexOctet(kind));
         }
     }
 }
@@ -61,7 +65,7 @@ fn flags_of(kind: FrameType) -> &'static [Flag]
 }
 
 /// Puts the flags of a frame last, each after a blank: those of its type by name, the others as a number.
-pub fn say_flags(head: &Head, out: &mut String) -> Result<(), AllocError> {
+pub fn say_flags(head: &Head, out: &mut Words) {
     let mut rest = head.flags;
     for (bit, name) in flags_of(head.frame_type()) {
         if *bit > 0 && head.has(*bit) {
@@ -72,7 +76,6 @@ pub fn say_flags(head: &Head, out: &mut String) -> Result<(), AllocError> {
     if rest > 0 {
         say_all!(out; " flags ", HexOctet(rest));
     }
-    Ok(())
 }
 
 /// An error code (RFC 9113, 7).
@@ -103,13 +106,10 @@ pub fn code_name(code: u32) -> Option<&'static str>
 }
 
 impl Say for Code {
-    fn say(&self, out: &mut String) -> Result<(), AllocError> {
+    fn say(self, out: &mut Words) {
         match code_name(self.0) {
-            Some(name) => out.push_str(name),
-            None => {
-                out.push_str("code ")?;
-                self.0.say(out)
-            }
+            Some(name) => say_all!(out; name),
+            None => say_all!(out; "code ", self.0),
         }
     }
 }

@@ -1,79 +1,137 @@
-//! Texts that are put together in a string, part by part.
+//! Texts that are put together part by part.
 //! Rests on the crate `itoa`; no definition speaks of them.
 
 use itoa::Buffer;
-use std::alloc::AllocError;
+use std::alloc::{AllocError, Global};
+
+/// A text that grows. Once memory for a part of it is refused, it takes no part more, and there is no text: so only
+/// its end asks whether memory was refused.
+#[derive(Drop)]
+pub struct Words {
+    text: String,
+    refused: bool,
+}
+
+impl Words {
+    /// No part yet. Takes no memory.
+    pub fn new(alloc: Global) -> Words {
+        Words {
+            text: String::new(alloc),
+            refused: false,
+        }
+    }
+
+    /// The text.
+    ///
+    /// # Errors
+    ///
+    /// `AllocError` where memory for a part was refused.
+    pub fn finish(self) -> Result<String, AllocError> {
+        if self.refused {
+            return Err(AllocError);
+        }
+        Ok(self.text)
+    }
+
+    /// How many octets it has so far.
+    pub fn len(&self) -> usize {
+        self.text.len()
+    }
+
+    /// Puts an end to it: memory for what belongs into the text was refused.
+    pub fn refuse(&mut self) {
+        self.refused = true;
+    }
+
+    /// Puts a text last.
+    fn text(&mut self, part: &str) {
+        if !self.refused {
+            self.refused = self.text.push_str(part).is_err();
+        }
+    }
+
+    /// Puts a character last.
+    fn character(&mut self, part: char) {
+        if !self.refused {
+            self.refused = self.text.push(part).is_err();
+        }
+    }
+
+    /// Puts the two digits of an octet last.
+    fn digits(&mut self, octet: u8) {
+        self.character(digit(octet / 16));
+        self.character(digit(octet % 16));
+    }
+
+    /// Puts an octet of a text last.
+    fn octet(&mut self, octet: u8) {
+        if is_plain(octet) {
+            self.character(char::from(octet));
+        } else {
+            self.text("\\");
+            self.digits(octet);
+        }
+    }
+}
 
 /// A part of a text.
 pub trait Say {
-    /// Puts the part last. `AllocError` where memory is refused.
-    fn say(&self, out: &mut String) -> Result<(), AllocError>;
+    /// Puts the part last.
+    fn say(self, out: &mut Words);
 }
 
 /// Puts parts last, one after another.
 #[macro_export]
 macro_rules! say_all {
-    ($out:expr; $($part:expr),+ $(,)?) => {{ $($crate::say::Say::say(&$part, $out)?;)+ }};
+    ($out:expr; $($part:expr),+ $(,)?) => {{ $($crate::say::Say::say($part, $out);)+ }};
 }
 
 impl Say for &str {
-    fn say(&self, out: &mut String) -> Result<(), AllocError> {
-        out.push_str(self)
+    fn say(self, out: &mut Words) {
+        out.text(self);
+    }
+}
+
+impl Say for char {
+    fn say(self, out: &mut Words) {
+        out.character(self);
     }
 }
 
 impl Say for u64 {
-    fn say(&self, out: &mut String) -> Result<(), AllocError> {
+    fn say(self, out: &mut Words) {
         let mut buffer = Buffer::new();
-        out.push_str(buffer.format(*self))
+        out.text(buffer.format(self));
     }
 }
 
 impl Say for i64 {
-    fn say(&self, out: &mut String) -> Result<(), AllocError> {
+    fn say(self, out: &mut Words) {
         let mut buffer = Buffer::new();
-        out.push_str(buffer.format(*self))
+        out.text(buffer.format(self));
     }
 }
 
 impl Say for u32 {
-    fn say(&self, out: &mut String) -> Result<(), AllocError> {
-        u64::from(*self).say(out)
+    fn say(self, out: &mut Words) {
+        u64::from(self).say(out);
     }
 }
 
 impl Say for usize {
-    fn say(&self, out: &mut String) -> Result<(), AllocError> {
-        (*self as u64).say(out)
+    fn say(self, out: &mut Words) {
+        (self as u64).say(out);
     }
 }
+
+/// The digits of numbers to the base 16.
+static DIGITS: [char; 16] = [
+    '0', '1', '2', '3', '4', '5', '6', '7', '8', '9', 'a', 'b', 'c', 'd', 'e', 'f',
+];
 
 /// The digit of a value below 16.
-fn digit(value: u8) -> &'static str {
-    match value {
-        0 => "0",
-        1 => "1",
-        2 => "2",
-        3 => "3",
-        4 => "4",
-        5 => "5",
-        6 => "6",
-        7 => "7",
-        8 => "8",
-        9 => "9",
-        10 => "a",
-        11 => "b",
-        12 => "c",
-        13 => "d",
-        14 => "e",
-        _ => "f",
-    }
-}
-
-/// Puts the two digits of an octet last.
-fn say_octet(octet: u8, out: &mut String) -> Result<(), AllocError> {
-    out.push_str(digit(octet / 16))?;
-    out.push_str(digit(octet % 16))
+fn digit(value: u8) -> char {
+    DIGITS.get(usize::from(value)).copied().unwrap_or('0')
 }
 
 /// Octets as lower-case hex digits.
@@ -81,11 +139,10 @@ fn say_octet(octet: u8, out: &mut String) -> Result<(), AllocError> {
 pub struct Hex<'a>(pub &'a [u8]);
 
 impl Say for Hex<'_> {
-    fn say(&self, out: &mut String) -> Result<(), AllocError> {
+    fn say(self, out: &mut Words) {
         for octet in self.0 {
-            say_octet(*octet, out)?;
+            out.digits(*octet);
         }
-        Ok(())
     }
 }
 
@@ -94,9 +151,9 @@ impl Say for Hex<'_> {
 pub struct HexOctet(pub u8);
 
 impl Say for HexOctet {
-    fn say(&self, out: &mut String) -> Result<(), AllocError> {
-        out.push_str("0x")?;
-        say_octet(self.0, out)
+    fn say(self, out: &mut Words) {
+        out.text("0x");
+        out.digits(self.0);
     }
 }
 
@@ -104,21 +161,16 @@ impl Say for HexOctet {
 #[derive(Clone, Copy)]
 pub struct Text<'a>(pub &'a [u8]);
 
-/// Puts an octet of a text last.
-fn say_character(octet: u8, out: &mut String) -> Result<(), AllocError> {
-    if (32..=126).contains(&octet) && octet != b'"' && octet != b'\\' {
-        return out.push(char::from(octet));
-    }
-    out.push_str("\\")?;
-    say_octet(octet, out)
+/// Whether an octet stands for itself in a text.
+fn is_plain(octet: u8) -> bool {
+    (32..=126).contains(&octet) && octet != b'"' && octet != b'\\'
 }
 
 impl Say for Text<'_> {
-    fn say(&self, out: &mut String) -> Result<(), AllocError> {
+    fn say(self, out: &mut Words) {
         for octet in self.0 {
-            say_character(*octet, out)?;
+            out.octet(*octet);
         }
-        Ok(())
     }
 }
 
@@ -127,9 +179,9 @@ impl Say for Text<'_> {
 pub struct Fields(pub usize);
 
 impl Say for Fields {
-    fn say(&self, out: &mut String) -> Result<(), AllocError> {
-        self.0.say(out)?;
-        out.push_str(if self.0 == 1 { " field" } else { " fields" })
+    fn say(self, out: &mut Words) {
+        self.0.say(out);
+        out.text(if self.0 == 1 { " field" } else { " fields" });
     }
 }
 
@@ -138,8 +190,8 @@ impl Say for Fields {
 pub struct Octets(pub u64);
 
 impl Say for Octets {
-    fn say(&self, out: &mut String) -> Result<(), AllocError> {
-        self.0.say(out)?;
-        out.push_str(if self.0 == 1 { " octet" } else { " octets" })
+    fn say(self, out: &mut Words) {
+        self.0.say(out);
+        out.text(if self.0 == 1 { " octet" } else { " octets" });
     }
 }

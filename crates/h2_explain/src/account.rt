@@ -17,6 +17,7 @@ use crate::item::Explained;
 use crate::notes::Notes;
 use crate::sentence::say_sentence;
 use h2_conn::Conn;
+use h2_describe::say::Words;
 use h2_describe::sent::next_frame;
 use h2_describe::spelled::BlockReader;
 use h2_frame::{FrameRef, Part, part_of};
@@ -186,7 +187,7 @@ impl Explainer {
         conn: &Conn<'_, Global>,
         item: &Explained<'_>,
     ) -> Result<String, AllocError> {
-        let mut text = String::new(alloc);
+        let mut text = Words::new(alloc);
         if let Some(cause) = item.taken.cause {
             let context = ErrorContext {
                 item,
@@ -194,9 +195,9 @@ impl Explainer {
                 reader: &self.reader,
                 config: conn.config(),
             };
-            say_sentence(cause, context, &mut text)?;
+            say_sentence(cause, context, &mut text);
         }
-        Ok(text)
+        text.finish()
     }
 
     /// What there is to show of the item that a connection has just taken.

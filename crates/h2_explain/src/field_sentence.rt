@@ -2,12 +2,10 @@
 //! Rests on `context`; the causes: h2_spec's `specs/CauseWords.antt`.
 
 use crate::error_context::ErrorContext;
-use crate::sentence::Said;
-use h2_describe::say::{HexOctet, Text};
+use h2_describe::say::{HexOctet, Text, Words};
 use h2_describe::say_all;
 use h2_describe::spelled::SpelledField;
 use h2_spec::causes::Cause;
-use std::alloc::AllocError;
 
 /// Whether a name is that of a pseudo-field.
 fn is_pseudo(name: &[u8]) -> bool {
@@ -155,9 +153,9 @@ fn double_pseudo(fields: &[SpelledField]) -> Option<&SpelledField> {
     None
 }
 
-fn say_bad_name(context: ErrorContext<'_, '_>, of: &'static str, out: &mut String) -> Said {
+fn say_bad_name(context: ErrorContext<'_, '_>, of: &'static str, out: &mut Words) -> bool {
     let Some(field) = found(Wrong::Name, context) else {
-        return Ok(false);
+        return false;
     };
     let name = field.name.as_slice();
     match bad_octet_of_name(name) {
@@ -165,12 +163,12 @@ fn say_bad_name(context: ErrorContext<'_, '_>, of: &'static str, out: &mut Strin
             "the name \"", Text(name), "\"", of, " has the octet ", HexOctet(octet)),
         None => say_all!(out; "a field", of, " has an empty name"),
     }
-    Ok(true)
+    true
 }
 
-fn say_bad_value(context: ErrorContext<'_, '_>, of: &'static str, out: &mut String) -> Said {
+fn say_bad_value(context: ErrorContext<'_, '_>, of: &'static str, out: &mut Words) -> bool {
     let Some(field) = found(Wrong::Value, context) else {
-        return Ok(false);
+        return false;
     };
     match bad_octet_of_value(field.value.as_slice()) {
         Some(octet) => say_all!(out;
@@ -179,11 +177,11 @@ fn say_bad_value(context: ErrorContext<'_, '_>, of: &'static str, out: &mut Stri
         None => say_all!(out;
             "the value of \"", Text(field.name.as_slice()), "\"", of, " has a blank at an end"),
     }
-    Ok(true)
+    true
 }
 
 /// What of the pseudo-fields is missing, empty, or too much (RFC 9113, 8.3.1 and 8.5).
-fn say_lacking(fields: &[SpelledField], out: &mut String) -> Result<(), AllocError> {
+fn say_lacking(fields: &[SpelledField], out: &mut Words) {
     if is_connect(fields) {
         say_all!(out; "CONNECT has :authority, and neither :scheme nor :path");
     } else if !has(b":method", fields) {
@@ -195,7 +193,6 @@ fn say_lacking(fields: &[SpelledField], out: &mut String) -> Result<(), AllocErr
     } else {
         say_all!(out; ":path is empty");
     }
-    Ok(())
 }
 
 /// Whether the method is CONNECT.
@@ -211,12 +208,12 @@ fn is_connect(fields: &[SpelledField]) -> bool {
 }
 
 /// Pseudo-fields (RFC 9113, 8.1 and 8.3).
-fn say_pseudo(cause: Cause, context: ErrorContext<'_, '_>, out: &mut String) -> Said {
+fn say_pseudo(cause: Cause, context: ErrorContext<'_, '_>, out: &mut Words) -> bool {
     let fields = context.reader.fields();
     match cause {
         Cause::LatePseudoField => {
             let Some((field, before)) = late_pseudo(fields) else {
-                return Ok(false);
+                return false;
             };
             say_all!(out;
                 "\"", Text(field.name.as_slice()), "\" comes after the field \"",
@@ -224,65 +221,65 @@ fn say_pseudo(cause: Cause, context: ErrorContext<'_, '_>, out: &mut String) -> 
         }
         Cause::UnknownPseudoField => {
             let Some(field) = found(Wrong::Unknown, context) else {
-                return Ok(false);
+                return false;
             };
             say_all!(out; "\"", Text(field.name.as_slice()), "\" is no pseudo-field of a request");
         }
         Cause::DoublePseudoField => {
             let Some(field) = double_pseudo(fields) else {
-                return Ok(false);
+                return false;
             };
             say_all!(out; "\"", Text(field.name.as_slice()), "\" is there twice");
         }
-        Cause::LackingPseudoField => say_lacking(fields, out)?,
-        _ => return Ok(false),
+        Cause::LackingPseudoField => say_lacking(fields, out),
+        _ => return false,
     }
-    Ok(true)
+    true
 }
 
 /// Fields of connections, and `te` (RFC 9113, 8.2.2).
-fn say_connection_field(context: ErrorContext<'_, '_>, of: &'static str, out: &mut String) -> Said {
+fn say_connection_field(context: ErrorContext<'_, '_>, of: &'static str, out: &mut Words) -> bool {
     let Some(field) = found(Wrong::Connection, context) else {
-        return Ok(false);
+        return false;
     };
     say_all!(out;
         "\"", Text(field.name.as_slice()), "\"", of, " belongs to HTTP/1.1 connections");
-    Ok(true)
+    true
 }
 
-fn say_te(context: ErrorContext<'_, '_>, of: &'static str, out: &mut String) -> Said {
+fn say_te(context: ErrorContext<'_, '_>, of: &'static str, out: &mut Words) -> bool {
     let Some(field) = found(Wrong::Te, context) else {
-        return Ok(false);
+        return false;
     };
     say_all!(out;
         "te", of, " is \"", Text(field.value.as_slice()), "\"; it may only be trailers");
-    Ok(true)
+    true
 }
 
 /// The value or the values of content-length (RFC 9113, 8.1.1).
-fn say_content_length(cause: Cause, context: ErrorContext<'_, '_>, out: &mut String) -> Said {
+fn say_content_length(cause: Cause, context: ErrorContext<'_, '_>, out: &mut Words) -> bool {
     let fields = context.reader.fields();
     let Some(place) = first_wrong(Wrong::Length, 0, fields) else {
-        return Ok(false);
+        return false;
     };
     let Some(first) = fields.get(place) else {
-        return Ok(false);
+        return false;
     };
     say_all!(out; "content-length is ", Text(first.value.as_slice()));
     if cause == Cause::ContentMissing {
         say_all!(out; ", and HEADERS ended the stream");
-        return Ok(true);
+        return true;
     }
     let next = first_wrong(Wrong::Length, place.saturating_add(1), fields);
     match next.and_then(|next| fields.get(next)) {
         Some(second) => say_all!(out; " and ", Text(second.value.as_slice())),
         None => say_all!(out; "; this server takes 1 to 18 digits"),
     }
-    Ok(true)
+    true
 }
 
 /// The sentences of requests and trailers.
-pub(crate) fn say_field(cause: Cause, context: ErrorContext<'_, '_>, out: &mut String) -> Said {
+pub(crate) fn say_field(cause: Cause, context: ErrorContext<'_, '_>, out: &mut Words) -> bool {
     match cause {
         Cause::BadName => say_bad_name(context, "", out),
         Cause::BadValue => say_bad_value(context, "", out),
@@ -300,11 +297,11 @@ pub(crate) fn say_field(cause: Cause, context: ErrorContext<'_, '_>, out: &mut S
     }
 }
 
-fn say_trailers_pseudo(context: ErrorContext<'_, '_>, out: &mut String) -> Said {
+fn say_trailers_pseudo(context: ErrorContext<'_, '_>, out: &mut Words) -> bool {
     let Some(field) = found(Wrong::Pseudo, context) else {
-        return Ok(false);
+        return false;
     };
     say_all!(out;
         "trailers have no pseudo-field, and here is \"", Text(field.name.as_slice()), "\"");
-    Ok(true)
+    true
 }

@@ -1,6 +1,6 @@
 //! An item as a JSON object: the same values as its text, numbers as numbers, octets as text where they are UTF-8 and
-//! always as hex.
-//! Rests on serde_json and `account`; the members are described in docs/FORMATS.md.
+//! always as hex. The members of each object stand in the order of their names.
+//! Rests on `json_words` and `account`; the members are described in docs/FORMATS.md.
 
 ghost use Rattle.std.specs.Prelude.{◌≡◌, false, IfOk};
 ghost use Rattle.std.specs.String.{string_bytes};
@@ -9,260 +9,305 @@ ghost use Rattle.h2_explain.specs.Explains.{EndsLine};
 use crate::account::{Account, Explainer, has_ended};
 use crate::changes::Change;
 use crate::item::Explained;
+use crate::json_words::JsonWords;
 use crate::text::{mode_name, say_item};
 use h2_describe::frame_words::say_frame;
 use h2_describe::names::{code_name, kind_name, setting_name};
-use h2_describe::say::{Hex, Say};
+use h2_describe::say::{Hex, Words};
 use h2_describe::sent::next_frame;
 use h2_describe::spelled::{BlockReader, SpelledField, Spelling};
 use h2_frame::{FrameRef, Head, Part, SettingsPart, part_of};
 use h2_spec::causes::Cause;
-use h2_spec::frames::FrameType;
 use h2_spec::ignored::Ignored;
 use h2_spec::octets::octets_from;
-use serde_json::{Map, Value, json, put};
 use std::alloc::{AllocError, Global};
 
-/// A JSON value, or memory was refused.
-type Made = Result<Value, AllocError>;
-
 /// Octets as hex, and as text where they are UTF-8.
-fn octets(alloc: Global, octets: &[u8]) -> Made {
-    let mut hex = String::new(alloc);
-    Hex(octets).say(&mut hex)?;
-    match str::from_utf8(octets) {
-        Ok(text) => json!(in alloc; {"hex": hex, "text": text}),
-        Err(_) => json!(in alloc; {"hex": hex}),
+fn put_octets(name: &str, octets: &[u8], out: &mut JsonWords) {
+    out.open(name);
+    out.plain("hex", Hex(octets));
+    if let Ok(text) = str::from_utf8(octets) {
+        out.text("text", text);
     }
-}
-
-/// The name of a type.
-fn type_name(alloc: Global, kind: FrameType) -> Result<String, AllocError> {
-    let mut name = String::new(alloc);
-    kind.say(&mut name)?;
-    Ok(name)
+    out.close();
 }
 
 /// The head of a frame.
-fn head(alloc: Global, head: &Head) -> Made {
-    let name = type_name(alloc, head.frame_type())?;
-    json!(in alloc; {
-        "type": name,
-        "type_number": (head.kind),
-        "flags": (head.flags),
-        "stream": (head.stream),
-        "length": (head.length)
-    })
+fn put_head(head: &Head, out: &mut JsonWords) {
+    out.open("frame");
+    out.number("flags", u64::from(head.flags));
+    out.number("length", u64::from(head.length));
+    out.number("stream", u64::from(head.stream));
+    out.plain("type", head.frame_type());
+    out.number("type_number", u64::from(head.kind));
+    out.close();
 }
 
 /// An error code by number and name.
-fn code(alloc: Global, code: u32) -> Made {
-    json!(in alloc; {"number": code, "name": (code_name(code).unwrap_or("unknown"))})
+fn put_code(code: u32, out: &mut JsonWords) {
+    out.open("code");
+    out.plain("name", code_name(code).unwrap_or("unknown"));
+    out.number("number", u64::from(code));
+    out.close();
 }
 
 /// A setting.
-fn setting(alloc: Global, id: u16, value: u32) -> Made {
-    json!(in alloc; {"id": id, "name": (setting_name(id).unwrap_or("unknown")), "value": value})
+fn put_setting(id: u16, value: u32, out: &mut JsonWords) {
+    out.open_element();
+    out.number("id", u64::from(id));
+    out.plain("name", setting_name(id).unwrap_or("unknown"));
+    out.number("value", u64::from(value));
+    out.close();
 }
 
 /// The settings of a frame, in their order.
-fn settings(alloc: Global, part: SettingsPart<'_>) -> Made {
-    let mut list = Vec::new(alloc);
+fn put_settings(part: SettingsPart<'_>, out: &mut JsonWords) {
+    out.open_list("settings");
     for place in 0..part.count() {
         if let Some((id, value)) = part.pair(place) {
-            list.push(setting(alloc, id, value)?)?;
+            put_setting(id, value, out);
         }
     }
-    Ok(Value::Array(list))
+    out.close_list();
 }
 
 /// What a payload has, by the frame's type; its octets where it has nothing else, or can't be read.
-fn payload(alloc: Global, frame: FrameRef<'_>) -> Made {
+fn put_parts(frame: FrameRef<'_>, out: &mut JsonWords) {
     match part_of(frame) {
-        Ok(Part::Settings(part)) => {
-            let list = settings(alloc, part)?;
-            json!(in alloc; {"settings": list})
-        }
-        Ok(Part::RstStream(number)) => {
-            let code = code(alloc, number)?;
-            json!(in alloc; {"code": code})
-        }
-        Ok(Part::Goaway(last, number)) => goaway(alloc, last, number, frame.payload),
-        Ok(Part::WindowUpdate(increment)) => json!(in alloc; {"increment": increment}),
+        Ok(Part::Settings(part)) => put_settings(part, out),
+        Ok(Part::RstStream(number)) => put_code(number, out),
+        Ok(Part::Goaway(last, number)) => put_goaway(last, number, frame.payload, out),
+        Ok(Part::WindowUpdate(increment)) => out.number("increment", u64::from(increment)),
         Ok(Part::Data(part)) => {
-            let content = octets(alloc, part.content)?;
-            json!(in alloc; {"content": content, "padding": (part.padding.len())})
+            put_octets("content", part.content, out);
+            out.number("padding", part.padding.len() as u64);
         }
-        Ok(_) | Err(_) => {
-            let all = octets(alloc, frame.payload)?;
-            json!(in alloc; {"octets": all})
-        }
+        Ok(_) | Err(_) => put_octets("octets", frame.payload, out),
     }
+}
+
+/// The payload of a frame.
+fn put_payload(frame: FrameRef<'_>, out: &mut JsonWords) {
+    out.open("payload");
+    put_parts(frame, out);
+    out.close();
 }
 
 /// What GOAWAY has: its last stream, its code and its debug octets.
-fn goaway(alloc: Global, last: u32, number: u32, payload: &[u8]) -> Made {
-    let code = code(alloc, number)?;
-    let debug = octets(alloc, octets_from(payload, payload.len().min(8)))?;
-    json!(in alloc; {"last_stream": last, "code": code, "debug": debug})
+fn put_goaway(last: u32, number: u32, payload: &[u8], out: &mut JsonWords) {
+    put_code(number, out);
+    put_octets("debug", octets_from(payload, payload.len().min(8)), out);
+    out.number("last_stream", u64::from(last));
+}
+
+/// A frame in words.
+fn frame_in_words(alloc: Global, frame: FrameRef<'_>) -> Words {
+    let mut words = Words::new(alloc);
+    say_frame(frame, &mut words);
+    words
 }
 
 /// A frame that was sent.
-fn sent_frame(alloc: Global, frame: FrameRef<'_>) -> Made {
-    let mut words = String::new(alloc);
-    say_frame(frame, &mut words)?;
-    let head = head(alloc, &frame.head)?;
-    let payload = payload(alloc, frame)?;
-    json!(in alloc; {"words": words, "frame": head, "payload": payload})
+fn put_sent_frame(alloc: Global, frame: FrameRef<'_>, out: &mut JsonWords) {
+    out.open_element();
+    put_head(&frame.head, out);
+    put_payload(frame, out);
+    out.words("words", frame_in_words(alloc, frame));
+    out.close();
 }
 
-/// The frames that were sent, in their order.
-fn sent(alloc: Global, octets: &[u8]) -> Made {
-    let mut list = Vec::new(alloc);
+/// The frames that octets have, in their order.
+fn put_frames(alloc: Global, octets: &[u8], out: &mut JsonWords) {
     let mut rest = octets;
     for _frame in 0..octets.len() {
         let Some((frame, after)) = next_frame(rest) else {
-            return Ok(Value::Array(list));
+            return;
         };
         rest = after;
-        list.push(sent_frame(alloc, frame)?)?;
+        put_sent_frame(alloc, frame, out);
     }
-    Ok(Value::Array(list))
+}
+
+/// The frames that were sent, in their order.
+fn put_sent(alloc: Global, octets: &[u8], out: &mut JsonWords) {
+    out.open_list("sent");
+    put_frames(alloc, octets, out);
+    out.close_list();
 }
 
 /// How a field was spelled.
-fn spelling(alloc: Global, spelling: Spelling) -> Made {
+fn put_spelling(spelling: Spelling, out: &mut JsonWords) {
+    out.open("spelling");
     match spelling {
-        Spelling::Indexed(index) => json!(in alloc; {"kind": "indexed", "index": index}),
-        Spelling::Literal(mode, Some(index), _, huffman) => json!(in alloc; {
-            "kind": (mode_name(mode)), "name_index": index, "value_huffman": huffman
-        }),
-        Spelling::Literal(mode, None, name, value) => json!(in alloc; {
-            "kind": (mode_name(mode)), "name_huffman": name, "value_huffman": value
-        }),
+        Spelling::Indexed(index) => {
+            out.number("index", index);
+            out.plain("kind", "indexed");
+        }
+        Spelling::Literal(mode, index, name, value) => {
+            out.plain("kind", mode_name(mode));
+            match index {
+                Some(index) => out.number("name_index", index),
+                None => out.flag("name_huffman", name),
+            }
+            out.flag("value_huffman", value);
+        }
     }
+    out.close();
 }
 
 /// A field.
-fn field(alloc: Global, field: &SpelledField) -> Made {
-    let name = octets(alloc, field.name.as_slice())?;
-    let value = octets(alloc, field.value.as_slice())?;
-    let spelled = spelling(alloc, field.spelling)?;
-    json!(in alloc; {"name": name, "value": value, "spelling": spelled})
+fn put_field(field: &SpelledField, out: &mut JsonWords) {
+    out.open_element();
+    put_octets("name", field.name.as_slice(), out);
+    put_spelling(field.spelling, out);
+    put_octets("value", field.value.as_slice(), out);
+    out.close();
 }
 
 /// The fields of a block.
-fn fields(alloc: Global, reader: &BlockReader) -> Made {
-    let mut list = Vec::new(alloc);
-    for each in reader.fields() {
-        list.push(field(alloc, each)?)?;
+fn put_fields(reader: &BlockReader, out: &mut JsonWords) {
+    out.open_list("fields");
+    for field in reader.fields() {
+        put_field(field, out);
     }
-    Ok(Value::Array(list))
+    out.close_list();
 }
 
 /// The table size updates of a block.
-fn updates(alloc: Global, reader: &BlockReader) -> Made {
-    let mut list = Vec::new(alloc);
+fn put_updates(reader: &BlockReader, out: &mut JsonWords) {
+    out.open_list("table_updates");
     for max in reader.updates() {
-        list.push(Value::from(*max))?;
+        out.element(*max);
     }
-    Ok(Value::Array(list))
+    out.close_list();
 }
 
 /// An error: its scope, its code, its cause, and the sentence.
-fn error(alloc: Global, cause: Cause, item: &Explained<'_>, sentence: &str) -> Made {
-    let is_connection = has_ended(item.after.counts.phase);
-    let code = code(alloc, cause.code().number())?;
-    json!(in alloc; {
-        "scope": (if is_connection { "connection" } else { "stream" }),
-        "code": code,
-        "cause": (cause.name()),
-        "section": (cause.section()),
-        "must": (cause.is_must()),
-        "sentence": sentence
-    })
+fn put_error(cause: Cause, is_connection: bool, sentence: &str, out: &mut JsonWords) {
+    out.open("error");
+    out.plain("cause", cause.name());
+    put_code(cause.code().number(), out);
+    out.flag("must", cause.is_must());
+    out.plain(
+        "scope",
+        if is_connection {
+            "connection"
+        } else {
+            "stream"
+        },
+    );
+    out.plain("section", cause.section());
+    out.text("sentence", sentence);
+    out.close();
 }
 
 /// Why a frame is ignored.
-fn ignored(alloc: Global, why: Ignored) -> Made {
-    json!(in alloc; {
-        "reason": (why.name()),
-        "section": (why.section()),
-        "must": (why.is_must()),
-        "sentence": (why.sentence())
-    })
+fn put_ignored(why: Ignored, out: &mut JsonWords) {
+    out.open("ignored");
+    out.flag("must", why.is_must());
+    out.plain("reason", why.name());
+    out.plain("section", why.section());
+    out.plain("sentence", why.sentence());
+    out.close();
+}
+
+/// The members of a change that are before `stream` and `what`: what was before and after, or where a body stops.
+fn put_values(change: &Change, out: &mut JsonWords) {
+    match change {
+        Change::Number(_, _, before, after) => {
+            out.signed("after", *after);
+            out.signed("before", *before);
+        }
+        Change::State(_, before, after) => {
+            out.plain("after", kind_name(*after));
+            out.plain("before", kind_name(*before));
+        }
+        Change::Acknowledged(before, after) => {
+            out.flag("after", *after);
+            out.flag("before", *before);
+        }
+        Change::Stops(_, remaining, _, connection) => {
+            out.number("after", *remaining);
+            out.signed("connection_window", *connection);
+        }
+    }
+}
+
+/// What changed, by name.
+fn what_of(change: &Change) -> &'static str {
+    match change {
+        Change::Number(_, what, _, _) => what.name(),
+        Change::State(_, _, _) => "state",
+        Change::Acknowledged(_, _) => "settings acknowledged",
+        Change::Stops(_, _, _, _) => "body remaining",
+    }
+}
+
+/// The stream of a change, 0 for the connection.
+fn stream_of(change: &Change) -> u32 {
+    match change {
+        Change::Number(stream, _, _, _)
+        | Change::State(stream, _, _)
+        | Change::Stops(stream, _, _, _) => *stream,
+        Change::Acknowledged(_, _) => 0,
+    }
 }
 
 /// A change.
-fn change(alloc: Global, change: &Change) -> Made {
-    match change {
-        Change::Number(stream, what, before, after) => json!(in alloc; {
-            "stream": (*stream), "what": (what.name()), "before": (*before), "after": (*after)
-        }),
-        Change::State(stream, before, after) => json!(in alloc; {
-            "stream": (*stream), "what": "state",
-            "before": (kind_name(*before)), "after": (kind_name(*after))
-        }),
-        Change::Acknowledged(before, after) => json!(in alloc; {
-            "stream": 0u32, "what": "settings acknowledged",
-            "before": (*before), "after": (*after)
-        }),
-        Change::Stops(stream, remaining, own, connection) => json!(in alloc; {
-            "stream": (*stream), "what": "body remaining", "after": (*remaining),
-            "stream_window": (*own), "connection_window": (*connection)
-        }),
+fn put_change(change: &Change, out: &mut JsonWords) {
+    out.open_element();
+    put_values(change, out);
+    out.number("stream", u64::from(stream_of(change)));
+    if let Change::Stops(_, _, own, _) = change {
+        out.signed("stream_window", *own);
     }
+    out.plain("what", what_of(change));
+    out.close();
 }
 
 /// The changes, in their order.
-fn changes(alloc: Global, list: &[Change]) -> Made {
-    let mut values = Vec::new(alloc);
-    for each in list {
-        values.push(change(alloc, each)?)?;
+fn put_changes(list: &[Change], out: &mut JsonWords) {
+    out.open_list("changes");
+    for change in list {
+        put_change(change, out);
     }
-    Ok(Value::Array(values))
+    out.close_list();
 }
 
-/// Puts the head and the payload of the item in, if it is a frame.
-fn put_frame(
-    alloc: Global,
-    item: &Explained<'_>,
-    map: &mut Map<String, Value>,
-) -> Result<(), AllocError> {
-    if let Some(found) = item.head() {
-        put(map, alloc, "frame", head(alloc, &found)?)?;
-    }
-    if let Some(frame) = item.frame() {
-        put(map, alloc, "payload", payload(alloc, frame)?)?;
-    }
-    Ok(())
-}
-
-/// Puts the fields of the block in, the error, and why the item is ignored.
-fn put_why(
-    alloc: Global,
-    item: &Explained<'_>,
-    account: &Account,
-    explainer: &Explainer,
-    map: &mut Map<String, Value>,
-) -> Result<(), AllocError> {
-    if account.shows_fields {
-        put(map, alloc, "fields", fields(alloc, &explainer.reader)?)?;
-        put(
-            map,
-            alloc,
-            "table_updates",
-            updates(alloc, &explainer.reader)?,
-        )?;
-    }
+/// Puts the changes in, the error, the fields of the block, the head of the frame, and why it is ignored.
+fn put_why(item: &Explained<'_>, account: &Account, reader: &BlockReader, out: &mut JsonWords) {
+    put_changes(account.changes.as_slice(), out);
     if let Some(cause) = item.taken.cause {
-        let sentence = account.sentence.as_str();
-        put(map, alloc, "error", error(alloc, cause, item, sentence)?)?;
+        let is_connection = has_ended(item.after.counts.phase);
+        put_error(cause, is_connection, account.sentence.as_str(), out);
+    }
+    if account.shows_fields {
+        put_fields(reader, out);
+    }
+    if let Some(head) = item.head() {
+        put_head(&head, out);
     }
     if let Some(why) = item.taken.ignored {
-        put(map, alloc, "ignored", ignored(alloc, why)?)?;
+        put_ignored(why, out);
     }
-    Ok(())
+}
+
+/// An item in words.
+fn item_in_words(alloc: Global, item: &Explained<'_>) -> Words {
+    let mut words = Words::new(alloc);
+    say_item(item, &mut words);
+    words
+}
+
+/// Puts the item in: its number, its octets, and what was sent for it.
+fn put_item(alloc: Global, item: &Explained<'_>, out: &mut JsonWords) {
+    out.number("item", item.number);
+    put_octets("octets", item.octets, out);
+    out.number("offset", item.offset as u64);
+    if let Some(frame) = item.frame() {
+        put_payload(frame, out);
+    }
+    put_sent(alloc, item.sent.as_slice(), out);
 }
 
 /// The line of an item.
@@ -274,30 +319,23 @@ pub(crate) fn json_of(
 ) -> Result<String, AllocError>
     ensures { IfOk result (λ text. EndsLine false (string_bytes text)) }
 {
-    let mut map = Map::new(alloc);
-    let mut words = String::new(alloc);
-    say_item(item, &mut words)?;
-    put(&mut map, alloc, "item", Value::from(item.number))?;
-    put(&mut map, alloc, "offset", Value::from(item.offset))?;
-    put(&mut map, alloc, "words", Value::from(words))?;
-    put(&mut map, alloc, "octets", octets(alloc, item.octets)?)?;
-    put_frame(alloc, item, &mut map)?;
-    put_why(alloc, item, account, explainer, &mut map)?;
-    put(&mut map, alloc, "sent", sent(alloc, item.sent.as_slice())?)?;
-    put(
-        &mut map,
-        alloc,
-        "changes",
-        changes(alloc, account.changes.as_slice())?,
-    )?;
-    line_of(alloc, Value::Object(map))
+    let mut out = JsonWords::new(alloc);
+    out.open_element();
+    put_why(item, account, &explainer.reader, &mut out);
+    put_item(alloc, item, &mut out);
+    if account.shows_fields {
+        put_updates(&explainer.reader, &mut out);
+    }
+    out.words("words", item_in_words(alloc, item));
+    out.close();
+    line_of(out)
 }
 
-/// A value as a line.
-pub(crate) fn line_of(alloc: Global, value: Value) -> Result<String, AllocError>
+/// What was put together, as a line.
+pub(crate) fn line_of(out: JsonWords) -> Result<String, AllocError>
     ensures { IfOk result (λ text. EndsLine false (string_bytes text)) }
 {
-    let mut text = value.to_string(alloc)?;
+    let mut text = out.finish()?;
     text.push_str("\n")?;
     Ok(text)
 }

@@ -11,6 +11,7 @@ mod error_context;
 mod field_sentence;
 mod item;
 mod json;
+mod json_words;
 mod lines;
 mod notes;
 mod paint;

@@ -4,13 +4,15 @@
 
 ghost use Rattle.std.specs.Prelude.{◌≡◌, IfOk};
 ghost use Rattle.std.specs.String.{string_bytes};
-ghost use Rattle.h2_explain.specs.Lines.{Words, blanks, cause_lines, error_lines, first_line, ignored_lines, is_silent, lines, lines_of, reason_lines, scope};
+ghost use Rattle.h2_explain.specs.Lines.{Words as Said, blanks, cause_lines, error_lines, first_line, ignored_lines, is_silent, lines, lines_of, reason_lines, scope};
 
 use crate::account::{Account, Explainer};
+use crate::changes::Change;
 use crate::item::Explained;
 use crate::paint::{Paint, Role};
 use crate::text::{say_changes, say_fields, say_item, say_sent};
 use h2_describe::names::{error_name, force_word, scope_word};
+use h2_describe::say::Words;
 use h2_device::{DeviceFault, Number, Output, Text, string_of, texts};
 use h2_spec::causes::Cause;
 use h2_spec::connection::Phase;
@@ -194,6 +196,13 @@ struct ItemWords {
     changes: String,
 }
 
+/// The item in words.
+fn item_words(alloc: Global, item: &Explained<'_>) -> Result<String, AllocError> {
+    let mut words = Words::new(alloc);
+    say_item(item, &mut words);
+    words.finish()
+}
+
 /// The lines of the fields of the block that ends with an item, if they are shown with it.
 fn fields_text(
     alloc: Global,
@@ -201,11 +210,25 @@ fn fields_text(
     explainer: &Explainer,
     paint: Paint,
 ) -> Result<String, AllocError> {
-    let mut fields = String::new(alloc);
+    let mut fields = Words::new(alloc);
     if account.shows_fields {
-        say_fields(&explainer.reader, paint, &mut fields)?;
+        say_fields(&explainer.reader, paint, &mut fields);
     }
-    Ok(fields)
+    fields.finish()
+}
+
+/// The lines of the frames that were sent.
+fn sent_text(alloc: Global, sent: &[u8], paint: Paint) -> Result<String, AllocError> {
+    let mut words = Words::new(alloc);
+    say_sent(alloc, sent, paint, &mut words);
+    words.finish()
+}
+
+/// The lines of changes.
+fn changes_text(alloc: Global, changes: &[Change], paint: Paint) -> Result<String, AllocError> {
+    let mut words = Words::new(alloc);
+    say_changes(changes, paint, &mut words);
+    words.finish()
 }
 
 /// The words of an item.
@@ -216,17 +239,11 @@ fn words_of(
     explainer: &Explainer,
     paint: Paint,
 ) -> Result<ItemWords, AllocError> {
-    let mut words = String::new(alloc);
-    say_item(item, &mut words)?;
-    let mut sent = String::new(alloc);
-    say_sent(alloc, item.sent.as_slice(), paint, &mut sent)?;
-    let mut changes = String::new(alloc);
-    say_changes(account.changes.as_slice(), paint, &mut changes)?;
     Ok(ItemWords {
-        item: words,
+        item: item_words(alloc, item)?,
         fields: fields_text(alloc, account, explainer, paint)?,
-        sent,
-        changes,
+        sent: sent_text(alloc, item.sent.as_slice(), paint)?,
+        changes: changes_text(alloc, account.changes.as_slice(), paint)?,
     })
 }
 
@@ -238,7 +255,7 @@ fn lines_with(
     sentence: &str,
     paint: Paint,
 ) -> Result<String, AllocError>
-    ensures { IfOk result (λ text. (w : Words) × (string_bytes text ≡ lines paint.0 item.now w)) }
+    ensures { IfOk result (λ text. (w : Said) × (string_bytes text ≡ lines paint.0 item.now w)) }
 {
     let first = FirstLine {
         paint,
@@ -279,7 +296,7 @@ pub(crate) fn lines_of(
     explainer: &Explainer,
     paint: Paint,
 ) -> Result<String, AllocError>
-    ensures { IfOk result (λ text. (w : Words) × (string_bytes text ≡ lines_of paint.0 item.now w)) }
+    ensures { IfOk result (λ text. (w : Said) × (string_bytes text ≡ lines_of paint.0 item.now w)) }
 {
     if is_silent(item.taken.item) {
         return Ok(String::new(alloc));

@@ -4,8 +4,8 @@
 ghost use Rattle.std.specs.Prelude.{◌≡◌};
 ghost use Rattle.h2_explain.specs.Lines.{colour, ended, started};
 
+use h2_describe::say::Words;
 use h2_describe::say_all;
-use std::alloc::AllocError;
 
 /// What a line says.
 #[derive(Clone, Copy, Debug, PartialEq, Eq)]
@@ -52,20 +52,17 @@ impl Paint {
     }
 
     /// Begins a line at its left end.
-    pub(crate) fn start(self, role: Role, out: &mut String) -> Result<(), AllocError> {
+    pub(crate) fn start(self, role: Role, out: &mut Words) {
         say_all!(out; self.started(role));
-        Ok(())
     }
 
     /// Begins a line below the first one of an item.
-    pub(crate) fn begin(self, role: Role, out: &mut String) -> Result<(), AllocError> {
-        say_all!(out; "        ");
-        self.start(role, out)
+    pub(crate) fn begin(self, role: Role, out: &mut Words) {
+        say_all!(out; "        ", self.started(role));
     }
 
     /// Ends a line.
-    pub(crate) fn end(self, out: &mut String) -> Result<(), AllocError> {
+    pub(crate) fn end(self, out: &mut Words) {
         say_all!(out; self.ended());
-        Ok(())
     }
 }

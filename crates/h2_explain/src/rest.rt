@@ -8,14 +8,14 @@ ghost use Rattle.h2_explain.specs.Explains.{EndsLine, IsRestOf};
 ghost use Rattle.h2_explain.specs.Rest.{missing_of, rest_of};
 
 use crate::json::line_of;
+use crate::json_words::JsonWords;
 use crate::paint::{Paint, Role};
 use h2_conn::Conn;
-use h2_describe::say::Octets;
+use h2_describe::say::{Octets, Words};
 use h2_describe::say_all;
 use h2_device::{string_of, texts};
 use h2_frame::read_head;
 use h2_spec::connection::Phase;
-use serde_json::json;
 use std::alloc::{AllocError, Global};
 
 /// What the next item is.
@@ -95,28 +95,27 @@ pub(crate) fn rest_of(conn: &Conn<'_, Global>, items: u64, offset: usize, octets
 const COLUMN: usize = 8;
 
 /// Puts blanks last, up to the column of the words, two at least.
-fn say_blanks(used: usize, out: &mut String) -> Result<(), AllocError> {
+fn say_blanks(used: usize, out: &mut Words) {
     say_all!(out; "  ");
     for _place in used.saturating_add(2)..COLUMN {
         say_all!(out; " ");
     }
-    Ok(())
 }
 
 /// The line of the octets after the last item, without its end.
 fn rest_words(alloc: Global, rest: Rest, paint: Paint) -> Result<String, AllocError> {
-    let mut place = String::new(alloc);
-    say_all!(&mut place; "@", rest.offset);
-    let used = place.len();
-    say_blanks(used, &mut place)?;
-    let mut words = String::new(alloc);
-    paint.start(Role::Item, &mut words)?;
-    say_all!(&mut words; place.as_str(), Octets(rest.octets as u64));
+    let mut words = Words::new(alloc);
+    paint.start(Role::Item, &mut words);
+    let start = words.len();
+    say_all!(&mut words; "@", rest.offset);
+    let used = words.len().saturating_sub(start);
+    say_blanks(used, &mut words);
+    say_all!(&mut words; Octets(rest.octets as u64));
     match rest.ended {
         Some(_) => say_all!(&mut words; " not read"),
-        None => say_missing(rest.missing, &mut words)?,
+        None => say_missing(rest.missing, &mut words),
     }
-    Ok(words)
+    words.finish()
 }
 
 /// The line of the octets after the last item, empty if there are none.
@@ -132,32 +131,39 @@ pub(crate) fn rest_line(alloc: Global, rest: Rest, paint: Paint) -> Result<Strin
 }
 
 /// Puts last what octets lack to be an item.
-fn say_missing(missing: Missing, out: &mut String) -> Result<(), AllocError> {
+fn say_missing(missing: Missing, out: &mut Words) {
     let what = match missing.what {
         Awaited::Preface => "the connection preface",
         Awaited::Frame => "a frame",
     };
-    say_all!(out; " of ", what, ", which needs ");
-    if missing.at_least {
-        say_all!(out; "at least ");
+    let least = if missing.at_least { "at least " } else { "" };
+    say_all!(out; " of ", what, ", which needs ", least, missing.needs, " more");
+}
+
+/// Puts what is after the last item in.
+fn put_end(rest: Rest, out: &mut JsonWords) {
+    match rest.ended {
+        Some(code) => out.number("code", u64::from(code)),
+        None => out.flag("at_least", rest.missing.at_least),
     }
-    say_all!(out; missing.needs, " more");
-    Ok(())
+    out.flag("ended", rest.ended.is_some());
+    out.number("items", rest.items);
+    if rest.ended.is_none() {
+        out.number("needs", rest.missing.needs as u64);
+    }
+    out.number("octets", rest.octets as u64);
+    out.number("offset", rest.offset as u64);
 }
 
 /// The last line of JSON.
 pub(crate) fn rest_json(alloc: Global, rest: Rest) -> Result<String, AllocError>
     ensures { IfOk result (λ text. EndsLine false (string_bytes text)) }
 {
-    let end = match rest.ended {
-        Some(code) => json!(in alloc; {
-            "items": (rest.items), "offset": (rest.offset), "octets": (rest.octets),
-            "ended": true, "code": code
-        })?,
-        None => json!(in alloc; {
-            "items": (rest.items), "offset": (rest.offset), "octets": (rest.octets),
-            "ended": false, "needs": (rest.missing.needs), "at_least": (rest.missing.at_least)
-        })?,
-    };
-    line_of(alloc, json!(in alloc; {"end": end})?)
+    let mut out = JsonWords::new(alloc);
+    out.open_element();
+    out.open("end");
+    put_end(rest, &mut out);
+    out.close();
+    out.close();
+    line_of(out)
 }

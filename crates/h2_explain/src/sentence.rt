@@ -3,66 +3,56 @@
 
 use crate::error_context::ErrorContext;
 use crate::field_sentence::say_field;
-use h2_describe::say::{Fields, HexOctet, Octets};
+use h2_describe::say::{Fields, HexOctet, Octets, Words};
 use h2_describe::say_all;
 use h2_describe::spelled::Stopped;
 use h2_spec::causes::Cause;
 use h2_spec::frames::PREFACE;
 use h2_spec::streams::Kind;
-use std::alloc::AllocError;
-
-/// Whether a sentence was said.
-pub(crate) type Said = Result<bool, AllocError>;
 
 /// Puts the sentence of a cause last: with its values, or the rule alone where they are not at hand.
-pub(crate) fn say_sentence(
-    cause: Cause,
-    context: ErrorContext<'_, '_>,
-    out: &mut String,
-) -> Result<(), AllocError> {
-    let said = say_first(cause, context, out)?
-        || say_place(cause, context, out)?
-        || say_length(cause, context, out)?
-        || say_padding(cause, context, out)?
-        || say_block_place(cause, context, out)?
-        || say_state(cause, context, out)?
-        || say_closed(cause, context, out)?
-        || say_receive_window(cause, context, out)?
-        || say_send_window(cause, context, out)?
-        || say_setting(cause, context, out)?
-        || say_block(cause, context, out)?
-        || say_index(cause, context, out)?
-        || say_update(cause, context, out)?
-        || say_content(cause, context, out)?
-        || say_field(cause, context, out)?;
+pub(crate) fn say_sentence(cause: Cause, context: ErrorContext<'_, '_>, out: &mut Words) {
+    let said = say_first(cause, context, out)
+        || say_place(cause, context, out)
+        || say_length(cause, context, out)
+        || say_padding(cause, context, out)
+        || say_block_place(cause, context, out)
+        || say_state(cause, context, out)
+        || say_closed(cause, context, out)
+        || say_receive_window(cause, context, out)
+        || say_send_window(cause, context, out)
+        || say_setting(cause, context, out)
+        || say_block(cause, context, out)
+        || say_index(cause, context, out)
+        || say_update(cause, context, out)
+        || say_content(cause, context, out)
+        || say_field(cause, context, out);
     if !said {
         say_all!(out; cause.sentence());
     }
-    Ok(())
 }
 
 /// The preface and the first frame (RFC 9113, 3.4).
-fn say_first(cause: Cause, context: ErrorContext<'_, '_>, out: &mut String) -> Said {
+fn say_first(cause: Cause, context: ErrorContext<'_, '_>, out: &mut Words) -> bool {
     match cause {
-        Cause::BadPreface => say_preface(context.item.octets, out)?,
+        Cause::BadPreface => say_preface(context.item.octets, out),
         Cause::FirstNotSettings => say_all!(out;
             "the first frame is ", context.frame_type(), "; SETTINGS has to follow the preface"),
-        _ => return Ok(false),
+        _ => return false,
     }
-    Ok(true)
+    true
 }
 
 /// The octet that is not that of the preface: the last one of the item.
-fn say_preface(octets: &[u8], out: &mut String) -> Result<(), AllocError> {
+fn say_preface(octets: &[u8], out: &mut Words) {
     let place = octets.len();
     let wanted = PREFACE.get(place.saturating_sub(1)).copied().unwrap_or(0);
     let octet = octets.last().copied().unwrap_or(0);
     say_all!(out; "octet ", place, " of the connection preface is ", HexOctet(octet), ", not ", HexOctet(wanted));
-    Ok(())
 }
 
 /// Frames that are too long, and those on a stream that belong on 0 (RFC 9113, 4.2 and 6).
-fn say_place(cause: Cause, context: ErrorContext<'_, '_>, out: &mut String) -> Said {
+fn say_place(cause: Cause, context: ErrorContext<'_, '_>, out: &mut Words) -> bool {
     let kind = context.frame_type();
     let length = context.length();
     let limit = context.item.before.counts.own.frame;
@@ -73,13 +63,13 @@ fn say_place(cause: Cause, context: ErrorContext<'_, '_>, out: &mut String) -> S
             kind, " of ", Octets(length), " on stream ", context.stream(), "; this server takes ", limit),
         Cause::SettingsOnStream | Cause::PingOnStream | Cause::GoawayOnStream => say_all!(out;
             kind, " is on stream ", context.stream(), "; it has to be on 0"),
-        _ => return Ok(false),
+        _ => return false,
     }
-    Ok(true)
+    true
 }
 
 /// Payloads of a wrong length (RFC 9113, 6).
-fn say_length(cause: Cause, context: ErrorContext<'_, '_>, out: &mut String) -> Said {
+fn say_length(cause: Cause, context: ErrorContext<'_, '_>, out: &mut Words) -> bool {
     let kind = context.frame_type();
     let length = Octets(context.length());
     match cause {
@@ -95,13 +85,13 @@ fn say_length(cause: Cause, context: ErrorContext<'_, '_>, out: &mut String) -> 
             "SETTINGS with ACK has ", length, "; it has to be empty"),
         Cause::PingLength => say_all!(out; kind, " of ", length, "; it has 8"),
         Cause::GoawayLength => say_all!(out; kind, " of ", length, "; it has at least 8"),
-        _ => return Ok(false),
+        _ => return false,
     }
-    Ok(true)
+    true
 }
 
 /// Padding that is longer than what is left for it (RFC 9113, 6.1 and 6.2).
-fn say_padding(cause: Cause, context: ErrorContext<'_, '_>, out: &mut String) -> Said {
+fn say_padding(cause: Cause, context: ErrorContext<'_, '_>, out: &mut Words) -> bool {
     let length = context.length();
     match cause {
         Cause::DataPadding => say_all!(out;
@@ -110,17 +100,17 @@ fn say_padding(cause: Cause, context: ErrorContext<'_, '_>, out: &mut String) ->
         Cause::HeadersPadding => say_all!(out;
             "a Pad Length of ", context.pad(), ", with ", Octets(length.saturating_sub(context.fixed())),
             " for fragment and padding"),
-        _ => return Ok(false),
+        _ => return false,
     }
-    Ok(true)
+    true
 }
 
 /// Frames inside and outside a field block (RFC 9113, 6.10).
-fn say_block_place(cause: Cause, context: ErrorContext<'_, '_>, out: &mut String) -> Said {
+fn say_block_place(cause: Cause, context: ErrorContext<'_, '_>, out: &mut Words) -> bool {
     match cause {
         Cause::BlockInterrupted => {
             let Some(block) = context.item.before.block else {
-                return Ok(false);
+                return false;
             };
             let stream = block.stream;
             say_all!(out;
@@ -133,13 +123,13 @@ fn say_block_place(cause: Cause, context: ErrorContext<'_, '_>, out: &mut String
                 say_all!(out; " since #", context.notes.block_end);
             }
         }
-        _ => return Ok(false),
+        _ => return false,
     }
-    Ok(true)
+    true
 }
 
 /// Frames on streams that were never opened (RFC 9113, 5.1).
-fn say_state(cause: Cause, context: ErrorContext<'_, '_>, out: &mut String) -> Said {
+fn say_state(cause: Cause, context: ErrorContext<'_, '_>, out: &mut Words) -> bool {
     let stream = context.stream();
     let highest = context.item.before.counts.last;
     match cause {
@@ -155,9 +145,9 @@ fn say_state(cause: Cause, context: ErrorContext<'_, '_>, out: &mut String) -> S
             "stream ", stream, " is new and below ", highest, ", which was opened before"),
         Cause::TooManyStreams => say_all!(out;
             "as many streams are live as this server takes, ", context.config.streams),
-        _ => return Ok(false),
+        _ => return false,
     }
-    Ok(true)
+    true
 }
 
 /// How a stream closed.
@@ -170,10 +160,10 @@ fn how_closed(kind: Kind) -> &'static str {
 }
 
 /// Frames after the end of a stream (RFC 9113, 5.1).
-fn say_closed(cause: Cause, context: ErrorContext<'_, '_>, out: &mut String) -> Said {
+fn say_closed(cause: Cause, context: ErrorContext<'_, '_>, out: &mut Words) -> bool {
     let stream = context.stream();
     let Some(note) = context.note() else {
-        return Ok(false);
+        return false;
     };
     match cause {
         Cause::DataAfterEndStream | Cause::HeadersAfterEndStream => say_all!(out;
@@ -183,13 +173,13 @@ fn say_closed(cause: Cause, context: ErrorContext<'_, '_>, out: &mut String) -> 
             how_closed(context.item.before.stream.kind)),
         Cause::TrailersWithoutEndStream => say_all!(out;
             "a second HEADERS on stream ", stream, " has to have END_STREAM"),
-        _ => return Ok(false),
+        _ => return false,
     }
-    Ok(true)
+    true
 }
 
 /// DATA above a receive window (RFC 9113, 6.9.1).
-fn say_receive_window(cause: Cause, context: ErrorContext<'_, '_>, out: &mut String) -> Said {
+fn say_receive_window(cause: Cause, context: ErrorContext<'_, '_>, out: &mut Words) -> bool {
     let before = &context.item.before;
     let arrived = Octets(context.length());
     match cause {
@@ -199,13 +189,13 @@ fn say_receive_window(cause: Cause, context: ErrorContext<'_, '_>, out: &mut Str
         Cause::StreamWindowExceeded => say_all!(out;
             "the window of stream ", context.stream(), " is ",
             i64::from(before.stream.numbers.recv.value()), ", ", arrived, " arrived"),
-        _ => return Ok(false),
+        _ => return false,
     }
-    Ok(true)
+    true
 }
 
 /// WINDOW_UPDATE by 0, or by too much (RFC 9113, 6.9 and 6.9.1).
-fn say_send_window(cause: Cause, context: ErrorContext<'_, '_>, out: &mut String) -> Said {
+fn say_send_window(cause: Cause, context: ErrorContext<'_, '_>, out: &mut Words) -> bool {
     let before = &context.item.before;
     let increment = context.increment();
     match cause {
@@ -219,9 +209,9 @@ fn say_send_window(cause: Cause, context: ErrorContext<'_, '_>, out: &mut String
             "the send window of stream ", context.stream(), ", ",
             i64::from(before.stream.numbers.send.value()), ", and ", increment,
             " is above 2147483647"),
-        _ => return Ok(false),
+        _ => return false,
     }
-    Ok(true)
+    true
 }
 
 /// Whether a setting is one that a cause refuses.
@@ -248,9 +238,9 @@ fn refused_setting(cause: Cause, context: ErrorContext<'_, '_>) -> Option<(usize
 }
 
 /// Settings (RFC 9113, 6.5.2 and 6.9.2).
-fn say_setting(cause: Cause, context: ErrorContext<'_, '_>, out: &mut String) -> Said {
+fn say_setting(cause: Cause, context: ErrorContext<'_, '_>, out: &mut Words) -> bool {
     let Some((place, value)) = refused_setting(cause, context) else {
-        return Ok(false);
+        return false;
     };
     match cause {
         Cause::EnablePushValue => say_all!(out;
@@ -265,13 +255,13 @@ fn say_setting(cause: Cause, context: ErrorContext<'_, '_>, out: &mut String) ->
             "setting ", place, ", SETTINGS_INITIAL_WINDOW_SIZE from ",
             context.item.before.counts.peer.window, " to ", value,
             ", takes the send window of a stream above 2147483647"),
-        _ => return Ok(false),
+        _ => return false,
     }
-    Ok(true)
+    true
 }
 
 /// Sizes and ends of field blocks (RFC 9113, 4.3 and 10.5.1).
-fn say_block(cause: Cause, context: ErrorContext<'_, '_>, out: &mut String) -> Said {
+fn say_block(cause: Cause, context: ErrorContext<'_, '_>, out: &mut Words) -> bool {
     match cause {
         Cause::BlockTooLarge => {
             let before = context.item.before.block.map_or(0, |block| block.octets);
@@ -284,42 +274,42 @@ fn say_block(cause: Cause, context: ErrorContext<'_, '_>, out: &mut String) -> S
             Octets(context.reader.cut() as u64), " came"),
         Cause::ListTooLarge => say_all!(out;
             "a list of fields of ", context.reader.size(), " octets or more; this server takes 65536"),
-        _ => return Ok(false),
+        _ => return false,
     }
-    Ok(true)
+    true
 }
 
 /// Indexes (RFC 7541, 2.3.3 and 6.1).
-fn say_index(cause: Cause, context: ErrorContext<'_, '_>, out: &mut String) -> Said {
+fn say_index(cause: Cause, context: ErrorContext<'_, '_>, out: &mut Words) -> bool {
     match cause {
         Cause::IndexZero => say_all!(out; "an indexed field of index 0"),
         Cause::IndexOutOfTables => {
             let Some(Stopped::Index(index)) = context.reader.stopped() else {
-                return Ok(false);
+                return false;
             };
             say_all!(out;
                 "index ", index, "; both tables end at ", context.reader.highest_index());
         }
-        _ => return Ok(false),
+        _ => return false,
     }
-    Ok(true)
+    true
 }
 
 /// Table size updates (RFC 7541, 4.2 and 6.3; RFC 9113, 4.3.1).
-fn say_update(cause: Cause, context: ErrorContext<'_, '_>, out: &mut String) -> Said {
+fn say_update(cause: Cause, context: ErrorContext<'_, '_>, out: &mut Words) -> bool {
     let limit = context.item.before.counts.own.table;
     match cause {
         Cause::SizeUpdateMissing => {
             say_all!(out;
                 "the limit of the header table is ", limit, " and its maximum ",
                 context.item.before.table_max, ": the block has to begin with a table size update");
-            return Ok(true);
+            return true;
         }
         Cause::SizeUpdateLate | Cause::SizeUpdateTooLarge => {}
-        _ => return Ok(false),
+        _ => return false,
     }
     let Some(Stopped::Update(size)) = context.reader.stopped() else {
-        return Ok(false);
+        return false;
     };
     if cause == Cause::SizeUpdateLate {
         say_all!(out;
@@ -328,7 +318,7 @@ fn say_update(cause: Cause, context: ErrorContext<'_, '_>, out: &mut String) -> 
     } else {
         say_all!(out; "a table size update to ", size, "; the limit is ", limit);
     }
-    Ok(true)
+    true
 }
 
 /// How many octets of content a request has once DATA has come: those before it, and those of its payload without
@@ -350,16 +340,16 @@ fn content_of(frame: h2_frame::FrameRef<'_>) -> u64 {
 }
 
 /// Content beside its content-length (RFC 9113, 8.1.1).
-fn say_content(cause: Cause, context: ErrorContext<'_, '_>, out: &mut String) -> Said {
+fn say_content(cause: Cause, context: ErrorContext<'_, '_>, out: &mut Words) -> bool {
     let Some(declared) = context.item.before.stream.numbers.declared else {
-        return Ok(false);
+        return false;
     };
     match cause {
         Cause::ContentTooLong => say_all!(out;
             "content-length is ", declared, ", ", Octets(received(context)), " came"),
         Cause::ContentTooShort => say_all!(out;
             "content-length is ", declared, ", the stream ended after ", received(context)),
-        _ => return Ok(false),
+        _ => return false,
     }
-    Ok(true)
+    true
 }

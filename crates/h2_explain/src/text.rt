@@ -6,7 +6,7 @@ use crate::item::Explained;
 use crate::paint::{Paint, Role};
 use h2_describe::frame_words::{say_frame, say_head};
 use h2_describe::names::kind_name;
-use h2_describe::say::{Octets, Say, Text};
+use h2_describe::say::{Octets, Text, Words};
 use h2_describe::say_all;
 use h2_describe::sent::{first_of, next_frame};
 use h2_describe::spelled::{BlockReader, SpelledField, Spelling};
@@ -16,22 +16,21 @@ use h2_spec::frames::{FrameType, ItemHead};
 use std::alloc::{AllocError, Global};
 
 /// Puts the item in words last.
-pub(crate) fn say_item(item: &Explained<'_>, out: &mut String) -> Result<(), AllocError> {
+pub(crate) fn say_item(item: &Explained<'_>, out: &mut Words) {
     match item.taken.item {
         ItemHead::Preface => say_all!(out; "the connection preface"),
         ItemHead::BadPreface => say_all!(out;
             Octets(item.octets.len() as u64), " instead of the connection preface"),
         ItemHead::Oversize(head) => {
-            say_head(&head, out)?;
+            say_head(&head, out);
             say_all!(out; ", ", Octets(u64::from(head.length)), "; only its head is read");
         }
         ItemHead::Frame(_) => {
             if let Some(frame) = item.frame() {
-                say_frame(frame, out)?;
+                say_frame(frame, out);
             }
         }
     }
-    Ok(())
 }
 
 /// What becomes of a literal field.
@@ -48,7 +47,7 @@ fn string_name(huffman: bool) -> &'static str {
 }
 
 /// Puts last how a field was spelled.
-fn say_spelling(spelling: Spelling, out: &mut String) -> Result<(), AllocError> {
+fn say_spelling(spelling: Spelling, out: &mut Words) {
     match spelling {
         Spelling::Indexed(index) => say_all!(out; "index ", index),
         Spelling::Literal(mode, Some(index), _, huffman) => say_all!(out;
@@ -56,167 +55,142 @@ fn say_spelling(spelling: Spelling, out: &mut String) -> Result<(), AllocError> 
         Spelling::Literal(mode, None, name, value) => say_all!(out;
             mode_name(mode), ", name ", string_name(name), ", value ", string_name(value)),
     }
-    Ok(())
 }
 
 /// How many octets of a long text are shown.
 const SHOWN: usize = 100;
 
 /// Puts the first octets of a text last, and how many it has where not all are shown.
-fn say_cut(octets: &[u8], out: &mut String) -> Result<(), AllocError> {
+fn say_cut(octets: &[u8], out: &mut Words) {
     say_all!(out; Text(first_of(octets, SHOWN)));
     if octets.len() > SHOWN {
         say_all!(out; ".. of ", Octets(octets.len() as u64));
     }
-    Ok(())
 }
 
 /// Puts the line of a field last.
-fn say_field(field: &SpelledField, paint: Paint, out: &mut String) -> Result<(), AllocError> {
-    paint.begin(Role::Field, out)?;
+fn say_field(field: &SpelledField, paint: Paint, out: &mut Words) {
+    paint.begin(Role::Field, out);
     say_all!(out; "field ");
-    say_cut(field.name.as_slice(), out)?;
+    say_cut(field.name.as_slice(), out);
     say_all!(out; ": \"");
-    say_cut(field.value.as_slice(), out)?;
+    say_cut(field.value.as_slice(), out);
     say_all!(out; "\" (");
-    say_spelling(field.spelling, out)?;
+    say_spelling(field.spelling, out);
     say_all!(out; ")");
-    paint.end(out)
+    paint.end(out);
 }
 
 /// Puts the lines of a block's table size updates last.
-fn say_updates(reader: &BlockReader, paint: Paint, out: &mut String) -> Result<(), AllocError> {
+fn say_updates(reader: &BlockReader, paint: Paint, out: &mut Words) {
     for max in reader.updates() {
-        paint.begin(Role::Field, out)?;
+        paint.begin(Role::Field, out);
         say_all!(out; "table size update to ", *max);
-        paint.end(out)?;
+        paint.end(out);
     }
-    Ok(())
 }
 
 /// Puts the lines of a block's updates and fields last.
-pub(crate) fn say_fields(
-    reader: &BlockReader,
-    paint: Paint,
-    out: &mut String,
-) -> Result<(), AllocError> {
-    say_updates(reader, paint, out)?;
+pub(crate) fn say_fields(reader: &BlockReader, paint: Paint, out: &mut Words) {
+    say_updates(reader, paint, out);
     for field in reader.fields() {
-        say_field(field, paint, out)?;
+        say_field(field, paint, out);
     }
-    Ok(())
-}
-
-/// Puts the line of a frame that was sent last, and those of its fields.
-fn say_sent_frame(
-    alloc: Global,
-    frame: FrameRef<'_>,
-    paint: Paint,
-    out: &mut String,
-) -> Result<(), AllocError> {
-    paint.begin(Role::Sent, out)?;
-    say_all!(out; "sent ");
-    say_frame(frame, out)?;
-    paint.end(out)?;
-    if frame.head.frame_type() == FrameType::Headers {
-        say_answer(alloc, frame.payload, paint, out)?;
-    }
-    Ok(())
-}
-
-/// Puts the lines of the frames that were sent last.
-pub(crate) fn say_sent(
-    alloc: Global,
-    sent: &[u8],
-    paint: Paint,
-    out: &mut String,
-) -> Result<(), AllocError> {
-    let mut rest = sent;
-    for _frame in 0..sent.len() {
-        let Some((frame, after)) = next_frame(rest) else {
-            return Ok(());
-        };
-        rest = after;
-        say_sent_frame(alloc, frame, paint, out)?;
-    }
-    Ok(())
 }
 
 /// The most octets of a header table, as this server takes it; an answer enters no field into one.
 const ANSWER_TABLE: u32 = 4096;
 
-/// Puts the lines of the fields of an answer last.
-fn say_answer(
-    alloc: Global,
-    block: &[u8],
-    paint: Paint,
-    out: &mut String,
-) -> Result<(), AllocError> {
+/// The fields of an answer.
+fn read_answer(alloc: Global, block: &[u8]) -> Result<BlockReader, AllocError> {
     let mut reader = BlockReader::new(alloc, ANSWER_TABLE)?;
     reader.read(alloc, block)?;
-    say_fields(&reader, paint, out)
+    Ok(reader)
+}
+
+/// Puts the lines of the fields of an answer last.
+fn say_answer(alloc: Global, block: &[u8], paint: Paint, out: &mut Words) {
+    match read_answer(alloc, block) {
+        Ok(reader) => say_fields(&reader, paint, out),
+        Err(_) => out.refuse(),
+    }
+}
+
+/// Puts the line of a frame that was sent last, and those of its fields.
+fn say_sent_frame(alloc: Global, frame: FrameRef<'_>, paint: Paint, out: &mut Words) {
+    paint.begin(Role::Sent, out);
+    say_all!(out; "sent ");
+    say_frame(frame, out);
+    paint.end(out);
+    if frame.head.frame_type() == FrameType::Headers {
+        say_answer(alloc, frame.payload, paint, out);
+    }
+}
+
+/// Puts the lines of the frames that were sent last.
+pub(crate) fn say_sent(alloc: Global, sent: &[u8], paint: Paint, out: &mut Words) {
+    let mut rest = sent;
+    for _frame in 0..sent.len() {
+        let Some((frame, after)) = next_frame(rest) else {
+            return;
+        };
+        rest = after;
+        say_sent_frame(alloc, frame, paint, out);
+    }
 }
 
 /// Puts a limit last, `none` where there is none.
-fn say_limit(value: i64, out: &mut String) -> Result<(), AllocError> {
+fn say_limit(value: i64, out: &mut Words) {
     if value == -1 {
-        out.push_str("none")
+        say_all!(out; "none");
     } else {
-        value.say(out)
+        say_all!(out; value);
     }
 }
 
-fn say_window(whose: &str, value: i64, out: &mut String) -> Result<(), AllocError> {
+fn say_window(whose: &str, value: i64, out: &mut Words) {
     say_all!(out; whose, " send window is ", value);
-    Ok(())
 }
 
 /// Puts last why a body is not sent to its end: the windows that are spent.
-fn say_spent(own: i64, connection: i64, out: &mut String) -> Result<(), AllocError> {
+fn say_spent(own: i64, connection: i64, out: &mut Words) {
     if own <= 0 {
         say_all!(out; ": ");
-        say_window("its", own, out)?;
+        say_window("its", own, out);
     }
     if connection <= 0 {
         say_all!(out; if own <= 0 { ", and " } else { ": " });
-        say_window("the connection's", connection, out)?;
+        say_window("the connection's", connection, out);
     }
-    Ok(())
 }
 
 /// Puts a change last.
-fn say_change(change: &Change, out: &mut String) -> Result<(), AllocError> {
+fn say_change(change: &Change, out: &mut Words) {
     match change {
         Change::Number(stream, what, before, after) => {
             if *stream != 0 {
                 say_all!(out; "stream ", *stream, ": ");
             }
             say_all!(out; what.name(), " ");
-            say_limit(*before, out)?;
+            say_limit(*before, out);
             say_all!(out; " -> ");
-            say_limit(*after, out)?;
+            say_limit(*after, out);
         }
         Change::State(stream, before, after) => say_all!(out;
             "stream ", *stream, ": ", kind_name(*before), " -> ", kind_name(*after)),
         Change::Acknowledged(_, _) => say_all!(out; "the server's settings are acknowledged"),
         Change::Stops(stream, remaining, own, connection) => {
             say_all!(out; "stream ", *stream, ": ", Octets(*remaining), " of its body remain");
-            say_spent(*own, *connection, out)?;
+            say_spent(*own, *connection, out);
         }
     }
-    Ok(())
 }
 
 /// Puts the lines of changes last.
-pub(crate) fn say_changes(
-    changes: &[Change],
-    paint: Paint,
-    out: &mut String,
-) -> Result<(), AllocError> {
+pub(crate) fn say_changes(changes: &[Change], paint: Paint, out: &mut Words) {
     for change in changes {
-        paint.begin(Role::Change, out)?;
-        say_change(change, out)?;
-        paint.end(out)?;
+        paint.begin(Role::Change, out);
+        say_change(change, out);
+        paint.end(out);
     }
-    Ok(())
 }

@@ -25,7 +25,6 @@ use std::mem;
 
 /// A decoder of one field block: the fields so far, the octets that begin an instruction and do not end it, the fault,
 /// if there was one, and the ticks.
-#[derive(Drop)]
 pub struct BlockDecoder<A: Allocator> {
     collected: Collected<A>,
     fields: Vec<Field<A>, A>,
@@ -43,6 +42,19 @@ impl<A: Allocator> Model for BlockDecoder<A> {
     ghost view = { λ d. record { fields = d.collected.fields; due = d.collected.due; outcome = outcome_of d.rest d.fault; ticks = d.ticks } };
 
     ghost invariant = { λ d. (d.fields.items ≡ d.collected.fields) × CanRemain d.rest d.fault };
+}
+
+/// By hand, so that a function that drops one makes one call, where a derived `Drop` would drop each part there.
+impl<A: Allocator> Drop for BlockDecoder<A> {
+    fn drop(self) {
+        let Self {
+            collected: _,
+            fields: _,
+            rest: _,
+            fault: _,
+            ticks: _,
+        } = self;
+    }
 }
 
 impl<A: Allocator + Copy> BlockDecoder<A> {

@@ -37,7 +37,7 @@ const MAX_KEPT_MARKS: usize = 512;
 
 /// The fields of a block so far, what each can be malformed for by itself, their size together, and whether the block
 /// must still begin with a table size update (RFC 7541, 4.2).
-#[derive(Drop, Debug)]
+#[derive(Debug)]
 pub struct Collected<A: Allocator> {
     /// The first fields.
     shared: Batches<A>,
@@ -61,6 +61,20 @@ impl<A: Allocator> Model for Collected<A> {
     ghost view = { λ c. record { fields = c.shared ++ c.list.fields; due = c.due } };
 
     ghost invariant = { λ c. (c.size ≡ list_size (c.shared ++ c.list.fields)) × (c.marks.items ≡ map mark_of c.list.fields) };
+}
+
+/// By hand, so that a function that drops one makes one call, where a derived `Drop` would drop each part there.
+impl<A: Allocator> Drop for Collected<A> {
+    fn drop(self) {
+        let Self {
+            shared: _,
+            list: _,
+            marks: _,
+            hints: _,
+            size: _,
+            due: _,
+        } = self;
+    }
 }
 
 /// A place in a field block to which `Collected::restore` goes back; plain data.

@@ -1,320 +1,127 @@
 -- What is said of each cause: its name, the section that has the rule, whether that demands the error, and a sentence.
-use Rattle.std.specs.Prelude.{ℕ, Bool, true, false, List, codes}
+use Rattle.std.specs.Prelude.{ℕ, Bool, true, false, List, [], ◌∷◌, codes}
+use Rattle.std.specs.Borrow.{Bor}
 use Rattle.h2_spec.specs.declared.causes.Cause.{Cause}
 use Rattle.h2_spec.specs.declared.causes.Cause.TheVariants.{BadPreface, FirstNotSettings, FirstIsSettingsAck, FrameTooLarge, StreamFrameTooLarge, BlockInterrupted, DataOnStreamZero, HeadersOnStreamZero, PriorityOnStreamZero, RstStreamOnStreamZero, ContinuationOnStreamZero, SettingsOnStream, PingOnStream, GoawayOnStream, DataLength, HeadersLength, PriorityLength, RstStreamLength, SettingsLength, SettingsAckLength, PingLength, GoawayLength, WindowUpdateLength, DataPadding, HeadersPadding, PushPromiseFromClient, ContinuationOutsideBlock, DataOnIdle, DataOnSkipped, DataAfterEndStream, DataOnClosed, HeadersOnEven, HeadersOnSkipped, HeadersAfterEndStream, HeadersOnClosed, RstStreamOnIdle, WindowUpdateOnIdle, ConnectionWindowExceeded, StreamWindowExceeded, ConnectionIncrementZero, StreamIncrementZero, ConnectionWindowOverflow, StreamWindowOverflow, EnablePushValue, InitialWindowSizeValue, MaxFrameSizeValue, InitialWindowSizeOverflow, BlockTooLarge, BlockTruncated, IntegerTooLong, IndexZero, IndexOutOfTables, HuffmanString, SizeUpdateLate, SizeUpdateTooLarge, SizeUpdateMissing, TooManyStreams, ListTooLarge, BadName, BadValue, LatePseudoField, UnknownPseudoField, DoublePseudoField, LackingPseudoField, ConnectionField, BadTe, BadContentLength, ContentMissing, ContentTooLong, ContentTooShort, TrailersWithoutEndStream, TrailersBadName, TrailersBadValue, TrailersPseudoField, TrailersConnectionField, TrailersBadTe}
 
--- the name, by which documents, examples and outputs call it
+-- its name, by which documents, examples and outputs call it; the section of RFC 9113 or RFC 7541 that has the rule; the
+-- rule in a sentence
+pub record Row : Type 0 where
+  pub name : List ℕ
+  pub section : List ℕ
+  pub sentence : List ℕ
+
+-- what is said of each cause
+unfoldable pub row_of : Cause → Row
+row_of BadPreface = record { name = codes "bad-preface"; section = codes "RFC 9113 3.4"; sentence = codes "the octets are not the connection preface" }
+row_of FirstNotSettings = record { name = codes "first-not-settings"; section = codes "RFC 9113 3.4"; sentence = codes "the first frame behind the preface has to be SETTINGS" }
+row_of FirstIsSettingsAck = record { name = codes "first-is-settings-ack"; section = codes "RFC 9113 3.4"; sentence = codes "the first SETTINGS is the client's own and has no ACK" }
+row_of FrameTooLarge = record { name = codes "frame-too-large"; section = codes "RFC 9113 4.2"; sentence = codes "the frame is longer than this server takes" }
+row_of StreamFrameTooLarge = record { name = codes "stream-frame-too-large"; section = codes "RFC 9113 4.2"; sentence = codes "the frame is longer than this server takes" }
+row_of BlockInterrupted = record { name = codes "block-interrupted"; section = codes "RFC 9113 6.10"; sentence = codes "while a field block is open, only CONTINUATION on its stream may follow" }
+row_of DataOnStreamZero = record { name = codes "data-on-stream-zero"; section = codes "RFC 9113 6.1"; sentence = codes "DATA has to be on a stream, not on 0" }
+row_of HeadersOnStreamZero = record { name = codes "headers-on-stream-zero"; section = codes "RFC 9113 6.2"; sentence = codes "HEADERS has to be on a stream, not on 0" }
+row_of PriorityOnStreamZero = record { name = codes "priority-on-stream-zero"; section = codes "RFC 9113 6.3"; sentence = codes "PRIORITY has to be on a stream, not on 0" }
+row_of RstStreamOnStreamZero = record { name = codes "rst-stream-on-stream-zero"; section = codes "RFC 9113 6.4"; sentence = codes "RST_STREAM has to be on a stream, not on 0" }
+row_of ContinuationOnStreamZero = record { name = codes "continuation-on-stream-zero"; section = codes "RFC 9113 6.10"; sentence = codes "CONTINUATION has to be on a stream, not on 0" }
+row_of SettingsOnStream = record { name = codes "settings-on-stream"; section = codes "RFC 9113 6.5"; sentence = codes "SETTINGS has to be on stream 0" }
+row_of PingOnStream = record { name = codes "ping-on-stream"; section = codes "RFC 9113 6.7"; sentence = codes "PING has to be on stream 0" }
+row_of GoawayOnStream = record { name = codes "goaway-on-stream"; section = codes "RFC 9113 6.8"; sentence = codes "GOAWAY has to be on stream 0" }
+row_of DataLength = record { name = codes "data-length"; section = codes "RFC 9113 4.2"; sentence = codes "DATA with PADDED has no octet for the Pad Length" }
+row_of HeadersLength = record { name = codes "headers-length"; section = codes "RFC 9113 4.2"; sentence = codes "HEADERS is too short for what its flags announce" }
+row_of PriorityLength = record { name = codes "priority-length"; section = codes "RFC 9113 6.3"; sentence = codes "PRIORITY has to have 5 octets" }
+row_of RstStreamLength = record { name = codes "rst-stream-length"; section = codes "RFC 9113 6.4"; sentence = codes "RST_STREAM has to have 4 octets" }
+row_of SettingsLength = record { name = codes "settings-length"; section = codes "RFC 9113 6.5"; sentence = codes "the length of SETTINGS has to be a multiple of 6" }
+row_of SettingsAckLength = record { name = codes "settings-ack-length"; section = codes "RFC 9113 6.5"; sentence = codes "SETTINGS with ACK has to be empty" }
+row_of PingLength = record { name = codes "ping-length"; section = codes "RFC 9113 6.7"; sentence = codes "PING has to have 8 octets" }
+row_of GoawayLength = record { name = codes "goaway-length"; section = codes "RFC 9113 4.2"; sentence = codes "GOAWAY has to have 8 octets or more" }
+row_of WindowUpdateLength = record { name = codes "window-update-length"; section = codes "RFC 9113 6.9"; sentence = codes "WINDOW_UPDATE has to have 4 octets" }
+row_of DataPadding = record { name = codes "data-padding"; section = codes "RFC 9113 6.1"; sentence = codes "the padding of DATA is longer than the rest of its payload" }
+row_of HeadersPadding = record { name = codes "headers-padding"; section = codes "RFC 9113 6.2"; sentence = codes "the padding of HEADERS is longer than the rest of its payload" }
+row_of PushPromiseFromClient = record { name = codes "push-promise-from-client"; section = codes "RFC 9113 8.4"; sentence = codes "a client can't push: PUSH_PROMISE may not be sent to a server" }
+row_of ContinuationOutsideBlock = record { name = codes "continuation-outside-block"; section = codes "RFC 9113 6.10"; sentence = codes "no field block is open that CONTINUATION could continue" }
+row_of DataOnIdle = record { name = codes "data-on-idle"; section = codes "RFC 9113 5.1"; sentence = codes "the stream is idle: only HEADERS opens it" }
+row_of DataOnSkipped = record { name = codes "data-on-skipped"; section = codes "RFC 9113 5.1"; sentence = codes "the stream was closed, unused, when a higher one was opened" }
+row_of DataAfterEndStream = record { name = codes "data-after-end-stream"; section = codes "RFC 9113 5.1"; sentence = codes "the client has already ended this stream by END_STREAM" }
+row_of DataOnClosed = record { name = codes "data-on-closed"; section = codes "RFC 9113 5.1"; sentence = codes "the stream is closed" }
+row_of HeadersOnEven = record { name = codes "headers-on-even"; section = codes "RFC 9113 5.1.1"; sentence = codes "a client opens streams with odd identifiers" }
+row_of HeadersOnSkipped = record { name = codes "headers-on-skipped"; section = codes "RFC 9113 5.1.1"; sentence = codes "a new stream has to have a higher identifier than all streams before" }
+row_of HeadersAfterEndStream = record { name = codes "headers-after-end-stream"; section = codes "RFC 9113 5.1"; sentence = codes "the client has already ended this stream by END_STREAM" }
+row_of HeadersOnClosed = record { name = codes "headers-on-closed"; section = codes "RFC 9113 5.1"; sentence = codes "the stream is closed" }
+row_of RstStreamOnIdle = record { name = codes "rst-stream-on-idle"; section = codes "RFC 9113 6.4"; sentence = codes "an idle stream can't be reset" }
+row_of WindowUpdateOnIdle = record { name = codes "window-update-on-idle"; section = codes "RFC 9113 5.1"; sentence = codes "the stream is idle: it has no window yet" }
+row_of ConnectionWindowExceeded = record { name = codes "connection-window-exceeded"; section = codes "RFC 9113 6.9.1"; sentence = codes "DATA is longer than the connection's receive window" }
+row_of StreamWindowExceeded = record { name = codes "stream-window-exceeded"; section = codes "RFC 9113 6.9.1"; sentence = codes "DATA is longer than the stream's receive window" }
+row_of ConnectionIncrementZero = record { name = codes "connection-increment-zero"; section = codes "RFC 9113 6.9"; sentence = codes "the increment of WINDOW_UPDATE has to be 1 or more" }
+row_of StreamIncrementZero = record { name = codes "stream-increment-zero"; section = codes "RFC 9113 6.9"; sentence = codes "the increment of WINDOW_UPDATE has to be 1 or more" }
+row_of ConnectionWindowOverflow = record { name = codes "connection-window-overflow"; section = codes "RFC 9113 6.9.1"; sentence = codes "the connection's send window would be above 2147483647" }
+row_of StreamWindowOverflow = record { name = codes "stream-window-overflow"; section = codes "RFC 9113 6.9.1"; sentence = codes "the stream's send window would be above 2147483647" }
+row_of EnablePushValue = record { name = codes "enable-push-value"; section = codes "RFC 9113 6.5.2"; sentence = codes "SETTINGS_ENABLE_PUSH has to be 0 or 1" }
+row_of InitialWindowSizeValue = record { name = codes "initial-window-size-value"; section = codes "RFC 9113 6.5.2"; sentence = codes "SETTINGS_INITIAL_WINDOW_SIZE has to be 2147483647 or less" }
+row_of MaxFrameSizeValue = record { name = codes "max-frame-size-value"; section = codes "RFC 9113 6.5.2"; sentence = codes "SETTINGS_MAX_FRAME_SIZE has to be 16384 to 16777215" }
+row_of InitialWindowSizeOverflow = record { name = codes "initial-window-size-overflow"; section = codes "RFC 9113 6.9.2"; sentence = codes "SETTINGS_INITIAL_WINDOW_SIZE takes a stream's send window above 2147483647" }
+row_of BlockTooLarge = record { name = codes "block-too-large"; section = codes "RFC 9113 10.5.1"; sentence = codes "the fragments of the field block have more than 65536 octets" }
+row_of BlockTruncated = record { name = codes "block-truncated"; section = codes "RFC 9113 4.3"; sentence = codes "the field block ends inside an instruction" }
+row_of IntegerTooLong = record { name = codes "integer-too-long"; section = codes "RFC 7541 5.1"; sentence = codes "an integer has more than five continuation octets" }
+row_of IndexZero = record { name = codes "index-zero"; section = codes "RFC 7541 6.1"; sentence = codes "an indexed field has the index 0" }
+row_of IndexOutOfTables = record { name = codes "index-out-of-tables"; section = codes "RFC 7541 2.3.3"; sentence = codes "an index is beyond the end of both tables" }
+row_of HuffmanString = record { name = codes "huffman-string"; section = codes "RFC 7541 5.2"; sentence = codes "a Huffman string contains EOS, or its padding is longer than 7 bits or has a 0 in it" }
+row_of SizeUpdateLate = record { name = codes "size-update-late"; section = codes "RFC 7541 4.2"; sentence = codes "a table size update may only be at the beginning of a field block" }
+row_of SizeUpdateTooLarge = record { name = codes "size-update-too-large"; section = codes "RFC 7541 6.3"; sentence = codes "a table size update is above the limit of the table" }
+row_of SizeUpdateMissing = record { name = codes "size-update-missing"; section = codes "RFC 9113 4.3.1"; sentence = codes "the limit of the table is lower now: the field block has to begin with a table size update" }
+row_of TooManyStreams = record { name = codes "too-many-streams"; section = codes "RFC 9113 5.1.2"; sentence = codes "as many streams are open as this server allows" }
+row_of ListTooLarge = record { name = codes "list-too-large"; section = codes "RFC 9113 10.5.1"; sentence = codes "the list of fields has more than 65536 octets" }
+row_of BadName = record { name = codes "bad-name"; section = codes "RFC 9113 8.2.1"; sentence = codes "the name of a field is empty or has an octet that names may not have" }
+row_of BadValue = record { name = codes "bad-value"; section = codes "RFC 9113 8.2.1"; sentence = codes "the value of a field has an octet that values may not have, or a blank at an end" }
+row_of LatePseudoField = record { name = codes "late-pseudo-field"; section = codes "RFC 9113 8.3"; sentence = codes "a pseudo-field is behind a regular field" }
+row_of UnknownPseudoField = record { name = codes "unknown-pseudo-field"; section = codes "RFC 9113 8.3"; sentence = codes "a pseudo-field is not one of a request" }
+row_of DoublePseudoField = record { name = codes "double-pseudo-field"; section = codes "RFC 9113 8.3"; sentence = codes "a pseudo-field is there twice" }
+row_of LackingPseudoField = record { name = codes "lacking-pseudo-field"; section = codes "RFC 9113 8.3.1"; sentence = codes "a pseudo-field is missing or empty, or CONNECT has one that it may not have" }
+row_of ConnectionField = record { name = codes "connection-field"; section = codes "RFC 9113 8.2.2"; sentence = codes "a field belongs to HTTP/1.1 connections" }
+row_of BadTe = record { name = codes "bad-te"; section = codes "RFC 9113 8.2.2"; sentence = codes "te has another value than trailers" }
+row_of BadContentLength = record { name = codes "bad-content-length"; section = codes "RFC 9113 8.1.1"; sentence = codes "content-length is not 1 to 18 digits, or is there twice with different numbers" }
+row_of ContentMissing = record { name = codes "content-missing"; section = codes "RFC 9113 8.1.1"; sentence = codes "the request ends with its fields and declares content" }
+row_of ContentTooLong = record { name = codes "content-too-long"; section = codes "RFC 9113 8.1.1"; sentence = codes "the content is longer than content-length declares" }
+row_of ContentTooShort = record { name = codes "content-too-short"; section = codes "RFC 9113 8.1.1"; sentence = codes "the content is shorter than content-length declares" }
+row_of TrailersWithoutEndStream = record { name = codes "trailers-without-end-stream"; section = codes "RFC 9113 8.1"; sentence = codes "trailers have to end the stream by END_STREAM" }
+row_of TrailersBadName = record { name = codes "trailers-bad-name"; section = codes "RFC 9113 8.2.1"; sentence = codes "the name of a trailer is empty or has an octet that names may not have" }
+row_of TrailersBadValue = record { name = codes "trailers-bad-value"; section = codes "RFC 9113 8.2.1"; sentence = codes "the value of a trailer has an octet that values may not have, or a blank at an end" }
+row_of TrailersPseudoField = record { name = codes "trailers-pseudo-field"; section = codes "RFC 9113 8.1"; sentence = codes "trailers may not have a pseudo-field" }
+row_of TrailersConnectionField = record { name = codes "trailers-connection-field"; section = codes "RFC 9113 8.2.2"; sentence = codes "a trailer belongs to HTTP/1.1 connections" }
+row_of TrailersBadTe = record { name = codes "trailers-bad-te"; section = codes "RFC 9113 8.2.2"; sentence = codes "te, in the trailers, has another value than trailers" }
+
 abbrev pub cause_name : Cause → List ℕ
-cause_name BadPreface = codes "bad-preface"
-cause_name FirstNotSettings = codes "first-not-settings"
-cause_name FirstIsSettingsAck = codes "first-is-settings-ack"
-cause_name FrameTooLarge = codes "frame-too-large"
-cause_name StreamFrameTooLarge = codes "stream-frame-too-large"
-cause_name BlockInterrupted = codes "block-interrupted"
-cause_name DataOnStreamZero = codes "data-on-stream-zero"
-cause_name HeadersOnStreamZero = codes "headers-on-stream-zero"
-cause_name PriorityOnStreamZero = codes "priority-on-stream-zero"
-cause_name RstStreamOnStreamZero = codes "rst-stream-on-stream-zero"
-cause_name ContinuationOnStreamZero = codes "continuation-on-stream-zero"
-cause_name SettingsOnStream = codes "settings-on-stream"
-cause_name PingOnStream = codes "ping-on-stream"
-cause_name GoawayOnStream = codes "goaway-on-stream"
-cause_name DataLength = codes "data-length"
-cause_name HeadersLength = codes "headers-length"
-cause_name PriorityLength = codes "priority-length"
-cause_name RstStreamLength = codes "rst-stream-length"
-cause_name SettingsLength = codes "settings-length"
-cause_name SettingsAckLength = codes "settings-ack-length"
-cause_name PingLength = codes "ping-length"
-cause_name GoawayLength = codes "goaway-length"
-cause_name WindowUpdateLength = codes "window-update-length"
-cause_name DataPadding = codes "data-padding"
-cause_name HeadersPadding = codes "headers-padding"
-cause_name PushPromiseFromClient = codes "push-promise-from-client"
-cause_name ContinuationOutsideBlock = codes "continuation-outside-block"
-cause_name DataOnIdle = codes "data-on-idle"
-cause_name DataOnSkipped = codes "data-on-skipped"
-cause_name DataAfterEndStream = codes "data-after-end-stream"
-cause_name DataOnClosed = codes "data-on-closed"
-cause_name HeadersOnEven = codes "headers-on-even"
-cause_name HeadersOnSkipped = codes "headers-on-skipped"
-cause_name HeadersAfterEndStream = codes "headers-after-end-stream"
-cause_name HeadersOnClosed = codes "headers-on-closed"
-cause_name RstStreamOnIdle = codes "rst-stream-on-idle"
-cause_name WindowUpdateOnIdle = codes "window-update-on-idle"
-cause_name ConnectionWindowExceeded = codes "connection-window-exceeded"
-cause_name StreamWindowExceeded = codes "stream-window-exceeded"
-cause_name ConnectionIncrementZero = codes "connection-increment-zero"
-cause_name StreamIncrementZero = codes "stream-increment-zero"
-cause_name ConnectionWindowOverflow = codes "connection-window-overflow"
-cause_name StreamWindowOverflow = codes "stream-window-overflow"
-cause_name EnablePushValue = codes "enable-push-value"
-cause_name InitialWindowSizeValue = codes "initial-window-size-value"
-cause_name MaxFrameSizeValue = codes "max-frame-size-value"
-cause_name InitialWindowSizeOverflow = codes "initial-window-size-overflow"
-cause_name BlockTooLarge = codes "block-too-large"
-cause_name BlockTruncated = codes "block-truncated"
-cause_name IntegerTooLong = codes "integer-too-long"
-cause_name IndexZero = codes "index-zero"
-cause_name IndexOutOfTables = codes "index-out-of-tables"
-cause_name HuffmanString = codes "huffman-string"
-cause_name SizeUpdateLate = codes "size-update-late"
-cause_name SizeUpdateTooLarge = codes "size-update-too-large"
-cause_name SizeUpdateMissing = codes "size-update-missing"
-cause_name TooManyStreams = codes "too-many-streams"
-cause_name ListTooLarge = codes "list-too-large"
-cause_name BadName = codes "bad-name"
-cause_name BadValue = codes "bad-value"
-cause_name LatePseudoField = codes "late-pseudo-field"
-cause_name UnknownPseudoField = codes "unknown-pseudo-field"
-cause_name DoublePseudoField = codes "double-pseudo-field"
-cause_name LackingPseudoField = codes "lacking-pseudo-field"
-cause_name ConnectionField = codes "connection-field"
-cause_name BadTe = codes "bad-te"
-cause_name BadContentLength = codes "bad-content-length"
-cause_name ContentMissing = codes "content-missing"
-cause_name ContentTooLong = codes "content-too-long"
-cause_name ContentTooShort = codes "content-too-short"
-cause_name TrailersWithoutEndStream = codes "trailers-without-end-stream"
-cause_name TrailersBadName = codes "trailers-bad-name"
-cause_name TrailersBadValue = codes "trailers-bad-value"
-cause_name TrailersPseudoField = codes "trailers-pseudo-field"
-cause_name TrailersConnectionField = codes "trailers-connection-field"
-cause_name TrailersBadTe = codes "trailers-bad-te"
+cause_name cause = (row_of cause).name
 
--- the section of RFC 9113 or RFC 7541 that has the rule
 abbrev pub cause_section : Cause → List ℕ
-cause_section BadPreface = codes "RFC 9113 3.4"
-cause_section FirstNotSettings = codes "RFC 9113 3.4"
-cause_section FirstIsSettingsAck = codes "RFC 9113 3.4"
-cause_section FrameTooLarge = codes "RFC 9113 4.2"
-cause_section StreamFrameTooLarge = codes "RFC 9113 4.2"
-cause_section BlockInterrupted = codes "RFC 9113 6.10"
-cause_section DataOnStreamZero = codes "RFC 9113 6.1"
-cause_section HeadersOnStreamZero = codes "RFC 9113 6.2"
-cause_section PriorityOnStreamZero = codes "RFC 9113 6.3"
-cause_section RstStreamOnStreamZero = codes "RFC 9113 6.4"
-cause_section ContinuationOnStreamZero = codes "RFC 9113 6.10"
-cause_section SettingsOnStream = codes "RFC 9113 6.5"
-cause_section PingOnStream = codes "RFC 9113 6.7"
-cause_section GoawayOnStream = codes "RFC 9113 6.8"
-cause_section DataLength = codes "RFC 9113 4.2"
-cause_section HeadersLength = codes "RFC 9113 4.2"
-cause_section PriorityLength = codes "RFC 9113 6.3"
-cause_section RstStreamLength = codes "RFC 9113 6.4"
-cause_section SettingsLength = codes "RFC 9113 6.5"
-cause_section SettingsAckLength = codes "RFC 9113 6.5"
-cause_section PingLength = codes "RFC 9113 6.7"
-cause_section GoawayLength = codes "RFC 9113 4.2"
-cause_section WindowUpdateLength = codes "RFC 9113 6.9"
-cause_section DataPadding = codes "RFC 9113 6.1"
-cause_section HeadersPadding = codes "RFC 9113 6.2"
-cause_section PushPromiseFromClient = codes "RFC 9113 8.4"
-cause_section ContinuationOutsideBlock = codes "RFC 9113 6.10"
-cause_section DataOnIdle = codes "RFC 9113 5.1"
-cause_section DataOnSkipped = codes "RFC 9113 5.1"
-cause_section DataAfterEndStream = codes "RFC 9113 5.1"
-cause_section DataOnClosed = codes "RFC 9113 5.1"
-cause_section HeadersOnEven = codes "RFC 9113 5.1.1"
-cause_section HeadersOnSkipped = codes "RFC 9113 5.1.1"
-cause_section HeadersAfterEndStream = codes "RFC 9113 5.1"
-cause_section HeadersOnClosed = codes "RFC 9113 5.1"
-cause_section RstStreamOnIdle = codes "RFC 9113 6.4"
-cause_section WindowUpdateOnIdle = codes "RFC 9113 5.1"
-cause_section ConnectionWindowExceeded = codes "RFC 9113 6.9.1"
-cause_section StreamWindowExceeded = codes "RFC 9113 6.9.1"
-cause_section ConnectionIncrementZero = codes "RFC 9113 6.9"
-cause_section StreamIncrementZero = codes "RFC 9113 6.9"
-cause_section ConnectionWindowOverflow = codes "RFC 9113 6.9.1"
-cause_section StreamWindowOverflow = codes "RFC 9113 6.9.1"
-cause_section EnablePushValue = codes "RFC 9113 6.5.2"
-cause_section InitialWindowSizeValue = codes "RFC 9113 6.5.2"
-cause_section MaxFrameSizeValue = codes "RFC 9113 6.5.2"
-cause_section InitialWindowSizeOverflow = codes "RFC 9113 6.9.2"
-cause_section BlockTooLarge = codes "RFC 9113 10.5.1"
-cause_section BlockTruncated = codes "RFC 9113 4.3"
-cause_section IntegerTooLong = codes "RFC 7541 5.1"
-cause_section IndexZero = codes "RFC 7541 6.1"
-cause_section IndexOutOfTables = codes "RFC 7541 2.3.3"
-cause_section HuffmanString = codes "RFC 7541 5.2"
-cause_section SizeUpdateLate = codes "RFC 7541 4.2"
-cause_section SizeUpdateTooLarge = codes "RFC 7541 6.3"
-cause_section SizeUpdateMissing = codes "RFC 9113 4.3.1"
-cause_section TooManyStreams = codes "RFC 9113 5.1.2"
-cause_section ListTooLarge = codes "RFC 9113 10.5.1"
-cause_section BadName = codes "RFC 9113 8.2.1"
-cause_section BadValue = codes "RFC 9113 8.2.1"
-cause_section LatePseudoField = codes "RFC 9113 8.3"
-cause_section UnknownPseudoField = codes "RFC 9113 8.3"
-cause_section DoublePseudoField = codes "RFC 9113 8.3"
-cause_section LackingPseudoField = codes "RFC 9113 8.3.1"
-cause_section ConnectionField = codes "RFC 9113 8.2.2"
-cause_section BadTe = codes "RFC 9113 8.2.2"
-cause_section BadContentLength = codes "RFC 9113 8.1.1"
-cause_section ContentMissing = codes "RFC 9113 8.1.1"
-cause_section ContentTooLong = codes "RFC 9113 8.1.1"
-cause_section ContentTooShort = codes "RFC 9113 8.1.1"
-cause_section TrailersWithoutEndStream = codes "RFC 9113 8.1"
-cause_section TrailersBadName = codes "RFC 9113 8.2.1"
-cause_section TrailersBadValue = codes "RFC 9113 8.2.1"
-cause_section TrailersPseudoField = codes "RFC 9113 8.1"
-cause_section TrailersConnectionField = codes "RFC 9113 8.2.2"
-cause_section TrailersBadTe = codes "RFC 9113 8.2.2"
+cause_section cause = (row_of cause).section
 
--- whether the RFC demands this error of whoever receives; else it is a choice of this server
+abbrev pub cause_sentence : Cause → List ℕ
+cause_sentence cause = (row_of cause).sentence
+
+-- whether the RFC demands the error of whoever receives
 abbrev pub is_must : Cause → Bool
-is_must BadPreface = true
-is_must FirstNotSettings = true
 is_must FirstIsSettingsAck = false
-is_must FrameTooLarge = true
 is_must StreamFrameTooLarge = false
-is_must BlockInterrupted = true
-is_must DataOnStreamZero = true
-is_must HeadersOnStreamZero = true
-is_must PriorityOnStreamZero = true
-is_must RstStreamOnStreamZero = true
-is_must ContinuationOnStreamZero = true
-is_must SettingsOnStream = true
-is_must PingOnStream = true
-is_must GoawayOnStream = true
 is_must DataLength = false
-is_must HeadersLength = true
 is_must PriorityLength = false
-is_must RstStreamLength = true
-is_must SettingsLength = true
-is_must SettingsAckLength = true
-is_must PingLength = true
-is_must GoawayLength = true
-is_must WindowUpdateLength = true
-is_must DataPadding = true
-is_must HeadersPadding = true
-is_must PushPromiseFromClient = true
-is_must ContinuationOutsideBlock = true
-is_must DataOnIdle = true
 is_must DataOnSkipped = false
-is_must DataAfterEndStream = true
 is_must DataOnClosed = false
-is_must HeadersOnEven = true
-is_must HeadersOnSkipped = true
-is_must HeadersAfterEndStream = true
 is_must HeadersOnClosed = false
-is_must RstStreamOnIdle = true
-is_must WindowUpdateOnIdle = true
 is_must ConnectionWindowExceeded = false
 is_must StreamWindowExceeded = false
-is_must ConnectionIncrementZero = true
-is_must StreamIncrementZero = true
-is_must ConnectionWindowOverflow = true
-is_must StreamWindowOverflow = true
-is_must EnablePushValue = true
-is_must InitialWindowSizeValue = true
-is_must MaxFrameSizeValue = true
-is_must InitialWindowSizeOverflow = true
 is_must BlockTooLarge = false
-is_must BlockTruncated = true
 is_must IntegerTooLong = false
-is_must IndexZero = true
-is_must IndexOutOfTables = true
-is_must HuffmanString = true
 is_must SizeUpdateLate = false
-is_must SizeUpdateTooLarge = true
-is_must SizeUpdateMissing = true
-is_must TooManyStreams = true
 is_must ListTooLarge = false
-is_must BadName = true
-is_must BadValue = true
-is_must LatePseudoField = true
-is_must UnknownPseudoField = true
-is_must DoublePseudoField = true
-is_must LackingPseudoField = true
-is_must ConnectionField = true
-is_must BadTe = true
 is_must BadContentLength = false
-is_must ContentMissing = true
-is_must ContentTooLong = true
-is_must ContentTooShort = true
-is_must TrailersWithoutEndStream = true
-is_must TrailersBadName = true
-is_must TrailersBadValue = true
-is_must TrailersPseudoField = true
-is_must TrailersConnectionField = true
-is_must TrailersBadTe = true
+is_must _ = true
 
--- the rule, in a sentence
-abbrev pub cause_sentence : Cause → List ℕ
-cause_sentence BadPreface = codes "the octets are not the connection preface"
-cause_sentence FirstNotSettings = codes "the first frame behind the preface has to be SETTINGS"
-cause_sentence FirstIsSettingsAck = codes "the first SETTINGS is the client's own and has no ACK"
-cause_sentence FrameTooLarge = codes "the frame is longer than this server takes"
-cause_sentence StreamFrameTooLarge = codes "the frame is longer than this server takes"
-cause_sentence BlockInterrupted = codes "while a field block is open, only CONTINUATION on its stream may follow"
-cause_sentence DataOnStreamZero = codes "DATA has to be on a stream, not on 0"
-cause_sentence HeadersOnStreamZero = codes "HEADERS has to be on a stream, not on 0"
-cause_sentence PriorityOnStreamZero = codes "PRIORITY has to be on a stream, not on 0"
-cause_sentence RstStreamOnStreamZero = codes "RST_STREAM has to be on a stream, not on 0"
-cause_sentence ContinuationOnStreamZero = codes "CONTINUATION has to be on a stream, not on 0"
-cause_sentence SettingsOnStream = codes "SETTINGS has to be on stream 0"
-cause_sentence PingOnStream = codes "PING has to be on stream 0"
-cause_sentence GoawayOnStream = codes "GOAWAY has to be on stream 0"
-cause_sentence DataLength = codes "DATA with PADDED has no octet for the Pad Length"
-cause_sentence HeadersLength = codes "HEADERS is too short for what its flags announce"
-cause_sentence PriorityLength = codes "PRIORITY has to have 5 octets"
-cause_sentence RstStreamLength = codes "RST_STREAM has to have 4 octets"
-cause_sentence SettingsLength = codes "the length of SETTINGS has to be a multiple of 6"
-cause_sentence SettingsAckLength = codes "SETTINGS with ACK has to be empty"
-cause_sentence PingLength = codes "PING has to have 8 octets"
-cause_sentence GoawayLength = codes "GOAWAY has to have 8 octets or more"
-cause_sentence WindowUpdateLength = codes "WINDOW_UPDATE has to have 4 octets"
-cause_sentence DataPadding = codes "the padding of DATA is longer than the rest of its payload"
-cause_sentence HeadersPadding = codes "the padding of HEADERS is longer than the rest of its payload"
-cause_sentence PushPromiseFromClient = codes "a client can't push: PUSH_PROMISE may not be sent to a server"
-cause_sentence ContinuationOutsideBlock = codes "no field block is open that CONTINUATION could continue"
-cause_sentence DataOnIdle = codes "the stream is idle: only HEADERS opens it"
-cause_sentence DataOnSkipped = codes "the stream was closed, unused, when a higher one was opened"
-cause_sentence DataAfterEndStream = codes "the client has already ended this stream by END_STREAM"
-cause_sentence DataOnClosed = codes "the stream is closed"
-cause_sentence HeadersOnEven = codes "a client opens streams with odd identifiers"
-cause_sentence HeadersOnSkipped = codes "a new stream has to have a higher identifier than all streams before"
-cause_sentence HeadersAfterEndStream = codes "the client has already ended this stream by END_STREAM"
-cause_sentence HeadersOnClosed = codes "the stream is closed"
-cause_sentence RstStreamOnIdle = codes "an idle stream can't be reset"
-cause_sentence WindowUpdateOnIdle = codes "the stream is idle: it has no window yet"
-cause_sentence ConnectionWindowExceeded = codes "DATA is longer than the connection's receive window"
-cause_sentence StreamWindowExceeded = codes "DATA is longer than the stream's receive window"
-cause_sentence ConnectionIncrementZero = codes "the increment of WINDOW_UPDATE has to be 1 or more"
-cause_sentence StreamIncrementZero = codes "the increment of WINDOW_UPDATE has to be 1 or more"
-cause_sentence ConnectionWindowOverflow = codes "the connection's send window would be above 2147483647"
-cause_sentence StreamWindowOverflow = codes "the stream's send window would be above 2147483647"
-cause_sentence EnablePushValue = codes "SETTINGS_ENABLE_PUSH has to be 0 or 1"
-cause_sentence InitialWindowSizeValue = codes "SETTINGS_INITIAL_WINDOW_SIZE has to be 2147483647 or less"
-cause_sentence MaxFrameSizeValue = codes "SETTINGS_MAX_FRAME_SIZE has to be 16384 to 16777215"
-cause_sentence InitialWindowSizeOverflow = codes "SETTINGS_INITIAL_WINDOW_SIZE takes a stream's send window above 2147483647"
-cause_sentence BlockTooLarge = codes "the fragments of the field block have more than 65536 octets"
-cause_sentence BlockTruncated = codes "the field block ends inside an instruction"
-cause_sentence IntegerTooLong = codes "an integer has more than five continuation octets"
-cause_sentence IndexZero = codes "an indexed field has the index 0"
-cause_sentence IndexOutOfTables = codes "an index is beyond the end of both tables"
-cause_sentence HuffmanString = codes "a Huffman string contains EOS, or its padding is longer than 7 bits or has a 0 in it"
-cause_sentence SizeUpdateLate = codes "a table size update may only be at the beginning of a field block"
-cause_sentence SizeUpdateTooLarge = codes "a table size update is above the limit of the table"
-cause_sentence SizeUpdateMissing = codes "the limit of the table is lower now: the field block has to begin with a table size update"
-cause_sentence TooManyStreams = codes "as many streams are open as this server allows"
-cause_sentence ListTooLarge = codes "the list of fields has more than 65536 octets"
-cause_sentence BadName = codes "the name of a field is empty or has an octet that names may not have"
-cause_sentence BadValue = codes "the value of a field has an octet that values may not have, or a blank at an end"
-cause_sentence LatePseudoField = codes "a pseudo-field is behind a regular field"
-cause_sentence UnknownPseudoField = codes "a pseudo-field is not one of a request"
-cause_sentence DoublePseudoField = codes "a pseudo-field is there twice"
-cause_sentence LackingPseudoField = codes "a pseudo-field is missing or empty, or CONNECT has one that it may not have"
-cause_sentence ConnectionField = codes "a field belongs to HTTP/1.1 connections"
-cause_sentence BadTe = codes "te has another value than trailers"
-cause_sentence BadContentLength = codes "content-length is not 1 to 18 digits, or is there twice with different numbers"
-cause_sentence ContentMissing = codes "the request ends with its fields and declares content"
-cause_sentence ContentTooLong = codes "the content is longer than content-length declares"
-cause_sentence ContentTooShort = codes "the content is shorter than content-length declares"
-cause_sentence TrailersWithoutEndStream = codes "trailers have to end the stream by END_STREAM"
-cause_sentence TrailersBadName = codes "the name of a trailer is empty or has an octet that names may not have"
-cause_sentence TrailersBadValue = codes "the value of a trailer has an octet that values may not have, or a blank at an end"
-cause_sentence TrailersPseudoField = codes "trailers may not have a pseudo-field"
-cause_sentence TrailersConnectionField = codes "a trailer belongs to HTTP/1.1 connections"
-cause_sentence TrailersBadTe = codes "te, in the trailers, has another value than trailers"
+-- all causes, in the order of the code
+unfoldable pub all_causes : List Cause
+all_causes =
+    BadPreface ∷ FirstNotSettings ∷ FirstIsSettingsAck ∷ FrameTooLarge ∷ StreamFrameTooLarge ∷ BlockInterrupted ∷ DataOnStreamZero ∷ HeadersOnStreamZero ∷ PriorityOnStreamZero ∷ RstStreamOnStreamZero ∷ ContinuationOnStreamZero ∷ SettingsOnStream ∷ PingOnStream ∷ GoawayOnStream ∷ DataLength ∷ HeadersLength ∷ PriorityLength ∷ RstStreamLength ∷ SettingsLength ∷ SettingsAckLength ∷ PingLength ∷ GoawayLength ∷ WindowUpdateLength ∷ DataPadding ∷ HeadersPadding ∷ PushPromiseFromClient ∷ ContinuationOutsideBlock ∷ DataOnIdle ∷ DataOnSkipped ∷ DataAfterEndStream ∷ DataOnClosed ∷ HeadersOnEven ∷ HeadersOnSkipped ∷ HeadersAfterEndStream ∷ HeadersOnClosed ∷ RstStreamOnIdle ∷ WindowUpdateOnIdle ∷ ConnectionWindowExceeded ∷ StreamWindowExceeded ∷ ConnectionIncrementZero ∷ StreamIncrementZero ∷ ConnectionWindowOverflow ∷ StreamWindowOverflow ∷ EnablePushValue ∷ InitialWindowSizeValue ∷ MaxFrameSizeValue ∷ InitialWindowSizeOverflow ∷ BlockTooLarge ∷ BlockTruncated ∷ IntegerTooLong ∷ IndexZero ∷ IndexOutOfTables ∷ HuffmanString ∷ SizeUpdateLate ∷ SizeUpdateTooLarge ∷ SizeUpdateMissing ∷ TooManyStreams ∷ ListTooLarge ∷ BadName ∷ BadValue ∷ LatePseudoField ∷ UnknownPseudoField ∷ DoublePseudoField ∷ LackingPseudoField ∷ ConnectionField ∷ BadTe ∷ BadContentLength ∷ ContentMissing ∷ ContentTooLong ∷ ContentTooShort ∷ TrailersWithoutEndStream ∷ TrailersBadName ∷ TrailersBadValue ∷ TrailersPseudoField ∷ TrailersConnectionField ∷ TrailersBadTe ∷ []
+
+-- a text that is lent
+abbrev pub text_of : Bor (List ℕ) → List ℕ
+text_of t = t.now

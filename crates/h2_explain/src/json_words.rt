@@ -1,0 +1,184 @@
+//! JSON that is put together member by member.
+//! Rests on h2_describe's `say`; what it writes is tested, no definition speaks of it.
+
+use h2_describe::say::{Hex, Say, Words};
+use h2_describe::say_all;
+use std::alloc::{AllocError, Global};
+
+/// A JSON text that grows. Members are put into the object that was opened last. As a text in words, it takes nothing
+/// more once memory was refused.
+#[derive(Drop)]
+pub(crate) struct JsonWords {
+    words: Words,
+    /// Whether a member or an element stands before the next one.
+    is_behind: bool,
+}
+
+/// Whether a character stands for itself in a string (RFC 8259, 7).
+fn is_plain(character: char) -> bool {
+    character >= ' ' && character != '"' && character != '\\'
+}
+
+/// Whether all characters stand for themselves.
+fn is_all_plain(text: &str) -> bool {
+    for character in text.chars() {
+        if !is_plain(character) {
+            return false;
+        }
+    }
+    true
+}
+
+/// The short escape of a character, empty where it has none.
+fn short_escape(character: char) -> &'static str {
+    match character {
+        '"' => "\\\"",
+        '\\' => "\\\\",
+        '\n' => "\\n",
+        '\r' => "\\r",
+        '\t' => "\\t",
+        '\u{8}' => "\\b",
+        '\u{c}' => "\\f",
+        _ => "",
+    }
+}
+
+/// Puts a character last that does not stand for itself.
+fn say_escape(character: char, out: &mut Words) {
+    let short = short_escape(character);
+    if short.is_empty() {
+        say_all!(out; "\\u00", Hex(&[(u32::from(character) % 256) as u8]));
+    } else {
+        say_all!(out; short);
+    }
+}
+
+/// Puts a character of a string last.
+fn say_character(character: char, out: &mut Words) {
+    if is_plain(character) {
+        say_all!(out; character);
+    } else {
+        say_escape(character, out);
+    }
+}
+
+/// Puts what is between the quotes of a string last.
+fn say_string(text: &str, out: &mut Words) {
+    if is_all_plain(text) {
+        say_all!(out; text);
+        return;
+    }
+    for character in text.chars() {
+        say_character(character, out);
+    }
+}
+
+impl JsonWords {
+    /// Nothing yet. Takes no memory.
+    pub(crate) fn new(alloc: Global) -> JsonWords {
+        JsonWords {
+            words: Words::new(alloc),
+            is_behind: false,
+        }
+    }
+
+    /// The text. `AllocError` where memory for it was refused.
+    pub(crate) fn finish(self) -> Result<String, AllocError> {
+        self.words.finish()
+    }
+
+    /// Puts the comma before a member or an element.
+    fn part(&mut self) {
+        if self.is_behind {
+            say_all!(&mut self.words; ",");
+        }
+        self.is_behind = true;
+    }
+
+    /// Puts the name of a member.
+    fn name(&mut self, name: &str) {
+        self.part();
+        say_all!(&mut self.words; "\"", name, "\":");
+    }
+
+    /// Opens an object, as an element or as the whole.
+    pub(crate) fn open_element(&mut self) {
+        self.part();
+        say_all!(&mut self.words; "{");
+        self.is_behind = false;
+    }
+
+    /// Opens the object that is a member.
+    pub(crate) fn open(&mut self, name: &str) {
+        self.name(name);
+        say_all!(&mut self.words; "{");
+        self.is_behind = false;
+    }
+
+    /// Closes an object.
+    pub(crate) fn close(&mut self) {
+        say_all!(&mut self.words; "}");
+        self.is_behind = true;
+    }
+
+    /// Opens the list that is a member.
+    pub(crate) fn open_list(&mut self, name: &str) {
+        self.name(name);
+        say_all!(&mut self.words; "[");
+        self.is_behind = false;
+    }
+
+    /// Closes a list.
+    pub(crate) fn close_list(&mut self) {
+        say_all!(&mut self.words; "]");
+        self.is_behind = true;
+    }
+
+    /// Puts a number, as an element.
+    pub(crate) fn element(&mut self, number: u64) {
+        self.part();
+        say_all!(&mut self.words; number);
+    }
+
+    /// Puts a number.
+    pub(crate) fn number(&mut self, name: &str, number: u64) {
+        self.name(name);
+        say_all!(&mut self.words; number);
+    }
+
+    /// Puts a number that may be below 0.
+    pub(crate) fn signed(&mut self, name: &str, number: i64) {
+        self.name(name);
+        say_all!(&mut self.words; number);
+    }
+
+    /// Puts a flag.
+    pub(crate) fn flag(&mut self, name: &str, flag: bool) {
+        self.name(name);
+        say_all!(&mut self.words; if flag { "true" } else { "false" });
+    }
+
+    /// Puts a text that has no character to escape.
+    pub(crate) fn plain<S: Say>(&mut self, name: &str, part: S) {
+        self.name(name);
+        say_all!(&mut self.words; "\"");
+        part.say(&mut self.words);
+        say_all!(&mut self.words; "\"");
+    }
+
+    /// Puts a text.
+    pub(crate) fn text(&mut self, name: &str, text: &str) {
+        self.name(name);
+        say_all!(&mut self.words; "\"");
+        say_string(text, &mut self.words);
+        say_all!(&mut self.words; "\"");
+    }
+
+    /// Puts a text in words.
+    pub(crate) fn words(&mut self, name: &str, words: Words) {
+        match words.finish() {
+            Ok(text) => self.text(name, text.as_str()),
+            Err(_) => self.words.refuse(),
+        }
+    }
+}
