@@ -3,16 +3,15 @@
 set -u
 cd "$(dirname "$0")/.."
 kit=$(dirname "$(dirname "$(readlink -f "$(command -v rt)")")")
-said=$(mktemp)
-trap 'rm -f "$said"' EXIT
-find crates/*/{src,specs,proofs} -name '*.rt' -o -name '*.antt' 2>/dev/null | sort >"$said.files"
-xargs -P "$(nproc)" -n 100 "$kit/bin/rattle" fmt --check <"$said.files" >/dev/null 2>"$said"
-status=$?
-all=$(wc -l <"$said.files")
-rm -f "$said.files"
-wrong=$(grep -c 'is not in the layout$' "$said")
+work=$(mktemp -d)
+trap 'rm -rf "$work"' EXIT
+find crates/*/src crates/*/specs crates/*/proofs -name '*.rt' -o -name '*.antt' >"$work/files"
+status=0
+xargs -P "$(nproc)" -n 100 "$kit/bin/rattle" fmt --check <"$work/files" >/dev/null 2>"$work/said" || status=1
+all=$(wc -l <"$work/files")
+wrong=$(grep -c 'is not in the layout$' "$work/said")
 if [ "$status" != 0 ]; then
-    cat "$said"
+    cat "$work/said"
     echo "layout.sh: run rt fmt in the folder of the crate"
     if [ "$wrong" = 0 ]; then wrong=1; fi
 fi

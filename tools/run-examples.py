@@ -64,27 +64,33 @@ def folder_with(program, top):
     return folder
 
 
+def results(path):
+    """Each example of a page whose output is shown: the command, the lines shown and the lines printed."""
+    for block in examples(path):
+        block = list(itertools.takewhile(lambda pair: " serve " not in pair[0], block))
+        for (command, shown), got in zip(block, printed([command for command, _ in block])):
+            shown = "\n".join(shown).strip("\n")
+            if shown:
+                yield command, shown.split("\n"), got
+
+
+def program_in(words, top):
+    if words[:1] == ["--program"] and len(words) == 2:
+        return os.path.abspath(words[1])
+    return subprocess.run([sys.executable, "-B", f"{top}/tools/program.py", "proved"], check=True, stdout=subprocess.PIPE, text=True).stdout.strip()
+
+
 def main():
     top = os.path.dirname(os.path.dirname(os.path.abspath(__file__)))
-    words = sys.argv[1:]
-    if words[:1] == ["--program"] and len(words) == 2:
-        program = os.path.abspath(words[1])
-    else:
-        program = subprocess.run([sys.executable, "-B", f"{top}/tools/program.py", "proved"], check=True, stdout=subprocess.PIPE, text=True).stdout.strip()
-    folder = folder_with(program, top)
+    folder = folder_with(program_in(sys.argv[1:], top), top)
     passed = failed = 0
     try:
         os.chdir(folder)
         for path in ["README.md", *sorted(glob.glob("docs/*.md"))]:
-            for block in examples(path):
-                block = list(itertools.takewhile(lambda pair: " serve " not in pair[0], block))
-                for (command, shown), got in zip(block, printed([command for command, _ in block])):
-                    shown = "\n".join(shown).strip("\n").split("\n")
-                    if shown == [""]:
-                        continue
-                    if agrees(shown, got):
-                        passed += 1
-                        continue
+            for command, shown, got in results(path):
+                if agrees(shown, got):
+                    passed += 1
+                else:
                     failed += 1
                     print(f"{path}: {command}", "  shown:", *shown, "  printed:", *got, sep="\n    ")
     finally:
