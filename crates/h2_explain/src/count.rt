@@ -5,7 +5,7 @@ ghost use Rattle.std.specs.Prelude.{◌≡◌};
 ghost use Rattle.h2_explain.specs.Counts.{count_name};
 
 /// A number of a connection or of a stream that an item can change.
-#[derive(Clone, Copy, Debug, PartialEq, Eq)]
+#[derive(Clone, Copy)]
 pub enum Count {
     /// The octets that the client may still send (RFC 9113, 6.9).
     ReceiveWindow,
