@@ -222,6 +222,13 @@ impl fmt::Display for BookFileFault {
     }
 }
 
+/// The same as the sentence.
+impl fmt::Debug for BookFileFault {
+    fn fmt<W: fmt::Write>(&self, f: &mut fmt::Formatter<W>) -> fmt::Result {
+        fmt::Display::fmt(self, f)
+    }
+}
+
 impl error::Error for BookFileFault {}
 
 /// The place behind the path of a file: its line and its answer, each where there is one.

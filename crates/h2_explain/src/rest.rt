@@ -57,7 +57,7 @@ pub struct Rest {
 fn missing_of(phase: Phase, octets: &[u8]) -> Missing
     ensures { result ≡ missing_of phase octets.now }
 {
-    if phase == Phase::Preface {
+    if let Phase::Preface = phase {
         return Missing {
             what: Awaited::Preface,
             needs: 24usize.saturating_sub(octets.len()),

@@ -9,7 +9,7 @@ use std::alloc::{AllocError, AllocFailed};
 use thiserror::Error;
 
 /// Why a field block, or an instruction of it, is refused (RFC 7541; RFC 9113, 4.3).
-#[derive(Clone, Copy, Debug, Error)]
+#[derive(Clone, Copy, Debug, PartialEq, Eq, Error)]
 pub enum BlockFault {
     /// Memory was refused.
     #[error("out of memory")]

@@ -16,4 +16,4 @@ pub mod SpellingLaws
 pub mod TableLaws
 pub mod WrittenLaws
 pub mod TraceLaws
-mod Columns
+pub mod Columns

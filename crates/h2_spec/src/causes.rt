@@ -834,7 +834,7 @@ impl Cause {
 
 /// The name.
 impl fmt::Debug for Cause {
-    fn fmt<W: fmt::Write>(&self, f: &mut fmt::Formatter<W>) -> Result<(), fmt::Error> {
+    fn fmt<W: fmt::Write>(&self, f: &mut fmt::Formatter<W>) -> fmt::Result {
         f.write_str(self.name())
     }
 }

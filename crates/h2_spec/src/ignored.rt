@@ -259,7 +259,7 @@ impl Ignored {
 
 /// The name.
 impl fmt::Debug for Ignored {
-    fn fmt<W: fmt::Write>(&self, f: &mut fmt::Formatter<W>) -> Result<(), fmt::Error> {
+    fn fmt<W: fmt::Write>(&self, f: &mut fmt::Formatter<W>) -> fmt::Result {
         f.write_str(self.name())
     }
 }

@@ -88,7 +88,7 @@ pub(crate) fn server_duty_at(duties: &'static [ServerDuty], place: usize) -> Ser
 }
 
 /// The text at a place of a table; empty where there is none.
-pub(crate) fn text_at(texts: &'static [&'static str], place: usize) -> &'static str
+pub fn text_at(texts: &'static [&'static str], place: usize) -> &'static str
     ensures { (t : List ℕ) → slice_get (map text_of texts.now) place ≡ Some t → result.now ≡ t }
 {
     match texts.get(place) {
