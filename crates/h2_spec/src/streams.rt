@@ -4,7 +4,7 @@
 use crate::flow::{Credit, Window};
 
 /// The states of a stream (RFC 9113, 5.1). Client streams alone have records.
-#[derive(Clone, Copy)]
+#[derive(Clone, Copy, PartialEq, Eq)]
 pub enum Kind {
     /// Not begun.
     Idle,
@@ -41,7 +41,7 @@ pub struct Numbers {
 }
 
 /// Which answer a request gets.
-#[derive(Clone, Copy)]
+#[derive(Clone, Copy, PartialEq, Eq)]
 pub enum Pick {
     /// The entry of the book at this place, from 0.
     Listed(usize),
