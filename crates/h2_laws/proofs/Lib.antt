@@ -1,4 +1,3 @@
-pub mod BadLines
 mod BeginningLaws
 mod BlockRows
 mod CauseLaws
@@ -8,7 +7,6 @@ mod DebugRows
 mod EarlyRows
 mod FlowLaws
 mod FormLaws
-mod FrameLaws
 mod FrameRows
 mod Hex
 mod HuffmanRows
@@ -22,10 +20,7 @@ mod LongLists
 mod LocalSettingsLaws
 mod LocalSettingsRows
 mod PayloadLaws
-pub mod RequestLaws
 mod RequestRows
-pub mod ReadingLines
-mod ReadingParts
 mod Rows
 pub mod Runs
 mod ScriptRows

@@ -29,6 +29,7 @@ pub mod Parse
 pub mod Payload
 pub mod SendPending
 pub mod Read
+pub mod Reasons
 pub mod Request
 pub mod Script
 pub mod Settings
