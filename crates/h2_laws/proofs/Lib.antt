@@ -1,6 +1,8 @@
+mod AppendixRows
 pub mod BadLines
 mod BeginningLaws
 mod BlockRows
+mod BookRows
 mod CauseLaws
 mod CauseRows
 mod CuttingLaws
@@ -10,23 +12,30 @@ mod FlowLaws
 mod FormLaws
 mod FrameLaws
 mod FrameRows
+pub mod grants
+mod GrantsRows
 mod Hex
 mod HuffmanRows
 mod IgnoredLaws
 mod IgnoredRows
+mod InstructionRows
 mod IntegerRows
-mod GrantsRows
-pub mod grants
-mod LongBodies
-mod LongLists
 mod LocalSettingsLaws
 mod LocalSettingsRows
+mod LongBodies
+mod LongLists
 mod PayloadLaws
-pub mod RequestLaws
-mod RequestRows
+mod PayloadRows
 pub mod ReadingLines
 mod ReadingParts
-mod Rows
+pub mod RequestLaws
+mod RequestRows
+mod RuleRows
 pub mod Runs
 mod ScriptRows
+mod SettingsRows
 mod SplitLaws
+mod StaticTableRows
+mod StreamRows
+mod StringRows
+mod TableRows
