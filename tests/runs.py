@@ -11,8 +11,8 @@ and lines that begin with a mark and a blank:
                          with the same input and the same results; `{1..9}` in a line makes one command for each number
     < LINE               a line of the input
     > LINE               a line of the output that is wanted. Input and output may alternate, as in a session; all of the output is compared, octet for octet
-    ~ 0..6 3 6           moves of `debug`: one to each of these positions, by `step`, `back` or `go`, and `show` there. What is wanted is what `play --each` prints
-                         of that item with the same words and octets
+    ~ 0..6 3 6           moves of `debug`: to each of these positions, by `step 1`, `back 1` or `go`, where it is not there already, and `show`. What is wanted of
+                         `show` is what `play --each` prints of that item with the same words and octets
     ! LINE               a line of standard error that is wanted; a last line that ends in ` ..` is compared up to there. Without such lines it is empty
     = STATUS             the exit status that is wanted; 0 without this line
     NAME| LINE           a line of the file NAME in the folder of the run. A run without files is run at the top of the repository
@@ -195,7 +195,7 @@ def read_file(path):
 
 
 def called(program, words, octets, folder):
-    return subprocess.run([program, *words], input=octets, capture_output=True, cwd=folder, timeout=SECONDS, check=False)
+    return subprocess.run(["h2_bench", *words], executable=program, input=octets, capture_output=True, cwd=folder, timeout=SECONDS, check=False)
 
 
 def shown_items(program, run, words, folder):
@@ -208,16 +208,19 @@ def shown_items(program, run, words, folder):
 def move(before, position):
     """The command that moves the debugger from a position to another."""
     if position == before + 1:
-        return "step 1"
-    return "back 1" if position == before - 1 else f"go {position}"
+        return "step 1\n"
+    return "back 1\n" if position == before - 1 else f"go {position}\n"
 
 
 def moves(places, before, items):
     """The commands for moves to these positions, and what is wanted of them."""
     asked, wanted = b"", b""
     for position in places:
-        asked += f"{move(before, position)}\nshow\n".encode()
-        wanted += f"at {position}\n".encode() + (items[position] if position < len(items) else b"no such item\n")
+        if position != before:
+            asked += move(before, position).encode()
+            wanted += f"at {position}\n".encode()
+        asked += b"show\n"
+        wanted += items[position] if position < len(items) else b"no such item\n"
         before = position
     return asked, wanted
 
