@@ -17,12 +17,11 @@ and lines that begin with a mark and a blank:
     = STATUS             the exit status that is wanted; 0 without this line
     NAME| LINE           a line of the file NAME in the folder of the run. A run without files is run at the top of the repository
 
-In all of these, braces stand for other text. Braces with anything else in them are themselves.
+A line that ends in a backslash has no line feed. Braces stand for other text; with anything else in them they are themselves.
 
     {PREFACE}, {RAW 00}, {PING 00 0 x0102030405060708}    a line of a script: its octets as hex digits
     {70000 * 61}                                          a text so many times
     {xff}                                                 octets
-    {no line feed}                                        at the end of a line: it is the last, without its line feed
     {folder}                                              the path of the folder of the run
     {NAME}                                                a text that a paragraph of the file defines: a line `{NAME} is`, and then lines that begin with `| `
 
@@ -43,7 +42,6 @@ import script
 
 TOP = os.path.dirname(os.path.dirname(os.path.abspath(__file__)))
 SECONDS = 60
-NO_LINE_FEED = "{no line feed}"
 FILE_LINE = re.compile(r"([^\s|]+)\| ?(.*)", re.DOTALL)
 RANGE = re.compile(r"\{(\d+)\.\.(\d+)\}")
 
@@ -118,8 +116,8 @@ def expanded(text, names):
 
 
 def line_octets(text, names):
-    if text.endswith(NO_LINE_FEED):
-        return expanded(text[: -len(NO_LINE_FEED)], names)
+    if text.endswith("\\"):
+        return expanded(text[:-1], names)
     return expanded(text, names) + b"\n"
 
 
