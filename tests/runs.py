@@ -2,13 +2,13 @@
 """Runs the program as the transcripts of tests/runs say, and compares what it prints with what they say.
 
     tests/runs.py PROGRAM [FILE..]       runs these files, or all of tests/runs, with this executable
-    tests/runs.py --unproved [FILE..]    the same with the program built without proof, by one `rt try`; a run that this can't carry is skipped
+    tests/runs.py --unproved [FILE..]    the same with the program built without proof, but for the runs over more than 100,000 octets, for which that is too slow
 
 A file has paragraphs with an empty line between them. A paragraph of lines that begin with `;` is a comment. Any other is a run: a line that says what it shows,
 and lines that begin with a mark and a blank:
 
-    $ h2_bench WORD..    the command, quoted as for a shell; `< FILE` at its end takes a file of the repository as input. Several such lines are several commands
-                         with the same input and the same results; `{1..9}` in a line makes one command for each number
+    $ h2_bench WORD..    the command, quoted as for a shell; `< FILE` at its end takes a file of the repository as input, `> FILE` writes the output there. Several
+                         such lines are several commands with the same input and the same results; `{1..9}` in a line makes one command for each number
     < LINE               a line of the input
     > LINE               a line of the output that is wanted. Input and output may alternate, as in a session; all of the output is compared, octet for octet
     ~ 0..6 3 6           moves of `debug`: to each of these positions, by `step 1`, `back 1` or `go`, where it is not there already, and `show`. What is wanted of
@@ -25,7 +25,7 @@ A line that ends in a backslash has no line feed. Braces stand for other text; w
     {folder}                                              the path of the folder of the run
     {NAME}                                                a text that a paragraph of the file defines: a line `{NAME} is`, and then lines that begin with `| `
 
-The last line is `N passed, M failed`; each command is counted. The status is 1 where one failed.
+Each command is counted. The last line is `N passed, M failed`, and the status is 1 where one failed.
 """
 
 import concurrent.futures
@@ -41,7 +41,8 @@ import tempfile
 import script
 
 TOP = os.path.dirname(os.path.dirname(os.path.abspath(__file__)))
-SECONDS = 60
+SECONDS = 300
+MOST_UNPROVED = 100_000
 FILE_LINE = re.compile(r"([^\s|]+)\| ?(.*)", re.DOTALL)
 RANGE = re.compile(r"\{(\d+)\.\.(\d+)\}")
 
@@ -55,7 +56,7 @@ class Run:
 
     def __init__(self, place, title):
         self.place, self.title = place, title
-        self.command, self.words, self.taken = "", [], None
+        self.command, self.words, self.source, self.sink = "", [], None, None
         self.session, self.errors, self.status, self.files = [], b"", 0, {}
 
     def with_command(self, command):
@@ -63,8 +64,8 @@ class Run:
         run = Run(self.place, self.title)
         run.__dict__.update({**self.__dict__, "command": command})
         words = shlex.split(command.replace("{folder}", "\0"))
-        if len(words) > 2 and words[-2] == "<":
-            run.taken = words[-1]
+        if len(words) > 2 and words[-2] in ("<", ">"):
+            run.source, run.sink = (words[-1], None) if words[-2] == "<" else (None, words[-1])
             words = words[:-2]
         if words[:1] != ["h2_bench"]:
             raise BadRun("a command begins with `$ h2_bench`")
@@ -73,6 +74,11 @@ class Run:
 
     def has_moves(self):
         return any(mark == "~" for mark, _ in self.session)
+
+    def is_large(self):
+        """Whether it goes over more octets than the program built without proof runs over in a few seconds."""
+        parts = [part for mark, part in self.session if mark != "~"]
+        return max(map(len, [b"", *parts, *self.files.values()])) > MOST_UNPROVED
 
 
 def closing(text, opening):
@@ -193,7 +199,22 @@ def read_file(path):
 
 
 def called(program, words, octets, folder):
-    return subprocess.run(["h2_bench", *words], executable=program, input=octets, capture_output=True, cwd=folder, timeout=SECONDS, check=False)
+    """The program run over octets."""
+    how = {"executable": program, "cwd": folder, "timeout": SECONDS, "check": False}
+    return subprocess.run(["h2_bench", *words], input=octets, capture_output=True, **how)
+
+
+def called_on(program, run, words, folder):
+    """The program run over the files that its command names."""
+    how = {"executable": program, "cwd": folder, "timeout": SECONDS, "check": False}
+    source = os.open(os.path.join(TOP, run.source or os.devnull), os.O_RDONLY)
+    sink = os.open(run.sink, os.O_WRONLY) if run.sink else subprocess.PIPE
+    try:
+        return subprocess.run(["h2_bench", *words], stdin=source, stdout=sink, stderr=subprocess.PIPE, **how)
+    finally:
+        os.close(source)
+        if run.sink:
+            os.close(sink)
 
 
 def shown_items(program, run, words, folder):
@@ -243,9 +264,6 @@ def exchanged(run, items):
             taken += asked
             wanted += answers
             place = part[-1]
-    if run.taken:
-        with open(os.path.join(TOP, run.taken), "rb") as file:
-            taken = file.read()
     return taken, wanted
 
 
@@ -302,7 +320,7 @@ def errors_agree(wanted, printed):
 
 def problems(run, wanted, found):
     """How a run went otherwise than is wanted."""
-    lines = difference("standard output", wanted, found.stdout)
+    lines = difference("standard output", wanted, found.stdout or b"")
     if not errors_agree(run.errors, found.stderr):
         lines += difference("standard error", run.errors, found.stderr)
     if found.returncode != run.status:
@@ -319,6 +337,8 @@ def judged(program, run):
         try:
             items = shown_items(program, run, words, at) if run.has_moves() else []
             taken, wanted = exchanged(run, items)
+            if run.source or run.sink:
+                return problems(run, wanted, called_on(program, run, words, at))
             return problems(run, wanted, called(program, words, taken, at))
         except (OSError, subprocess.TimeoutExpired) as error:
             return [f"  {clipped(str(error))}"]
@@ -339,6 +359,12 @@ def run_all(program, runs):
     return failed
 
 
+def unproved_program():
+    """The path of the program built without proof, which is built where it is not there."""
+    made = subprocess.run([os.path.join(TOP, "tools", "program.py"), "unproved"], stdout=subprocess.PIPE, text=True, check=False)
+    return made.stdout.strip() or sys.exit("runs.py: the program can't be built without proof")
+
+
 def main():
     words = sys.argv[1:]
     if not words:
@@ -346,13 +372,14 @@ def main():
     files = words[1:] or sorted(glob.glob(os.path.join(TOP, "tests", "runs", "*.run")))
     runs = [run for path in files for run in read_file(path)]
     if words[0] == "--unproved":
-        import unproved
-
-        failed, count = unproved.run_all(runs)
+        program, kept = unproved_program(), [run for run in runs if not run.is_large()]
+        print(f"{len(runs) - len(kept)} skipped: they go over more than {MOST_UNPROVED} octets")
+        runs = kept
     else:
-        failed, count = run_all(os.path.abspath(words[0]), runs), len(runs)
-    print(f"{count - failed} passed, {failed} failed")
-    sys.exit(1 if failed or not count else 0)
+        program = os.path.abspath(words[0])
+    failed = run_all(program, runs)
+    print(f"{len(runs) - failed} passed, {failed} failed")
+    sys.exit(1 if failed or not runs else 0)
 
 
 if __name__ == "__main__":
