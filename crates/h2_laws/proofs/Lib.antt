@@ -23,7 +23,6 @@ mod IntegerRows
 mod LocalSettingsLaws
 mod LocalSettingsRows
 mod LongBodies
-mod LongLists
 mod PayloadLaws
 mod PayloadRows
 pub mod ReadingLines
