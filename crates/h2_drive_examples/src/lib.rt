@@ -10,5 +10,3 @@ mod memory;
 #[cfg(test)]
 mod same;
 pub mod scripted;
-#[cfg(test)]
-mod serves;
