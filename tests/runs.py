@@ -21,6 +21,7 @@ A line that ends in a backslash has no line feed. Braces stand for other text; w
 
     {PREFACE}, {RAW 00}, {PING 00 0 x0102030405060708}    a line of a script: its octets as hex digits
     {70000 * 61}                                          a text so many times
+    {hex www.example.com}                                 the hex digits of a text
     {xff}                                                 octets
     {folder}                                              the path of the folder of the run
     {NAME}                                                a text that a paragraph of the file defines: a line `{NAME} is`, and then lines that begin with `| `
@@ -96,6 +97,8 @@ def meaning(inside, names):
     times = re.fullmatch(r"(\d+) \* (.*)", inside, re.DOTALL)
     if times:
         return int(times[1]) * expanded(times[2], names)
+    if inside.startswith("hex "):
+        return expanded(inside[4:], names).hex().encode()
     if re.fullmatch(r"x([0-9a-f]{2})+", inside):
         return bytes.fromhex(inside[1:])
     if inside in names:
