@@ -1,8 +1,9 @@
 #!/usr/bin/env python3
 """Runs the program as the transcripts of tests/runs say, and compares what it prints with what they say.
 
-    tests/runs.py PROGRAM [FILE..]       runs these files, or all of tests/runs, with this executable
-    tests/runs.py --unproved [FILE..]    the same with the program built without proof, but for the runs over more than 100,000 octets, for which that is too slow
+    tests/runs.py PROGRAM [FILE..]                 runs these files, or all of tests/runs, with this executable
+    tests/runs.py --unproved [PROGRAM] [FILE..]    the same with a program built without proof (that of tools/program.py), but for the runs over more than 100,000
+                                                   octets, for which it is too slow
 
 A file has paragraphs with an empty line between them. A paragraph of lines that begin with `;` is a comment. Any other is a run: a line that says what it shows,
 and lines that begin with a mark and a blank:
@@ -368,19 +369,24 @@ def unproved_program():
     return made.stdout.strip() or sys.exit("runs.py: the program can't be built without proof")
 
 
+def without_large(runs):
+    kept = [run for run in runs if not run.is_large()]
+    print(f"{len(runs) - len(kept)} skipped: they go over more than {MOST_UNPROVED} octets")
+    return kept
+
+
 def main():
     words = sys.argv[1:]
+    unproved = words[:1] == ["--unproved"]
+    if unproved:
+        words = words[1:] if words[1:] and not words[1].endswith(".run") else [unproved_program(), *words[1:]]
     if not words:
         sys.exit(__doc__)
     files = words[1:] or sorted(glob.glob(os.path.join(TOP, "tests", "runs", "*.run")))
     runs = [run for path in files for run in read_file(path)]
-    if words[0] == "--unproved":
-        program, kept = unproved_program(), [run for run in runs if not run.is_large()]
-        print(f"{len(runs) - len(kept)} skipped: they go over more than {MOST_UNPROVED} octets")
-        runs = kept
-    else:
-        program = os.path.abspath(words[0])
-    failed = run_all(program, runs)
+    if unproved:
+        runs = without_large(runs)
+    failed = run_all(os.path.abspath(words[0]), runs)
     print(f"{len(runs) - failed} passed, {failed} failed")
     sys.exit(1 if failed or not runs else 0)
 
