@@ -295,11 +295,17 @@ def around(wanted, printed):
     return clipped(front + wanted[begin:]), clipped(front + printed[begin:])
 
 
+def lines_of(octets):
+    """Octets as lines that a terminal can show."""
+    text = octets.decode("utf-8", "backslashreplace")
+    return "".join(it if it.isprintable() or it == "\n" else f"\\x{ord(it):02x}" for it in text).splitlines(keepends=True)
+
+
 def difference(what, wanted, printed):
     """Readable lines of how octets differ; none where they are the same."""
     if wanted == printed:
         return []
-    wanted, printed = (it.decode("utf-8", "backslashreplace").splitlines(keepends=True) for it in (wanted, printed))
+    wanted, printed = lines_of(wanted), lines_of(printed)
     lines = [f"  {what}, - wanted, + printed:"]
     found = list(difflib.unified_diff(wanted, printed, n=1, lineterm=""))[2:60]
     at = 0
