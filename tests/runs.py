@@ -40,7 +40,8 @@ import subprocess
 import sys
 import tempfile
 
-import script
+sys.dont_write_bytecode = True
+import script  # noqa: E402
 
 TOP = os.path.dirname(os.path.dirname(os.path.abspath(__file__)))
 SECONDS = 300
@@ -80,7 +81,7 @@ class Run:
     def is_large(self):
         """Whether it goes over more octets than the program built without proof runs over in a few seconds."""
         parts = [part for mark, part in self.session if mark != "~"]
-        return max(map(len, [b"", *parts, *self.files.values()])) > MOST_UNPROVED
+        return sum(map(len, [*parts, *self.files.values()])) > MOST_UNPROVED
 
 
 def closing(text, opening):

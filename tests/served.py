@@ -12,7 +12,8 @@ import subprocess
 import sys
 import tempfile
 
-import script
+sys.dont_write_bytecode = True
+import script  # noqa: E402
 
 SECONDS = 60
 
