@@ -1,5 +1,4 @@
 mod AppendixRows
-pub mod BadLines
 mod BeginningLaws
 mod BlockRows
 mod BookRows
@@ -10,7 +9,6 @@ mod DebugRows
 mod EarlyRows
 mod FlowLaws
 mod FormLaws
-mod FrameLaws
 mod FrameRows
 pub mod grants
 mod GrantsRows
@@ -24,11 +22,8 @@ mod LocalSettingsLaws
 mod LocalSettingsRows
 mod LongBodies
 mod PayloadLaws
-mod PayloadRows
-pub mod ReadingLines
-mod ReadingParts
-pub mod RequestLaws
 mod RequestRows
+mod PayloadRows
 mod RuleRows
 pub mod Runs
 mod ScriptRows

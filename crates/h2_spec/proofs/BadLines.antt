@@ -5,7 +5,7 @@ use Rattle.h2_spec.specs.Assemble.{assembled}
 use Rattle.h2_spec.specs.Script.{AreLines, Bad, IsLeastFault, IsReadingOf, Line, kind_number}
 use Rattle.h2_spec.specs.declared.scripts.SyntaxKind.{SyntaxKind}
 use Rattle.h2_spec.specs.declared.scripts.SyntaxKind.TheVariants as kind
-use Rattle.h2_laws.proofs.ReadingLines.{script_read}
+use Rattle.h2_spec.proofs.ReadingLines.{script_read}
 
 -- ---- the first of its sort in a list
 

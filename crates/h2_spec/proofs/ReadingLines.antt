@@ -7,7 +7,7 @@ use Rattle.h2_spec.specs.Assemble.{◌>>=◌, assembled, fitting, frame_at, fram
 use Rattle.h2_spec.specs.Script.{Payload, Statement, Nothing, Preface, Raw, AFrame, AreLines, Bad, FourParts, HasFault, HasParts, IsFrameLine, IsLeastFault, IsReadingOf, Line, Says, SaysOctet, SaysPayload, SaysSomeOctets, SaysStream, SaysType, Script, cut_at, first_cut, first_word, kind_number, lines_of, octets_of, parts_of, payload_octets, second_cut, third_cut}
 use Rattle.h2_spec.specs.declared.scripts.SyntaxKind.{SyntaxKind}
 use Rattle.h2_spec.specs.declared.scripts.SyntaxKind.TheVariants as kind
-use Rattle.h2_laws.proofs.ReadingParts.{payload_back, payload_read, stream_back, stream_read, type_back, type_read}
+use Rattle.h2_spec.proofs.ReadingParts.{payload_back, payload_read, stream_back, stream_read, type_back, type_read}
 use Rattle.h2_spec.proofs.ReadingWords.{cut_back, cut_here, cut_none, octet_back, octet_read, octets_back, octets_read}
 use Rattle.h2_spec.proofs.ScriptTexts.{Lacks, literal_lacks, octets_lack, stream_lacks, type_lacks}
 
