@@ -1,5 +1,7 @@
+mod AppendixRows
 mod BeginningLaws
 mod BlockRows
+mod BookRows
 mod CauseLaws
 mod CauseRows
 mod CuttingLaws
@@ -9,20 +11,26 @@ mod EarlyRows
 mod FlowLaws
 mod FormLaws
 mod FrameRows
+pub mod grants
+mod GrantsRows
 mod Hex
 mod HuffmanRows
 mod IgnoredLaws
 mod IgnoredRows
+mod InstructionRows
 mod IntegerRows
-mod GrantsRows
-pub mod grants
-mod LongBodies
-mod LongLists
 mod LocalSettingsLaws
 mod LocalSettingsRows
+mod LongBodies
 mod PayloadLaws
 mod RequestRows
-mod Rows
+mod PayloadRows
+mod RuleRows
 pub mod Runs
 mod ScriptRows
+mod SettingsRows
 mod SplitLaws
+mod StaticTableRows
+mod StreamRows
+mod StringRows
+mod TableRows

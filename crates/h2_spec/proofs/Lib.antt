@@ -21,4 +21,4 @@ pub mod SpellingLaws
 pub mod TableLaws
 pub mod WrittenLaws
 pub mod TraceLaws
-mod CauseColumns
+pub mod Columns

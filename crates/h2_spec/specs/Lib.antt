@@ -19,6 +19,7 @@ pub mod FrameType
 pub mod Headers
 pub mod Huffman
 pub mod Ignored
+pub mod IgnoredWords
 pub mod HuffmanCode
 pub mod Instruction
 pub mod Integer
@@ -38,6 +39,8 @@ pub mod State
 pub mod StaticTable
 pub mod Stream
 pub mod ReactionTable
+pub mod Rules
+pub mod SpecialCases
 pub mod Trace
 pub mod View
 pub mod Window
