@@ -1,63 +1,54 @@
-//! What is asked of a debugger.
+//! What is asked of a debugger, as a word says it: `step=3`, `run`.
 
 use h2_debug::{DebugFault, Debugger};
 use std::alloc::Allocator;
 
-/// What is asked of a debugger: a move, or a breakpoint.
-#[derive(Clone, Copy, Debug)]
-pub enum Ask {
-    Step(usize),
-    Back(usize),
-    Go(usize),
-    Run,
-    At(usize),
-    Type(u8),
-    Stream(u32),
-    Sent(u8),
-    Clear,
+/// The name of a word, and its number; 0 where it has none.
+fn parts_of(word: &str) -> (&str, u32) {
+    match word.split_once("=") {
+        Some((name, number)) => (name, number.parse().unwrap_or(0)),
+        None => (word, 0),
+    }
 }
 
-/// What a word asks: `step=3`, `run`.
-pub fn ask_of(word: &str) -> Option<Ask> {
-    match word {
-        "run" => Some(Ask::Run),
-        "clear" => Some(Ask::Clear),
+// These have no clause, so that no proof above them carries the state of each call.
+
+/// Does what a word asks: the position after it, or the fault. A word that means nothing asks for nothing.
+pub fn asked<A: Allocator + Copy>(
+    debugger: &mut Debugger<'_, A>,
+    word: &str,
+) -> Result<usize, DebugFault> {
+    let (name, number) = parts_of(word);
+    match name {
+        "step" => debugger.step(number as usize),
+        "back" => debugger.back(number as usize),
+        "go" => debugger.go(number as usize),
+        "run" => debugger.run(),
         _ => {
-            let (name, number) = word.split_once("=")?;
-            with_number(name, number)
+            set(debugger, name, number)?;
+            Ok(debugger.pos())
         }
     }
 }
 
-fn with_number(name: &str, number: &str) -> Option<Ask> {
-    match name {
-        "step" => number.parse().ok().map(Ask::Step),
-        "back" => number.parse().ok().map(Ask::Back),
-        "go" => number.parse().ok().map(Ask::Go),
-        "at" => number.parse().ok().map(Ask::At),
-        "type" => number.parse().ok().map(Ask::Type),
-        "stream" => number.parse().ok().map(Ask::Stream),
-        "sent" => number.parse().ok().map(Ask::Sent),
-        _ => None,
-    }
+fn octet(number: u32) -> u8 {
+    u8::try_from(number).unwrap_or(0)
 }
 
-/// Does what is asked: the position after it, or the fault.
-// This has no clause, so that no proof above it carries the state of each call.
-pub fn asked<A: Allocator + Copy>(
+/// Sets a breakpoint, or clears all.
+fn set<A: Allocator + Copy>(
     debugger: &mut Debugger<'_, A>,
-    ask: Ask,
-) -> Result<usize, DebugFault> {
-    match ask {
-        Ask::Step(count) => return debugger.step(count),
-        Ask::Back(count) => return debugger.back(count),
-        Ask::Go(target) => return debugger.go(target),
-        Ask::Run => return debugger.run(),
-        Ask::At(position) => debugger.break_at(position)?,
-        Ask::Type(kind) => debugger.break_type(kind)?,
-        Ask::Stream(id) => debugger.break_stream(id)?,
-        Ask::Sent(kind) => debugger.break_sent(kind)?,
-        Ask::Clear => debugger.clear(),
+    name: &str,
+    number: u32,
+) -> Result<(), DebugFault> {
+    match name {
+        "at" => debugger.break_at(number as usize),
+        "type" => debugger.break_type(octet(number)),
+        "stream" => debugger.break_stream(number),
+        "sent" => debugger.break_sent(octet(number)),
+        _ => {
+            debugger.clear();
+            Ok(())
+        }
     }
-    Ok(debugger.pos())
 }

@@ -1,6 +1,6 @@
 //! Debuggers whose load and moves have an allocation refused.
 
-use crate::ask::{Ask, asked as asked_of};
+use crate::ask::asked as asked_of;
 use crate::conns::{book_of, place_of};
 use crate::line::Call;
 use crate::lists::Heap;
@@ -39,13 +39,16 @@ fn asked_again<'h>(
     alloc: Global,
     heap: &'h Heap,
     debugger: &mut Debugger<'_, &'h Heap>,
-    ask: Ask,
+    word: &str,
     before: &str,
 ) -> Result<String, AllocError> {
     heap.refuse(0);
     let same = seen(alloc, debugger)?.as_str() == before;
-    let again = asked_of(debugger, ask);
-    format!(in alloc; ", unchanged {same}, then {again:?} {}", debugger.replayed())
+    let again = asked_of(debugger, word);
+    format!(in alloc;
+        ", unchanged {same}, then {again:?} {}",
+        debugger.replayed()
+    )
 }
 
 /// Asks, with the answer as text; whether memory was refused.
@@ -53,18 +56,18 @@ fn one<'h>(
     alloc: Global,
     heap: &'h Heap,
     debugger: &mut Debugger<'_, &'h Heap>,
-    ask: Ask,
+    word: &str,
     session: &mut Session,
 ) -> Result<(), AllocError> {
     let before = seen(alloc, debugger)?;
-    let answer = asked_of(debugger, ask);
+    let answer = asked_of(debugger, word);
     if !heap.has_refused() {
-        return write!(session.text, "{ask:?} {answer:?} {}; ", debugger.replayed());
+        return write!(session.text, "{word} {answer:?} {}; ", debugger.replayed());
     }
     session.failed = true;
     session.text.clear();
-    let again = asked_again(alloc, heap, debugger, ask, before.as_str())?;
-    write!(session.text, "{ask:?} {answer:?}{again}; ")
+    let again = asked_again(alloc, heap, debugger, word, before.as_str())?;
+    write!(session.text, "{word} {answer:?}{again}; ")
 }
 
 /// Asks one thing after another, up to the one whose memory is refused.
@@ -72,11 +75,11 @@ fn follow<'h>(
     alloc: Global,
     heap: &'h Heap,
     debugger: &mut Debugger<'_, &'h Heap>,
-    asks: &[Ask],
+    asks: &[&str],
     session: &mut Session,
 ) -> Result<(), AllocError> {
-    for ask in asks {
-        one(alloc, heap, debugger, *ask, session)?;
+    for word in asks {
+        one(alloc, heap, debugger, *word, session)?;
         if session.failed {
             break;
         }
@@ -89,7 +92,7 @@ fn followed<'h>(
     alloc: Global,
     heap: &'h Heap,
     debugger: &mut Debugger<'_, &'h Heap>,
-    asks: &[Ask],
+    asks: &[&str],
 ) -> Result<Session, DebugFault> {
     let mut session = Session {
         text: String::new(alloc),
@@ -107,7 +110,7 @@ fn over_book<'h>(
     heap: &'h Heap,
     book: &Book<&'h Heap>,
     octets: Vec<u8, &'h Heap>,
-    asks: &[Ask],
+    asks: &[&str],
     turn: u64,
 ) -> Result<Session, DebugFault> {
     heap.refuse(turn);
@@ -119,7 +122,7 @@ fn held_session(
     alloc: Global,
     heap: &Heap,
     octets: &[u8],
-    asks: &[Ask],
+    asks: &[&str],
     turn: u64,
 ) -> Result<Session, DebugFault> {
     let book = book_of(heap, 2)?;
@@ -130,7 +133,8 @@ fn held_session(
 /// What a new debugger shows at a position.
 fn new_place(alloc: Global, octets: &[u8], position: usize) -> Result<String, DebugFault> {
     let heap = Refusing::new(alloc, 0);
-    let session = held_session(alloc, &heap, octets, &[Ask::Go(position)], 0)?;
+    let word = format!(in alloc; "go={position}")?;
+    let session = held_session(alloc, &heap, octets, &[word.as_str()], 0)?;
     Ok(session.place)
 }
 
@@ -147,7 +151,11 @@ pub fn asked(alloc: Global, call: &Call<'_>, turn: u64) -> Result<Answer, AllocE
     let heap = Refusing::new(alloc, 0);
     match held_session(alloc, &heap, call.piece(0), call.asks(), turn) {
         Ok(session) => Ok(Answer {
-            text: format!(in alloc; "{}as a new one shows {}", session.text, is_as_new(alloc, call.piece(0), &session))?,
+            text: format!(in alloc;
+                "{}as a new one shows {}",
+                session.text,
+                is_as_new(alloc, call.piece(0), &session)
+            )?,
             failed: session.failed,
         }),
         Err(fault) => Ok(Answer {

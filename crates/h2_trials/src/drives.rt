@@ -94,7 +94,10 @@ pub fn with_memory<'h>(
     let end = driven(conn, out, &mut wire, call);
     let sent = sent_by(alloc, &wire, out.as_slice())?;
     Ok(Left {
-        text: format!(in alloc; "{end:?} sent {sent}{}", driven_again(alloc, conn, out, call, end)?)?,
+        text: format!(in alloc;
+            "{end:?} sent {sent}{}",
+            driven_again(alloc, conn, out, call, end)?
+        )?,
         place: String::new(alloc),
         failed: heap.has_refused(),
     })
@@ -115,7 +118,11 @@ fn driven_again<'h>(
     let mut wire = wire_of(alloc, call, steps.as_slice(), usize::MAX);
     let pending = out.len();
     let again = driven(conn, out, &mut wire, call);
-    format!(in alloc; "; again {again:?}, written {}, unchanged {}", wire.written().len(), out.len() == pending)
+    format!(in alloc;
+        "; again {again:?}, written {}, unchanged {}",
+        wire.written().len(),
+        out.len() == pending
+    )
 }
 
 /// How many octets can be written before the one in this turn; all at 0.
@@ -142,7 +149,9 @@ pub fn with_writes<'h>(
     let sent = sent_by(alloc, &wire, out.as_slice())?;
     let is_as_much = !failed || wire.written().len() == writable;
     Ok(Left {
-        text: format!(in alloc; "{end:?} sent {sent}, written as far as the wire takes it {is_as_much}")?,
+        text: format!(in alloc;
+            "{end:?} sent {sent}, written as far as the wire takes it {is_as_much}"
+        )?,
         place: String::new(alloc),
         failed,
     })
@@ -164,7 +173,11 @@ pub fn with_reads<'h>(
     let end = driven(conn, out, &mut wire, call);
     let sent = sent_by(alloc, &wire, out.as_slice())?;
     Ok(Left {
-        text: format!(in alloc; "{end:?} sent {sent}, pending {}, reads {:?}", out.len(), wire.lengths())?,
+        text: format!(in alloc;
+            "{end:?} sent {sent}, pending {}, reads {:?}",
+            out.len(),
+            wire.lengths()
+        )?,
         place: String::new(alloc),
         failed: end == Err(DriveFault::Read),
     })

@@ -67,7 +67,10 @@ fn later<'h>(
     }
     let later = taken(conn, PING, out);
     let same = place_of(alloc, conn, out.as_slice())?.as_str() == place;
-    format!(in alloc; "{answer:?}, failed {}; a PING then {later:?}, unchanged {same}", conn.failed())
+    format!(in alloc;
+        "{answer:?}, failed {}; a PING then {later:?}, unchanged {same}",
+        conn.failed()
+    )
 }
 
 fn feed<'h>(
@@ -277,7 +280,11 @@ fn items_before(alloc: Global, call: &Call<'_>, place: &str) -> Result<Option<us
 /// The answer of a trial with the place that it leaves.
 fn placed(alloc: Global, call: &Call<'_>, left: Left) -> Result<Answer, AllocError> {
     let text = match items_before(alloc, call, left.place.as_str())? {
-        Some(count) => format!(in alloc; "{}; as after {count} of {}", left.text, call.pieces().len())?,
+        Some(count) => format!(in alloc;
+            "{}; as after {count} of {}",
+            left.text,
+            call.pieces().len()
+        )?,
         None => format!(in alloc; "{}; as after none of them", left.text)?,
     };
     Ok(Answer {
@@ -296,7 +303,10 @@ pub fn copied_and_fed(alloc: Global, call: &Call<'_>, turn: u64) -> Result<Answe
 
 pub fn sent(alloc: Global, call: &Call<'_>) -> Result<Answer, AllocError> {
     let left = left_by(alloc, call, (Way::Items, 0))?;
-    Ok(Answer { text: left.text, failed: false })
+    Ok(Answer {
+        text: left.text,
+        failed: false,
+    })
 }
 
 /// Why a connection can't be opened; none where it can.
@@ -319,7 +329,11 @@ pub fn opened(alloc: Global, call: &Call<'_>, turn: u64) -> Result<Answer, Alloc
     let mut text = format!(in alloc; "{first:?} {}", hex::encode(alloc, out.as_slice())?)?;
     if failed {
         let second = opening_fault(&book, call, &mut out);
-        write!(text, ", then {second:?} {}", hex::encode(alloc, out.as_slice())?)?;
+        write!(
+            text,
+            ", then {second:?} {}",
+            hex::encode(alloc, out.as_slice())?
+        )?;
     }
     Ok(Answer { text, failed })
 }

@@ -3,17 +3,28 @@
 //! Octets are a name (`preface`), hex behind an `x`, or either of them behind a number and a `*`, which repeats them.
 //! Those in a row are one piece; a `,` begins the next one. In a text `|` is a line feed.
 
-use crate::ask::{Ask, ask_of};
 use std::alloc::{AllocError, Global};
 
 /// What a line calls for, behind its first word.
-#[derive(Drop)]
 pub struct Call<'l> {
     numbers: Vec<u64>,
     pieces: Vec<Vec<u8>>,
-    asks: Vec<Ask>,
+    asks: Vec<&'l str>,
     words: &'l str,
     text: Vec<u8>,
+}
+
+/// By hand, so that a function that drops a call makes one call itself.
+impl Drop for Call<'_> {
+    fn drop(self) {
+        let Self {
+            numbers: _,
+            pieces: _,
+            asks: _,
+            words: _,
+            text: _,
+        } = self;
+    }
 }
 
 /// The parts of a text before and behind a mark; nothing is behind it where there is none.
@@ -87,6 +98,11 @@ fn add_repeated(alloc: Global, octets: &mut Vec<u8>, word: &str) -> Result<(), A
     Ok(())
 }
 
+/// Whether a word asks something of a debugger.
+fn is_ask(word: &str) -> bool {
+    word == "run" || word == "clear" || word.split_once("=").is_some()
+}
+
 impl<'l> Call<'l> {
     /// What these words call for. A word that means nothing is refused as memory is.
     pub fn of(alloc: Global, line: &'l str) -> Result<Call<'l>, AllocError> {
@@ -104,30 +120,31 @@ impl<'l> Call<'l> {
         Ok(call)
     }
 
-    fn add_all(&mut self, alloc: Global, words: &str) -> Result<(), AllocError> {
+    fn add_all(&mut self, alloc: Global, words: &'l str) -> Result<(), AllocError> {
+        self.pieces.push(Vec::new(alloc))?;
         for word in words.split_ascii_whitespace() {
             self.add(alloc, word)?;
         }
         Ok(())
     }
 
-    fn add(&mut self, alloc: Global, word: &str) -> Result<(), AllocError> {
+    fn add(&mut self, alloc: Global, word: &'l str) -> Result<(), AllocError> {
         if let Ok(number) = word.parse::<u64>() {
             return Ok(self.numbers.push(number)?);
         }
-        if let Some(ask) = ask_of(word) {
-            return Ok(self.asks.push(ask)?);
+        if is_ask(word) {
+            return Ok(self.asks.push(word)?);
         }
-        self.add_to_pieces(alloc, word)
+        if word == "," {
+            return Ok(self.pieces.push(Vec::new(alloc))?);
+        }
+        self.add_to_piece(alloc, word)
     }
 
-    fn add_to_pieces(&mut self, alloc: Global, word: &str) -> Result<(), AllocError> {
-        if word == "," || self.pieces.is_empty() {
-            self.pieces.push(Vec::new(alloc))?;
-        }
+    fn add_to_piece(&mut self, alloc: Global, word: &str) -> Result<(), AllocError> {
         match self.pieces.last_mut() {
-            Some(piece) if word != "," => add_repeated(alloc, piece, word),
-            _ => Ok(()),
+            Some(piece) => add_repeated(alloc, piece, word),
+            None => Ok(()),
         }
     }
 
@@ -159,7 +176,7 @@ impl<'l> Call<'l> {
         self.pieces.as_slice()
     }
 
-    pub fn asks(&self) -> &[Ask] {
+    pub fn asks(&self) -> &[&'l str] {
         self.asks.as_slice()
     }
 

@@ -35,7 +35,10 @@ pub fn granted(alloc: Global, turn: u64) -> Result<Answer, AllocError> {
     let anew = heap.has_refused();
     let second = three_asked(&heap);
     Ok(Answer {
-        text: format!(in alloc; "{:?}, refused {}; counted anew {anew}, {:?}, refused {}", first.0, first.1, second.0, second.1)?,
+        text: format!(in alloc;
+            "{:?}, refused {}; counted anew {anew}, {:?}, refused {}",
+            first.0, first.1, second.0, second.1
+        )?,
         failed: first.1,
     })
 }
@@ -65,7 +68,11 @@ pub fn grown(alloc: Global, turn: u64) -> Result<Answer, AllocError> {
     let mut octets = Vec::new(&heap);
     push_all(&mut octets);
     Ok(Answer {
-        text: format!(in alloc; "all {}, a beginning {}", octets.len() == 32, is_beginning(octets.as_slice()))?,
+        text: format!(in alloc;
+            "all {}, a beginning {}",
+            octets.len() == 32,
+            is_beginning(octets.as_slice())
+        )?,
         failed: heap.has_refused(),
     })
 }

@@ -7,9 +7,8 @@ use crate::line::Call;
 use crate::trials::Answer;
 use h2_bench::{Words, run};
 use std::alloc::{AllocError, Global};
-use std::io;
 use std::io::{ErrorKind, Read, Write};
-use std::str;
+use std::{io, str};
 
 /// A reader that gives at most so many octets at each call. The call with the number in `calls` fails, counted from 1.
 #[derive(Drop)]
@@ -155,7 +154,11 @@ fn over_writes(alloc: Global, call: &Call<'_>, turn: u64) -> Result<Answer, Allo
     let (whole, printed) = (whole.printed.as_slice(), found.printed.as_slice());
     let is_as_much = printed.len() == limit.min(whole.len());
     Ok(Answer {
-        text: format!(in alloc; "status {}, written as far as the writer takes it {is_as_much}, as with a writer that takes all {}", found.status, whole.starts_with(printed))?,
+        text: format!(in alloc;
+            "status {}, written as far as the writer takes it {is_as_much}, as with a writer that takes all {}",
+            found.status,
+            whole.starts_with(printed)
+        )?,
         failed: limit < whole.len(),
     })
 }
@@ -166,7 +169,11 @@ fn in_pieces(alloc: Global, call: &Call<'_>) -> Result<Answer, AllocError> {
     let found = ran(alloc, call, call.size(0), 0, usize::MAX)?;
     let is_same = found.status == whole.status && found.printed == whole.printed;
     Ok(Answer {
-        text: format!(in alloc; "status {}, prints something {}, as in one piece {is_same}", found.status, !whole.printed.is_empty())?,
+        text: format!(in alloc;
+            "status {}, prints something {}, as in one piece {is_same}",
+            found.status,
+            !whole.printed.is_empty()
+        )?,
         failed: false,
     })
 }

@@ -36,7 +36,11 @@ fn verb_of(line: &str) -> (&str, &str) {
 fn once(alloc: Global, line: &str) -> Result<String, AllocError> {
     let (verb, rest) = verb_of(line);
     let call = Call::of(alloc, rest)?;
-    let answer = tried(alloc, verb, &call, 0)?;
+    first_turn(alloc, verb, &call)
+}
+
+fn first_turn(alloc: Global, verb: &str, call: &Call<'_>) -> Result<String, AllocError> {
+    let answer = tried(alloc, verb, call, 0)?;
     format!(in alloc; "  {}\n", answer.text)
 }
 
@@ -48,16 +52,17 @@ const MOST: u64 = 100_000;
 fn in_turn(alloc: Global, line: &str) -> Result<String, AllocError> {
     let (verb, rest) = verb_of(line);
     let call = Call::of(alloc, rest)?;
+    all_turns(alloc, verb, &call)
+}
+
+fn all_turns(alloc: Global, verb: &str, call: &Call<'_>) -> Result<String, AllocError> {
     let mut lines = Lines::new(alloc);
     for turn in 1..MOST {
-        let answer = tried(alloc, verb, &call, turn)?;
-        lines.add(&answer)?;
-        if !answer.failed {
+        if !lines.add(alloc, verb, call, turn)? {
             return Ok(lines.all);
         }
     }
-    lines.all.push_str("  more failures than were tried\n")?;
-    Ok(lines.all)
+    String::from_str(alloc, "  more failures than were tried\n")
 }
 
 /// Lines, and the last one.
@@ -76,13 +81,26 @@ impl Lines {
     }
 
     /// Adds a line, unless it is the last one once more.
-    fn add(&mut self, answer: &Answer) -> Result<(), AllocError> {
-        if answer.text.as_str() == self.last.as_str() {
+    fn add_line(&mut self, line: &str) -> Result<(), AllocError> {
+        if line == self.last.as_str() {
             return Ok(());
         }
         self.last.clear();
-        self.last.push_str(answer.text.as_str())?;
-        write!(self.all, "  {}\n", answer.text)
+        self.last.push_str(line)?;
+        write!(self.all, "  {line}\n")
+    }
+
+    /// Adds the answer of a trial; whether something failed in it.
+    fn add(
+        &mut self,
+        alloc: Global,
+        verb: &str,
+        call: &Call<'_>,
+        turn: u64,
+    ) -> Result<bool, AllocError> {
+        let answer = tried(alloc, verb, call, turn)?;
+        self.add_line(answer.text.as_str())?;
+        Ok(answer.failed)
     }
 }
 
