@@ -2,8 +2,8 @@
 
 use crate::ask::asked as asked_of;
 use crate::conns::{book_of, place_of};
+use crate::heap::Heap;
 use crate::line::Call;
-use crate::lists::Heap;
 use crate::trials::Answer;
 use h2_debug::{DebugFault, Debugger};
 use h2_refusing::Refusing;

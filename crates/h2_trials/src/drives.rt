@@ -5,8 +5,8 @@
 ghost use Rattle.std.specs.Prelude.{◌≡◌, false};
 
 use crate::feeds::{Left, Way, left_by};
+use crate::heap::Heap;
 use crate::line::Call;
-use crate::lists::Heap;
 use crate::scripted::{ScriptedWire, Step};
 use crate::trials::Answer;
 use h2_conn::Conn;

@@ -1,17 +1,15 @@
-//! Connections that are fed, copied and opened with an allocation refused, and a connection in little memory.
+//! Connections that are fed and copied with an allocation refused.
 //! The numbers of a line are the most streams, the size of the header table, and which answers the book has; its
 //! pieces are the items of a run.
 
 use crate::conns::{book_of, config_of, opened as opened_conn, place_of, taken};
 use crate::drives;
+use crate::heap::Heap;
 use crate::line::Call;
-use crate::lists::Heap;
 use crate::trials::Answer;
-use h2_conn::play::open_and_feed;
 use h2_conn::{Conn, ConnFault};
 use h2_refusing::Refusing;
 use h2_request::book::Book;
-use linked_list_allocator::LocalHeap;
 use std::alloc::{AllocError, Global};
 
 /// What is done with a new connection.
@@ -305,93 +303,6 @@ pub fn sent(alloc: Global, call: &Call<'_>) -> Result<Answer, AllocError> {
     let left = left_by(alloc, call, (Way::Items, 0))?;
     Ok(Answer {
         text: left.text,
-        failed: false,
-    })
-}
-
-/// Why a connection can't be opened; none where it can.
-fn opening_fault<'h>(
-    book: &Book<&'h Heap>,
-    call: &Call<'_>,
-    out: &mut Vec<u8, &'h Heap>,
-) -> Option<ConnFault> {
-    opened_conn(book, config_of(call), out).err()
-}
-
-/// Opens a connection behind an octet with an allocation refused, and once more where it was.
-pub fn opened(alloc: Global, call: &Call<'_>, turn: u64) -> Result<Answer, AllocError> {
-    let heap = Refusing::new(alloc, 0);
-    let book = Book::new(&heap);
-    let mut out = Vec::from_slice(&heap, b"\x01")?;
-    heap.refuse(turn);
-    let first = opening_fault(&book, call, &mut out);
-    let failed = heap.has_refused();
-    let mut text = format!(in alloc; "{first:?} {}", hex::encode(alloc, out.as_slice())?)?;
-    if failed {
-        let second = opening_fault(&book, call, &mut out);
-        write!(
-            text,
-            ", then {second:?} {}",
-            hex::encode(alloc, out.as_slice())?
-        )?;
-    }
-    Ok(Answer { text, failed })
-}
-
-/// What a program prints of a connection that was opened and fed: what was sent, and its state.
-fn played_text<'h>(
-    alloc: Global,
-    book: &Book<&'h Heap>,
-    call: &Call<'_>,
-    out: &mut Vec<u8, &'h Heap>,
-) -> Result<String, AllocError> {
-    match open_and_feed(book, config_of(call), call.piece(0), &[], out) {
-        Ok(conn) => place_of(alloc, &conn, out.as_slice()),
-        Err(fault) => format!(in alloc; "{fault:?}, {} octets sent", out.len()),
-    }
-}
-
-/// Opens a connection and feeds it the first piece, with an allocation refused.
-pub fn played(alloc: Global, call: &Call<'_>, turn: u64) -> Result<Answer, AllocError> {
-    let heap = Refusing::new(alloc, 0);
-    let book = book_of(&heap, call.number(2))?;
-    let mut out = Vec::new(&heap);
-    heap.refuse(turn);
-    Ok(Answer {
-        text: played_text(alloc, &book, call, &mut out)?,
-        failed: heap.has_refused(),
-    })
-}
-
-/// Whether a connection takes octets in pieces of 8,000 with the memory that is left, and goes on.
-fn takes_all<'h>(
-    conn: &mut Conn<'_, &'h LocalHeap>,
-    octets: &[u8],
-    out: &mut Vec<u8, &'h LocalHeap>,
-) -> bool {
-    for piece in octets.chunks(8_000) {
-        if taken(conn, piece, out).is_err() {
-            return false;
-        }
-    }
-    conn.ended().is_none()
-}
-
-/// Whether a connection takes octets with no more memory than the heap's, and goes on.
-fn fits_in(heap: &LocalHeap, call: &Call<'_>) -> bool {
-    let book = Book::new(heap);
-    let mut out = Vec::new(heap);
-    match opened_conn(&book, config_of(call), &mut out) {
-        Ok(mut conn) => takes_all(&mut conn, call.piece(0), &mut out),
-        Err(_) => false,
-    }
-}
-
-/// Whether a connection takes octets with so much memory; the third number of the line.
-pub fn fits(alloc: Global, call: &Call<'_>) -> Result<Answer, AllocError> {
-    let heap = LocalHeap::new(alloc, call.size(2))?;
-    Ok(Answer {
-        text: format!(in alloc; "{}", fits_in(&heap, call))?,
         failed: false,
     })
 }

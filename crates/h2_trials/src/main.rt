@@ -5,13 +5,15 @@
 #![tactic(auto)]
 
 mod ask;
+mod bounds;
 mod conns;
 mod debuggers;
 mod devices;
 mod drives;
 mod feeds;
+mod heap;
 mod line;
-mod lists;
+mod openings;
 mod programs;
 mod scripted;
 mod scripts;

@@ -1,7 +1,7 @@
 //! Scripts assembled and written with an allocation refused.
 
+use crate::heap::Heap;
 use crate::line::Call;
-use crate::lists::Heap;
 use crate::trials::Answer;
 use h2_refusing::Refusing;
 use h2_script::{assemble, disassemble};

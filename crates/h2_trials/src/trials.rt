@@ -1,7 +1,7 @@
 //! Which trial a line names, and each failure in turn.
 
 use crate::line::Call;
-use crate::{debuggers, drives, feeds, lists, programs, scripts, sessions};
+use crate::{bounds, debuggers, drives, feeds, heap, openings, programs, scripts, sessions};
 use std::alloc::{AllocError, Global};
 
 /// What a trial found.
@@ -120,15 +120,15 @@ fn of_memory(alloc: Global, verb: &str, call: &Call<'_>, turn: u64) -> Result<An
         "feed" => feeds::fed(alloc, call, turn),
         "items" => feeds::sent(alloc, call),
         "copy" => feeds::copied_and_fed(alloc, call, turn),
-        "open" => feeds::opened(alloc, call, turn),
-        "play" => feeds::played(alloc, call, turn),
+        "open" => openings::opened(alloc, call, turn),
+        "play" => openings::played(alloc, call, turn),
         "debug" => debuggers::asked(alloc, call, turn),
         "assemble" => scripts::assembled(alloc, call, turn),
         "disassemble" => scripts::disassembled(alloc, call, turn),
-        "grant" => lists::granted(alloc, turn),
-        "grow" => lists::grown(alloc, turn),
-        "room" => lists::room(alloc, call),
-        "fits" => feeds::fits(alloc, call),
+        "grant" => heap::granted(alloc, turn),
+        "grow" => heap::grown(alloc, turn),
+        "room" => bounds::room(alloc, call),
+        "fits" => bounds::fits(alloc, call),
         _ => Err(AllocError),
     }
 }

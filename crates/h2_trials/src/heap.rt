@@ -1,12 +1,7 @@
-//! The allocator that refuses one allocation, by lists of octets; and the room that a splitter of frames needs.
+//! The allocator that refuses one allocation, by lists of octets.
 
-ghost use Rattle.std.specs.Prelude.{◌≡◌};
-
-use crate::line::Call;
 use crate::trials::Answer;
-use h2_frame::{Item, Splitter};
 use h2_refusing::Refusing;
-use linked_list_allocator::LocalHeap;
 use std::alloc::{AllocError, Global};
 
 /// An allocator over `Global` that refuses one allocation; collections take a `&` to it.
@@ -74,42 +69,5 @@ pub fn grown(alloc: Global, turn: u64) -> Result<Answer, AllocError> {
             is_beginning(octets.as_slice())
         )?,
         failed: heap.has_refused(),
-    })
-}
-
-// These have no clause, so that no proof above them carries what a splitter holds.
-
-fn push(splitter: &mut Splitter<&LocalHeap>, octets: &[u8]) -> bool {
-    splitter.push(octets).is_ok()
-}
-
-/// The next item, frames of at most 16,384 octets.
-fn next<'s>(splitter: &'s mut Splitter<&LocalHeap>) -> Option<Item<'s>> {
-    splitter.next(16_384)
-}
-
-/// Whether octets are taken, with one item in them.
-fn takes(splitter: &mut Splitter<&LocalHeap>, octets: &[u8]) -> bool {
-    push(splitter, octets) && next(splitter).is_some()
-}
-
-/// Whether a splitter takes the first piece, and then so many times the second.
-fn takes_all(splitter: &mut Splitter<&LocalHeap>, call: &Call<'_>) -> bool {
-    let mut takes_all = takes(splitter, call.piece(0));
-    for _ in 0..call.number(1) {
-        takes_all = takes_all && takes(splitter, call.piece(1));
-    }
-    takes_all
-}
-
-/// A splitter that has so many octets of memory and no more takes the first piece, and then so many times the second,
-/// with an item in each.
-pub fn room(alloc: Global, call: &Call<'_>) -> Result<Answer, AllocError> {
-    let heap = LocalHeap::new(alloc, call.size(0))?;
-    let mut splitter = Splitter::new(&heap);
-    let takes_all = takes_all(&mut splitter, call);
-    Ok(Answer {
-        text: format!(in alloc; "all taken {takes_all}")?,
-        failed: false,
     })
 }
