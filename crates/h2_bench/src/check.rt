@@ -2,7 +2,6 @@
 //! Rests on h2_check, `books` and h2_book; definitions: `specs/CheckProgram.antt`.
 
 ghost use Rattle.std.specs.Prelude.{◌≡◌, ◌≤◌, ◌<◌, [], false, length, is_err};
-ghost use Rattle.h2_conn.specs.Connection.{going};
 ghost use Rattle.h2_bench.specs.Each.{not_written};
 
 use crate::books::book_for_words;
@@ -10,8 +9,7 @@ use crate::each::PlacesFault;
 use crate::fault::BenchFault;
 use crate::input::LIMIT;
 use h2_book::{Files, FilesFault};
-use h2_check::{Line, ShellFault, Title, Verdict, Walk, Wrong, add_words, are_silent, case_length, check_lines, expect_something, line_of, lines_in, plan_line, title_of, verdict_text};
-use h2_conn::{Conn, ConnFault};
+use h2_check::{CaseFault, Line, ShellFault, Title, Verdict, Wrong, add_words, are_silent, case_length, check_case, line_of, lines_in, plan_line, title_of, verdict_text};
 use h2_device::{Gathered, Output};
 use h2_request::book::Book;
 use h2_spec::connection::Config;
@@ -69,7 +67,7 @@ fn write<O: Output>(output: &mut O, octets: &[u8]) -> Result<(), PlacesFault> {
 }
 
 /// The tally with one more verdict.
-fn tallied(tally: Tally, verdict: Verdict<'_, '_>) -> Tally {
+fn tallied(tally: Tally, verdict: &Verdict<'_>) -> Tally {
     Tally {
         count: tally.count + 1,
         all_hold: tally.all_hold && !matches!(verdict, Verdict::Fails(_)),
@@ -80,7 +78,7 @@ fn tallied(tally: Tally, verdict: Verdict<'_, '_>) -> Tally {
 fn report<O: Output>(
     alloc: Global,
     title: Title<'_>,
-    verdict: Verdict<'_, '_>,
+    verdict: &Verdict<'_>,
     tally: &mut Tally,
     output: &mut O,
 ) -> Result<(), PlacesFault> {
@@ -91,16 +89,19 @@ fn report<O: Output>(
     }
 }
 
-/// Writes that a case failed at a line, and why.
-fn report_failed<O: Output>(
+/// Writes that a case failed at a line.
+fn report_wrong<O: Output>(
     alloc: Global,
     title: Title<'_>,
     wrong: Wrong<'_>,
     tally: &mut Tally,
     output: &mut O,
 ) -> Result<(), PlacesFault> {
-    let wrongs = [wrong];
-    report(alloc, title, Verdict::Fails(&wrongs), tally, output)
+    let mut wrongs = Vec::new(alloc);
+    match wrongs.push(wrong) {
+        Ok(()) => report(alloc, title, &Verdict::Fails(wrongs), tally, output),
+        Err(_) => Err(PlacesFault::Fault(BenchFault::NoMemory)),
+    }
 }
 
 /// Writes that a case failed at a line for a reason in words.
@@ -115,50 +116,12 @@ fn report_words<O: Output>(
 ) -> Result<(), PlacesFault> {
     let wanted = wanted.as_bytes();
     match String::from_str(alloc, found) {
-        Ok(found) => report_failed(
-            alloc,
-            title,
-            Wrong {
-                line,
-                wanted,
-                found,
-            },
-            tally,
-            output,
-        ),
+        Ok(found) => report_wrong(alloc, title, Wrong { line, wanted, found }, tally, output),
         Err(error) => Err(no_memory(error)),
     }
 }
 
-/// The verdict on lines that were walked over.
-fn verdict<'w, 't>(case: Case<'_, 't>, walk: &'w Walk<'t>) -> Verdict<'w, 't> {
-    if !walk.holds() {
-        Verdict::Fails(walk.wrongs())
-    } else if expect_something(case.lines) {
-        Verdict::Holds
-    } else {
-        Verdict::Skipped
-    }
-}
-
-/// Walks over the lines of a case, and writes the verdict.
-fn walk_over<'t, O: Output>(
-    alloc: Global,
-    conn: &mut Conn<'_, Global>,
-    case: Case<'_, 't>,
-    walk: &mut Walk<'t>,
-    tally: &mut Tally,
-    output: &mut O,
-) -> Result<(), PlacesFault>
-    requires ready { conn.old ≡ going conn.old.state [] }
-{
-    match check_lines(alloc, conn, case.lines, case.number, walk) {
-        Ok(()) => report(alloc, title(case), verdict(case, walk), tally, output),
-        Err(error) => Err(no_memory(error)),
-    }
-}
-
-/// Checks a case on a new connection.
+/// Checks a case with this book, these limits and these settings.
 fn check_on<O: Output>(
     alloc: Global,
     common: Common<'_>,
@@ -166,22 +129,16 @@ fn check_on<O: Output>(
     tally: &mut Tally,
     output: &mut O,
 ) -> Result<(), PlacesFault> {
-    let mut sent = Vec::new(alloc);
-    match Conn::new(common.book, common.config, &mut sent) {
-        Ok(mut conn) => {
-            let mut walk = Walk::new(alloc, sent);
-            walk_over(alloc, &mut conn, case, &mut walk, tally, output)
-        }
-        Err(ConnFault::BadConfig) => report_words(
+    match check_case(alloc, common.book, common.config, case.lines, case.number) {
+        Ok(verdict) => report(alloc, title(case), &verdict, tally, output),
+        Err(CaseFault::BadConfig) => refuse_words(
             alloc,
-            title(case),
-            words_line(case),
-            "limits and settings in range",
+            case,
             "a limit or a setting is out of range",
             tally,
             output,
         ),
-        Err(_) => Err(PlacesFault::Fault(BenchFault::NoMemory)),
+        Err(CaseFault::NoMemory) => Err(PlacesFault::Fault(BenchFault::NoMemory)),
     }
 }
 
@@ -358,7 +315,7 @@ fn said_in(gathered: &Gathered) -> &str {
 }
 
 /// Checks a case: with its own words where it has some, else with those of the command.
-fn check_case<F: Files, O: Output>(
+fn check_one<F: Files, O: Output>(
     alloc: Global,
     common: Common<'_>,
     files: &mut F,
@@ -401,7 +358,7 @@ fn check_cases<F: Files, O: Output>(
             number,
         };
         if !is_preamble(case, lines.len()) {
-            match check_case(alloc, common, files, case, tally, output) {
+            match check_one(alloc, common, files, case, tally, output) {
                 Ok(()) => {}
                 Err(fault) => return Err(fault),
             }

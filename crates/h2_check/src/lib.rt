@@ -9,10 +9,11 @@ mod pattern;
 mod run;
 mod shell;
 mod tap;
+mod verdict;
 mod walk;
 
-pub use cases::{are_silent, case_length, expect_something, lines_in, title_of};
+pub use cases::{are_silent, case_length, lines_in, title_of};
 pub use line::{Line, line_of};
 pub use shell::{ShellFault, add_words};
-pub use tap::{Title, Verdict, plan_line, verdict_text};
-pub use walk::{Wrong, Walk, check_lines};
+pub use tap::{Title, plan_line, verdict_text};
+pub use verdict::{CaseFault, Verdict, Wrong, check_case};

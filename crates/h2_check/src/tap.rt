@@ -2,20 +2,9 @@
 //! Rests on `walk`; definitions: `specs/Cases.antt`.
 
 use crate::pattern::shared;
-use crate::walk::Wrong;
+use crate::verdict::{Verdict, Wrong};
 use itoa::Buffer;
 use std::alloc::{AllocError, Global};
-
-/// The verdict on a case.
-#[derive(Clone, Copy)]
-pub enum Verdict<'w, 't> {
-    /// It expects nothing.
-    Skipped,
-    /// All of its lines hold.
-    Holds,
-    /// These don't.
-    Fails(&'w [Wrong<'t>]),
-}
 
 /// What a case is called: its file, and its title if it has one.
 #[derive(Clone, Copy)]
@@ -80,7 +69,7 @@ impl Growing {
 }
 
 /// The words before the number of a test.
-fn result_words(verdict: Verdict<'_, '_>) -> &'static str {
+fn result_words(verdict: &Verdict<'_>) -> &'static str {
     match verdict {
         Verdict::Skipped | Verdict::Holds => "ok ",
         Verdict::Fails(_) => "not ok ",
@@ -88,7 +77,7 @@ fn result_words(verdict: Verdict<'_, '_>) -> &'static str {
 }
 
 /// The words behind the name of a test.
-fn directive(verdict: Verdict<'_, '_>) -> &'static str {
+fn directive(verdict: &Verdict<'_>) -> &'static str {
     match verdict {
         Verdict::Skipped => " # SKIP it expects nothing\n",
         Verdict::Holds | Verdict::Fails(_) => "\n",
@@ -96,7 +85,7 @@ fn directive(verdict: Verdict<'_, '_>) -> &'static str {
 }
 
 /// The line of a result.
-fn put_result(number: u64, title: Title<'_>, verdict: Verdict<'_, '_>, out: &mut Growing) {
+fn put_result(number: u64, title: Title<'_>, verdict: &Verdict<'_>, out: &mut Growing) {
     out.text(result_words(verdict));
     out.number(number);
     out.text(" - ");
@@ -140,12 +129,12 @@ pub fn verdict_text(
     alloc: Global,
     number: u64,
     title: Title<'_>,
-    verdict: Verdict<'_, '_>,
+    verdict: &Verdict<'_>,
 ) -> Result<Vec<u8>, AllocError> {
     let mut out = Growing::new(alloc);
     put_result(number, title, verdict, &mut out);
     if let Verdict::Fails(wrongs) = verdict {
-        put_wrongs(title.file, wrongs, &mut out);
+        put_wrongs(title.file, wrongs.as_slice(), &mut out);
     }
     out.finish()
 }
