@@ -5,7 +5,7 @@ use Rattle.std.specs.Str.{bytes_eq}
 use Rattle.std.specs.List.{list_any}
 use Rattle.h2_spec.specs.Answer.{Entry}
 use Rattle.h2_spec.specs.CauseWords.{cause_name}
-use Rattle.h2_spec.specs.Ignored.{ignored_name}
+use Rattle.h2_spec.specs.IgnoredWords.{ignored_name}
 use Rattle.h2_spec.specs.Opening.{opening_octets}
 use Rattle.h2_spec.specs.Show.{show}
 use Rattle.h2_spec.specs.State.{State, opening}
