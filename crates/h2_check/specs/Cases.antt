@@ -2,7 +2,6 @@
 -- says something of the run of the octets above it; the case holds where all of them do.
 use Rattle.std.specs.Prelude.{ℕ, Bool, true, false, ◌&&◌, ◌||◌, not, List, [], ◌∷◌, ◌++◌, length, drop, map, codes, if◌then◌else◌, Option, Some, None}
 use Rattle.std.specs.Str.{bytes_eq}
-use Rattle.std.specs.List.{list_any}
 use Rattle.h2_spec.specs.Answer.{Entry}
 use Rattle.h2_spec.specs.CauseWords.{cause_name}
 use Rattle.h2_spec.specs.IgnoredWords.{ignored_name}
@@ -16,7 +15,8 @@ use Rattle.h2_spec.specs.declared.connection.Config.{Config}
 use Rattle.h2_spec.specs.declared.ignored.Ignored.{Ignored}
 use Rattle.h2_check.specs.Frames.{is_none, octets_at, sends, spoken_by}
 use Rattle.h2_check.specs.Lines as line
-use Rattle.h2_check.specs.Lines.{Said, expects, line_said}
+use Rattle.h2_check.specs.Files.{expect_something}
+use Rattle.h2_check.specs.Lines.{Said, line_said}
 use Rattle.h2_check.specs.Seen.{Sight, sight}
 use Rattle.h2_check.specs.Texts.{shows}
 
@@ -129,10 +129,6 @@ start_of book config = record { state = opening book config; sent = opening_octe
 -- the run of the octets of these lines, with this book, these limits and these settings, meets what they expect
 unfoldable pub case_holds : List Entry → Config → List (List ℕ) → Bool
 case_holds book config lines = all_hold (start_of book config) first_place (map line_said lines)
-
--- whether lines expect something
-abbrev pub expect_something : List (List ℕ) → Bool
-expect_something lines = list_any (λ l. expects (line_said l)) lines
 
 -- ---- the verdict
 

@@ -1,8 +1,8 @@
 -- The cases of a file: each begins at a line with a title; a file without one is one case.
 use Rattle.std.specs.Prelude.{ℕ, ◌+◌, ◌==◌, Bool, true, false, List, [], ◌∷◌, Option, Some, None}
-use Rattle.std.specs.List.{position_or_len}
+use Rattle.std.specs.List.{list_any, position_or_len}
 use Rattle.h2_check.specs.Lines as line
-use Rattle.h2_check.specs.Lines.{Said, begins, line_said}
+use Rattle.h2_check.specs.Lines.{Said, begins, expects, line_said}
 
 -- how many lines the case has that lines begin with: the first, and those before the next that begins a case
 abbrev pub case_length : List (List ℕ) → ℕ
@@ -44,3 +44,7 @@ is_silent (line.Command text) = false
 
 abbrev pub is_silent_line : List ℕ → Bool
 is_silent_line line = is_silent (line_said line)
+
+-- lines expect something
+abbrev pub expect_something : List (List ℕ) → Bool
+expect_something lines = list_any (λ l. expects (line_said l)) lines

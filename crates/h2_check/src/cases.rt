@@ -5,8 +5,7 @@ ghost use Rattle.std.specs.Prelude.{◌≡◌, ◌<◌, ◌≤◌, length, map, 
 ghost use Rattle.std.specs.List.{list_all, list_any, position_or_len};
 ghost use Rattle.std.specs.Option.{option_map};
 ghost use Rattle.h2_spec.specs.Script.{lines_of};
-ghost use Rattle.h2_check.specs.Cases.{expect_something};
-ghost use Rattle.h2_check.specs.Files.{case_length, is_silent_line, title_in};
+ghost use Rattle.h2_check.specs.Files.{case_length, expect_something, is_silent_line, title_in};
 ghost use Rattle.h2_check.specs.Lines.{begins, expects, line_said};
 
 use crate::line::{Line, line_of};

@@ -2,7 +2,7 @@
 //! Rests on nothing; definitions: `specs/Lines.antt`.
 
 ghost use Rattle.std.specs.Prelude.{◌≡◌};
-ghost use Rattle.h2_check.specs.Lines.{is_expectation, is_title, line_said, said_by};
+ghost use Rattle.h2_check.specs.Lines.{expectation_said, line_said, said_by};
 
 /// What a line of a case file says.
 #[derive(Clone, Copy)]
@@ -29,6 +29,7 @@ pub enum Line<'t> {
 
 /// What a line expects; any other line is one of the script.
 fn expectation_of(line: &[u8]) -> Line<'_>
+    ensures { said_by result ≡ expectation_said line.now }
 {
     if let Some(text) = line.strip_prefix(b";< ".as_slice()) {
         return Line::Sent(text);
