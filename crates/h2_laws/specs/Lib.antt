@@ -1,3 +1,4 @@
+pub mod Blocks
 pub mod Cutting
 pub mod ErrorCodes
 pub mod Forms
@@ -6,5 +7,4 @@ pub mod GrantsTest
 pub mod Ignoring
 pub mod Order
 pub mod LocalSettings
-pub mod Reasons
 pub mod Allowances

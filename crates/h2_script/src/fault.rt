@@ -10,7 +10,7 @@ use std::alloc::{AllocError, AllocFailed};
 use thiserror::Error;
 
 /// Why a text was not assembled.
-#[derive(Clone, Copy, Debug, PartialEq, Eq, Error)]
+#[derive(Clone, Copy, Debug, Error)]
 pub enum ScriptFault {
     /// Memory was refused.
     #[error("out of memory")]
@@ -48,8 +48,10 @@ pub fn kind_number(kind: SyntaxKind) -> u8
 
 /// Why one line was not read.
 #[derive(Clone, Copy)]
-pub(crate) enum LineFault {
+pub enum LineFault {
+    /// Memory was refused.
     NoMemory,
+    /// The least kind of fault in the line.
     Bad(SyntaxKind),
 }
 
