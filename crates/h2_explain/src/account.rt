@@ -13,9 +13,11 @@ ghost use Rattle.h2_explain.specs.Notes.{AreNotes, note_of, with_later_note};
 
 use crate::changes::{Changes, connection_changes, stream_changes};
 use crate::error_context::ErrorContext;
+use crate::facts::{facts_of, others_of, wider_of};
 use crate::item::Explained;
 use crate::notes::Notes;
 use crate::sentence::say_sentence;
+use crate::special::CaseFacts;
 use h2_conn::Conn;
 use h2_describe::say::Words;
 use h2_describe::sent::next_frame;
@@ -24,14 +26,18 @@ use h2_frame::{FrameRef, Part, part_of};
 use h2_spec::causes::Cause;
 use h2_spec::connection::Phase;
 use h2_spec::errors::ErrorCode;
-use h2_spec::frames::{CONTINUATION, END_HEADERS, HEADERS, Head};
+use h2_spec::frames::{CONTINUATION, END_HEADERS, END_STREAM, FrameType, HEADERS, Head};
+use h2_spec::streams::Kind;
 use std::alloc::{AllocError, Global};
+use std::collections::BTreeMap;
 
 /// What is known of a connection while it is explained.
 #[derive(Drop)]
 pub struct Explainer {
     pub notes: Notes,
     pub reader: BlockReader,
+    /// The streams that the server reset at an item that ended the client's side, with the number of that item.
+    pub refused_ends: BTreeMap<u32, u64>,
 }
 
 /// What there is to say of an item, beside the item itself.
@@ -39,6 +45,10 @@ pub struct Explainer {
 pub struct Account {
     /// The sentence of its cause, empty where it is no error.
     pub sentence: String,
+    /// The other causes that hold of its block, where it is malformed (RFC 9113, 8.1.1).
+    pub also: Vec<Cause>,
+    /// What decides whether its rule is a special case.
+    pub facts: CaseFacts,
     /// Whether the fields of its block are shown with it: the block ends here, or is refused here.
     pub shows_fields: bool,
     pub changes: Changes,
@@ -93,6 +103,18 @@ fn is_compression(code: ErrorCode) -> bool
     }
 }
 
+/// Whether the frame of an item has END_STREAM, or the HEADERS of the block that it continues (RFC 9113, 6.1 and 6.2).
+fn ends_side(item: &Explained<'_>) -> bool {
+    match (item.before.block, item.head()) {
+        (Some(block), _) => block.ends,
+        (None, Some(head)) => match head.frame_type() {
+            FrameType::Data | FrameType::Headers => head.has(END_STREAM),
+            _ => false,
+        },
+        (None, None) => false,
+    }
+}
+
 /// Whether the fields of a block are read up to an error: any but a connection error that came before them.
 fn reads_fields(item: &Explained<'_>) -> bool
     ensures { result ≡ reads_fields item.now.taken.cause item.now.after.counts.phase }
@@ -113,6 +135,7 @@ impl Explainer {
         Ok(Explainer {
             notes: Notes::new(alloc),
             reader: BlockReader::new(alloc, 4096)?,
+            refused_ends: BTreeMap::new(alloc),
         })
     }
 
@@ -202,15 +225,81 @@ impl Explainer {
     ) -> Result<String, AllocError> {
         let mut text = Words::new(alloc);
         if let Some(cause) = item.taken.cause {
-            let context = ErrorContext {
-                item,
-                notes: &self.notes,
-                reader: &self.reader,
-                config: conn.config(),
-            };
-            say_sentence(cause, context, &mut text);
+            say_sentence(cause, self.context(conn, item), &mut text);
         }
         text.finish()
+    }
+
+    /// The other causes that hold of an item's block, none where it is not malformed.
+    fn others(
+        &self,
+        alloc: Global,
+        conn: &Conn<'_, Global>,
+        item: &Explained<'_>,
+    ) -> Result<Vec<Cause>, AllocError> {
+        match item.taken.cause {
+            Some(cause) => others_of(alloc, cause, self.context(conn, item)),
+            None => Ok(Vec::new(alloc)),
+        }
+    }
+
+    /// What decides whether an item's rule is a special case; looked up where it has a rule.
+    fn facts(&self, conn: &Conn<'_, Global>, item: &Explained<'_>) -> CaseFacts {
+        if item.taken.cause.is_none() && item.taken.ignored.is_none() {
+            return CaseFacts::none();
+        }
+        facts_of(self.context(conn, item))
+    }
+
+    /// What sentences draw their values from.
+    fn context<'f, 'o>(
+        &'f self,
+        conn: &Conn<'_, Global>,
+        item: &'f Explained<'o>,
+    ) -> ErrorContext<'f, 'o> {
+        ErrorContext {
+            item,
+            notes: &self.notes,
+            reader: &self.reader,
+            config: conn.config(),
+            widest: self.widest(conn, item),
+            after_end: self.is_after_end(item.before.stream.id),
+        }
+    }
+
+    /// The stream with the greatest send window, where a setting takes one too far; else none.
+    fn widest(&self, conn: &Conn<'_, Global>, item: &Explained<'_>) -> Option<(u32, i64)> {
+        let mut widest = None;
+        if let Some(Cause::InitialWindowSizeOverflow) = item.taken.cause {
+            for stream in self.notes.streams.keys() {
+                widest = wider_of(conn, *stream, widest);
+            }
+        }
+        widest
+    }
+
+    /// Whether the client had ended a stream that the server has reset.
+    fn is_after_end(&self, stream: u32) -> bool {
+        let ended = match self.notes.of(stream) {
+            Some(note) => note.ended > 0,
+            None => false,
+        };
+        ended || self.refused_ends.contains_key(&stream)
+    }
+
+    /// Notes that the server has reset a stream at an item that ended the client's side, if it is so.
+    fn note_refused_end(&mut self, item: &Explained<'_>) -> Result<(), AllocError> {
+        let stream = item.after.stream.id;
+        match (item.before.stream.kind, item.after.stream.kind) {
+            (Kind::WeReset, _) => {}
+            (_, Kind::WeReset) => {
+                if ends_side(item) {
+                    self.refused_ends.insert(stream, item.number)?;
+                }
+            }
+            _ => {}
+        }
+        Ok(())
     }
 
     /// What there is to show of the item that a connection has just taken.
@@ -227,12 +316,17 @@ impl Explainer {
     {
         let shows_fields = self.read_block(alloc, item)?;
         let sentence = self.sentence(alloc, conn, item)?;
+        let also = self.others(alloc, conn, item)?;
+        let facts = self.facts(conn, item);
+        self.note_refused_end(item)?;
         let changes = self.changes(alloc, conn, item)?;
         if let Some(head) = item.head() {
             self.notes.end(item.number, &head);
         }
         Ok(Account {
             sentence,
+            also,
+            facts,
             shows_fields,
             changes,
         })

@@ -10,6 +10,7 @@ use crate::account::{Account, Explainer, has_ended};
 use crate::changes::Change;
 use crate::item::Explained;
 use crate::json_words::JsonWords;
+use crate::special::{case_of_error, case_of_reason, rule_of_cause, rule_of_reason};
 use crate::text::{mode_name, say_item};
 use h2_describe::frame_words::say_frame;
 use h2_describe::names::{code_name, kind_name, setting_name};
@@ -20,6 +21,7 @@ use h2_frame::{FrameRef, Head, Part, SettingsPart, part_of};
 use h2_spec::causes::Cause;
 use h2_spec::ignored::Ignored;
 use h2_spec::octets::octets_from;
+use h2_spec::special_cases::SpecialCase;
 use std::alloc::{AllocError, Global};
 
 /// Octets as hex, and as text where they are UTF-8.
@@ -182,12 +184,41 @@ fn put_updates(reader: &BlockReader, out: &mut JsonWords) {
     out.close_list();
 }
 
-/// An error: its scope, its code, its cause, and the sentence.
-fn put_error(cause: Cause, is_connection: bool, sentence: &str, out: &mut JsonWords) {
+/// The name of a special case, if a rule is one.
+fn put_case(case: Option<SpecialCase>, out: &mut JsonWords) {
+    if let Some(case) = case {
+        out.plain("case", case.name());
+    }
+}
+
+/// The other causes that hold of a block, if there are any.
+fn put_also(also: &[Cause], out: &mut JsonWords) {
+    if also.is_empty() {
+        return;
+    }
+    out.open_list("also");
+    for cause in also {
+        out.text_element(cause.name());
+    }
+    out.close_list();
+}
+
+/// An error: its scope, its code, its cause, what the RFC says of both sides, and the sentence.
+fn put_error(
+    cause: Cause,
+    is_connection: bool,
+    case: Option<SpecialCase>,
+    account: &Account,
+    out: &mut JsonWords,
+) {
+    let rule = rule_of_cause(cause, case);
     out.open("error");
+    put_also(account.also.as_slice(), out);
+    put_case(case, out);
     out.plain("cause", cause.name());
+    out.plain("client", rule.client);
+    out.plain("client_section", rule.client_section);
     put_code(cause.code().number(), out);
-    out.flag("must", cause.is_must());
     out.plain(
         "scope",
         if is_connection {
@@ -196,18 +227,23 @@ fn put_error(cause: Cause, is_connection: bool, sentence: &str, out: &mut JsonWo
             "stream"
         },
     );
-    out.plain("section", cause.section());
-    out.text("sentence", sentence);
+    out.plain("section", rule.section);
+    out.text("sentence", account.sentence.as_str());
+    out.plain("server", rule.server);
     out.close();
 }
 
 /// Why a frame is ignored.
-fn put_ignored(why: Ignored, out: &mut JsonWords) {
+fn put_ignored(why: Ignored, case: Option<SpecialCase>, out: &mut JsonWords) {
+    let rule = rule_of_reason(why, case);
     out.open("ignored");
-    out.flag("must", why.is_must());
+    put_case(case, out);
+    out.plain("client", rule.client);
+    out.plain("client_section", rule.client_section);
     out.plain("reason", why.name());
-    out.plain("section", why.section());
-    out.plain("sentence", why.sentence());
+    out.plain("section", rule.section);
+    out.plain("sentence", rule.sentence);
+    out.plain("server", rule.server);
     out.close();
 }
 
@@ -279,7 +315,8 @@ fn put_why(item: &Explained<'_>, account: &Account, reader: &BlockReader, out: &
     put_changes(account.changes.as_slice(), out);
     if let Some(cause) = item.taken.cause {
         let is_connection = has_ended(item.after.counts.phase);
-        put_error(cause, is_connection, account.sentence.as_str(), out);
+        let case = case_of_error(item, account.facts);
+        put_error(cause, is_connection, case, account, out);
     }
     if account.shows_fields {
         put_fields(reader, out);
@@ -288,7 +325,7 @@ fn put_why(item: &Explained<'_>, account: &Account, reader: &BlockReader, out: &
         put_head(&head, out);
     }
     if let Some(why) = item.taken.ignored {
-        put_ignored(why, out);
+        put_ignored(why, case_of_reason(item, account.facts), out);
     }
 }
 

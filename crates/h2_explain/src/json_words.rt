@@ -140,6 +140,12 @@ impl JsonWords {
         say_all!(&mut self.words; number);
     }
 
+    /// Puts a text that has no character to escape, as an element.
+    pub(crate) fn text_element(&mut self, text: &str) {
+        self.part();
+        say_all!(&mut self.words; "\"", text, "\"");
+    }
+
     /// Puts a number.
     pub(crate) fn number(&mut self, name: &str, number: u64) {
         self.name(name);

@@ -6,12 +6,13 @@ use crate::item::Explained;
 use crate::paint::{Paint, Role};
 use h2_describe::frame_words::{say_frame, say_head};
 use h2_describe::names::kind_name;
-use h2_describe::say::{Octets, Text, Words};
+use h2_describe::say::{Cut, Octets, Words};
 use h2_describe::say_all;
-use h2_describe::sent::{first_of, next_frame};
+use h2_describe::sent::next_frame;
 use h2_describe::spelled::{BlockReader, SpelledField, Spelling};
 use h2_fields::instruction::Mode;
 use h2_frame::FrameRef;
+use h2_spec::causes::Cause;
 use h2_spec::frames::{FrameType, ItemHead};
 use std::alloc::{AllocError, Global};
 
@@ -57,25 +58,11 @@ fn say_spelling(spelling: Spelling, out: &mut Words) {
     }
 }
 
-/// How many octets of a long text are shown.
-const SHOWN: usize = 100;
-
-/// Puts the first octets of a text last, and how many it has where not all are shown.
-fn say_cut(octets: &[u8], out: &mut Words) {
-    say_all!(out; Text(first_of(octets, SHOWN)));
-    if octets.len() > SHOWN {
-        say_all!(out; ".. of ", Octets(octets.len() as u64));
-    }
-}
-
 /// Puts the line of a field last.
 fn say_field(field: &SpelledField, paint: Paint, out: &mut Words) {
     paint.begin(Role::Field, out);
-    say_all!(out; "field ");
-    say_cut(field.name.as_slice(), out);
-    say_all!(out; ": \"");
-    say_cut(field.value.as_slice(), out);
-    say_all!(out; "\" (");
+    let (name, value) = (Cut(field.name.as_slice()), Cut(field.value.as_slice()));
+    say_all!(out; "field ", name, ": \"", value, "\" (");
     say_spelling(field.spelling, out);
     say_all!(out; ")");
     paint.end(out);
@@ -180,10 +167,32 @@ fn say_change(change: &Change, out: &mut Words) {
             "stream ", *stream, ": ", kind_name(*before), " -> ", kind_name(*after)),
         Change::Acknowledged(_, _) => say_all!(out; "the server's settings are acknowledged"),
         Change::Stops(stream, remaining, own, connection) => {
-            say_all!(out; "stream ", *stream, ": ", Octets(*remaining), " of its body remain");
+            let verb = if *remaining == 1 {
+                " of its body remains"
+            } else {
+                " of its body remain"
+            };
+            say_all!(out; "stream ", *stream, ": ", Octets(*remaining), verb);
             say_spent(*own, *connection, out);
         }
     }
+}
+
+/// Puts the line of the other causes that hold of a block last, if there are any.
+pub(crate) fn say_also(also: &[Cause], paint: Paint, out: &mut Words) {
+    if also.is_empty() {
+        return;
+    }
+    paint.begin(Role::Error, out);
+    say_all!(out; "also: ");
+    let start = out.len();
+    for cause in also {
+        if out.len() > start {
+            say_all!(out; ", ");
+        }
+        say_all!(out; cause.name());
+    }
+    paint.end(out);
 }
 
 /// Puts the lines of changes last.

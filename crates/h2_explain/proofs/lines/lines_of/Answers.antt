@@ -1,9 +1,9 @@
-use Rattle.std.proofs.Common.{◌≡◌, ◌∙◌, [], Bool, true, ap, sym}
+use Rattle.std.proofs.Common.{◌≡◌, ◌∙◌, [], Bool, false, true, ap, sym}
 use Rattle.h2_explain.specs.Lines.{Words, is_silent, lines_unless}
 use Rattle.h2_explain.proofs.lines.lines_of.Goals as goal
 
 no-words : Words
-no-words = record { item = []; fields = []; sentence = []; sent = []; changes = [] }
+no-words = record { item = []; facts = record { continued = false; empty_name = false; connect = false; other_scheme = false; lengths_differ = false; length_is_long = false; after_end = false }; fields = []; sentence = []; also = []; sent = []; changes = [] }
 
 pub returns-then-is_silent : goal.returns-then-is_silent
 returns-then-is_silent c =
