@@ -91,9 +91,10 @@ abbrev pub reason_lines : Bool → Option Ignored → Option SpecialCase → Lis
 reason_lines color None case = []
 reason_lines color (Some reason) case = ignored_lines color reason (rule_of_reason reason case)
 
--- what is said of an item besides: the item in words, the lines of its fields, what decides whether its rule is a special
+-- what is said of an item besides: the lines of what the server sent before it, the item in words, the lines of its fields, what decides whether its rule is a special
 -- case, the sentence of its error, the line of other causes, the lines of what was sent and of what changed
 pub record Words : Type 0 where
+  pub opening : List ℕ
   pub item : List ℕ
   pub facts : CaseFacts
   pub fields : List ℕ
@@ -105,11 +106,11 @@ pub record Words : Type 0 where
 -- all lines of an item
 abbrev pub lines : Bool → Explained → Words → List ℕ
 lines color x w =
-    joined (first_line color x.number x.offset w.item ∷ w.fields
+    joined (w.opening ∷ first_line color x.number x.offset w.item ∷ w.fields
     ∷ cause_lines color x.after.counts.phase x.taken.cause (case_of_error x w.facts) w.sentence ∷ w.also
     ∷ reason_lines color x.taken.ignored (case_of_reason x w.facts) ∷ w.sent ∷ w.changes ∷ [])
 
--- whether nothing is said of an item: the preface
+-- whether nothing is said of an item itself: the preface
 abbrev pub is_silent : ItemHead → Bool
 is_silent item.Preface = true
 is_silent item.BadPreface = false
@@ -118,7 +119,7 @@ is_silent (item.Frame head) = false
 
 -- the lines of an item of which something is said
 abbrev pub lines_unless : Bool → (color : Bool) → Explained → Words → List ℕ
-lines_unless true color x w = []
+lines_unless true color x w = w.opening
 lines_unless false color x w = lines color x w
 
 abbrev pub lines_of : Bool → Explained → Words → List ℕ

@@ -14,11 +14,13 @@ ghost use Rattle.h2_explain.specs.Notes.{AreNotes, note_of, with_later_note};
 use crate::changes::{Changes, connection_changes, stream_changes};
 use crate::error_context::ErrorContext;
 use crate::facts::{facts_of, others_of, wider_of};
+use crate::header_table::{EntryChange, Followed};
 use crate::item::Explained;
+use crate::moved::{Moved, moved_by, note_moved};
 use crate::notes::Notes;
 use crate::sentence::say_sentence;
 use crate::special::CaseFacts;
-use h2_conn::Conn;
+use h2_conn::{Conn, write_opening};
 use h2_describe::say::Words;
 use h2_describe::sent::next_frame;
 use h2_describe::spelled::BlockReader;
@@ -36,6 +38,10 @@ use std::collections::BTreeMap;
 pub struct Explainer {
     pub notes: Notes,
     pub reader: BlockReader,
+    /// The streams that are live.
+    pub live: BTreeMap<u32, ()>,
+    /// The client's header table.
+    pub table: Followed,
     /// The streams that the server reset at an item that ended the client's side, with the number of that item.
     pub refused_ends: BTreeMap<u32, u64>,
 }
@@ -52,6 +58,12 @@ pub struct Account {
     /// Whether the fields of its block are shown with it: the block ends here, or is refused here.
     pub shows_fields: bool,
     pub changes: Changes,
+    /// What it changed on streams besides.
+    pub moved: Vec<Moved>,
+    /// The entries of the client's header table that it entered or evicted.
+    pub entries: Vec<EntryChange>,
+    /// The frames that the server sent before the first item; none for the others (RFC 9113, 3.4).
+    pub opening: Vec<u8>,
 }
 
 /// Whether a connection error ended the connection (RFC 9113, 5.4.1).
@@ -125,6 +137,19 @@ fn reads_fields(item: &Explained<'_>) -> bool
     }
 }
 
+/// The frames that the server sent before the first item; none for the others.
+fn opening_of(
+    alloc: Global,
+    conn: &Conn<'_, Global>,
+    item: &Explained<'_>,
+) -> Result<Vec<u8>, AllocError> {
+    let mut opening = Vec::new(alloc);
+    if item.number == 1 {
+        write_opening(conn.config(), &mut opening)?;
+    }
+    Ok(opening)
+}
+
 impl Explainer {
     /// Nothing is known.
     pub fn new(alloc: Global) -> Result<Explainer, AllocError>
@@ -135,6 +160,8 @@ impl Explainer {
         Ok(Explainer {
             notes: Notes::new(alloc),
             reader: BlockReader::new(alloc, 4096)?,
+            live: BTreeMap::new(alloc),
+            table: Followed::new(alloc, 4096),
             refused_ends: BTreeMap::new(alloc),
         })
     }
@@ -319,7 +346,11 @@ impl Explainer {
         let also = self.others(alloc, conn, item)?;
         let facts = self.facts(conn, item);
         self.note_refused_end(item)?;
+        let moved = moved_by(alloc, conn, item, &self.notes, &self.live)?;
+        let entries = self.entries(alloc, item)?;
+        let opening = opening_of(alloc, conn, item)?;
         let changes = self.changes(alloc, conn, item)?;
+        note_moved(alloc, conn, item, &mut self.notes, &mut self.live)?;
         if let Some(head) = item.head() {
             self.notes.end(item.number, &head);
         }
@@ -329,7 +360,32 @@ impl Explainer {
             facts,
             shows_fields,
             changes,
+            moved,
+            entries,
+            opening,
         })
+    }
+
+    /// The entries of the client's header table that an item entered or evicted.
+    fn entries(
+        &mut self,
+        alloc: Global,
+        item: &Explained<'_>,
+    ) -> Result<Vec<EntryChange>, AllocError> {
+        let Some(head) = item.head() else {
+            return Ok(Vec::new(alloc));
+        };
+        if !is_of_block(item, &head) {
+            return Ok(Vec::new(alloc));
+        }
+        if item.before.block.is_none() {
+            self.table.begin();
+        }
+        if has_ended(item.after.counts.phase) {
+            return Ok(Vec::new(alloc));
+        }
+        let (entries, size) = (item.after.entries, item.after.table_size);
+        self.table.follow(alloc, &self.reader, entries, size)
     }
 
     /// What an item changed: on the connection, on its stream, and on the streams that frames were sent on for it; these

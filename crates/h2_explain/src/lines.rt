@@ -8,11 +8,12 @@ ghost use Rattle.h2_explain.specs.Lines.{Words as Said, blanks, cause_lines, err
 ghost use Rattle.h2_explain.specs.Special.{rule_of_cause, rule_of_reason};
 
 use crate::account::{Account, Explainer};
-use crate::changes::Change;
 use crate::item::Explained;
 use crate::paint::{Paint, Role};
 use crate::special::{case_of_error, case_of_reason, rule_of_cause, rule_of_reason};
-use crate::text::{say_also, say_changes, say_fields, say_item, say_sent};
+use crate::text::{
+    say_all_moved, say_also, say_changes, say_entries, say_fields, say_item, say_opening, say_sent,
+};
 use h2_describe::names::{error_name, scope_word};
 use h2_describe::say::Words;
 use h2_device::{DeviceFault, Number, Output, Text, string_of, texts};
@@ -250,10 +251,19 @@ fn sent_text(alloc: Global, sent: &[u8], paint: Paint) -> Result<String, AllocEr
     words.finish()
 }
 
-/// The lines of changes.
-fn changes_text(alloc: Global, changes: &[Change], paint: Paint) -> Result<String, AllocError> {
+/// The lines of what an item changed.
+fn changes_text(alloc: Global, account: &Account, paint: Paint) -> Result<String, AllocError> {
     let mut words = Words::new(alloc);
-    say_changes(changes, paint, &mut words);
+    say_changes(account.changes.as_slice(), paint, &mut words);
+    say_all_moved(account.moved.as_slice(), paint, &mut words);
+    say_entries(account.entries.as_slice(), paint, &mut words);
+    words.finish()
+}
+
+/// The lines of what the server sent before the first item, empty for the others.
+fn opening_text(alloc: Global, opening: &[u8], paint: Paint) -> Result<String, AllocError> {
+    let mut words = Words::new(alloc);
+    say_opening(alloc, opening, paint, &mut words);
     words.finish()
 }
 
@@ -270,7 +280,7 @@ fn words_of(
         fields: fields_text(alloc, account, explainer, paint)?,
         also: also_text(alloc, account.also.as_slice(), paint)?,
         sent: sent_text(alloc, item.sent.as_slice(), paint)?,
-        changes: changes_text(alloc, account.changes.as_slice(), paint)?,
+        changes: changes_text(alloc, account, paint)?,
     })
 }
 
@@ -280,6 +290,7 @@ fn lines_with(
     item: &Explained<'_>,
     words: &ItemWords,
     account: &Account,
+    opening: &str,
     paint: Paint,
 ) -> Result<String, AllocError>
     ensures { IfOk result (λ text. (w : Said) × (string_bytes text ≡ lines paint.0 item.now w)) }
@@ -307,7 +318,7 @@ fn lines_with(
     let also = words.also.as_str();
     string_of(
         alloc,
-        &texts!(first, fields, cause, also, reason, sent, changes),
+        &texts!(opening, first, fields, cause, also, reason, sent, changes),
     )
 }
 
@@ -321,7 +332,8 @@ fn is_silent(item: ItemHead) -> bool
     }
 }
 
-/// The text of an item; that of the preface is empty.
+/// The text of an item, before it that of the server's opening, if the item is the first; that of the preface itself is
+/// empty.
 pub(crate) fn lines_of(
     alloc: Global,
     item: &Explained<'_>,
@@ -331,9 +343,10 @@ pub(crate) fn lines_of(
 ) -> Result<String, AllocError>
     ensures { IfOk result (λ text. (w : Said) × (string_bytes text ≡ lines_of paint.0 item.now w)) }
 {
+    let opening = opening_text(alloc, account.opening.as_slice(), paint)?;
     if is_silent(item.taken.item) {
-        return Ok(String::new(alloc));
+        return Ok(opening);
     }
     let words = words_of(alloc, item, account, explainer, paint)?;
-    lines_with(alloc, item, &words, account, paint)
+    lines_with(alloc, item, &words, account, opening.as_str(), paint)
 }

@@ -2,7 +2,10 @@
 //! Rests on `account` and `frame_words`; no definition speaks of them, the format is in docs/FORMATS.md.
 
 use crate::changes::Change;
+use crate::count::Count;
+use crate::header_table::EntryChange;
 use crate::item::Explained;
+use crate::moved::Moved;
 use crate::paint::{Paint, Role};
 use h2_describe::frame_words::{say_frame, say_head};
 use h2_describe::names::kind_name;
@@ -89,7 +92,7 @@ pub(crate) fn say_fields(reader: &BlockReader, paint: Paint, out: &mut Words) {
 const ANSWER_TABLE: u32 = 4096;
 
 /// The fields of an answer.
-fn read_answer(alloc: Global, block: &[u8]) -> Result<BlockReader, AllocError> {
+pub(crate) fn read_answer(alloc: Global, block: &[u8]) -> Result<BlockReader, AllocError> {
     let mut reader = BlockReader::new(alloc, ANSWER_TABLE)?;
     reader.read(alloc, block)?;
     Ok(reader)
@@ -126,9 +129,9 @@ pub(crate) fn say_sent(alloc: Global, sent: &[u8], paint: Paint, out: &mut Words
     }
 }
 
-/// Puts a limit last, `none` where there is none.
-fn say_limit(value: i64, out: &mut Words) {
-    if value == -1 {
+/// Puts a number last, `none` where it is absent.
+fn say_number(what: Count, value: i64, out: &mut Words) {
+    if value == -1 && what.may_be_absent() {
         say_all!(out; "none");
     } else {
         say_all!(out; value);
@@ -159,9 +162,9 @@ fn say_change(change: &Change, out: &mut Words) {
                 say_all!(out; "stream ", *stream, ": ");
             }
             say_all!(out; what.name(), " ");
-            say_limit(*before, out);
+            say_number(*what, *before, out);
             say_all!(out; " -> ");
-            say_limit(*after, out);
+            say_number(*what, *after, out);
         }
         Change::State(stream, before, after) => say_all!(out;
             "stream ", *stream, ": ", kind_name(*before), " -> ", kind_name(*after)),
@@ -176,6 +179,58 @@ fn say_change(change: &Change, out: &mut Words) {
             say_spent(*own, *connection, out);
         }
     }
+}
+
+/// Puts a change of a stream last that is not among the changes.
+fn say_moved(moved: &Moved, out: &mut Words) {
+    match moved {
+        Moved::Opened(stream, recv, send, declared) => {
+            say_all!(out;
+                "stream ", *stream, ": begins with a receive window of ", *recv,
+                " and a send window of ", *send);
+            if let Some(declared) = declared {
+                say_all!(out; ", content-length ", *declared);
+            }
+        }
+        Moved::Number(stream, what, before, after) => say_all!(out;
+            "stream ", *stream, ": ", what.name(), " ", *before, " -> ", *after),
+        Moved::BodySent(stream) => say_all!(out; "stream ", *stream, ": its body is sent"),
+    }
+}
+
+/// Puts the lines of what changed on streams besides last.
+pub(crate) fn say_all_moved(moved: &[Moved], paint: Paint, out: &mut Words) {
+    for change in moved {
+        paint.begin(Role::Change, out);
+        say_moved(change, out);
+        paint.end(out);
+    }
+}
+
+/// Puts the lines of entries that were entered or evicted last: `table + 62 NAME: VALUE (SIZE)`, `table - NAME: VALUE`.
+pub(crate) fn say_entries(entries: &[EntryChange], paint: Paint, out: &mut Words) {
+    for change in entries {
+        let entry = &change.entry;
+        let (name, value) = (Cut(entry.name.as_slice()), Cut(entry.value.as_slice()));
+        paint.begin(Role::Change, out);
+        if change.is_entered {
+            say_all!(out; "table + 62 ", name, ": \"", value, "\" (", entry.size(), ")");
+        } else {
+            say_all!(out; "table - ", name, ": \"", value, "\"");
+        }
+        paint.end(out);
+    }
+}
+
+/// Puts the lines of the frames that the server sent before the first item last, if there are any.
+pub(crate) fn say_opening(alloc: Global, opening: &[u8], paint: Paint, out: &mut Words) {
+    if opening.is_empty() {
+        return;
+    }
+    paint.start(Role::Item, out);
+    say_all!(out; "#0 @0   the server's opening");
+    paint.end(out);
+    say_sent(alloc, opening, paint, out);
 }
 
 /// Puts the line of the other causes that hold of a block last, if there are any.
