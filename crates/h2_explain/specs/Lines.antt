@@ -103,12 +103,16 @@ pub record Words : Type 0 where
   pub sent : List ℕ
   pub changes : List ℕ
 
+-- all lines of an item, with the special cases of its error and of why it is ignored
+abbrev pub lines_with : Bool → Explained → Words → (error_case ignored_case : Option SpecialCase) → List ℕ
+lines_with color x w error_case ignored_case =
+    joined (w.opening ∷ first_line color x.number x.offset w.item ∷ w.fields
+    ∷ cause_lines color x.after.counts.phase x.taken.cause error_case w.sentence ∷ w.also
+    ∷ reason_lines color x.taken.ignored ignored_case ∷ w.sent ∷ w.changes ∷ [])
+
 -- all lines of an item
 abbrev pub lines : Bool → Explained → Words → List ℕ
-lines color x w =
-    joined (w.opening ∷ first_line color x.number x.offset w.item ∷ w.fields
-    ∷ cause_lines color x.after.counts.phase x.taken.cause (case_of_error x w.facts) w.sentence ∷ w.also
-    ∷ reason_lines color x.taken.ignored (case_of_reason x w.facts) ∷ w.sent ∷ w.changes ∷ [])
+lines color x w = lines_with color x w (case_of_error x w.facts) (case_of_reason x w.facts)
 
 -- whether nothing is said of an item itself: the preface
 abbrev pub is_silent : ItemHead → Bool

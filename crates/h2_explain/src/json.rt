@@ -411,6 +411,17 @@ fn put_moved(moved: &Moved, out: &mut JsonWords) {
             out.number("stream", u64::from(*stream));
             out.plain("what", "body sent");
         }
+        Moved::Block(block) => {
+            out.flag("end_stream", block.ends);
+            out.number("list_size", block.list_size);
+            out.number("octets", u64::from(block.octets));
+            out.number("stream", u64::from(block.stream));
+            out.plain("what", "block");
+        }
+        Moved::BlockEnds(stream) => {
+            out.number("stream", u64::from(*stream));
+            out.plain("what", "block ended");
+        }
     }
     out.close();
 }

@@ -301,12 +301,13 @@ fn lines_with(
         offset: item.offset as u64,
         words: words.item.as_str(),
     };
+    let sentence = account.sentence.as_str();
     let cause = CauseLines {
         paint,
         phase: item.after.counts.phase,
         cause: item.taken.cause,
         case: case_of_error(item, account.facts),
-        sentence: account.sentence.as_str(),
+        sentence,
     };
     let reason = ReasonLines {
         paint,

@@ -1,5 +1,5 @@
 //! What an item changes on streams beside what `changes` lists: the numbers that a stream begins with, the windows of
-//! other streams that settings move, and bodies that are sent to their end. With these every state can be made again
+//! other streams that settings move, bodies that are sent to their end, and the open field block. With these every state can be made again
 //! from the changes alone.
 //! Rests on `changes` and `notes`; no definition speaks of it.
 
@@ -9,6 +9,7 @@ use crate::notes::Notes;
 use h2_conn::Conn;
 use h2_describe::names::is_live;
 use h2_describe::sent::next_frame;
+use h2_spec::connection::BlockView;
 use h2_spec::streams::{Numbers, Stream};
 use std::alloc::{AllocError, Global};
 use std::collections::BTreeMap;
@@ -23,6 +24,10 @@ pub enum Moved {
     Number(u32, Count, i64, i64),
     /// The body of the answer on a stream is sent to its end, and the stream is still live.
     BodySent(u32),
+    /// A field block is open after the item (RFC 9113, 4.3).
+    Block(BlockView),
+    /// The block of a stream is not open any more.
+    BlockEnds(u32),
 }
 
 /// The streams that are live, by their identifiers.
@@ -167,6 +172,18 @@ fn put_sent(
     Ok(())
 }
 
+/// Appends how far the open block has come, or that it is not open any more: only a frame of the block changes it.
+fn put_block(item: &Explained<'_>, out: &mut Vec<Moved>) -> Result<(), AllocError> {
+    match (item.before.block, item.after.block) {
+        (None, None) => {}
+        (Some(block), None) => out.push(Moved::BlockEnds(block.stream))?,
+        (Some(before), Some(after))
+            if before.octets == after.octets && before.list_size == after.list_size => {}
+        (_, Some(block)) => out.push(Moved::Block(block))?,
+    }
+    Ok(())
+}
+
 /// What an item changes on streams beside what `changes` lists; `notes` are those before the item, and `live` the streams
 /// that were live then.
 pub(crate) fn moved_by(
@@ -188,6 +205,7 @@ pub(crate) fn moved_by(
             put_other(conn, notes, &sent, *stream, &mut list)?;
         }
     }
+    put_block(item, &mut list)?;
     Ok(list)
 }
 

@@ -195,6 +195,10 @@ fn say_moved(moved: &Moved, out: &mut Words) {
         Moved::Number(stream, what, before, after) => say_all!(out;
             "stream ", *stream, ": ", what.name(), " ", *before, " -> ", *after),
         Moved::BodySent(stream) => say_all!(out; "stream ", *stream, ": its body is sent"),
+        Moved::Block(block) => say_all!(out;
+            "the block of stream ", block.stream, " is open: ", Octets(u64::from(block.octets)),
+            ", a list of ", block.list_size),
+        Moved::BlockEnds(stream) => say_all!(out; "the block of stream ", *stream, " ends"),
     }
 }
 
