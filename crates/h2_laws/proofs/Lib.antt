@@ -6,6 +6,7 @@ mod CauseLaws
 mod CauseRows
 mod CuttingLaws
 mod DebugRows
+mod DecodingLaws
 mod EarlyRows
 mod FlowLaws
 mod FormLaws
@@ -21,7 +22,6 @@ mod IntegerRows
 mod LocalSettingsLaws
 mod LocalSettingsRows
 mod LongBodies
-mod LongLists
 mod PayloadLaws
 mod RequestRows
 mod PayloadRows
