@@ -4,7 +4,9 @@ pub mod Explained
 mod HexPairs
 mod HexTable
 pub mod HexTexts
+mod InMemory
 pub mod Inputs
+mod Parsed
 pub mod Places
 pub mod Played
 pub mod RefusedWords

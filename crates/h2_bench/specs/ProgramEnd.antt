@@ -1,5 +1,6 @@
 -- How a run of a program ends, where the devices report their octets: what is reported, by which of their calls failed.
 use Rattle.std.specs.Prelude.{◌≡◌, ◌⊎◌, ◌++◌, ℕ, Bool, true, false, List, [], Option, Some, None, Result, Ok, Err}
+use Rattle.std.specs.String.{string_bytes}
 use Rattle.h2_spec.specs.Answer.{Entry}
 use Rattle.h2_spec.specs.declared.connection.Config.{Config}
 use Rattle.h2_book.specs.Entries.{Directory}
@@ -8,6 +9,8 @@ use Rattle.h2_serve.specs.Lines.{listening_line}
 use Rattle.h2_serve.specs.Serves.{GainsLines}
 use Rattle.h2_session.specs.Session as session
 use Rattle.h2_words.specs.Grammar.{Asked, BatchAsked, BookAsked, batch, play, asm, dis, table, debug, serve, explain}
+use Rattle.h2_words.specs.declared.command.Refusal.{Refusal}
+use Rattle.h2_words.specs.declared.command.Refusal.TheVariants as words
 use Rattle.h2_bench.specs.Books.{book_in, book_said}
 use Rattle.h2_bench.specs.Printed.{OrCutShort, Printed, cut_short, failed, places_read, places_within, refused, printed_read, printed_within}
 use Rattle.h2_bench.specs.declared.fault.BenchFault.TheVariants.{NoMemory, Read}
@@ -44,6 +47,11 @@ abbrev pub EndsSomehow : Directory → BatchAsked → Option (List ℕ) → Opti
 EndsSomehow files asked input before after status =
     (octets held : List ℕ) → input ≡ Some octets → before ≡ Some held → (status ≡ 3)
     ⊎ (((count : ℕ) × Prints (cut_short count (places_within files asked octets)) held after status) ⊎ (Prints (failed Read) held after status ⊎ Prints (printed_within files asked octets) held after status))
+
+-- what is printed for words that were refused: what there is to say of them, with status 2; or memory was refused
+abbrev pub printed_for : Refusal → Printed
+printed_for (words.Words text) = record { text = string_bytes text; status = 2 }
+printed_for words.NoMemory = failed NoMemory
 
 -- words that ask for nothing: memory was refused, or what there is to say of them is said, with status 2
 abbrev pub IsRefusal : Printed → Type 0

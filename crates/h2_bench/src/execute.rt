@@ -4,11 +4,11 @@
 ghost use Rattle.std.specs.Prelude.{◌≡◌, ◌==◌, ◌≤◌, length, ◌<◌, ◌⊎◌, ◌++◌, ℕ, Bool, List, Some, None, Ok, Err, true, false, IfOk, IfErr, OnOk};
 ghost use Rattle.h2_spec.specs.declared.connection.Config.{Config};
 ghost use Rattle.h2_words.specs.Grammar.{BatchAsked, BookAsked, asked_of, batch, debug, explain};
-ghost use Rattle.h2_words.specs.Plans.{batch_asked, book_asked};
+ghost use Rattle.h2_words.specs.Plans.{asked_in, batch_asked, book_asked};
 ghost use Rattle.h2_bench.specs.Reports.{seen};
 ghost use Rattle.h2_bench.specs.Books.{book_in};
 ghost use Rattle.h2_bench.specs.Each.{not_written, printed_after};
-ghost use Rattle.h2_bench.specs.ProgramEnd.{EndsBatch, EndsServe, EndsSession, EndsSomehow, KnowsFile, Prints, PrintsRefusal, PrintsSome, asks_why, asks_why_batch, file_of, is_reader, is_serve, no_files};
+ghost use Rattle.h2_bench.specs.ProgramEnd.{EndsBatch, EndsServe, EndsSession, EndsSomehow, KnowsFile, Prints, PrintsRefusal, PrintsSome, asks_why, asks_why_batch, file_of, is_reader, is_serve, no_files, printed_for};
 ghost use Rattle.h2_bench.specs.ExplainProgram.{EndsExplain, ReportsText, cut_off, explained_after, form_of};
 ghost use Rattle.h2_bench.specs.Faults.{fault_number};
 ghost use Rattle.h2_bench.specs.Input.{most, octets_spelled};
@@ -303,8 +303,8 @@ fn explain<F: Files, I: Input, O: Output, E: Output>(
     }
 }
 
-/// Does what the words ask for, and gives the exit status. Where they ask for nothing, or for connections to be
-/// served, nothing is read.
+/// Does what was asked for, and gives the exit status. Where that is nothing, or connections to be served, nothing is
+/// read.
 ///
 /// 0: done. 1: a fault ended it, and its line was written. 2: the words were refused, or ask for help, and what there
 /// is to say of them was written; or they ask for connections to be served, and nothing was written (`serve` does
@@ -312,6 +312,52 @@ fn explain<F: Files, I: Input, O: Output, E: Output>(
 ///
 /// Where an entry of the book is refused and the words ask for the reason, a sentence is written to `errors`; nothing
 /// else is written there.
+pub fn carry_out<F: Files, I: Input, O: Output, E: Output>(
+    alloc: Global,
+    asked: &Result<Plan<'_>, Refusal>,
+    files: &mut F,
+    input: &mut I,
+    output: &mut O,
+    errors: &mut E,
+) -> u8
+    requires reader { I.has_failed input.old ≡ false }
+    requires writer { O.has_failed output.old ≡ false }
+    ensures printed { (is : BatchAsked) → asked_in asked.now ≡ Some (batch is)
+        → KnowsFile (file_of is) (F.is_printed files.old) → O.has_failed output.new ≡ false
+        → EndsBatch (F.file files.old) is (I.remaining input.old) (I.has_failed input.new) (O.written output.old)
+        (O.written output.new) result }
+    ensures debugs { (config : Config) → (book : BookAsked) → asked_in asked.now ≡ Some (debug config book)
+        → KnowsFile book.file (F.is_printed files.old) → O.has_failed output.new ≡ false
+        → EndsSession (F.file files.old) config book (I.remaining input.old) (I.remaining input.new)
+        (I.has_failed input.new) (O.written output.old) (O.written output.new) result }
+    ensures explains { (config : Config) → (json color : Bool) → (file : List ℕ) → (book : BookAsked)
+        → asked_in asked.now ≡ Some (explain config json color file book)
+        → KnowsFile book.file (F.is_printed files.old) → KnowsFile file (F.is_printed files.old) → O.has_failed output.new ≡ false
+        → EndsExplain (form_of json color) (F.file files.old) config file book (I.remaining input.old) (I.has_failed input.new)
+        (O.written output.old) (O.written output.new) result }
+    ensures serves { is_serve (asked_in asked.now) ≡ true → (result ≡ 2) × (O.written output.new ≡ O.written output.old) }
+    ensures refused { IfErr asked.now (λ refusal. O.has_failed output.new ≡ false
+        → PrintsSome (λ t. t ≡ printed_for refusal) (O.written output.old) (O.written output.new) result) }
+    ensures unread { is_reader (asked_in asked.now) ≡ false → (I.remaining input.new ≡ I.remaining input.old)
+        × (I.has_failed input.new ≡ false) }
+    ensures flag { O.has_failed output.new ≡ (result == 3) }
+    ensures input { I.name input.new ≡ I.name input.old }
+    ensures name { O.name output.new ≡ O.name output.old }
+    ensures quiet { asks_why (asked_in asked.now) ≡ false → errors.new ≡ errors.old }
+    ensures errors { E.name errors.new ≡ E.name errors.old }
+{
+    match asked {
+        Ok(Plan::Batch(batch)) => respond(alloc, batch, files, input, output, errors),
+        Ok(Plan::Debug(plan)) => debug(alloc, plan, files, input, output, errors),
+        Ok(Plan::Serve(_)) => 2,
+        Ok(Plan::Explain(plan)) => explain(alloc, plan, files, input, output, errors),
+        Err(Refusal::Words(text)) => print(output, &text.as_str(), 2),
+        Err(Refusal::NoMemory) => print_fault(output, BenchFault::NoMemory),
+    }
+}
+
+/// Does what the words ask for, and gives the exit status: what `carry_out` does of what `parse` finds in them. The line
+/// `fault 0` with status 1 is also printed where memory is refused for the words.
 pub fn run_on<F: Files, I: Input, O: Output, E: Output>(
     alloc: Global,
     words: &Words,
@@ -347,14 +393,8 @@ pub fn run_on<F: Files, I: Input, O: Output, E: Output>(
     ensures quiet { asks_why (asked_of words.now) ≡ false → errors.new ≡ errors.old }
     ensures errors { E.name errors.new ≡ E.name errors.old }
 {
-    match parse(alloc, words) {
-        Ok(Plan::Batch(batch)) => respond(alloc, &batch, files, input, output, errors),
-        Ok(Plan::Debug(plan)) => debug(alloc, &plan, files, input, output, errors),
-        Ok(Plan::Serve(_)) => 2,
-        Ok(Plan::Explain(plan)) => explain(alloc, &plan, files, input, output, errors),
-        Err(Refusal::Words(text)) => print(output, &text.as_str(), 2),
-        Err(Refusal::NoMemory) => print_fault(output, BenchFault::NoMemory),
-    }
+    let asked = parse(alloc, words);
+    carry_out(alloc, &asked, files, input, output, errors)
 }
 
 /// The same over a reader and a writer of the standard library, which say of no call that it does not fail. There are

@@ -273,7 +273,8 @@ impl<'b, A: Allocator + Copy> Debugger<'b, A> {
         }
         let place = self.copy_present()?;
         let start = place.position();
-        match self.move_to(place, start.saturating_add(count), start)? {
+        let target = start.saturating_add(count);
+        match self.move_to(place, target, start)? {
             None => Ok(start),
             Some(position) => Ok(position),
         }

@@ -1,7 +1,7 @@
 use Rattle.std.proofs.Common.{rules, ◌≡◌, ◌≤◌, ◌<◌, ◌^◌, length, arith}
 use Rattle.h2_debug.specs.Places.{end}
 use Rattle.h2_debug.proofs.KeptLaws.{end-few}
-use Rattle.h2_debug.proofs.debugger.Debugger.step.Goals as goal
+use Rattle.h2_debug.proofs.debugger.Debugger.step_some.Goals as goal
 
 pub returns-in-Some-clause-ok : goal.returns-in-Some-clause-ok
 returns-in-Some-clause-ok g c =
