@@ -13,7 +13,7 @@ use std::{error, fmt};
 use toml::de;
 
 /// The keys that a book's file may have.
-#[derive(Clone, Copy, Debug, PartialEq, Eq)]
+#[derive(Clone, Copy)]
 pub enum Key {
     Answer,
     Method,
@@ -63,7 +63,7 @@ impl Key {
 }
 
 /// Why a book's file is refused.
-#[derive(Debug, Drop)]
+#[derive(Drop)]
 pub enum Cause {
     /// Memory was refused.
     NoMemory,
@@ -151,7 +151,7 @@ pub fn copy_of_key(alloc: Global, key: &str) -> Option<String> {
 }
 
 /// Where in a book's file something is wrong: numbers from 1, 0 where there is none.
-#[derive(Clone, Copy, Debug)]
+#[derive(Clone, Copy)]
 pub struct Place {
     /// Which answer.
     pub answer: usize,
@@ -161,7 +161,7 @@ pub struct Place {
 
 /// Why a book's file is refused. Its `Display` is one sentence with the file, the line, the answer, the key and what
 /// is wrong.
-#[derive(Debug, Drop)]
+#[derive(Drop)]
 pub struct BookFileFault {
     /// The path of the book; none where memory was refused for a copy.
     path: Option<String>,
@@ -219,6 +219,13 @@ impl fmt::Display for BookFileFault {
             None => "the book",
         };
         write!(f, "{path}{}: {}.", self.place, Wrong(&self.cause))
+    }
+}
+
+/// The same as the sentence.
+impl fmt::Debug for BookFileFault {
+    fn fmt<W: fmt::Write>(&self, f: &mut fmt::Formatter<W>) -> fmt::Result {
+        fmt::Display::fmt(self, f)
     }
 }
 

@@ -8,7 +8,7 @@ use std::alloc::Global;
 use thiserror::Error;
 
 /// Why a file was not read.
-#[derive(Clone, Copy, Debug, PartialEq, Eq, Error)]
+#[derive(Clone, Copy, Debug, Error)]
 pub enum FilesFault {
     /// There is no file at the path, it may not be read, or a read of it failed.
     #[error("the file can't be read")]

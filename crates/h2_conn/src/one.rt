@@ -2,7 +2,7 @@
 //! Rests on nothing; definition: `FeedsOne` of `specs/Runs.antt`.
 
 /// How far one call went.
-#[derive(Clone, Copy, Debug, PartialEq, Eq)]
+#[derive(Clone, Copy)]
 pub struct One {
     /// How many of the octets were taken: up to the end of the item, or all where there is none.
     pub used: usize,

@@ -6,6 +6,7 @@ ghost use Rattle.std.specs.Prelude.{◌≡◌, ◌==◌, None, IfOk, OnErr, OnOk
 ghost use Rattle.h2_frame.specs.Items.{item_of};
 ghost use Rattle.h2_spec.specs.FrameType as frame;
 ghost use Rattle.h2_spec.specs.Ignored as rule;
+ghost use Rattle.h2_spec.specs.Payload.{window_part};
 ghost use Rattle.h2_spec.specs.Trace.{next_item};
 ghost use Rattle.h2_conn.specs.First.{TakesIfAny};
 ghost use Rattle.h2_conn.specs.Marks.{Follows};
@@ -14,6 +15,7 @@ ghost use Rattle.h2_conn.specs.Reports.{item_head, reported, used_by};
 use crate::conn::is_ended;
 use crate::first::awaits_preface;
 use crate::state::State;
+use h2_frame::payload::is_zero_increment;
 use h2_frame::{Item, first_item};
 use h2_rules::ignored::{
     fragment_ignored, reason_if, reset_ignored, unless_caused, where_reset, window_ignored,
@@ -25,7 +27,7 @@ use h2_spec::streams::Kind;
 use std::alloc::{AllocError, Allocator};
 
 /// An item that was taken.
-#[derive(Clone, Copy, Debug, PartialEq, Eq)]
+#[derive(Clone, Copy)]
 pub struct TakenItem {
     /// How many octets it has.
     pub used: usize,
@@ -71,8 +73,8 @@ impl<'b, A: Allocator + Copy> State<'b, A> {
     }
 
     /// Why a frame that is no error is ignored, if it is, by its type.
-    fn frame_ignored(&self, head: &Head) -> Option<Ignored>
-        ensures { result ≡ rule.frame_ignored self.now head.now (frame.frame_type head.now.kind) }
+    fn frame_ignored(&self, head: &Head, payload: &[u8]) -> Option<Ignored>
+        ensures { result ≡ rule.frame_ignored self.now head.now payload.now (frame.frame_type head.now.kind) }
     {
         match head.frame_type() {
             FrameType::Data => where_reset(Ignored::DataOnReset, self.kind_at(head)),
@@ -81,7 +83,7 @@ impl<'b, A: Allocator + Copy> State<'b, A> {
             FrameType::RstStream => reset_ignored(self.kind_at(head)),
             FrameType::Settings => self.settings_ignored(head),
             FrameType::Ping => reason_if(head.has(ACK), Ignored::PingAcknowledgement),
-            FrameType::WindowUpdate => self.window_ignored(head),
+            FrameType::WindowUpdate => self.window_ignored(head, payload),
             FrameType::Continuation => self.block_ignored(),
             FrameType::Unknown(_) => Some(Ignored::UnknownType),
             FrameType::PushPromise | FrameType::Goaway => None,
@@ -100,13 +102,13 @@ impl<'b, A: Allocator + Copy> State<'b, A> {
     }
 
     /// Why WINDOW_UPDATE is ignored, if it is.
-    fn window_ignored(&self, head: &Head) -> Option<Ignored>
-        ensures { result ≡ (if head.now.stream == 0 then None else rule.window_ignored (rule.kind_at self.now head.now)) }
+    fn window_ignored(&self, head: &Head, payload: &[u8]) -> Option<Ignored>
+        ensures { result ≡ (if head.now.stream == 0 then None else rule.window_ignored (rule.is_zero (window_part payload.now)) (rule.kind_at self.now head.now)) }
     {
         if head.stream == 0 {
             None
         } else {
-            window_ignored(self.kind_at(head))
+            window_ignored(is_zero_increment(payload), self.kind_at(head))
         }
     }
 
@@ -115,7 +117,7 @@ impl<'b, A: Allocator + Copy> State<'b, A> {
         ensures { result ≡ rule.item_ignored self.now (item_of item.now) }
     {
         match item {
-            Item::Frame(frame) => self.frame_ignored(&frame.head),
+            Item::Frame(frame) => self.frame_ignored(&frame.head, frame.payload),
             Item::Preface | Item::BadPreface | Item::Oversize(_) => None,
         }
     }

@@ -285,7 +285,7 @@ impl Reading {
     ) -> Result<(), AllocError>
         ensures { OnOk result (self.new ≡ literal_added (mode_of mode) self.old (record { field = record { name = name.items; value = value.items }; spelling = spelling_seen spelling })) }
     {
-        if mode == Mode::IncrementalIndexing {
+        if let Mode::IncrementalIndexing = mode {
             if self.is_full() {
                 self.table.insert(name, value);
                 return Ok(());

@@ -13,7 +13,7 @@ use std::alloc::{AllocError, Global};
 use std::marker::Model;
 
 /// How a field was spelled.
-#[derive(Clone, Copy, Debug, PartialEq, Eq)]
+#[derive(Clone, Copy)]
 pub enum Spelling {
     /// An index of the tables (RFC 7541, 6.1).
     Indexed(u64),
@@ -23,7 +23,7 @@ pub enum Spelling {
 }
 
 /// A field as it came: the octets of its name and value, and how it was spelled.
-#[derive(Drop, Debug)]
+#[derive(Drop)]
 pub struct SpelledField {
     pub name: Vec<u8>,
     pub value: Vec<u8>,
@@ -39,7 +39,7 @@ impl Model for SpelledField {
 }
 
 /// What the decoder stopped at.
-#[derive(Clone, Copy, Debug, PartialEq, Eq)]
+#[derive(Clone, Copy)]
 pub enum Stopped {
     /// An index that no entry has (RFC 7541, 2.3.3 and 6.1).
     Index(u64),

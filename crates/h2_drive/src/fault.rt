@@ -7,7 +7,7 @@ ghost use Rattle.h2_drive.specs.Drives.{fault_number};
 use thiserror::Error;
 
 /// How a connection ended where nothing failed.
-#[derive(Clone, Copy, Debug, PartialEq, Eq)]
+#[derive(Clone, Copy)]
 pub enum DriveEnd {
     /// The peer sends no more.
     Input,
@@ -16,7 +16,7 @@ pub enum DriveEnd {
 }
 
 /// Why a connection could not be driven to its end.
-#[derive(Clone, Copy, Debug, PartialEq, Eq, Error)]
+#[derive(Clone, Copy, Debug, Error)]
 pub enum DriveFault {
     /// 0: out of memory.
     #[error("out of memory")]

@@ -7,7 +7,7 @@ ghost use Rattle.h2_drive.specs.Wires.{grown};
 use thiserror::Error;
 
 /// A read or a write failed.
-#[derive(Clone, Copy, Debug, PartialEq, Eq, Error)]
+#[derive(Clone, Copy, Debug, Error)]
 #[error("the wire failed")]
 pub struct WireFault;
 

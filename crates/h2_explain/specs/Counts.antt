@@ -1,5 +1,5 @@
 -- The name of each count, in the text and in JSON.
-use Rattle.std.specs.Prelude.{ℕ, List, codes}
+use Rattle.std.specs.Prelude.{ℕ, List, [], ◌∷◌, codes}
 use Rattle.h2_explain.specs.declared.count.Count.{Count}
 use Rattle.h2_explain.specs.declared.count.Count.TheVariants.{ReceiveWindow, UnreturnedOctets, SendWindow, LastStream, GoawayLastStream, GoawayCode, ClientHeaderTableSize, ClientEnablePush, ClientMaxConcurrentStreams, ClientInitialWindowSize, ClientMaxFrameSize, ClientMaxHeaderListSize, SizeUpdatePending, OwnHeaderTableSize, OwnInitialWindowSize, OwnMaxFrameSize, TableEntries, TableOctets, TableMaximum, ContentReceived}
 
@@ -25,3 +25,8 @@ count_name TableEntries = codes "header table entries"
 count_name TableOctets = codes "header table octets"
 count_name TableMaximum = codes "header table maximum"
 count_name ContentReceived = codes "content received"
+
+-- all counts, in the order of the code
+unfoldable pub all_counts : List Count
+all_counts =
+    ReceiveWindow ∷ UnreturnedOctets ∷ SendWindow ∷ LastStream ∷ GoawayLastStream ∷ GoawayCode ∷ ClientHeaderTableSize ∷ ClientEnablePush ∷ ClientMaxConcurrentStreams ∷ ClientInitialWindowSize ∷ ClientMaxFrameSize ∷ ClientMaxHeaderListSize ∷ SizeUpdatePending ∷ OwnHeaderTableSize ∷ OwnInitialWindowSize ∷ OwnMaxFrameSize ∷ TableEntries ∷ TableOctets ∷ TableMaximum ∷ ContentReceived ∷ []

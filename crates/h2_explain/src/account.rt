@@ -8,7 +8,7 @@ ghost use Rattle.h2_conn.specs.Connection.{is_ended};
 ghost use Rattle.h2_spec.specs.Payload.{part_of};
 ghost use Rattle.h2_spec.specs.Stream.{stream_at};
 ghost use Rattle.h2_explain.specs.Explained.{head_in};
-ghost use Rattle.h2_explain.specs.Account.{ListsChanges, begun_after, changes_of_sent, changes_since, ended_with, unread, fragment_in, is_of_block, is_of_fields, reads_fields, shows_fields_with};
+ghost use Rattle.h2_explain.specs.Account.{ListsChanges, begun_after, changes_of_sent, changes_since, ended_with, unread, fragment_in, is_compression, is_of_block, is_of_fields, reads_fields, shows_fields_with};
 ghost use Rattle.h2_explain.specs.Notes.{AreNotes, note_of, with_later_note};
 
 use crate::changes::{Changes, connection_changes, stream_changes};
@@ -77,7 +77,20 @@ fn is_of_block(item: &Explained<'_>, head: &Head) -> bool
 fn is_of_fields(cause: Cause) -> bool
     ensures { result ≡ is_of_fields cause }
 {
-    cause == Cause::ListTooLarge || cause.code() == ErrorCode::CompressionError
+    match cause {
+        Cause::ListTooLarge => true,
+        _ => is_compression(cause.code()),
+    }
+}
+
+/// Whether a code is that of a block that can't be decoded (RFC 9113, 4.3).
+fn is_compression(code: ErrorCode) -> bool
+    ensures { result ≡ is_compression code }
+{
+    match code {
+        ErrorCode::CompressionError => true,
+        _ => false,
+    }
 }
 
 /// Whether the fields of a block are read up to an error: any but a connection error that came before them.

@@ -15,7 +15,7 @@ use h2_spec::streams::{Kind, Numbers, Pick, Stream};
 use std::alloc::AllocError;
 
 /// A value before an item and after it.
-#[derive(Clone, Copy, Debug)]
+#[derive(Clone, Copy)]
 pub enum Change {
     /// A number of the connection, which is stream 0, or of a stream; -1 represents one that is absent.
     Number(u32, Count, i64, i64),

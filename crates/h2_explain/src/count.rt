@@ -1,11 +1,14 @@
 //! The numbers of a connection and of its streams that an item can change, by name.
-//! Rests on nothing; definition: `specs/Counts.antt`, the names are in docs/FORMATS.md.
+//! Rests on h2_spec's `rules`; definition: `specs/Counts.antt`, the names are in docs/FORMATS.md.
 
-ghost use Rattle.std.specs.Prelude.{◌≡◌};
-ghost use Rattle.h2_explain.specs.Counts.{count_name};
+ghost use Rattle.std.specs.Prelude.{◌≡◌, map, slice_get, Some};
+ghost use Rattle.h2_spec.specs.Rules.{text_of};
+ghost use Rattle.h2_explain.specs.Counts.{all_counts, count_name};
+
+use h2_spec::rules::text_at;
 
 /// A number of a connection or of a stream that an item can change.
-#[derive(Clone, Copy, Debug, PartialEq, Eq)]
+#[derive(Clone, Copy)]
 pub enum Count {
     /// The octets that the client may still send (RFC 9113, 6.9).
     ReceiveWindow,
@@ -49,32 +52,49 @@ pub enum Count {
     ContentReceived,
 }
 
+/// The name of each count, in their order.
+static NAMES: [&str; 20] = [
+    "receive window",
+    "unreturned octets",
+    "send window",
+    "last stream",
+    "last stream of client's GOAWAY",
+    "code of client's GOAWAY",
+    "client's HEADER_TABLE_SIZE",
+    "client's ENABLE_PUSH",
+    "client's MAX_CONCURRENT_STREAMS",
+    "client's INITIAL_WINDOW_SIZE",
+    "client's MAX_FRAME_SIZE",
+    "client's MAX_HEADER_LIST_SIZE",
+    "size update pending",
+    "own HEADER_TABLE_SIZE in force",
+    "own INITIAL_WINDOW_SIZE in force",
+    "own MAX_FRAME_SIZE in force",
+    "header table entries",
+    "header table octets",
+    "header table maximum",
+    "content received",
+];
+
+/// The names as a slice; read here alone, so that no other proof goes through them.
+fn names() -> &'static [&'static str]
+    ensures { map text_of result.now ≡ map count_name all_counts }
+{
+    &NAMES
+}
+
+/// The place of a count in their order.
+fn place_of(count: Count) -> usize
+    ensures { slice_get all_counts result ≡ Some count }
+{
+    count as usize
+}
+
 impl Count {
     /// The name in the text and in JSON.
     pub fn name(self) -> &'static str
         ensures { result.now ≡ count_name self }
     {
-        match self {
-            Count::ReceiveWindow => "receive window",
-            Count::UnreturnedOctets => "unreturned octets",
-            Count::SendWindow => "send window",
-            Count::LastStream => "last stream",
-            Count::GoawayLastStream => "last stream of client's GOAWAY",
-            Count::GoawayCode => "code of client's GOAWAY",
-            Count::ClientHeaderTableSize => "client's HEADER_TABLE_SIZE",
-            Count::ClientEnablePush => "client's ENABLE_PUSH",
-            Count::ClientMaxConcurrentStreams => "client's MAX_CONCURRENT_STREAMS",
-            Count::ClientInitialWindowSize => "client's INITIAL_WINDOW_SIZE",
-            Count::ClientMaxFrameSize => "client's MAX_FRAME_SIZE",
-            Count::ClientMaxHeaderListSize => "client's MAX_HEADER_LIST_SIZE",
-            Count::SizeUpdatePending => "size update pending",
-            Count::OwnHeaderTableSize => "own HEADER_TABLE_SIZE in force",
-            Count::OwnInitialWindowSize => "own INITIAL_WINDOW_SIZE in force",
-            Count::OwnMaxFrameSize => "own MAX_FRAME_SIZE in force",
-            Count::TableEntries => "header table entries",
-            Count::TableOctets => "header table octets",
-            Count::TableMaximum => "header table maximum",
-            Count::ContentReceived => "content received",
-        }
+        text_at(names(), place_of(self))
     }
 }

@@ -266,7 +266,7 @@ fn say_content_length(cause: Cause, context: ErrorContext<'_, '_>, out: &mut Wor
         return false;
     };
     say_all!(out; "content-length is ", Text(first.value.as_slice()));
-    if cause == Cause::ContentMissing {
+    if let Cause::ContentMissing = cause {
         say_all!(out; ", and HEADERS ended the stream");
         return true;
     }

@@ -102,7 +102,7 @@ impl Explained<'_> {
 pub(crate) fn stream_ahead(phase: Phase, octets: &[u8]) -> u32
     ensures { result ≡ stream_ahead phase octets.now }
 {
-    if phase == Phase::Preface {
+    if let Phase::Preface = phase {
         return 0;
     }
     match read_head(octets) {

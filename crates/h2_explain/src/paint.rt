@@ -8,7 +8,7 @@ use h2_describe::say::Words;
 use h2_describe::say_all;
 
 /// What a line says.
-#[derive(Clone, Copy, Debug, PartialEq, Eq)]
+#[derive(Clone, Copy)]
 pub(crate) enum Role {
     Item,
     Field,

@@ -19,7 +19,7 @@ use h2_spec::connection::Phase;
 use std::alloc::{AllocError, Global};
 
 /// What the next item is.
-#[derive(Clone, Copy, Debug, PartialEq, Eq)]
+#[derive(Clone, Copy)]
 pub enum Awaited {
     /// The client's connection preface (RFC 9113, 3.4).
     Preface,
@@ -28,7 +28,7 @@ pub enum Awaited {
 }
 
 /// What octets lack to be the next item.
-#[derive(Clone, Copy, Debug, PartialEq, Eq)]
+#[derive(Clone, Copy)]
 pub struct Missing {
     pub what: Awaited,
     /// How many octets it needs more.
@@ -38,7 +38,7 @@ pub struct Missing {
 }
 
 /// What is after the last item.
-#[derive(Clone, Copy, Debug, PartialEq, Eq)]
+#[derive(Clone, Copy)]
 pub struct Rest {
     /// How many items there were.
     pub items: u64,
@@ -57,7 +57,7 @@ pub struct Rest {
 fn missing_of(phase: Phase, octets: &[u8]) -> Missing
     ensures { result ≡ missing_of phase octets.now }
 {
-    if phase == Phase::Preface {
+    if let Phase::Preface = phase {
         return Missing {
             what: Awaited::Preface,
             needs: 24usize.saturating_sub(octets.len()),

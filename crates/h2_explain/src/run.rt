@@ -21,7 +21,7 @@ use h2_spec::octets::octets_from;
 use std::alloc::{AllocError, Global};
 
 /// In which form items are explained.
-#[derive(Clone, Copy, Debug, PartialEq, Eq)]
+#[derive(Clone, Copy)]
 pub struct Form {
     /// As one JSON object a line.
     pub json: bool,
@@ -30,7 +30,7 @@ pub struct Form {
 }
 
 /// Why not all items were explained.
-#[derive(Clone, Copy, Debug, PartialEq, Eq)]
+#[derive(Clone, Copy)]
 pub enum ExplainFault {
     /// Memory was refused.
     NoMemory,
@@ -39,7 +39,7 @@ pub enum ExplainFault {
 }
 
 /// The result of a connection that was explained.
-#[derive(Clone, Copy, Debug, PartialEq, Eq)]
+#[derive(Clone, Copy)]
 pub struct Summary {
     /// How many items it had.
     pub items: u64,

@@ -311,7 +311,7 @@ fn say_update(cause: Cause, context: ErrorContext<'_, '_>, out: &mut Words) -> b
     let Some(Stopped::Update(size)) = context.reader.stopped() else {
         return false;
     };
-    if cause == Cause::SizeUpdateLate {
+    if let Cause::SizeUpdateLate = cause {
         say_all!(out;
             "a table size update to ", size, " after ", Fields(context.fields().len()),
             "; it has to open the block");

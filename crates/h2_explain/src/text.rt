@@ -122,7 +122,7 @@ fn say_sent_frame(alloc: Global, frame: FrameRef<'_>, paint: Paint, out: &mut Wo
     say_all!(out; "sent ");
     say_frame(frame, out);
     paint.end(out);
-    if frame.head.frame_type() == FrameType::Headers {
+    if let FrameType::Headers = frame.head.frame_type() {
         say_answer(alloc, frame.payload, paint, out);
     }
 }

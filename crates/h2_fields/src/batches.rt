@@ -18,7 +18,7 @@ use std::rc::Rc;
 const MAX_FIELDS: usize = 4_294_967_295;
 
 /// Fields, and what each can be malformed for by itself.
-#[derive(Drop, Debug)]
+#[derive(Drop)]
 pub(crate) struct Batch<A: Allocator> {
     pub(crate) list: FieldList<A>,
     pub(crate) marks: Vec<FieldMark, A>,
@@ -69,7 +69,7 @@ pub(crate) fn lent_at<'a, A: Allocator>(
 }
 
 /// The first fields of a batch, and how many there are before them.
-#[derive(Drop, Debug)]
+#[derive(Drop)]
 struct Shared<A: Allocator> {
     batch: Rc<Batch<A>, A>,
     start: usize,
@@ -121,7 +121,7 @@ impl<A: Allocator> Shared<A> {
 }
 
 /// Batches of fields, one behind another.
-#[derive(Drop, Debug)]
+#[derive(Drop)]
 pub(crate) struct Batches<A: Allocator> {
     batches: Vec<Shared<A>, A>,
     count: usize,

@@ -37,7 +37,6 @@ const MAX_KEPT_MARKS: usize = 512;
 
 /// The fields of a block so far, what each can be malformed for by itself, their size together, and whether the block
 /// must still begin with a table size update (RFC 7541, 4.2).
-#[derive(Debug)]
 pub struct Collected<A: Allocator> {
     /// The first fields.
     shared: Batches<A>,
@@ -78,7 +77,7 @@ impl<A: Allocator> Drop for Collected<A> {
 }
 
 /// A place in a field block to which `Collected::restore` goes back; plain data.
-#[derive(Clone, Copy, Debug)]
+#[derive(Clone, Copy)]
 pub struct Mark {
     /// How many fields there were.
     pub count: usize,

@@ -8,7 +8,7 @@ use std::alloc::{AllocError, Allocator};
 use std::marker::Model;
 
 /// A header field (RFC 7541, 1.3): a name and a value, of any octets and any length.
-#[derive(Drop, Debug)]
+#[derive(Drop)]
 pub struct Field<A: Allocator> {
     /// The name, as it came: nothing is folded to lower case here.
     pub name: Octets<A>,

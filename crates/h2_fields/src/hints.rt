@@ -9,7 +9,7 @@ use std::alloc::{AllocError, Allocator};
 ///
 /// Each entry that can be in the table at a time has a guess of its own (RFC 7541, 4.1: an entry counts 32 octets or
 /// more), so a list gets the octets of an entry once, however often a block refers to it.
-#[derive(Drop, Debug)]
+#[derive(Drop)]
 pub(crate) struct Hints<A: Allocator> {
     places: Vec<usize, A>,
     /// How many entries were added, modulo the most entries of the table.

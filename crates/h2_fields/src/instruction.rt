@@ -21,7 +21,7 @@ use std::alloc::{AllocError, Allocator};
 use std::marker::Model;
 
 /// What becomes of a literal field (RFC 7541, 6.2).
-#[derive(Clone, Copy, Debug, PartialEq, Eq)]
+#[derive(Clone, Copy)]
 pub enum Mode {
     /// It enters the dynamic table.
     IncrementalIndexing,
@@ -32,7 +32,7 @@ pub enum Mode {
 }
 
 /// A string of an instruction (RFC 7541, 5.2).
-#[derive(Drop, Debug)]
+#[derive(Drop)]
 pub struct Text<A: Allocator> {
     /// The octets that the string means.
     pub octets: Octets<A>,
@@ -49,7 +49,7 @@ impl<A: Allocator> Model for Text<A> {
 }
 
 /// The name of a literal field (RFC 7541, 6.2).
-#[derive(Drop, Debug)]
+#[derive(Drop)]
 pub enum Name<A: Allocator> {
     /// The name of the field at this index of the tables, from 1 on.
     Ref(u64),
@@ -58,7 +58,7 @@ pub enum Name<A: Allocator> {
 }
 
 /// An instruction of a field block (RFC 7541, 6).
-#[derive(Drop, Debug)]
+#[derive(Drop)]
 pub enum Instr<A: Allocator> {
     /// The field at this index of the tables (6.1).
     Indexed(u64),
@@ -76,7 +76,7 @@ pub enum Instr<A: Allocator> {
 }
 
 /// What is at the front of octets.
-#[derive(Drop, Debug)]
+#[derive(Drop)]
 pub enum InstrRead<A: Allocator> {
     /// A whole instruction, and how many octets it takes.
     Whole(Instr<A>, usize),

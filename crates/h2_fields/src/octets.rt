@@ -8,7 +8,7 @@ use std::alloc::{AllocError, Allocator};
 use std::marker::Model;
 
 /// A list of octets, kept in the memory of `A`: a name, a value, or another string.
-#[derive(Drop, Debug)]
+#[derive(Drop)]
 pub struct Octets<A: Allocator> {
     items: Vec<u8, A>,
 }

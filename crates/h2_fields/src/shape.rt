@@ -26,7 +26,7 @@ pub enum ShapeFault {
 }
 
 /// The name of a literal: an index of the tables, or a string by its place in the octets of the instruction.
-#[derive(Clone, Copy, Debug)]
+#[derive(Clone, Copy)]
 pub enum KnownName {
     /// The index, above 0.
     Ref(u64),
@@ -35,7 +35,7 @@ pub enum KnownName {
 }
 
 /// What is known of an instruction that is cut.
-#[derive(Clone, Copy, Debug)]
+#[derive(Clone, Copy)]
 pub enum Known {
     /// Nothing: its first integer is not whole.
     Nothing,
@@ -51,7 +51,7 @@ pub enum Known {
 
 /// Where reading goes on in an instruction whose octets stopped: at the first octet of the integer that is not whole,
 /// or inside the string that is not.
-#[derive(Clone, Copy, Debug)]
+#[derive(Clone, Copy)]
 pub struct Point {
     /// What is known of the instruction.
     pub known: Known,

@@ -1,3 +1,4 @@
 mod Agreeing
 pub mod MissingLaws
+mod MissingRows
 mod Pairs

@@ -10,7 +10,7 @@ use h2_spec::frames::Head;
 use std::alloc::{AllocError, Allocator};
 
 /// A whole frame: its head, and its payload where it lies.
-#[derive(Clone, Copy, Debug, PartialEq, Eq)]
+#[derive(Clone, Copy)]
 pub struct FrameRef<'a> {
     pub head: Head,
     /// As many octets as the head's length says.

@@ -19,7 +19,7 @@ use std::alloc::{AllocError, Allocator};
 use std::marker::Model;
 
 /// One step of the input.
-#[derive(Clone, Copy, Debug, PartialEq, Eq)]
+#[derive(Clone, Copy)]
 pub enum Item<'a> {
     /// The client's connection preface (RFC 9113, 3.4).
     Preface,

@@ -1,133 +1,116 @@
--- Worked field blocks (RFC 7541, Appendix C, and the limits of this server).
-use Rattle.std.specs.Prelude.{◌≡◌, ℕ, List, [], ◌∷◌, replicate, refl, codes, true, false}
-use Rattle.h2_spec.specs.Field.{field}
-use Rattle.h2_spec.specs.DynamicTable.{Table, total_size}
+-- Field blocks that are refused, cut, or have to begin with a size update (RFC 7541, 4.2 to 6.3; RFC 9113, 4.3).
+use Rattle.std.specs.Prelude.{◌≡◌, ℕ, Bool, true, false, List, [], ◌∷◌, map, nat_lt, replicate, refl, codes}
+use Prim.Native.String.{String}
+use Rattle.h2_spec.specs.Field.{Field, field}
+use Rattle.h2_spec.specs.DynamicTable.{Table}
 use Rattle.h2_spec.specs.Block.{Decoded, Outcome, Unfinished, Faulty, ZeroIndex, Index, Integer, Huffman, LateUpdate, LargeUpdate, MissingUpdate, decoded, carried_on, list_size, start}
 use Rattle.h2_laws.proofs.Hex.{hex}
 
-abbrev empty : ℕ → Table
-empty max = record { entries = []; max = max }
+-- a table of 4096 octets with these entries
+abbrev table : List Field → Table
+table entries = record { entries = entries; max = 4096 }
 
--- a block on an empty table
-block : ℕ → List ℕ → Decoded
-unfolding decoded
-block limit xs = decoded limit (start (empty limit) false) xs
+abbrev pair : String → String → Field
+pair name value = field (codes name) (codes value)
 
--- the same, and another block on the table that it leaves
-second : ℕ → List ℕ → List ℕ → Decoded
+-- what is said of a block: how it ends so far after each of its fragments, and then its fields, whether it still has
+-- to begin with a size update, and the entries of the table
+abbrev Told : Type 0
+Told = List Outcome × List Field × Bool × List Field
+
+-- behind these outcomes, the latest first
+in_pieces : ℕ → Decoded → List Outcome → List String → Told
+unfolding carried_on
+in_pieces limit d before [] = (before, d.progress.fields, d.progress.due, d.progress.table.entries)
+in_pieces limit d before (piece ∷ pieces) = let e = carried_on limit d (hex (codes piece)) in in_pieces limit e (e.outcome ∷ before) pieces
+
+-- a block in fragments, on a table of this limit; the outcomes are told the latest first
+block : ℕ → Bool → List Field → List String → Told
+unfolding in_pieces decoded
+block limit due entries pieces = in_pieces limit (decoded limit (start (table entries) due) []) [] pieces
+
+abbrev cut : String → Outcome
+cut rest = Unfinished (hex (codes rest))
+
+abbrev get : List Field
+get = pair ":method" "GET" ∷ []
+
+abbrev ab : List Field
+ab = pair "a" "b" ∷ []
+
+-- ---- blocks that are refused, on an empty table
+
+-- the fragments, and how the block ends after each of them, the latest first; its fields; the entries
+abbrev Row : Type 0
+Row = List String × List Outcome × List Field × List Field
+
+abbrev refused : List Row
+refused =
+    -- a size update above the limit (RFC 7541, 6.3), and one behind a field (4.2), which is decided before its size
+    ("3fe2" ∷ "1f" ∷ [], Faulty LargeUpdate ∷ cut "3fe2" ∷ [], [], []) ∷
+    ("8220" ∷ [], Faulty LateUpdate ∷ [], get, []) ∷
+    ("823fe21f" ∷ [], Faulty LateUpdate ∷ [], get, []) ∷
+    -- index 0 (6.1), and an index past both tables (2.3.3): a fault stays, and leaves the fields before it
+    ("80" ∷ [], Faulty ZeroIndex ∷ [], [], []) ∷
+    ("c0" ∷ [], Faulty Index ∷ [], [], []) ∷
+    ("82be" ∷ "82" ∷ [], Faulty Index ∷ Faulty Index ∷ [], get, []) ∷
+    -- an index of no name, which is decided before a value that is no Huffman string
+    ("7f0182ffff" ∷ [], Faulty Index ∷ [], [], []) ∷
+    ("7e" ∷ "82ff" ∷ "ff" ∷ [], Faulty Index ∷ cut "7e82ff" ∷ cut "7e" ∷ [], [], []) ∷
+    -- sixteen bits of padding, the code of EOS, and a zero in the padding (5.2)
+    ("4182ffff" ∷ [], Faulty Huffman ∷ [], [], []) ∷
+    ("4184ffffffff" ∷ [], Faulty Huffman ∷ [], [], []) ∷
+    ("418100" ∷ [], Faulty Huffman ∷ [], [], []) ∷
+    -- a name that is no Huffman string is refused once its value is whole
+    ("40016101624082ffff" ∷ "01" ∷ "62" ∷ [], Faulty Huffman ∷ cut "4082ffff01" ∷ cut "4082ffff" ∷ [], ab, ab) ∷
+    -- an index and a length that go on after the fifth octet behind the prefix (5.1)
+    ("ff80808080" ∷ "80" ∷ [], Faulty Integer ∷ cut "ff80808080" ∷ [], [], []) ∷
+    ("82417f80808080" ∷ "80" ∷ [], Faulty Integer ∷ cut "417f80808080" ∷ [], get, []) ∷
+    -- blocks that end inside an integer, and before a value
+    ("ff80808080" ∷ [], cut "ff80808080" ∷ [], [], []) ∷
+    ("41" ∷ [], cut "41" ∷ [], [], []) ∷ []
+
+blocks_are_refused : map (λ (row : Row). block 4096 false [] row.0) refused ≡ map (λ (row : Row). (row.1, row.2, false, row.3)) refused
 unfolding block
-second limit xs ys = decoded limit (start (block limit xs).progress.table false) ys
+blocks_are_refused = refl
 
--- ---- what enters the table
+-- ---- a limit that was lowered (RFC 7541, 4.2; RFC 9113, 4.3.1)
 
-plain_name_enters : (block 4096 (hex (codes "828684410f7777772e6578616d706c652e636f6d"))).progress.table.entries ≡ field (codes ":authority") (codes "www.example.com") ∷ []
+-- the limit of a table of 4096 octets with an entry; the fragments, and how the block ends after each of them, the
+-- latest first; its fields; whether a size update is still due; the entries
+abbrev UpdateRow : Type 0
+UpdateRow = ℕ × List String × List Outcome × List Field × Bool × List Field
+
+abbrev updates : List UpdateRow
+updates =
+    (100, "3f45828684" ∷ [], cut "" ∷ [], pair ":method" "GET" ∷ pair ":scheme" "http" ∷ pair ":path" "/" ∷ [], false, ab) ∷
+    (100, "3f" ∷ "4582" ∷ [], cut "" ∷ cut "3f" ∷ [], get, false, ab) ∷
+    (100, "20" ∷ "3f4582" ∷ [], cut "" ∷ cut "" ∷ [], get, false, []) ∷
+    (33, "3f02" ∷ [], cut "" ∷ [], [], false, []) ∷
+    (100, "3f46" ∷ "82" ∷ [], Faulty LargeUpdate ∷ Faulty LargeUpdate ∷ [], [], true, ab) ∷
+    -- an instruction that is whole is refused, whatever it is
+    (100, "82" ∷ [], Faulty MissingUpdate ∷ [], [], true, ab) ∷
+    (100, "80" ∷ [], Faulty MissingUpdate ∷ [], [], true, ab) ∷
+    (100, "4182ff" ∷ "ff" ∷ [], Faulty MissingUpdate ∷ cut "4182ff" ∷ [], [], true, ab) ∷
+    -- and one that is not whole is named first
+    (100, "ff80808080" ∷ "80" ∷ [], Faulty Integer ∷ cut "ff80808080" ∷ [], [], true, ab) ∷
+    (100, "41" ∷ [], cut "41" ∷ [], [], true, ab) ∷
+    -- no octet of the block: the update is still due
+    (100, "" ∷ [], cut "" ∷ [], [], true, ab) ∷
+    (100, [], [], [], true, ab) ∷
+    -- none is due at the maximum, or above it
+    (4096, "be" ∷ [], cut "" ∷ [], ab, false, ab) ∷
+    (4097, "3fe21fbe" ∷ [], cut "" ∷ [], ab, false, ab) ∷ []
+
+blocks_begin_with_the_update_that_is_due : map (λ (row : UpdateRow). block row.0 (nat_lt row.0 4096) ab row.1) updates ≡ map (λ (row : UpdateRow). (row.2, row.3, row.4, row.5)) updates
 unfolding block
-plain_name_enters = refl
-
-huffman_value_enters : (block 4096 (hex (codes "828684418cf1e3c2e5f23a6ba0ab90f4ff"))).progress.table.entries ≡ field (codes ":authority") (codes "www.example.com") ∷ []
-unfolding block
-huffman_value_enters = refl
-
--- the responses of RFC 7541, C.5.1 and C.5.2, on a table of 256 octets
-first_response : List ℕ
-first_response = hex (codes "4803333032580770726976617465611d4d6f6e2c203231204f637420323031332032303a31333a323120474d546e1768747470733a2f2f7777772e6578616d706c652e636f6d")
-
-first_response_fills_the_table : total_size (block 256 first_response).progress.table.entries ≡ 222
-unfolding block first_response
-first_response_fills_the_table = refl
-
-second_response_evicts_the_oldest : total_size (second 256 first_response (hex (codes "4803333037c1c0bf"))).progress.table.entries ≡ 222
-unfolding second first_response
-second_response_evicts_the_oldest = refl
-
--- an insertion that evicts the entry of its own name keeps the name (RFC 7541, 4.4)
-evicted_name_is_kept : (block 60 (hex (codes "400261610262627e146363636363636363636363636363636363636363"))).progress.fields ≡ field (codes "aa") (codes "bb") ∷ field (codes "aa") (codes "cccccccccccccccccccc") ∷ []
-unfolding block
-evicted_name_is_kept = refl
-
-evicted_name_is_replaced : (block 60 (hex (codes "400261610262627e146363636363636363636363636363636363636363"))).progress.table.entries ≡ field (codes "aa") (codes "cccccccccccccccccccc") ∷ []
-unfolding block
-evicted_name_is_replaced = refl
-
-too_large_an_entry_empties_the_table : (block 60 (hex (codes "400261610262627e1e636363636363636363636363636363636363636363636363636363636363"))).progress.table.entries ≡ []
-unfolding block
-too_large_an_entry_empties_the_table = refl
-
--- ---- how a block ends
-
-size_update_opens_a_block : (block 4096 (hex (codes "3fe11f828684"))).outcome ≡ Unfinished []
-unfolding block
-size_update_opens_a_block = refl
-
-size_update_above_the_limit : (block 4096 (hex (codes "3fe21f"))).outcome ≡ Faulty LargeUpdate
-unfolding block
-size_update_above_the_limit = refl
-
-size_update_after_a_field : (block 4096 (hex (codes "8220"))).outcome ≡ Faulty LateUpdate
-unfolding block
-size_update_after_a_field = refl
-
-no_update_where_one_is_due : (decoded 100 (start (empty 4096) true) (hex (codes "82"))).outcome ≡ Faulty MissingUpdate
-unfolding decoded
-no_update_where_one_is_due = refl
-
-index_0 : (block 4096 (hex (codes "80"))).outcome ≡ Faulty ZeroIndex
-unfolding block
-index_0 = refl
-
-index_past_both_tables : (block 4096 (hex (codes "c0"))).outcome ≡ Faulty Index
-unfolding block
-index_past_both_tables = refl
-
-padding_of_eight_ones : (block 4096 (hex (codes "4182ffff"))).outcome ≡ Faulty Huffman
-unfolding block
-padding_of_eight_ones = refl
-
--- the code of EOS is thirty ones
-whole_code_of_eos : (block 4096 (hex (codes "4184ffffffff"))).outcome ≡ Faulty Huffman
-unfolding block
-whole_code_of_eos = refl
-
--- a 0 in the padding: "0" is five zeros, and three zeros follow
-padding_with_a_zero : (block 4096 (hex (codes "418100"))).outcome ≡ Faulty Huffman
-unfolding block
-padding_with_a_zero = refl
-
--- where a size update is allowed is decided before its size
-late_update_above_the_limit : (block 4096 (hex (codes "823fe21f"))).outcome ≡ Faulty LateUpdate
-unfolding block
-late_update_above_the_limit = refl
-
--- an index is decided before a Huffman string
-index_before_huffman : (block 4096 (hex (codes "7f0182ffff"))).outcome ≡ Faulty Index
-unfolding block
-index_before_huffman = refl
-
-literal_cut_off : (block 4096 (hex (codes "41"))).outcome ≡ Unfinished (0x41 ∷ [])
-unfolding block
-literal_cut_off = refl
-
-integer_with_four_more_octets : (block 4096 (hex (codes "ff80808080"))).outcome ≡ Unfinished (hex (codes "ff80808080"))
-unfolding block
-integer_with_four_more_octets = refl
-
-integer_too_long : (carried_on 4096 (block 4096 (hex (codes "ff80808080"))) (hex (codes "80"))).outcome ≡ Faulty Integer
-unfolding block carried_on
-integer_too_long = refl
-
-fault_leaves_the_fields_before_it : (block 4096 (hex (codes "82be"))).progress.fields ≡ field (codes ":method") (codes "GET") ∷ []
-unfolding block
-fault_leaves_the_fields_before_it = refl
-
-fault_stays : carried_on 4096 (block 4096 (hex (codes "82be"))) (hex (codes "82")) ≡ block 4096 (hex (codes "82be"))
-unfolding block carried_on
-fault_stays = refl
+blocks_begin_with_the_update_that_is_due = refl
 
 -- ---- a long block: 65,536 indexed fields, 42 octets each
 
 outcome_and_size : Decoded → Outcome × ℕ
 outcome_and_size d = (d.outcome, list_size d.progress.fields)
 
-long_block_ends_and_counts : outcome_and_size (block 4096 (replicate 65536 0x82)) ≡ (Unfinished [], 2752512)
-unfolding outcome_and_size block
+long_block_ends_and_counts : outcome_and_size (decoded 4096 (start (table []) false) (replicate 65536 0x82)) ≡ (Unfinished [], 2752512)
+unfolding outcome_and_size decoded
 long_block_ends_and_counts = refl

@@ -12,7 +12,7 @@ use Rattle.h2_spec.specs.declared.frames.FrameType.{FrameType}
 use Rattle.h2_spec.specs.declared.frames.FrameType.TheVariants as types
 use Rattle.h2_spec.specs.declared.frames.Head.{Head}
 use Rattle.h2_spec.specs.declared.ignored.Ignored.{Ignored}
-use Rattle.h2_spec.specs.declared.ignored.Ignored.TheVariants.{Priority, UnknownType, SecondAcknowledgement, PingAcknowledgement, RstStreamOnSkipped, RstStreamOnClosed, RstStreamOnReset, WindowUpdateOnSkipped, WindowUpdateOnClosed, WindowUpdateOnReset, DataOnReset, TableOnlyBlock}
+use Rattle.h2_spec.specs.declared.ignored.Ignored.TheVariants.{Priority, UnknownType, SecondAcknowledgement, PingAcknowledgement, RstStreamOnSkipped, RstStreamOnClosed, RstStreamOnPeerReset, RstStreamOnReset, WindowUpdateOnSkipped, WindowUpdateOnClosed, WindowUpdateOnPeerReset, WindowUpdateOnReset, WindowUpdateByZero, DataOnReset, TableOnlyBlock}
 use Rattle.h2_spec.specs.declared.reactions.ConnectionFrame.TheVariants.{PingAck}
 use Rattle.h2_spec.specs.declared.reactions.Reaction.{Reaction}
 use Rattle.h2_spec.specs.declared.reactions.Reaction.TheVariants.{ConnectionError, Continues}
@@ -34,7 +34,7 @@ use Rattle.h2_spec.specs.WindowUpdate.{connection_window}
 use Rattle.h2_spec.specs.Data.{owed_as, owed_on_connection, counted, data_counted}
 use Rattle.h2_spec.specs.Headers.{FrameEffect, Breaks, Makes, makes, max_block, block_ends, fragment_read, fragment_decoded, decoded_with, fragment, fresh_block, fresh_decoding, continued, continuation}
 use Rattle.h2_spec.specs.Effect.{nothing, data_rule, on_data, on_reset, on_window, on_headers, frame_effect, part_effect, checked_effect, block_stream, item_effect, concluded, effect, effect_cause, cause_of}
-use Rattle.h2_spec.specs.Ignored.{reset_ignored, window_ignored, where_reset, reason_if, fragment_ignored, decoding_ignored, block_ignored, kind_at, settings_ignored, frame_ignored, item_ignored, unless_caused, ignored_of, changes_nothing}
+use Rattle.h2_spec.specs.Ignored.{reset_ignored, window_ignored, is_zero, where_reset, reason_if, fragment_ignored, decoding_ignored, block_ignored, kind_at, settings_ignored, frame_ignored, item_ignored, unless_caused, ignored_of, changes_nothing}
 use Rattle.h2_laws.specs.Ignoring.{OnlyReceiveWindowChanges, OnlyHeaderTableChanges}
 
 -- ---- it is no error
@@ -60,10 +60,13 @@ IsIgnored SecondAcknowledgement s e = IsUnchanged s e
 IsIgnored PingAcknowledgement s e = IsUnchanged s e
 IsIgnored RstStreamOnSkipped s e = IsUnchanged s e
 IsIgnored RstStreamOnClosed s e = IsUnchanged s e
+IsIgnored RstStreamOnPeerReset s e = IsUnchanged s e
 IsIgnored RstStreamOnReset s e = IsUnchanged s e
 IsIgnored WindowUpdateOnSkipped s e = IsUnchanged s e
 IsIgnored WindowUpdateOnClosed s e = IsUnchanged s e
+IsIgnored WindowUpdateOnPeerReset s e = IsUnchanged s e
 IsIgnored WindowUpdateOnReset s e = IsUnchanged s e
+IsIgnored WindowUpdateByZero s e = IsUnchanged s e
 IsIgnored DataOnReset s e = OnlyReceiveWindowChanges s e
 IsIgnored TableOnlyBlock s e = OnlyHeaderTableChanges s e
 
@@ -109,23 +112,27 @@ module _ (s : State) where
   resets rule HalfLocal = no-reason _
   resets rule HalfRemote = no-reason _
   resets rule Ended = nothing-happens RstStreamOnClosed unchanged
-  resets rule PeerReset = nothing-happens RstStreamOnClosed unchanged
+  resets rule PeerReset = nothing-happens RstStreamOnPeerReset unchanged
   resets rule WeReset = nothing-happens RstStreamOnReset unchanged
 
-  moves-window : (rule : WindowRule → Reaction) (kind : Kind) → Allowed (makes s (run_cell ConnectionError (nothing s.core) rule (window_cell kind))) (window_ignored kind)
-  moves-window rule Idle = no-reason _
-  moves-window rule Skipped = nothing-happens WindowUpdateOnSkipped unchanged
-  moves-window rule BothOpen = no-reason _
-  moves-window rule HalfLocal = no-reason _
-  moves-window rule HalfRemote = no-reason _
-  moves-window rule Ended = nothing-happens WindowUpdateOnClosed unchanged
-  moves-window rule PeerReset = nothing-happens WindowUpdateOnClosed unchanged
-  moves-window rule WeReset = nothing-happens WindowUpdateOnReset unchanged
+  moves-window : (rule : WindowRule → Reaction) (zero : Bool) (kind : Kind) → Allowed (makes s (run_cell ConnectionError (nothing s.core) rule (window_cell kind))) (window_ignored zero kind)
+  moves-window rule zero Idle = no-reason _
+  moves-window rule true Skipped = nothing-happens WindowUpdateByZero unchanged
+  moves-window rule false Skipped = nothing-happens WindowUpdateOnSkipped unchanged
+  moves-window rule zero BothOpen = no-reason _
+  moves-window rule zero HalfLocal = no-reason _
+  moves-window rule zero HalfRemote = no-reason _
+  moves-window rule true Ended = nothing-happens WindowUpdateByZero unchanged
+  moves-window rule false Ended = nothing-happens WindowUpdateOnClosed unchanged
+  moves-window rule true PeerReset = nothing-happens WindowUpdateByZero unchanged
+  moves-window rule false PeerReset = nothing-happens WindowUpdateOnPeerReset unchanged
+  moves-window rule true WeReset = nothing-happens WindowUpdateByZero unchanged
+  moves-window rule false WeReset = nothing-happens WindowUpdateOnReset unchanged
 
-  moves-a-window : (increment : ℕ) (on_zero : Bool) (rule : WindowRule → Reaction) (kind : Kind) →
-      Allowed (makes s (cond on_zero (connection_window s.core increment) (run_cell ConnectionError (nothing s.core) rule (window_cell kind)))) (cond on_zero None (window_ignored kind))
-  moves-a-window increment true rule kind = no-reason _
-  moves-a-window increment false rule kind = moves-window rule kind
+  moves-a-window : (increment : ℕ) (on_zero zero : Bool) (rule : WindowRule → Reaction) (kind : Kind) →
+      Allowed (makes s (cond on_zero (connection_window s.core increment) (run_cell ConnectionError (nothing s.core) rule (window_cell kind)))) (cond on_zero None (window_ignored zero kind))
+  moves-a-window increment true zero rule kind = no-reason _
+  moves-a-window increment false zero rule kind = moves-window rule zero kind
 
   acknowledges : (acked : Bool) → Allowed (makes s (cond acked (Continues (only_counts s.core)) (Continues (comes_into_force s.core (configured s.config))))) (reason_if acked SecondAcknowledgement)
   acknowledges true = nothing-happens SecondAcknowledgement unchanged
@@ -236,7 +243,7 @@ module _ (s : State) where
   of-settings h p pairs true = acknowledges s.core.acked
   of-settings h p pairs false = no-reason _
 
-  of-type : (h : Head) (p : List ℕ) (t : FrameType) → Allowed (part_effect s h p (part_as t h.flags p)) (frame_ignored s h t)
+  of-type : (h : Head) (p : List ℕ) (t : FrameType) → Allowed (part_effect s h p (part_as t h.flags p)) (frame_ignored s h p t)
   unfolding part_as on_data on_reset on_window
   of-type h p types.Data = of-read h p _ OfData (λ part. brings-data _ _ _ (kind_at s h)) (data_part h.flags p)
   of-type h p types.Headers = of-read h p _ OfHeaders (λ part. begins h part (kind_at s h)) (headers_part h.flags p)
@@ -246,13 +253,13 @@ module _ (s : State) where
   of-type h p types.PushPromise = no-reason _
   of-type h p types.Ping = of-length h p _ (OfPing p) PingLength (pings p (has h.flags ACK)) (eqb (length p) 8)
   of-type h p types.Goaway = of-read h p _ (λ (g : ℕ × ℕ). OfGoaway g.0 g.1) (λ g. no-reason _) (goaway_part p)
-  of-type h p types.WindowUpdate = of-read h p _ OfWindowUpdate (λ increment. moves-a-window increment (eqb h.stream 0) _ (kind_at s h)) (window_part p)
+  of-type h p types.WindowUpdate = of-read h p _ OfWindowUpdate (λ increment. moves-a-window increment (eqb h.stream 0) (is_zero (window_part p)) _ (kind_at s h)) (window_part p)
   of-type h p types.Continuation = continues s.block p (has h.flags END_HEADERS)
   of-type h p (types.Unknown kind) = nothing-happens UnknownType unchanged
 
-  of-frame : (h : Head) (p : List ℕ) (o : Option Cause) → Allowed (checked_effect s h p o) (frame_ignored s h (frame_type h.kind))
+  of-frame : (h : Head) (p : List ℕ) (o : Option Cause) → Allowed (checked_effect s h p o) (frame_ignored s h p (frame_type h.kind))
   of-frame h p None = of-type h p (frame_type h.kind)
-  of-frame h p (Some cause) = is-error cause (frame_ignored s h (frame_type h.kind))
+  of-frame h p (Some cause) = is-error cause (frame_ignored s h p (frame_type h.kind))
 
 of-item : (s : State) (item : Item) → Allowed s (item_effect s item) (item_ignored s item)
 of-item s Preface = no-reason s _
@@ -272,10 +279,13 @@ where-nothing SecondAcknowledgement s e k h = h
 where-nothing PingAcknowledgement s e k h = h
 where-nothing RstStreamOnSkipped s e k h = h
 where-nothing RstStreamOnClosed s e k h = h
+where-nothing RstStreamOnPeerReset s e k h = h
 where-nothing RstStreamOnReset s e k h = h
 where-nothing WindowUpdateOnSkipped s e k h = h
 where-nothing WindowUpdateOnClosed s e k h = h
+where-nothing WindowUpdateOnPeerReset s e k h = h
 where-nothing WindowUpdateOnReset s e k h = h
+where-nothing WindowUpdateByZero s e k h = h
 where-nothing DataOnReset s e k h = absurd (false≢true k)
 where-nothing TableOnlyBlock s e k h = absurd (false≢true k)
 

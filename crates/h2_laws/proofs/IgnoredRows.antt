@@ -3,7 +3,7 @@
 use Rattle.std.specs.Prelude.{◌≡◌, ℕ, zero, suc, List, [], ◌∷◌, ◌++◌, length, drop, map, option_to_list, refl, codes}
 use Prim.Native.String.{String}
 use Rattle.h2_spec.specs.declared.ignored.Ignored.{Ignored}
-use Rattle.h2_spec.specs.declared.ignored.Ignored.TheVariants.{Priority, UnknownType, SecondAcknowledgement, PingAcknowledgement, RstStreamOnSkipped, RstStreamOnClosed, RstStreamOnReset, WindowUpdateOnSkipped, WindowUpdateOnClosed, WindowUpdateOnReset, DataOnReset, TableOnlyBlock}
+use Rattle.h2_spec.specs.declared.ignored.Ignored.TheVariants.{Priority, UnknownType, SecondAcknowledgement, PingAcknowledgement, RstStreamOnSkipped, RstStreamOnClosed, RstStreamOnPeerReset, RstStreamOnReset, WindowUpdateOnSkipped, WindowUpdateOnClosed, WindowUpdateOnPeerReset, WindowUpdateOnReset, WindowUpdateByZero, DataOnReset, TableOnlyBlock}
 use Rattle.h2_spec.specs.Frame.{Next, NoItem, Got}
 use Rattle.h2_spec.specs.State.{State}
 use Rattle.h2_spec.specs.Ignored.{ignored_of}
@@ -28,7 +28,7 @@ ignored_in octets = ignored_upto (length (hex (codes octets))) (ready [] default
 
 abbrev ignored_frames : List (String × List Ignored)
 ignored_frames =
-    -- 5.3.2, 5.5, 6.5.3 and 6.7
+    -- 5.5, 6.3, 6.5.3 and 6.7
     ("0000050200000000010000000010", Priority ∷ []) ∷
     ("0000000a0000000000", UnknownType ∷ []) ∷
     ("0000010a000000000100", UnknownType ∷ []) ∷
@@ -36,23 +36,31 @@ ignored_frames =
     ("000000040100000000000000040100000000", SecondAcknowledgement ∷ []) ∷
     ("0000080600000000000102030405060708", []) ∷
     ("0000080601000000000102030405060708", PingAcknowledgement ∷ []) ∷
+    -- 5.1: on streams that are live they are not
+    ("00000301040000000182868400000403000000000100000008", []) ∷
+    ("00000301040000000182868400000408000000000100000001", []) ∷
+    ("00000301040000000182868400000100000000000161", []) ∷
     -- 5.1: closed by a request on a higher stream
     ("00000301050000000382868400000403000000000100000008", RstStreamOnSkipped ∷ []) ∷
     ("00000301050000000382868400000408000000000100000001", WindowUpdateOnSkipped ∷ []) ∷
-    ("00000301050000000382868400000408000000000100000000", WindowUpdateOnSkipped ∷ []) ∷
+    ("00000301050000000382868400000408000000000100000000", WindowUpdateByZero ∷ []) ∷
     -- 5.1: ended by both sides, or reset by the peer
     ("00000301050000000182868400000403000000000100000008", RstStreamOnClosed ∷ []) ∷
-    ("00000301050000000182868400000408000000000100000000", WindowUpdateOnClosed ∷ []) ∷
-    ("0000030104000000018286840000040300000000010000000800000403000000000100000008", RstStreamOnClosed ∷ []) ∷
-    ("0000030104000000018286840000040300000000010000000800000408000000000100000001", WindowUpdateOnClosed ∷ []) ∷
+    ("00000301050000000182868400000408000000000100000001", WindowUpdateOnClosed ∷ []) ∷
+    ("00000301050000000182868400000408000000000100000000", WindowUpdateByZero ∷ []) ∷
+    ("0000030104000000018286840000040300000000010000000800000403000000000100000008", RstStreamOnPeerReset ∷ []) ∷
+    ("0000030104000000018286840000040300000000010000000800000408000000000100000001", WindowUpdateOnPeerReset ∷ []) ∷
+    ("0000030104000000018286840000040300000000010000000800000408000000000100000000", WindowUpdateByZero ∷ []) ∷
     -- 5.1: reset by the server
     ("000002010500000001828600000403000000000100000008", RstStreamOnReset ∷ []) ∷
     ("000002010500000001828600000408000000000100000001", WindowUpdateOnReset ∷ []) ∷
-    ("000002010500000001828600000408000000000100000000", WindowUpdateOnReset ∷ []) ∷
+    ("000002010500000001828600000408000000000100000000", WindowUpdateByZero ∷ []) ∷
     ("000002010500000001828600000100010000000161", DataOnReset ∷ []) ∷
     ("000002010500000001828600000101050000000182", TableOnlyBlock ∷ []) ∷
     ("00000201050000000182860000010101000000018200000109040000000186", TableOnlyBlock ∷ TableOnlyBlock ∷ []) ∷
-    -- what would be ignored without an error before it
+    -- what would be ignored without an error before it, or in it
+    ("0000080601000000010102030405060708", []) ∷
+    ("000003010500000001828684000001000000000001610000080601000000000102030405060708", []) ∷
     ("000002010500000001828600000101050000000180", []) ∷
     ("000001010100000001820000050200000000010000000010", []) ∷
     ("00000402000000000100000000", []) ∷ []

@@ -1,6 +1,7 @@
-pub mod BadLines
+mod AppendixRows
 mod BeginningLaws
 mod BlockRows
+mod BookRows
 mod CauseLaws
 mod CauseRows
 mod CuttingLaws
@@ -8,25 +9,28 @@ mod DebugRows
 mod EarlyRows
 mod FlowLaws
 mod FormLaws
-mod FrameLaws
 mod FrameRows
+pub mod grants
+mod GrantsRows
 mod Hex
 mod HuffmanRows
 mod IgnoredLaws
 mod IgnoredRows
+mod InstructionRows
 mod IntegerRows
-mod GrantsRows
-pub mod grants
-mod LongBodies
-mod LongLists
 mod LocalSettingsLaws
 mod LocalSettingsRows
+mod LongBodies
+mod LongLists
 mod PayloadLaws
-pub mod RequestLaws
 mod RequestRows
-pub mod ReadingLines
-mod ReadingParts
-mod Rows
+mod PayloadRows
+mod RuleRows
 pub mod Runs
 mod ScriptRows
+mod SettingsRows
 mod SplitLaws
+mod StaticTableRows
+mod StreamRows
+mod StringRows
+mod TableRows

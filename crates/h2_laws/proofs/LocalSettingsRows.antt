@@ -1,9 +1,9 @@
 -- The server's own settings, computed: octets that come behind the preface and the first SETTINGS, what is sent for
 -- them, and what is shown then. The peer's acknowledgement is the frame 000000040100000000 (RFC 9113, 6.5.3).
-use Rattle.std.specs.Prelude.{◌≡◌, ℕ, [], ◌++◌, true, false, refl, codes, replicate}
+use Rattle.std.specs.Prelude.{◌≡◌, ℕ, List, [], ◌∷◌, ◌++◌, map, true, false, refl, codes, replicate}
 use Rattle.h2_spec.specs.declared.connection.Config.{Config}
 use Rattle.h2_spec.specs.Opening.{opening_octets}
-use Rattle.h2_spec.specs.State.{is_allowed}
+use Rattle.h2_spec.specs.State.{is_allowed, limits}
 use Rattle.h2_laws.proofs.Hex.{hex}
 use Rattle.h2_laws.proofs.Runs.{default, replies, replies_to, shown}
 
@@ -38,7 +38,12 @@ all_are_announced : opening_octets (of_all 100 10 65536) ≡ hex (codes "00001e0
 unfolding opening_octets
 all_are_announced = refl
 
--- ---- their ranges
+-- with one stream
+largest_are_announced : opening_octets (record (of_all 65536 2147483647 65536) { streams = 1 }) ≡ hex (codes "00001e04000000000000010001000000030000000100047fffffff000500010000000600010000")
+unfolding opening_octets
+largest_are_announced = refl
+
+-- ---- their ranges, and those of the limits of streams and of credit
 
 least_settings_are_allowed : is_allowed (of_all 0 0 16384) ≡ true
 least_settings_are_allowed = refl
@@ -54,6 +59,12 @@ too_large_a_window = refl
 
 too_small_a_frame : is_allowed (of_frame 16383) ≡ false
 too_small_a_frame = refl
+
+limits_out_of_range : map (λ (config : Config). is_allowed config) (limits 0 32768 ∷ limits 1001 32768 ∷ limits 100 0 ∷ limits 100 65536 ∷ []) ≡ false ∷ false ∷ false ∷ false ∷ []
+limits_out_of_range = refl
+
+limits_at_their_bounds : map (λ (config : Config). is_allowed config) (limits 1 1 ∷ limits 1000 65535 ∷ []) ≡ true ∷ true ∷ []
+limits_at_their_bounds = refl
 
 too_large_a_frame : is_allowed (of_frame 65537) ≡ false
 too_large_a_frame = refl

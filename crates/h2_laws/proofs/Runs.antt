@@ -62,9 +62,18 @@ opening_settings_are_sent : opening_octets default ≡ hex (codes "00000c0400000
 unfolding opening_octets
 opening_settings_are_sent = refl
 
+-- 1000 streams and 65535 octets of credit are the largest limits
+largest_limits_are_sent : opening_octets (limits 1000 65535) ≡ hex (codes "00000c0400000000000003000003e8000600010000")
+unfolding opening_octets
+largest_limits_are_sent = refl
+
 nothing_comes : sent [] default [] ≡ []
 unfolding sent
 nothing_comes = refl
+
+new_connection_is_shown : show (view (opening [] default)) ≡ codes "phase preface last 0\nwindow recv 65535 owed 0 send 65535\npeer table 4096 push 1 streams - window 65535 frame 16384 list - signal 0\nacked 0 goaway -\nown table 4096 window 65535 frame 16384 due 0\nblock -\ntable 0 0 4096\n"
+unfolding show view digits encode_with
+new_connection_is_shown = refl
 
 first_settings_is_acknowledged : sent [] default beginning ≡ hex (codes "000000040100000000")
 unfolding sent
@@ -96,6 +105,10 @@ unfolding sent
 first_settings_with_ack = refl
 
 -- ---- frames of the connection
+
+settings_and_ping_are_answered : sent [] default (beginning ++ hex (codes "0000080600000000006465627567676572")) ≡ hex (codes "0000000401000000000000080601000000006465627567676572")
+unfolding sent
+settings_and_ping_are_answered = refl
 
 ping_is_answered : replies [] default "0000080600000000000102030405060708" ≡ hex (codes "0000080601000000000102030405060708")
 unfolding replies
@@ -184,6 +197,15 @@ unknown_type_inside_a_block = refl
 continuation_on_another_stream : replies (get (codes "hi")) default "000007010100000001828684418cf1e300000a090400000003c2e5f23a6ba0ab90f4ff" ≡ hex (codes "0000080700000000000000000000000001")
 unfolding replies
 continuation_on_another_stream = refl
+
+-- a stream error (8.3.1)
+request_of_a_method_alone : replies [] default "00000101050000000182" ≡ hex (codes "00000403000000000100000001")
+unfolding replies
+request_of_a_method_alone = refl
+
+request_of_a_method_alone_is_shown : shown [] default "00000101050000000182" ≡ codes "phase running last 1\nwindow recv 65535 owed 0 send 65535\npeer table 4096 push 1 streams - window 65535 frame 16384 list - signal 0\nacked 0 goaway -\nown table 4096 window 65535 frame 16384 due 0\nblock -\ntable 0 0 4096\nstream 1 we-reset\n"
+unfolding shown
+request_of_a_method_alone_is_shown = refl
 
 unknown_path : replies [] default "000014010500000001828684410f7777772e6578616d706c652e636f6d" ≡ hex (codes "0000010105000000018d")
 unfolding replies

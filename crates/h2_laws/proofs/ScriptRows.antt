@@ -1,130 +1,90 @@
--- Worked scripts, both ways.
-use Rattle.std.specs.Prelude.{◌≡◌, [], refl, codes, Ok, Err}
+-- Worked scripts, both ways; the octets are written out from RFC 9113 and RFC 7541.
+use Rattle.std.specs.Prelude.{◌≡◌, ℕ, List, [], ◌∷◌, map, refl, codes, Result, Ok, Err}
 use Rattle.std.specs.Fmt.{digits}
 use Rattle.hex.specs.Hex.{encode_with, decode_pairs}
+use Prim.Native.String.{String}
 use Rattle.h2_spec.specs.Assemble.{assembled}
 use Rattle.h2_spec.specs.Written.{written}
+use Rattle.h2_spec.specs.declared.scripts.SyntaxKind.{SyntaxKind}
 use Rattle.h2_spec.specs.declared.scripts.SyntaxKind.TheVariants as kind
 use Rattle.h2_laws.proofs.Hex.{hex}
 
-padded_data_and_a_rest : written (hex (codes "00000400080000000102610000000003010500000001ff80000000000001")) ≡ codes "DATA 08 1 x02610000\nHEADERS 05 1 xff8000\nRAW 0000000001\n"
+abbrev Row : Type 0
+Row = String × String
+
+-- ---- both ways
+
+-- octets, and the one script that is written for them, which is read as them again
+abbrev scripts : List Row
+scripts =
+    ("", "") ∷
+    -- an integer spelled long, and the beginning of a head
+    ("00000400080000000102610000000003010500000001ff80000000000001", "DATA 08 1 x02610000\nHEADERS 05 1 xff8000\nRAW 0000000001\n") ∷
+    -- the request of RFC 7541, C.3.1
+    (
+        "505249202a20485454502f322e300d0a0d0a534d0d0a0d0a000000040000000000000014010500000001828684410f7777772e6578616d706c652e636f6d",
+        "PREFACE\nSETTINGS 00 0 -\nHEADERS 05 1 hi2,i6,i4,a1=\"www.example.com\"\n",
+    ) ∷
+    -- an unknown type
+    ("000001ff000000000001", "Tff 00 0 x01\n") ∷
+    -- settings, none of them, and one cut short
+    ("00000c040000000000000300000064000600010000", "SETTINGS 00 0 s3=100,6=65536\n") ∷
+    ("000000040000000000", "SETTINGS 00 0 -\n") ∷
+    ("0000050400000000000003000000", "SETTINGS 00 0 x0003000000\n") ∷
+    -- the reserved bit of a head, and that of an increment
+    ("00000408008000000100000005", "WINDOW_UPDATE 00 1R w5\n") ∷
+    ("00000408000000000180000005", "WINDOW_UPDATE 00 1 x80000005\n") ∷
+    ("00000403000000000100000008", "RST_STREAM 00 1 c8\n") ∷
+    -- a size update, a literal that is never indexed, and a Huffman string
+    ("00000c0104000000013fe11f100161016201826402", "HEADERS 04 1 hu4096,v\"a\"=\"b\",n1='302'\n") ∷
+    ("000000000000000001", "DATA 00 1 -\n") ∷
+    ("000001000f00000001ab", "DATA 0f 1 xab\n") ∷
+    -- an octet that is escaped
+    ("00000b0904000000010007782d71756f74650122", "CONTINUATION 04 1 hn\"x-quote\"=\"\\22\"\n") ∷
+    -- no field blocks: the beginning of an instruction, padding, and a string that is no Huffman string
+    ("00000301040000000101ff81", "HEADERS 04 1 x01ff81\n") ∷
+    ("000002010c000000010082", "HEADERS 0c 1 x0082\n") ∷
+    ("0000030104000000010181ff", "HEADERS 04 1 x0181ff\n") ∷ []
+
+octets_are_written : map (λ (row : Row). written (hex (codes row.0))) scripts ≡ map (λ (row : Row). codes row.1) scripts
 unfolding written digits encode_with
-padded_data_and_a_rest = refl
+octets_are_written = refl
 
-unknown_type : written (hex (codes "000001ff000000000001")) ≡ codes "Tff 00 0 x01\n"
-unfolding written digits encode_with
-unknown_type = refl
-
-settings : written (hex (codes "00000c040000000000000300000064000600010000")) ≡ codes "SETTINGS 00 0 s3=100,6=65536\n"
-unfolding written digits encode_with
-settings = refl
-
-settings_without_values : written (hex (codes "000000040000000000")) ≡ codes "SETTINGS 00 0 -\n"
-unfolding written digits encode_with
-settings_without_values = refl
-
-reserved_bit : written (hex (codes "00000408008000000100000005")) ≡ codes "WINDOW_UPDATE 00 1R w5\n"
-unfolding written digits encode_with
-reserved_bit = refl
-
-error_code : written (hex (codes "00000403000000000100000008")) ≡ codes "RST_STREAM 00 1 c8\n"
-unfolding written digits encode_with
-error_code = refl
-
-empty_payload : written (hex (codes "000000000000000001")) ≡ codes "DATA 00 1 -\n"
-unfolding written digits encode_with
-empty_payload = refl
-
-no_octets : written [] ≡ []
-unfolding written
-no_octets = refl
-
-request : written (hex (codes "505249202a20485454502f322e300d0a0d0a534d0d0a0d0a000000040000000000000014010500000001828684410f7777772e6578616d706c652e636f6d"))
-    ≡ codes "PREFACE\nSETTINGS 00 0 -\nHEADERS 05 1 hi2,i6,i4,a1=\"www.example.com\"\n"
-unfolding written digits encode_with
-request = refl
-
-update_never_and_huffman : written (hex (codes "00000c0104000000013fe11f100161016201826402")) ≡ codes "HEADERS 04 1 hu4096,v\"a\"=\"b\",n1='302'\n"
-unfolding written digits encode_with
-update_never_and_huffman = refl
-
--- ---- the other way
-
-unknown_type_read : assembled (codes "Tff 00 0 x01") ≡ Ok (hex (codes "000001ff000000000001"))
+scripts_are_read_back : map (λ (row : Row). assembled (codes row.1)) scripts ≡ map (λ (row : Row). let read : Result (List ℕ) (ℕ × SyntaxKind) = Ok (hex (codes row.0)) in read) scripts
 unfolding assembled decode_pairs
-unknown_type_read = refl
+scripts_are_read_back = refl
 
-settings_read : assembled (codes "SETTINGS 00 0 s3=100,6=65536") ≡ Ok (hex (codes "00000c040000000000000300000064000600010000"))
+-- ---- scripts that are not written so
+
+abbrev forms : List Row
+forms =
+    ("; a comment\n\n", "") ∷
+    ("PREFACE", "505249202a20485454502f322e300d0a0d0a534d0d0a0d0a") ∷
+    ("RAW 0000000001", "0000000001") ∷
+    ("Tff 00 0 x01", "000001ff000000000001") ∷
+    -- capital digits, and leading zeros
+    ("DATA 0F 01 xAB", "000001000f00000001ab") ∷
+    ("CONTINUATION 04 1 hn\"\\22,=\"='\\5c'\n;\n", "0000090904000000010003222c3d83fffe1f") ∷ []
+
+scripts_are_read : map (λ (row : Row). assembled (codes row.0)) forms ≡ map (λ (row : Row). let read : Result (List ℕ) (ℕ × SyntaxKind) = Ok (hex (codes row.1)) in read) forms
 unfolding assembled decode_pairs
-settings_read = refl
+scripts_are_read = refl
 
-reserved_bit_read : assembled (codes "WINDOW_UPDATE 00 1R w5") ≡ Ok (hex (codes "00000408008000000100000005"))
+-- ---- bad lines: the first one, and the least fault in it
+
+abbrev bad_lines : List (String × ℕ × SyntaxKind)
+bad_lines =
+    ("SETTINGS 00 0", 1, kind.Parts) ∷
+    ("PREFACE ", 1, kind.Parts) ∷
+    ("RAW ", 1, kind.Parts) ∷
+    ("; a comment\nFOO 00 0 -\n", 2, kind.Name) ∷
+    ("PING 0g 0 -", 1, kind.Flags) ∷
+    ("DATA 0g x x0", 1, kind.Flags) ∷
+    ("PING 00 2147483648 -", 1, kind.Stream) ∷
+    ("PING 00 0 q", 1, kind.Payload) ∷
+    ("RAW 0", 1, kind.Payload) ∷
+    ("HEADERS 00 1 hi1,", 1, kind.Payload) ∷ []
+
+bad_lines_are_reported : map (λ (row : String × ℕ × SyntaxKind). assembled (codes row.0)) bad_lines ≡ map (λ (row : String × ℕ × SyntaxKind). let read : Result (List ℕ) (ℕ × SyntaxKind) = Err (row.1, row.2) in read) bad_lines
 unfolding assembled decode_pairs
-reserved_bit_read = refl
-
-error_code_read : assembled (codes "RST_STREAM 00 1 c8") ≡ Ok (hex (codes "00000403000000000100000008"))
-unfolding assembled decode_pairs
-error_code_read = refl
-
-empty_payload_read : assembled (codes "DATA 00 1 -") ≡ Ok (hex (codes "000000000000000001"))
-unfolding assembled decode_pairs
-empty_payload_read = refl
-
-request_read : assembled (codes "PREFACE\nSETTINGS 00 0 -\nHEADERS 05 1 hi2,i6,i4,a1=\"www.example.com\"\n")
-    ≡ Ok (hex (codes "505249202a20485454502f322e300d0a0d0a534d0d0a0d0a000000040000000000000014010500000001828684410f7777772e6578616d706c652e636f6d"))
-unfolding assembled decode_pairs
-request_read = refl
-
-update_never_and_huffman_read : assembled (codes "HEADERS 04 1 hu4096,v\"a\"=\"b\",n1='302'") ≡ Ok (hex (codes "00000c0104000000013fe11f100161016201826402"))
-unfolding assembled decode_pairs
-update_never_and_huffman_read = refl
-
-capital_digits_and_leading_zeros : assembled (codes "DATA 0F 01 xAB") ≡ Ok (hex (codes "000001000f00000001ab"))
-unfolding assembled decode_pairs
-capital_digits_and_leading_zeros = refl
-
-escapes : assembled (codes "CONTINUATION 04 1 hn\"\\22,=\"='\\5c'\n;\n") ≡ assembled (codes "CONTINUATION 04 1 x0003222c3d83fffe1f")
-unfolding assembled decode_pairs
-escapes = refl
-
-no_lines : assembled [] ≡ Ok []
-unfolding assembled
-no_lines = refl
-
--- ---- bad lines
-
-three_parts : assembled (codes "SETTINGS 00 0") ≡ Err (1, kind.Parts)
-unfolding assembled decode_pairs
-three_parts = refl
-
-no_such_name : assembled (codes "; a comment\nFOO 00 0 -\n") ≡ Err (2, kind.Name)
-unfolding assembled decode_pairs
-no_such_name = refl
-
-no_hex_flags : assembled (codes "PING 0g 0 -") ≡ Err (1, kind.Flags)
-unfolding assembled decode_pairs
-no_hex_flags = refl
-
-flags_before_stream : assembled (codes "DATA 0g x x0") ≡ Err (1, kind.Flags)
-unfolding assembled decode_pairs
-flags_before_stream = refl
-
-stream_too_high : assembled (codes "PING 00 2147483648 -") ≡ Err (1, kind.Stream)
-unfolding assembled decode_pairs
-stream_too_high = refl
-
-no_such_form : assembled (codes "PING 00 0 q") ≡ Err (1, kind.Payload)
-unfolding assembled decode_pairs
-no_such_form = refl
-
-space_behind_the_preface : assembled (codes "PREFACE ") ≡ Err (1, kind.Parts)
-unfolding assembled decode_pairs
-space_behind_the_preface = refl
-
-half_an_octet : assembled (codes "RAW 0") ≡ Err (1, kind.Payload)
-unfolding assembled decode_pairs
-half_an_octet = refl
-
-comma_at_the_end : assembled (codes "HEADERS 00 1 hi1,") ≡ Err (1, kind.Payload)
-unfolding assembled decode_pairs
-comma_at_the_end = refl
+bad_lines_are_reported = refl

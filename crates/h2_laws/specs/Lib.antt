@@ -6,5 +6,4 @@ pub mod GrantsTest
 pub mod Ignoring
 pub mod Order
 pub mod LocalSettings
-pub mod Reasons
 pub mod Allowances

@@ -1,11 +1,12 @@
 //! Laws of requests, each on a function with an empty body: its contract is the law.
-//! They speak of `h2_spec/specs/Request.antt` and `specs/Reasons.antt`; their lemmas are in `proofs/RequestLaws.antt`.
+//! They speak of `h2_spec/specs/Request.antt` and `h2_spec/specs/Reasons.antt`; their lemmas are in `RequestLaws` of
+//! `h2_spec/proofs`.
 
 ghost use Rattle.std.specs.Prelude.{◌≡◌, ℕ, List, ◌∷◌, true, false};
 ghost use Rattle.h2_spec.specs.Field.{Field};
 ghost use Rattle.h2_spec.specs.Request.{malformed, malformed_trailers, value_named};
 ghost use Rattle.h2_spec.specs.Answer.{response_block};
-ghost use Rattle.h2_laws.specs.Reasons.{IsReason, IsTrailersReason, IsLeast, IsValueNamed};
+ghost use Rattle.h2_spec.specs.Reasons.{IsReason, IsTrailersReason, IsLeast, IsValueNamed};
 
 /// The reason that makes a request malformed is the least one that the places of its fields in their list give, and
 /// there is none where no place gives one (RFC 9113, 8.1.1, 8.2, 8.3 and 8.5).

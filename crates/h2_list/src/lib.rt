@@ -23,7 +23,7 @@ const MAX_KEPT_FIELDS: usize = 512;
 const MAX_OCTETS: usize = 4_294_967_295;
 
 /// A part of a list of octets: from a place up to another.
-#[derive(Clone, Copy, Debug)]
+#[derive(Clone, Copy)]
 struct Part {
     start: u32,
     end: u32,
@@ -31,7 +31,7 @@ struct Part {
 
 /// A field as two parts of a list of octets, and how long the list was before the field was added and with it. A part
 /// may be that of an earlier field.
-#[derive(Clone, Copy, Debug)]
+#[derive(Clone, Copy)]
 struct Span {
     name: Part,
     value: Part,
@@ -49,7 +49,7 @@ const NOTHING: Span = Span {
 
 /// A list of header fields, and behind them the octets of a next field that is not complete yet. Fields can share
 /// octets: `append_like` and `close_named` do not add those of a name or a value that an earlier field has.
-#[derive(Drop, Debug)]
+#[derive(Drop)]
 pub struct FieldList<A: Allocator> {
     octets: Vec<u8, A>,
     spans: Vec<Span, A>,

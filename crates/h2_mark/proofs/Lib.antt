@@ -1,2 +1,3 @@
 pub mod KnownNames
+mod MarkRows
 pub mod OctetTables

@@ -12,7 +12,7 @@ ghost use Rattle.h2_mark.specs.Mark.{mark_of, known_of, known_by_length, unknown
 use crate::octets;
 
 /// The names that the rules of a request are about.
-#[derive(Clone, Copy, Debug)]
+#[derive(Clone, Copy)]
 pub enum KnownName {
     Method,
     Scheme,
@@ -139,7 +139,7 @@ fn of_ten(name: &[u8]) -> KnownName
 }
 
 /// What a field can be malformed for by itself.
-#[derive(Clone, Copy, Debug)]
+#[derive(Clone, Copy)]
 pub struct FieldMark {
     /// Which name it has.
     pub known: KnownName,

@@ -8,7 +8,7 @@ use std::alloc::{AllocError, AllocFailed};
 use thiserror::Error;
 
 /// Why octets are no Huffman string (RFC 7541, 5.2), or could not be decoded.
-#[derive(Clone, Copy, Debug, PartialEq, Eq, Error)]
+#[derive(Clone, Copy, Debug, Error)]
 pub enum HuffFault {
     /// Memory was refused.
     #[error("out of memory")]

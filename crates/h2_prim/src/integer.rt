@@ -10,7 +10,7 @@ ghost use Rattle.h2_prim.specs.Readings.{int_read, IsSmall};
 use std::alloc::{AllocError, Allocator};
 
 /// What is at the front of octets, as an integer (RFC 7541, 5.1).
-#[derive(Clone, Copy, Debug, PartialEq, Eq)]
+#[derive(Clone, Copy)]
 pub enum IntRead {
     /// A whole integer: its value, below 2^36, and how many octets it takes, 1 to 6.
     Whole(u64, usize),

@@ -16,7 +16,7 @@ use crate::integer::{IntRead, read_int};
 use std::alloc::Allocator;
 
 /// What is at the front of octets, as a string with its octets as they are (RFC 7541, 5.2).
-#[derive(Clone, Copy, Debug, PartialEq, Eq)]
+#[derive(Clone, Copy)]
 pub enum StrAt<'a> {
     /// A whole string: whether it is a Huffman string, its octets, and how many octets it takes with its length.
     Whole(bool, &'a [u8], usize),
@@ -27,7 +27,7 @@ pub enum StrAt<'a> {
 }
 
 /// What is at the front of octets, as a string by its text (RFC 7541, 5.2).
-#[derive(Debug, Drop)]
+#[derive(Drop)]
 pub enum StrRead<A: Allocator> {
     /// A whole string: its text, whether it is a Huffman string, and how many octets it takes with its length.
     Whole(Vec<u8, A>, bool, usize),

@@ -9,7 +9,7 @@ use std::alloc::{AllocError, AllocFailed};
 use thiserror::Error;
 
 /// What is wrong with an entry, in the order in which it is looked for.
-#[derive(Clone, Copy, Debug, PartialEq, Eq, Error)]
+#[derive(Clone, Copy, Debug, Error)]
 pub enum EntryFault {
     /// 12: the status is outside 200 to 599.
     #[error("the status is outside 200 to 599")]
@@ -41,7 +41,7 @@ impl EntryFault {
 }
 
 /// Why a book did not take an entry.
-#[derive(Clone, Copy, Debug, PartialEq, Eq, Error)]
+#[derive(Clone, Copy, Debug, Error)]
 pub enum BookFault {
     /// 0: the growth of the book's memory was refused.
     #[error("out of memory")]

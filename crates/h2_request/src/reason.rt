@@ -8,7 +8,7 @@ ghost use Rattle.h2_request.specs.ReasonNumber.{reason_number};
 use thiserror::Error;
 
 /// A reason against fields, in the order of their numbers: of several that hold the least is answered.
-#[derive(Clone, Copy, Debug, PartialEq, Eq)]
+#[derive(Clone, Copy, Debug)]
 pub enum Reason {
     /// 1: a name is empty, has an octet 00-20, 41-5a or 7f-ff, or a colon that is not its first octet (RFC 9113,
     /// 8.2.1).
@@ -51,6 +51,6 @@ impl Reason {
 }
 
 /// The fields make no request, or no trailers, for this reason: the least that holds.
-#[derive(Clone, Copy, Debug, PartialEq, Eq, Error)]
+#[derive(Clone, Copy, Debug, Error)]
 #[error("malformed fields: {0:?}")]
 pub struct Malformed(pub Reason);

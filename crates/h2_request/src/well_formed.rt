@@ -19,7 +19,7 @@ use h2_mark::octets;
 use std::alloc::Allocator;
 
 /// What well-formed fields ask for; method and path are lent by the fields.
-#[derive(Clone, Copy, Debug)]
+#[derive(Clone, Copy)]
 pub struct Request<'a> {
     /// Whether the method is CONNECT (RFC 9113, 8.5).
     pub connect: bool,

@@ -1,7 +1,7 @@
 //! Why a frame that is no error is ignored, by its stream's state or its block's purpose (RFC 9113, 4.3 and 5.1).
 //! Rests on h2_spec's types; definition: `specs/Ignored.antt` there.
 
-ghost use Rattle.std.specs.Prelude.{◌≡◌};
+ghost use Rattle.std.specs.Prelude.{◌≡◌, Some};
 ghost use Rattle.h2_spec.specs.Ignored as rule;
 
 use h2_spec::causes::Cause;
@@ -15,21 +15,35 @@ pub fn reset_ignored(kind: Kind) -> Option<Ignored>
 {
     match kind {
         Kind::Skipped => Some(Ignored::RstStreamOnSkipped),
-        Kind::Ended | Kind::PeerReset => Some(Ignored::RstStreamOnClosed),
+        Kind::Ended => Some(Ignored::RstStreamOnClosed),
+        Kind::PeerReset => Some(Ignored::RstStreamOnPeerReset),
         Kind::WeReset => Some(Ignored::RstStreamOnReset),
         Kind::Idle | Kind::BothOpen | Kind::HalfLocal | Kind::HalfRemote => None,
     }
 }
 
-/// Why WINDOW_UPDATE is ignored on a stream of this state, if it is (RFC 9113, 5.1).
-pub fn window_ignored(kind: Kind) -> Option<Ignored>
-    ensures { result ≡ rule.window_ignored kind }
+/// Why WINDOW_UPDATE is ignored on a stream of this state, if it is, by whether its increment is 0 (RFC 9113, 5.1 and
+/// 6.9).
+pub fn window_ignored(zero: bool, kind: Kind) -> Option<Ignored>
+    ensures { result ≡ rule.window_ignored zero kind }
 {
     match kind {
-        Kind::Skipped => Some(Ignored::WindowUpdateOnSkipped),
-        Kind::Ended | Kind::PeerReset => Some(Ignored::WindowUpdateOnClosed),
-        Kind::WeReset => Some(Ignored::WindowUpdateOnReset),
+        Kind::Skipped => Some(unless_zero(zero, Ignored::WindowUpdateOnSkipped)),
+        Kind::Ended => Some(unless_zero(zero, Ignored::WindowUpdateOnClosed)),
+        Kind::PeerReset => Some(unless_zero(zero, Ignored::WindowUpdateOnPeerReset)),
+        Kind::WeReset => Some(unless_zero(zero, Ignored::WindowUpdateOnReset)),
         Kind::Idle | Kind::BothOpen | Kind::HalfLocal | Kind::HalfRemote => None,
+    }
+}
+
+/// This reason, unless the increment is 0.
+fn unless_zero(zero: bool, reason: Ignored) -> Ignored
+    ensures { Some result ≡ rule.zero_or (Some reason) zero }
+{
+    if zero {
+        Ignored::WindowUpdateByZero
+    } else {
+        reason
     }
 }
 

@@ -7,7 +7,7 @@ ghost use Rattle.h2_serve.specs.Faults.{fault_number};
 use thiserror::Error;
 
 /// Why a server stops before it has served all connections.
-#[derive(Clone, Copy, Debug, PartialEq, Eq, Error)]
+#[derive(Clone, Copy, Debug, Error)]
 pub enum ServeFault {
     /// 0: out of memory for a new connection.
     #[error("out of memory")]

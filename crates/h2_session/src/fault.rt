@@ -7,7 +7,7 @@ ghost use Rattle.h2_session.specs.Faults.{fault_number};
 use thiserror::Error;
 
 /// Why a session ends before its first command, or a line is refused.
-#[derive(Clone, Copy, Debug, PartialEq, Eq, Error)]
+#[derive(Clone, Copy, Debug, Error)]
 pub enum SessionFault {
     /// 0: out of memory.
     #[error("out of memory")]

@@ -1,7 +1,9 @@
+pub mod BadLines
 pub mod BitLaws
 pub mod BlockLaws
 pub mod CodeTree
 pub mod Computed
+pub mod FrameLaws
 pub mod HuffmanLaws
 pub mod InstructionLaws
 pub mod InstructionTexts
@@ -10,10 +12,13 @@ pub mod IntegerLaws
 pub mod ParseLaws
 pub mod ReadShapes
 pub mod ReadingInstructions
+pub mod ReadingLines
+pub mod ReadingParts
 pub mod ReadingWords
+pub mod RequestLaws
 pub mod ScriptTexts
 pub mod SpellingLaws
 pub mod TableLaws
 pub mod WrittenLaws
 pub mod TraceLaws
-mod CauseColumns
+pub mod Columns

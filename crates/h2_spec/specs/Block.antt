@@ -1,5 +1,5 @@
 -- What a field block does: its fields, and the table after it (RFC 7541, 3; RFC 9113, 4.3).
-use Rattle.std.specs.Prelude.{◌≡◌, ℕ, ◌-◌, ◌^◌, Bool, true, false, List, [], ◌∷◌, ◌++◌, take, min, nat_le, ◌==◌, if◌then◌else◌, Option, Some, None, option_map, option_to_list, Result, Ok, Err}
+use Rattle.std.specs.Prelude.{◌≡◌, ℕ, ◌-◌, ◌^◌, Bool, true, false, List, [], ◌∷◌, ◌++◌, take, min, nat_le, ◌==◌, if◌then◌else◌, Option, Some, None, option_to_list, Result, Ok, Err}
 use Rattle.h2_spec.specs.Field.{Field, field}
 use Rattle.h2_spec.specs.DynamicTable.{Table, total_size, insert, resize, field_at}
 use Rattle.h2_spec.specs.Huffman.{HuffRead, Text, Eos, Padding, huffman_text}
@@ -205,19 +205,9 @@ pub record FieldsSoFar : Type 0 where
   pub fields : List Field
   pub due : Bool
 
--- the same, and how the block ends so far; nothing where memory was refused
-pub record BlockSoFar : Type 0 where
-  pub fields : List Field
-  pub due : Bool
-  pub outcome : Option Outcome
-
 -- with the table, how far a block has come
 abbrev pub progress_with : Table → FieldsSoFar → Progress
 progress_with table s = record { fields = s.fields; table = table; due = s.due }
-
--- with the table, the block decoded so far; none where memory was refused
-abbrev pub decoded_with : Table → BlockSoFar → Option Decoded
-decoded_with table s = option_map (λ o. let d : Decoded = record { progress = record { fields = s.fields; table = table; due = s.due }; outcome = o } in d) s.outcome
 
 -- a block is as after some of its first octets, which are whole instructions
 abbrev pub ProgressWithin : ℕ → Progress → List ℕ → Progress → Type 0

@@ -19,6 +19,7 @@ pub mod FrameType
 pub mod Headers
 pub mod Huffman
 pub mod Ignored
+pub mod IgnoredWords
 pub mod HuffmanCode
 pub mod Instruction
 pub mod Integer
@@ -28,6 +29,7 @@ pub mod Parse
 pub mod Payload
 pub mod SendPending
 pub mod Read
+pub mod Reasons
 pub mod Request
 pub mod Script
 pub mod Settings
@@ -37,6 +39,8 @@ pub mod State
 pub mod StaticTable
 pub mod Stream
 pub mod ReactionTable
+pub mod Rules
+pub mod SpecialCases
 pub mod Trace
 pub mod View
 pub mod Window

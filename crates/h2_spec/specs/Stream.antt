@@ -153,10 +153,6 @@ changed id f r = record r { streams = put (f (stream_at r.last r.streams id)) r.
 abbrev pub with_record : Stream → Records → Records
 with_record st r = record { streams = put st r.streams; last = max r.last st.id }
 
--- whether a record can be put: of a client's stream above the others, or of a live one
-abbrev pub CanPut : Stream → Records → Type 0
-CanPut st r = (r.last < st.id → st.id % 2 ≡ 1) × (st.id ≤ r.last → is_live (kind_of r.last r.streams st.id) ≡ true)
-
 -- a stream above this one that has octets to send
 abbrev pub waits_above : ℕ → Stream → Bool
 waits_above after st = nat_lt after st.id && nat_lt 0 (octets_waiting st)

@@ -1,15 +1,18 @@
 //! Why this server answers with a connection error or a stream error (RFC 9113, 5.4): a cause for each place of the
 //! written table where one arises.
-//! Rests on `errors`; definitions: `specs/Cause.antt`.
+//! Rests on `errors` and `rules`; definitions: `specs/Cause.antt`, `specs/CauseWords.antt`.
 
-ghost use Rattle.std.specs.Prelude.{◌≡◌, ℕ, List, map, slice_get, Some};
+ghost use Rattle.std.specs.Prelude.{◌≡◌, map, slice_get, Some};
 ghost use Rattle.h2_spec.specs.Cause.{code_of};
-ghost use Rattle.h2_spec.specs.CauseWords.{all_causes, cause_name, cause_section, cause_sentence, is_must, text_of};
+ghost use Rattle.h2_spec.specs.CauseWords.{all_causes, cause_client_duty, cause_client_section, cause_name, cause_section, cause_sentence, cause_server_duty, is_must};
+ghost use Rattle.h2_spec.specs.Rules.{text_of};
 
 use crate::errors::ErrorCode;
+use crate::rules::{ClientDuty, ServerDuty, client_duty_at, server_duty_at, text_at};
+use std::fmt;
 
 /// The rule that an item breaks.
-#[derive(Clone, Copy, Debug, PartialEq, Eq)]
+#[derive(Clone, Copy)]
 pub enum Cause {
     /// An octet is not that of the connection preface.
     BadPreface,
@@ -246,14 +249,174 @@ static NAMES: [&str; 76] = [
     "trailers-bad-te",
 ];
 
-/// The section of each cause, in their order.
+/// The section that has the rule of each cause, in their order.
 static SECTIONS: [&str; 76] = [
     "RFC 9113 3.4",
     "RFC 9113 3.4",
     "RFC 9113 3.4",
     "RFC 9113 4.2",
     "RFC 9113 4.2",
+    "RFC 9113 6.2",
+    "RFC 9113 6.1",
+    "RFC 9113 6.2",
+    "RFC 9113 6.3",
+    "RFC 9113 6.4",
     "RFC 9113 6.10",
+    "RFC 9113 6.5",
+    "RFC 9113 6.7",
+    "RFC 9113 6.8",
+    "RFC 9113 4.2",
+    "RFC 9113 4.2",
+    "RFC 9113 6.3",
+    "RFC 9113 6.4",
+    "RFC 9113 6.5",
+    "RFC 9113 6.5",
+    "RFC 9113 6.7",
+    "RFC 9113 4.2",
+    "RFC 9113 6.9",
+    "RFC 9113 6.1",
+    "RFC 9113 6.2",
+    "RFC 9113 8.4",
+    "RFC 9113 6.10",
+    "RFC 9113 5.1",
+    "RFC 9113 5.1",
+    "RFC 9113 5.1",
+    "RFC 9113 5.1",
+    "RFC 9113 5.1.1",
+    "RFC 9113 5.1.1",
+    "RFC 9113 5.1",
+    "RFC 9113 5.1",
+    "RFC 9113 6.4",
+    "RFC 9113 5.1",
+    "RFC 9113 6.9",
+    "RFC 9113 6.9",
+    "RFC 9113 6.9",
+    "RFC 9113 6.9",
+    "RFC 9113 6.9.1",
+    "RFC 9113 6.9.1",
+    "RFC 9113 6.5.2",
+    "RFC 9113 6.5.2",
+    "RFC 9113 6.5.2",
+    "RFC 9113 6.9.2",
+    "RFC 9113 10.5.1",
+    "RFC 9113 4.3",
+    "RFC 7541 5.1",
+    "RFC 7541 6.1",
+    "RFC 7541 2.3.3",
+    "RFC 7541 5.2",
+    "RFC 7541 4.2",
+    "RFC 7541 6.3",
+    "RFC 9113 4.3.1",
+    "RFC 9113 5.1.2",
+    "RFC 9113 10.5.1",
+    "RFC 9113 8.2.1",
+    "RFC 9113 8.2.1",
+    "RFC 9113 8.3",
+    "RFC 9113 8.3",
+    "RFC 9113 8.3",
+    "RFC 9113 8.3.1",
+    "RFC 9113 8.2.2",
+    "RFC 9113 8.2.2",
+    "RFC 9113 8.1.1",
+    "RFC 9113 8.1.1",
+    "RFC 9113 8.1.1",
+    "RFC 9113 8.1.1",
+    "RFC 9113 8.1",
+    "RFC 9113 8.2.1",
+    "RFC 9113 8.2.1",
+    "RFC 9113 8.1",
+    "RFC 9113 8.2.2",
+    "RFC 9113 8.2.2",
+];
+
+/// What the client did, for each cause, in their order.
+static CLIENT_DUTIES: [ClientDuty; 76] = [
+    ClientDuty::Must,
+    ClientDuty::Must,
+    ClientDuty::Must,
+    ClientDuty::MustNot,
+    ClientDuty::MustNot,
+    ClientDuty::Must,
+    ClientDuty::Must,
+    ClientDuty::Must,
+    ClientDuty::Must,
+    ClientDuty::Must,
+    ClientDuty::Must,
+    ClientDuty::Must,
+    ClientDuty::Must,
+    ClientDuty::Must,
+    ClientDuty::Must,
+    ClientDuty::Must,
+    ClientDuty::Must,
+    ClientDuty::Must,
+    ClientDuty::Must,
+    ClientDuty::Must,
+    ClientDuty::Must,
+    ClientDuty::Must,
+    ClientDuty::Must,
+    ClientDuty::MustNot,
+    ClientDuty::MustNot,
+    ClientDuty::MustNot,
+    ClientDuty::Must,
+    ClientDuty::MustNot,
+    ClientDuty::MustNot,
+    ClientDuty::MustNot,
+    ClientDuty::MustNot,
+    ClientDuty::Must,
+    ClientDuty::Must,
+    ClientDuty::MustNot,
+    ClientDuty::MustNot,
+    ClientDuty::MustNot,
+    ClientDuty::MustNot,
+    ClientDuty::MustNot,
+    ClientDuty::MustNot,
+    ClientDuty::MustNot,
+    ClientDuty::MustNot,
+    ClientDuty::MustNot,
+    ClientDuty::MustNot,
+    ClientDuty::Must,
+    ClientDuty::MustNot,
+    ClientDuty::Must,
+    ClientDuty::MustNot,
+    ClientDuty::Limit,
+    ClientDuty::Must,
+    ClientDuty::Limit,
+    ClientDuty::MustNot,
+    ClientDuty::MustNot,
+    ClientDuty::MustNot,
+    ClientDuty::Must,
+    ClientDuty::Must,
+    ClientDuty::Must,
+    ClientDuty::MustNot,
+    ClientDuty::Limit,
+    ClientDuty::MustNot,
+    ClientDuty::MustNot,
+    ClientDuty::Must,
+    ClientDuty::MustNot,
+    ClientDuty::MustNot,
+    ClientDuty::Must,
+    ClientDuty::MustNot,
+    ClientDuty::MustNot,
+    ClientDuty::MustNot,
+    ClientDuty::Must,
+    ClientDuty::Must,
+    ClientDuty::Must,
+    ClientDuty::Must,
+    ClientDuty::MustNot,
+    ClientDuty::MustNot,
+    ClientDuty::MustNot,
+    ClientDuty::MustNot,
+    ClientDuty::MustNot,
+];
+
+/// The section that says what the client had to do, for each cause, in their order.
+static CLIENT_SECTIONS: [&str; 76] = [
+    "RFC 9113 3.4",
+    "RFC 9113 3.4",
+    "RFC 9113 3.4",
+    "RFC 9113 4.2",
+    "RFC 9113 4.2",
+    "RFC 9113 6.2",
     "RFC 9113 6.1",
     "RFC 9113 6.2",
     "RFC 9113 6.3",
@@ -314,7 +477,7 @@ static SECTIONS: [&str; 76] = [
     "RFC 9113 8.3.1",
     "RFC 9113 8.2.2",
     "RFC 9113 8.2.2",
-    "RFC 9113 8.1.1",
+    "RFC 9110 8.6",
     "RFC 9113 8.1.1",
     "RFC 9113 8.1.1",
     "RFC 9113 8.1.1",
@@ -324,6 +487,86 @@ static SECTIONS: [&str; 76] = [
     "RFC 9113 8.1",
     "RFC 9113 8.2.2",
     "RFC 9113 8.2.2",
+];
+
+/// How far the RFC decides what this server does, for each cause, in their order.
+static SERVER_DUTIES: [ServerDuty; 76] = [
+    ServerDuty::Must,
+    ServerDuty::Must,
+    ServerDuty::Own,
+    ServerDuty::Must,
+    ServerDuty::May,
+    ServerDuty::Must,
+    ServerDuty::Must,
+    ServerDuty::Must,
+    ServerDuty::Must,
+    ServerDuty::Must,
+    ServerDuty::Must,
+    ServerDuty::Must,
+    ServerDuty::Must,
+    ServerDuty::Must,
+    ServerDuty::May,
+    ServerDuty::Must,
+    ServerDuty::May,
+    ServerDuty::Must,
+    ServerDuty::Must,
+    ServerDuty::Must,
+    ServerDuty::Must,
+    ServerDuty::Must,
+    ServerDuty::Must,
+    ServerDuty::Must,
+    ServerDuty::Must,
+    ServerDuty::Must,
+    ServerDuty::Must,
+    ServerDuty::Must,
+    ServerDuty::May,
+    ServerDuty::Must,
+    ServerDuty::May,
+    ServerDuty::Must,
+    ServerDuty::Must,
+    ServerDuty::Must,
+    ServerDuty::May,
+    ServerDuty::Must,
+    ServerDuty::Must,
+    ServerDuty::May,
+    ServerDuty::May,
+    ServerDuty::Must,
+    ServerDuty::Must,
+    ServerDuty::Must,
+    ServerDuty::Must,
+    ServerDuty::Must,
+    ServerDuty::Must,
+    ServerDuty::Must,
+    ServerDuty::Must,
+    ServerDuty::Own,
+    ServerDuty::Must,
+    ServerDuty::Own,
+    ServerDuty::Must,
+    ServerDuty::Must,
+    ServerDuty::Must,
+    ServerDuty::Own,
+    ServerDuty::Must,
+    ServerDuty::Must,
+    ServerDuty::Must,
+    ServerDuty::Own,
+    ServerDuty::Must,
+    ServerDuty::Must,
+    ServerDuty::Must,
+    ServerDuty::Must,
+    ServerDuty::Must,
+    ServerDuty::Must,
+    ServerDuty::Must,
+    ServerDuty::Must,
+    ServerDuty::Own,
+    ServerDuty::Must,
+    ServerDuty::Must,
+    ServerDuty::Must,
+    ServerDuty::Must,
+    ServerDuty::Must,
+    ServerDuty::Must,
+    ServerDuty::Must,
+    ServerDuty::Must,
+    ServerDuty::Must,
 ];
 
 /// The sentence of each cause, in their order.
@@ -420,6 +663,13 @@ fn sections() -> &'static [&'static str]
     &SECTIONS
 }
 
+/// The sections of the client's duties as a slice; read here alone, as `names` is.
+fn client_sections() -> &'static [&'static str]
+    ensures { map text_of result.now ≡ map cause_client_section all_causes }
+{
+    &CLIENT_SECTIONS
+}
+
 /// The sentences as a slice; read here alone, as `names` is.
 fn sentences() -> &'static [&'static str]
     ensures { map text_of result.now ≡ map cause_sentence all_causes }
@@ -427,21 +677,25 @@ fn sentences() -> &'static [&'static str]
     &SENTENCES
 }
 
+/// What the client did, as a slice; read here alone, as `names` is.
+fn client_duties() -> &'static [ClientDuty]
+    ensures { result.now ≡ map cause_client_duty all_causes }
+{
+    &CLIENT_DUTIES
+}
+
+/// How far the RFC decides, as a slice; read here alone, as `names` is.
+fn server_duties() -> &'static [ServerDuty]
+    ensures { result.now ≡ map cause_server_duty all_causes }
+{
+    &SERVER_DUTIES
+}
+
 /// The place of a cause in their order.
 fn place_of(cause: Cause) -> usize
     ensures { slice_get all_causes result ≡ Some cause }
 {
     cause as usize
-}
-
-/// The text at a place of a table; empty where there is none.
-fn text_at(texts: &'static [&'static str], place: usize) -> &'static str
-    ensures { (t : List ℕ) → slice_get (map text_of texts.now) place ≡ Some t → result.now ≡ t }
-{
-    match texts.get(place) {
-        Some(text) => text,
-        None => "",
-    }
 }
 
 impl Cause {
@@ -542,27 +796,25 @@ impl Cause {
         text_at(sections(), place_of(self))
     }
 
-    /// Whether the RFC demands this error of whoever receives; else it is a choice of this server.
-    pub fn is_must(self) -> bool
-        ensures { result ≡ is_must self }
+    /// What the client did, by the RFC.
+    pub fn client_duty(self) -> ClientDuty
+        ensures { result ≡ cause_client_duty self }
     {
-        match self {
-            Cause::FirstIsSettingsAck
-            | Cause::StreamFrameTooLarge
-            | Cause::DataLength
-            | Cause::PriorityLength
-            | Cause::DataOnSkipped
-            | Cause::DataOnClosed
-            | Cause::HeadersOnClosed
-            | Cause::ConnectionWindowExceeded
-            | Cause::StreamWindowExceeded
-            | Cause::BlockTooLarge
-            | Cause::IntegerTooLong
-            | Cause::SizeUpdateLate
-            | Cause::ListTooLarge
-            | Cause::BadContentLength => false,
-            _ => true,
-        }
+        client_duty_at(client_duties(), place_of(self))
+    }
+
+    /// The section that says what the client had to do, or that it was free to do what it did.
+    pub fn client_section(self) -> &'static str
+        ensures { result.now ≡ cause_client_section self }
+    {
+        text_at(client_sections(), place_of(self))
+    }
+
+    /// Whether the RFC demands this error of whoever receives, allows it, or leaves it to this server.
+    pub fn server_duty(self) -> ServerDuty
+        ensures { result ≡ cause_server_duty self }
+    {
+        server_duty_at(server_duties(), place_of(self))
     }
 
     /// The rule, in a sentence.
@@ -570,5 +822,19 @@ impl Cause {
         ensures { result.now ≡ cause_sentence self }
     {
         text_at(sentences(), place_of(self))
+    }
+
+    /// Whether the RFC demands this error of whoever receives; else it is allowed, or a choice of this server.
+    pub fn is_must(self) -> bool
+        ensures { result ≡ is_must self }
+    {
+        self.server_duty().is_must()
+    }
+}
+
+/// The name.
+impl fmt::Debug for Cause {
+    fn fmt<W: fmt::Write>(&self, f: &mut fmt::Formatter<W>) -> fmt::Result {
+        f.write_str(self.name())
     }
 }

@@ -8,7 +8,7 @@ use crate::errors::ErrorCode;
 use crate::flow::{Credit, LocalSettings, Settings, Window};
 
 /// How far a connection has come (RFC 9113, 3.4 and 5.4.1).
-#[derive(Clone, Copy, Debug, PartialEq, Eq)]
+#[derive(Clone, Copy)]
 pub enum Phase {
     /// The client's preface is awaited.
     Preface,
@@ -20,7 +20,7 @@ pub enum Phase {
 }
 
 /// The limits and the settings that the server was given.
-#[derive(Clone, Copy, Debug, PartialEq, Eq)]
+#[derive(Clone, Copy)]
 pub struct Config {
     /// The most live streams at a time, 1 to 1000.
     pub streams: u32,
@@ -110,7 +110,7 @@ pub enum Purpose {
 }
 
 /// A field block that is open, as it is shown (RFC 9113, 4.3).
-#[derive(Clone, Copy, Debug, PartialEq, Eq)]
+#[derive(Clone, Copy)]
 pub struct BlockView {
     pub stream: u32,
     /// The octets of its fragments so far.

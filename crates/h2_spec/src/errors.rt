@@ -8,7 +8,7 @@ use crate::causes::Cause;
 use thiserror::Error;
 
 /// The error codes that this server sends (RFC 9113, 7).
-#[derive(Clone, Copy, Debug, PartialEq, Eq)]
+#[derive(Clone, Copy)]
 pub enum ErrorCode {
     ProtocolError,
     FlowControlError,
@@ -37,7 +37,7 @@ impl ErrorCode {
 }
 
 /// What windows and settings refuse.
-#[derive(Clone, Copy, Debug, PartialEq, Eq, Error)]
+#[derive(Clone, Copy, Debug, Error)]
 pub enum FlowFault {
     /// A setting has a value that is not allowed; the cause of the connection error that follows (RFC 9113, 6.5.2).
     #[error("a setting has a value that is not allowed: error code {}", .0.code().number())]

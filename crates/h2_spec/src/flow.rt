@@ -16,7 +16,7 @@ pub const MAX_WINDOW: u32 = 2_147_483_647;
 ///
 /// Settings can make it negative (RFC 9113, 6.9.2); nothing then goes until it has risen above 0. Contracts see the
 /// integer.
-#[derive(Clone, Copy, Debug, PartialEq, Eq)]
+#[derive(Clone, Copy)]
 pub struct Window {
     size: i32,
 }
@@ -159,7 +159,7 @@ impl Window {
 }
 
 /// Octets received that are not yet given back by WINDOW_UPDATE (RFC 9113, 6.9). Contracts see their number.
-#[derive(Clone, Copy, Debug, PartialEq, Eq)]
+#[derive(Clone, Copy)]
 pub struct Credit {
     octets: u32,
 }
@@ -231,7 +231,7 @@ pub const SETTINGS_MAX_FRAME_SIZE: u16 = 5;
 pub const SETTINGS_MAX_HEADER_LIST_SIZE: u16 = 6;
 
 /// What the peer's SETTINGS said last (RFC 9113, 6.5.2).
-#[derive(Clone, Copy, Debug, PartialEq, Eq)]
+#[derive(Clone, Copy)]
 pub struct Settings {
     /// SETTINGS_HEADER_TABLE_SIZE, in octets.
     pub header_table: u32,
@@ -321,7 +321,7 @@ fn is_frame_size(value: u32) -> bool
 }
 
 /// The server's own settings that are in force.
-#[derive(Clone, Copy, Debug, PartialEq, Eq)]
+#[derive(Clone, Copy)]
 pub struct LocalSettings {
     /// The limit of the header table, in octets.
     pub table: u32,

@@ -40,7 +40,7 @@ pub const PADDED: u8 = 0x8;
 pub const WITH_PRIORITY: u8 = 0x20;
 
 /// The types of frames (RFC 9113, 6).
-#[derive(Clone, Copy, Debug, PartialEq, Eq)]
+#[derive(Clone, Copy)]
 pub enum FrameType {
     Data,
     Headers,
@@ -97,7 +97,7 @@ impl FrameType {
 }
 
 /// The head of a frame (RFC 9113, 4.1).
-#[derive(Clone, Copy, Debug, PartialEq, Eq)]
+#[derive(Clone, Copy)]
 pub struct Head {
     /// The octets of the payload, below 2^24.
     pub length: u32,
@@ -128,7 +128,7 @@ impl Head {
 }
 
 /// What an item of a connection is, without its payload (RFC 9113, 3.4 and 4.1).
-#[derive(Clone, Copy, Debug, PartialEq, Eq)]
+#[derive(Clone, Copy)]
 pub enum ItemHead {
     /// The client's connection preface.
     Preface,

@@ -1,11 +1,15 @@
 //! Why a frame is ignored, where it is no error (RFC 9113, 4.1, 5.1 and 6).
-//! Rests on nothing; definitions: `specs/Ignored.antt`.
+//! Rests on `rules`; definitions: `specs/Ignored.antt`, `specs/IgnoredWords.antt`.
 
-ghost use Rattle.std.specs.Prelude.{◌≡◌};
-ghost use Rattle.h2_spec.specs.Ignored.{ignored_name, ignored_section, ignored_sentence, is_demanded};
+ghost use Rattle.std.specs.Prelude.{◌≡◌, map, slice_get, Some};
+ghost use Rattle.h2_spec.specs.IgnoredWords.{all_reasons, ignored_client_duty, ignored_client_section, ignored_name, ignored_section, ignored_sentence, ignored_server_duty, is_demanded};
+ghost use Rattle.h2_spec.specs.Rules.{text_of};
+
+use crate::rules::{ClientDuty, ServerDuty, client_duty_at, server_duty_at, text_at};
+use std::fmt;
 
 /// Why a frame is ignored.
-#[derive(Clone, Copy, Debug, PartialEq, Eq)]
+#[derive(Clone, Copy)]
 pub enum Ignored {
     /// PRIORITY, in every state.
     Priority,
@@ -17,20 +21,189 @@ pub enum Ignored {
     PingAcknowledgement,
     /// RST_STREAM on a stream that a request on a higher one has closed.
     RstStreamOnSkipped,
-    /// RST_STREAM on a stream that both sides have ended or the peer has reset.
+    /// RST_STREAM on a stream that both sides have ended.
     RstStreamOnClosed,
+    /// RST_STREAM on a stream that the peer has reset.
+    RstStreamOnPeerReset,
     /// RST_STREAM on a stream that the server has reset.
     RstStreamOnReset,
     /// WINDOW_UPDATE on a stream that a request on a higher one has closed.
     WindowUpdateOnSkipped,
-    /// WINDOW_UPDATE on a stream that both sides have ended or the peer has reset.
+    /// WINDOW_UPDATE on a stream that both sides have ended.
     WindowUpdateOnClosed,
+    /// WINDOW_UPDATE on a stream that the peer has reset.
+    WindowUpdateOnPeerReset,
     /// WINDOW_UPDATE on a stream that the server has reset.
     WindowUpdateOnReset,
+    /// WINDOW_UPDATE by 0 on a stream that is closed in one of these ways.
+    WindowUpdateByZero,
     /// DATA on a stream that the server has reset: it is counted on the connection.
     DataOnReset,
     /// HEADERS or CONTINUATION on a stream that the server has reset: the header table follows it.
     TableOnlyBlock,
+}
+
+/// The name of each reason, in their order.
+static NAMES: [&str; 15] = [
+    "priority",
+    "unknown-type",
+    "second-acknowledgement",
+    "ping-acknowledgement",
+    "rst-stream-on-skipped",
+    "rst-stream-on-closed",
+    "rst-stream-on-peer-reset",
+    "rst-stream-on-reset",
+    "window-update-on-skipped",
+    "window-update-on-closed",
+    "window-update-on-peer-reset",
+    "window-update-on-reset",
+    "window-update-by-zero",
+    "data-on-reset",
+    "table-only-block",
+];
+
+/// The section that has the rule of each reason, in their order.
+static SECTIONS: [&str; 15] = [
+    "RFC 9113 6.3",
+    "RFC 9113 5.5",
+    "RFC 9113 6.5.3",
+    "RFC 9113 6.7",
+    "RFC 9113 5.1",
+    "RFC 9113 5.1",
+    "RFC 9113 5.1",
+    "RFC 9113 5.1",
+    "RFC 9113 5.1",
+    "RFC 9113 6.9",
+    "RFC 9113 5.1",
+    "RFC 9113 5.1",
+    "RFC 9113 6.9",
+    "RFC 9113 5.1",
+    "RFC 9113 5.1",
+];
+
+/// What the client did, for each reason, in their order.
+static CLIENT_DUTIES: [ClientDuty; 15] = [
+    ClientDuty::Nothing,
+    ClientDuty::Nothing,
+    ClientDuty::Nothing,
+    ClientDuty::Nothing,
+    ClientDuty::MustNot,
+    ClientDuty::Nothing,
+    ClientDuty::MustNot,
+    ClientDuty::Nothing,
+    ClientDuty::MustNot,
+    ClientDuty::Nothing,
+    ClientDuty::MustNot,
+    ClientDuty::Nothing,
+    ClientDuty::MustNot,
+    ClientDuty::Nothing,
+    ClientDuty::Nothing,
+];
+
+/// The section that says what the client had to do, for each reason, in their order.
+static CLIENT_SECTIONS: [&str; 15] = [
+    "RFC 9113 6.3",
+    "RFC 9113 5.5",
+    "RFC 9113 6.5.3",
+    "RFC 9113 6.7",
+    "RFC 9113 5.1",
+    "RFC 9113 5.1",
+    "RFC 9113 5.1",
+    "RFC 9113 5.1",
+    "RFC 9113 5.1",
+    "RFC 9113 6.9",
+    "RFC 9113 5.1",
+    "RFC 9113 5.1",
+    "RFC 9113 6.9",
+    "RFC 9113 5.1",
+    "RFC 9113 5.1",
+];
+
+/// How far the RFC decides what this server does, for each reason, in their order.
+static SERVER_DUTIES: [ServerDuty; 15] = [
+    ServerDuty::Must,
+    ServerDuty::Must,
+    ServerDuty::Own,
+    ServerDuty::Must,
+    ServerDuty::Own,
+    ServerDuty::May,
+    ServerDuty::Own,
+    ServerDuty::Must,
+    ServerDuty::Own,
+    ServerDuty::Must,
+    ServerDuty::Own,
+    ServerDuty::Must,
+    ServerDuty::Own,
+    ServerDuty::Must,
+    ServerDuty::Must,
+];
+
+/// The sentence of each reason, in their order.
+static SENTENCES: [&str; 15] = [
+    "this server does not use priorities",
+    "the type of the frame is unknown",
+    "the server's SETTINGS were acknowledged before",
+    "this server sends no PING that could be acknowledged",
+    "the stream was closed, unused, when a higher one was opened",
+    "the stream is closed",
+    "the client has already reset the stream",
+    "the server has reset the stream",
+    "the stream was closed, unused, when a higher one was opened",
+    "the stream is closed",
+    "the client has reset the stream",
+    "the server has reset the stream",
+    "the increment of WINDOW_UPDATE has to be 1 or more, but the stream is closed",
+    "the server has reset the stream: DATA counts for the connection's window and no more",
+    "the server has reset the stream: the block changes the header table and no more",
+];
+
+/// The names as a slice; read here alone, so that no other proof goes through them.
+fn names() -> &'static [&'static str]
+    ensures { map text_of result.now ≡ map ignored_name all_reasons }
+{
+    &NAMES
+}
+
+/// The sections as a slice; read here alone, as `names` is.
+fn sections() -> &'static [&'static str]
+    ensures { map text_of result.now ≡ map ignored_section all_reasons }
+{
+    &SECTIONS
+}
+
+/// The sections of the client's duties as a slice; read here alone, as `names` is.
+fn client_sections() -> &'static [&'static str]
+    ensures { map text_of result.now ≡ map ignored_client_section all_reasons }
+{
+    &CLIENT_SECTIONS
+}
+
+/// The sentences as a slice; read here alone, as `names` is.
+fn sentences() -> &'static [&'static str]
+    ensures { map text_of result.now ≡ map ignored_sentence all_reasons }
+{
+    &SENTENCES
+}
+
+/// What the client did, as a slice; read here alone, as `names` is.
+fn client_duties() -> &'static [ClientDuty]
+    ensures { result.now ≡ map ignored_client_duty all_reasons }
+{
+    &CLIENT_DUTIES
+}
+
+/// How far the RFC decides, as a slice; read here alone, as `names` is.
+fn server_duties() -> &'static [ServerDuty]
+    ensures { result.now ≡ map ignored_server_duty all_reasons }
+{
+    &SERVER_DUTIES
+}
+
+/// The place of a reason in their order.
+fn place_of(reason: Ignored) -> usize
+    ensures { slice_get all_reasons result ≡ Some reason }
+{
+    reason as usize
 }
 
 impl Ignored {
@@ -38,83 +211,55 @@ impl Ignored {
     pub fn name(self) -> &'static str
         ensures { result.now ≡ ignored_name self }
     {
-        match self {
-            Ignored::Priority => "priority",
-            Ignored::UnknownType => "unknown-type",
-            Ignored::SecondAcknowledgement => "second-acknowledgement",
-            Ignored::PingAcknowledgement => "ping-acknowledgement",
-            Ignored::RstStreamOnSkipped => "rst-stream-on-skipped",
-            Ignored::RstStreamOnClosed => "rst-stream-on-closed",
-            Ignored::RstStreamOnReset => "rst-stream-on-reset",
-            Ignored::WindowUpdateOnSkipped => "window-update-on-skipped",
-            Ignored::WindowUpdateOnClosed => "window-update-on-closed",
-            Ignored::WindowUpdateOnReset => "window-update-on-reset",
-            Ignored::DataOnReset => "data-on-reset",
-            Ignored::TableOnlyBlock => "table-only-block",
-        }
+        text_at(names(), place_of(self))
     }
 
     /// The section that has the rule, as `RFC 9113 5.1`.
     pub fn section(self) -> &'static str
         ensures { result.now ≡ ignored_section self }
     {
-        match self {
-            Ignored::Priority => "RFC 9113 5.3.2",
-            Ignored::UnknownType => "RFC 9113 5.5",
-            Ignored::SecondAcknowledgement => "RFC 9113 6.5.3",
-            Ignored::PingAcknowledgement => "RFC 9113 6.7",
-            Ignored::RstStreamOnSkipped => "RFC 9113 5.1",
-            Ignored::RstStreamOnClosed => "RFC 9113 5.1",
-            Ignored::RstStreamOnReset => "RFC 9113 5.1",
-            Ignored::WindowUpdateOnSkipped => "RFC 9113 5.1",
-            Ignored::WindowUpdateOnClosed => "RFC 9113 5.1",
-            Ignored::WindowUpdateOnReset => "RFC 9113 5.1",
-            Ignored::DataOnReset => "RFC 9113 5.1",
-            Ignored::TableOnlyBlock => "RFC 9113 4.3",
-        }
+        text_at(sections(), place_of(self))
     }
 
-    /// Whether the RFC demands that the frame is ignored; else it is a choice of this server.
-    pub fn is_must(self) -> bool
-        ensures { result ≡ is_demanded self }
+    /// What the client did, by the RFC.
+    pub fn client_duty(self) -> ClientDuty
+        ensures { result ≡ ignored_client_duty self }
     {
-        match self {
-            Ignored::Priority => false,
-            Ignored::UnknownType => true,
-            Ignored::SecondAcknowledgement => false,
-            Ignored::PingAcknowledgement => false,
-            Ignored::RstStreamOnSkipped => false,
-            Ignored::RstStreamOnClosed => false,
-            Ignored::RstStreamOnReset => true,
-            Ignored::WindowUpdateOnSkipped => false,
-            Ignored::WindowUpdateOnClosed => false,
-            Ignored::WindowUpdateOnReset => true,
-            Ignored::DataOnReset => true,
-            Ignored::TableOnlyBlock => true,
-        }
+        client_duty_at(client_duties(), place_of(self))
+    }
+
+    /// The section that says what the client had to do, or that it was free to do what it did.
+    pub fn client_section(self) -> &'static str
+        ensures { result.now ≡ ignored_client_section self }
+    {
+        text_at(client_sections(), place_of(self))
+    }
+
+    /// Whether the RFC demands that the frame is no error, allows it, or leaves it to this server.
+    pub fn server_duty(self) -> ServerDuty
+        ensures { result ≡ ignored_server_duty self }
+    {
+        server_duty_at(server_duties(), place_of(self))
     }
 
     /// Why, in a sentence.
     pub fn sentence(self) -> &'static str
         ensures { result.now ≡ ignored_sentence self }
     {
-        match self {
-            Ignored::Priority => "this server does not use priorities",
-            Ignored::UnknownType => "the type of the frame is unknown",
-            Ignored::SecondAcknowledgement => "the server's SETTINGS were acknowledged before",
-            Ignored::PingAcknowledgement => "this server sends no PING that could be acknowledged",
-            Ignored::RstStreamOnSkipped =>
-                "the stream was closed, unused, when a higher one was opened",
-            Ignored::RstStreamOnClosed => "the stream is closed",
-            Ignored::RstStreamOnReset => "the server has reset the stream",
-            Ignored::WindowUpdateOnSkipped =>
-                "the stream was closed, unused, when a higher one was opened",
-            Ignored::WindowUpdateOnClosed => "the stream is closed",
-            Ignored::WindowUpdateOnReset => "the server has reset the stream",
-            Ignored::DataOnReset =>
-                "the server has reset the stream: DATA counts for the connection's window and no more",
-            Ignored::TableOnlyBlock =>
-                "the server has reset the stream: the block changes the header table and no more",
-        }
+        text_at(sentences(), place_of(self))
+    }
+
+    /// Whether the RFC demands that the frame is no error; else it is allowed, or a choice of this server.
+    pub fn is_must(self) -> bool
+        ensures { result ≡ is_demanded self }
+    {
+        self.server_duty().is_must()
+    }
+}
+
+/// The name.
+impl fmt::Debug for Ignored {
+    fn fmt<W: fmt::Write>(&self, f: &mut fmt::Formatter<W>) -> fmt::Result {
+        f.write_str(self.name())
     }
 }

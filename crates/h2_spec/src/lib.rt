@@ -10,5 +10,7 @@ pub mod frames;
 pub mod ignored;
 pub mod octets;
 pub mod reactions;
+pub mod rules;
 pub mod scripts;
+pub mod special_cases;
 pub mod streams;

@@ -7,7 +7,7 @@ use crate::connection::ConnectionState;
 use crate::streams::{Pick, Stream};
 
 /// What becomes of the streams' records.
-#[derive(Clone, Copy, Debug, PartialEq, Eq)]
+#[derive(Clone, Copy)]
 pub enum RecordUpdate {
     Unchanged,
     /// A record takes the place of the one with its identifier, or goes last.
@@ -20,7 +20,7 @@ pub enum RecordUpdate {
 }
 
 /// What is sent first for an item, on the connection.
-#[derive(Clone, Copy, Debug, PartialEq, Eq)]
+#[derive(Clone, Copy)]
 pub enum ConnectionFrame {
     NoConnectionFrame,
     SettingsAck,
@@ -31,7 +31,7 @@ pub enum ConnectionFrame {
 }
 
 /// What is sent next for an item, on a stream.
-#[derive(Clone, Copy, Debug, PartialEq, Eq)]
+#[derive(Clone, Copy)]
 pub enum StreamFrame {
     NoStreamFrame,
     /// RST_STREAM on this stream, for this cause.

@@ -2,7 +2,7 @@
 //! Rests on nothing; definitions: `specs/Script.antt`, `specs/Assemble.antt`.
 
 /// What is wrong with a line of a script; where several are, the least is reported.
-#[derive(Clone, Copy, Debug, PartialEq, Eq)]
+#[derive(Clone, Copy, Debug)]
 pub enum SyntaxKind {
     /// The parts of a line: fewer than four, `PREFACE` with a space behind it, or `RAW` without digits.
     Parts,

@@ -4,7 +4,7 @@
 use crate::flow::{Credit, Window};
 
 /// The states of a stream (RFC 9113, 5.1). Client streams alone have records.
-#[derive(Clone, Copy, Debug, PartialEq, Eq)]
+#[derive(Clone, Copy, PartialEq, Eq)]
 pub enum Kind {
     /// Not begun.
     Idle,
@@ -24,7 +24,7 @@ pub enum Kind {
 }
 
 /// What is counted on a live stream; all 0 and `None` on one that is not live.
-#[derive(Clone, Copy, Debug, PartialEq, Eq)]
+#[derive(Clone, Copy)]
 pub struct Numbers {
     /// The receive window (RFC 9113, 6.9).
     pub recv: Window,
@@ -41,7 +41,7 @@ pub struct Numbers {
 }
 
 /// Which answer a request gets.
-#[derive(Clone, Copy, Debug, PartialEq, Eq)]
+#[derive(Clone, Copy, PartialEq, Eq)]
 pub enum Pick {
     /// The entry of the book at this place, from 0.
     Listed(usize),
@@ -52,7 +52,7 @@ pub enum Pick {
 }
 
 /// The record of a stream.
-#[derive(Clone, Copy, Debug, PartialEq, Eq)]
+#[derive(Clone, Copy)]
 pub struct Stream {
     pub id: u32,
     pub kind: Kind,
@@ -62,7 +62,7 @@ pub struct Stream {
 }
 
 /// A stream as it is shown: its record without the answer.
-#[derive(Clone, Copy, Debug, PartialEq, Eq)]
+#[derive(Clone, Copy)]
 pub struct StreamView {
     pub id: u32,
     pub kind: Kind,

@@ -1,5 +1,6 @@
 mod IdsLaws
 mod LiveLaws
 pub mod PlaceLaws
+mod ReadyRows
 pub mod RebuiltLaws
 mod ShiftLaws

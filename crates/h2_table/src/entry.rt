@@ -10,7 +10,7 @@ use std::alloc::{AllocError, Allocator};
 use std::marker::Model;
 
 /// A header field in the table.
-#[derive(Drop, Debug)]
+#[derive(Drop)]
 pub struct TableEntry<A: Allocator> {
     name: Vec<u8, A>,
     value: Vec<u8, A>,

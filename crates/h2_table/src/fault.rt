@@ -6,7 +6,7 @@ ghost use Rattle.std.specs.Prelude.{◌≡◌};
 use thiserror::Error;
 
 /// Why a call on the dynamic table was refused.
-#[derive(Clone, Copy, Debug, PartialEq, Eq, Error)]
+#[derive(Clone, Copy, Debug, Error)]
 pub enum TableFault {
     /// A maximum above the table's limit (RFC 7541, 4.2).
     #[error("the maximum is above the limit of the dynamic table")]

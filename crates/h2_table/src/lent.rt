@@ -4,7 +4,7 @@
 use h2_mark::FieldMark;
 
 /// The name and the value of an entry, and what it can be malformed for by itself.
-#[derive(Clone, Copy, Debug)]
+#[derive(Clone, Copy)]
 pub struct LentField<'a> {
     pub name: &'a [u8],
     pub value: &'a [u8],

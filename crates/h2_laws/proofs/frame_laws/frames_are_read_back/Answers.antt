@@ -1,4 +1,4 @@
-use Rattle.h2_laws.proofs.FrameLaws.{head_at-frame_octets, next-frame_octets}
+use Rattle.h2_spec.proofs.FrameLaws.{head_at-frame_octets, next-frame_octets}
 use Rattle.h2_laws.proofs.frame_laws.frames_are_read_back.Goals as goal
 
 pub returns-clause-head : goal.returns-clause-head

@@ -1,4 +1,4 @@
-use Rattle.h2_laws.proofs.FrameLaws.{next-preface, next-begun}
+use Rattle.h2_spec.proofs.FrameLaws.{next-preface, next-begun}
 use Rattle.h2_laws.proofs.frame_laws.the_preface_is_found.Goals as goal
 
 pub returns-clause-whole : goal.returns-clause-whole

@@ -1,7 +1,7 @@
 use Rattle.std.proofs.Common.{◌∙◌, sym}
 use Rattle.h2_laws.proofs.script_laws.scripts_are_read.Goals as goal
-use Rattle.h2_laws.proofs.BadLines.{bad_read}
-use Rattle.h2_laws.proofs.ReadingLines.{one_answer, script_read}
+use Rattle.h2_spec.proofs.BadLines.{bad_read}
+use Rattle.h2_spec.proofs.ReadingLines.{one_answer, script_read}
 
 pub returns-clause-reading : goal.returns-clause-reading
 returns-clause-reading c = script_read

@@ -1,6 +1,6 @@
 use Rattle.h2_spec.specs.Written.{written}
 use Rattle.h2_laws.proofs.script_laws.what_is_written_assembles_to_its_octets.Goals as goal
-use Rattle.h2_laws.proofs.ReadingLines.{one_answer}
+use Rattle.h2_spec.proofs.ReadingLines.{one_answer}
 use Rattle.h2_spec.proofs.WrittenLaws.{written_again}
 
 pub returns-clause-assembles : goal.returns-clause-assembles

@@ -1,0 +1,48 @@
+//! Records of streams (RFC 9113, 5.1).
+
+use crate::same::same;
+use h2_spec::flow::{Credit, Window};
+use h2_streams::{Kind, Numbers, Pick, Streams};
+use std::alloc::{AllocError, Global};
+use std::process::Abort;
+
+/// The numbers of a stream that has just been opened.
+fn numbers() -> Numbers {
+    Numbers {
+        recv: Window::start(65_535),
+        owed: Credit::none(),
+        send: Window::start(65_535),
+        content_received: 0,
+        declared: None,
+        body_remaining: None,
+    }
+}
+
+/// Opens a stream 5, and a stream 7 that the server resets at once.
+fn open_and_reset(rt: &impl Abort, streams: &mut Streams<Global>) -> Result<(), AllocError> {
+    assert!(rt; streams.last() < 5);
+    streams.open_stream(5, numbers(), Pick::NotFound, false)?;
+    assert!(rt; streams.last() < 7);
+    streams.open_reset(7)
+}
+
+/// The last stream, how many are live, and the states of the streams 3, 5, 7 and 9. No clause says it, so that the proof
+/// of a test does not carry the records.
+fn state(streams: &Streams<Global>) -> (u32, usize, [Kind; 4]) {
+    let kinds = [
+        streams.kind(3),
+        streams.kind(5),
+        streams.kind(7),
+        streams.kind(9),
+    ];
+    (streams.last(), streams.live_count(), kinds)
+}
+
+#[test]
+fn streams_are_opened(rt: HostRuntime) {
+    let mut streams = Streams::new(rt.alloc());
+    let opened = open_and_reset(&rt, &mut streams);
+    same(&rt, &opened, &Ok(()), &"memory for the records");
+    let kinds = [Kind::Skipped, Kind::BothOpen, Kind::WeReset, Kind::Idle];
+    same(&rt, &state(&streams), &(7, 1, kinds), &"two records");
+}
