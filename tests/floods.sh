@@ -15,8 +15,8 @@ top=$(cd "$(dirname "$0")/.." && pwd)
 case " $* " in
 *" --program "* | *" --list "*) ;;
 *)
-    "$top/h2_bench" play < "$top/examples/ping.hex" > /dev/null
-    set -- --program "$top/crates/h2_program/out/h2_program" "$@"
+    program=$(python3 -B "$top/tools/program.py" proved)
+    set -- --program "$program" "$@"
     ;;
 esac
 made=$(mktemp -d)

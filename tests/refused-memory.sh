@@ -18,8 +18,7 @@ set -eu
 top=$(cd "$(dirname "$0")/.." && pwd)
 program=${1-}
 if [ -z "$program" ]; then
-    "$top/h2_bench" play < "$top/examples/ping.hex" > /dev/null
-    program=$top/crates/h2_program/out/h2_program
+    program=$(python3 -B "$top/tools/program.py" proved)
 fi
 made=$(mktemp -d)
 trap 'rm -rf "$made"' EXIT

@@ -1,8 +1,9 @@
 #!/usr/bin/env python3
 """Runs the program as the transcripts of tests/runs say, and compares what it prints with what they say.
 
-    tests/runs.py PROGRAM [FILE..]       runs these files, or all of tests/runs, with this executable
-    tests/runs.py --unproved [FILE..]    the same with the program built without proof, but for the runs over more than 100,000 octets, for which that is too slow
+    tests/runs.py PROGRAM [FILE..]                 runs these files, or all of tests/runs, with this executable
+    tests/runs.py --unproved [PROGRAM] [FILE..]    the same with a program built without proof (that of tools/program.py), but for the runs over more than 100,000
+                                                   octets, for which it is too slow
 
 A file has paragraphs with an empty line between them. A paragraph of lines that begin with `;` is a comment. Any other is a run: a line that says what it shows,
 and lines that begin with a mark and a blank:
@@ -21,6 +22,7 @@ A line that ends in a backslash has no line feed. Braces stand for other text; w
 
     {PREFACE}, {RAW 00}, {PING 00 0 x0102030405060708}    a line of a script: its octets as hex digits
     {70000 * 61}                                          a text so many times
+    {hex www.example.com}                                 the hex digits of a text
     {xff}                                                 octets
     {folder}                                              the path of the folder of the run
     {NAME}                                                a text that a paragraph of the file defines: a line `{NAME} is`, and then lines that begin with `| `
@@ -38,7 +40,8 @@ import subprocess
 import sys
 import tempfile
 
-import script
+sys.dont_write_bytecode = True
+import script  # noqa: E402
 
 TOP = os.path.dirname(os.path.dirname(os.path.abspath(__file__)))
 SECONDS = 300
@@ -78,7 +81,7 @@ class Run:
     def is_large(self):
         """Whether it goes over more octets than the program built without proof runs over in a few seconds."""
         parts = [part for mark, part in self.session if mark != "~"]
-        return max(map(len, [b"", *parts, *self.files.values()])) > MOST_UNPROVED
+        return sum(map(len, [*parts, *self.files.values()])) > MOST_UNPROVED
 
 
 def closing(text, opening):
@@ -96,6 +99,8 @@ def meaning(inside, names):
     times = re.fullmatch(r"(\d+) \* (.*)", inside, re.DOTALL)
     if times:
         return int(times[1]) * expanded(times[2], names)
+    if inside.startswith("hex "):
+        return expanded(inside[4:], names).hex().encode()
     if re.fullmatch(r"x([0-9a-f]{2})+", inside):
         return bytes.fromhex(inside[1:])
     if inside in names:
@@ -291,11 +296,17 @@ def around(wanted, printed):
     return clipped(front + wanted[begin:]), clipped(front + printed[begin:])
 
 
+def lines_of(octets):
+    """Octets as lines that a terminal can show."""
+    text = octets.decode("utf-8", "backslashreplace")
+    return "".join(it if it.isprintable() or it == "\n" else f"\\x{ord(it):02x}" for it in text).splitlines(keepends=True)
+
+
 def difference(what, wanted, printed):
     """Readable lines of how octets differ; none where they are the same."""
     if wanted == printed:
         return []
-    wanted, printed = (it.decode("utf-8", "backslashreplace").splitlines(keepends=True) for it in (wanted, printed))
+    wanted, printed = lines_of(wanted), lines_of(printed)
     lines = [f"  {what}, - wanted, + printed:"]
     found = list(difflib.unified_diff(wanted, printed, n=1, lineterm=""))[2:60]
     at = 0
@@ -365,19 +376,24 @@ def unproved_program():
     return made.stdout.strip() or sys.exit("runs.py: the program can't be built without proof")
 
 
+def without_large(runs):
+    kept = [run for run in runs if not run.is_large()]
+    print(f"{len(runs) - len(kept)} skipped: they go over more than {MOST_UNPROVED} octets")
+    return kept
+
+
 def main():
     words = sys.argv[1:]
+    unproved = words[:1] == ["--unproved"]
+    if unproved:
+        words = words[1:] if words[1:] and not words[1].endswith(".run") else [unproved_program(), *words[1:]]
     if not words:
         sys.exit(__doc__)
     files = words[1:] or sorted(glob.glob(os.path.join(TOP, "tests", "runs", "*.run")))
     runs = [run for path in files for run in read_file(path)]
-    if words[0] == "--unproved":
-        program, kept = unproved_program(), [run for run in runs if not run.is_large()]
-        print(f"{len(runs) - len(kept)} skipped: they go over more than {MOST_UNPROVED} octets")
-        runs = kept
-    else:
-        program = os.path.abspath(words[0])
-    failed = run_all(program, runs)
+    if unproved:
+        runs = without_large(runs)
+    failed = run_all(os.path.abspath(words[0]), runs)
     print(f"{len(runs) - failed} passed, {failed} failed")
     sys.exit(1 if failed or not runs else 0)
 

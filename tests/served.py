@@ -12,7 +12,8 @@ import subprocess
 import sys
 import tempfile
 
-import script
+sys.dont_write_bytecode = True
+import script  # noqa: E402
 
 SECONDS = 60
 
@@ -47,9 +48,10 @@ class Server:
 
     def ended(self):
         """The rest of the output, the status, and standard error."""
-        rest, _ = self.process.communicate(timeout=SECONDS)
+        rest = "" if self.process.stdout.closed else self.process.stdout.read().decode()
+        status = self.process.wait(timeout=SECONDS)
         self.errors.seek(0)
-        return rest.decode(), self.process.returncode, self.errors.read().decode()
+        return rest, status, self.errors.read().decode()
 
 
 def free_port():
@@ -162,6 +164,15 @@ def a_port_in_use_is_refused(program):
                 yield server.ended(), ("fault 28\n", 1, "")
 
 
+def a_line_that_is_not_written_ends_the_server(program):
+    """Its client is served; then the line can't be written: status 3, and no further connection."""
+    with Server(program, 2) as server:
+        yield server.line(), f"listening {server.port}\n"
+        server.process.stdout.close()
+        yield read_all(client(server.port, START + PING, ends=True)), (ANSWERED, True)
+        yield server.ended(), ("", 3, "")
+
+
 def refused_answers_open_no_port(program):
     """The faults of answers and of the book come before the port is opened."""
     for words, number in ((["x"], 26), (["GET|/|199|"], 12), (["--book", "none.toml", "x"], 22)):
@@ -178,6 +189,7 @@ TESTS = [
     limits_out_of_range_are_refused_behind_the_port,
     no_connection_is_served,
     a_port_in_use_is_refused,
+    a_line_that_is_not_written_ends_the_server,
     refused_answers_open_no_port,
 ]
 

@@ -1,13 +1,13 @@
 #!/usr/bin/env bash
-# Plays each example through asm, dis, play and play --each, and compares what has to agree. With --build it proves and builds the program first where that is needed.
+# Plays each example through asm, dis, play and play --each, and compares what has to agree. The last line is `N passed, M failed`, an example each.
+#
+#   tools/loops.sh [--program FILE]     FILE is the proved program of this repository unless it is named
 set -eu
 cd "$(dirname "$0")/.."
-program=crates/h2_program/out/h2_program
-if [ "${1-}" = --build ]; then
-    program=./h2_bench
-elif [ ! -x "$program" ]; then
-    echo "loops: the program is not built: tools/loops.sh --build" >&2
-    exit 1
+if [ "${1-}" = --program ]; then
+    program=$2
+else
+    program=$(python3 -B tools/program.py proved)
 fi
 made=$(mktemp -d)
 trap 'rm -rf "$made"' EXIT
@@ -15,14 +15,27 @@ for script in examples/*.h2; do
     "$program" asm < "$script" > "$made/$(basename "$script" .h2).hex"
 done
 cp examples/*.hex "$made"
-for hex in "$made"/*.hex; do
-    name=$(basename "$hex")
-    "$program" dis < "$hex" | "$program" asm | diff <(tr -d ' \n' < "$hex") <(tr -d '\n')
-    "$program" play < "$hex" > "$made/whole"
-    "$program" play --cut 1 < "$hex" | diff "$made/whole" -
-    "$program" play --each < "$hex" > "$made/each"
+
+# One example: what differs is printed.
+agrees() {
+    "$program" dis < "$1" | "$program" asm | diff <(tr -d ' \n' < "$1") <(tr -d '\n') || return 1
+    "$program" play < "$1" > "$made/whole" || return 1
+    "$program" play --cut 1 < "$1" | diff "$made/whole" - || return 1
+    "$program" play --each < "$1" > "$made/each" || return 1
     # The last place has the same state, and the octets sent for all places are those of the whole run.
-    diff <(tail -n +2 "$made/whole") <(awk '/^item / { text = ""; next } !/^sent / { text = text $0 "\n" } END { printf "%s", text }' "$made/each")
-    diff <(sed -n 's/^sent //p' "$made/whole") <(sed -n 's/^sent //p' "$made/each" | tr -d '\n-' | sed 's/$/\n/')
-    echo "$name: agrees"
+    diff <(tail -n +2 "$made/whole") <(awk '/^item / { text = ""; next } !/^sent / { text = text $0 "\n" } END { printf "%s", text }' "$made/each") || return 1
+    diff <(sed -n 's/^sent //p' "$made/whole") <(sed -n 's/^sent //p' "$made/each" | tr -d '\n-' | sed 's/$/\n/') || return 1
+}
+
+passed=0
+failed=0
+for hex in "$made"/*.hex; do
+    if agrees "$hex"; then
+        passed=$((passed + 1))
+    else
+        failed=$((failed + 1))
+        echo "loops.sh: $(basename "$hex") differs"
+    fi
 done
+echo "$passed passed, $failed failed"
+[ "$failed" = 0 ]

@@ -2,14 +2,20 @@
 """Runs each example of README.md and docs/*.md that begins with `$ ` and compares what it prints with what the page shows.
 
 A line that ends in ` ..` is compared up to there, and ends its example. A command with no output shown is run and not compared. `serve` and what follows it in
-its example are left out, since they wait for a client. The status is 1 where an output differs.
+its example are left out, since they wait for a client. An output that differs is shown; the last line is `N passed, M failed`, an example each.
+
+    tools/run-examples.py [--program FILE]     FILE is the proved program of this repository unless it is named
+
+The commands run in a folder that has the repository's files, and the program as h2_bench.
 """
 
 import glob
 import itertools
 import os
+import shutil
 import subprocess
 import sys
+import tempfile
 
 MARK = "@@ next @@"
 
@@ -50,22 +56,48 @@ def agrees(shown, got):
     return len(got) == len(shown)
 
 
+def folder_with(program, top):
+    """A new folder with the files of the repository, and the program in the launcher's place."""
+    folder = tempfile.mkdtemp(prefix="h2_bench-examples-")
+    for name in os.listdir(top):
+        os.symlink(program if name == "h2_bench" else f"{top}/{name}", f"{folder}/{name}")
+    return folder
+
+
+def results(path):
+    """Each example of a page whose output is shown: the command, the lines shown and the lines printed."""
+    for block in examples(path):
+        block = list(itertools.takewhile(lambda pair: " serve " not in pair[0], block))
+        for (command, shown), got in zip(block, printed([command for command, _ in block])):
+            shown = "\n".join(shown).strip("\n")
+            if shown:
+                yield command, shown.split("\n"), got
+
+
+def program_in(words, top):
+    if words[:1] == ["--program"] and len(words) == 2:
+        return os.path.abspath(words[1])
+    return subprocess.run([sys.executable, "-B", f"{top}/tools/program.py", "proved"], check=True, stdout=subprocess.PIPE, text=True).stdout.strip()
+
+
 def main():
-    os.chdir(os.path.join(os.path.dirname(os.path.abspath(__file__)), ".."))
-    failed = 0
-    for path in ["README.md", *sorted(glob.glob("docs/*.md"))]:
-        for block in examples(path):
-            block = list(itertools.takewhile(lambda pair: " serve " not in pair[0], block))
-            for (command, shown), got in zip(block, printed([command for command, _ in block])):
-                shown = "\n".join(shown).strip("\n").split("\n")
-                if shown == [""]:
-                    continue
-                same = agrees(shown, got)
-                print(f"{'ok' if same else 'DIFFERS':8}{path}: {command}")
-                if not same:
+    top = os.path.dirname(os.path.dirname(os.path.abspath(__file__)))
+    folder = folder_with(program_in(sys.argv[1:], top), top)
+    passed = failed = 0
+    try:
+        os.chdir(folder)
+        for path in ["README.md", *sorted(glob.glob("docs/*.md"))]:
+            for command, shown, got in results(path):
+                if agrees(shown, got):
+                    passed += 1
+                else:
                     failed += 1
-                    print("  shown:", *shown, "  printed:", *got, sep="\n    ")
-    sys.exit(1 if failed else 0)
+                    print(f"{path}: {command}", "  shown:", *shown, "  printed:", *got, sep="\n    ")
+    finally:
+        os.chdir(top)
+        shutil.rmtree(folder)
+    print(f"{passed} passed, {failed} failed")
+    return 1 if failed else 0
 
 
-main()
+sys.exit(main())

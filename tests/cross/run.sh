@@ -8,5 +8,5 @@
 # --count is the number of connections in each topic. --stories takes a checkout of http2jp/hpack-test-case, whose story_*.json are then decoded too.
 set -eu
 top=$(cd "$(dirname "$0")/../.." && pwd)
-"$top/h2_bench" play < "$top/examples/ping.hex" > /dev/null
-exec /usr/bin/python3 -B "$top/tests/cross/cross.py" --program "$top/crates/h2_program/out/h2_program" "$@"
+program=$(python3 -B "$top/tools/program.py" proved)
+exec /usr/bin/python3 -B "$top/tests/cross/cross.py" --program "$program" "$@"

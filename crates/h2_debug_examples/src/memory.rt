@@ -2,10 +2,10 @@
 
 use crate::loads::{Ask, USUAL, asked, book_of, octets_of};
 use crate::same::same;
-use crate::shown::text_of;
 use h2_debug::{DebugFault, Debugger};
+use h2_device::string_of;
 use h2_refusing::Refusing;
-use std::alloc::{AllocError, Global};
+use std::alloc::{AllocError, Allocator, Global};
 use std::process::Abort;
 use std::test::Fail;
 
@@ -54,6 +54,14 @@ static CALLS: [(&str, &[Ask], Ask, usize); 9] = [
     ),
     ("a breakpoint", &[Ask::Go(3)], Ask::At(7), 3),
 ];
+
+/// The text of what is shown.
+fn text_of<A: Allocator + Copy>(
+    alloc: Global,
+    debugger: &Debugger<'_, A>,
+) -> Result<String, AllocError> {
+    string_of(alloc, debugger.conn())
+}
 
 /// What a debugger shows: its position, its count, the octets sent, and the text.
 fn seen(

@@ -1,6 +1,5 @@
-//! Worked examples of driving connections over a scripted wire, and of serving clients over TCP on 127.0.0.1. A crate
-//! of tests alone, since a crate is proved twice where it has tests. Expected octets come from RFC 9113 and
-//! computation by hand.
+//! Worked examples of driving connections over a scripted wire. A crate of tests alone, since a crate is proved twice where
+//! it has tests. Expected octets come from RFC 9113 and computation by hand. Clients of `serve`: `tests/served.py`.
 #![tactic(auto)]
 
 #[cfg(test)]
@@ -10,5 +9,3 @@ mod memory;
 #[cfg(test)]
 mod same;
 pub mod scripted;
-#[cfg(test)]
-mod serves;

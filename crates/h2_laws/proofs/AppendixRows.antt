@@ -1,6 +1,6 @@
 -- The examples of RFC 7541, Appendix C.2 to C.6, and blocks at the edge of the table: of each block its fields and what
 -- they count, and the entries after it, the newest first, and what they count.
-use Rattle.std.specs.Prelude.{◌≡◌, ℕ, List, [], ◌∷◌, false, map, refl, codes}
+use Rattle.std.specs.Prelude.{◌≡◌, ℕ, List, [], ◌∷◌, false, refl, codes}
 use Prim.Native.String.{String}
 use Rattle.h2_spec.specs.Field.{Field, field}
 use Rattle.h2_spec.specs.DynamicTable.{Table, total_size}
@@ -56,11 +56,11 @@ indexed_field = refl
 abbrev requests : List Left
 requests =
     leaves ((":method", "GET") ∷ (":scheme", "http") ∷ (":path", "/") ∷ (":authority", "www.example.com") ∷ []) 180
-        ((":authority", "www.example.com") ∷ []) 57 ∷
+    ((":authority", "www.example.com") ∷ []) 57 ∷
     leaves ((":method", "GET") ∷ (":scheme", "http") ∷ (":path", "/") ∷ (":authority", "www.example.com") ∷ ("cache-control", "no-cache") ∷ []) 233
-        (("cache-control", "no-cache") ∷ (":authority", "www.example.com") ∷ []) 110 ∷
+    (("cache-control", "no-cache") ∷ (":authority", "www.example.com") ∷ []) 110 ∷
     leaves ((":method", "GET") ∷ (":scheme", "https") ∷ (":path", "/index.html") ∷ (":authority", "www.example.com") ∷ ("custom-key", "custom-value") ∷ []) 245
-        (("custom-key", "custom-value") ∷ ("cache-control", "no-cache") ∷ (":authority", "www.example.com") ∷ []) 164 ∷ []
+    (("custom-key", "custom-value") ∷ ("cache-control", "no-cache") ∷ (":authority", "www.example.com") ∷ []) 164 ∷ []
 
 requests_without_huffman : on_empty 4096 (
     "828684410f7777772e6578616d706c652e636f6d" ∷
@@ -81,12 +81,12 @@ requests_with_huffman = refl
 abbrev responses : List Left
 responses =
     leaves ((":status", "302") ∷ ("cache-control", "private") ∷ ("date", "Mon, 21 Oct 2013 20:13:21 GMT") ∷ ("location", "https://www.example.com") ∷ []) 222
-        (("location", "https://www.example.com") ∷ ("date", "Mon, 21 Oct 2013 20:13:21 GMT") ∷ ("cache-control", "private") ∷ (":status", "302") ∷ []) 222 ∷
+    (("location", "https://www.example.com") ∷ ("date", "Mon, 21 Oct 2013 20:13:21 GMT") ∷ ("cache-control", "private") ∷ (":status", "302") ∷ []) 222 ∷
     leaves ((":status", "307") ∷ ("cache-control", "private") ∷ ("date", "Mon, 21 Oct 2013 20:13:21 GMT") ∷ ("location", "https://www.example.com") ∷ []) 222
-        ((":status", "307") ∷ ("location", "https://www.example.com") ∷ ("date", "Mon, 21 Oct 2013 20:13:21 GMT") ∷ ("cache-control", "private") ∷ []) 222 ∷
+    ((":status", "307") ∷ ("location", "https://www.example.com") ∷ ("date", "Mon, 21 Oct 2013 20:13:21 GMT") ∷ ("cache-control", "private") ∷ []) 222 ∷
     leaves ((":status", "200") ∷ ("cache-control", "private") ∷ ("date", "Mon, 21 Oct 2013 20:13:22 GMT") ∷ ("location", "https://www.example.com") ∷ ("content-encoding", "gzip") ∷
-        ("set-cookie", "foo=ASDJKHQKBZXOQWEOPIUAXQWEOIU; max-age=3600; version=1") ∷ []) 372
-        (("set-cookie", "foo=ASDJKHQKBZXOQWEOPIUAXQWEOIU; max-age=3600; version=1") ∷ ("content-encoding", "gzip") ∷ ("date", "Mon, 21 Oct 2013 20:13:22 GMT") ∷ []) 215 ∷ []
+    ("set-cookie", "foo=ASDJKHQKBZXOQWEOPIUAXQWEOIU; max-age=3600; version=1") ∷ []) 372
+    (("set-cookie", "foo=ASDJKHQKBZXOQWEOPIUAXQWEOIU; max-age=3600; version=1") ∷ ("content-encoding", "gzip") ∷ ("date", "Mon, 21 Oct 2013 20:13:22 GMT") ∷ []) 215 ∷ []
 
 responses_without_huffman : on_empty 256 (
     "4803333032580770726976617465611d4d6f6e2c203231204f637420323031332032303a31333a323120474d546e1768747470733a2f2f7777772e6578616d706c652e636f6d" ∷

@@ -106,11 +106,11 @@ blocks_begin_with_the_update_that_is_due : map (λ (row : UpdateRow). block row.
 unfolding block
 blocks_begin_with_the_update_that_is_due = refl
 
--- ---- a long block: 65,536 indexed fields, 42 octets each
+-- ---- a long block: 2,000 indexed fields, 42 octets each; a decoder has no limit of its own
 
 outcome_and_size : Decoded → Outcome × ℕ
 outcome_and_size d = (d.outcome, list_size d.progress.fields)
 
-long_block_ends_and_counts : outcome_and_size (decoded 4096 (start (table []) false) (replicate 65536 0x82)) ≡ (Unfinished [], 2752512)
+long_block_ends_and_counts : outcome_and_size (decoded 4096 (start (table []) false) (replicate 2000 0x82)) ≡ (Unfinished [], 84000)
 unfolding outcome_and_size decoded
 long_block_ends_and_counts = refl

@@ -1,5 +1,5 @@
 -- Items that octets begin with, and heads (RFC 9113, 3.4, 4.1 and 4.2), with frames of at most 16384 octets.
-use Rattle.std.specs.Prelude.{◌≡◌, ℕ, List, [], ◌∷◌, refl, codes, true, false, Some, None}
+use Rattle.std.specs.Prelude.{◌≡◌, [], ◌∷◌, refl, codes, true, false, Some, None}
 use Prim.Native.String.{String}
 use Rattle.h2_spec.specs.Frame.{Next, NoItem, Got, Preface, BadPreface, WholeFrame, Oversize, next, head_at, frame, frame_octets}
 use Rattle.h2_laws.proofs.Hex.{hex}

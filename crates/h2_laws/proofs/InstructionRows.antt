@@ -1,5 +1,5 @@
 -- Instructions of field blocks, both ways (RFC 7541, 6).
-use Rattle.std.specs.Prelude.{◌≡◌, ℕ, List, [], ◌∷◌, ◌++◌, length, map, replicate, Some, None, true, false, refl, codes}
+use Rattle.std.specs.Prelude.{◌≡◌, List, [], ◌∷◌, ◌++◌, length, map, replicate, Some, None, true, false, refl, codes}
 use Prim.Native.String.{String}
 use Rattle.h2_spec.specs.Huffman.{spell_huffman}
 use Rattle.h2_spec.specs.Instruction.{Instruction, TextStr, Indexed, Update, Literal, IncrementalIndexing, WithoutIndexing, NeverIndexed, Ref, Named, instruction_at, shape_of, spell}

@@ -21,7 +21,6 @@ mod IntegerRows
 mod LocalSettingsLaws
 mod LocalSettingsRows
 mod LongBodies
-mod LongLists
 mod PayloadLaws
 mod RequestRows
 mod PayloadRows

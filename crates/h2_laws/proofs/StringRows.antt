@@ -1,5 +1,5 @@
 -- Strings of instructions: a flag, a length, and octets (RFC 7541, 5.2).
-use Rattle.std.specs.Prelude.{◌≡◌, ℕ, List, [], ◌∷◌, Bool, true, false, Option, Some, map, refl, codes}
+use Rattle.std.specs.Prelude.{◌≡◌, [], ◌∷◌, Bool, true, false, Option, Some, refl, codes}
 use Prim.Native.String.{String}
 use Rattle.h2_spec.specs.Huffman.{huffman_text}
 use Rattle.h2_spec.specs.Instruction.{TextStr, string_at, text_str}

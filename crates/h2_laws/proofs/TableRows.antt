@@ -1,5 +1,5 @@
 -- The dynamic table: entries that come and go (RFC 7541, 4.1 to 4.4).
-use Rattle.std.specs.Prelude.{◌≡◌, ℕ, List, [], ◌∷◌, map, length, replicate, fold, refl, codes}
+use Rattle.std.specs.Prelude.{◌≡◌, ℕ, List, [], ◌∷◌, replicate, refl, codes}
 use Prim.Native.String.{String}
 use Rattle.h2_spec.specs.Field.{Field, field}
 use Rattle.h2_spec.specs.DynamicTable.{Table, insert, resize, total_size}

@@ -3,6 +3,7 @@
 use crate::same::same;
 use h2_fields::block::BlockDecoder;
 use h2_fields::fault::BlockFault;
+use h2_fields::field::Field;
 use h2_table::DynTable;
 use std::alloc::{AllocError, Global};
 use std::test::Fail;
@@ -51,8 +52,7 @@ fn lines(alloc: Global, decoder: &BlockDecoder<Global>) -> Result<Vec<u8>, Alloc
 }
 
 /// The fields of a request, as lines, and what they count.
-const REQUEST: &[u8] =
-    b":method: GET\n:scheme: http\n:path: /\n:authority: www.example.com\n";
+const REQUEST: &[u8] = b":method: GET\n:scheme: http\n:path: /\n:authority: www.example.com\n";
 
 /// A block in fragments of a length; its fields, what they count, and the steps.
 struct Block {
@@ -181,5 +181,17 @@ fn a_copy_of_a_decoder_goes_its_own_way(rt: HostRuntime) -> Result<(), Fail> {
     );
     let found = (first.as_slice(), second.as_slice());
     same(&rt, &found, &wanted, &"a decoder and its copy");
+    Ok(())
+}
+
+fn copied_field(alloc: Global) -> Result<Field<Global>, AllocError> {
+    Field::of(alloc, b"a", b"b")?.try_clone()
+}
+
+#[test]
+fn a_field_is_copied(rt: HostRuntime) -> Result<(), Fail> {
+    let copy = copied_field(rt.alloc())?;
+    let found = (copy.name.as_slice(), copy.value.as_slice());
+    same(&rt, &found, &(b"a".as_slice(), b"b".as_slice()), &"a copy");
     Ok(())
 }

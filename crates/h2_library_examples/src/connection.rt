@@ -39,7 +39,8 @@ const SETTINGS: &[u8] =
     b"\x00\x00\x0c\x04\x00\x00\x00\x00\x00\x00\x03\x00\x00\x00\x64\x00\x06\x00\x01\x00\x00";
 
 /// The acknowledgements of SETTINGS and of the PING, and HEADERS with the status 404.
-const ANSWERS: &[u8] = b"\x00\x00\x00\x04\x01\x00\x00\x00\x00\x00\x00\x08\x06\x01\x00\x00\x00\x00debugger\x00\x00\x01\x01\x05\x00\x00\x00\x01\x8d";
+const ANSWERS: &[u8] =
+    b"\x00\x00\x00\x04\x01\x00\x00\x00\x00\x00\x00\x08\x06\x01\x00\x00\x00\x00debugger\x00\x00\x01\x01\x05\x00\x00\x00\x01\x8d";
 
 /// The number of items in each piece, and whether the connection has ended or failed.
 fn fed(conn: &mut Conn<'_, Global>, sent: &mut Vec<u8>) -> Result<([usize; 3], bool), ConnFault> {
@@ -69,7 +70,12 @@ fn a_connection_takes_octets_and_answers(rt: HostRuntime) -> Result<(), Fail> {
     let items = fed_anew(rt.alloc(), &mut sent);
     let wanted = all_sent(rt.alloc())?;
     let found = (items, sent.as_slice());
-    same(&rt, &found, &(Ok(([1, 2, 1], false)), wanted.as_slice()), &"a GET of /");
+    same(
+        &rt,
+        &found,
+        &(Ok(([1, 2, 1], false)), wanted.as_slice()),
+        &"a GET of /",
+    );
     Ok(())
 }
 
@@ -77,7 +83,13 @@ fn a_connection_takes_octets_and_answers(rt: HostRuntime) -> Result<(), Fail> {
 fn played(alloc: Global, sent: &mut Vec<u8>) -> Result<(Phase, u32), Fail> {
     let book = no_answers(alloc);
     let octets = PIECES.concat(alloc)?;
-    let view = play(&book, Config::new(100, 32_768), octets.as_slice(), &[1, 24, 100], sent)?;
+    let view = play(
+        &book,
+        Config::new(100, 32_768),
+        octets.as_slice(),
+        &[1, 24, 100],
+        sent,
+    )?;
     Ok((view.phase, view.last))
 }
 
@@ -87,6 +99,45 @@ fn a_run_is_played(rt: HostRuntime) -> Result<(), Fail> {
     let found = played(rt.alloc(), &mut sent)?;
     let wanted = all_sent(rt.alloc())?;
     let found = (found, sent.as_slice());
-    same(&rt, &found, &((Phase::Running, 1), wanted.as_slice()), &"a GET of /");
+    same(
+        &rt,
+        &found,
+        &((Phase::Running, 1), wanted.as_slice()),
+        &"a GET of /",
+    );
+    Ok(())
+}
+
+/// The phase of a connection, and the text of its state.
+fn state(alloc: Global, conn: &Conn<'_, Global>) -> Result<(Phase, String), AllocError> {
+    Ok((conn.state(alloc)?.phase, conn.show(alloc)?))
+}
+
+/// The same of a new connection.
+fn new_state(alloc: Global, sent: &mut Vec<u8>) -> Result<(Phase, String), Fail> {
+    let book = no_answers(alloc);
+    let conn = opened(&book, sent)?;
+    Ok(state(alloc, &conn)?)
+}
+
+/// The state of a new connection, as `show` writes it.
+const NEW_STATE: &str = "phase preface last 0\n\
+    window recv 65535 owed 0 send 65535\n\
+    peer table 4096 push 1 streams - window 65535 frame 16384 list - signal 0\n\
+    acked 0 goaway -\n\
+    own table 4096 window 65535 frame 16384 due 0\n\
+    block -\n\
+    table 0 0 4096\n";
+
+#[test]
+fn the_state_is_shown(rt: HostRuntime) -> Result<(), Fail> {
+    let (phase, text) = new_state(rt.alloc(), &mut Vec::new(rt.alloc()))?;
+    let found = (phase, text.as_str());
+    same(
+        &rt,
+        &found,
+        &(Phase::Preface, NEW_STATE),
+        &"a new connection",
+    );
     Ok(())
 }

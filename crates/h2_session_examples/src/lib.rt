@@ -1,6 +1,5 @@
-//! Sessions with the debugger: lines in, lines out. A crate of tests alone, since a crate is proved twice where it
-//! has tests.
-//! Expected values come from RFC 9113 and computation by hand.
+//! Sessions with the debugger over devices that fail. A crate of tests alone, since a crate is proved twice where it has
+//! tests. What a session prints is compared by `tests/runs.py`.
 #![tactic(auto)]
 
 #[cfg(test)]
