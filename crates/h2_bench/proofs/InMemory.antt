@@ -4,11 +4,12 @@ use Rattle.h2_spec.specs.Answer.{Entry}
 use Rattle.h2_spec.specs.declared.connection.Config.{Config}
 use Rattle.h2_book.specs.Entries.{Directory}
 use Rattle.h2_words.specs.Grammar.{BatchAsked, BookAsked}
-use Rattle.h2_bench.specs.Books.{book_in, book_said}
+use Rattle.h2_commands.specs.Books.{book_in, book_said}
 use Rattle.h2_bench.specs.Memory.{IsDebugged, IsDebuggedWith}
-use Rattle.h2_bench.specs.Printed.{OrCutShort, Printed, failed, places_with, places_within, printed_with, printed_within}
-use Rattle.h2_bench.specs.ProgramEnd.{AnswersAs, EndsBatch, EndsServe, EndsSession, Prints, PrintsSome, SessionAs}
-use Rattle.h2_bench.specs.declared.fault.BenchFault.TheVariants.{NoMemory}
+use Rattle.h2_commands.specs.Printed.{OrCutShort, Printed, failed, places_with, places_within, printed_with, printed_within}
+use Rattle.h2_commands.specs.CommandEnd.{AnswersAs, EndsBatch, Prints, PrintsSome}
+use Rattle.h2_bench.specs.ProgramEnd.{EndsServe, EndsSession, SessionAs}
+use Rattle.h2_commands.specs.declared.fault.BenchFault.TheVariants.{NoMemory}
 
 -- all that was gathered is what was printed
 printed-is : (o : List ℕ) (status : ℕ) (t : Printed) → Prints t [] (Some o) status → record { text = o; status = status } ≡ t

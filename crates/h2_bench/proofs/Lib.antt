@@ -1,14 +1,2 @@
-pub mod AnswerTexts
-pub mod Assembled
-pub mod Explained
-mod HexPairs
-mod HexTable
-pub mod HexTexts
 mod InMemory
-pub mod Inputs
 mod Parsed
-pub mod Places
-pub mod Played
-pub mod RefusedWords
-pub mod Tables
-pub mod Written

@@ -5,8 +5,9 @@ use Rattle.h2_words.specs.Plans.{Refuses, asked_in, planned}
 use Rattle.h2_words.specs.declared.command.Plan.{Plan}
 use Rattle.h2_words.specs.declared.command.Refusal.{Refusal}
 use Rattle.h2_words.specs.declared.command.Refusal.TheVariants.{Words, NoMemory}
-use Rattle.h2_bench.specs.Printing.{Printed}
-use Rattle.h2_bench.specs.ProgramEnd.{PrintsRefusal, PrintsSome, printed_for}
+use Rattle.h2_commands.specs.Printing.{Printed}
+use Rattle.h2_commands.specs.CommandEnd.{PrintsSome}
+use Rattle.h2_bench.specs.ProgramEnd.{PrintsRefusal, printed_for}
 
 -- unless memory was refused for the words
 pub parsed : (asked : Option Asked) (r : Result Plan Refusal) → IfOk r (λ plan. asked ≡ Some (planned plan)) → IfErr r (Refuses asked) → (asked_in r ≡ asked) ⊎ (r ≡ Err NoMemory)

@@ -1,17 +1,2 @@
-pub mod AnswerParts
-pub mod Books
-pub mod Commands
-pub mod Each
-pub mod ExplainProgram
-pub mod Faults
-pub mod Input
-pub mod Limits
 pub mod Memory
-pub mod Pieces
-pub mod Printed
-pub mod Printing
 pub mod ProgramEnd
-pub mod Reports
-pub mod ScriptPrograms
-pub mod TableProgram
-pub mod TableReplies

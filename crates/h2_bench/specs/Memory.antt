@@ -5,9 +5,9 @@ use Rattle.h2_spec.specs.declared.connection.Config.{Config}
 use Rattle.h2_book.specs.Entries.{Directory}
 use Rattle.h2_session.specs.Session as session
 use Rattle.h2_words.specs.Grammar.{BookAsked}
-use Rattle.h2_bench.specs.Books.{book_said}
-use Rattle.h2_bench.specs.Printing.{Printed, failed, refused}
-use Rattle.h2_bench.specs.declared.fault.BenchFault.TheVariants.{NoMemory}
+use Rattle.h2_commands.specs.Books.{book_said}
+use Rattle.h2_commands.specs.Printing.{Printed, failed, refused}
+use Rattle.h2_commands.specs.declared.fault.BenchFault.TheVariants.{NoMemory}
 use Rattle.h2_bench.specs.declared.memory.Ran.{Ran}
 
 -- the text and the status

@@ -5,11 +5,11 @@ ghost use Rattle.std.specs.Prelude.{◌≡◌, ◌⊎◌, ℕ, Bool, List, [], S
 ghost use Rattle.h2_spec.specs.declared.connection.Config.{Config};
 ghost use Rattle.h2_book.specs.Files.{file_in};
 ghost use Rattle.h2_words.specs.Grammar.{BatchAsked, BookAsked, asked_of, batch, debug, explain};
-ghost use Rattle.h2_bench.specs.ExplainProgram.{IsExplained, form_of};
+ghost use Rattle.h2_commands.specs.ExplainProgram.{IsExplained, form_of};
 ghost use Rattle.h2_bench.specs.Memory.{IsDebugged, printed_in};
-ghost use Rattle.h2_bench.specs.Printed.{OrCutShort, failed, places_within, printed_within};
+ghost use Rattle.h2_commands.specs.Printed.{OrCutShort, failed, places_within, printed_within};
 ghost use Rattle.h2_bench.specs.ProgramEnd.{IsRefusal, asks_why, is_serve};
-ghost use Rattle.h2_bench.specs.declared.fault.BenchFault.TheVariants.{NoMemory};
+ghost use Rattle.h2_commands.specs.declared.fault.BenchFault.TheVariants.{NoMemory};
 
 use crate::execute::run_on;
 use h2_book::FilesInMemory;

@@ -1,14 +1,14 @@
 //! The program `serve`: connections of a port, one after another.
-//! Rests on `books`, h2_words and h2_serve; definitions: `specs/ProgramEnd.antt`, and `Serves` of h2_serve.
+//! Rests on h2_commands, h2_words and h2_serve; definitions: `specs/ProgramEnd.antt`, and `Serves` of h2_serve.
 
 ghost use Rattle.std.specs.Prelude.{◌≡◌, ◌⊎◌, false, IsOk, OnOk, OnErr};
 ghost use Rattle.h2_words.specs.Plans.{book_asked};
-ghost use Rattle.h2_bench.specs.Books.{book_said};
-ghost use Rattle.h2_bench.specs.ProgramEnd.{IsServed, KnowsFile};
+ghost use Rattle.h2_commands.specs.Books.{book_said};
+ghost use Rattle.h2_commands.specs.CommandEnd.{KnowsFile};
+ghost use Rattle.h2_bench.specs.ProgramEnd.{IsServed};
 
-use crate::books::book_for_words;
-use crate::fault::BenchFault;
 use h2_book::Files;
+use h2_commands::{BenchFault, book_for_words};
 use h2_device::Output;
 use h2_serve::{ServeFault, listen_and_serve};
 use h2_words::command::Serve;
