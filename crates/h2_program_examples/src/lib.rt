@@ -5,6 +5,8 @@
 #[cfg(test)]
 mod devices;
 #[cfg(test)]
+mod memory;
+#[cfg(test)]
 mod program;
 #[cfg(test)]
 mod same;
