@@ -8,7 +8,7 @@ use Rattle.h2_spec.specs.State.{is_allowed}
 use Rattle.h2_serve.specs.Lines.{listening_line}
 use Rattle.h2_serve.specs.Serves.{GainsLines}
 use Rattle.h2_session.specs.Session as session
-use Rattle.h2_words.specs.Grammar.{Asked, BatchAsked, BookAsked, batch, debug, serve, explain}
+use Rattle.h2_words.specs.Grammar.{Asked, BatchAsked, BookAsked, batch, debug, serve, explain, check}
 use Rattle.h2_words.specs.declared.command.Refusal.{Refusal}
 use Rattle.h2_words.specs.declared.command.Refusal.TheVariants as words
 use Rattle.h2_commands.specs.Books.{book_said}
@@ -64,6 +64,7 @@ is_serve (Some (batch b)) = false
 is_serve (Some (debug config book)) = false
 is_serve (Some (serve config port count book)) = true
 is_serve (Some (explain config json color file book)) = false
+is_serve (Some (check config book names)) = false
 
 -- whether anything is read for words
 abbrev pub is_reader : Option Asked → Bool
@@ -72,6 +73,7 @@ is_reader (Some (batch b)) = true
 is_reader (Some (debug config book)) = true
 is_reader (Some (serve config port count book)) = false
 is_reader (Some (explain config json color file book)) = true
+is_reader (Some (check config book names)) = false
 
 abbrev pub asks_why : Option Asked → Bool
 asks_why None = false
@@ -79,3 +81,4 @@ asks_why (Some (batch b)) = asks_why_batch b
 asks_why (Some (debug config book)) = book.why
 asks_why (Some (serve config port count book)) = book.why
 asks_why (Some (explain config json color file book)) = book.why
+asks_why (Some (check config book names)) = book.why

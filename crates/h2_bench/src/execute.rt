@@ -10,11 +10,11 @@ ghost use Rattle.h2_commands.specs.ExplainProgram.{EndsExplain, form_of};
 ghost use Rattle.h2_bench.specs.ProgramEnd.{EndsServe, EndsSession, EndsSomehow, PrintsRefusal, asks_why, is_reader, is_serve, printed_for};
 
 use h2_book::{Files, FilesInMemory};
-use h2_commands::{BenchFault, book_for_words, explain_plan, print, print_fault, respond};
+use h2_commands::{BenchFault, PlacesFault, book_for_words, check_files, explain_plan, print, print_end, print_fault, respond};
 use h2_device::{FromRead, Input, IntoWrite, Output};
 use h2_session::debug_session;
 use h2_words::Words;
-use h2_words::command::{Debug, Plan, Refusal, parse};
+use h2_words::command::{Check, Debug, Plan, Refusal, parse};
 use std::alloc::Global;
 use std::io;
 use std::io::{Read, Write};
@@ -41,6 +41,35 @@ fn debug<F: Files, I: Input, O: Output, E: Output>(
 {
     match book_for_words(alloc, &debug.book, files, errors) {
         Ok(book) => debug_session(alloc, &book, debug.config, input, output),
+        Err(fault) => print_fault(output, fault),
+    }
+}
+
+/// Writes what is left to say of cases: the line of a fault that ended them. Gives the status: 0 where no case failed, 1
+/// where one did, and after a fault, 3 where the output failed.
+fn print_checked<O: Output>(output: &mut O, ended: Result<bool, PlacesFault>) -> u8
+{
+    match ended {
+        Ok(true) => 0,
+        Ok(false) => 1,
+        Err(fault) => print_end(output, Err(fault)),
+    }
+}
+
+/// Makes the book of cases that have no words of their own, and checks the cases of the files.
+fn check<F: Files, O: Output, E: Output>(
+    alloc: Global,
+    plan: &Check<'_>,
+    files: &mut F,
+    output: &mut O,
+    errors: &mut E,
+) -> u8
+{
+    match book_for_words(alloc, &plan.book, files, errors) {
+        Ok(book) => {
+            let ended = check_files(alloc, plan, &book, files, output);
+            print_checked(output, ended)
+        }
         Err(fault) => print_fault(output, fault),
     }
 }
@@ -93,6 +122,7 @@ pub fn carry_out<F: Files, I: Input, O: Output, E: Output>(
         Ok(Plan::Debug(plan)) => debug(alloc, plan, files, input, output, errors),
         Ok(Plan::Serve(_)) => 2,
         Ok(Plan::Explain(plan)) => explain_plan(alloc, plan, files, input, output, errors),
+        Ok(Plan::Check(plan)) => check(alloc, plan, files, output, errors),
         Err(Refusal::Words(text)) => print(output, &text.as_str(), 2),
         Err(Refusal::NoMemory) => print_fault(output, BenchFault::NoMemory),
     }

@@ -95,7 +95,7 @@ fn print_answer<O: Output>(output: &mut O, answer: Result<Report, BenchFault>) -
 }
 
 /// Writes what is left to say of places that were written: the line of a fault that ended them. Gives the status.
-fn print_end<O: Output>(output: &mut O, ended: Result<(), PlacesFault>) -> u8
+pub fn print_end<O: Output>(output: &mut O, ended: Result<(), PlacesFault>) -> u8
     requires { O.has_failed output.old ≡ not_written ended }
     ensures printed { O.has_failed output.new ≡ false → (held text : List ℕ) → O.written output.old ≡ Some (held ++ text)
         → Prints (printed_after text ended) held (O.written output.new) result }

@@ -6,6 +6,7 @@ mod answer;
 mod asm;
 mod batch;
 mod books;
+mod check;
 mod dis;
 mod each;
 mod explain;
@@ -16,6 +17,8 @@ mod report;
 mod table;
 
 pub use answer::parse_answer;
-pub use batch::{explain_plan, print, print_fault, respond};
+pub use batch::{explain_plan, print, print_end, print_fault, respond};
 pub use books::book_for_words;
+pub use check::check_files;
+pub use each::PlacesFault;
 pub use fault::BenchFault;
