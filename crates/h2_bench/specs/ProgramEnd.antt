@@ -7,7 +7,7 @@ use Rattle.h2_spec.specs.State.{is_allowed}
 use Rattle.h2_serve.specs.Lines.{listening_line}
 use Rattle.h2_serve.specs.Serves.{GainsLines}
 use Rattle.h2_session.specs.Session as session
-use Rattle.h2_words.specs.Grammar.{Asked, BatchAsked, BookAsked, batch, play, asm, dis, table, debug, serve, explain}
+use Rattle.h2_words.specs.Grammar.{Asked, BatchAsked, BookAsked, batch, play, asm, dis, table, debug, serve, explain, check}
 use Rattle.h2_bench.specs.Books.{book_in, book_said}
 use Rattle.h2_bench.specs.Printed.{OrCutShort, Printed, cut_short, failed, places_read, places_within, refused, printed_read, printed_within}
 use Rattle.h2_bench.specs.declared.fault.BenchFault.TheVariants.{NoMemory, Read}
@@ -99,6 +99,7 @@ is_serve (Some (batch b)) = false
 is_serve (Some (debug config book)) = false
 is_serve (Some (serve config port count book)) = true
 is_serve (Some (explain config json color file book)) = false
+is_serve (Some (check config book names)) = false
 
 -- whether anything is read for words
 abbrev pub is_reader : Option Asked → Bool
@@ -107,6 +108,7 @@ is_reader (Some (batch b)) = true
 is_reader (Some (debug config book)) = true
 is_reader (Some (serve config port count book)) = false
 is_reader (Some (explain config json color file book)) = true
+is_reader (Some (check config book names)) = false
 
 -- whether words ask for the reason where an entry is refused
 abbrev pub asks_why_batch : BatchAsked → Bool
@@ -121,3 +123,4 @@ asks_why (Some (batch b)) = asks_why_batch b
 asks_why (Some (debug config book)) = book.why
 asks_why (Some (serve config port count book)) = book.why
 asks_why (Some (explain config json color file book)) = book.why
+asks_why (Some (check config book names)) = book.why

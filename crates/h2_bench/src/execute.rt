@@ -18,7 +18,7 @@ ghost use Rattle.h2_bench.specs.declared.fault.BenchFault.TheVariants.{NoMemory}
 
 use crate::asm::asm_report;
 use crate::books::book_for_words;
-use crate::check::check_files;
+use crate::check::{Tally, check_files};
 use crate::dis::dis_text;
 use crate::each::{PlacesFault, write_text};
 use crate::explain::{ExplainEnd, explain_text, read_text};
@@ -306,11 +306,17 @@ fn explain<F: Files, I: Input, O: Output, E: Output>(
 
 /// Writes what is left to say of cases: the line of a fault that ended them. Gives the status: 0 where no case failed, 1
 /// where one did, and after a fault, 3 where the output failed.
-fn print_checked<O: Output>(output: &mut O, ended: Result<bool, PlacesFault>) -> u8
+fn print_checked<O: Output>(
+    output: &mut O,
+    ended: Result<(), PlacesFault>,
+    all_hold: bool,
+) -> u8
+    requires { O.has_failed output.old ≡ not_written ended }
+    ensures flag { O.has_failed output.new ≡ (result == 3) }
+    ensures name { O.name output.new ≡ O.name output.old }
 {
     match ended {
-        Ok(true) => 0,
-        Ok(false) => 1,
+        Ok(()) => { if all_hold { 0 } else { 1 } }
         Err(fault) => print_end(output, Err(fault)),
     }
 }
@@ -323,11 +329,17 @@ fn check<F: Files, O: Output, E: Output>(
     output: &mut O,
     errors: &mut E,
 ) -> u8
+    requires writer { O.has_failed output.old ≡ false }
+    ensures flag { O.has_failed output.new ≡ (result == 3) }
+    ensures name { O.name output.new ≡ O.name output.old }
+    ensures quiet { plan.now.book.why ≡ false → errors.new ≡ errors.old }
+    ensures errors { E.name errors.new ≡ E.name errors.old }
 {
     match book_for_words(alloc, &plan.book, files, errors) {
         Ok(book) => {
-            let ended = check_files(alloc, plan, &book, files, output);
-            print_checked(output, ended)
+            let mut tally = Tally::new();
+            let ended = check_files(alloc, plan, &book, files, &mut tally, output);
+            print_checked(output, ended, tally.all_hold)
         }
         Err(fault) => print_fault(output, fault),
     }
