@@ -58,14 +58,14 @@ def frames_in(octets):
 
 
 def own_runs(top, program):
-    """Lists of frames from the examples and from the hex strings of the test crates."""
+    """Lists of frames from the examples, and from the hex of the transcripts of runs."""
     found = []
     for path in sorted(glob.glob(os.path.join(top, "examples/*.hex"))):
         found.append(bytes.fromhex(open(path).read()))
-    for path in sorted(glob.glob(os.path.join(top, "examples/*.h2"))):
+    for path in sorted(glob.glob(os.path.join(top, "examples/**/*.h2"), recursive=True)):
         found.append(bytes.fromhex(subprocess.run([program, "asm"], stdin=open(path), capture_output=True, text=True, check=True).stdout))
-    for path in sorted(glob.glob(os.path.join(top, "crates/*_examples/src/*.rt"))):
-        for text in re.findall(r'"((?:[0-9a-f]{2} ?){9,})"', open(path, encoding="utf-8").read()):
+    for path in sorted(glob.glob(os.path.join(top, "tests/runs/*.run"))):
+        for text in re.findall(r"\b((?:[0-9a-f]{2} ?){9,})\b", open(path, encoding="utf-8").read()):
             found.append(bytes.fromhex(text))
     runs = [frames for frames in map(frames_in, found) if frames]
     if len(runs) < 50:

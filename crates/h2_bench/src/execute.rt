@@ -18,6 +18,7 @@ ghost use Rattle.h2_bench.specs.declared.fault.BenchFault.TheVariants.{NoMemory}
 
 use crate::asm::asm_report;
 use crate::books::book_for_words;
+use crate::check::check_files;
 use crate::dis::dis_text;
 use crate::each::{PlacesFault, write_text};
 use crate::explain::{ExplainEnd, explain_text, read_text};
@@ -32,7 +33,7 @@ use h2_explain::Form;
 use h2_request::book::Book;
 use h2_session::debug_session;
 use h2_words::Words;
-use h2_words::command::{Batch, Debug, Explain, Plan, Play, Refusal, parse};
+use h2_words::command::{Batch, Check, Debug, Explain, Plan, Play, Refusal, parse};
 use std::alloc::Global;
 use std::io;
 use std::io::{Read, Write};
@@ -303,6 +304,35 @@ fn explain<F: Files, I: Input, O: Output, E: Output>(
     }
 }
 
+/// Writes what is left to say of cases: the line of a fault that ended them. Gives the status: 0 where no case failed, 1
+/// where one did, and after a fault, 3 where the output failed.
+fn print_checked<O: Output>(output: &mut O, ended: Result<bool, PlacesFault>) -> u8
+{
+    match ended {
+        Ok(true) => 0,
+        Ok(false) => 1,
+        Err(fault) => print_end(output, Err(fault)),
+    }
+}
+
+/// Makes the book of cases that have no words of their own, and checks the cases of the files.
+fn check<F: Files, O: Output, E: Output>(
+    alloc: Global,
+    plan: &Check<'_>,
+    files: &mut F,
+    output: &mut O,
+    errors: &mut E,
+) -> u8
+{
+    match book_for_words(alloc, &plan.book, files, errors) {
+        Ok(book) => {
+            let ended = check_files(alloc, plan, &book, files, output);
+            print_checked(output, ended)
+        }
+        Err(fault) => print_fault(output, fault),
+    }
+}
+
 /// Does what the words ask for, and gives the exit status. Where they ask for nothing, or for connections to be
 /// served, nothing is read.
 ///
@@ -352,6 +382,7 @@ pub fn run_on<F: Files, I: Input, O: Output, E: Output>(
         Ok(Plan::Debug(plan)) => debug(alloc, &plan, files, input, output, errors),
         Ok(Plan::Serve(_)) => 2,
         Ok(Plan::Explain(plan)) => explain(alloc, &plan, files, input, output, errors),
+        Ok(Plan::Check(plan)) => check(alloc, &plan, files, output, errors),
         Err(Refusal::Words(text)) => print(output, &text.as_str(), 2),
         Err(Refusal::NoMemory) => print_fault(output, BenchFault::NoMemory),
     }

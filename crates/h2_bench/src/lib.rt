@@ -4,6 +4,7 @@
 mod answer;
 mod asm;
 mod books;
+mod check;
 mod dis;
 mod each;
 mod execute;

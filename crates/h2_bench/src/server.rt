@@ -95,7 +95,7 @@ pub fn serve<N: Net<Listener = TcpListener, Stream = TcpStream>, F: Files, W: Wr
 {
     match parse(alloc, words) {
         Ok(Plan::Serve(plan)) => Some(serve_plan(alloc, net, &plan, files, output, errors)),
-        Ok(Plan::Batch(_)) | Ok(Plan::Debug(_)) | Ok(Plan::Explain(_)) => None,
+        Ok(Plan::Batch(_)) | Ok(Plan::Debug(_)) | Ok(Plan::Explain(_)) | Ok(Plan::Check(_)) => None,
         Err(Refusal::Words(_)) => None,
         Err(Refusal::NoMemory) => Some(refuse(output, BenchFault::NoMemory)),
     }

@@ -1,7 +1,7 @@
 //! Heads of frames: reading them, and writing whole frames (RFC 9113, 4.1).
 //! Rests on `h2_spec`; definitions: `h2_spec/specs/Frame.antt`.
 
-ghost use Rattle.std.specs.Prelude.{◌≡◌, ◌+◌, ◌<◌, ◌≤◌, ◌^◌, ◌∷◌, ◌++◌, length, OnOk, OnErr};
+ghost use Rattle.std.specs.Prelude.{◌≡◌, ℕ, ◌+◌, ◌<◌, ◌≤◌, ◌^◌, ◌∷◌, ◌++◌, List, drop, length, false, Some, OnOk, OnErr};
 ghost use Rattle.h2_spec.specs.Frame.{head_at, head_of, frame, frame_octets, frame_of};
 ghost use Rattle.h2_spec.specs.Octets.{big_endian};
 
@@ -46,7 +46,8 @@ pub(crate) fn first_head(octets: &[u8]) -> Head
 
 /// Appends the frame with this head and payload to `out` (RFC 9113, 4.1).
 ///
-/// The head's length is the payload's, and the reserved bit is written as 0 whatever the head says.
+/// The head's length is the payload's. The reserved bit is written as 0 whatever the head says, so what is read back
+/// is the head with that bit 0.
 /// `AllocError` where `out` could not grow; then `out` is as before.
 pub fn write_frame<A: Allocator>(
     head: &Head,
@@ -57,6 +58,7 @@ pub fn write_frame<A: Allocator>(
     requires fits { head.now.length < 2 ^ 24 }
     requires stream { head.now.stream < 2 ^ 31 }
     ensures ok { OnOk result (out.new.items ≡ out.old.items ++ frame_octets (frame_of head.now payload.now)) }
+    ensures read_back { OnOk result ((more : List ℕ) → head_at (drop (length out.old.items) out.new.items ++ more) ≡ Some (record head.now { reserved = false })) }
     ensures no_memory { OnErr result (out.new.items ≡ out.old.items) }
 {
     append_frame(head.kind, head.flags, head.stream, &[], payload, out)

@@ -22,7 +22,7 @@ use Rattle.h2_spec.specs.declared.streams.Kind.TheVariants.{Idle, Skipped, BothO
 use Rattle.h2_spec.specs.declared.streams.Stream.{Stream}
 use Rattle.h2_spec.specs.FrameType.{END_HEADERS, ACK, frame_type, has}
 use Rattle.h2_spec.specs.Frame.{Item, Preface, BadPreface, WholeFrame, Oversize}
-use Rattle.h2_spec.specs.Payload.{HeadersPart, Part, OfData, OfHeaders, OfPriority, OfRstStream, OfSettings, OfSettingsAck, OfPushPromise, OfPing, OfGoaway, OfWindowUpdate, OfContinuation, OfUnknown, part_of, part_as, with_part, settings_or_ack, data_part, headers_part, settings_part, window_part, goaway_part, reset_part}
+use Rattle.h2_spec.specs.Payload.{HeadersPart, Part, OfData, OfHeaders, OfPriority, OfRstStream, OfPing, OfGoaway, OfWindowUpdate, part_as, with_part, settings_or_ack, data_part, headers_part, settings_part, window_part, goaway_part, reset_part}
 use Rattle.h2_spec.specs.Block.{Decoded, Progress, Outcome, Unfinished, Faulty}
 use Rattle.h2_spec.specs.Window.{given_back}
 use Rattle.h2_spec.specs.State.{State, OpenBlock, Decoding, configured}

@@ -6,6 +6,7 @@ mod CauseLaws
 mod CauseRows
 mod CuttingLaws
 mod DebugRows
+mod DecodingLaws
 mod EarlyRows
 mod FlowLaws
 mod FormLaws

@@ -28,11 +28,11 @@ split-step : (b : List ℕ) → split b ≡ parse_first tt b (instr_only (instr_
 unfolding split
 split-step b = laws.parse_all-step next_shape shape-uses tt b
 
-split-whole : (b : List ℕ) (i : Shape) (used : ℕ) → instr_at b ≡ Whole i used → split b ≡ after_one i (split (drop used b))
+pub split-whole : (b : List ℕ) (i : Shape) (used : ℕ) → instr_at b ≡ Whole i used → split b ≡ after_one i (split (drop used b))
 unfolding split
 split-whole b i used e = split-step b ∙ ap (λ r. parse_first tt b (instr_only r) (λ t rest. parse_all next_shape t rest)) e
 
-split-none : (b : List ℕ) → IsNone (instr_at b) → split b ≡ record { elements = []; state = tt; rest = b }
+pub split-none : (b : List ℕ) → IsNone (instr_at b) → split b ≡ record { elements = []; state = tt; rest = b }
 split-none b none = split-step b ∙ at (instr_at b) none
   where
     at : (r : Read Shape) → IsNone r → parse_first tt b (instr_only r) (λ t rest. parse_all next_shape t rest) ≡ record { elements = []; state = tt; rest = b }

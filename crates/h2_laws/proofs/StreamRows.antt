@@ -1,5 +1,5 @@
 -- Records of streams, and windows that settings move (RFC 9113, 5.1, 6.4 and 6.9.2).
-use Rattle.std.specs.Prelude.{◌≡◌, ℕ, Bool, true, false, List, [], ◌∷◌, map, refl, Option, Some, None, ℤ, pos, negsuc, if◌then◌else◌}
+use Rattle.std.specs.Prelude.{◌≡◌, ℕ, Bool, true, false, List, [], ◌∷◌, map, refl, Option, Some, None, ℤ, pos, negsuc}
 use Rattle.std.specs.Option.{option_map}
 use Rattle.h2_spec.specs.declared.streams.Kind.{Kind}
 use Rattle.h2_spec.specs.declared.streams.Kind.TheVariants.{Idle, Skipped, BothOpen, HalfRemote, HalfLocal, Ended, PeerReset, WeReset}

@@ -1,14 +1,15 @@
 //! Laws of instructions and field blocks, each on a function with an empty body: its contract is the law.
 //! They speak of `h2_spec/specs/Instruction.antt` and `h2_spec/specs/Block.antt`; their lemmas are in
-//! `InstructionLaws` and `BlockLaws` of `h2_spec/proofs`, and in `proofs/SplitLaws.antt`, `proofs/BeginningLaws.antt`
-//! and `proofs/FormLaws.antt`.
+//! `InstructionLaws` and `BlockLaws` of `h2_spec/proofs`, and in `SplitLaws`, `BeginningLaws`, `FormLaws` and
+//! `DecodingLaws` of `proofs`.
 
 ghost use Rattle.std.specs.Prelude.{◌≡◌, ◌<◌, ◌≤◌, ℕ, List, ◌++◌, length, take, Some};
 ghost use Rattle.std.specs.List.{concat};
 ghost use Rattle.hex.specs.Hex.{IsBytes};
 ghost use Rattle.h2_spec.specs.Read.{Whole, More, TooLong};
 ghost use Rattle.h2_spec.specs.Instruction.{CanEnd, Instruction, HasTexts, IsSpellable, IsSpelling, Shape, Splits, instr_at, instruction_at, shape_of, spell, split};
-ghost use Rattle.h2_spec.specs.Block.{Progress, decoded, carried_on, carried_through};
+ghost use Rattle.h2_spec.specs.Block.{Decoded, Progress, decoded, carried_on, carried_through};
+ghost use Rattle.h2_laws.specs.Blocks.{Decodes};
 ghost use Rattle.h2_laws.specs.Forms.{IsForm, IsFormOf};
 
 /// An instruction at the front of octets takes some of them, and is there whatever follows: no spelling begins another.
@@ -65,4 +66,12 @@ pub fn beginnings_can_be_ended()
 pub fn blocks_are_cut_anywhere()
     ensures once { (limit : ℕ) (before : Progress) (octets more : List ℕ) → decoded limit before (octets ++ more) ≡ carried_on limit (decoded limit before octets) more }
     ensures often { (limit : ℕ) (before : Progress) (octets : List ℕ) (pieces : List (List ℕ)) → carried_through limit (decoded limit before octets) pieces ≡ decoded limit before (octets ++ concat pieces) }
+{}
+
+/// A field block decodes the instructions that its octets split into, in order, up to the first that is refused. It
+/// ends with that refusal, or else with the rest of the split: the beginning of an instruction, or an integer that is
+/// too long. Nothing else is what it results in (RFC 7541, 3.2, 5.1 and 6).
+pub fn blocks_are_their_instructions()
+    ensures is { (limit : ℕ) (before : Progress) (octets : List ℕ) → Decodes limit before (split octets).elements (split octets).rest (decoded limit before octets) }
+    ensures only { (limit : ℕ) (before : Progress) (octets : List ℕ) (d : Decoded) → Decodes limit before (split octets).elements (split octets).rest d → d ≡ decoded limit before octets }
 {}

@@ -1,11 +1,12 @@
 -- How groups of seven bits add up, one after another.
-use Rattle.std.proofs.Common.{◌≡◌, ℕ, zero, suc, ◌+◌, ◌-◌, ◌*◌, ◌/◌, ◌%◌, ◌^◌, ◌<◌, ◌≤◌, List, [], ◌∷◌, length, get_or, drop, ◌++◌, ◌∙◌, ap, append_assoc, cond, ltb, refl, arith, lt-ltb, le-ltb}
+use Rattle.std.proofs.Common.{◌≡◌, ℕ, zero, suc, ◌+◌, ◌-◌, ◌*◌, ◌/◌, ◌%◌, ◌^◌, ◌<◌, ◌≤◌, List, [], ◌∷◌, length, get_or, drop, ◌++◌, ◌∙◌, ap, subst, sym, append_assoc, cond, ltb, refl, arith, lt-ltb, le-ltb}
 use Rattle.std.proofs.Math.Seq.{drop-cons}
 use Rattle.std.proofs.lemmas.Nat.{pow_pos}
 use Rattle.std.proofs.Math.Nat.{pow-le-pow_right, pow-suc, mul-le-mul_right}
 use Rattle.std.proofs.Math.Numerals.{add-one}
 use Rattle.h2_spec.specs.Read.{Read, Whole, More, TooLong}
-use Rattle.h2_spec.specs.Integer.{groups_at, groups_of, int_at, scaled, spell_int}
+use Rattle.h2_spec.specs.Integer.{IsReadOf, groups_at, groups_of, int_at, scaled, spell_int}
+use Rattle.h2_spec.proofs.IntegerLaws.{int_read}
 
 -- a group before the number behind it
 pub scaled-scaled : (a w i d : ℕ) (r : Read ℕ) → scaled a w i (scaled d 128 1 r) ≡ scaled (a + d * w) (w * 128) (i + 1) r
@@ -122,3 +123,7 @@ spell-short p high v full e h = rw (← e, lt-ltb v full h) refl
 pub spell-long : (p high v full : ℕ) → full ≡ 2 ^ p - 1 → full ≤ v → spell_int p high v ≡ (high + full) ∷ groups_of 5 (v - full)
 unfolding spell_int
 spell-long p high v full e h = rw (← e, le-ltb v full h) refl
+
+-- what is read is what the octets spell
+pub read-is : (n : ℕ) (octets : List ℕ) (r : Read ℕ) → r ≡ int_at n octets → IsReadOf n octets r
+read-is n octets r e = subst (IsReadOf n octets) (sym e) (int_read n octets)

@@ -6,9 +6,9 @@ use borrow.Author.Tests.{ltb-true}
 use Rattle.std.specs.Prelude.{IsErrOf}
 use Rattle.std.specs.Option.{unwrap_or}
 use Rattle.h2_spec.specs.HuffmanCode.{bits_of, code}
-use Rattle.h2_spec.specs.Huffman.{bits, codes, IsText, HuffRead, huffman_text, Text, Eos, Padding}
+use Rattle.h2_spec.specs.Huffman.{bits, codes, HasEos, IsDecodingOf, IsHuffman, IsPadding, IsText, HuffRead, huffman_text, Text, Eos, Padding}
 use Rattle.h2_spec.proofs.BitLaws.{length-bits_of, bits-more, bits_of-halves}
-use Rattle.h2_spec.proofs.HuffmanLaws.{codes-append, one_answer, is_padding}
+use Rattle.h2_spec.proofs.HuffmanLaws.{codes-append, one_answer, is_padding, text_read}
 use Rattle.h2_spec.proofs.SpellingLaws.{length-bits}
 use Rattle.h2_prim.specs.States.{path_of, emitted, Represents, Leads, Prints}
 use Rattle.h2_prim.specs.declared.fault.HuffFault.{HuffFault}
@@ -143,3 +143,14 @@ refused r text (Some fault.NoMemory) h = absurd h
 -- a text is no refusal
 pub accepted : {T : Type 0} (r : HuffRead) (text : List ℕ) (v : T) → r ≡ Text text → (IsErrOf {E = HuffFault} (Ok v) fault.Eos ↔ (r ≡ Eos)) × (IsErrOf {E = HuffFault} (Ok v) fault.Padding ↔ (r ≡ Padding))
 accepted r text v h = ((λ e. cc, λ e. cc), (λ e. cc, λ e. cc))
+
+-- ---- what the answers say of the octets
+
+pub is_huffman : (o t : List ℕ) → huffman_text o ≡ Text t → IsHuffman t o
+is_huffman o t e = subst (IsDecodingOf o) e (text_read o)
+
+pub where_eos : (P : Type 0) (o : List ℕ) → (P ↔ (huffman_text o ≡ Eos)) → P ↔ HasEos o
+where_eos P o h = (λ p. subst (IsDecodingOf o) (h.0 p) (text_read o), λ has. h.1 (one_answer o Eos has))
+
+pub where_padding : (P : Type 0) (o : List ℕ) → (P ↔ (huffman_text o ≡ Padding)) → P ↔ IsPadding o
+where_padding P o h = (λ p. subst (IsDecodingOf o) (h.0 p) (text_read o), λ none. h.1 (one_answer o Padding none))

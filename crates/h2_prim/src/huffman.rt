@@ -6,7 +6,7 @@
 ghost use Rattle.std.specs.Prelude.{◌≡◌, ℕ, ◌+◌, ◌*◌, ◌/◌, ◌^◌, ◌<◌, ◌≤◌, ◌↔◌, ◌++◌, Bool, List, length, take, IfOk, OnOk, OnErr, IsErrOf};
 ghost use Rattle.std.specs.Vec.{vec_len, vec_capacity};
 ghost use Rattle.h2_spec.specs.HuffmanCode.{bits_of, code};
-ghost use Rattle.h2_spec.specs.Huffman.{bits, huffman_text, spell_huffman, Text, Eos, Padding};
+ghost use Rattle.h2_spec.specs.Huffman.{HasEos, IsHuffman, IsPadding, bits, huffman_text, spell_huffman, Text, Eos, Padding};
 ghost use Rattle.h2_prim.specs.States.{IsRow, Leads, Represents, Prints};
 ghost use Rattle.h2_prim.specs.Written.{Written};
 ghost use Rattle.h2_prim.specs.declared.fault.HuffFault.TheVariants as fault;
@@ -53,6 +53,9 @@ pub fn huff_read<A: Allocator>(alloc: A, octets: &[u8]) -> Result<Vec<u8, A>, Hu
     ensures text { IfOk result (λ text. huffman_text octets.now ≡ Text text.items) }
     ensures eos { IsErrOf result fault.Eos ↔ (huffman_text octets.now ≡ Eos) }
     ensures padding { IsErrOf result fault.Padding ↔ (huffman_text octets.now ≡ Padding) }
+    ensures is_huffman { IfOk result (λ text. IsHuffman text.items octets.now) }
+    ensures has_eos { IsErrOf result fault.Eos ↔ HasEos octets.now }
+    ensures is_padding { IsErrOf result fault.Padding ↔ IsPadding octets.now }
 {
     let mut text = Vec::new(alloc);
     huff_append(octets, &mut text)?;

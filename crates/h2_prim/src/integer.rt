@@ -4,7 +4,7 @@
 
 ghost use Rattle.std.specs.Prelude.{◌≡◌, ◌+◌, ◌-◌, ◌%◌, ◌^◌, ◌<◌, ◌≤◌, ◌++◌, OnOk, OnErr};
 ghost use Rattle.std.specs.Vec.{vec_len, vec_capacity};
-ghost use Rattle.h2_spec.specs.Integer.{groups_at, groups_of, int_at, spell_int};
+ghost use Rattle.h2_spec.specs.Integer.{IsReadOf, groups_at, groups_of, int_at, spell_int};
 ghost use Rattle.h2_prim.specs.Readings.{int_read, IsSmall};
 
 use std::alloc::{AllocError, Allocator};
@@ -25,7 +25,8 @@ pub enum IntRead {
 /// Spellings longer than the shortest are accepted up to five octets behind the prefix. Takes no memory.
 pub fn read_int(prefix: u8, octets: &[u8]) -> IntRead
     requires { (1 ≤ prefix) × (prefix ≤ 8) }
-    ensures { int_read result ≡ int_at prefix octets.now }
+    ensures value { int_read result ≡ int_at prefix octets.now }
+    ensures read { IsReadOf prefix octets.now (int_read result) }
 {
     let full = ones(prefix);
     let Some((first, rest)) = octets.split_first() else {

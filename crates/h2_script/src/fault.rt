@@ -48,8 +48,10 @@ pub fn kind_number(kind: SyntaxKind) -> u8
 
 /// Why one line was not read.
 #[derive(Clone, Copy)]
-pub(crate) enum LineFault {
+pub enum LineFault {
+    /// Memory was refused.
     NoMemory,
+    /// The least kind of fault in the line.
     Bad(SyntaxKind),
 }
 

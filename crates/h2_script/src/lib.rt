@@ -18,6 +18,7 @@ mod words;
 
 pub use assembler::assemble;
 pub use disassembler::disassemble;
-pub use fault::{ScriptFault, kind_number};
+pub use fault::{LineFault, ScriptFault, kind_number};
 pub use h2_spec::scripts::SyntaxKind;
+pub use line::add_line;
 pub use number::number_at;

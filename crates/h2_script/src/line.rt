@@ -19,10 +19,12 @@ use h2_spec::frames::PREFACE;
 use h2_spec::scripts::SyntaxKind;
 use std::alloc::Allocator;
 
-/// The octets of the client's preface (RFC 9113, 3.4).
-
 /// Appends the octets that a line represents.
-pub(crate) fn add_line<A: Allocator + Copy>(
+///
+/// # Errors
+///
+/// `Bad` where it says nothing: the least kind of fault in it; `NoMemory` where memory was refused before that was found.
+pub fn add_line<A: Allocator + Copy>(
     alloc: A,
     line: &[u8],
     out: &mut Vec<u8, A>,

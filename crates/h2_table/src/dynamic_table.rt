@@ -5,7 +5,8 @@
 
 ghost use Rattle.std.specs.Prelude.{◌≡◌, ◌<◌, ◌≤◌, [], ◌∷◌, ◌++◌, ◌↔◌, length, option_map, true, Ok, OnOk, OnErr, IfOk, IfErr, IfSome, IsErr, nat_lt};
 ghost use Rattle.circular_buffer.specs.Buffer.{buffer};
-ghost use Rattle.h2_spec.specs.DynamicTable.{fit, insert, resize, total_size, entry_at};
+ghost use Rattle.h2_spec.specs.DynamicTable.{IsLongestFit, fit, insert, resize, total_size, entry_at};
+ghost use Rattle.h2_spec.specs.Field.{field};
 ghost use Rattle.h2_table.specs.Held.{places_for};
 ghost use Rattle.h2_table.specs.Lent.{lent_field, field_lent, IsMarked};
 ghost use Rattle.h2_table.specs.declared.fault.TableFault.TheVariants as faults;
@@ -159,7 +160,8 @@ impl<A: Allocator> DynTable<A> {
     /// Adds a field as the newest entry, once the oldest ones have made space for it; one that counts more than the
     /// maximum empties the table and is no error (RFC 7541, 4.4). No memory is taken.
     pub fn insert(&mut self, name: Vec<u8, A>, value: Vec<u8, A>)
-        ensures { self.new ≡ record self.old { table = insert self.old.table (record { name = name.items; value = value.items }) } }
+        ensures value { self.new ≡ record self.old { table = insert self.old.table (field name.items value.items) } }
+        ensures longest { IsLongestFit (field name.items value.items ∷ self.old.table.entries) self.old.table.max self.new.table.entries }
     {
         let size = name.len().saturating_add(value.len()).saturating_add(32);
         let max = self.max as usize;

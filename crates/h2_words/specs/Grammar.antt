@@ -103,13 +103,20 @@ serve_app = with_rule (with_rule (with_rule (with_book (with_limits (new_app (co
 abbrev pub explain_app : App
 explain_app = with_rule (with_book (with_rule (with_rule (with_limits (new_app (codes "explain"))) json_rule) color_rule)) answer_rule
 
+-- FILE of `check`, one or more
+abbrev pub files_rule : Rule
+files_rule = record (new_rule (codes "FILE")) { required = true; action = Some Append }
+
+abbrev pub check_app : App
+check_app = with_rule (with_rule (with_limits (new_app (codes "check"))) book_rule) files_rule
+
 abbrev pub top_app : App
 top_app = record (new_app (codes "h2_bench")) { top = record (new_app (codes "h2_bench")).top { subcommand_required = true } }
 
 unfoldable pub bench_app : App
 bench_app =
     let offline = with_subcommand (with_subcommand (with_subcommand (with_subcommand top_app play_app.top) asm_app.top) dis_app.top) table_app.top in
-    with_subcommand (with_subcommand (with_subcommand offline debug_app.top) serve_app.top) explain_app.top
+    with_subcommand (with_subcommand (with_subcommand (with_subcommand offline debug_app.top) serve_app.top) explain_app.top) check_app.top
 
 -- ---- what words ask for
 
@@ -132,6 +139,7 @@ pub data Asked : Type 0 where
   debug : (config : Config) → (book : BookAsked) → Asked
   serve : (config : Config) → (port : ℕ) → (count : ℕ) → (book : BookAsked) → Asked
   explain : (config : Config) → (json : Bool) → (color : Bool) → (file : Text) → (book : BookAsked) → Asked
+  check : (config : Config) → (book : BookAsked) → (files : List Text) → Asked
 
 -- the number that a text spells in decimal digits, if it is below 2 ^ 32
 abbrev pub number_of : Text → Option ℕ
@@ -190,6 +198,10 @@ answers_among words = drop (files_among words) words
 abbrev pub explain_book_at : List Row → BookAsked
 explain_book_at rows = record (book_at rows) { answers = answers_among (texts_at (codes "ANSWER") rows) }
 
+-- the book of `check`: a file alone
+abbrev pub file_book_at : List Row → BookAsked
+file_book_at rows = record { file = text_at (codes "book") rows; why = false; answers = [] }
+
 abbrev pub asked_by : Text → List Row → Option Asked
 asked_by name rows =
     if bytes_eq name (codes "play") then Some (batch (play (config_at rows) (number_at (codes "cut") 0 rows) (is_set (codes "each") rows) (book_at rows)))
@@ -198,7 +210,8 @@ asked_by name rows =
     else if bytes_eq name (codes "table") then Some (batch (table (number_at (codes "LIMIT") 0 rows)))
     else if bytes_eq name (codes "debug") then Some (debug (config_at rows) (book_at rows))
     else (if bytes_eq name (codes "serve") then Some (serve (config_at rows) (number_at (codes "PORT") 0 rows) (number_at (codes "COUNT") 0 rows) (book_at rows))
-    else (if bytes_eq name (codes "explain") then Some (explain (config_at rows) (is_set (codes "json") rows) (is_set (codes "color") rows) (file_among (texts_at (codes "ANSWER") rows)) (explain_book_at rows)) else None))
+    else (if bytes_eq name (codes "explain") then Some (explain (config_at rows) (is_set (codes "json") rows) (is_set (codes "color") rows) (file_among (texts_at (codes "ANSWER") rows)) (explain_book_at rows))
+    else (if bytes_eq name (codes "check") then Some (check (config_at rows) (file_book_at rows) (texts_at (codes "FILE") rows)) else None)))
 
 -- what is asked, if no kind of error comes
 abbrev pub unless_refused : Kinds → Option Asked → Option Asked

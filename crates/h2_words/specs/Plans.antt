@@ -1,6 +1,6 @@
 -- What a plan represents, and what a refusal says of words.
 use Rattle.std.specs.Prelude.{◌≡◌, Option, None, map}
-use Rattle.h2_words.specs.Grammar.{Asked, BatchAsked, BookAsked, batch, play, asm, dis, table, debug, serve, explain}
+use Rattle.h2_words.specs.Grammar.{Asked, BatchAsked, BookAsked, batch, play, asm, dis, table, debug, serve, explain, check}
 use Rattle.h2_words.specs.declared.command.Batch.{Batch}
 use Rattle.h2_words.specs.declared.command.Batch.TheVariants.{Play, Asm, Dis, Table}
 use Rattle.h2_words.specs.declared.command.BookWords.{BookWords}
@@ -23,6 +23,7 @@ planned (plan.Batch b) = batch (batch_asked b)
 planned (plan.Debug d) = debug d.config (book_asked d.book)
 planned (plan.Serve s) = serve s.config s.port s.count (book_asked s.book)
 planned (plan.Explain e) = explain e.config e.json e.color e.file.now (book_asked e.book)
+planned (plan.Check k) = check k.config (book_asked k.book) (map (λ s. s.now) k.files.items)
 
 -- words that are refused ask for nothing, unless the cause is that memory ran out
 abbrev pub Refuses : Option Asked → Refusal → Type 0

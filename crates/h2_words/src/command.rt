@@ -4,7 +4,7 @@
 ghost use Rattle.std.specs.Prelude.{◌≡◌, ◌≤◌, length, IfOk, IfErr, bytes_eq, Some, None, codes, map, option_map};
 ghost use Rattle.clap.specs.Words.{App, Rule, found_of, kind_of, new_app, rows_of, subcommand_rows_of, with_rule, with_subcommand};
 ghost use Rattle.clap.specs.declared.error.ErrorKind.TheVariants.{OutOfMemory};
-ghost use Rattle.h2_words.specs.Grammar.{answer_rule, answers_among, asked_at, asked_by, asked_of, asm_app, bench_app, book_at, book_rule, color_rule, config_at, count_rule, credit_rule, cut_rule, debug_app, dis_app, each_rule, explain_app, file_among, files_among, frame_rule, is_answer, is_set, json_rule, limit_rule, number_at, play_app, port_rule, serve_app, streams_rule, table_app, table_rule, text_at, texts_at, top_app, why_rule, window_rule, with_book, with_limits, with_settings};
+ghost use Rattle.h2_words.specs.Grammar.{answer_rule, answers_among, asked_at, asked_by, asked_of, asm_app, bench_app, book_at, book_rule, check_app, color_rule, config_at, count_rule, credit_rule, cut_rule, debug_app, dis_app, each_rule, explain_app, file_among, files_among, files_rule, frame_rule, is_answer, is_set, json_rule, limit_rule, number_at, play_app, port_rule, serve_app, streams_rule, table_app, table_rule, text_at, texts_at, top_app, why_rule, window_rule, with_book, with_limits, with_settings};
 ghost use Rattle.h2_words.specs.Built.{IsArg, IsCommand, number_rule, option_rule};
 ghost use Rattle.h2_words.specs.Plans.{book_asked, planned, Refuses};
 
@@ -68,6 +68,17 @@ pub struct Serve<'a> {
     pub book: BookWords<'a>,
 }
 
+/// How cases are checked.
+#[derive(Drop)]
+pub struct Check<'a> {
+    /// The limits and the settings of cases that say none.
+    pub config: Config,
+    /// The book of these cases.
+    pub book: BookWords<'a>,
+    /// The paths of the files that have the cases.
+    pub files: Vec<&'a str>,
+}
+
 /// A command that reads its whole input before it answers.
 #[derive(Drop)]
 pub enum Batch<'a> {
@@ -91,6 +102,8 @@ pub enum Plan<'a> {
     Serve(Serve<'a>),
     /// Explains a connection over the octets of a file or of the input.
     Explain(Explain<'a>),
+    /// Checks the cases of files.
+    Check(Check<'a>),
 }
 
 /// Why words were refused.
@@ -271,6 +284,15 @@ fn count_word<'a>(alloc: Global) -> Arg<'a>
         .help("How many connections are served, one after another")
 }
 
+fn case_files<'a>(alloc: Global) -> Arg<'a>
+    ensures { IsArg files_rule result }
+{
+    Arg::new(alloc, "FILE")
+        .action(ArgAction::Append)
+        .required(true)
+        .help("A file of cases: scripts, with what is expected in their comments")
+}
+
 /// The command with one more argument.
 fn with_arg<'a>(
     command: Result<Command<'a>, AllocError>,
@@ -403,6 +425,15 @@ fn explain_command<'a>(alloc: Global) -> Result<Command<'a>, AllocError>
     with_arg(command, input_words(alloc))
 }
 
+fn check_command<'a>(alloc: Global) -> Result<Command<'a>, AllocError>
+    ensures { IfOk result (IsCommand check_app) }
+{
+    let about = "Plays the cases of files, and says of each whether what it expects holds";
+    let command = with_limits(alloc, Ok(described(alloc, "check", about)));
+    let command = with_arg(command, book_option(alloc));
+    with_arg(command, case_files(alloc))
+}
+
 fn top_command<'a>(alloc: Global) -> Command<'a>
     ensures { IsCommand top_app result }
 {
@@ -419,7 +450,8 @@ fn bench_command<'a>(alloc: Global) -> Result<Command<'a>, AllocError>
     let command = with_subcommand(command, table_command(alloc));
     let command = with_subcommand(command, debug_command(alloc));
     let command = with_subcommand(command, serve_command(alloc));
-    with_subcommand(command, explain_command(alloc))
+    let command = with_subcommand(command, explain_command(alloc));
+    with_subcommand(command, check_command(alloc))
 }
 
 /// The number that an option or a positional was given, or another.
@@ -586,6 +618,24 @@ fn explain_from<'a>(alloc: Global, matches: &ArgMatches<'a>) -> Result<Explain<'
     })
 }
 
+/// How cases are to be checked.
+fn check_from<'a>(alloc: Global, matches: &ArgMatches<'a>) -> Result<Check<'a>, AllocError>
+    ensures { IfOk result (λ check. Some (planned (Plan.Check check)) ≡ asked_by (codes "check") (rows_of
+        (found_of matches.now))) }
+{
+    let files = texts_at(alloc, matches, "FILE")?;
+    let answers = Vec::new(alloc);
+    Ok(Check {
+        config: config_at(matches),
+        book: BookWords {
+            file: text_at(matches, "book"),
+            why: false,
+            answers,
+        },
+        files,
+    })
+}
+
 /// Whether a command has this name.
 fn is(name: &str, command: &str) -> bool
     ensures { result ≡ bytes_eq name.now command.now }
@@ -621,6 +671,9 @@ fn plan_from<'a>(
     }
     if is(name, "explain") {
         return Ok(Some(Plan::Explain(explain_from(alloc, matches)?)));
+    }
+    if is(name, "check") {
+        return Ok(Some(Plan::Check(check_from(alloc, matches)?)));
     }
     Ok(None)
 }

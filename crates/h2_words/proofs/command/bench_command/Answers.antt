@@ -10,4 +10,5 @@ returns c =
     let four = c.with_subcommand-command-4.ensures _ _ three c.table_command.ensures in
     let five = c.with_subcommand-command-5.ensures _ _ four c.debug_command.ensures in
     let six = c.with_subcommand-command-6.ensures _ _ five c.serve_command.ensures in
-    c.with_subcommand.ensures _ _ six c.explain_command.ensures
+    let seven = c.with_subcommand-command-7.ensures _ _ six c.explain_command.ensures in
+    c.with_subcommand.ensures _ _ seven c.check_command.ensures

@@ -1,0 +1,148 @@
+-- A case: a connection of its own, and lines. The octets of the lines of the script are played on it. Each other line
+-- says something of the run of the octets above it; the case holds where all of them do.
+use Rattle.std.specs.Prelude.{ℕ, Bool, true, false, ◌&&◌, ◌||◌, not, List, [], ◌∷◌, ◌++◌, length, drop, map, codes, if◌then◌else◌, Option, Some, None}
+use Rattle.std.specs.Str.{bytes_eq}
+use Rattle.h2_spec.specs.Answer.{Entry}
+use Rattle.h2_spec.specs.CauseWords.{cause_name}
+use Rattle.h2_spec.specs.IgnoredWords.{ignored_name}
+use Rattle.h2_spec.specs.Opening.{opening_octets}
+use Rattle.h2_spec.specs.Show.{show}
+use Rattle.h2_spec.specs.State.{State, opening}
+use Rattle.h2_spec.specs.Trace.{trace}
+use Rattle.h2_spec.specs.View.{view}
+use Rattle.h2_spec.specs.declared.causes.Cause.{Cause}
+use Rattle.h2_spec.specs.declared.connection.Config.{Config}
+use Rattle.h2_spec.specs.declared.ignored.Ignored.{Ignored}
+use Rattle.h2_check.specs.Frames.{is_none, octets_at, sends, spoken_by}
+use Rattle.h2_check.specs.Lines as line
+use Rattle.h2_check.specs.Files.{expect_something}
+use Rattle.h2_check.specs.Lines.{Said, line_said}
+use Rattle.h2_check.specs.Seen.{Sight, sight}
+use Rattle.h2_check.specs.Texts.{shows}
+
+-- the state that a case begins in, and the octets that were sent before anything came
+pub record Start : Type 0 where
+  pub state : State
+  pub sent : List ℕ
+
+-- a place between two lines: the octets of the lines above, how many of the octets sent lines have spoken of, and
+-- whether a line has since the last octets
+pub record Place : Type 0 where
+  pub above : List ℕ
+  pub spoken : ℕ
+  pub speaks : Bool
+
+-- what is seen at a place
+abbrev pub sight_at : Start → Place → Sight
+sight_at start here = sight start.state start.sent here.above
+
+-- the text of the state at a place
+abbrev pub text_at : Start → Place → List ℕ
+text_at start here = show (view (trace start.state here.above).state)
+
+-- the octets sent that no line has spoken of
+abbrev pub unspoken : Start → Place → List ℕ
+unspoken start here = drop here.spoken (sight_at start here).sent
+
+-- ---- more octets
+
+-- where a line has spoken of what was sent since the last octets, nothing of it is left
+abbrev pub closes : Start → Place → Bool
+closes start here = not here.speaks || is_none (unspoken start here)
+
+-- what was sent before the first octets counts only where a line has spoken of it
+abbrev pub passed : Start → Place → ℕ
+passed start here = if not here.speaks && is_none here.above then length (sight_at start here).sent else here.spoken
+
+-- a line of the script has to be one
+abbrev pub plays : Start → Place → Option (List ℕ) → Bool
+plays start here None = false
+plays start here (Some []) = true
+plays start here (Some (octet ∷ octets)) = closes start here
+
+abbrev pub played : Start → Place → Option (List ℕ) → Place
+played start here None = here
+played start here (Some []) = here
+played start here (Some (octet ∷ octets)) = record { above = here.above ++ octet ∷ octets; spoken = passed start here; speaks = false }
+
+-- ---- what is said of the items
+
+-- the name of a cause, a dash for none
+abbrev pub cause_text : Option Cause → List ℕ
+cause_text None = codes "-"
+cause_text (Some cause) = cause_name cause
+
+-- the item before is an error for this cause; a dash: no item is one
+abbrev pub errs : Sight → List ℕ → Bool
+errs seen text = bytes_eq text (cause_text (if bytes_eq text (codes "-") then seen.first else seen.cause))
+
+-- the name of a reason, a dash for none
+abbrev pub reason_text : Option Ignored → List ℕ
+reason_text None = codes "-"
+reason_text (Some reason) = ignored_name reason
+
+-- the item before is ignored for this reason; a dash: it is not ignored
+abbrev pub ignores : Sight → List ℕ → Bool
+ignores seen text = bytes_eq text (reason_text seen.ignored)
+
+-- ---- a line
+
+-- a line holds at a place
+abbrev pub holds : Start → Place → Said → Bool
+holds start here (line.Script text) = plays start here (octets_at text)
+holds start here (line.Title text) = true
+holds start here (line.Words text) = true
+holds start here (line.Sent text) = sends text (unspoken start here)
+holds start here (line.Shown text) = shows (text_at start here) text
+holds start here (line.Cause text) = errs (sight_at start here) text
+holds start here (line.Reason text) = ignores (sight_at start here) text
+holds start here (line.Explained text) = false
+holds start here (line.Command text) = false
+
+-- the place behind a line that holds
+abbrev pub behind : Start → Place → Said → Place
+behind start here (line.Script text) = played start here (octets_at text)
+behind start here (line.Title text) = here
+behind start here (line.Words text) = here
+behind start here (line.Sent text) = record { above = here.above; spoken = spoken_by text (length (sight_at start here).sent) here.spoken; speaks = true }
+behind start here (line.Shown text) = here
+behind start here (line.Cause text) = here
+behind start here (line.Reason text) = here
+behind start here (line.Explained text) = here
+behind start here (line.Command text) = here
+
+-- ---- a case
+
+-- all lines from a place on hold
+abbrev pub all_hold : Start → Place → List Said → Bool
+all_hold start here [] = closes start here
+all_hold start here (said ∷ more) = holds start here said && all_hold start (behind start here said) more
+
+-- before the first line
+abbrev pub first_place : Place
+first_place = record { above = []; spoken = 0; speaks = false }
+
+-- the start of a case with this book, these limits and these settings
+abbrev pub start_of : List Entry → Config → Start
+start_of book config = record { state = opening book config; sent = opening_octets config }
+
+-- the run of the octets of these lines, with this book, these limits and these settings, meets what they expect
+unfoldable pub case_holds : List Entry → Config → List (List ℕ) → Bool
+case_holds book config lines = all_hold (start_of book config) first_place (map line_said lines)
+
+-- ---- the verdict
+
+pub data Outcome : Type 0 where
+  -- it expects nothing
+  Skipped : Outcome
+  Holds : Outcome
+  Fails : Outcome
+
+abbrev pub outcome : (holds expects : Bool) → Outcome
+outcome true true = Holds
+outcome true false = Skipped
+outcome false expects = Fails
+
+-- the verdict on a case
+abbrev pub outcome_of : List Entry → Config → List (List ℕ) → Outcome
+outcome_of book config lines = outcome (case_holds book config lines) (expect_something lines)

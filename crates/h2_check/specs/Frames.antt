@@ -1,0 +1,45 @@
+-- What lines say of octets that are sent.
+use Rattle.std.specs.Prelude.{ℕ, ◌+◌, Bool, true, false, List, [], ◌∷◌, length, nat_eq, codes, if◌then◌else◌, Option, Some, None, Result, Ok, Err}
+use Rattle.std.specs.List.{starts_with}
+use Rattle.std.specs.Str.{bytes_eq}
+use Rattle.h2_spec.specs.Assemble.{statement_at}
+use Rattle.h2_spec.specs.Script.{Statement, octets_of}
+use Rattle.h2_spec.specs.declared.scripts.SyntaxKind.{SyntaxKind}
+
+abbrev pub octets_in : Result Statement SyntaxKind → Option (List ℕ)
+octets_in (Ok s) = Some (octets_of s)
+octets_in (Err kind) = None
+
+-- the octets of a line of a script, if it is one
+abbrev pub octets_at : List ℕ → Option (List ℕ)
+octets_at line = octets_in (statement_at line)
+
+-- nothing is left
+abbrev pub is_none : List ℕ → Bool
+is_none [] = true
+is_none (octet ∷ octets) = false
+
+-- the frame of a line is the next of those that are left
+abbrev pub is_next : Option (List ℕ) → List ℕ → Bool
+is_next None left = false
+is_next (Some []) left = false
+is_next (Some (octet ∷ octets)) left = starts_with nat_eq left (octet ∷ octets)
+
+-- what a line says of the octets that are left: any may follow, none is left, or this frame is next
+abbrev pub sends : List ℕ → List ℕ → Bool
+sends text left =
+    if bytes_eq text (codes "...") then true
+    else if bytes_eq text (codes "-") then is_none left
+    else is_next (octets_at text) left
+
+-- how many octets a frame has
+abbrev pub frame_length : Option (List ℕ) → ℕ
+frame_length None = 0
+frame_length (Some octets) = length octets
+
+-- how many octets lines have spoken of behind a line, if it holds, where there are so many, and so many were spoken of
+abbrev pub spoken_by : List ℕ → (all spoken : ℕ) → ℕ
+spoken_by text all spoken =
+    if bytes_eq text (codes "...") then all
+    else if bytes_eq text (codes "-") then spoken
+    else spoken + frame_length (octets_at text)

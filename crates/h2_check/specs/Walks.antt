@@ -1,0 +1,79 @@
+-- A walk over the lines of a case: how far it has come, and what it has found.
+use Rattle.std.specs.Prelude.{◌≡◌, ℕ, ◌+◌, ◌≤◌, Bool, true, false, ◌&&◌, ◌||◌, not, List, [], length, drop, if◌then◌else◌, Option}
+use Rattle.h2_conn.specs.Connection.{Connection, going}
+use Rattle.h2_spec.specs.Parse.{parse_all}
+use Rattle.h2_spec.specs.Trace.{next_event}
+use Rattle.h2_check.specs.Cases.{Outcome, Place, Start, Skipped, Holds, Fails, behind, holds, sight_at}
+use Rattle.h2_check.specs.Frames.{frame_length, is_next, is_none, sends, spoken_by}
+use Rattle.h2_check.specs.Lines.{Said}
+use Rattle.h2_check.specs.Seen.{seen_by}
+use Rattle.h2_check.specs.declared.walk.Walk.{Walk}
+use Rattle.h2_check.specs.declared.verdict.Verdict.{Verdict}
+use Rattle.h2_check.specs.declared.verdict.Verdict.TheVariants as verdict
+
+-- the place of a walk
+abbrev pub place_of : Walk → Place
+place_of w = record { above = w.octets.items; spoken = w.spoken; speaks = w.speaks }
+
+-- the walk and its connection have come as far as the octets of its lines lead
+pub record Walks (start : Start) (w : Walk) (c : Connection) : Type 0 where
+  pub within : w.at ≤ length w.octets.items
+  pub ready : c ≡ going c.state []
+  pub state : (parse_all next_event start.state w.octets.items).state ≡ c.state
+  pub rest : (parse_all next_event start.state w.octets.items).rest ≡ drop w.at w.octets.items
+  pub seen : seen_by w.seen ≡ sight_at start (place_of w)
+
+-- the walk has found whether something holds, and all else is as before
+pub record Finds (b : Bool) (w w' : Walk) : Type 0 where
+  pub found : w'.holds ≡ (w.holds && b)
+  pub octets : w'.octets ≡ w.octets
+  pub at : w'.at ≡ w.at
+  pub seen : w'.seen ≡ w.seen
+  pub speaks : w'.speaks ≡ w.speaks
+  pub spoken : b ≡ true → w'.spoken ≡ w.spoken
+
+-- the octets that were sent and that no line has spoken of
+abbrev pub left_by : Walk → List ℕ
+left_by w = drop w.spoken w.seen.sent.items
+
+-- more octets come, or the case ends
+pub record Closes (w w' : Walk) : Type 0 where
+  pub found : w'.holds ≡ (w.holds && (not w.speaks || is_none (left_by w)))
+  pub octets : w'.octets ≡ w.octets
+  pub at : w'.at ≡ w.at
+  pub seen : w'.seen ≡ w.seen
+  pub speaks : w'.speaks ≡ false
+  pub spoken : (not w.speaks || is_none (left_by w)) ≡ true → w'.spoken ≡ (if not w.speaks && is_none w.octets.items then length w.seen.sent.items else w.spoken)
+
+-- the next frame that was sent was compared with one that is wanted
+pub record Compares (wanted : Option (List ℕ)) (w w' : Walk) : Type 0 where
+  pub found : w'.holds ≡ (w.holds && is_next wanted (left_by w))
+  pub octets : w'.octets ≡ w.octets
+  pub at : w'.at ≡ w.at
+  pub seen : w'.seen ≡ w.seen
+  pub speaks : w'.speaks ≡ w.speaks
+  pub spoken : is_next wanted (left_by w) ≡ true → w'.spoken ≡ w.spoken + frame_length wanted
+
+-- a line has spoken of what was sent
+pub record Speaks (text : List ℕ) (w w' : Walk) : Type 0 where
+  pub found : w'.holds ≡ (w.holds && sends text (left_by w))
+  pub octets : w'.octets ≡ w.octets
+  pub at : w'.at ≡ w.at
+  pub seen : w'.seen ≡ w.seen
+  pub speaks : w'.speaks ≡ true
+  pub spoken : sends text (left_by w) ≡ true → w'.spoken ≡ spoken_by text (length w.seen.sent.items) w.spoken
+
+-- the walk has found whether something holds, and if so is at this place
+pub record Goes (b : Bool) (there : Place) (w w' : Walk) : Type 0 where
+  pub found : w'.holds ≡ (w.holds && b)
+  pub place : b ≡ true → place_of w' ≡ there
+
+-- the walk goes over a line
+abbrev pub Passes : Start → Said → Walk → Walk → Type 0
+Passes start said w w' = Goes (holds start (place_of w) said) (behind start (place_of w) said) w w'
+
+-- the outcome that a value has
+abbrev pub outcome_by : Verdict → Outcome
+outcome_by verdict.Skipped = Skipped
+outcome_by verdict.Holds = Holds
+outcome_by (verdict.Fails wrongs) = Fails

@@ -1,0 +1,19 @@
+//! Cases: scripts of a client with what is expected of the server written into their comments.
+//! The verdict on a case is a value, and the text of the Test Anything Protocol is a view of it.
+//! Definitions: `specs/Lines.antt` (what a line says), `specs/Cases.antt` (what a case is, and when its lines hold).
+#![tactic(auto)]
+
+mod cases;
+mod line;
+mod pattern;
+mod run;
+mod shell;
+mod tap;
+mod verdict;
+mod walk;
+
+pub use cases::{are_silent, case_length, lines_in, title_of};
+pub use line::{Line, line_of};
+pub use shell::{ShellFault, add_words};
+pub use tap::{Title, plan_line, verdict_text};
+pub use verdict::{CaseFault, Verdict, Wrong, check_case};

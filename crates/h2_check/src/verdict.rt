@@ -1,0 +1,88 @@
+//! The verdict on a case.
+//! Rests on `walk` and h2_conn; definitions: `specs/Cases.antt`.
+
+ghost use Rattle.std.specs.Prelude.{◌≡◌, ◌⊎◌, [], map, length, IfOk, IfErr, ◌<◌, ◌^◌, false};
+ghost use Rattle.h2_conn.specs.Connection.{going};
+ghost use Rattle.h2_spec.specs.Opening.{opening_octets};
+ghost use Rattle.h2_spec.specs.State.{is_allowed, opening};
+ghost use Rattle.h2_check.specs.Cases.{outcome_of};
+ghost use Rattle.h2_check.specs.Walks.{outcome_by};
+ghost use Rattle.h2_check.specs.declared.verdict.CaseFault.TheVariants.{BadConfig, NoMemory};
+
+use crate::walk::{Walk, check_lines};
+use h2_conn::{Conn, ConnFault};
+use h2_request::book::Book;
+use h2_spec::connection::Config;
+use std::alloc::Global;
+
+/// A line that does not hold.
+#[derive(Drop)]
+pub struct Wrong<'t> {
+    /// Its number in the file, from 1.
+    pub line: usize,
+    /// What it expects, as it is written.
+    pub wanted: &'t [u8],
+    /// What was found.
+    pub found: String,
+}
+
+/// The verdict on a case.
+#[derive(Drop)]
+pub enum Verdict<'t> {
+    /// It expects nothing.
+    Skipped,
+    /// All of its lines hold.
+    Holds,
+    /// These don't.
+    Fails(Vec<Wrong<'t>>),
+}
+
+/// Why there is no verdict.
+#[derive(Clone, Copy, Debug, PartialEq, Eq)]
+pub enum CaseFault {
+    /// A limit or a setting is out of range (`Config::is_allowed`).
+    BadConfig,
+    /// Memory was refused.
+    NoMemory,
+}
+
+/// The verdict on a case whose connection is new.
+fn check_on<'t>(
+    alloc: Global,
+    conn: &mut Conn<'_, Global>,
+    sent: Vec<u8>,
+    lines: &[&'t [u8]],
+    number: usize,
+) -> Result<Verdict<'t>, CaseFault>
+    requires ready { conn.old ≡ going conn.old.state [] }
+{
+    let mut walk = Walk::new(alloc, sent);
+    match check_lines(alloc, conn, lines, number, &mut walk) {
+        Ok(()) => Ok(walk.into_verdict(lines)),
+        Err(_) => Err(CaseFault::NoMemory),
+    }
+}
+
+/// The verdict on the lines of a case, with this book, these limits and these settings. The first line has this number
+/// in its file.
+///
+/// # Errors
+///
+/// `BadConfig` where a limit or a setting is out of range; `NoMemory` where memory is refused.
+pub fn check_case<'t>(
+    alloc: Global,
+    book: &Book<Global>,
+    config: Config,
+    lines: &[&'t [u8]],
+    number: usize,
+) -> Result<Verdict<'t>, CaseFault>
+    ensures verdict { IfOk result (λ verdict. outcome_by verdict ≡ outcome_of book.now config (map (λ l. l.now) lines.now)) }
+    ensures fault { IfErr result (λ fault. (fault ≡ NoMemory) ⊎ ((fault ≡ BadConfig) × (is_allowed config ≡ false))) }
+{
+    let mut sent = Vec::new(alloc);
+    match Conn::new(book, config, &mut sent) {
+        Ok(mut conn) => check_on(alloc, &mut conn, sent, lines, number),
+        Err(ConnFault::BadConfig) => Err(CaseFault::BadConfig),
+        Err(_) => Err(CaseFault::NoMemory),
+    }
+}

@@ -1,0 +1,504 @@
+//! The lines of a case, one after another: those of the script are played, and the others are compared with what is
+//! seen of the run so far.
+//! Rests on `line`, `run` and `pattern`; definitions: `specs/Cases.antt`, `specs/Walks.antt`.
+
+ghost use Rattle.std.specs.Prelude.{◌≡◌, ◌≤◌, ◌<◌, ◌^◌, ◌++◌, ◌&&◌, Bool, true, false, List, [], ℕ, length, drop, map, OnOk, IfOk};
+ghost use Rattle.h2_conn.specs.Connection.{going};
+ghost use Rattle.h2_spec.specs.Assemble.{statement_at};
+ghost use Rattle.h2_spec.specs.Show.{show};
+ghost use Rattle.h2_spec.specs.View.{view};
+ghost use Rattle.h2_check.specs.Cases.{Start, all_hold, cause_text, closes, errs, ignores, outcome, passed, plays, played, reason_text};
+ghost use Rattle.h2_check.specs.Files.{expect_something};
+ghost use Rattle.h2_check.specs.Frames.{is_next, is_none, octets_at, sends, spoken_by};
+ghost use Rattle.h2_check.specs.Lines.{line_said, said_by, Said};
+ghost use Rattle.h2_check.specs.Seen.{seen_by};
+ghost use Rattle.h2_check.specs.Texts.{shows};
+ghost use Rattle.h2_check.specs.Walks.{Closes, Compares, Finds, Goes, Passes, Speaks, Walks, outcome_by, place_of};
+
+use crate::cases::expect_something;
+use crate::line::{Line, line_of};
+use crate::pattern::{closest, shows};
+use crate::run::{Seen, take_items};
+use crate::verdict::{Verdict, Wrong};
+use h2_conn::Conn;
+use h2_describe::sent::next_frame;
+use h2_script::{LineFault, SyntaxKind, add_line, disassemble};
+use h2_spec::causes::Cause;
+use h2_spec::ignored::Ignored;
+use std::alloc::{AllocError, Global};
+use std::str;
+
+/// How far the lines of a case have come.
+pub(crate) struct Walk<'t> {
+    /// The octets of the lines of the script.
+    octets: Vec<u8>,
+    /// How many of them were taken as items.
+    at: usize,
+    seen: Seen,
+    /// How many of the octets sent lines have spoken of.
+    spoken: usize,
+    /// Whether a line has spoken of them since the last octets, and the number of that line.
+    speaks: bool,
+    speaker: usize,
+    /// Whether all lines hold.
+    holds: bool,
+    /// Those that don't.
+    wrongs: Vec<Wrong<'t>>,
+}
+
+/// By hand, so that a function that drops a walk makes one call.
+impl<'t> Drop for Walk<'t> {
+    fn drop(self) {
+        let Self {
+            octets: _,
+            at: _,
+            seen: _,
+            spoken: _,
+            speaks: _,
+            speaker: _,
+            holds: _,
+            wrongs: _,
+        } = self;
+    }
+}
+
+/// What a line that is none of a script is, in words.
+fn kind_words(kind: SyntaxKind) -> &'static str {
+    match kind {
+        SyntaxKind::Parts => "not a line of a script: it has too few parts",
+        SyntaxKind::Name => "not a line of a script: there is no such frame type",
+        SyntaxKind::Flags => "not a line of a script: the flags are not two hex digits",
+        SyntaxKind::Stream => {
+            "not a line of a script: the stream is not a number up to 2147483647"
+        }
+        SyntaxKind::Payload => "not a line of a script: the payload has no known form",
+        SyntaxKind::Size => "not a line of a script: the payload has more than 16777215 octets",
+    }
+}
+
+/// The name of a cause, a dash for none.
+fn cause_name(cause: Option<Cause>) -> &'static str
+    ensures { result.now ≡ cause_text cause }
+{
+    match cause {
+        Some(cause) => cause.name(),
+        None => "-",
+    }
+}
+
+/// The name of a reason, a dash for none.
+fn reason_name(reason: Option<Ignored>) -> &'static str
+    ensures { result.now ≡ reason_text reason }
+{
+    match reason {
+        Some(reason) => reason.name(),
+        None => "-",
+    }
+}
+
+/// The octets from a place on; none where there are fewer.
+fn left_from(octets: &[u8], start: usize) -> &[u8]
+    ensures { result.now ≡ drop start octets.now }
+{
+    if start < octets.len() {
+        &octets[start..]
+    } else {
+        &[]
+    }
+}
+
+/// How many octets the frame has that octets begin with; all of them where there is no whole one.
+fn first_length(octets: &[u8]) -> usize
+    ensures { result ≤ length octets.now }
+{
+    match next_frame(octets) {
+        None => octets.len(),
+        Some((_, rest)) => octets.len().saturating_sub(rest.len()),
+    }
+}
+
+/// The line of the frame that octets begin with; a dash where there is none.
+fn first_line(alloc: Global, octets: &[u8]) -> Result<String, AllocError> {
+    if octets.is_empty() {
+        return String::from_str(alloc, "-");
+    }
+    let text = disassemble(alloc, &octets[..first_length(octets)])?;
+    match text.as_str().split_once('\n') {
+        Some((line, _)) => String::from_str(alloc, line),
+        None => Ok(text),
+    }
+}
+
+impl<'t> Walk<'t> {
+    /// No line yet, of a connection for which these octets were sent.
+    pub(crate) fn new(alloc: Global, sent: Vec<u8>) -> Walk<'t>
+        ensures octets { (result.octets.items ≡ []) × (result.at ≡ 0) }
+        ensures sent { result.seen.sent ≡ sent }
+        ensures place { (result.spoken ≡ 0) × (result.speaks ≡ false) }
+        ensures holds { result.holds ≡ true }
+    {
+        Walk {
+            octets: Vec::new(alloc),
+            at: 0,
+            seen: Seen {
+                sent,
+                first: None,
+                cause: None,
+                ignored: None,
+            },
+            spoken: 0,
+            speaks: false,
+            speaker: 0,
+            holds: true,
+            wrongs: Vec::new(alloc),
+        }
+    }
+
+    /// The verdict on a case of these lines, all of which were gone over.
+    pub(crate) fn into_verdict(self, lines: &[&[u8]]) -> Verdict<'t>
+        ensures { outcome_by result ≡ outcome self.entry.holds (expect_something (map (λ l. l.now) lines.now)) }
+    {
+        let Self {
+            octets: _,
+            at: _,
+            seen: _,
+            spoken: _,
+            speaks: _,
+            speaker: _,
+            holds,
+            wrongs,
+        } = self;
+        if !holds {
+            Verdict::Fails(wrongs)
+        } else if expect_something(lines) {
+            Verdict::Holds
+        } else {
+            Verdict::Skipped
+        }
+    }
+
+    /// Says that a line does not hold, and what was found.
+    fn refuse(
+        &mut self,
+        line: usize,
+        wanted: &'t [u8],
+        found: Result<String, AllocError>,
+    ) -> Result<(), AllocError>
+        ensures { OnOk result (Finds false self.old self.new) }
+    {
+        let Ok(found) = found else {
+            return Err(AllocError);
+        };
+        self.holds = false;
+        match self.wrongs.push(Wrong {
+            line,
+            wanted,
+            found,
+        }) {
+            Ok(()) => Ok(()),
+            Err(_) => Err(AllocError),
+        }
+    }
+
+    /// Says whether a line holds, and if not, that this text was found; a dash where it is empty.
+    fn find(
+        &mut self,
+        alloc: Global,
+        holds: bool,
+        line: usize,
+        wanted: &'t [u8],
+        found: &[u8],
+    ) -> Result<(), AllocError>
+        ensures { OnOk result (Finds holds self.old self.new) }
+    {
+        if holds {
+            return Ok(());
+        }
+        let words = match str::from_utf8(found) {
+            Ok("") => "-",
+            Ok(words) => words,
+            Err(_) => "?",
+        };
+        self.refuse(line, wanted, String::from_str(alloc, words))
+    }
+
+    /// The octets that were sent and that no line has spoken of.
+    fn unspoken(&self) -> &[u8]
+        ensures { result.now ≡ drop self.now.spoken self.now.seen.sent.items }
+    {
+        left_from(self.seen.sent.as_slice(), self.spoken)
+    }
+
+    /// Refuses the first frame that is left, where one is: no other may be sent.
+    fn expect_none(
+        &mut self,
+        alloc: Global,
+        number: usize,
+        wanted: &'t [u8],
+    ) -> Result<(), AllocError>
+        ensures { OnOk result (Finds (is_none (drop self.old.spoken self.old.seen.sent.items)) self.old self.new) }
+    {
+        if self.unspoken().is_empty() {
+            return Ok(());
+        }
+        let found = first_line(alloc, self.unspoken());
+        self.spoken = self.seen.sent.len();
+        self.refuse(number, wanted, found)
+    }
+}
+
+impl<'t> Walk<'t> {
+    /// More octets come, or the case ends. Where a line has spoken of what was sent since the last octets, nothing else
+    /// may have been sent; what was sent before the first octets counts only where a line has spoken of it.
+    fn close(&mut self, alloc: Global) -> Result<(), AllocError>
+        ensures { OnOk result (Closes self.old self.new) }
+    {
+        if self.speaks {
+            self.speaks = false;
+            return self.expect_none(alloc, self.speaker, b"-");
+        }
+        if self.octets.is_empty() {
+            self.spoken = self.seen.sent.len();
+        }
+        Ok(())
+    }
+
+    /// More octets of the client: the items that they complete are taken.
+    fn feed(&mut self, conn: &mut Conn<'_, Global>, more: &[u8]) -> Result<(), AllocError>
+        requires ready { conn.old ≡ going conn.old.state [] }
+        requires within { self.old.at ≤ length self.old.octets.items }
+        ensures ready { conn.new ≡ going conn.new.state [] }
+        ensures walks { OnOk result ((start : Start) → Walks start self.old conn.old → Walks start self.new conn.new) }
+        ensures octets { OnOk result (self.new.octets.items ≡ self.old.octets.items ++ more.now) }
+        ensures place { (self.new.spoken ≡ self.old.spoken) × (self.new.speaks ≡ self.old.speaks) }
+        ensures holds { self.new.holds ≡ self.old.holds }
+    {
+        self.octets.extend_from_slice(more)?;
+        self.at = take_items(conn, self.octets.as_slice(), self.at, &mut self.seen)?;
+        Ok(())
+    }
+
+    /// The octets of a line of the script.
+    fn play_octets(
+        &mut self,
+        alloc: Global,
+        conn: &mut Conn<'_, Global>,
+        more: &[u8],
+    ) -> Result<(), AllocError>
+        requires ready { conn.old ≡ going conn.old.state [] }
+        requires within { self.old.at ≤ length self.old.octets.items }
+        ensures ready { conn.new ≡ going conn.new.state [] }
+        ensures walks { OnOk result ((start : Start) → Walks start self.old conn.old → Walks start self.new conn.new) }
+        ensures goes { OnOk result ((start : Start) → Walks start self.old conn.old
+            → Goes (plays start (place_of self.old) (Some more.now)) (played start (place_of self.old) (Some more.now)) self.old self.new) }
+    {
+        if more.is_empty() {
+            return Ok(());
+        }
+        match self.close(alloc) {
+            Ok(()) => self.feed(conn, more),
+            Err(error) => Err(error),
+        }
+    }
+
+    /// A line of the script.
+    fn play(
+        &mut self,
+        alloc: Global,
+        conn: &mut Conn<'_, Global>,
+        number: usize,
+        text: &'t [u8],
+    ) -> Result<(), AllocError>
+        requires ready { conn.old ≡ going conn.old.state [] }
+        requires within { self.old.at ≤ length self.old.octets.items }
+        ensures ready { conn.new ≡ going conn.new.state [] }
+        ensures walks { OnOk result ((start : Start) → Walks start self.old conn.old → Walks start self.new conn.new) }
+        ensures goes { OnOk result ((start : Start) → Walks start self.old conn.old
+            → Goes (plays start (place_of self.old) (octets_at text.now)) (played start (place_of self.old) (octets_at text.now)) self.old self.new) }
+    {
+        let mut more = Vec::new(alloc);
+        match add_line(alloc, text, &mut more) {
+            Ok(()) => self.play_octets(alloc, conn, more.as_slice()),
+            Err(LineFault::Bad(kind)) => {
+                let found = kind_words(kind).as_bytes();
+                self.find(alloc, false, number, text, found)
+            }
+            Err(LineFault::NoMemory) => Err(AllocError),
+        }
+    }
+
+    /// Compares a frame with the next one that was sent.
+    fn compare_frame(
+        &mut self,
+        alloc: Global,
+        number: usize,
+        text: &'t [u8],
+        wanted: &[u8],
+    ) -> Result<(), AllocError>
+        ensures { OnOk result (Compares (Some wanted.now) self.old self.new) }
+    {
+        if wanted.is_empty() {
+            return self.find(alloc, false, number, text, b"no frame");
+        }
+        if self.unspoken().starts_with(wanted) {
+            self.spoken += wanted.len();
+            return Ok(());
+        }
+        let found = first_line(alloc, self.unspoken());
+        let passed = first_length(self.unspoken());
+        self.spoken = self.spoken.saturating_add(passed);
+        self.refuse(number, text, found)
+    }
+
+    /// A frame that the server sends.
+    fn expect_frame(
+        &mut self,
+        alloc: Global,
+        number: usize,
+        text: &'t [u8],
+    ) -> Result<(), AllocError>
+        ensures { OnOk result (Compares (octets_at text.now) self.old self.new) }
+    {
+        let mut wanted = Vec::new(alloc);
+        match add_line(alloc, text, &mut wanted) {
+            Ok(()) => self.compare_frame(alloc, number, text, wanted.as_slice()),
+            Err(LineFault::Bad(kind)) => {
+                let found = kind_words(kind).as_bytes();
+                self.find(alloc, false, number, text, found)
+            }
+            Err(LineFault::NoMemory) => Err(AllocError),
+        }
+    }
+
+    /// A frame that the server sends, or `-` for none, or `...` for any.
+    fn expect_sent(
+        &mut self,
+        alloc: Global,
+        number: usize,
+        text: &'t [u8],
+    ) -> Result<(), AllocError>
+        ensures { OnOk result (Speaks text.now self.old self.new) }
+    {
+        self.speaks = true;
+        self.speaker = number;
+        if text == b"...".as_slice() {
+            self.spoken = self.seen.sent.len();
+            return Ok(());
+        }
+        if text == b"-".as_slice() {
+            return self.expect_none(alloc, number, text);
+        }
+        self.expect_frame(alloc, number, text)
+    }
+
+    /// A line of the state, or `! ` and one that it has not.
+    fn expect_shown(
+        &mut self,
+        alloc: Global,
+        conn: &Conn<'_, Global>,
+        number: usize,
+        text: &'t [u8],
+    ) -> Result<(), AllocError>
+        ensures { OnOk result (Finds (shows (show (view conn.now.state)) text.now) self.old self.new) }
+    {
+        let state = match conn.show(alloc) {
+            Ok(state) => state,
+            Err(error) => return Err(error),
+        };
+        let shown = state.as_str().as_bytes();
+        let found = closest(shown, line_in(text));
+        self.find(alloc, shows(shown, text), number, text, found)
+    }
+
+    /// Why the item before is an error; a dash: no item so far is one.
+    fn expect_cause(
+        &mut self,
+        alloc: Global,
+        number: usize,
+        text: &'t [u8],
+    ) -> Result<(), AllocError>
+        ensures { OnOk result (Finds (errs (seen_by self.old.seen) text.now) self.old self.new) }
+    {
+        let none = text == b"-".as_slice();
+        let cause = if none { self.seen.first } else { self.seen.cause };
+        let found = cause_name(cause).as_bytes();
+        self.find(alloc, text == found, number, text, found)
+    }
+
+    /// Why the item before is ignored; a dash: it is not.
+    fn expect_reason(
+        &mut self,
+        alloc: Global,
+        number: usize,
+        text: &'t [u8],
+    ) -> Result<(), AllocError>
+        ensures { OnOk result (Finds (ignores (seen_by self.old.seen) text.now) self.old self.new) }
+    {
+        let found = reason_name(self.seen.ignored).as_bytes();
+        self.find(alloc, text == found, number, text, found)
+    }
+
+    /// A line of the case, with its number in the file.
+    fn take_line(
+        &mut self,
+        alloc: Global,
+        conn: &mut Conn<'_, Global>,
+        number: usize,
+        line: &'t [u8],
+    ) -> Result<(), AllocError>
+        requires ready { conn.old ≡ going conn.old.state [] }
+        requires within { self.old.at ≤ length self.old.octets.items }
+        ensures ready { conn.new ≡ going conn.new.state [] }
+        ensures walks { OnOk result ((start : Start) → Walks start self.old conn.old → Walks start self.new conn.new) }
+        ensures goes { OnOk result ((start : Start) → Walks start self.old conn.old → Passes start (line_said line.now) self.old self.new) }
+    {
+        match line_of(line) {
+            Line::Script(text) => self.play(alloc, conn, number, text),
+            Line::Title(_) | Line::Words(_) => Ok(()),
+            Line::Sent(text) => self.expect_sent(alloc, number, text),
+            Line::Shown(text) => self.expect_shown(alloc, conn, number, text),
+            Line::Cause(text) => self.expect_cause(alloc, number, text),
+            Line::Reason(text) => self.expect_reason(alloc, number, text),
+            Line::Explained(text) => {
+                let found = b"lines `;> ` are not compared by this version";
+                self.find(alloc, false, number, text, found)
+            }
+            Line::Command(text) => {
+                let found = b"lines `;& ` are not obeyed by this version";
+                self.find(alloc, false, number, text, found)
+            }
+        }
+    }
+}
+
+/// The line of the state that a line speaks of.
+fn line_in(text: &[u8]) -> &[u8] {
+    match text.strip_prefix(b"! ".as_slice()) {
+        Some(line) => line,
+        None => text,
+    }
+}
+
+/// Goes over the lines of a case, the first of which has this number in the file.
+///
+/// `AllocError` where memory is refused.
+pub(crate) fn check_lines<'t>(
+    alloc: Global,
+    conn: &mut Conn<'_, Global>,
+    lines: &[&'t [u8]],
+    number: usize,
+    walk: &mut Walk<'t>,
+) -> Result<(), AllocError>
+    requires ready { conn.old ≡ going conn.old.state [] }
+    requires within { walk.old.at ≤ length walk.old.octets.items }
+    ensures { OnOk result ((start : Start) → Walks start walk.old conn.old
+        → walk.new.holds ≡ (walk.old.holds && all_hold start (place_of walk.old) (map (λ l. line_said l.now) lines.now))) }
+{
+    for (place, line) in lines.iter().enumerate() {
+        match walk.take_line(alloc, conn, number.saturating_add(place), line) {
+            Ok(()) => {}
+            Err(error) => return Err(error),
+        }
+    }
+    walk.close(alloc)
+}

@@ -1,0 +1,108 @@
+//! Connections of trials: their books, and single calls.
+
+use crate::line::Call;
+use h2_conn::{Conn, ConnFault};
+use h2_device::string_of;
+use h2_fields::octets::Octets;
+use h2_request::book::{Book, Entry};
+use h2_request::fault::BookFault;
+use h2_spec::connection::Config;
+use std::alloc::{AllocError, Allocator, Global};
+
+/// The limits of a call: at most so many streams are open, and the header table has at most so many octets.
+pub fn config_of(call: &Call<'_>) -> Config {
+    Config {
+        table: call.short(1),
+        ..Config::new(call.short(0), 32768)
+    }
+}
+
+fn octets_of<A: Allocator + Copy>(alloc: A, text: &[u8]) -> Result<Octets<A>, AllocError> {
+    Ok(Octets::new(Vec::from_slice(alloc, text)?))
+}
+
+/// The answer 200 with this body to `GET` of this path.
+fn entry_of<A: Allocator + Copy>(
+    alloc: A,
+    path: &[u8],
+    body: &[u8],
+    early: bool,
+) -> Result<Entry<A>, AllocError> {
+    let method = octets_of(alloc, b"GET")?;
+    let path = octets_of(alloc, path)?;
+    let body = octets_of(alloc, body)?;
+    Ok(Entry {
+        method,
+        path,
+        status: 200,
+        fields: Vec::new(alloc),
+        body,
+        early,
+    })
+}
+
+fn add<A: Allocator + Copy>(
+    alloc: A,
+    book: &mut Book<A>,
+    path: &[u8],
+    body: &[u8],
+    early: bool,
+) -> Result<(), BookFault> {
+    book.add(entry_of(alloc, path, body, early)?)
+}
+
+/// Adds the answers of a trial: none at 0; at 1 `hi` to `GET /`; at 2 300 octets to `GET /`, and early `hi` to `GET /early`.
+fn add_answers<A: Allocator + Copy>(
+    alloc: A,
+    book: &mut Book<A>,
+    which: u64,
+) -> Result<(), BookFault> {
+    match which {
+        0 => Ok(()),
+        1 => add(alloc, book, b"/", b"hi", false),
+        _ => {
+            add(alloc, book, b"/", &[b'x'; 300], false)?;
+            add(alloc, book, b"/early", b"hi", true)
+        }
+    }
+}
+
+/// A book with the answers of a trial.
+pub fn book_of<A: Allocator + Copy>(alloc: A, which: u64) -> Result<Book<A>, AllocError> {
+    let mut book = Book::new(alloc);
+    match add_answers(alloc, &mut book, which) {
+        Ok(()) => Ok(book),
+        Err(_) => Err(AllocError),
+    }
+}
+
+// These have no clause, so that no proof above them carries the state of each call.
+
+/// A new connection.
+pub fn opened<'b, A: Allocator + Copy>(
+    book: &'b Book<A>,
+    config: Config,
+    out: &mut Vec<u8, A>,
+) -> Result<Conn<'b, A>, ConnFault> {
+    Conn::new(book, config, out)
+}
+
+/// Feeds octets: the number of items in them.
+pub fn taken<A: Allocator + Copy>(
+    conn: &mut Conn<'_, A>,
+    octets: &[u8],
+    out: &mut Vec<u8, A>,
+) -> Result<usize, ConnFault> {
+    conn.feed(octets, out)
+}
+
+/// What was sent, in hex, and the text of the state.
+pub fn place_of<A: Allocator>(
+    alloc: Global,
+    conn: &Conn<'_, A>,
+    sent: &[u8],
+) -> Result<String, AllocError> {
+    let sent = hex::encode(alloc, sent)?;
+    let state = string_of(alloc, conn)?;
+    format!(in alloc; "{sent} {state}")
+}

@@ -1,0 +1,66 @@
+//! Connections that are opened with an allocation refused. The numbers of a line are the most streams, the size of the
+//! header table, and which answers the book has.
+
+use crate::conns::{book_of, config_of, opened as opened_conn, place_of};
+use crate::heap::Heap;
+use crate::line::Call;
+use crate::trials::Answer;
+use h2_conn::ConnFault;
+use h2_conn::play::open_and_feed;
+use h2_refusing::Refusing;
+use h2_request::book::Book;
+use std::alloc::{AllocError, Global};
+
+/// Why a connection can't be opened; none where it can.
+fn opening_fault<'h>(
+    book: &Book<&'h Heap>,
+    call: &Call<'_>,
+    out: &mut Vec<u8, &'h Heap>,
+) -> Option<ConnFault> {
+    opened_conn(book, config_of(call), out).err()
+}
+
+/// Opens a connection behind an octet with an allocation refused, and once more where it was.
+pub fn opened(alloc: Global, call: &Call<'_>, turn: u64) -> Result<Answer, AllocError> {
+    let heap = Refusing::new(alloc, 0);
+    let book = Book::new(&heap);
+    let mut out = Vec::from_slice(&heap, b"\x01")?;
+    heap.refuse(turn);
+    let first = opening_fault(&book, call, &mut out);
+    let failed = heap.has_refused();
+    let mut text = format!(in alloc; "{first:?} {}", hex::encode(alloc, out.as_slice())?)?;
+    if failed {
+        let second = opening_fault(&book, call, &mut out);
+        write!(
+            text,
+            ", then {second:?} {}",
+            hex::encode(alloc, out.as_slice())?
+        )?;
+    }
+    Ok(Answer { text, failed })
+}
+
+/// What a program prints of a connection that was opened and fed: what was sent, and its state.
+fn played_text<'h>(
+    alloc: Global,
+    book: &Book<&'h Heap>,
+    call: &Call<'_>,
+    out: &mut Vec<u8, &'h Heap>,
+) -> Result<String, AllocError> {
+    match open_and_feed(book, config_of(call), call.piece(0), &[], out) {
+        Ok(conn) => place_of(alloc, &conn, out.as_slice()),
+        Err(fault) => format!(in alloc; "{fault:?}, {} octets sent", out.len()),
+    }
+}
+
+/// Opens a connection and feeds it the first piece, with an allocation refused.
+pub fn played(alloc: Global, call: &Call<'_>, turn: u64) -> Result<Answer, AllocError> {
+    let heap = Refusing::new(alloc, 0);
+    let book = book_of(&heap, call.number(2))?;
+    let mut out = Vec::new(&heap);
+    heap.refuse(turn);
+    Ok(Answer {
+        text: played_text(alloc, &book, call, &mut out)?,
+        failed: heap.has_refused(),
+    })
+}

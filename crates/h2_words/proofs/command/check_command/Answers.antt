@@ -1,0 +1,7 @@
+use Rattle.h2_words.proofs.command.check_command.Goals as goal
+
+pub returns : goal.returns
+returns c =
+    let limits = c.with_limits-command.ensures _ c.described.ensures in
+    let book = c.with_arg-command.ensures _ _ limits c.book_option.ensures in
+    c.with_arg.ensures _ _ book c.case_files.ensures
