@@ -40,7 +40,7 @@ def sources():
 def words(known):
     """The words of all sources."""
     found = set(KIT)
-    for path in {path for paths in known.values() for path in paths if os.path.isfile(path)}:
+    for path in {path for paths in known.values() for path in paths if os.path.isfile(path) and path != "tools/names.py"}:
         found.update(re.findall(r"\w+", open(path, encoding="utf-8", errors="replace").read()))
     return found
 
