@@ -1,5 +1,6 @@
 #!/usr/bin/env bash
-# Words to avoid, each with a better one, in documents and docstrings. What is between backticks, and indented by four spaces in a page, is not looked at.
+# Words to avoid, each with a better one, in documents and docstrings. What is between backticks, indented by four spaces in a page, or in the table of rules
+# that is made from sources, is not looked at.
 #
 #   tools/words.sh              README.md, CONTRIBUTING.md, CHANGELOG.md and docs, but for the pages made from sources
 #   tools/words.sh --since REV  the lines added since a revision, in these and in the comments of *.rt and *.antt
@@ -40,9 +41,14 @@ sources() {
     find crates/*/src crates/*/specs crates/*/proofs -name '*.rt' -o -name '*.antt'
 }
 
+# The places `FILE:NUMBER` of the lines of pages that are made from sources.
+made() {
+    documents | xargs awk '/^<!-- the table of rules/ { inside = 1 } inside { print FILENAME ":" FNR } /^<!-- end of the table of rules/ { inside = 0 }'
+}
+
 # Of lines `FILE:NUMBER:TEXT` those of text, without what is between backticks.
 texts() {
-    grep -vE '^[^:]*\.md:[0-9]*:    ' | grep -E '^[^:]*\.md:|^[^:]*:[0-9]*: *(//|--)' | sed 's/`[^`]*`//g'
+    awk -F: 'FNR == NR { made[$0]; next } !(($1 ":" $2) in made)' "$work/made" - | grep -vE '^[^:]*\.md:[0-9]*:    ' | grep -E '^[^:]*\.md:|^[^:]*:[0-9]*: *(//|--)' | sed 's/`[^`]*`//g'
 }
 
 # The places of such lines that have a word to avoid, and what to write.
@@ -73,6 +79,8 @@ case ${1-} in
         exit 2
         ;;
 esac
+made >"$work/made"
+echo >>"$work/made"
 texts <"$work/lines" >"$work/texts"
 found "$work/texts" | sort -t: -k1,1 -k2,2n >"$work/found"
 if [ "${1-}" = --all ]; then
