@@ -29,6 +29,8 @@ words() {
 \bbehind\b|after
 \bsaid of\b|about
 \bwhat waits\b|the pending output
+\bwhat is left\b|the rest
+\bhas come\b;\bhave come\b|has arrived
 WORDS
 }
 
