@@ -17,10 +17,10 @@ PAGE = "docs/CALLS.md"
 SHORT = 90
 HEAD = """# Calls of the library crates
 
-For each public function: what it does, the clauses of its contract, and the errors that its documentation names. A
-clause is shown whole where it is short; the others are in the source, beside the function. `result` is what the
-function returns, `self.old` and `self.new` are a value before and after the call. [PROOFS.md](PROOFS.md) says how to
-read a contract, and what no contract says. `tools/calls.py` writes this page, and `tests/all` compares it.
+For each public function: what it does, its errors with what each leaves, and the clauses of its contract. A clause is
+shown whole where it is short; the others are in the source, beside the function. `result` is what the function returns,
+`self.old` and `self.new` are a value before and after the call. [PROOFS.md](PROOFS.md) says how to read a contract, and
+what no contract says. `tools/calls.py` writes this page, and `tests/all` compares it.
 """
 FUNCTION = re.compile(r"^(\s*)(pub )?(?:const )?fn (\w+)")
 IMPL = re.compile(r"^(?:unsafe )?impl(?:<.*?>)? (\w+)(?:<.*>)?(?: where .*)? \{$")
@@ -101,15 +101,22 @@ def first_sentence(doc):
     return (ended.group(1) if ended else paragraph).rstrip(".:") + "."
 
 
+def paragraphs(doc):
+    return [re.sub(r"\s+", " ", part).strip() for part in " ".join(doc).split("  ") if part.strip()]
+
+
 def errors(text, doc, known):
-    """The type of a result's error, with the variants that the documentation names."""
+    """The type of a result's error, and what the documentation says of it: the section Errors, or the paragraphs that begin with an error."""
     answer = re.search(r"-> Result<.*, (\w+)(?:<[^<>]*>)?>(?: |$)", re.split(r" (?:requires|ensures)\b", text)[0])
     if not answer:
         return ""
-    name = answer.group(1)
-    named = [word for word in re.findall(r"`(?:\w+::)?(\w+)(?:\([^`]*\))?`", " ".join(doc)) if word in known.get(name, [])]
-    named = list(dict.fromkeys(named))
-    return f"`{name}`" if not named or named == [name] else f"`{name}`: " + ", ".join(f"`{word}`" for word in named)
+    name, said = answer.group(1), paragraphs(doc)
+    if "# Errors" in said:
+        said = said[said.index("# Errors") + 1 :]
+    else:
+        first = [re.match(r"`(?:\w+::)?(\w+)", part) for part in said]
+        said = [part for part, word in zip(said, first) if word and word.group(1) in [name, *known.get(name, [])]]
+    return f" Errors, `{name}`: " + " ".join(said) if said else f" Errors: `{name}`."
 
 
 def shown(clause):
@@ -151,9 +158,8 @@ def page():
             module = os.path.basename(path)
             for name, text, doc in functions(path, module[:-3] in modules, names):
                 rows.append(f"- **`{name}`** ({module}). {first_sentence(doc)}")
-                fault = errors(text, doc, known)
                 said = clauses(text)
-                rows[-1] += f" Errors: {fault}." if fault else ""
+                rows[-1] += errors(text, doc, known)
                 if said:
                     rows.append("  " + "; ".join(shown(clause) for clause in said))
                 count += 1

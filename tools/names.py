@@ -5,7 +5,7 @@ have to be words of some source. Each that is not there is shown with its place.
 
     tools/names.py --check     the last line is `N passed, M failed`, a name each
 
-A word in capitals stands for any name in a path: `tests/runs/TOPIC.run`.
+CRATE, NAME, TOPIC and FILE are any name in a path: `tests/runs/TOPIC.run`.
 """
 
 import glob
@@ -50,8 +50,8 @@ def is_path(word):
 
 
 def exists(path, folder):
-    """Whether a path is there: from the top, from the page's folder, or from a crate's. A word in capitals or in braces is any name."""
-    path = re.sub(r"(?<![a-z0-9_])[A-Z]{3,}(?![a-z0-9_])|\{[^}]*\}", "*", path).rstrip("/").split(":")[0].replace("..", "*")
+    """Whether a path is there: from the top, from the page's folder, or from a crate's."""
+    path = re.sub(r"\b(?:CRATE|NAME|TOPIC|FILE)\b|\{[^}]*\}", "*", path).rstrip("/").split(":")[0].replace("..", "*")
     return any(glob.glob(prefix + path, recursive=True) for prefix in ("", folder + "/", "crates/*/"))
 
 
