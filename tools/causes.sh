@@ -1,6 +1,6 @@
 #!/usr/bin/env bash
-# The examples of causes. First that examples/causes has one script for each cause of h2_spec, and that docs/TABLE.md
-# names each cause once and no other; then that `explain` prints of each script what its .txt says. The last line is
+# The examples of causes. First that examples/causes has one script for each cause of h2_spec, and that the text of
+# docs/TABLE.md names each cause once and no other (its table of rules at the end is checked by tools/duties.py); then that `explain` prints of each script what its .txt says. The last line is
 # `N passed, M failed`, a list of names or a script each.
 #
 #   causes.sh [--program FILE]   the scripts too; FILE is the proved program of this repository unless it is named
@@ -23,7 +23,7 @@ diff "$work/causes" "$work/scripts" || { echo "causes.sh: examples/causes and th
 
 # Other words between backticks that begin with a small letter and have a hyphen are four header fields.
 fields='content-length|keep-alive|proxy-connection|transfer-encoding'
-grep -o '`[a-z]\+\(-[a-z]\+\)\+`' "$top/docs/TABLE.md" | tr -d '`' | grep -vxE "$fields" | sort >"$work/table"
+sed '/^<!-- the table of rules/,$d' "$top/docs/TABLE.md" | grep -o '`[a-z]\+\(-[a-z]\+\)\+`' | tr -d '`' | grep -vxE "$fields" | sort >"$work/table"
 diff "$work/causes" "$work/table" || { echo "causes.sh: docs/TABLE.md and the causes of h2_spec differ" >&2; exit 1; }
 if [ "${1-}" = --names ]; then
     echo "2 passed, 0 failed"

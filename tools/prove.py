@@ -1,12 +1,15 @@
 #!/usr/bin/env python3
 """Proves and builds the program: `h2_bench --prove`.
 
-The crates that the program is made of are copied to a temporary folder, without their must-fail edits, and `rt ci` proves them there: each once those below it are
-proved, side by side as far as processors and memory go, with the processors that are left over as further jobs. What it has proved is kept on this machine, so the
-next call and the gate prove only what has changed since. The program and its second build, by Rattle's own compiler, are then put into crates/h2_program/out, and
-beside them the checksum of the sources that were proved.
+The crates that the program is made of are copied to a temporary folder, without their must-fail edits. `rt ci NAME` proves each there once those below it are proved,
+two side by side where there are two processors; each call gives its crate the half of the processors. What it has proved is kept on this machine, so a later call and
+the gate prove only what has changed since. At the end `rt ci` over all of them takes what is kept, builds the program with both compilers and runs it. The two
+programs are put into crates/h2_program/out, and beside them the checksum of the sources that were proved.
+
+out/proved has the checksums of crates that were proved and kept before: no call is made for these.
 """
 
+import concurrent.futures
 import os
 import re
 import shutil
@@ -20,9 +23,19 @@ import time
 import program
 from program import NAME, PROVED, TOP, say
 
+BEFORE = f"{TOP}/out/proved"
+
+
+class Failed(Exception):
+    """A proof that failed, with what rt said."""
+
+
+class NotKept(Exception):
+    """This machine keeps no proofs, so a call for each crate would prove those below it again and again."""
+
 
 def copy_to(room):
-    """Copies the program's crates and returns how many they are."""
+    """Copies the program's crates, and returns their names, lowest first, with their lines of crates.txt."""
     lines = program.lines_of()
     crates = program.needed(lines)
     os.mkdir(f"{room}/.git")
@@ -31,7 +44,7 @@ def copy_to(room):
     shutil.copyfile(f"{TOP}/HANDLES", f"{room}/HANDLES")
     with open(f"{room}/crates.txt", "w", encoding="utf-8") as file:
         file.writelines(f"{line}\n" for name, line in lines.items() if name in crates)
-    return len(crates)
+    return {name: lines[name] for name in crates}
 
 
 def clock(begun):
@@ -43,47 +56,106 @@ class Progress:
     """How many crates are proved and how long it has taken: one line that is rewritten on a terminal, else a line for each crate."""
 
     def __init__(self, crates):
-        self.crates, self.proved, self.kept, self.begun, self.ended = crates, 0, 0, time.monotonic(), threading.Event()
+        self.crates, self.proved, self.running, self.begun, self.ended = crates, 0, [], time.monotonic(), threading.Event()
         self.is_terminal = sys.stderr.isatty()
         if self.is_terminal:
             threading.Thread(target=self.rewrite, daemon=True).start()
 
-    def take(self, line):
-        found = re.match(r"rt: (\w+) (proved$|is kept: )", line)
-        if found:
-            self.proved += 1
-            self.kept += found[2] != "proved"
-            if not self.is_terminal:
-                say(f"{found[1]} is proved: {self.state()}")
-
-    def state(self):
-        return f"{self.proved} of {self.crates} crates, {clock(self.begun)}"
+    def count(self, name, how):
+        self.proved += 1
+        if not self.is_terminal:
+            say(f"{name} {how}: {self.proved} of {self.crates} crates, {clock(self.begun)}")
 
     def rewrite(self):
         while not self.ended.wait(1):
-            print(f"\r\033[Kh2_bench: proved {self.state()}", end="", file=sys.stderr, flush=True)
+            now = f"; now {' '.join(self.running)}" if self.running else ""
+            print(f"\r\033[Kh2_bench: {self.proved} of {self.crates} crates proved, {clock(self.begun)}{now}", end="", file=sys.stderr, flush=True)
 
     def end(self):
-        self.ended.set()
-        if self.is_terminal:
-            print("\r\033[K", end="", file=sys.stderr, flush=True)
+        if not self.ended.is_set():
+            self.ended.set()
+            if self.is_terminal:
+                print("\r\033[K", end="", file=sys.stderr, flush=True)
 
 
-def run_ci(room, progress):
-    """Runs rt ci in a folder, and returns its status and what it printed."""
-    how = {"stdin": subprocess.DEVNULL, "stdout": subprocess.PIPE, "stderr": subprocess.STDOUT, "errors": "replace", "start_new_session": True}
-    ran = subprocess.Popen(["rt", "ci"], cwd=room, **how)
-    said = []
-    try:
-        for line in ran.stdout:
-            said.append(line)
-            progress.take(line.rstrip("\n"))
-        return ran.wait(), said
-    finally:
-        progress.end()
-        if ran.poll() is None:
-            os.killpg(ran.pid, signal.SIGTERM)
-            ran.wait()
+class Proofs:
+    """The calls of rt in the copy."""
+
+    def __init__(self, room, lines, progress):
+        self.room, self.lines, self.progress, self.begun, self.is_over = room, lines, progress, [], False
+        self.below = {name: [it for it in program.uses(lines, name) if it in lines] for name in lines}
+        self.sums = program.sums_below(lines, room)
+        self.before = set(program.read(BEFORE).split()) if os.path.isfile(BEFORE) else set()
+
+    def rt(self, *words):
+        """Runs rt and returns what it printed."""
+        how = {"stdin": subprocess.DEVNULL, "stdout": subprocess.PIPE, "stderr": subprocess.STDOUT, "errors": "replace", "start_new_session": True}
+        ran = subprocess.Popen(["rt", *words], cwd=self.room, **how)
+        self.begun.append(ran)
+        said = ran.communicate()[0]
+        if ran.returncode:
+            raise Failed(said)
+        return said
+
+    def prove(self, name):
+        self.progress.running.append(name)
+        try:
+            said = self.rt("ci", name)
+        finally:
+            self.progress.running.remove(name)
+        if "and that is kept" not in said:
+            raise NotKept
+        self.before.add(self.sums[name])
+        self.progress.count(name, "was proved before" if re.search(rf"^rt: {name} is kept: ", said, re.M) else "proved")
+
+    def behind(self):
+        """For each crate the lines of it and of the longest chain of crates above it: those are proved first."""
+        lines = {}
+        for name in reversed(self.lines):
+            own = sum(program.read(f"{at}/{it}").count("\n") for at, _, files in os.walk(f"{self.room}/crates/{name}") for it in files if it.endswith((".rt", ".antt")))
+            lines[name] = own + max((lines[it] for it in lines if name in self.below[it]), default=0)
+        return lines
+
+    def prove_each(self):
+        """Proves each crate once those below it are proved."""
+        done = {name for name in self.lines if self.sums[name] in self.before}
+        for name in done:
+            self.progress.count(name, "was proved before")
+        behind, running = self.behind(), {}
+        left = sorted((name for name in self.lines if name not in done), key=lambda name: -behind[name])
+        lanes = min(2, len(os.sched_getaffinity(0)))
+        with concurrent.futures.ThreadPoolExecutor(lanes) as pool:
+            try:
+                while left or running:
+                    for name in [it for it in left if done.issuperset(self.below[it])][: lanes - len(running)]:
+                        left.remove(name)
+                        running[pool.submit(self.prove, name)] = name
+                    for ended in concurrent.futures.wait(running, return_when=concurrent.futures.FIRST_COMPLETED).done:
+                        done.add(running.pop(ended))
+                        ended.result()
+            except BaseException:
+                self.stop()
+                raise
+
+    def stop(self):
+        for ran in self.begun:
+            if ran.poll() is None:
+                os.killpg(ran.pid, signal.SIGTERM)
+
+    def all(self):
+        """Proves each crate, and builds the program."""
+        try:
+            self.prove_each()
+        except NotKept:
+            say("what is proved can't be kept on this machine, so all is proved in one call")
+        finally:
+            self.note()
+        self.rt("ci")
+
+    def note(self):
+        os.makedirs(os.path.dirname(BEFORE), exist_ok=True)
+        with open(BEFORE, "w", encoding="utf-8") as file:
+            file.writelines(f"{it}\n" for it in sorted(self.before & {*self.sums.values()}))
 
 
 def install(room, begun):
@@ -107,15 +179,21 @@ def main():
     program.kit()
     with tempfile.TemporaryDirectory(prefix="h2_bench-prove-") as room:
         begun = time.time()
-        crates = copy_to(room)
-        say(f"proving the {crates} crates that the program is made of: about half an hour where nothing is kept")
-        progress = Progress(crates)
-        status, said = run_ci(room, progress)
-        if status:
-            print("".join(said), end="", file=sys.stderr)
+        lines = copy_to(room)
+        say(f"proving the {len(lines)} crates that the program is made of: about half an hour where none is proved yet")
+        progress = Progress(len(lines))
+        proofs = Proofs(room, lines, progress)
+        try:
+            proofs.all()
+        except Failed as failed:
+            progress.end()
+            print(failed, end="", file=sys.stderr)
             sys.exit(f"h2_bench: the program is not proved, after {clock(progress.begun)}")
+        finally:
+            progress.end()
+            proofs.stop()
         install(room, begun)
-        say(f"proved and built in {clock(progress.begun)}: {progress.proved - progress.kept} of {crates} crates proved now, {progress.kept} kept from earlier")
+        say(f"proved and built in {clock(progress.begun)}")
 
 
 main()

@@ -6,12 +6,13 @@ its example are left out, since they wait for a client. An output that differs i
 
     tools/run-examples.py [--program FILE]     FILE is the proved program of this repository unless it is named
 
-The commands run in a folder that has the repository's files, and the program as h2_bench.
+The commands run in a folder that has the repository's files, and the program as h2_bench. A file that `cat FILE` shows and that is not there is written first.
 """
 
 import glob
 import itertools
 import os
+import re
 import shutil
 import subprocess
 import sys
@@ -64,11 +65,27 @@ def folder_with(program, top):
     return folder
 
 
+def write_shown(block):
+    """Writes the files that a block shows by `cat` and that are not there, and returns their names."""
+    made = []
+    for command, shown in block:
+        name = command.removeprefix("cat ")
+        if name != command and re.fullmatch(r"[\w.-]+", name) and not os.path.exists(name):
+            made.append(name)
+            with open(name, "w", encoding="utf-8") as file:
+                file.write("\n".join(shown).strip("\n") + "\n")
+    return made
+
+
 def results(path):
     """Each example of a page whose output is shown: the command, the lines shown and the lines printed."""
     for block in examples(path):
         block = list(itertools.takewhile(lambda pair: " serve " not in pair[0], block))
-        for (command, shown), got in zip(block, printed([command for command, _ in block])):
+        made = write_shown(block)
+        given = printed([command for command, _ in block])
+        for name in made:
+            os.remove(name)
+        for (command, shown), got in zip(block, given):
             shown = "\n".join(shown).strip("\n")
             if shown:
                 yield command, shown.split("\n"), got

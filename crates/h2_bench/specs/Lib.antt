@@ -1,16 +1,2 @@
-pub mod AnswerParts
-pub mod Reports
-pub mod Books
-pub mod Commands
-pub mod Each
+pub mod Memory
 pub mod ProgramEnd
-pub mod Faults
-pub mod Input
-pub mod Limits
-pub mod Pieces
-pub mod ScriptPrograms
-pub mod TableProgram
-pub mod TableReplies
-pub mod Printing
-pub mod Printed
-pub mod ExplainProgram

@@ -1,20 +1,17 @@
 //! The program `serve`: connections of a port, one after another.
-//! Rests on `books`, h2_words and h2_serve; definitions: `specs/ProgramEnd.antt`, and `Serves` of h2_serve.
+//! Rests on h2_commands, h2_words and h2_serve; definitions: `specs/ProgramEnd.antt`, and `Serves` of h2_serve.
 
-ghost use Rattle.std.specs.Prelude.{◌≡◌, ◌⊎◌, ℕ, Some, None, false, IsOk, OnOk, OnErr};
-ghost use Rattle.h2_spec.specs.declared.connection.Config.{Config};
-ghost use Rattle.h2_words.specs.Grammar.{BookAsked, asked_of, serve};
+ghost use Rattle.std.specs.Prelude.{◌≡◌, ◌⊎◌, false, IsOk, OnOk, OnErr};
 ghost use Rattle.h2_words.specs.Plans.{book_asked};
-ghost use Rattle.h2_bench.specs.Books.{book_said};
-ghost use Rattle.h2_bench.specs.ProgramEnd.{IsServed, KnowsFile, asks_why, is_serve};
+ghost use Rattle.h2_commands.specs.Books.{book_said};
+ghost use Rattle.h2_commands.specs.CommandEnd.{KnowsFile};
+ghost use Rattle.h2_bench.specs.ProgramEnd.{IsServed};
 
-use crate::books::book_for_words;
-use crate::fault::BenchFault;
 use h2_book::Files;
+use h2_commands::{BenchFault, book_for_words};
 use h2_device::Output;
 use h2_serve::{ServeFault, listen_and_serve};
-use h2_words::Words;
-use h2_words::command::{Plan, Refusal, Serve, parse};
+use h2_words::command::Serve;
 use std::alloc::Global;
 use std::io::Write;
 use std::net::{Net, TcpListener, TcpStream};
@@ -43,8 +40,11 @@ fn status_of<W: Write>(output: &mut W, ended: Result<(), ServeFault>) -> u8
     }
 }
 
-/// Makes the book of a server, and serves.
-fn serve_plan<N: Net<Listener = TcpListener, Stream = TcpStream>, F: Files, W: Write, E: Output>(
+/// Serves connections of a port, as the words asked, and gives the exit status. The book is made first, then the port is
+/// listened on.
+///
+/// 0: all connections were served. 1: a fault ended it, and its line was written. 3: the output failed.
+pub fn serve<N: Net<Listener = TcpListener, Stream = TcpStream>, F: Files, W: Write, E: Output>(
     alloc: Global,
     net: &N,
     plan: &Serve<'_>,
@@ -56,6 +56,7 @@ fn serve_plan<N: Net<Listener = TcpListener, Stream = TcpStream>, F: Files, W: W
         → IsServed plan.now.config plan.now.port plan.now.count (W.contents output.old) (W.contents output.new) }
     ensures made { result ≡ 0 → KnowsFile plan.now.book.file.now (F.is_printed files.old)
         → IsOk (book_said (F.file files.old) (book_asked plan.now.book)) }
+    ensures status { (result ≡ 0) ⊎ ((result ≡ 1) ⊎ (result ≡ 3)) }
     ensures quiet { plan.now.book.why ≡ false → errors.new ≡ errors.old }
 {
     let book = match book_for_words(alloc, &plan.book, files, errors) {
@@ -67,36 +68,4 @@ fn serve_plan<N: Net<Listener = TcpListener, Stream = TcpStream>, F: Files, W: W
     };
     let ended = listen_and_serve(alloc, net, &book, plan.config, port, plan.count, output);
     status_of(output, ended)
-}
-
-/// Does what the words ask for where that is `serve`, and gives the exit status; `None` where they ask for something
-/// else or are refused.
-///
-/// The book is made first, then the port is listened on. 0: all connections were served. 1: a fault ended it, and its
-/// line was written; also where memory is refused for the words, whatever they ask for. 3: the output failed.
-pub fn serve<N: Net<Listener = TcpListener, Stream = TcpStream>, F: Files, W: Write, E: Output>(
-    alloc: Global,
-    net: &N,
-    words: &Words,
-    files: &mut F,
-    output: &mut W,
-    errors: &mut E,
-) -> Option<u8>
-    ensures other { result ≡ None → (is_serve (asked_of words.now) ≡ false)
-        × (W.contents output.new ≡ W.contents output.old) × (errors.new ≡ errors.old) }
-    ensures served { (config : Config) → (port : ℕ) → (count : ℕ) → (book : BookAsked)
-        → asked_of words.now ≡ Some (serve config port count book) → result ≡ Some 0
-        → IsServed config port count (W.contents output.old) (W.contents output.new) }
-    ensures made { (config : Config) → (port : ℕ) → (count : ℕ) → (book : BookAsked)
-        → asked_of words.now ≡ Some (serve config port count book) → result ≡ Some 0
-        → KnowsFile book.file (F.is_printed files.old) → IsOk (book_said (F.file files.old) book) }
-    ensures nothing { is_serve (asked_of words.now) ≡ false → result ≡ Some 0 → ⊥ }
-    ensures quiet { asks_why (asked_of words.now) ≡ false → errors.new ≡ errors.old }
-{
-    match parse(alloc, words) {
-        Ok(Plan::Serve(plan)) => Some(serve_plan(alloc, net, &plan, files, output, errors)),
-        Ok(Plan::Batch(_)) | Ok(Plan::Debug(_)) | Ok(Plan::Explain(_)) | Ok(Plan::Check(_)) => None,
-        Err(Refusal::Words(_)) => None,
-        Err(Refusal::NoMemory) => Some(refuse(output, BenchFault::NoMemory)),
-    }
 }

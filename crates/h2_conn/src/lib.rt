@@ -28,4 +28,5 @@ pub use conn::Conn;
 pub use fault::ConnFault;
 pub use mark::Mark;
 pub use one::One;
+pub use opening::write_opening;
 pub use report::TakenItem;

@@ -1,9 +1,9 @@
 -- Heads of items, frames in octets, and breakpoints.
-use Rattle.std.proofs.Common.{◌≡◌, ◌∙◌, ℕ, ◌+◌, ◌*◌, ◌/◌, ◌%◌, ◌<◌, ◌≤◌, List, [], ◌∷◌, ◌++◌, length, drop, Bool, true, false, cond, Option, Some, None, ◌==◌, nat_eq, eqb, ltb, refl, sym, ap, arith, drop_of_length-le, length-append, length-drop, le-ltb, ltb-true, eq-eqb}
-use Rattle.std.proofs.lemmas.Bool.{cond_both, ltb-false, ne_eqb}
+use Rattle.std.proofs.Common.{◌≡◌, ◌∙◌, ◌⊎◌, inl, inr, ℕ, zero, suc, ◌+◌, ◌*◌, ◌/◌, ◌%◌, ◌<◌, ◌≤◌, List, [], ◌∷◌, ◌++◌, length, drop, Bool, true, false, cond, Option, Some, None, ◌==◌, nat_eq, eqb, ltb, refl, sym, ap, subst, true≢false, arith, drop_of_length-le, length-append, length-drop, le-ltb, ltb-true, eq-eqb}
+use Rattle.std.proofs.lemmas.Bool.{cases_lt, cond_both, ltb-false, ne_eqb}
 use Rattle.std.proofs.lemmas.List.{drop-drop}
 use Rattle.std.specs.List.{common_prefix_len, list_any}
-use Rattle.std.specs.Prelude.{nat_lt, slice_range}
+use Rattle.std.specs.Prelude.{nat_lt, slice_get, slice_range}
 use Rattle.h2_spec.specs.declared.connection.Phase.{Phase}
 use Rattle.h2_spec.specs.declared.connection.Phase.TheVariants as phase
 use Rattle.h2_spec.specs.declared.frames.Head.{Head}
@@ -15,6 +15,7 @@ use Rattle.h2_spec.specs.Trace.{Event, event_on, next_event, next_in, next_item}
 use Rattle.h2_conn.specs.Connection.{awaits_preface}
 use Rattle.h2_conn.specs.Does.{AreShort, IsShortFrame}
 use Rattle.h2_debug.specs.Items.{IsItem, head_of_item}
+use Rattle.h2_debug.specs.Stops.{IsMatched, IsStop, event_to}
 use Rattle.h2_debug.specs.Places.{Placed, Source, TakesItem, events}
 
 -- ---- the head of an item
@@ -212,3 +213,73 @@ stop-goes breaks es p within goes = go (ltb p (length es)) refl
     go : (t : Bool) → ltb p (length es) ≡ t → p < length es
     go true e = ltb-true p (length es) e
     go false e = absurd (goes (stop-end breaks es p (omega (arith, ltb-false p (length es) e, within))))
+
+-- ---- in the words of breakpoints
+
+-- the item behind those that are dropped
+slice-behind : (es more : List Event) (e : Event) (p : ℕ) → drop p es ≡ e ∷ more → slice_get es p ≡ Some e
+slice-behind [] more e zero h = cc
+slice-behind [] more e (suc p) h = cc
+slice-behind (x ∷ xs) more e zero h = let same : x ≡ e = cc in ap Some same
+slice-behind (x ∷ xs) more e (suc p) h = slice-behind xs more e p h
+
+event-behind : (es more : List Event) (e : Event) (p : ℕ) → drop p es ≡ e ∷ more → event_to es (p + 1) ≡ Some e
+event-behind es more e p h = let next : p + 1 ≡ suc p = omega arith in ap (event_to es) next ∙ slice-behind es more e p h
+
+-- behind an item that does not match, a stop is one of the run from before it
+stop-passes : (breaks : List Break) (es : List Event) (p q : ℕ) (e : Event) → event_to es (p + 1) ≡ Some e → list_any (matches (p + 1) e) breaks ≡ false → IsStop breaks es (p + 1) q → IsStop breaks es p q
+stop-passes breaks es p q e item other x = record {
+  later = omega (arith, x.later);
+  within = x.within;
+  here = x.here;
+  first = λ r above below matched. by r above below matched (cases_lt (p + 1) r);
+}
+  where
+    by : (r : ℕ) → p < r → r < q → IsMatched breaks es r → (p + 1 < r) ⊎ (r ≤ p + 1) → ⊥
+    by r above below matched (inl after) = x.first r after below matched
+    by r above below matched (inr before) =
+        let same : r ≡ p + 1 = omega (arith, above, before) in
+        let m : IsMatched breaks es (p + 1) = subst (λ (n : ℕ). IsMatched breaks es n) same matched in
+        let one : m.0 ≡ e = cc (sym m.1 ∙ item) in
+        true≢false (sym m.2 ∙ ap (λ (y : Event). list_any (matches (p + 1) y) breaks) one ∙ other)
+
+stop-from : (breaks : List Break) (es later : List Event) (p : ℕ) → drop p es ≡ later → p < length es → IsStop breaks es p (stop_from breaks (p + 1) later)
+stop-from breaks es [] p h more = absurd (omega (arith, length-drop p es, ap length h, more))
+stop-from breaks es (e ∷ later) p h more =
+    cond_both (list_any (matches (p + 1) e) breaks) (p + 1) (stop_from breaks (p + 1 + 1) later) (λ (q : ℕ). IsStop breaks es p q)
+    (λ this. record { later = omega arith; within = omega (arith, more); here = inl (e, item, this); first = λ r above below matched. absurd (omega (arith, above, below)) })
+    (λ other. behind later refl other (λ further. stop-from breaks es later (p + 1) next further))
+  where
+    item : event_to es (p + 1) ≡ Some e
+    item = event-behind es later e p h
+    next : drop (p + 1) es ≡ later
+    next = sym (drop-drop 1 p es) ∙ ap (drop 1) h
+    behind : (rest : List Event) → later ≡ rest → list_any (matches (p + 1) e) breaks ≡ false → (p + 1 < length es → IsStop breaks es (p + 1) (stop_from breaks (p + 1 + 1) later)) → IsStop breaks es p (stop_from breaks (p + 1 + 1) later)
+    behind [] none other further =
+        let last : p + 1 ≡ length es = omega (arith, length-drop p es, ap length h, ap length none) in
+        let is : stop_from breaks (p + 1 + 1) later ≡ p + 1 = ap (λ (xs : List Event). stop_from breaks (p + 1 + 1) xs) none ∙ omega arith in
+        rw is (record { later = omega arith; within = omega (arith, last); here = inr last; first = λ r above below matched. absurd (omega (arith, above, below)) })
+    behind (x ∷ xs) some other further =
+        let more : p + 1 < length es = omega (arith, length-drop p es, ap length h, ap length some) in
+        stop-passes breaks es p _ e item other (further more)
+
+-- the computed position is one where the run stops
+pub stop-is : (breaks : List Break) (es : List Event) (p : ℕ) → p < length es → IsStop breaks es p (stop breaks es p)
+unfolding stop
+stop-is breaks es p more = stop-from breaks es (drop p es) p refl more
+
+-- of two such positions neither comes first
+not-before : (breaks : List Break) (es : List Event) (p q r : ℕ) → IsStop breaks es p q → IsStop breaks es p r → q < r → ⊥
+not-before breaks es p q r x y before = elim x.here [
+  | inl matched ↦ y.first q x.later before matched
+  | inr last ↦ omega (arith, last, before, y.within)
+]
+
+-- and it is the only one
+pub stop-only : (breaks : List Break) (es : List Event) (p q : ℕ) → p < length es → IsStop breaks es p q → q ≡ stop breaks es p
+stop-only breaks es p q more x = by (cases_lt q (stop breaks es p)) (cases_lt (stop breaks es p) q)
+  where
+    by : (q < stop breaks es p) ⊎ (stop breaks es p ≤ q) → (stop breaks es p < q) ⊎ (q ≤ stop breaks es p) → q ≡ stop breaks es p
+    by (inl below) other = absurd (not-before breaks es p q (stop breaks es p) x (stop-is breaks es p more) below)
+    by (inr above) (inl below) = absurd (not-before breaks es p (stop breaks es p) q (stop-is breaks es p more) x below)
+    by (inr above) (inr most) = omega (arith, above, most)

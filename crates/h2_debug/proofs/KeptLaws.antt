@@ -5,7 +5,8 @@ use Rattle.std.proofs.Math.Nat.{lt-div-mul-add, mul-div-le}
 use Rattle.std.proofs.lemmas.Bool.{cases_lt, cond_both, le-leb, leb-false, leb-true}
 use Rattle.h2_spec.specs.Parse.{Front, Stop, One, Parsed, parse_all, parse_first, parse_upto}
 use Rattle.h2_spec.specs.Trace.{next_event, trace}
-use Rattle.h2_debug.specs.Debugging.{Debugging, IsKept, farthest_or, nearest_kept, replay_count}
+use Rattle.h2_debug.proofs.PlaceLaws.{place-anew}
+use Rattle.h2_debug.specs.Debugging.{Debugging, IsKept, farthest_or, nearest_kept, reached_among, replay_count, replay_start}
 use Rattle.h2_conn.specs.Connection.{Connection, going}
 use Rattle.h2_conn.specs.Mark.{IsConsistent, Precedes}
 use Rattle.h2_conn.specs.Marks.{Follows}
@@ -66,7 +67,7 @@ end-few r = few-upto next_event (length r.octets) (start r) r.octets
 -- ---- a debugger moves
 
 -- a place and what is kept of it
-pub place-restored : (k : Kept) (p : Placed) (c : Connection) → k ≡ kept_of p → c ≡ p.connection → record { connection = c; position = k.position; used = k.used; reasons = k.reasons; sent = k.sent } ≡ p
+pub place-restored : (k : Kept) (p : Placed) (c : Connection) → k ≡ kept_of p → c ≡ p.connection → record { connection = c; position = k.position; used = k.used; ran = 0; reasons = k.reasons; sent = k.sent } ≡ record p { ran = 0 }
 place-restored k p c e h = rw (e, h) refl
 
 pub kept-start : (r : Source) (p : Placed) → IsAt r p → p.position ≡ 0 → IsKept r p p [] 0 0
@@ -171,3 +172,44 @@ replay-few target d =
   where
     high : min target d.reached < min target d.reached / 64 * 64 + 64
     high = lt-div-mul-add {a = min target d.reached} {b = 64} (omega arith)
+
+-- the items that a debugger takes are counted anew, and none were run again
+pub kept-anew : (r : Source) (now : Placed) (o : Option Placed) (ks : List Kept) (reached replayed : ℕ) → IsKept r now (farthest_or o now) ks reached replayed
+    → IsKept r (record now { ran = 0 }) (farthest_or o (record now { ran = 0 })) ks reached 0
+kept-anew r now None ks reached replayed k = record {
+  now = place-anew r now k.now;
+  far_is = record { here = place-anew r now k.now; as_far = k.far_is.as_far };
+  kept_is = k.kept_is;
+  below = k.below;
+  due = k.due;
+  within = k.within;
+  reached_is = k.reached_is;
+  few = omega arith;
+}
+kept-anew r now (Some far) ks reached replayed k = record {
+  now = place-anew r now k.now;
+  far_is = k.far_is;
+  kept_is = k.kept_is;
+  below = k.below;
+  due = k.due;
+  within = k.within;
+  reached_is = k.reached_is;
+  few = omega arith;
+}
+
+-- ---- items that are run again
+
+among-one : (reached s n count : ℕ) → count ≡ min (s + n) reached - s → count + cond (nat_le (s + suc n) reached) 1 0 ≡ min (s + suc n) reached - s
+among-one reached s n count h =
+    cond_both (nat_le (s + suc n) reached) 1 0 (λ (one : ℕ). count + one ≡ min (s + suc n) reached - s)
+    (λ low. let le = leb-true (s + suc n) reached low in omega (arith, h, le)) (λ high. let gt = leb-false (s + suc n) reached high in omega (arith, h, gt))
+
+among-all : (reached s n : ℕ) → reached_among reached s n ≡ min (s + n) reached - s
+among-all reached s zero = omega arith
+among-all reached s (suc n) = among-one reached s n (reached_among reached s n) (among-all reached s n)
+
+pub replay-counted : (p : ℕ) (d : Debugging) → replay_count p d ≡ reached_among d.reached (replay_start p d) (p - replay_start p d)
+replay-counted p d =
+    let s : ℕ = replay_start p d in
+    let all : reached_among d.reached s (p - s) ≡ min (s + (p - s)) d.reached - s = among-all d.reached s (p - s) in
+    omega (arith, all)

@@ -1,13 +1,14 @@
 -- From one place of a run to the next.
-use Rattle.std.proofs.Common.{◌≡◌, ◌∙◌, ◌⊎◌, inl, inr, ℕ, zero, suc, ◌+◌, ◌<◌, ◌≤◌, List, [], ◌∷◌, length, drop, refl, sym, ap, subst, arith, length-drop, Bool, false, cond, Some, None, ◌==◌}
+use Rattle.std.proofs.Common.{◌≡◌, ◌∙◌, ◌⊎◌, inl, inr, ℕ, zero, suc, ◌+◌, ◌<◌, ◌≤◌, List, [], ◌∷◌, length, drop, refl, sym, ap, subst, arith, length-drop, lt-ltb, le-ltb, Bool, true, false, cond, Some, None, ◌==◌}
 use Rattle.std.proofs.lemmas.Bool.{cases_lt, ne_eqb}
 use Rattle.std.proofs.lemmas.List.{append-nil, drop-drop}
+use Rattle.std.specs.Prelude.{nat_lt}
 use Rattle.h2_spec.specs.Debug.{state_at, sent_at}
 use Rattle.h2_spec.specs.Frame.{Frame, frames_octets, head_at, Next, NoItem, Got}
 use Rattle.h2_spec.specs.Opening.{opening_octets}
 use Rattle.h2_spec.specs.Parse.{Front, Stop, One, Parsed, parse_all, parse_first}
 use Rattle.h2_spec.specs.State.{State}
-use Rattle.h2_spec.specs.Trace.{Event, event_on, next_event, next_item, step, trace}
+use Rattle.h2_spec.specs.Trace.{Event, event_on, next_event, next_in, next_item, step, trace}
 use Rattle.h2_spec.proofs.ParseLaws.{Uses, parse_all-step}
 use Rattle.h2_spec.proofs.TraceLaws.{event-uses}
 use Rattle.h2_conn.specs.Connection.{Connection, awaits_preface, going}
@@ -19,7 +20,8 @@ use Rattle.h2_conn.specs.Marks.{Follows}
 use Rattle.h2_conn.proofs.Items.{comes-past}
 use Rattle.h2_conn.proofs.MarkLaws.{follows-refl, follows-then}
 use Rattle.h2_debug.proofs.BreakLaws.{comes-head}
-use Rattle.h2_debug.specs.Places.{Source, Placed, IsAt, TakesItem, HasNoItem, start, events, at, frames_at, reasons_at}
+use Rattle.h2_debug.specs.Items.{is_item}
+use Rattle.h2_debug.specs.Places.{Source, Placed, IsAt, TakesItem, HasNoItem, Advances, start, end, events, at, frames_at, reasons_at}
 
 -- ---- the items of octets
 
@@ -89,11 +91,12 @@ taken-reasons s t b out out' used taken y w = event-reasons s t (next_item s b) 
 
 -- ---- the start
 
-pub place-start : (r : Source) (c : Connection) (sent : List ℕ) → c ≡ going (start r) [] → sent ≡ opening_octets r.config → IsAt r (record { connection = c; position = 0; used = 0; reasons = no_reasons; sent = sent })
+pub place-start : (r : Source) (c : Connection) (sent : List ℕ) → c ≡ going (start r) [] → sent ≡ opening_octets r.config → IsAt r (record { connection = c; position = 0; used = 0; ran = 0; reasons = no_reasons; sent = sent })
 unfolding opening_octets
 place-start r c sent new said = record {
   within = omega arith;
   counted = omega arith;
+  few = omega arith;
   used = omega arith;
   goes = new;
   later = refl;
@@ -120,7 +123,7 @@ follows-next r n earlier one q le = by (cases_lt n q)
 
 pub place-next : (r : Source) (p : Placed) (c' : Connection) (out : List ℕ) (taken : TakenItem) → IsAt r p → c' ≡ going c'.state [] → TakesFirst p.connection.state (drop p.used r.octets) [] c'.state out taken.used
     → Follows p.connection.state c'.state → Some taken ≡ reported p.connection.state (next_item p.connection.state (drop p.used r.octets))
-    → TakesItem r p (record { connection = c'; position = p.position + 1; used = p.used + taken.used; reasons = reasons_by taken; sent = out }) × (p.used + taken.used ≤ length r.octets)
+    → TakesItem r p (record { connection = c'; position = p.position + 1; used = p.used + taken.used; ran = p.ran + 1; reasons = reasons_by taken; sent = out }) × (p.used + taken.used ≤ length r.octets)
 place-next r p c' out taken x g y f w =
     let count : ℕ = taken.used in
     let s : State = at r p.position in
@@ -140,6 +143,7 @@ place-next r p c' out taken x g y f w =
         place = record {
           within = next-within p.position (events r) _ y.event first;
           counted = omega (arith, x.counted, uses.0);
+          few = omega (arith, x.few);
           used = within;
           goes = g ∙ ap (λ (u : State). going u []) (sym state');
           later = next-later p.position (events r) _ y.event first ∙ ap (λ (u : State). (trace u (drop (p.used + count) r.octets)).events) (sym state');
@@ -149,6 +153,7 @@ place-next r p c' out taken x g y f w =
           follows = follows-next r p.position x.follows (subst (Follows s) (sym state') (subst (λ (u : State). Follows u t) state f));
         };
         next = refl;
+        ran = refl;
         event = y.event;
         first = first ∙ ap (λ (es : List Event). y.event ∷ es) (sym (next-later p.position (events r) _ y.event first));
         item = record {
@@ -168,3 +173,43 @@ place-last r p c' x g e none =
     let empty : drop p.position (events r) ≡ [] = x.later ∙ events-stop s (drop p.used r.octets) (rw (← state) none) in
     let same : c' ≡ p.connection = g ∙ ap (λ (u : State). going u []) (e ∙ state) ∙ sym x.goes in
     record { same = ap (λ (d : Connection). record p { connection = d }) same; last = none-last p.position (events r) x.within empty }
+
+-- ---- whether one follows
+
+-- where an item was to come, one was taken
+pub place-took : (r : Source) (before after : Placed) (b : Bool) → Advances r before after b → before.position < end r → TakesItem r before after
+place-took r before after true x more = x
+place-took r before after false x more = absurd (omega (arith, x.last, more))
+
+item-follows : (s : State) (n : Next) (b : List ℕ) (k : ℕ) (es : List Event) → event_on s n ≡ next_event s b → drop k es ≡ (trace s b).events → k ≤ length es → is_item n ≡ nat_lt k (length es)
+item-follows s NoItem b k es is later within =
+    let last : k ≡ length es = none-last k es within (later ∙ events-stop s b (sym is)) in
+    sym (le-ltb k (length es) (omega (arith, last)))
+item-follows s (Got x used) b k es is later within =
+    let one = events-one s (step s x).state b _ used (sym is) in
+    let more : k + 1 ≤ length es = next-within k es _ _ (later ∙ one) in
+    sym (lt-ltb k (length es) (omega (arith, more)))
+
+-- an item follows exactly where this is not the end
+pub place-more : (r : Source) (p : Placed) → IsAt r p → is_item (next_in p.connection.state.core.phase p.connection.state.core.own.frame (drop p.used r.octets)) ≡ nat_lt p.position (end r)
+unfolding next_event next_item
+place-more r p x =
+    let s : State = at r p.position in
+    let state : p.connection.state ≡ s = ap (λ (d : Connection). d.state) x.goes in
+    rw state (item-follows s (next_item s (drop p.used r.octets)) (drop p.used r.octets) p.position (events r) refl x.later x.within)
+
+-- ---- items are counted anew
+
+pub place-anew : (r : Source) (p : Placed) → IsAt r p → IsAt r (record p { ran = 0 })
+place-anew r p x = record {
+  within = x.within;
+  counted = x.counted;
+  few = omega arith;
+  used = x.used;
+  goes = x.goes;
+  later = x.later;
+  begun = x.begun;
+  reasons = x.reasons;
+  sent = x.sent;
+  follows = x.follows;
+}

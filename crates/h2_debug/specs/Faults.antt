@@ -20,6 +20,11 @@ abbrev pub start_fault : (position : ℕ) → DebugFault
 start_fault zero = AtStart
 start_fault (suc p) = NoMemory
 
+-- that no item follows is seen before any memory is needed
+abbrev pub end_fault : (is_end : Bool) → DebugFault
+end_fault true = AtEnd
+end_fault false = NoMemory
+
 -- out of memory, or the named fault and its cause holds
 abbrev pub IsRefused : DebugFault → Type 0 → DebugFault → Type 0
 IsRefused named cause fault = (fault ≡ NoMemory) ⊎ ((fault ≡ named) × cause)

@@ -4,3 +4,4 @@ pub mod Faults
 pub mod Items
 pub mod Places
 pub mod Reasons
+pub mod Stops

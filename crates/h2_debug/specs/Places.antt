@@ -53,12 +53,13 @@ cause_at r p = (reasons_at r p).cause
 abbrev pub ignored_at : Source → ℕ → Option Ignored
 ignored_at r p = (reasons_at r p).ignored
 
--- a connection, how many items it took, how many octets it was fed, why the last item was an error or was ignored, and
--- what was sent for it
+-- a connection, how many items came before, how many octets it was fed, how many items it took itself, why the last
+-- item was an error or was ignored, and what was sent for it
 pub record Placed : Type 0 where
   pub connection : Connection
   pub position : ℕ
   pub used : ℕ
+  pub ran : ℕ
   pub reasons : Reasons
   pub sent : List ℕ
 
@@ -66,6 +67,7 @@ pub record Placed : Type 0 where
 pub record IsAt (r : Source) (p : Placed) : Type 0 where
   pub within : p.position ≤ end r
   pub counted : p.position ≤ p.used
+  pub few : p.ran ≤ p.position
   pub used : p.used ≤ length r.octets
   pub goes : p.connection ≡ going (at r p.position) []
   pub later : drop p.position (events r) ≡ (trace (at r p.position) (drop p.used r.octets)).events
@@ -74,10 +76,11 @@ pub record IsAt (r : Source) (p : Placed) : Type 0 where
   pub sent : p.sent ≡ sent_octets_at r p.position
   pub follows : (q : ℕ) → q ≤ p.position → Follows (at r q) (at r p.position)
 
--- the next item was taken
+-- the next item was taken, and counted
 pub record TakesItem (r : Source) (before after : Placed) : Type 0 where
   pub place : IsAt r after
   pub next : after.position ≡ before.position + 1
+  pub ran : after.ran ≡ before.ran + 1
   pub event : Event
   pub first : drop before.position (events r) ≡ event ∷ drop after.position (events r)
   pub item : IsItem after.position (drop before.used r.octets) after.sent event

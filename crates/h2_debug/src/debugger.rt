@@ -4,17 +4,18 @@
 //! Rests on `forward`; definitions: h2_spec's `specs/Debug.antt` for positions and breakpoints,
 //! `specs/Debugging.antt` for what a debugger represents.
 
-ghost use Rattle.std.specs.Prelude.{◌≡◌, ◌⊎◌, ◌+◌, ◌-◌, ◌<◌, ◌≤◌, ◌==◌, [], ◌∷◌, ◌++◌, IfErr, IfOk, IfSome, OnErr, OnOk, length, min, slice_get, nat_le, ◌&&◌, false, true, None, Some, if◌then◌else◌};
+ghost use Rattle.std.specs.Prelude.{◌≡◌, ◌⊎◌, ◌+◌, ◌-◌, ◌<◌, ◌≤◌, ◌==◌, [], ◌∷◌, nat_lt, ◌++◌, IfErr, IfOk, IfSome, OnErr, OnOk, length, min, slice_get, nat_le, ◌&&◌, false, true, None, Some, if◌then◌else◌};
 ghost use Rattle.h2_spec.specs.Debug.{AtPosition, OnSent, OnStream, OnType, stop};
 ghost use Rattle.h2_spec.specs.Show.{show};
 ghost use Rattle.h2_spec.specs.View.{view};
 ghost use Rattle.std.specs.String.{string_bytes};
 ghost use Rattle.h2_spec.specs.State.{is_allowed};
 ghost use Rattle.h2_debug.specs.Debugging as spec;
-ghost use Rattle.h2_debug.specs.Debugging.{farthest_or, moved, moved_counting, replay_start};
-ghost use Rattle.h2_debug.specs.Faults.{IsRefused, load_fault, start_fault};
+ghost use Rattle.h2_debug.specs.Debugging.{farthest_or, moved, moved_by, moved_counting, replay_start};
+ghost use Rattle.h2_debug.specs.Faults.{IsRefused, end_fault, load_fault, start_fault};
 ghost use Rattle.h2_debug.specs.Places.{IsAt, at, cause_at, end, events, ignored_at, sent_octets_at};
-ghost use Rattle.h2_debug.specs.declared.fault.DebugFault.TheVariants.{AtEnd, NoMemory, OutOfRange};
+ghost use Rattle.h2_debug.specs.Stops.{IsStop};
+ghost use Rattle.h2_debug.specs.declared.fault.DebugFault.TheVariants.{NoMemory, OutOfRange};
 
 use crate::breakpoints::Break;
 use crate::fault::DebugFault;
@@ -35,8 +36,8 @@ use std::mem;
 /// A position in the run of a new connection over octets.
 ///
 /// Position `p` is the state after `p` items; the end is the number of items in the octets.
-/// A contract sees the run, the breakpoints, the position, the greatest position that was reached, and how many items
-/// the last `back` or `go` ran again.
+/// A contract sees the run, the breakpoints, the position, the greatest position that was reached, how many items were
+/// run to the present position since the last `back` or `go` began, and how many of its items that one ran again.
 /// Where a call is refused the debugger is as it was.
 pub struct Debugger<'b, A: Allocator> {
     book: &'b Book<A>,
@@ -58,7 +59,7 @@ impl<'b, A: Allocator> Model for Debugger<'b, A> {
 
     ghost Value = { Debugging };
 
-    ghost view = { λ d. record { run = record { book = d.book.now; config = d.config; octets = d.octets.items }; breaks = map break_of d.breaks.items; position = d.present.position; reached = d.reached; replayed = d.replayed } };
+    ghost view = { λ d. record { run = record { book = d.book.now; config = d.config; octets = d.octets.items }; breaks = map break_of d.breaks.items; position = d.present.position; reached = d.reached; ran = d.present.ran; replayed = d.replayed } };
 
     ghost invariant = { λ d. IsKept (record { book = d.book.now; config = d.config; octets = d.octets.items }) d.present (farthest_or d.farthest d.present) d.kept.items d.reached d.replayed };
 }
@@ -135,7 +136,7 @@ impl<'b, A: Allocator + Copy> Debugger<'b, A> {
     /// `BadConfig` where a limit or a setting is outside its range (`Config::is_allowed`); otherwise
     /// `NoMemory`.
     pub fn load(book: &'b Book<A>, config: Config, octets: Vec<u8, A>) -> Result<Self, DebugFault>
-        ensures ok { IfOk result (λ d. d ≡ record { run = record { book = book.now; config = config; octets = octets.items }; breaks = []; position = 0; reached = 0; replayed = 0 }) }
+        ensures ok { IfOk result (λ d. d ≡ record { run = record { book = book.now; config = config; octets = octets.items }; breaks = []; position = 0; reached = 0; ran = 0; replayed = 0 }) }
         ensures allowed { OnOk result (is_allowed config ≡ true) }
         ensures fault { IfErr result (λ fault. fault ≡ load_fault (is_allowed config)) }
     {
@@ -166,9 +167,21 @@ impl<'b, A: Allocator + Copy> Debugger<'b, A> {
 
     /// A copy of the present place; `AllocError` if it is out of memory.
     fn copy_present(&self) -> Result<Place<'b, A>, AllocError>
-        ensures { IfOk result (λ p. IsAt self.now.run p × (p.position ≡ self.now.position)) }
+        ensures { IfOk result (λ p. IsAt self.now.run p × (p.position ≡ self.now.position) × (p.ran ≡ self.now.ran)) }
     {
         self.present.try_clone()
+    }
+
+    /// Whether an item follows. It takes no memory.
+    fn has_next(&self) -> bool
+        ensures { result ≡ nat_lt self.now.position (end self.now.run) }
+    {
+        let source = Source {
+            book: self.book,
+            config: self.config,
+            octets: self.octets.as_slice(),
+        };
+        self.present.has_next(&source)
     }
 
     /// The farthest place: the present one, or one where the debugger was before it moved back.
@@ -183,15 +196,17 @@ impl<'b, A: Allocator + Copy> Debugger<'b, A> {
     }
 
     /// The place where a move to a position starts: the greatest one of which a mark is kept that is not after it, or
-    /// the present one where that is between the two.
+    /// the present one where that is between the two. It has taken no item yet.
     /// `AllocError` if it is out of memory.
     fn start_for(&self, target: usize) -> Result<Place<'b, A>, AllocError>
-        ensures { IfOk result (λ p. IsAt self.now.run p × (p.position ≡ replay_start target self.now)) }
+        ensures { IfOk result (λ p. IsAt self.now.run p × (p.position ≡ replay_start target self.now) × (p.ran ≡ 0)) }
     {
         let index = target.min(self.reached) / SPACING;
         let near = is_between(index * SPACING, self.present.position(), target);
         if near {
-            return self.copy_present();
+            let mut place = self.copy_present()?;
+            place.count_anew();
+            return Ok(place);
         }
         kept_at(self.kept.as_slice(), index).restore(self.farthest_place())
     }
@@ -207,7 +222,7 @@ impl<'b, A: Allocator + Copy> Debugger<'b, A> {
         requires place { IsAt self.old.run place }
         requires known { place.position ≤ self.old.reached }
         requires ahead { place.position ≤ target }
-        ensures some { IfOk result (λ moves. IfSome moves (λ p. (p ≡ min target (end self.old.run)) × (least ≤ p) × (self.new ≡ moved p self.old))) }
+        ensures some { IfOk result (λ moves. IfSome moves (λ p. (p ≡ min target (end self.old.run)) × (least ≤ p) × (self.new ≡ moved_by (place.entry.ran + (p - place.entry.position)) p self.old))) }
         ensures none { IfOk result (λ moves. moves ≡ None → (min target (end self.old.run) < least) × (self.new ≡ self.old)) }
         ensures unchanged { OnErr result (self.new ≡ self.old) }
     {
@@ -227,15 +242,10 @@ impl<'b, A: Allocator + Copy> Debugger<'b, A> {
         Ok(Some(position))
     }
 
-    /// Takes the next item in place, and returns the new position.
-    ///
-    /// # Errors
-    ///
-    /// `AtEnd` where no item follows; `NoMemory`. Both leave the debugger as it was.
-    fn step_one(&mut self) -> Result<usize, DebugFault>
+    /// Takes the next item in place, and returns the new position. `AllocError` leaves the debugger as it was.
+    fn step_one(&mut self) -> Result<usize, AllocError>
+        requires { self.old.position < end self.old.run }
         ensures ok { IfOk result (λ p. (p ≡ self.old.position + 1) × (self.new ≡ moved p self.old)) }
-        ensures more { OnOk result (self.old.position < end self.old.run) }
-        ensures fault { IfErr result (λ fault. IsRefused AtEnd (self.old.position ≡ end self.old.run) fault) }
         ensures unchanged { OnErr result (self.new ≡ self.old) }
     {
         let source = Source {
@@ -243,13 +253,31 @@ impl<'b, A: Allocator + Copy> Debugger<'b, A> {
             config: self.config,
             octets: self.octets.as_slice(),
         };
-        if !keep_and_advance(&source, &mut self.present, &mut self.kept)? {
-            return Err(DebugFault::AtEnd);
-        }
+        keep_and_advance(&source, &mut self.present, &mut self.kept)?;
         let position = self.present.position();
         pass(&mut self.farthest, self.reached, position);
         self.reached = position.max(self.reached);
         Ok(position)
+    }
+
+    /// Moves forward by some items, or to the end if fewer follow, and returns the new position. `AllocError` leaves the
+    /// debugger as it was.
+    fn step_some(&mut self, count: usize) -> Result<usize, AllocError>
+        requires some { 0 < count }
+        requires more { self.old.position < end self.old.run }
+        ensures ok { IfOk result (λ p. (p ≡ min (self.old.position + count) (end self.old.run)) × (self.new ≡ moved p self.old)) }
+        ensures unchanged { OnErr result (self.new ≡ self.old) }
+    {
+        if count == 1 {
+            return self.step_one();
+        }
+        let place = self.copy_present()?;
+        let start = place.position();
+        let target = start.saturating_add(count);
+        match self.move_to(place, target, start)? {
+            None => Ok(start),
+            Some(position) => Ok(position),
+        }
     }
 
     /// Moves forward by `count` items, or to the end if fewer follow, and returns the new position. A count of 0 is
@@ -257,27 +285,24 @@ impl<'b, A: Allocator + Copy> Debugger<'b, A> {
     ///
     /// # Errors
     ///
-    /// `AtEnd` where no item follows and the count is above 0; `NoMemory`. Both leave the debugger as it was.
+    /// Both leave the debugger as it was, and come only with a count above 0: `AtEnd` where no item follows, which takes
+    /// no memory; elsewhere `NoMemory`.
     pub fn step(&mut self, count: usize) -> Result<usize, DebugFault>
         ensures ok { IfOk result (λ p. (p ≡ min (self.old.position + count) (end self.old.run)) × (self.new ≡ moved p self.old)) }
         ensures more { OnOk result (0 < count → self.old.position < end self.old.run) }
-        ensures fault { IfErr result (λ fault. IsRefused AtEnd ((0 < count) × (self.old.position ≡ end self.old.run)) fault) }
+        ensures fault { IfErr result (λ fault. fault ≡ end_fault (self.old.position == end self.old.run)) }
+        ensures nonzero { OnErr result (0 < count) }
         ensures unchanged { OnErr result (self.new ≡ self.old) }
     {
         let start = self.present.position();
         if count == 0 {
             return Ok(start);
         }
-        if count == 1 {
-            return self.step_one();
+        if !self.has_next() {
+            return Err(DebugFault::AtEnd);
         }
-        let place = self.copy_present()?;
-        let target = start.saturating_add(count);
-        let least = start.saturating_add(1);
-        match self.move_to(place, target, least)? {
-            None => Err(DebugFault::AtEnd),
-            Some(position) => Ok(position),
-        }
+        let position = self.step_some(count)?;
+        Ok(position)
     }
 
     /// Moves back by `count` items, or to position 0 if fewer came before, and returns the new position.
@@ -295,6 +320,7 @@ impl<'b, A: Allocator + Copy> Debugger<'b, A> {
     {
         let before = self.present.position();
         if count == 0 {
+            self.present.count_anew();
             self.replayed = 0;
             return Ok(before);
         }
@@ -316,11 +342,11 @@ impl<'b, A: Allocator + Copy> Debugger<'b, A> {
         ensures unchanged { OnErr result (self.new ≡ self.old) }
     {
         let place = self.start_for(target)?;
-        let replayed = target.min(self.reached) - place.position();
+        let first_runs = target.saturating_sub(self.reached);
         match self.move_to(place, target, target)? {
             None => Err(DebugFault::OutOfRange),
             Some(position) => {
-                self.replayed = replayed;
+                self.replayed = self.present.ran() - first_runs;
                 Ok(position)
             }
         }
@@ -330,11 +356,25 @@ impl<'b, A: Allocator + Copy> Debugger<'b, A> {
     ///
     /// # Errors
     ///
-    /// `AtEnd` where no item follows; `NoMemory`. Both leave the debugger as it was.
+    /// Both leave the debugger as it was: `AtEnd` where no item follows, which takes no memory; elsewhere `NoMemory`.
     pub fn run(&mut self) -> Result<usize, DebugFault>
         ensures ok { IfOk result (λ p. (p ≡ stop self.old.breaks (events self.old.run) self.old.position) × (self.new ≡ moved p self.old)) }
         ensures more { OnOk result (self.old.position < end self.old.run) }
-        ensures fault { IfErr result (λ fault. IsRefused AtEnd (self.old.position ≡ end self.old.run) fault) }
+        ensures first { IfOk result (λ p. IsStop self.old.breaks (events self.old.run) self.old.position p) }
+        ensures fault { IfErr result (λ fault. fault ≡ end_fault (self.old.position == end self.old.run)) }
+        ensures unchanged { OnErr result (self.new ≡ self.old) }
+    {
+        if !self.has_next() {
+            return Err(DebugFault::AtEnd);
+        }
+        let position = self.run_on()?;
+        Ok(position)
+    }
+
+    /// Moves forward to the next position that a breakpoint matches, or to the end, and returns the new position.
+    /// `AllocError` leaves the debugger as it was.
+    fn run_on(&mut self) -> Result<usize, AllocError>
+        ensures ok { IfOk result (λ p. (p ≡ stop self.old.breaks (events self.old.run) self.old.position) × (self.new ≡ moved p self.old)) }
         ensures unchanged { OnErr result (self.new ≡ self.old) }
     {
         let mut stop = self.copy_present()?;
@@ -346,9 +386,6 @@ impl<'b, A: Allocator + Copy> Debugger<'b, A> {
         };
         forward_to_stop(&source, &mut stop, self.breaks.as_slice(), &mut self.kept)?;
         let position = stop.position();
-        if position == self.present.position() {
-            return Err(DebugFault::AtEnd);
-        }
         arrive(&mut self.present, &mut self.farthest, self.reached, stop);
         self.reached = position.max(self.reached);
         Ok(position)
@@ -458,7 +495,8 @@ impl<'b, A: Allocator + Copy> Debugger<'b, A> {
     }
 
     /// How many items the last accepted `back` or `go` ran again, at most 63; 0 before the first one.
-    /// An item counts where the position after it had been reached before that call. It takes no memory.
+    /// An item counts where the position after it had been reached before that call: these are the items that were run,
+    /// which the place counts, but those that were run for the first time. It takes no memory.
     pub fn replayed(&self) -> usize
         ensures is { result ≡ self.now.replayed }
         ensures few { result ≤ 63 }

@@ -3,7 +3,7 @@
 //! Rests on `place`, `kept` and `breakpoints`; definitions: `specs/Places.antt`, and `stop` of h2_spec's
 //! `specs/Debug.antt`.
 
-ghost use Rattle.std.specs.Prelude.{◌≡◌, ◌*◌, ◌<◌, ◌≤◌, [], ◌∷◌, ◌++◌, IfOk, OnErr, OnOk, length, min, map};
+ghost use Rattle.std.specs.Prelude.{◌≡◌, ◌+◌, ◌-◌, ◌*◌, ◌<◌, ◌≤◌, [], ◌∷◌, ◌++◌, IfOk, OnErr, OnOk, length, min, map};
 ghost use Rattle.h2_spec.specs.Debug.{stop};
 ghost use Rattle.h2_conn.specs.Mark.{IsConsistent};
 ghost use Rattle.h2_debug.specs.Breakpoints.{break_of};
@@ -67,7 +67,7 @@ pub fn keep_and_advance<'b, A: Allocator + Copy>(
     place.advance(source)
 }
 
-/// Takes items up to a position or the end.
+/// Takes items up to a position or the end; the place counts them.
 pub fn forward_to<'b, A: Allocator + Copy>(
     source: &Input<'_, 'b, A>,
     place: &mut Place<'b, A>,
@@ -79,6 +79,7 @@ pub fn forward_to<'b, A: Allocator + Copy>(
     ensures reached { IsReached source.now place.new kept.new.items }
     ensures more { length kept.old.items ≤ length kept.new.items }
     ensures position { OnOk result (place.new.position ≡ min target (end source.now)) }
+    ensures ran { place.new.ran ≡ place.old.ran + (place.new.position - place.old.position) }
 {
     while place.position() < target {
         if !keep_and_advance(source, place, kept)? {
@@ -88,7 +89,7 @@ pub fn forward_to<'b, A: Allocator + Copy>(
     Ok(())
 }
 
-/// Takes items up to the first one that a breakpoint matches, or the end.
+/// Takes items up to the first one that a breakpoint matches, or the end; the place counts them.
 pub fn forward_to_stop<'b, A: Allocator + Copy>(
     source: &Input<'_, 'b, A>,
     place: &mut Place<'b, A>,
@@ -98,6 +99,7 @@ pub fn forward_to_stop<'b, A: Allocator + Copy>(
     requires { IsReached source.now place.old kept.old.items }
     ensures reached { IsReached source.now place.new kept.new.items }
     ensures more { length kept.old.items ≤ length kept.new.items }
+    ensures ran { place.new.ran ≡ place.old.ran + (place.new.position - place.old.position) }
     ensures position { OnOk result (place.new.position ≡ stop (map break_of breaks.now) (events source.now) place.old.position) }
 {
     loop {

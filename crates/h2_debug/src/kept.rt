@@ -73,7 +73,7 @@ impl<'b, A: Allocator + Copy> Kept<'b, A> {
     /// The place of which this was kept, made again from a later one; `AllocError` if it is out of memory.
     pub fn restore(&self, later: &Place<'b, A>) -> Result<Place<'b, A>, AllocError>
         requires { Precedes self.now.mark later.now.connection.state }
-        ensures { IfOk result (λ place. (p : Placed) → self.now ≡ kept_of p → p.connection ≡ going p.connection.state [] → Follows p.connection.state later.now.connection.state → place ≡ p) }
+        ensures { IfOk result (λ place. (p : Placed) → self.now ≡ kept_of p → p.connection ≡ going p.connection.state [] → Follows p.connection.state later.now.connection.state → place ≡ record p { ran = 0 }) }
     {
         let sent = copy_of(&self.sent)?;
         let conn = self.mark.restore(later.conn())?;

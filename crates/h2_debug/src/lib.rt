@@ -10,6 +10,7 @@ pub mod debugger;
 mod fault;
 mod forward;
 mod kept;
+pub mod laws;
 mod place;
 mod reasons;
 mod source;

@@ -1,27 +1,44 @@
-//! A place in a run: a connection, how many items it took, how many octets it was fed, why the last item was an error
-//! or was ignored, and what was sent for it.
+//! A place in a run: a connection, how many items came before it, how many octets it was fed, why the last item was an
+//! error or was ignored, what was sent for it, and how many items the connection took itself.
 //! Rests on h2_conn; definitions: `specs/Places.antt`.
 
-ghost use Rattle.std.specs.Prelude.{◌≡◌, true, IfErr, IfOk, OnErr, OnOk};
+ghost use Rattle.std.specs.Prelude.{◌≡◌, true, IfErr, IfOk, OnErr, OnOk, nat_lt};
 ghost use Rattle.h2_spec.specs.Show.{show};
 ghost use Rattle.h2_spec.specs.View.{view};
 ghost use Rattle.h2_spec.specs.State.{is_allowed};
+ghost use Rattle.h2_spec.specs.Trace.{next_in};
 ghost use Rattle.h2_conn.specs.Faults.{refusal_for};
-ghost use Rattle.h2_debug.specs.Places.{Advances, IsAt};
+ghost use Rattle.h2_debug.specs.Items.{is_item};
+ghost use Rattle.h2_debug.specs.Places.{Advances, IsAt, end};
 
 use crate::reasons::Reasons;
 use crate::source::Source;
 use h2_conn::view::View;
 use h2_conn::{Conn, ConnFault};
+use h2_frame::first_item;
+use h2_spec::connection::Phase;
 use std::alloc::{AllocError, Allocator};
 use std::marker::Model;
 use std::mem::swap;
+
+/// Whether octets begin with an item of a connection in this phase, which takes frames up to this length; none after the
+/// end of the connection.
+fn begins_item(phase: Phase, limit: u32, octets: &[u8]) -> bool
+    ensures { result ≡ is_item (next_in phase limit octets.now) }
+{
+    match phase {
+        Phase::Ended(_) => false,
+        Phase::Preface => first_item(octets, true, limit).is_some(),
+        Phase::Settings | Phase::Running => first_item(octets, false, limit).is_some(),
+    }
+}
 
 /// A place in a run.
 pub struct Place<'b, A: Allocator> {
     conn: Conn<'b, A>,
     position: usize,
     used: usize,
+    ran: usize,
     reasons: Reasons,
     sent: Vec<u8, A>,
     /// Memory for what the next item sends.
@@ -33,7 +50,7 @@ impl<'b, A: Allocator> Model for Place<'b, A> {
 
     ghost Value = { Placed };
 
-    ghost view = { λ p. record { connection = p.conn; position = p.position; used = p.used; reasons = p.reasons; sent = p.sent.items } };
+    ghost view = { λ p. record { connection = p.conn; position = p.position; used = p.used; ran = p.ran; reasons = p.reasons; sent = p.sent.items } };
 }
 
 /// By hand, so that a function that drops a place makes one call, where a derived `Drop` would drop each part there.
@@ -43,6 +60,7 @@ impl<'b, A: Allocator> Drop for Place<'b, A> {
             conn: _,
             position: _,
             used: _,
+            ran: _,
             reasons: _,
             sent: _,
             spare: _,
@@ -53,7 +71,7 @@ impl<'b, A: Allocator> Drop for Place<'b, A> {
 impl<'b, A: Allocator + Copy> Place<'b, A> {
     /// The start of a run.
     pub fn start(source: &Source<'_, 'b, A>, alloc: A) -> Result<Self, ConnFault>
-        ensures place { IfOk result (λ p. IsAt source.now p × (p.position ≡ 0)) }
+        ensures place { IfOk result (λ p. IsAt source.now p × (p.position ≡ 0) × (p.ran ≡ 0)) }
         ensures allowed { OnOk result (is_allowed source.now.config ≡ true) }
         ensures fault { IfErr result (λ fault. fault ≡ refusal_for (is_allowed source.now.config)) }
     {
@@ -63,14 +81,15 @@ impl<'b, A: Allocator + Copy> Place<'b, A> {
             conn,
             position: 0,
             used: 0,
+            ran: 0,
             reasons: Reasons::none(),
             sent,
             spare: Vec::new(alloc),
         })
     }
 
-    /// The place of a connection at a position, which was fed so many octets; with the reasons of its last item, and
-    /// what was sent for it.
+    /// The place of a connection at a position, which was fed so many octets and took no item itself; with the reasons
+    /// of its last item, and what was sent for it.
     pub fn of(
         conn: Conn<'b, A>,
         position: usize,
@@ -78,13 +97,14 @@ impl<'b, A: Allocator + Copy> Place<'b, A> {
         reasons: Reasons,
         sent: Vec<u8, A>,
     ) -> Self
-        ensures { result ≡ record { connection = conn.entry; position = position; used = used; reasons = reasons; sent = sent.items } }
+        ensures { result ≡ record { connection = conn.entry; position = position; used = used; ran = 0; reasons = reasons; sent = sent.items } }
     {
         let spare = Vec::new(*sent.allocator());
         Place {
             conn,
             position,
             used,
+            ran: 0,
             reasons,
             sent,
             spare,
@@ -101,6 +121,7 @@ impl<'b, A: Allocator + Copy> Place<'b, A> {
             conn,
             position: self.position,
             used: self.used,
+            ran: self.ran,
             reasons: self.reasons,
             sent,
             spare: Vec::new(*self.sent.allocator()),
@@ -114,7 +135,7 @@ impl<'b, A: Allocator + Copy> Place<'b, A> {
         copy_of(&self.sent)
     }
 
-    /// Takes the next item, if there is one, and says whether. An `AllocError` leaves the place as it was.
+    /// Takes the next item, if there is one, counts it, and says whether. An `AllocError` leaves the place as it was.
     pub fn advance(&mut self, source: &Source<'_, 'b, A>) -> Result<bool, AllocError>
         requires { IsAt source.now self.old }
         ensures advances { IfOk result (λ more. Advances source.now self.old self.new more) }
@@ -128,6 +149,7 @@ impl<'b, A: Allocator + Copy> Place<'b, A> {
         swap(&mut self.sent, &mut self.spare);
         self.used += taken.used;
         self.position += 1;
+        self.ran += 1;
         self.reasons = Reasons::of(taken);
         Ok(true)
     }
@@ -139,6 +161,29 @@ impl<'b, A: Allocator + Copy> Place<'b, A> {
         ensures { result ≡ self.now.position }
     {
         self.position
+    }
+
+    /// How many items it took since it was made, or since they were last counted anew.
+    pub fn ran(&self) -> usize
+        ensures { result ≡ self.now.ran }
+    {
+        self.ran
+    }
+
+    /// Counts the items that it takes anew.
+    pub fn count_anew(&mut self)
+        ensures { self.new ≡ record self.old { ran = 0 } }
+    {
+        self.ran = 0;
+    }
+
+    /// Whether an item follows. It takes no memory.
+    pub fn has_next(&self, source: &Source<'_, 'b, A>) -> bool
+        requires { IsAt source.now self.now }
+        ensures { result ≡ nat_lt self.now.position (end source.now) }
+    {
+        let core = self.conn.counts();
+        begins_item(core.phase, core.own.frame, source.octets_from(self.used))
     }
 
     /// How many octets the connection was fed.

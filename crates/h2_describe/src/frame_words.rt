@@ -1,7 +1,7 @@
 //! A frame in words: its type, its stream, its flags by name, and what its payload has.
 //! Rests on h2_frame and `names`; no definition speaks of them.
 
-use crate::names::{Code, say_flags, setting_name};
+use crate::names::{Code, registered_setting, say_flags, say_registered, setting_name};
 use crate::say::{Hex, Octets, Text, Words};
 use crate::say_all;
 use h2_frame::{DataPart, FrameRef, Head, HeadersPart, Part, SettingsPart, part_of};
@@ -52,7 +52,7 @@ fn say_padding(pad: Option<u8>, out: &mut Words) {
 fn say_priority(bits: u32, weight: u8, out: &mut Words) {
     say_all!(out; ", depends on ", bits % 2_147_483_648);
     if bits >= 2_147_483_648 {
-        say_all!(out; " alone");
+        say_all!(out; ", exclusive");
     }
     say_all!(out; ", weight ", u64::from(weight) + 1);
 }
@@ -76,7 +76,11 @@ fn say_headers(head: &Head, part: HeadersPart<'_>, out: &mut Words) {
 fn say_setting(id: u16, value: u32, out: &mut Words) {
     match setting_name(id) {
         Some(name) => say_all!(out; ", ", name, " ", value),
-        None => say_all!(out; ", unknown setting ", u32::from(id), " ", value),
+        None => {
+            say_all!(out; ", unknown setting ", u32::from(id));
+            say_registered(registered_setting(id), out);
+            say_all!(out; " ", value);
+        }
     }
 }
 

@@ -29,11 +29,39 @@ fn type_word(kind: FrameType) -> &'static str {
     }
 }
 
+/// The name of a type that other documents than RFC 9113 register with IANA, and that this server does not use.
+pub fn registered_type(kind: u8) -> Option<&'static str> {
+    match kind {
+        0x0a => Some("ALTSVC"),
+        0x0c => Some("ORIGIN"),
+        0x10 => Some("PRIORITY_UPDATE"),
+        _ => None,
+    }
+}
+
+/// The name of a setting that other documents than RFC 9113 register with IANA, and that this server does not use.
+pub fn registered_setting(id: u16) -> Option<&'static str> {
+    match id {
+        0x08 => Some("ENABLE_CONNECT_PROTOCOL"),
+        0x09 => Some("NO_RFC7540_PRIORITIES"),
+        0x10 => Some("TLS_RENEG_PERMITTED"),
+        _ => None,
+    }
+}
+
+/// Puts a name last that is registered and not used here, if there is one.
+pub(crate) fn say_registered(name: Option<&'static str>, out: &mut Words) {
+    if let Some(name) = name {
+        say_all!(out; " (", name, ", not used here)");
+    }
+}
+
 impl Say for FrameType {
     fn say(self, out: &mut Words) {
         say_all!(out; type_word(self));
         if let FrameType::Unknown(kind) = self {
             say_all!(out; HexOctet(kind));
+            say_registered(registered_type(kind), out);
         }
     }
 }

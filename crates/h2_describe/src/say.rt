@@ -1,6 +1,7 @@
 //! Texts that are put together part by part.
-//! Rests on the crate `itoa`; no definition speaks of them.
+//! Rests on `sent` and the crate `itoa`; no definition speaks of them.
 
+use crate::sent::first_of;
 use itoa::Buffer;
 use std::alloc::{AllocError, Global};
 
@@ -171,6 +172,44 @@ impl Say for Text<'_> {
         for octet in self.0 {
             out.octet(*octet);
         }
+    }
+}
+
+/// How many octets of a long text are shown.
+const SHOWN: usize = 100;
+
+/// The first octets of a text, and how many it has where not all are shown.
+#[derive(Clone, Copy)]
+pub struct Cut<'a>(pub &'a [u8]);
+
+impl Say for Cut<'_> {
+    fn say(self, out: &mut Words) {
+        Text(first_of(self.0, SHOWN)).say(out);
+        if self.0.len() > SHOWN {
+            out.text(".. of ");
+            Octets(self.0.len() as u64).say(out);
+        }
+    }
+}
+
+/// A number in its order: `1st`, `2nd`, `3rd`, `4th`.
+#[derive(Clone, Copy)]
+pub struct Ordinal(pub usize);
+
+/// What is written behind a number in its order.
+fn ordinal_end(number: usize) -> &'static str {
+    match (number % 10, number % 100) {
+        (1, end) if end != 11 => "st",
+        (2, end) if end != 12 => "nd",
+        (3, end) if end != 13 => "rd",
+        _ => "th",
+    }
+}
+
+impl Say for Ordinal {
+    fn say(self, out: &mut Words) {
+        self.0.say(out);
+        out.text(ordinal_end(self.0));
     }
 }
 

@@ -71,6 +71,7 @@ pub record ExplainsItem (s : State) (b : List ℕ) (number offset : ℕ) (c : Co
   pub number_is : x.number ≡ number
   pub offset_is : x.offset ≡ offset
   pub octets_is : x.octets.now ≡ take x.taken.used b
+  pub ahead_is : x.ahead.now ≡ b
   pub taken_is : Some x.taken ≡ reported s (next_item s b)
   pub sent_is : x.sent.items ≡ frames_octets event.sent
   pub before_is : x.before ≡ moment_of s (stream_ahead s.core.phase b)

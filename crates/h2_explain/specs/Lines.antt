@@ -7,14 +7,18 @@ use Rattle.h2_spec.specs.declared.connection.Phase.TheVariants.{Preface, Setting
 use Rattle.h2_spec.specs.declared.frames.ItemHead.{ItemHead}
 use Rattle.h2_spec.specs.declared.frames.ItemHead.TheVariants as item
 use Rattle.h2_spec.specs.declared.ignored.Ignored.{Ignored}
-use Rattle.h2_describe.specs.Names.{error_name, force_word, scope_word}
+use Rattle.h2_spec.specs.declared.special_cases.SpecialCase.{SpecialCase}
+use Rattle.h2_describe.specs.Names.{error_name, scope_word}
 use Rattle.h2_spec.specs.Cause.{code_of}
-use Rattle.h2_spec.specs.CauseWords.{cause_name, cause_section, is_must}
-use Rattle.h2_spec.specs.Ignored.{ignored_name, ignored_section, ignored_sentence, is_demanded}
+use Rattle.h2_spec.specs.CauseWords.{cause_name}
+use Rattle.h2_spec.specs.IgnoredWords.{ignored_name}
+use Rattle.h2_spec.specs.Rules.{Row, client_words, server_words}
 use Rattle.h2_spec.specs.Show.{joined}
 use Rattle.h2_explain.specs.declared.item.Explained.{Explained}
 use Rattle.h2_explain.specs.declared.paint.Role.{Role}
 use Rattle.h2_explain.specs.declared.paint.Role.TheVariants as role
+use Rattle.h2_explain.specs.declared.special.CaseFacts.{CaseFacts}
+use Rattle.h2_explain.specs.Special.{rule_of_cause, rule_of_reason, case_of_error, case_of_reason}
 
 -- ---- lines and their colours
 
@@ -60,46 +64,57 @@ scope Settings = scope_word false
 scope Running = scope_word false
 scope (Ended code) = scope_word true
 
--- the two lines of an error: its code, its cause, and a sentence
-unfoldable pub error_lines : Bool → Phase → Cause → (sentence : List ℕ) → List ℕ
-error_lines color phase cause sentence =
-    joined (indent ∷ started color role.Error ∷ scope phase ∷ error_name (code_of cause) ∷ codes ": " ∷ cause_name cause ∷ codes ", " ∷ cause_section cause ∷ codes ", " ∷ force_word (is_must cause) ∷ ended color
+-- the two lines of an error: its code, its cause, the section of its rule, how far the RFC decides what the server does,
+-- what the client broke, with the section that says so, and a sentence
+unfoldable pub error_lines : Bool → Phase → Cause → Row → (sentence : List ℕ) → List ℕ
+error_lines color phase cause row sentence =
+    joined (indent ∷ started color role.Error ∷ scope phase ∷ error_name (code_of cause) ∷ codes ": " ∷ cause_name cause
+    ∷ codes ", " ∷ row.section ∷ codes ", " ∷ server_words row.server ∷ codes "; broken: " ∷ client_words row.client ∷ codes ", " ∷ row.client_section ∷ ended color
     ∷ indent ∷ started color role.Error ∷ sentence ∷ ended color ∷ [])
 
--- the two lines of an item that is ignored
-unfoldable pub ignored_lines : Bool → Ignored → List ℕ
-ignored_lines color reason =
-    joined (indent ∷ started color role.Ignored ∷ codes "ignored: " ∷ ignored_name reason ∷ codes ", " ∷ ignored_section reason ∷ codes ", " ∷ force_word (is_demanded reason) ∷ ended color
-    ∷ indent ∷ started color role.Ignored ∷ ignored_sentence reason ∷ ended color ∷ [])
+-- the two lines of an item that is ignored: the reason, the same of its rule, and why in a sentence
+unfoldable pub ignored_lines : Bool → Ignored → Row → List ℕ
+ignored_lines color reason row =
+    joined (indent ∷ started color role.Ignored ∷ codes "ignored: " ∷ ignored_name reason
+    ∷ codes ", " ∷ row.section ∷ codes ", " ∷ server_words row.server ∷ codes "; broken: " ∷ client_words row.client ∷ codes ", " ∷ row.client_section ∷ ended color
+    ∷ indent ∷ started color role.Ignored ∷ row.sentence ∷ ended color ∷ [])
 
 -- ---- an item
 
 -- the lines of its cause, if it has one
-abbrev pub cause_lines : Bool → Phase → Option Cause → (sentence : List ℕ) → List ℕ
-cause_lines color phase None sentence = []
-cause_lines color phase (Some cause) sentence = error_lines color phase cause sentence
+abbrev pub cause_lines : Bool → Phase → Option Cause → Option SpecialCase → (sentence : List ℕ) → List ℕ
+cause_lines color phase None case sentence = []
+cause_lines color phase (Some cause) case sentence = error_lines color phase cause (rule_of_cause cause case) sentence
 
 -- the lines of why it is ignored, if it is
-abbrev pub reason_lines : Bool → Option Ignored → List ℕ
-reason_lines color None = []
-reason_lines color (Some reason) = ignored_lines color reason
+abbrev pub reason_lines : Bool → Option Ignored → Option SpecialCase → List ℕ
+reason_lines color None case = []
+reason_lines color (Some reason) case = ignored_lines color reason (rule_of_reason reason case)
 
--- what is said of an item besides: the item in words, the lines of its fields, the sentence of its error, the lines of
--- what was sent and of what changed
+-- what is said of an item besides: the lines of what the server sent before it, the item in words, the lines of its fields, what decides whether its rule is a special
+-- case, the sentence of its error, the line of other causes, the lines of what was sent and of what changed
 pub record Words : Type 0 where
+  pub opening : List ℕ
   pub item : List ℕ
+  pub facts : CaseFacts
   pub fields : List ℕ
   pub sentence : List ℕ
+  pub also : List ℕ
   pub sent : List ℕ
   pub changes : List ℕ
 
+-- all lines of an item, with the special cases of its error and of why it is ignored
+abbrev pub lines_with : Bool → Explained → Words → (error_case ignored_case : Option SpecialCase) → List ℕ
+lines_with color x w error_case ignored_case =
+    joined (w.opening ∷ first_line color x.number x.offset w.item ∷ w.fields
+    ∷ cause_lines color x.after.counts.phase x.taken.cause error_case w.sentence ∷ w.also
+    ∷ reason_lines color x.taken.ignored ignored_case ∷ w.sent ∷ w.changes ∷ [])
+
 -- all lines of an item
 abbrev pub lines : Bool → Explained → Words → List ℕ
-lines color x w =
-    joined (first_line color x.number x.offset w.item ∷ w.fields ∷ cause_lines color x.after.counts.phase x.taken.cause w.sentence
-    ∷ reason_lines color x.taken.ignored ∷ w.sent ∷ w.changes ∷ [])
+lines color x w = lines_with color x w (case_of_error x w.facts) (case_of_reason x w.facts)
 
--- whether nothing is said of an item: the preface
+-- whether nothing is said of an item itself: the preface
 abbrev pub is_silent : ItemHead → Bool
 is_silent item.Preface = true
 is_silent item.BadPreface = false
@@ -108,7 +123,7 @@ is_silent (item.Frame head) = false
 
 -- the lines of an item of which something is said
 abbrev pub lines_unless : Bool → (color : Bool) → Explained → Words → List ℕ
-lines_unless true color x w = []
+lines_unless true color x w = w.opening
 lines_unless false color x w = lines color x w
 
 abbrev pub lines_of : Bool → Explained → Words → List ℕ

@@ -1,5 +1,5 @@
 -- What the octets after the last item lack to be an item.
-use Rattle.std.specs.Prelude.{ℕ, ◌+◌, ◌-◌, true, false, List, length, Option, Some, None, option_map}
+use Rattle.std.specs.Prelude.{ℕ, ◌+◌, ◌-◌, ◌*◌, true, false, List, length, slice_index, nat_lt, if◌then◌else◌, Option, Some, None, option_map}
 use Rattle.h2_spec.specs.declared.connection.Phase.{Phase}
 use Rattle.h2_spec.specs.declared.connection.Phase.TheVariants.{Preface, Settings, Running, Ended}
 use Rattle.h2_spec.specs.declared.frames.Head.{Head}
@@ -12,20 +12,25 @@ use Rattle.h2_explain.specs.declared.rest.Rest.{Rest}
 
 -- what so many octets of a preface lack: it has 24 (3.4)
 abbrev pub missing_of_preface : ℕ → Missing
-missing_of_preface count = record { what = awaited.Preface; needs = 24 - count; at_least = false }
+missing_of_preface count = record { what = awaited.Preface; needs = 24 - count; at_least = false; head = None }
 
--- what so many octets of a frame lack: nine of its head and those of its payload, at least nine where there is no head
--- yet (4.1)
-abbrev pub missing_of_frame : Option Head → ℕ → Missing
-missing_of_frame None count = record { what = awaited.Frame; needs = 9 - count; at_least = true }
-missing_of_frame (Some h) count = record { what = awaited.Frame; needs = 9 + h.length - count; at_least = false }
+-- what octets lack that are not the whole head of a frame: they begin with its length, in three octets (4.1)
+abbrev pub missing_of_front : List ℕ → Missing
+missing_of_front b =
+    if nat_lt (length b) 3 then record { what = awaited.Frame; needs = 9 - length b; at_least = true; head = None }
+    else record { what = awaited.Frame; needs = 9 + (65536 * slice_index b 0 + 256 * slice_index b 1 + slice_index b 2) - length b; at_least = false; head = None }
+
+-- what octets of a frame lack: nine of its head and those of its payload (4.1)
+abbrev pub missing_of_frame : Option Head → List ℕ → Missing
+missing_of_frame None b = missing_of_front b
+missing_of_frame (Some h) b = record { what = awaited.Frame; needs = 9 + h.length - length b; at_least = false; head = Some h }
 
 -- what octets lack to be the next item
 abbrev pub missing_of : Phase → List ℕ → Missing
 missing_of Preface b = missing_of_preface (length b)
-missing_of Settings b = missing_of_frame (head_at b) (length b)
-missing_of Running b = missing_of_frame (head_at b) (length b)
-missing_of (Ended code) b = missing_of_frame (head_at b) (length b)
+missing_of Settings b = missing_of_frame (head_at b) b
+missing_of Running b = missing_of_frame (head_at b) b
+missing_of (Ended code) b = missing_of_frame (head_at b) b
 
 -- what is after the last item of a connection that had so many
 abbrev pub rest_of : State → (items offset : ℕ) → List ℕ → Rest

@@ -13,10 +13,14 @@ ghost use Rattle.h2_explain.specs.Notes.{AreNotes, note_of, with_later_note};
 
 use crate::changes::{Changes, connection_changes, stream_changes};
 use crate::error_context::ErrorContext;
+use crate::facts::{facts_of, others_of, wider_of};
+use crate::header_table::{EntryChange, Followed};
 use crate::item::Explained;
+use crate::moved::{Moved, moved_by, note_moved};
 use crate::notes::Notes;
 use crate::sentence::say_sentence;
-use h2_conn::Conn;
+use crate::special::CaseFacts;
+use h2_conn::{Conn, write_opening};
 use h2_describe::say::Words;
 use h2_describe::sent::next_frame;
 use h2_describe::spelled::BlockReader;
@@ -24,14 +28,22 @@ use h2_frame::{FrameRef, Part, part_of};
 use h2_spec::causes::Cause;
 use h2_spec::connection::Phase;
 use h2_spec::errors::ErrorCode;
-use h2_spec::frames::{CONTINUATION, END_HEADERS, HEADERS, Head};
+use h2_spec::frames::{CONTINUATION, END_HEADERS, END_STREAM, FrameType, HEADERS, Head};
+use h2_spec::streams::Kind;
 use std::alloc::{AllocError, Global};
+use std::collections::BTreeMap;
 
 /// What is known of a connection while it is explained.
 #[derive(Drop)]
 pub struct Explainer {
     pub notes: Notes,
     pub reader: BlockReader,
+    /// The streams that are live.
+    pub live: BTreeMap<u32, ()>,
+    /// The client's header table.
+    pub table: Followed,
+    /// The streams that the server reset at an item that ended the client's side, with the number of that item.
+    pub refused_ends: BTreeMap<u32, u64>,
 }
 
 /// What there is to say of an item, beside the item itself.
@@ -39,9 +51,19 @@ pub struct Explainer {
 pub struct Account {
     /// The sentence of its cause, empty where it is no error.
     pub sentence: String,
+    /// The other causes that hold of its block, where it is malformed (RFC 9113, 8.1.1).
+    pub also: Vec<Cause>,
+    /// What decides whether its rule is a special case.
+    pub facts: CaseFacts,
     /// Whether the fields of its block are shown with it: the block ends here, or is refused here.
     pub shows_fields: bool,
     pub changes: Changes,
+    /// What it changed on streams besides.
+    pub moved: Vec<Moved>,
+    /// The entries of the client's header table that it entered or evicted.
+    pub entries: Vec<EntryChange>,
+    /// The frames that the server sent before the first item; none for the others (RFC 9113, 3.4).
+    pub opening: Vec<u8>,
 }
 
 /// Whether a connection error ended the connection (RFC 9113, 5.4.1).
@@ -93,6 +115,18 @@ fn is_compression(code: ErrorCode) -> bool
     }
 }
 
+/// Whether the frame of an item has END_STREAM, or the HEADERS of the block that it continues (RFC 9113, 6.1 and 6.2).
+fn ends_side(item: &Explained<'_>) -> bool {
+    match (item.before.block, item.head()) {
+        (Some(block), _) => block.ends,
+        (None, Some(head)) => match head.frame_type() {
+            FrameType::Data | FrameType::Headers => head.has(END_STREAM),
+            _ => false,
+        },
+        (None, None) => false,
+    }
+}
+
 /// Whether the fields of a block are read up to an error: any but a connection error that came before them.
 fn reads_fields(item: &Explained<'_>) -> bool
     ensures { result ≡ reads_fields item.now.taken.cause item.now.after.counts.phase }
@@ -101,6 +135,19 @@ fn reads_fields(item: &Explained<'_>) -> bool
         None => true,
         Some(cause) => !has_ended(item.after.counts.phase) || is_of_fields(cause),
     }
+}
+
+/// The frames that the server sent before the first item; none for the others.
+fn opening_of(
+    alloc: Global,
+    conn: &Conn<'_, Global>,
+    item: &Explained<'_>,
+) -> Result<Vec<u8>, AllocError> {
+    let mut opening = Vec::new(alloc);
+    if item.number == 1 {
+        write_opening(conn.config(), &mut opening)?;
+    }
+    Ok(opening)
 }
 
 impl Explainer {
@@ -113,6 +160,9 @@ impl Explainer {
         Ok(Explainer {
             notes: Notes::new(alloc),
             reader: BlockReader::new(alloc, 4096)?,
+            live: BTreeMap::new(alloc),
+            table: Followed::new(alloc, 4096),
+            refused_ends: BTreeMap::new(alloc),
         })
     }
 
@@ -202,15 +252,81 @@ impl Explainer {
     ) -> Result<String, AllocError> {
         let mut text = Words::new(alloc);
         if let Some(cause) = item.taken.cause {
-            let context = ErrorContext {
-                item,
-                notes: &self.notes,
-                reader: &self.reader,
-                config: conn.config(),
-            };
-            say_sentence(cause, context, &mut text);
+            say_sentence(cause, self.context(conn, item), &mut text);
         }
         text.finish()
+    }
+
+    /// The other causes that hold of an item's block, none where it is not malformed.
+    fn others(
+        &self,
+        alloc: Global,
+        conn: &Conn<'_, Global>,
+        item: &Explained<'_>,
+    ) -> Result<Vec<Cause>, AllocError> {
+        match item.taken.cause {
+            Some(cause) => others_of(alloc, cause, self.context(conn, item)),
+            None => Ok(Vec::new(alloc)),
+        }
+    }
+
+    /// What decides whether an item's rule is a special case; looked up where it has a rule.
+    fn facts(&self, conn: &Conn<'_, Global>, item: &Explained<'_>) -> CaseFacts {
+        if item.taken.cause.is_none() && item.taken.ignored.is_none() {
+            return CaseFacts::none();
+        }
+        facts_of(self.context(conn, item))
+    }
+
+    /// What sentences draw their values from.
+    fn context<'f, 'o>(
+        &'f self,
+        conn: &Conn<'_, Global>,
+        item: &'f Explained<'o>,
+    ) -> ErrorContext<'f, 'o> {
+        ErrorContext {
+            item,
+            notes: &self.notes,
+            reader: &self.reader,
+            config: conn.config(),
+            widest: self.widest(conn, item),
+            after_end: self.is_after_end(item.before.stream.id),
+        }
+    }
+
+    /// The stream with the greatest send window, where a setting takes one too far; else none.
+    fn widest(&self, conn: &Conn<'_, Global>, item: &Explained<'_>) -> Option<(u32, i64)> {
+        let mut widest = None;
+        if let Some(Cause::InitialWindowSizeOverflow) = item.taken.cause {
+            for stream in self.notes.streams.keys() {
+                widest = wider_of(conn, *stream, widest);
+            }
+        }
+        widest
+    }
+
+    /// Whether the client had ended a stream that the server has reset.
+    fn is_after_end(&self, stream: u32) -> bool {
+        let ended = match self.notes.of(stream) {
+            Some(note) => note.ended > 0,
+            None => false,
+        };
+        ended || self.refused_ends.contains_key(&stream)
+    }
+
+    /// Notes that the server has reset a stream at an item that ended the client's side, if it is so.
+    fn note_refused_end(&mut self, item: &Explained<'_>) -> Result<(), AllocError> {
+        let stream = item.after.stream.id;
+        match (item.before.stream.kind, item.after.stream.kind) {
+            (Kind::WeReset, _) => {}
+            (_, Kind::WeReset) => {
+                if ends_side(item) {
+                    self.refused_ends.insert(stream, item.number)?;
+                }
+            }
+            _ => {}
+        }
+        Ok(())
     }
 
     /// What there is to show of the item that a connection has just taken.
@@ -227,15 +343,49 @@ impl Explainer {
     {
         let shows_fields = self.read_block(alloc, item)?;
         let sentence = self.sentence(alloc, conn, item)?;
+        let also = self.others(alloc, conn, item)?;
+        let facts = self.facts(conn, item);
+        self.note_refused_end(item)?;
+        let moved = moved_by(alloc, conn, item, &self.notes, &self.live)?;
+        let entries = self.entries(alloc, item)?;
+        let opening = opening_of(alloc, conn, item)?;
         let changes = self.changes(alloc, conn, item)?;
+        note_moved(alloc, conn, item, &mut self.notes, &mut self.live)?;
         if let Some(head) = item.head() {
             self.notes.end(item.number, &head);
         }
         Ok(Account {
             sentence,
+            also,
+            facts,
             shows_fields,
             changes,
+            moved,
+            entries,
+            opening,
         })
+    }
+
+    /// The entries of the client's header table that an item entered or evicted.
+    fn entries(
+        &mut self,
+        alloc: Global,
+        item: &Explained<'_>,
+    ) -> Result<Vec<EntryChange>, AllocError> {
+        let Some(head) = item.head() else {
+            return Ok(Vec::new(alloc));
+        };
+        if !is_of_block(item, &head) {
+            return Ok(Vec::new(alloc));
+        }
+        if item.before.block.is_none() {
+            self.table.begin();
+        }
+        if has_ended(item.after.counts.phase) {
+            return Ok(Vec::new(alloc));
+        }
+        let (entries, size) = (item.after.entries, item.after.table_size);
+        self.table.follow(alloc, &self.reader, entries, size)
     }
 
     /// What an item changed: on the connection, on its stream, and on the streams that frames were sent on for it; these

@@ -91,6 +91,17 @@ fn place_of(count: Count) -> usize
 }
 
 impl Count {
+    /// Whether the number may be absent: then -1 represents one that is.
+    pub(crate) fn may_be_absent(self) -> bool {
+        match self {
+            Count::GoawayLastStream
+            | Count::GoawayCode
+            | Count::ClientMaxConcurrentStreams
+            | Count::ClientMaxHeaderListSize => true,
+            _ => false,
+        }
+    }
+
     /// The name in the text and in JSON.
     pub fn name(self) -> &'static str
         ensures { result.now ≡ count_name self }

@@ -13,7 +13,7 @@ use crate::notes::{Notes, StreamNote};
 use h2_describe::spelled::{BlockReader, SpelledField};
 use h2_frame::{Part, part_of};
 use h2_spec::connection::Config;
-use h2_spec::frames::{FrameType, PADDED, WITH_PRIORITY};
+use h2_spec::frames::{END_STREAM, FrameType, PADDED, WITH_PRIORITY};
 
 /// An item, what was noted before it, its block as a second decoder has it, and the limits of the server.
 #[derive(Clone, Copy)]
@@ -22,6 +22,11 @@ pub(crate) struct ErrorContext<'f, 'o> {
     pub(crate) notes: &'f Notes,
     pub(crate) reader: &'f BlockReader,
     pub(crate) config: Config,
+    /// The open or half-closed (remote) stream with the greatest send window, and that window; looked up for
+    /// `InitialWindowSizeOverflow` alone.
+    pub(crate) widest: Option<(u32, i64)>,
+    /// Whether the client had ended the stream when the server reset it.
+    pub(crate) after_end: bool,
 }
 
 impl ErrorContext<'_, '_> {
@@ -124,5 +129,14 @@ impl ErrorContext<'_, '_> {
     /// The fields of the block.
     pub(crate) fn fields(&self) -> &[SpelledField] {
         self.reader.fields()
+    }
+
+    /// Whether the HEADERS of the block had END_STREAM: the open block's, or those on hand (RFC 9113, 6.2).
+    pub(crate) fn ends(&self) -> bool {
+        match (self.item.before.block, self.item.head()) {
+            (Some(block), _) => block.ends,
+            (None, Some(head)) => head.has(END_STREAM),
+            (None, None) => false,
+        }
     }
 }

@@ -54,6 +54,8 @@ pub struct Explained<'o> {
     pub offset: usize,
     /// Its octets.
     pub octets: &'o [u8],
+    /// Its octets and all behind them that are there.
+    pub ahead: &'o [u8],
     /// What it is, why it is an error, and why it is ignored.
     pub taken: TakenItem,
     /// The octets that were sent for it.
@@ -137,6 +139,7 @@ pub fn take_explained<'o>(
         number,
         offset,
         octets: first_of(octets, taken.used),
+        ahead: octets,
         taken,
         sent,
         before,

@@ -8,18 +8,24 @@ ghost use Rattle.h2_explain.specs.Explains.{EndsLine};
 
 use crate::account::{Account, Explainer, has_ended};
 use crate::changes::Change;
+use crate::count::Count;
+use crate::header_table::EntryChange;
 use crate::item::Explained;
 use crate::json_words::JsonWords;
-use crate::text::{mode_name, say_item};
+use crate::moved::Moved;
+use crate::special::{case_of_error, case_of_reason, rule_of_cause, rule_of_reason};
+use crate::text::{mode_name, read_answer, say_item};
 use h2_describe::frame_words::say_frame;
-use h2_describe::names::{code_name, kind_name, setting_name};
-use h2_describe::say::{Hex, Words};
-use h2_describe::sent::next_frame;
+use h2_describe::names::{code_name, kind_name, registered_setting, registered_type, setting_name};
+use h2_describe::say::{Hex, HexOctet, Say, Words};
+use h2_describe::say_all;
+use h2_describe::sent::{first_of, next_frame};
 use h2_describe::spelled::{BlockReader, SpelledField, Spelling};
-use h2_frame::{FrameRef, Head, Part, SettingsPart, part_of};
+use h2_frame::{FrameRef, FrameType, Head, HeadersPart, Part, SettingsPart, part_of};
 use h2_spec::causes::Cause;
 use h2_spec::ignored::Ignored;
 use h2_spec::octets::octets_from;
+use h2_spec::special_cases::SpecialCase;
 use std::alloc::{AllocError, Global};
 
 /// Octets as hex, and as text where they are UTF-8.
@@ -32,13 +38,34 @@ fn put_octets(name: &str, octets: &[u8], out: &mut JsonWords) {
     out.close();
 }
 
+/// The name of a type, or its number in words.
+fn put_type(kind: u8, out: &mut JsonWords) {
+    match FrameType::of(kind) {
+        FrameType::Unknown(kind) => out.plain("type", Unnamed(kind)),
+        known => out.plain("type", known),
+    }
+}
+
+/// A type that RFC 9113 does not name, as `type 0x10`.
+#[derive(Clone, Copy)]
+struct Unnamed(u8);
+
+impl Say for Unnamed {
+    fn say(self, out: &mut Words) {
+        say_all!(out; "type ", HexOctet(self.0));
+    }
+}
+
 /// The head of a frame.
-fn put_head(head: &Head, out: &mut JsonWords) {
+pub(crate) fn put_head(head: &Head, out: &mut JsonWords) {
     out.open("frame");
     out.number("flags", u64::from(head.flags));
     out.number("length", u64::from(head.length));
+    if let Some(name) = registered_type(head.kind) {
+        out.plain("registered", name);
+    }
     out.number("stream", u64::from(head.stream));
-    out.plain("type", head.frame_type());
+    put_type(head.kind, out);
     out.number("type_number", u64::from(head.kind));
     out.close();
 }
@@ -56,6 +83,9 @@ fn put_setting(id: u16, value: u32, out: &mut JsonWords) {
     out.open_element();
     out.number("id", u64::from(id));
     out.plain("name", setting_name(id).unwrap_or("unknown"));
+    if let Some(name) = registered_setting(id) {
+        out.plain("registered", name);
+    }
     out.number("value", u64::from(value));
     out.close();
 }
@@ -82,7 +112,44 @@ fn put_parts(frame: FrameRef<'_>, out: &mut JsonWords) {
             put_octets("content", part.content, out);
             out.number("padding", part.padding.len() as u64);
         }
+        Ok(Part::Headers(part)) => put_headers(part, frame.payload, out),
+        Ok(Part::Priority) => put_priority_frame(frame.payload, out),
+        Ok(Part::SettingsAck) => {
+            put_octets("octets", frame.payload, out);
+            out.open_list("settings");
+            out.close_list();
+        }
         Ok(_) | Err(_) => put_octets("octets", frame.payload, out),
+    }
+}
+
+/// The stream that a frame depends on, and whether it does so exclusively (RFC 9113, 5.3.2).
+fn put_dependency(bits: u32, out: &mut JsonWords) {
+    out.number("dependency", u64::from(bits % 2_147_483_648));
+    out.flag("exclusive", bits >= 2_147_483_648);
+}
+
+/// What HEADERS has: its dependency, its fragment, its padding and its weight, where it has them.
+fn put_headers(part: HeadersPart<'_>, payload: &[u8], out: &mut JsonWords) {
+    if let Some((bits, _)) = part.priority {
+        put_dependency(bits, out);
+    }
+    put_octets("fragment", part.fragment, out);
+    put_octets("octets", payload, out);
+    if let Some(pad) = part.pad {
+        out.number("padding", u64::from(pad));
+    }
+    if let Some((_, weight)) = part.priority {
+        out.number("weight", u64::from(weight).saturating_add(1));
+    }
+}
+
+/// What PRIORITY has: its dependency and its weight.
+fn put_priority_frame(payload: &[u8], out: &mut JsonWords) {
+    if let [a, b, c, d, weight] = payload {
+        put_dependency(u32::from_be_bytes([*a, *b, *c, *d]), out);
+        put_octets("octets", payload, out);
+        out.number("weight", u64::from(*weight).saturating_add(1));
     }
 }
 
@@ -107,10 +174,24 @@ fn frame_in_words(alloc: Global, frame: FrameRef<'_>) -> Words {
     words
 }
 
-/// A frame that was sent.
-fn put_sent_frame(alloc: Global, frame: FrameRef<'_>, out: &mut JsonWords) {
+/// The fields of HEADERS that were sent.
+fn put_answer(alloc: Global, frame: FrameRef<'_>, out: &mut JsonWords) {
+    if let FrameType::Headers = frame.head.frame_type() {
+        match read_answer(alloc, frame.payload) {
+            Ok(reader) => put_fields(&reader, out),
+            Err(_) => out.refuse(),
+        }
+    }
+}
+
+/// A frame that was sent, and its octets.
+fn put_sent_frame(alloc: Global, frame: FrameRef<'_>, octets: &[u8], out: &mut JsonWords) {
     out.open_element();
+    put_answer(alloc, frame, out);
     put_head(&frame.head, out);
+    out.open("octets");
+    out.plain("hex", Hex(octets));
+    out.close();
     put_payload(frame, out);
     out.words("words", frame_in_words(alloc, frame));
     out.close();
@@ -123,8 +204,9 @@ fn put_frames(alloc: Global, octets: &[u8], out: &mut JsonWords) {
         let Some((frame, after)) = next_frame(rest) else {
             return;
         };
+        let used = rest.len().saturating_sub(after.len());
+        put_sent_frame(alloc, frame, first_of(rest, used), out);
         rest = after;
-        put_sent_frame(alloc, frame, out);
     }
 }
 
@@ -182,12 +264,41 @@ fn put_updates(reader: &BlockReader, out: &mut JsonWords) {
     out.close_list();
 }
 
-/// An error: its scope, its code, its cause, and the sentence.
-fn put_error(cause: Cause, is_connection: bool, sentence: &str, out: &mut JsonWords) {
+/// The name of a special case, if a rule is one.
+fn put_case(case: Option<SpecialCase>, out: &mut JsonWords) {
+    if let Some(case) = case {
+        out.plain("case", case.name());
+    }
+}
+
+/// The other causes that hold of a block, if there are any.
+fn put_also(also: &[Cause], out: &mut JsonWords) {
+    if also.is_empty() {
+        return;
+    }
+    out.open_list("also");
+    for cause in also {
+        out.text_element(cause.name());
+    }
+    out.close_list();
+}
+
+/// An error: its scope, its code, its cause, what the RFC says of both sides, and the sentence.
+fn put_error(
+    cause: Cause,
+    is_connection: bool,
+    case: Option<SpecialCase>,
+    account: &Account,
+    out: &mut JsonWords,
+) {
+    let rule = rule_of_cause(cause, case);
     out.open("error");
+    put_also(account.also.as_slice(), out);
+    put_case(case, out);
     out.plain("cause", cause.name());
+    out.plain("client", rule.client);
+    out.plain("client_section", rule.client_section);
     put_code(cause.code().number(), out);
-    out.flag("must", cause.is_must());
     out.plain(
         "scope",
         if is_connection {
@@ -196,27 +307,41 @@ fn put_error(cause: Cause, is_connection: bool, sentence: &str, out: &mut JsonWo
             "stream"
         },
     );
-    out.plain("section", cause.section());
-    out.text("sentence", sentence);
+    out.plain("section", rule.section);
+    out.text("sentence", account.sentence.as_str());
+    out.plain("server", rule.server);
     out.close();
 }
 
 /// Why a frame is ignored.
-fn put_ignored(why: Ignored, out: &mut JsonWords) {
+fn put_ignored(why: Ignored, case: Option<SpecialCase>, out: &mut JsonWords) {
+    let rule = rule_of_reason(why, case);
     out.open("ignored");
-    out.flag("must", why.is_must());
+    put_case(case, out);
+    out.plain("client", rule.client);
+    out.plain("client_section", rule.client_section);
     out.plain("reason", why.name());
-    out.plain("section", why.section());
-    out.plain("sentence", why.sentence());
+    out.plain("section", rule.section);
+    out.plain("sentence", rule.sentence);
+    out.plain("server", rule.server);
     out.close();
+}
+
+/// A number of a change, null where it is absent.
+fn put_number(name: &str, what: Count, value: i64, out: &mut JsonWords) {
+    if value == -1 && what.may_be_absent() {
+        out.null(name);
+    } else {
+        out.signed(name, value);
+    }
 }
 
 /// The members of a change that are before `stream` and `what`: what was before and after, or where a body stops.
 fn put_values(change: &Change, out: &mut JsonWords) {
     match change {
-        Change::Number(_, _, before, after) => {
-            out.signed("after", *after);
-            out.signed("before", *before);
+        Change::Number(_, what, before, after) => {
+            put_number("after", *what, *after, out);
+            put_number("before", *what, *before, out);
         }
         Change::State(_, before, after) => {
             out.plain("after", kind_name(*after));
@@ -265,21 +390,90 @@ fn put_change(change: &Change, out: &mut JsonWords) {
     out.close();
 }
 
-/// The changes, in their order.
-fn put_changes(list: &[Change], out: &mut JsonWords) {
+/// A change of a stream that is not among the changes.
+fn put_moved(moved: &Moved, out: &mut JsonWords) {
+    out.open_element();
+    match moved {
+        Moved::Opened(stream, recv, send, declared) => {
+            out.number_if_any("content_length", *declared);
+            out.signed("receive_window", *recv);
+            out.signed("send_window", *send);
+            out.number("stream", u64::from(*stream));
+            out.plain("what", "opened");
+        }
+        Moved::Number(stream, what, before, after) => {
+            out.signed("after", *after);
+            out.signed("before", *before);
+            out.number("stream", u64::from(*stream));
+            out.plain("what", what.name());
+        }
+        Moved::BodySent(stream) => {
+            out.number("stream", u64::from(*stream));
+            out.plain("what", "body sent");
+        }
+        Moved::Block(block) => {
+            out.flag("end_stream", block.ends);
+            out.number("list_size", block.list_size);
+            out.number("octets", u64::from(block.octets));
+            out.number("stream", u64::from(block.stream));
+            out.plain("what", "block");
+        }
+        Moved::BlockEnds(stream) => {
+            out.number("stream", u64::from(*stream));
+            out.plain("what", "block ended");
+        }
+    }
+    out.close();
+}
+
+/// The changes, in their order, and then what changed on streams besides.
+fn put_changes(account: &Account, out: &mut JsonWords) {
     out.open_list("changes");
-    for change in list {
+    for change in &account.changes {
         put_change(change, out);
+    }
+    for moved in &account.moved {
+        put_moved(moved, out);
+    }
+    out.close_list();
+}
+
+/// An entry that was entered or evicted.
+fn put_entry(change: &EntryChange, out: &mut JsonWords) {
+    out.open_element();
+    put_octets("name", change.entry.name.as_slice(), out);
+    out.number("octets", change.entry.size() as u64);
+    put_octets("value", change.entry.value.as_slice(), out);
+    out.plain(
+        "what",
+        if change.is_entered {
+            "entered"
+        } else {
+            "evicted"
+        },
+    );
+    out.close();
+}
+
+/// The entries of the client's header table that were entered or evicted, if there are any.
+fn put_entries(entries: &[EntryChange], out: &mut JsonWords) {
+    if entries.is_empty() {
+        return;
+    }
+    out.open_list("table");
+    for change in entries {
+        put_entry(change, out);
     }
     out.close_list();
 }
 
 /// Puts the changes in, the error, the fields of the block, the head of the frame, and why it is ignored.
 fn put_why(item: &Explained<'_>, account: &Account, reader: &BlockReader, out: &mut JsonWords) {
-    put_changes(account.changes.as_slice(), out);
+    put_changes(account, out);
     if let Some(cause) = item.taken.cause {
         let is_connection = has_ended(item.after.counts.phase);
-        put_error(cause, is_connection, account.sentence.as_str(), out);
+        let case = case_of_error(item, account.facts);
+        put_error(cause, is_connection, case, account, out);
     }
     if account.shows_fields {
         put_fields(reader, out);
@@ -288,7 +482,7 @@ fn put_why(item: &Explained<'_>, account: &Account, reader: &BlockReader, out: &
         put_head(&head, out);
     }
     if let Some(why) = item.taken.ignored {
-        put_ignored(why, out);
+        put_ignored(why, case_of_reason(item, account.facts), out);
     }
 }
 
@@ -310,7 +504,28 @@ fn put_item(alloc: Global, item: &Explained<'_>, out: &mut JsonWords) {
     put_sent(alloc, item.sent.as_slice(), out);
 }
 
-/// The line of an item.
+/// The version of the form of the lines.
+const VERSION: u64 = 1;
+
+/// The line of what the server sent before the first item, if there is anything.
+fn put_opening(alloc: Global, opening: &[u8], out: &mut JsonWords) {
+    if opening.is_empty() {
+        return;
+    }
+    out.open_element();
+    out.open_list("changes");
+    out.close_list();
+    out.number("item", 0);
+    put_octets("octets", &[], out);
+    out.number("offset", 0);
+    put_sent(alloc, opening, out);
+    out.number("version", VERSION);
+    out.plain("words", "the server's opening");
+    out.close();
+    out.end_line();
+}
+
+/// The line of an item, before it that of the server's opening, if the item is the first.
 pub(crate) fn json_of(
     alloc: Global,
     item: &Explained<'_>,
@@ -320,9 +535,11 @@ pub(crate) fn json_of(
     ensures { IfOk result (λ text. EndsLine false (string_bytes text)) }
 {
     let mut out = JsonWords::new(alloc);
+    put_opening(alloc, account.opening.as_slice(), &mut out);
     out.open_element();
     put_why(item, account, &explainer.reader, &mut out);
     put_item(alloc, item, &mut out);
+    put_entries(account.entries.as_slice(), &mut out);
     if account.shows_fields {
         put_updates(&explainer.reader, &mut out);
     }

@@ -134,10 +134,27 @@ impl JsonWords {
         self.is_behind = true;
     }
 
+    /// Ends a line: another text begins.
+    pub(crate) fn end_line(&mut self) {
+        say_all!(&mut self.words; "\n");
+        self.is_behind = false;
+    }
+
+    /// Memory for what belongs into the text was refused.
+    pub(crate) fn refuse(&mut self) {
+        self.words.refuse();
+    }
+
     /// Puts a number, as an element.
     pub(crate) fn element(&mut self, number: u64) {
         self.part();
         say_all!(&mut self.words; number);
+    }
+
+    /// Puts a text that has no character to escape, as an element.
+    pub(crate) fn text_element(&mut self, text: &str) {
+        self.part();
+        say_all!(&mut self.words; "\"", text, "\"");
     }
 
     /// Puts a number.
@@ -150,6 +167,20 @@ impl JsonWords {
     pub(crate) fn signed(&mut self, name: &str, number: i64) {
         self.name(name);
         say_all!(&mut self.words; number);
+    }
+
+    /// Puts that a value is missing.
+    pub(crate) fn null(&mut self, name: &str) {
+        self.name(name);
+        say_all!(&mut self.words; "null");
+    }
+
+    /// Puts a number that may be missing.
+    pub(crate) fn number_if_any(&mut self, name: &str, number: Option<u64>) {
+        match number {
+            Some(number) => self.number(name, number),
+            None => self.null(name),
+        }
     }
 
     /// Puts a flag.

@@ -5,19 +5,23 @@
 ghost use Rattle.std.specs.Prelude.{◌≡◌, IfOk};
 ghost use Rattle.std.specs.String.{string_bytes};
 ghost use Rattle.h2_explain.specs.Lines.{Words as Said, blanks, cause_lines, error_lines, first_line, ignored_lines, is_silent, lines, lines_of, reason_lines, scope};
+ghost use Rattle.h2_explain.specs.Special.{rule_of_cause, rule_of_reason};
 
 use crate::account::{Account, Explainer};
-use crate::changes::Change;
 use crate::item::Explained;
 use crate::paint::{Paint, Role};
-use crate::text::{say_changes, say_fields, say_item, say_sent};
-use h2_describe::names::{error_name, force_word, scope_word};
+use crate::special::{case_of_error, case_of_reason, rule_of_cause, rule_of_reason};
+use crate::text::{
+    say_all_moved, say_also, say_changes, say_entries, say_fields, say_item, say_opening, say_sent,
+};
+use h2_describe::names::{error_name, scope_word};
 use h2_describe::say::Words;
 use h2_device::{DeviceFault, Number, Output, Text, string_of, texts};
 use h2_spec::causes::Cause;
 use h2_spec::connection::Phase;
 use h2_spec::frames::ItemHead;
 use h2_spec::ignored::Ignored;
+use h2_spec::special_cases::SpecialCase;
 use std::alloc::{AllocError, Global};
 
 /// The beginning of each line below the first one of an item.
@@ -66,18 +70,19 @@ fn scope(phase: Phase) -> &'static str
     }
 }
 
-/// The two lines of an error: its code, its cause, and a sentence.
+/// The two lines of an error: its code, its cause, its rule, and a sentence.
 #[derive(Clone, Copy)]
 struct ErrorLines<'w> {
     paint: Paint,
     phase: Phase,
     cause: Cause,
+    case: Option<SpecialCase>,
     sentence: &'w str,
 }
 
 #[tactic(auto, unfolding(crate::specs::Lines::error_lines))]
 impl Text for ErrorLines<'_> {
-    ghost text = { λ l. error_lines l.paint.0 l.phase l.cause l.sentence.now };
+    ghost text = { λ l. error_lines l.paint.0 l.phase l.cause (rule_of_cause l.cause l.case) l.sentence.now };
 
     fn write_to<O: Output>(&self, output: &mut O) -> Result<(), DeviceFault> {
         let cause = self.cause;
@@ -85,7 +90,7 @@ impl Text for ErrorLines<'_> {
         let end = self.paint.ended();
         let scope = scope(self.phase);
         let code = error_name(cause.code());
-        let force = force_word(cause.is_must());
+        let rule = rule_of_cause(cause, self.case);
         texts!(
             INDENT,
             start,
@@ -94,9 +99,13 @@ impl Text for ErrorLines<'_> {
             ": ",
             cause.name(),
             ", ",
-            cause.section(),
+            rule.section,
             ", ",
-            force,
+            rule.server,
+            "; broken: ",
+            rule.client,
+            ", ",
+            rule.client_section,
             end
         )
         .write_to(output)?;
@@ -109,30 +118,35 @@ impl Text for ErrorLines<'_> {
 struct IgnoredLines {
     paint: Paint,
     reason: Ignored,
+    case: Option<SpecialCase>,
 }
 
 #[tactic(auto, unfolding(crate::specs::Lines::ignored_lines))]
 impl Text for IgnoredLines {
-    ghost text = { λ l. ignored_lines l.paint.0 l.reason };
+    ghost text = { λ l. ignored_lines l.paint.0 l.reason (rule_of_reason l.reason l.case) };
 
     fn write_to<O: Output>(&self, output: &mut O) -> Result<(), DeviceFault> {
         let reason = self.reason;
         let start = self.paint.started(Role::Ignored);
         let end = self.paint.ended();
-        let force = force_word(reason.is_must());
+        let rule = rule_of_reason(reason, self.case);
         texts!(
             INDENT,
             start,
             "ignored: ",
             reason.name(),
             ", ",
-            reason.section(),
+            rule.section,
             ", ",
-            force,
+            rule.server,
+            "; broken: ",
+            rule.client,
+            ", ",
+            rule.client_section,
             end
         )
         .write_to(output)?;
-        texts!(INDENT, start, reason.sentence(), end).write_to(output)
+        texts!(INDENT, start, rule.sentence, end).write_to(output)
     }
 }
 
@@ -142,11 +156,12 @@ struct CauseLines<'w> {
     paint: Paint,
     phase: Phase,
     cause: Option<Cause>,
+    case: Option<SpecialCase>,
     sentence: &'w str,
 }
 
 impl Text for CauseLines<'_> {
-    ghost text = { λ l. cause_lines l.paint.0 l.phase l.cause l.sentence.now };
+    ghost text = { λ l. cause_lines l.paint.0 l.phase l.cause l.case l.sentence.now };
 
     fn write_to<O: Output>(&self, output: &mut O) -> Result<(), DeviceFault> {
         match self.cause {
@@ -155,6 +170,7 @@ impl Text for CauseLines<'_> {
                 paint: self.paint,
                 phase: self.phase,
                 cause,
+                case: self.case,
                 sentence: self.sentence,
             }
             .write_to(output),
@@ -167,10 +183,11 @@ impl Text for CauseLines<'_> {
 struct ReasonLines {
     paint: Paint,
     ignored: Option<Ignored>,
+    case: Option<SpecialCase>,
 }
 
 impl Text for ReasonLines {
-    ghost text = { λ l. reason_lines l.paint.0 l.ignored };
+    ghost text = { λ l. reason_lines l.paint.0 l.ignored l.case };
 
     fn write_to<O: Output>(&self, output: &mut O) -> Result<(), DeviceFault> {
         match self.ignored {
@@ -178,6 +195,7 @@ impl Text for ReasonLines {
             Some(reason) => IgnoredLines {
                 paint: self.paint,
                 reason,
+                case: self.case,
             }
             .write_to(output),
         }
@@ -190,6 +208,8 @@ struct ItemWords {
     item: String,
     /// The lines of its fields, if they are shown with it.
     fields: String,
+    /// The line of the other causes that hold of its block, if there are any.
+    also: String,
     /// The lines of the frames that were sent.
     sent: String,
     /// The lines of what changed.
@@ -217,6 +237,13 @@ fn fields_text(
     fields.finish()
 }
 
+/// The line of the other causes that hold of a block, empty without one.
+fn also_text(alloc: Global, also: &[Cause], paint: Paint) -> Result<String, AllocError> {
+    let mut words = Words::new(alloc);
+    say_also(also, paint, &mut words);
+    words.finish()
+}
+
 /// The lines of the frames that were sent.
 fn sent_text(alloc: Global, sent: &[u8], paint: Paint) -> Result<String, AllocError> {
     let mut words = Words::new(alloc);
@@ -224,10 +251,19 @@ fn sent_text(alloc: Global, sent: &[u8], paint: Paint) -> Result<String, AllocEr
     words.finish()
 }
 
-/// The lines of changes.
-fn changes_text(alloc: Global, changes: &[Change], paint: Paint) -> Result<String, AllocError> {
+/// The lines of what an item changed.
+fn changes_text(alloc: Global, account: &Account, paint: Paint) -> Result<String, AllocError> {
     let mut words = Words::new(alloc);
-    say_changes(changes, paint, &mut words);
+    say_changes(account.changes.as_slice(), paint, &mut words);
+    say_all_moved(account.moved.as_slice(), paint, &mut words);
+    say_entries(account.entries.as_slice(), paint, &mut words);
+    words.finish()
+}
+
+/// The lines of what the server sent before the first item, empty for the others.
+fn opening_text(alloc: Global, opening: &[u8], paint: Paint) -> Result<String, AllocError> {
+    let mut words = Words::new(alloc);
+    say_opening(alloc, opening, paint, &mut words);
     words.finish()
 }
 
@@ -242,8 +278,9 @@ fn words_of(
     Ok(ItemWords {
         item: item_words(alloc, item)?,
         fields: fields_text(alloc, account, explainer, paint)?,
+        also: also_text(alloc, account.also.as_slice(), paint)?,
         sent: sent_text(alloc, item.sent.as_slice(), paint)?,
-        changes: changes_text(alloc, account.changes.as_slice(), paint)?,
+        changes: changes_text(alloc, account, paint)?,
     })
 }
 
@@ -252,7 +289,8 @@ fn lines_with(
     alloc: Global,
     item: &Explained<'_>,
     words: &ItemWords,
-    sentence: &str,
+    account: &Account,
+    opening: &str,
     paint: Paint,
 ) -> Result<String, AllocError>
     ensures { IfOk result (λ text. (w : Said) × (string_bytes text ≡ lines paint.0 item.now w)) }
@@ -263,19 +301,26 @@ fn lines_with(
         offset: item.offset as u64,
         words: words.item.as_str(),
     };
+    let sentence = account.sentence.as_str();
     let cause = CauseLines {
         paint,
         phase: item.after.counts.phase,
         cause: item.taken.cause,
+        case: case_of_error(item, account.facts),
         sentence,
     };
     let reason = ReasonLines {
         paint,
         ignored: item.taken.ignored,
+        case: case_of_reason(item, account.facts),
     };
     let fields = words.fields.as_str();
     let (sent, changes) = (words.sent.as_str(), words.changes.as_str());
-    string_of(alloc, &texts!(first, fields, cause, reason, sent, changes))
+    let also = words.also.as_str();
+    string_of(
+        alloc,
+        &texts!(opening, first, fields, cause, also, reason, sent, changes),
+    )
 }
 
 /// Whether nothing is said of an item: the preface, as it has to be.
@@ -288,7 +333,8 @@ fn is_silent(item: ItemHead) -> bool
     }
 }
 
-/// The text of an item; that of the preface is empty.
+/// The text of an item, before it that of the server's opening, if the item is the first; that of the preface itself is
+/// empty.
 pub(crate) fn lines_of(
     alloc: Global,
     item: &Explained<'_>,
@@ -298,9 +344,10 @@ pub(crate) fn lines_of(
 ) -> Result<String, AllocError>
     ensures { IfOk result (λ text. (w : Said) × (string_bytes text ≡ lines_of paint.0 item.now w)) }
 {
+    let opening = opening_text(alloc, account.opening.as_slice(), paint)?;
     if is_silent(item.taken.item) {
-        return Ok(String::new(alloc));
+        return Ok(opening);
     }
     let words = words_of(alloc, item, account, explainer, paint)?;
-    lines_with(alloc, item, &words, account.sentence.as_str(), paint)
+    lines_with(alloc, item, &words, account, opening.as_str(), paint)
 }

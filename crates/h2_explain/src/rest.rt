@@ -5,17 +5,19 @@
 ghost use Rattle.std.specs.Prelude.{◌≡◌, false, IfOk};
 ghost use Rattle.std.specs.String.{string_bytes};
 ghost use Rattle.h2_explain.specs.Explains.{EndsLine, IsRestOf};
-ghost use Rattle.h2_explain.specs.Rest.{missing_of, rest_of};
+ghost use Rattle.h2_explain.specs.Rest.{missing_of, missing_of_front, rest_of};
 
-use crate::json::line_of;
+use crate::json::{line_of, put_head};
 use crate::json_words::JsonWords;
 use crate::paint::{Paint, Role};
 use h2_conn::Conn;
+use h2_describe::frame_words::say_head;
 use h2_describe::say::{Octets, Words};
 use h2_describe::say_all;
 use h2_device::{string_of, texts};
 use h2_frame::read_head;
 use h2_spec::connection::Phase;
+use h2_spec::frames::Head;
 use std::alloc::{AllocError, Global};
 
 /// What the next item is.
@@ -33,8 +35,10 @@ pub struct Missing {
     pub what: Awaited,
     /// How many octets it needs more.
     pub needs: usize,
-    /// Whether it may need more than these: the head of the frame is not there yet.
+    /// Whether it may need more than these: the length of the frame is not there yet.
     pub at_least: bool,
+    /// The head of the frame, once it is there.
+    pub head: Option<Head>,
 }
 
 /// What is after the last item.
@@ -62,6 +66,7 @@ fn missing_of(phase: Phase, octets: &[u8]) -> Missing
             what: Awaited::Preface,
             needs: 24usize.saturating_sub(octets.len()),
             at_least: false,
+            head: None,
         };
     }
     match read_head(octets) {
@@ -69,12 +74,30 @@ fn missing_of(phase: Phase, octets: &[u8]) -> Missing
             what: Awaited::Frame,
             needs: (9 + head.length as usize).saturating_sub(octets.len()),
             at_least: false,
+            head: Some(head),
         },
-        None => Missing {
+        None => missing_of_front(octets),
+    }
+}
+
+/// What octets lack that are not the whole head of a frame: they begin with its length (RFC 9113, 4.1).
+fn missing_of_front(octets: &[u8]) -> Missing
+    ensures { result ≡ missing_of_front octets.now }
+{
+    if octets.len() < 3 {
+        return Missing {
             what: Awaited::Frame,
             needs: 9usize.saturating_sub(octets.len()),
             at_least: true,
-        },
+            head: None,
+        };
+    }
+    let length = 65536 * octets[0] as usize + 256 * octets[1] as usize + octets[2] as usize;
+    Missing {
+        what: Awaited::Frame,
+        needs: (9 + length).saturating_sub(octets.len()),
+        at_least: false,
+        head: None,
     }
 }
 
@@ -132,12 +155,21 @@ pub(crate) fn rest_line(alloc: Global, rest: Rest, paint: Paint) -> Result<Strin
 
 /// Puts last what octets lack to be an item.
 fn say_missing(missing: Missing, out: &mut Words) {
-    let what = match missing.what {
-        Awaited::Preface => "the connection preface",
-        Awaited::Frame => "a frame",
-    };
+    say_all!(out; " of ");
+    match (missing.what, missing.head) {
+        (Awaited::Preface, _) => say_all!(out; "the connection preface"),
+        (Awaited::Frame, Some(head)) => say_head(&head, out),
+        (Awaited::Frame, None) => say_all!(out; "a frame"),
+    }
     let least = if missing.at_least { "at least " } else { "" };
-    say_all!(out; " of ", what, ", which needs ", least, missing.needs, " more");
+    say_all!(out; ", which needs ", least, missing.needs, " more");
+}
+
+/// Puts the head of the frame that is cut off, if it is there.
+fn put_cut_frame(missing: Missing, out: &mut JsonWords) {
+    if let Some(head) = missing.head {
+        put_head(&head, out);
+    }
 }
 
 /// Puts what is after the last item in.
@@ -147,6 +179,9 @@ fn put_end(rest: Rest, out: &mut JsonWords) {
         None => out.flag("at_least", rest.missing.at_least),
     }
     out.flag("ended", rest.ended.is_some());
+    if rest.ended.is_none() {
+        put_cut_frame(rest.missing, out);
+    }
     out.number("items", rest.items);
     if rest.ended.is_none() {
         out.number("needs", rest.missing.needs as u64);

@@ -3,8 +3,9 @@
 
 use crate::error_context::ErrorContext;
 use crate::field_sentence::say_field;
-use h2_describe::say::{Fields, HexOctet, Octets, Words};
+use h2_describe::say::{Cut, Fields, HexOctet, Octets, Ordinal, Words};
 use h2_describe::say_all;
+use h2_describe::sent::first_of;
 use h2_describe::spelled::Stopped;
 use h2_spec::causes::Cause;
 use h2_spec::frames::PREFACE;
@@ -35,7 +36,7 @@ pub(crate) fn say_sentence(cause: Cause, context: ErrorContext<'_, '_>, out: &mu
 /// The preface and the first frame (RFC 9113, 3.4).
 fn say_first(cause: Cause, context: ErrorContext<'_, '_>, out: &mut Words) -> bool {
     match cause {
-        Cause::BadPreface => say_preface(context.item.octets, out),
+        Cause::BadPreface => say_preface(context, out),
         Cause::FirstNotSettings => say_all!(out;
             "the first frame is ", context.frame_type(), "; SETTINGS has to follow the preface"),
         _ => return false,
@@ -43,8 +44,74 @@ fn say_first(cause: Cause, context: ErrorContext<'_, '_>, out: &mut Words) -> bo
     true
 }
 
+/// What octets are that are no connection preface.
+#[derive(Clone, Copy)]
+enum Other {
+    /// The first line of an HTTP/1.1 message.
+    Http1,
+    /// The head of a TLS record with a handshake.
+    Tls,
+    /// A SETTINGS frame, or a GOAWAY frame.
+    Settings,
+    Goaway,
+    Unknown,
+}
+
+/// Where a line ends: before the first octet that is no visible one of ASCII.
+fn line_in(octets: &[u8]) -> &[u8] {
+    for (place, octet) in octets.iter().enumerate() {
+        if !(b' '..=b'~').contains(octet) {
+            return first_of(octets, place);
+        }
+    }
+    octets
+}
+
+/// Whether a line has ` HTTP/1.` in it, or begins with `HTTP/1.`.
+fn is_http1(line: &[u8]) -> bool {
+    for part in line.split(|octet| *octet == b' ') {
+        if part.starts_with(b"HTTP/1.") {
+            return true;
+        }
+    }
+    false
+}
+
+/// What the octets are, by how they begin (RFC 9113, 4.1; RFC 9112, 3; RFC 8446, 5.1).
+fn other_of(octets: &[u8]) -> Other {
+    match octets {
+        [22, 3, ..] => Other::Tls,
+        [0, 0, _, 4, ..] => Other::Settings,
+        [0, 0, _, 7, ..] => Other::Goaway,
+        _ => {
+            if is_http1(line_in(first_of(octets, 4096))) {
+                Other::Http1
+            } else {
+                Other::Unknown
+            }
+        }
+    }
+}
+
+/// What the octets are that should be the preface, where that can be told, or the first that is not the preface's.
+fn say_preface(context: ErrorContext<'_, '_>, out: &mut Words) {
+    let ahead = context.item.ahead;
+    match other_of(ahead) {
+        Other::Http1 => say_all!(out;
+            "this is HTTP/1.1: \"", Cut(line_in(first_of(ahead, 4096))),
+            "\"; with prior knowledge HTTP/2 begins with \"PRI * HTTP/2.0\""),
+        Other::Tls => say_all!(out;
+            "this is a TLS handshake; this server takes HTTP/2 without TLS"),
+        Other::Settings => say_all!(out;
+            "this is a SETTINGS frame: the connection preface is missing before it, or these are the octets of a server"),
+        Other::Goaway => say_all!(out;
+            "this is a GOAWAY frame: the connection preface is missing, or these are the octets of a server"),
+        Other::Unknown => say_wrong_octet(context.item.octets, out),
+    }
+}
+
 /// The octet that is not that of the preface: the last one of the item.
-fn say_preface(octets: &[u8], out: &mut Words) {
+fn say_wrong_octet(octets: &[u8], out: &mut Words) {
     let place = octets.len();
     let wanted = PREFACE.get(place.saturating_sub(1)).copied().unwrap_or(0);
     let octet = octets.last().copied().unwrap_or(0);
@@ -133,21 +200,36 @@ fn say_state(cause: Cause, context: ErrorContext<'_, '_>, out: &mut Words) -> bo
     let stream = context.stream();
     let highest = context.item.before.counts.last;
     match cause {
-        Cause::DataOnIdle => say_all!(out; "stream ", stream, " is idle; only HEADERS opens it"),
-        Cause::RstStreamOnIdle | Cause::WindowUpdateOnIdle => {
-            say_all!(out; "stream ", stream, " is idle");
+        Cause::DataOnIdle | Cause::RstStreamOnIdle | Cause::WindowUpdateOnIdle => {
+            say_idle(stream, out);
         }
         Cause::DataOnSkipped => say_all!(out;
-            "stream ", stream, " was never opened, and closed when stream ", highest, " was"),
+            "stream ", stream, " was never opened; it was closed when stream ", highest, " was opened"),
         Cause::HeadersOnEven => say_all!(out;
             "stream ", stream, " is even; a client opens odd ones"),
         Cause::HeadersOnSkipped => say_all!(out;
             "stream ", stream, " is new and below ", highest, ", which was opened before"),
-        Cause::TooManyStreams => say_all!(out;
-            "as many streams are live as this server takes, ", context.config.streams),
+        Cause::TooManyStreams => say_limit_of_streams(context, out),
         _ => return false,
     }
     true
+}
+
+/// An idle stream (RFC 9113, 5.1 and 5.1.1).
+fn say_idle(stream: u32, out: &mut Words) {
+    if stream % 2 == 0 {
+        say_all!(out; "stream ", stream, " is even; the streams of a client are odd");
+    } else {
+        say_all!(out; "stream ", stream, " is idle; HEADERS has to open it first");
+    }
+}
+
+/// The limit of live streams (RFC 9113, 5.1.2).
+fn say_limit_of_streams(context: ErrorContext<'_, '_>, out: &mut Words) {
+    say_all!(out; "as many streams are live as this server takes, ", context.config.streams);
+    if !context.item.before.counts.acked {
+        say_all!(out; "; the client has not acknowledged that limit yet");
+    }
 }
 
 /// How a stream closed.
@@ -199,42 +281,81 @@ fn say_send_window(cause: Cause, context: ErrorContext<'_, '_>, out: &mut Words)
     let before = &context.item.before;
     let increment = context.increment();
     match cause {
-        Cause::ConnectionIncrementZero => say_all!(out; "an increment of 0"),
-        Cause::StreamIncrementZero =>
-            say_all!(out; "an increment of 0 on stream ", context.stream()),
+        Cause::ConnectionIncrementZero => say_all!(out; "an increment of 0; the least is 1"),
+        Cause::StreamIncrementZero => say_all!(out;
+            "an increment of 0 on stream ", context.stream(), "; the least is 1"),
         Cause::ConnectionWindowOverflow => say_all!(out;
-            "a send window of ", i64::from(before.counts.send.value()), " and ", increment,
-            " is above 2147483647"),
-        Cause::StreamWindowOverflow => say_all!(out;
-            "the send window of stream ", context.stream(), ", ",
-            i64::from(before.stream.numbers.send.value()), ", and ", increment,
-            " is above 2147483647"),
+            "the connection's send window: ", i64::from(before.counts.send.value()), " + ",
+            increment, " is above 2147483647"),
+        Cause::StreamWindowOverflow => {
+            say_all!(out;
+                "the send window of stream ", context.stream(), ": ",
+                i64::from(before.stream.numbers.send.value()), " + ", increment,
+                " is above 2147483647");
+            say_unfollowed(before.stream.kind, out);
+        }
         _ => return false,
     }
     true
 }
 
-/// Whether a setting is one that a cause refuses.
-fn is_refused(cause: Cause, id: u16, value: u32) -> bool {
+/// Puts last why a client may count another window on a half-closed (local) stream (RFC 9113, 6.9.2).
+fn say_unfollowed(kind: Kind, out: &mut Words) {
+    if let Kind::HalfLocal = kind {
+        say_all!(out;
+            "; on a half-closed (local) stream this server's number does not follow SETTINGS_INITIAL_WINDOW_SIZE, and the client's may be lower");
+    }
+}
+
+/// Whether a setting is one that a cause refuses; `widest` is the greatest send window of a stream, and `from` the initial
+/// window before the frame.
+fn is_refused(cause: Cause, id: u16, value: u32, widest: i64, from: u32) -> bool {
     match cause {
         Cause::EnablePushValue => id == 2 && value > 1,
         Cause::InitialWindowSizeValue => id == 4 && value > 2_147_483_647,
         Cause::MaxFrameSizeValue => id == 5 && !(16_384..=16_777_215).contains(&value),
-        Cause::InitialWindowSizeOverflow => id == 4,
+        Cause::InitialWindowSizeOverflow => {
+            id == 4 && moved(widest, from, value) > 2_147_483_647
+        }
         _ => false,
     }
 }
 
+/// A window, where the initial window goes from one value to another (RFC 9113, 6.9.2).
+fn moved(window: i64, from: u32, to: u32) -> i64 {
+    window
+        .saturating_add(i64::from(to))
+        .saturating_sub(i64::from(from))
+}
+
 /// The place and the value of the first setting that a cause refuses.
 fn refused_setting(cause: Cause, context: ErrorContext<'_, '_>) -> Option<(usize, u32)> {
+    let from = context.item.before.counts.peer.window;
+    let widest = match context.widest {
+        Some((_, widest)) => widest,
+        None => 0,
+    };
     for place in 0..context.payload().len() / 6 {
         if let Some((id, value)) = context.setting(place) {
-            if is_refused(cause, id, value) {
+            if is_refused(cause, id, value, widest, from) {
                 return Some((place.saturating_add(1), value));
             }
         }
     }
     None
+}
+
+/// An initial window that takes the send window of a stream too far (RFC 9113, 6.9.2).
+fn say_moved(place: usize, value: u32, context: ErrorContext<'_, '_>, out: &mut Words) -> bool {
+    let from = context.item.before.counts.peer.window;
+    let Some((stream, window)) = context.widest else {
+        return false;
+    };
+    say_all!(out;
+        "the ", Ordinal(place), " setting, INITIAL_WINDOW_SIZE (4), from ", from, " to ", value,
+        " moves the send window of stream ", stream, " from ", window, " to ",
+        moved(window, from, value), ", above 2147483647");
+    true
 }
 
 /// Settings (RFC 9113, 6.5.2 and 6.9.2).
@@ -244,17 +365,14 @@ fn say_setting(cause: Cause, context: ErrorContext<'_, '_>, out: &mut Words) -> 
     };
     match cause {
         Cause::EnablePushValue => say_all!(out;
-            "setting ", place, ", SETTINGS_ENABLE_PUSH, is ", value, "; it may be 0 or 1"),
+            "the ", Ordinal(place), " setting, ENABLE_PUSH (2), is ", value, "; it may be 0 or 1"),
         Cause::InitialWindowSizeValue => say_all!(out;
-            "setting ", place, ", SETTINGS_INITIAL_WINDOW_SIZE, is ", value,
+            "the ", Ordinal(place), " setting, INITIAL_WINDOW_SIZE (4), is ", value,
             "; it may be up to 2147483647"),
         Cause::MaxFrameSizeValue => say_all!(out;
-            "setting ", place, ", SETTINGS_MAX_FRAME_SIZE, is ", value,
+            "the ", Ordinal(place), " setting, MAX_FRAME_SIZE (5), is ", value,
             "; it may be 16384 to 16777215"),
-        Cause::InitialWindowSizeOverflow => say_all!(out;
-            "setting ", place, ", SETTINGS_INITIAL_WINDOW_SIZE from ",
-            context.item.before.counts.peer.window, " to ", value,
-            ", takes the send window of a stream above 2147483647"),
+        Cause::InitialWindowSizeOverflow => return say_moved(place, value, context, out),
         _ => return false,
     }
     true

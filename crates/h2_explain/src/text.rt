@@ -2,16 +2,20 @@
 //! Rests on `account` and `frame_words`; no definition speaks of them, the format is in docs/FORMATS.md.
 
 use crate::changes::Change;
+use crate::count::Count;
+use crate::header_table::EntryChange;
 use crate::item::Explained;
+use crate::moved::Moved;
 use crate::paint::{Paint, Role};
 use h2_describe::frame_words::{say_frame, say_head};
 use h2_describe::names::kind_name;
-use h2_describe::say::{Octets, Text, Words};
+use h2_describe::say::{Cut, Octets, Words};
 use h2_describe::say_all;
-use h2_describe::sent::{first_of, next_frame};
+use h2_describe::sent::next_frame;
 use h2_describe::spelled::{BlockReader, SpelledField, Spelling};
 use h2_fields::instruction::Mode;
 use h2_frame::FrameRef;
+use h2_spec::causes::Cause;
 use h2_spec::frames::{FrameType, ItemHead};
 use std::alloc::{AllocError, Global};
 
@@ -57,25 +61,11 @@ fn say_spelling(spelling: Spelling, out: &mut Words) {
     }
 }
 
-/// How many octets of a long text are shown.
-const SHOWN: usize = 100;
-
-/// Puts the first octets of a text last, and how many it has where not all are shown.
-fn say_cut(octets: &[u8], out: &mut Words) {
-    say_all!(out; Text(first_of(octets, SHOWN)));
-    if octets.len() > SHOWN {
-        say_all!(out; ".. of ", Octets(octets.len() as u64));
-    }
-}
-
 /// Puts the line of a field last.
 fn say_field(field: &SpelledField, paint: Paint, out: &mut Words) {
     paint.begin(Role::Field, out);
-    say_all!(out; "field ");
-    say_cut(field.name.as_slice(), out);
-    say_all!(out; ": \"");
-    say_cut(field.value.as_slice(), out);
-    say_all!(out; "\" (");
+    let (name, value) = (Cut(field.name.as_slice()), Cut(field.value.as_slice()));
+    say_all!(out; "field ", name, ": \"", value, "\" (");
     say_spelling(field.spelling, out);
     say_all!(out; ")");
     paint.end(out);
@@ -102,7 +92,7 @@ pub(crate) fn say_fields(reader: &BlockReader, paint: Paint, out: &mut Words) {
 const ANSWER_TABLE: u32 = 4096;
 
 /// The fields of an answer.
-fn read_answer(alloc: Global, block: &[u8]) -> Result<BlockReader, AllocError> {
+pub(crate) fn read_answer(alloc: Global, block: &[u8]) -> Result<BlockReader, AllocError> {
     let mut reader = BlockReader::new(alloc, ANSWER_TABLE)?;
     reader.read(alloc, block)?;
     Ok(reader)
@@ -139,9 +129,9 @@ pub(crate) fn say_sent(alloc: Global, sent: &[u8], paint: Paint, out: &mut Words
     }
 }
 
-/// Puts a limit last, `none` where there is none.
-fn say_limit(value: i64, out: &mut Words) {
-    if value == -1 {
+/// Puts a number last, `none` where it is absent.
+fn say_number(what: Count, value: i64, out: &mut Words) {
+    if value == -1 && what.may_be_absent() {
         say_all!(out; "none");
     } else {
         say_all!(out; value);
@@ -172,18 +162,96 @@ fn say_change(change: &Change, out: &mut Words) {
                 say_all!(out; "stream ", *stream, ": ");
             }
             say_all!(out; what.name(), " ");
-            say_limit(*before, out);
+            say_number(*what, *before, out);
             say_all!(out; " -> ");
-            say_limit(*after, out);
+            say_number(*what, *after, out);
         }
         Change::State(stream, before, after) => say_all!(out;
             "stream ", *stream, ": ", kind_name(*before), " -> ", kind_name(*after)),
         Change::Acknowledged(_, _) => say_all!(out; "the server's settings are acknowledged"),
         Change::Stops(stream, remaining, own, connection) => {
-            say_all!(out; "stream ", *stream, ": ", Octets(*remaining), " of its body remain");
+            let verb = if *remaining == 1 {
+                " of its body remains"
+            } else {
+                " of its body remain"
+            };
+            say_all!(out; "stream ", *stream, ": ", Octets(*remaining), verb);
             say_spent(*own, *connection, out);
         }
     }
+}
+
+/// Puts a change of a stream last that is not among the changes.
+fn say_moved(moved: &Moved, out: &mut Words) {
+    match moved {
+        Moved::Opened(stream, recv, send, declared) => {
+            say_all!(out;
+                "stream ", *stream, ": begins with a receive window of ", *recv,
+                " and a send window of ", *send);
+            if let Some(declared) = declared {
+                say_all!(out; ", content-length ", *declared);
+            }
+        }
+        Moved::Number(stream, what, before, after) => say_all!(out;
+            "stream ", *stream, ": ", what.name(), " ", *before, " -> ", *after),
+        Moved::BodySent(stream) => say_all!(out; "stream ", *stream, ": its body is sent"),
+        Moved::Block(block) => say_all!(out;
+            "the block of stream ", block.stream, " is open: ", Octets(u64::from(block.octets)),
+            ", a list of ", block.list_size),
+        Moved::BlockEnds(stream) => say_all!(out; "the block of stream ", *stream, " ends"),
+    }
+}
+
+/// Puts the lines of what changed on streams besides last.
+pub(crate) fn say_all_moved(moved: &[Moved], paint: Paint, out: &mut Words) {
+    for change in moved {
+        paint.begin(Role::Change, out);
+        say_moved(change, out);
+        paint.end(out);
+    }
+}
+
+/// Puts the lines of entries that were entered or evicted last: `table + 62 NAME: VALUE (SIZE)`, `table - NAME: VALUE`.
+pub(crate) fn say_entries(entries: &[EntryChange], paint: Paint, out: &mut Words) {
+    for change in entries {
+        let entry = &change.entry;
+        let (name, value) = (Cut(entry.name.as_slice()), Cut(entry.value.as_slice()));
+        paint.begin(Role::Change, out);
+        if change.is_entered {
+            say_all!(out; "table + 62 ", name, ": \"", value, "\" (", entry.size(), ")");
+        } else {
+            say_all!(out; "table - ", name, ": \"", value, "\"");
+        }
+        paint.end(out);
+    }
+}
+
+/// Puts the lines of the frames that the server sent before the first item last, if there are any.
+pub(crate) fn say_opening(alloc: Global, opening: &[u8], paint: Paint, out: &mut Words) {
+    if opening.is_empty() {
+        return;
+    }
+    paint.start(Role::Item, out);
+    say_all!(out; "#0 @0   the server's opening");
+    paint.end(out);
+    say_sent(alloc, opening, paint, out);
+}
+
+/// Puts the line of the other causes that hold of a block last, if there are any.
+pub(crate) fn say_also(also: &[Cause], paint: Paint, out: &mut Words) {
+    if also.is_empty() {
+        return;
+    }
+    paint.begin(Role::Error, out);
+    say_all!(out; "also: ");
+    let start = out.len();
+    for cause in also {
+        if out.len() > start {
+            say_all!(out; ", ");
+        }
+        say_all!(out; cause.name());
+    }
+    paint.end(out);
 }
 
 /// Puts the lines of changes last.

@@ -20,10 +20,23 @@ fn head() -> Head
     }
 }
 
+/// The head at the front of octets: its length, type, flags, reserved bit and stream.
+fn head_at(octets: &[u8]) -> Option<(u32, u8, u8, bool, u32)> {
+    let head = read_head(octets)?;
+    Some((
+        head.length,
+        head.kind,
+        head.flags,
+        head.reserved,
+        head.stream,
+    ))
+}
+
 #[test]
 fn a_frame_is_written_and_its_head_is_read(rt: HostRuntime) {
     let mut out = Vec::new(rt.alloc());
     let written = write_frame(&head(), b"\x01\x02\x03\x04\x05\x06\x07\x08", &mut out);
     same(&rt, &(written, out.as_slice()), &(Ok(()), PING), &"written");
-    same(&rt, &read_head(out.as_slice()), &Some(head()), &"read");
+    let read = head_at(out.as_slice());
+    same(&rt, &read, &Some((8, 6, 0, false, 0)), &"read");
 }

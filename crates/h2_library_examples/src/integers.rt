@@ -11,8 +11,7 @@ fn an_integer_is_written_and_read(rt: HostRuntime) {
     let written = write_int(5, 0, 1337, &mut out);
     let wanted = (Ok(()), b"\x1f\x9a\x0a".as_slice());
     same(&rt, &(written, out.as_slice()), &wanted, &"written");
-    let read = read_int(5, out.as_slice());
-    same(&rt, &read, &IntRead::Whole(1337, 3), &"read");
+    assert!(rt; matches!(read_int(5, out.as_slice()), IntRead::Whole(1337, 3)));
 }
 
 /// The text of a string, whether it is a Huffman string, and how many octets it takes. No clause says it, so that the

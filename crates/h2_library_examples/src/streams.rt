@@ -26,16 +26,16 @@ fn open_and_reset(rt: &impl Abort, streams: &mut Streams<Global>) -> Result<(), 
     streams.open_reset(7)
 }
 
-/// The last stream, how many are live, and the states of the streams 3, 5, 7 and 9. No clause says it, so that the proof
-/// of a test does not carry the records.
-fn state(streams: &Streams<Global>) -> (u32, usize, [Kind; 4]) {
-    let kinds = [
-        streams.kind(3),
-        streams.kind(5),
-        streams.kind(7),
-        streams.kind(9),
+/// The last stream, how many are live, and whether the streams 3, 5, 7 and 9 are skipped, open, reset and idle. No clause
+/// says it, so that the proof of a test does not carry the records.
+fn state(streams: &Streams<Global>) -> (u32, usize, [bool; 4]) {
+    let states = [
+        matches!(streams.kind(3), Kind::Skipped),
+        matches!(streams.kind(5), Kind::BothOpen),
+        matches!(streams.kind(7), Kind::WeReset),
+        matches!(streams.kind(9), Kind::Idle),
     ];
-    (streams.last(), streams.live_count(), kinds)
+    (streams.last(), streams.live_count(), states)
 }
 
 #[test]
@@ -43,6 +43,5 @@ fn streams_are_opened(rt: HostRuntime) {
     let mut streams = Streams::new(rt.alloc());
     let opened = open_and_reset(&rt, &mut streams);
     same(&rt, &opened, &Ok(()), &"memory for the records");
-    let kinds = [Kind::Skipped, Kind::BothOpen, Kind::WeReset, Kind::Idle];
-    same(&rt, &state(&streams), &(7, 1, kinds), &"two records");
+    same(&rt, &state(&streams), &(7, 1, [true; 4]), &"two records");
 }

@@ -2,7 +2,7 @@
 //! Rests on h2_bench, h2_book and h2_device; what it prints for its input is defined in `h2_bench/specs/Printed.antt`.
 #![tactic(auto)]
 
-use h2_bench::{Words, run_on, serve};
+use h2_bench::{Plan, Words, carry_out, parse, serve};
 use h2_book::StdFiles;
 use h2_device::{FromRead, IntoWrite, Output};
 use std::io;
@@ -51,23 +51,17 @@ fn answer(rt: &HostRuntime, words: &Words) -> ExitCode {
     let mut files = StdFiles { runtime: rt };
     let mut stderr = rt.stderr();
     let mut errors = IntoWrite::new(&mut stderr);
-    let served = serve(
-        rt.alloc(),
-        rt,
-        words,
-        &mut files,
-        &mut gathered,
-        &mut errors,
-    );
-    let mut output = IntoWrite::new(&mut gathered);
-    if let Some(status) = served {
-        return finish(&mut output, status);
+    let asked = parse(rt.alloc(), words);
+    if let Ok(Plan::Serve(plan)) = &asked {
+        let status = serve(rt.alloc(), rt, plan, &mut files, &mut gathered, &mut errors);
+        return finish(&mut IntoWrite::new(&mut gathered), status);
     }
+    let mut output = IntoWrite::new(&mut gathered);
     let mut stdin = rt.stdin();
     let mut input = FromRead::new(&mut stdin);
-    let status = run_on(
+    let status = carry_out(
         rt.alloc(),
-        words,
+        &asked,
         &mut files,
         &mut input,
         &mut output,

@@ -1,9 +1,10 @@
 //! Whether fields make a request or trailers, and what a request asks for (RFC 9113, 8.1 to 8.5).
 //! It rests on `walk`; the definitions are `malformed`, `malformed_trailers` and `request_of` of `h2_spec`,
-//! specs/Request.antt, which `h2_laws`, specs/Reasons.antt, says once more of the places of fields in their list.
+//! specs/Request.antt, and its specs/Reasons.antt, which states the reasons by the places of fields in their list.
 
 ghost use Rattle.std.specs.Prelude.{◌≡◌, ◌==◌, [], length, unwrap_or, IfOk, IfErr, OnOk};
 ghost use Rattle.std.specs.Option.{option_map, option_copied};
+ghost use Rattle.h2_spec.specs.Reasons.{IsLeast, IsReason, IsTrailersReason};
 ghost use Rattle.h2_spec.specs.Request.{malformed, malformed_trailers, request_of};
 ghost use Rattle.h2_request.specs.Asked.{asked, request_seen};
 ghost use Rattle.h2_request.specs.Fields.{fields_in};
@@ -40,6 +41,8 @@ pub fn check<A: Allocator>(fields: &[Field<A>]) -> Result<Request<'_>, Malformed
     ensures accepted { OnOk result (malformed fields.now ≡ None) }
     ensures request { IfOk result (λ request. asked request ≡ request_of fields.now) }
     ensures refused { IfErr result (λ e. malformed fields.now ≡ Some (reason_number e.0)) }
+    ensures none { OnOk result (IsLeast (IsReason fields.now) None) }
+    ensures least { IfErr result (λ e. IsLeast (IsReason fields.now) (Some (reason_number e.0))) }
 {
     check_fields(&Fields::Slice(fields))
 }
@@ -70,6 +73,8 @@ pub fn check_fields<'a, A: Allocator>(fields: &Fields<'a, A>) -> Result<Request<
 pub fn check_trailers<A: Allocator>(fields: &[Field<A>]) -> Result<(), Malformed>
     ensures accepted { OnOk result (malformed_trailers fields.now ≡ None) }
     ensures refused { IfErr result (λ e. malformed_trailers fields.now ≡ Some (reason_number e.0)) }
+    ensures none { OnOk result (IsLeast (IsTrailersReason fields.now) None) }
+    ensures least { IfErr result (λ e. IsLeast (IsTrailersReason fields.now) (Some (reason_number e.0))) }
 {
     check_trailer_fields(&Fields::Slice(fields))
 }

@@ -6,7 +6,8 @@ use Rattle.h2_spec.specs.Answer.{Entry}
 use Rattle.h2_debug.specs.Debugging.{Debugging}
 use Rattle.h2_session.specs.Faults.{fault_number}
 use Rattle.h2_session.specs.Lines.{ended_lines, is_digit, lines_of, octets_in, octets_spelled}
-use Rattle.h2_session.specs.Loading.{IsNotLoaded, Loads}
+use Rattle.h2_session.specs.Loading.{Loads, load_fault}
+use Rattle.h2_spec.specs.State.{is_allowed}
 use Rattle.h2_session.specs.Reading.{IsCut, most}
 use Rattle.h2_session.specs.Responses.{IsRefusal, IsResponse}
 use Rattle.h2_session.specs.Session.{IsAnswered, IsFollowed, IsGiven, IsLoaded, IsSession, Printed, Prints, closed, failed}
@@ -53,14 +54,17 @@ line-known octets digits first last before after e (line, takes, is) =
     (k.0, k.1)
 
 -- no debugger
-not-loaded : (book : List Entry) (config : Config) (spelled : Option (List ℕ)) (fault : SessionFault) (lines : List (List ℕ)) (whole : Bool) → IsNotLoaded config spelled fault
+not-loaded : (book : List Entry) (config : Config) (spelled : Option (List ℕ)) (fault : SessionFault) (lines : List (List ℕ)) (whole : Bool) → fault ≡ load_fault spelled (is_allowed config)
     → (fault ≡ NoMemory) ⊎ IsLoaded book config spelled lines whole (failed (fault_number fault))
-not-loaded book config spelled fault lines whole (inl none) = inl none
-not-loaded book config spelled fault lines whole (inr (inl (bad, none))) = inr (rw (bad, none) refl)
-not-loaded book config spelled fault lines whole (inr (inr (octets, bad, some, limits))) = inr (rw (bad, some, limits) refl)
+not-loaded book config spelled fault lines whole why = go spelled (is_allowed config) refl why
+  where
+    go : (s : Option (List ℕ)) (allowed : Bool) → is_allowed config ≡ allowed → fault ≡ load_fault s allowed → (fault ≡ NoMemory) ⊎ IsLoaded book config s lines whole (failed (fault_number fault))
+    go None allowed is bad = inr (rw bad refl)
+    go (Some octets) true is none = inl none
+    go (Some octets) false is bad = inr (rw (bad, is) refl)
 
 pub session-unloaded : (book : List Entry) (config : Config) (octets digits : List ℕ) (end : End) (first last : ℕ) (before after rest : Option (List ℕ)) (fault : SessionFault)
-    → before ≡ Some octets → first ≡ 0 → last ≤ most → TakesFirst before after first last digits end → IsNotLoaded config (octets_in (decode_of digits)) fault
+    → before ≡ Some octets → first ≡ 0 → last ≤ most → TakesFirst before after first last digits end → fault ≡ load_fault (octets_in (decode_of digits)) (is_allowed config)
     → IsSession book config octets false rest (failed (fault_number fault))
 session-unloaded book config octets digits Input first last before after rest fault e zero le takes not =
     elim (not-loaded book config (octets_in (decode_of digits)) fault [] true not) [
@@ -97,7 +101,7 @@ session-followed book config octets digits more input_failed first last before a
 -- the session behind its first line
 pub session-responded : (book : List Entry) (config : Config) (octets held digits : List ℕ) (loaded : Result Debugging SessionFault) (end : End) (first last : ℕ) (before middle rest : Option (List ℕ)) (input_failed : Bool)
     (written : Option (List ℕ)) (status : ℕ) → before ≡ Some octets → first ≡ 0 → last ≤ most → TakesFirst before middle first last digits end
-    → IfOk loaded (Loads book config (octets_in (decode_of digits))) → IfErr loaded (IsNotLoaded config (octets_in (decode_of digits)))
+    → IfOk loaded (Loads book config (octets_in (decode_of digits))) → IfErr loaded (λ fault. fault ≡ load_fault (octets_in (decode_of digits)) (is_allowed config))
     → IfOk loaded (λ d. IsResponse d end (most - last) middle input_failed rest false (Some held) written status)
     → IfErr loaded (λ fault. IsRefusal fault false (Some held) written status)
     → OnErr loaded (input_failed ≡ false) → (end ≡ Input → input_failed ≡ false)

@@ -1,8 +1,10 @@
 pub mod Ahead
-pub mod Beginning
 pub mod Appending
+pub mod Beginning
 pub mod Following
 pub mod Giving
 pub mod Lines
+pub mod Obeying
 pub mod Short
+pub mod Spelling
 pub mod Taking

@@ -1,5 +1,5 @@
 -- A debugger that is loaded from a line, and why none is.
-use Rattle.std.specs.Prelude.{◌≡◌, ◌⊎◌, ℕ, true, false, List, Option, Some, None}
+use Rattle.std.specs.Prelude.{◌≡◌, ℕ, Bool, true, false, List, Option, Some, None}
 use Rattle.h2_spec.specs.State.{is_allowed}
 use Rattle.h2_spec.specs.declared.connection.Config.{Config}
 use Rattle.h2_spec.specs.Answer.{Entry}
@@ -12,7 +12,9 @@ use Rattle.h2_session.specs.declared.fault.SessionFault.TheVariants.{BadConfig, 
 abbrev pub Loads : List Entry → Config → Option (List ℕ) → Debugging → Type 0
 Loads book config spelled d = (octets : List ℕ) × (spelled ≡ Some octets) × (is_allowed config ≡ true) × (d ≡ loaded book config octets)
 
--- out of memory, or the line is not hex, or a limit or a setting is out of range
-abbrev pub IsNotLoaded : Config → Option (List ℕ) → SessionFault → Type 0
-IsNotLoaded config spelled fault = (fault ≡ NoMemory) ⊎ (((fault ≡ BadHex) × (spelled ≡ None))
-    ⊎ ((octets : List ℕ) × (fault ≡ BadConfig) × (spelled ≡ Some octets) × (is_allowed config ≡ false)))
+-- why none is, found before memory is needed: the line is not hex, or a limit or a setting is out of range; elsewhere
+-- out of memory
+abbrev pub load_fault : (spelled : Option (List ℕ)) → (allowed : Bool) → SessionFault
+load_fault None allowed = BadHex
+load_fault (Some octets) true = NoMemory
+load_fault (Some octets) false = BadConfig

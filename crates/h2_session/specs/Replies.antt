@@ -1,5 +1,5 @@
 -- What a command does to a debugger, and what is printed for it.
-use Rattle.std.specs.Prelude.{◌≡◌, ◌⊎◌, ℕ, ◌+◌, ◌-◌, ◌++◌, ◌==◌, ◌&&◌, Bool, true, false, nat_lt, min, if◌then◌else◌, List, [], ◌∷◌, codes, decimal, Option, Some, None, is_some, Result, Ok, Err}
+use Rattle.std.specs.Prelude.{◌≡◌, ◌⊎◌, ℕ, ◌+◌, ◌-◌, ◌++◌, ◌==◌, ◌&&◌, not, Bool, true, false, nat_lt, min, if◌then◌else◌, List, [], ◌∷◌, codes, decimal, Option, Some, None, is_some, Result, Ok, Err}
 use Rattle.h2_spec.specs.Debug.{stop}
 use Rattle.h2_spec.specs.Show.{joined, octets_text, show}
 use Rattle.h2_spec.specs.View.{view}
@@ -68,22 +68,22 @@ answer d (Some Clear) = done (record d { breaks = [] })
 answer d (Some Show) = record { text = shown_text d; after = d }
 answer d (Some Why) = record { text = why_text d; after = d }
 
--- whether a command takes memory: no text does
-abbrev pub takes_memory : Option Command → Bool
-takes_memory None = false
-takes_memory (Some (Step n)) = true
-takes_memory (Some (Back n)) = true
-takes_memory (Some (Go p)) = true
-takes_memory (Some Run) = true
-takes_memory (Some (BreakOn b)) = true
-takes_memory (Some Clear) = false
-takes_memory (Some Show) = false
-takes_memory (Some Why) = false
+-- whether a command takes memory: a move that is not refused and a breakpoint; no text does
+abbrev pub takes_memory : Debugging → Option Command → Bool
+takes_memory d None = false
+takes_memory d (Some (Step n)) = nat_lt 0 n && not (d.position == end d.run)
+takes_memory d (Some (Back n)) = nat_lt 0 n && not (d.position == 0)
+takes_memory d (Some (Go p)) = true
+takes_memory d (Some Run) = not (d.position == end d.run)
+takes_memory d (Some (BreakOn b)) = true
+takes_memory d (Some Clear) = false
+takes_memory d (Some Show) = false
+takes_memory d (Some Why) = false
 
 -- the answer, or memory was refused and the debugger is as it was
 abbrev pub Obeys : Debugging → Option Command → List ℕ → Debugging → Type 0
 Obeys d command text after = ((text ≡ (answer d command).text) × (after ≡ (answer d command).after))
-    ⊎ ((takes_memory command ≡ true) × (text ≡ fault_line 0) × (after ≡ d))
+    ⊎ ((takes_memory d command ≡ true) × (text ≡ fault_line 0) × (after ≡ d))
 
 -- the text of a reply of this debugger
 abbrev pub reply_text : Debugging → Reply → List ℕ

@@ -26,7 +26,7 @@ closed false text = record { text = text ++ fault_line 22; status = 1 }
 
 -- a new debugger
 abbrev pub loaded : List Entry → Config → List ℕ → Debugging
-loaded book config octets = record { run = record { book = book; config = config; octets = octets }; breaks = []; position = 0; reached = 0; replayed = 0 }
+loaded book config octets = record { run = record { book = book; config = config; octets = octets }; breaks = []; position = 0; reached = 0; ran = 0; replayed = 0 }
 
 -- the answers to lines, one after another
 abbrev pub RespondsWith : Debugging → List (List ℕ) → List ℕ → Type 0

@@ -23,6 +23,7 @@ TakesNext before after first last octets (Some Input) = (line : List ℕ) × Tak
 abbrev pub IsRefused : Type 0 → SessionFault → Type 0
 IsRefused cause fault = (fault ≡ NoMemory) ⊎ ((fault ≡ Read) × cause)
 
--- out of memory, or no octets are spelled
+-- no octets are spelled, or some are and memory was refused
 abbrev pub IsNoHex : Option (List ℕ) → SessionFault → Type 0
-IsNoHex spelled fault = (fault ≡ NoMemory) ⊎ ((fault ≡ BadHex) × (spelled ≡ None))
+IsNoHex None fault = fault ≡ BadHex
+IsNoHex (Some octets) fault = fault ≡ NoMemory

@@ -2,9 +2,10 @@
 //! command goes.
 //! Rests on `reader` and on the crates `hex` and arrayvec; definitions: `specs/Lines.antt`, `specs/Reading.antt`.
 
-ghost use Rattle.std.specs.Prelude.{◌≡◌, ◌⊎◌, ◌<◌, ◌≤◌, false, [], ◌∷◌, ◌++◌, Some, None, filter, length, not, take, IfOk, IfErr, IfSome, OnOk, OnErr};
+ghost use Rattle.std.specs.Prelude.{◌≡◌, ◌⊎◌, ◌<◌, ◌≤◌, is_some, false, [], ◌∷◌, ◌++◌, Some, None, filter, length, not, take, IfOk, IfErr, IfSome, OnOk, OnErr};
 ghost use Rattle.h2_session.specs.Commands.{longest};
-ghost use Rattle.hex.specs.Hex.{decode_of};
+ghost use Rattle.std.specs.List.{list_all};
+ghost use Rattle.hex.specs.Hex.{decode_of, is_hex_digit};
 ghost use Rattle.h2_session.specs.Lines.{is_digit, octets_in};
 ghost use Rattle.h2_session.specs.Reading.{IsCut, ahead, most};
 ghost use Rattle.h2_session.specs.declared.line.End.TheVariants.{Input};
@@ -83,14 +84,28 @@ pub fn take_digits<I: Input>(
     }
 }
 
-/// The octets that digits spell: `BadHex` where they spell none, `NoMemory`.
+/// Whether these are hex digits alone.
+fn are_hex_digits(digits: &[u8]) -> bool
+    ensures { result ≡ list_all is_hex_digit digits.now }
+{
+    digits.iter().all(|digit| digit.is_ascii_hexdigit())
+}
+
+/// Whether digits are pairs of hex digits. Takes no memory.
+pub fn is_hex(digits: &[u8]) -> bool
+    ensures { result ≡ is_some (octets_in (decode_of digits.now)) }
+{
+    digits.len() % 2 == 0 && are_hex_digits(digits)
+}
+
+/// The octets that digits spell: `BadHex` where they spell none, and only elsewhere `NoMemory`.
 pub fn spelled(alloc: Global, digits: &[u8]) -> Result<Vec<u8>, SessionFault>
     ensures ok { IfOk result (λ octets. octets_in (decode_of digits.now) ≡ Some octets.items) }
     ensures err { IfErr result (λ fault. IsNoHex (octets_in (decode_of digits.now)) fault) }
 {
     match hex::decode(alloc, digits) {
         Ok(octets) => Ok(octets),
-        Err(FromHexError::OutOfMemory) => Err(SessionFault::NoMemory),
+        Err(FromHexError::OutOfMemory) if is_hex(digits) => Err(SessionFault::NoMemory),
         Err(_) => Err(SessionFault::BadHex),
     }
 }

@@ -2,7 +2,7 @@
 //! Rests on `command`, `reply` and h2_debug; definition: `specs/Replies.antt`.
 
 ghost use Rattle.std.specs.Prelude.{◌≡◌, option_map, Some};
-ghost use Rattle.h2_session.specs.Commands.{BreakOn};
+ghost use Rattle.h2_session.specs.Commands.{Back, BreakOn, Run, Step};
 ghost use Rattle.h2_session.specs.Replies.{Obeys, moved_reply, reply_text, set_reply};
 ghost use Rattle.h2_session.specs.Words.{asked_by, break_on};
 
@@ -20,6 +20,27 @@ fn moved(answer: Result<usize, DebugFault>) -> Reply
         Ok(position) => Reply::At(position),
         Err(fault) => Reply::Refused(fault.number()),
     }
+}
+
+/// Goes forward over items.
+fn step(debugger: &mut Debugger<'_, Global>, count: usize) -> Reply
+    ensures { Obeys debugger.old (Some (Step count)) (reply_text debugger.new result) debugger.new }
+{
+    moved(debugger.step(count))
+}
+
+/// Goes back over items.
+fn back(debugger: &mut Debugger<'_, Global>, count: usize) -> Reply
+    ensures { Obeys debugger.old (Some (Back count)) (reply_text debugger.new result) debugger.new }
+{
+    moved(debugger.back(count))
+}
+
+/// Goes forward to the next stop.
+fn run(debugger: &mut Debugger<'_, Global>) -> Reply
+    ensures { Obeys debugger.old (Some Run) (reply_text debugger.new result) debugger.new }
+{
+    moved(debugger.run())
 }
 
 /// The reply to a breakpoint.
@@ -50,10 +71,10 @@ pub fn obey(debugger: &mut Debugger<'_, Global>, command: Option<Command>) -> Re
 {
     match command {
         None => Reply::Refused(SessionFault::BadCommand.number()),
-        Some(Command::Step(count)) => moved(debugger.step(count as usize)),
-        Some(Command::Back(count)) => moved(debugger.back(count as usize)),
+        Some(Command::Step(count)) => step(debugger, count as usize),
+        Some(Command::Back(count)) => back(debugger, count as usize),
         Some(Command::Go(position)) => moved(debugger.go(position as usize)),
-        Some(Command::Run) => moved(debugger.run()),
+        Some(Command::Run) => run(debugger),
         Some(Command::Break(stop)) => break_on(debugger, stop),
         Some(Command::Clear) => {
             debugger.clear();

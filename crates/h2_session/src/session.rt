@@ -3,6 +3,7 @@
 
 ghost use Rattle.std.specs.Prelude.{◌≡◌, ◌==◌, ◌-◌, ◌≤◌, ℕ, List, Some, false, IfErr, IfOk, OnErr, OnOk, is_err};
 ghost use Rattle.hex.specs.Hex.{decode_of};
+ghost use Rattle.h2_spec.specs.State.{is_allowed};
 ghost use Rattle.h2_session.specs.Faults.{fault_number};
 ghost use Rattle.h2_session.specs.Commands.{command_of};
 ghost use Rattle.h2_session.specs.Lines.{octets_in};
@@ -11,15 +12,15 @@ ghost use Rattle.h2_session.specs.Replies.{Obeys, reply_text};
 ghost use Rattle.h2_session.specs.Session.{AnswersLine, IsFollowed, IsSession, Prints, Printed, failed};
 ghost use Rattle.h2_session.specs.Responses.{IsRefusal, IsResponse};
 ghost use Rattle.h2_session.specs.declared.line.End.TheVariants.{Input as LastLine};
-ghost use Rattle.h2_session.specs.Loading.{IsNotLoaded, Loads};
+ghost use Rattle.h2_session.specs.Loading.{Loads, load_fault};
 
 use crate::command::command_of;
 use crate::fault::SessionFault;
-use crate::line::{End, Line, next_line, spelled, take_digits};
+use crate::line::{End, Line, is_hex, next_line, spelled, take_digits};
 use crate::obey::obey;
 use crate::reader::Reader;
 use crate::reply::{FaultLine, Reply, ReplyText, write_flushed};
-use h2_debug::{DebugFault, Debugger};
+use h2_debug::Debugger;
 use h2_device::{DeviceFault, Input, Output};
 use h2_request::book::Book;
 use h2_spec::connection::Config;
@@ -139,9 +140,21 @@ fn respond<I: Input, O: Output>(
     }
 }
 
+/// Why digits are not loaded where a limit or a setting is out of range: they are no hex, or it is for that. Takes no
+/// memory.
+fn refused_limits(digits: &[u8]) -> SessionFault
+    ensures { result ≡ load_fault (octets_in (decode_of digits.now)) false }
+{
+    if is_hex(digits) {
+        SessionFault::BadConfig
+    } else {
+        SessionFault::BadHex
+    }
+}
+
 /// A debugger over the octets that digits spell.
 ///
-/// `BadHex` where they spell none, then `BadConfig` where a limit or a setting is out of range; `NoMemory` may come before either.
+/// `BadHex` where they spell none, then `BadConfig` where a limit or a setting is out of range; elsewhere `NoMemory`.
 fn load<'b>(
     alloc: Global,
     book: &'b Book<Global>,
@@ -149,12 +162,14 @@ fn load<'b>(
     digits: Vec<u8>,
 ) -> Result<Debugger<'b, Global>, SessionFault>
     ensures ok { IfOk result (λ debugger. Loads book.now config (octets_in (decode_of digits.items)) debugger) }
-    ensures err { IfErr result (λ fault. IsNotLoaded config (octets_in (decode_of digits.items)) fault) }
+    ensures err { IfErr result (λ fault. fault ≡ load_fault (octets_in (decode_of digits.items)) (is_allowed config)) }
 {
+    if !config.is_allowed() {
+        return Err(refused_limits(digits.as_slice()));
+    }
     let octets = spelled(alloc, digits.as_slice())?;
     match Debugger::load(book, config, octets) {
         Ok(debugger) => Ok(debugger),
-        Err(DebugFault::BadConfig) => Err(SessionFault::BadConfig),
         Err(_) => Err(SessionFault::NoMemory),
     }
 }
@@ -163,8 +178,8 @@ fn load<'b>(
 /// exit status. Each answer is written and flushed before the next line is read.
 ///
 /// 0: the input ended. 1: a fault ended the session, and its line was written: 22 where a read failed or the input has
-/// more than 16,777,216 octets, 25 where the first line is not hex, 16 where a limit or a setting is out of range, 0
-/// where memory for the first line was refused. 3: the output could not be written.
+/// more than 16,777,216 octets, 25 where the first line is not hex, 16 where a limit or a setting is out of range, both
+/// found without memory once the line is read, 0 where memory for the first line was refused. 3: the output could not be written.
 pub fn debug_session<I: Input, O: Output>(
     alloc: Global,
     book: &Book<Global>,

@@ -5,7 +5,7 @@
 ghost use Rattle.std.specs.Prelude.{◌≡◌};
 ghost use Rattle.h2_session.specs.Why.{error_lines, ignored_lines, why_lines};
 
-use h2_describe::names::{error_name, force_word, scope_word};
+use h2_describe::names::{error_name, scope_word};
 use h2_device::{DeviceFault, Output, Text, texts};
 use h2_spec::causes::Cause;
 use h2_spec::ignored::Ignored;
@@ -25,7 +25,6 @@ impl Text for ErrorLines {
         let cause = self.cause;
         let scope = scope_word(self.has_ended);
         let code = error_name(cause.code());
-        let force = force_word(cause.is_must());
         texts!(
             scope,
             code,
@@ -34,7 +33,11 @@ impl Text for ErrorLines {
             ", ",
             cause.section(),
             ", ",
-            force,
+            cause.server_duty().words(),
+            "; broken: ",
+            cause.client_duty().words(),
+            ", ",
+            cause.client_section(),
             "\n"
         )
         .write_to(output)?;
@@ -52,14 +55,17 @@ impl Text for IgnoredLines {
 
     fn write_to<O: Output>(&self, output: &mut O) -> Result<(), DeviceFault> {
         let reason = self.0;
-        let force = force_word(reason.is_must());
         texts!(
             "ignored: ",
             reason.name(),
             ", ",
             reason.section(),
             ", ",
-            force,
+            reason.server_duty().words(),
+            "; broken: ",
+            reason.client_duty().words(),
+            ", ",
+            reason.client_section(),
             "\n"
         )
         .write_to(output)?;

@@ -1,5 +1,5 @@
 -- What a plan represents, and what a refusal says of words.
-use Rattle.std.specs.Prelude.{◌≡◌, Option, None, map}
+use Rattle.std.specs.Prelude.{◌≡◌, Option, Some, None, Result, Ok, Err, map}
 use Rattle.h2_words.specs.Grammar.{Asked, BatchAsked, BookAsked, batch, play, asm, dis, table, debug, serve, explain, check}
 use Rattle.h2_words.specs.declared.command.Batch.{Batch}
 use Rattle.h2_words.specs.declared.command.Batch.TheVariants.{Play, Asm, Dis, Table}
@@ -24,6 +24,11 @@ planned (plan.Debug d) = debug d.config (book_asked d.book)
 planned (plan.Serve s) = serve s.config s.port s.count (book_asked s.book)
 planned (plan.Explain e) = explain e.config e.json e.color e.file.now (book_asked e.book)
 planned (plan.Check k) = check k.config (book_asked k.book) (map (λ s. s.now) k.files.items)
+
+-- what words that were parsed ask for; nothing where they were refused
+abbrev pub asked_in : Result Plan Refusal → Option Asked
+asked_in (Ok plan) = Some (planned plan)
+asked_in (Err refusal) = None
 
 -- words that are refused ask for nothing, unless the cause is that memory ran out
 abbrev pub Refuses : Option Asked → Refusal → Type 0

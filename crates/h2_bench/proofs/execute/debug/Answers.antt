@@ -1,8 +1,8 @@
 use Rattle.std.proofs.Common.{ℕ, List, Result, ap, inl, inr, refl, subst, sym}
 use Rattle.h2_spec.specs.Answer.{Entry}
 use Rattle.h2_bench.specs.ProgramEnd.{SessionAs}
-use Rattle.h2_bench.specs.Printed.{failed}
-use Rattle.h2_bench.specs.declared.fault.BenchFault.{BenchFault}
+use Rattle.h2_commands.specs.Printed.{failed}
+use Rattle.h2_commands.specs.declared.fault.BenchFault.{BenchFault}
 use Rattle.h2_bench.proofs.execute.debug.Goals as goal
 
 pub returns-in-Err-clause-printed : goal.returns-in-Err-clause-printed

@@ -2,12 +2,13 @@ use Rattle.std.proofs.Common.{◌≡◌, ◌==◌, ◌∙◌, ◌⊎◌, ℕ, Bo
 use Rattle.h2_spec.specs.Answer.{Entry}
 use Rattle.h2_spec.specs.declared.connection.Config.{Config}
 use Rattle.h2_words.specs.Grammar.{BatchAsked, BookAsked}
-use Rattle.h2_bench.specs.Books.{book_in}
-use Rattle.h2_bench.specs.ExplainProgram.{EndsExplain, form_of}
+use Rattle.h2_commands.specs.Books.{book_in}
+use Rattle.h2_commands.specs.ExplainProgram.{EndsExplain, form_of}
 use Rattle.h2_explain.specs.declared.run.Form.{Form}
-use Rattle.h2_bench.specs.ProgramEnd.{AnswersAs, EndsBatch, EndsSession, EndsSomehow, Prints, no_files}
-use Rattle.h2_bench.specs.Printed.{Printed, cut_short, failed, places_with, printed_with}
-use Rattle.h2_bench.specs.declared.fault.BenchFault.TheVariants.{Read}
+use Rattle.h2_commands.specs.CommandEnd.{AnswersAs, EndsBatch, Prints, no_files}
+use Rattle.h2_bench.specs.ProgramEnd.{EndsSession, EndsSomehow}
+use Rattle.h2_commands.specs.Printed.{Printed, cut_short, failed, places_with, printed_with}
+use Rattle.h2_commands.specs.declared.fault.BenchFault.TheVariants.{Read}
 use Rattle.h2_bench.proofs.execute.run.Goals as goal
 
 by-book : (made : Result (List Entry) ℕ) (asked : BatchAsked) (input : Option (List ℕ)) (input_failed : Bool) (octets held : List ℕ) (after : Option (List ℕ)) (status : ℕ) (t : Printed)

@@ -1,23 +1,37 @@
-use Rattle.std.proofs.Common.{inl, inr, refl}
-use Rattle.h2_bench.specs.Printed.{failed}
-use Rattle.h2_bench.specs.declared.fault.BenchFault.TheVariants.{NoMemory}
+use Rattle.std.proofs.Common.{◌∙◌, ap, inl, inr, refl}
+use Rattle.h2_bench.specs.ProgramEnd.{asks_why, is_reader, is_serve}
+use Rattle.h2_bench.proofs.Parsed.{none-asked, parsed, prints-other, prints-refusal}
 use Rattle.h2_bench.proofs.execute.run_on.Goals as goal
 
-pub returns-in-Err-Words-clause-refused : goal.returns-in-Err-Words-clause-refused
-returns-in-Err-Words-clause-refused g c = λ none well held known.
-    (record { text = c.as_str.result.now; status = 2 }, inr refl, c.print.ensures.printed well held known)
-
 pub returns-clause-printed : goal.returns-clause-printed
-returns-clause-printed g c = λ asked is file well held known. (failed NoMemory, inl refl, c.print_fault.ensures.printed well held known)
+returns-clause-printed g c = λ is words file well. elim (parsed _ c.parse-asked.result c.parse-asked.ensures.ok c.parse-asked.ensures.refused) [
+  | inl same ↦ c.carry_out.ensures.printed is (same ∙ words) file well
+  | inr memory ↦ prints-other _ _ _ _ _ (λ t e. inl e) ((rw memory at c.carry_out.ensures.refused) well)
+]
 
 pub returns-clause-debugs : goal.returns-clause-debugs
-returns-clause-debugs g c = λ config book is file well. inl (λ held known. (failed NoMemory, refl, c.print_fault.ensures.printed well held known))
+returns-clause-debugs g c = λ config book words file well. elim (parsed _ c.parse-asked.result c.parse-asked.ensures.ok c.parse-asked.ensures.refused) [
+  | inl same ↦ c.carry_out.ensures.debugs config book (same ∙ words) file well
+  | inr memory ↦ inl ((rw memory at c.carry_out.ensures.refused) well)
+]
 
 pub returns-clause-explains : goal.returns-clause-explains
-returns-clause-explains g c = λ config json color file book is bookfile textfile well held known. (failed NoMemory, inl refl, c.print_fault.ensures.printed well held known)
+returns-clause-explains g c = λ config json color file book words bookfile textfile well. elim (parsed _ c.parse-asked.result c.parse-asked.ensures.ok c.parse-asked.ensures.refused) [
+  | inl same ↦ c.carry_out.ensures.explains config json color file book (same ∙ words) bookfile textfile well
+  | inr memory ↦ prints-other _ _ _ _ _ (λ t e. inl e) ((rw memory at c.carry_out.ensures.refused) well)
+]
 
 pub returns-clause-serves : goal.returns-clause-serves
-returns-clause-serves g c = λ is well. inr (λ held known. (failed NoMemory, refl, c.print_fault.ensures.printed well held known))
+returns-clause-serves g c = λ is well. elim (parsed _ c.parse-asked.result c.parse-asked.ensures.ok c.parse-asked.ensures.refused) [
+  | inl same ↦ inl (c.carry_out.ensures.serves (ap is_serve same ∙ is))
+  | inr memory ↦ inr ((rw memory at c.carry_out.ensures.refused) well)
+]
 
 pub returns-clause-refused : goal.returns-clause-refused
-returns-clause-refused g c = λ none well held known. (failed NoMemory, inl refl, c.print_fault.ensures.printed well held known)
+returns-clause-refused g c = λ none well. prints-refusal _ c.parse-asked.result _ _ _ _ c.parse-asked.ensures.ok none (c.carry_out.ensures.refused) well
+
+pub returns-clause-unread : goal.returns-clause-unread
+returns-clause-unread g c = λ none. c.carry_out.ensures.unread (none-asked is_reader refl _ c.parse-asked.result c.parse-asked.ensures.ok c.parse-asked.ensures.refused none)
+
+pub returns-clause-quiet : goal.returns-clause-quiet
+returns-clause-quiet g c = λ none. c.carry_out.ensures.quiet (none-asked asks_why refl _ c.parse-asked.result c.parse-asked.ensures.ok c.parse-asked.ensures.refused none)

@@ -23,4 +23,4 @@ loop-place-preserved g c =
     let took = rw c.if-not-branch.false at c.in_ok-keep_and_advance.ensures.advances in
     let says = rw (c.position.ensures, c.octets_from.ensures.octets, c.used-used.ensures, c.sent.ensures) at c.any_match.ensures in
     let later = stop-later c.args.source.now c.loop-place.place c.keep_and_advance.new.place (map break_of c.args.breaks.now) c.any_match.result took says c.if-any_match.false in
-    record { reached = c.in_ok-keep_and_advance.ensures.reached; more = omega (arith, c.loop-place.invariant.more, c.in_ok-keep_and_advance.ensures.more); same = c.loop-place.invariant.same ∙ later }
+    record { reached = c.in_ok-keep_and_advance.ensures.reached; more = omega (arith, c.loop-place.invariant.more, c.in_ok-keep_and_advance.ensures.more); later = omega (arith, c.loop-place.invariant.later, took.next); ran = omega (arith, c.loop-place.invariant.later, c.loop-place.invariant.ran, took.next, took.ran); same = c.loop-place.invariant.same ∙ later }

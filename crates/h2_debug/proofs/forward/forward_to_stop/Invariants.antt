@@ -1,4 +1,4 @@
-use Rattle.std.proofs.Common.{◌≡◌, ◌≤◌, ◌-◌, length}
+use Rattle.std.proofs.Common.{◌≡◌, ◌≤◌, ◌+◌, ◌-◌, length}
 use Rattle.std.specs.Prelude.{map}
 use Rattle.h2_spec.specs.Debug.{stop}
 use Rattle.h2_debug.specs.Breakpoints.{break_of}
@@ -9,6 +9,8 @@ abbrev pub invariant-loop-place : goal.invariant-loop-place
 invariant-loop-place g l = record {
   reached : IsReached l.source l.place l.kept.items;
   more : length l.fn.kept.items ≤ length l.kept.items;
+  later : l.fn.place.position ≤ l.place.position;
+  ran : l.place.ran ≡ l.fn.place.ran + (l.place.position - l.fn.place.position);
   same : stop (map break_of l.breaks) (events l.source) l.fn.place.position ≡ stop (map break_of l.breaks) (events l.source) l.place.position;
 }
 

@@ -1,11 +1,13 @@
-use Rattle.std.proofs.Common.{◌≡◌, ◌∙◌, [], Bool, true, ap, sym}
+use Rattle.std.proofs.Common.{◌≡◌, [], Bool, List, ℕ, false, true, ap, sym, ◌∙◌}
+use Rattle.std.specs.String.{string_bytes}
 use Rattle.h2_explain.specs.Lines.{Words, is_silent, lines_unless}
 use Rattle.h2_explain.proofs.lines.lines_of.Goals as goal
 
-no-words : Words
-no-words = record { item = []; fields = []; sentence = []; sent = []; changes = [] }
+opening-alone : List ℕ → Words
+opening-alone opening = record { opening = opening; item = []; facts = record { continued = false; empty_name = false; connect = false; other_scheme = false; lengths_differ = false; length_is_long = false; after_end = false }; fields = []; sentence = []; also = []; sent = []; changes = [] }
 
 pub returns-then-is_silent : goal.returns-then-is_silent
 returns-then-is_silent c =
     let silent : is_silent c.args.item.now.taken.item ≡ true = sym c.is_silent.ensures ∙ c.if-is_silent.true in
-    (no-words, c.new.ensures.bytes ∙ sym (ap (λ (b : Bool). lines_unless b c.args.paint.0 c.args.item.now no-words) silent))
+    let said = opening-alone (string_bytes c.in_ok-opening.opening) in
+    (said, sym (ap (λ (b : Bool). lines_unless b c.args.paint.0 c.args.item.now said) silent))

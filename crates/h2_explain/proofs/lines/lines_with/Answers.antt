@@ -1,7 +1,13 @@
+use Rattle.std.proofs.Common.{◌∙◌, ap}
 use Rattle.std.proofs.lemmas.Result.{IfOk-weaker}
+use Rattle.h2_explain.specs.Lines.{Words, lines_with}
+use Rattle.h2_explain.specs.Special.{case_of_error}
 use Rattle.h2_explain.proofs.lines.lines_with.Goals as goal
 
 pub returns : goal.returns
-returns c = IfOk-weaker c.string_of.result _ _
-    (λ text h. (record { item = c.as_str.result.now; fields = c.as_str-fields.result.now; sentence = c.args.sentence.now; sent = c.as_str-sent.result.now; changes = c.as_str-changes.result.now }, h))
+returns c =
+    let w : Words = record { opening = c.args.opening.now; item = c.as_str.result.now; facts = c.args.account.now.facts; fields = c.as_str-fields.result.now; sentence = c.as_str-sentence.result.now; also = c.as_str-also.result.now; sent = c.as_str-sent.result.now; changes = c.as_str-changes.result.now } in
+    IfOk-weaker c.string_of.result _ _
+    (λ text h. (w, h ∙ ap (λ case. lines_with c.args.paint.0 c.args.item.now w case c.case_of_reason.result) c.case_of_error.ensures
+        ∙ ap (λ case. lines_with c.args.paint.0 c.args.item.now w (case_of_error c.args.item.now w.facts) case) c.case_of_reason.ensures))
     c.string_of.ensures

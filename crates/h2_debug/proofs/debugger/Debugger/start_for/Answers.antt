@@ -1,8 +1,9 @@
-use Rattle.std.proofs.Common.{rules, ◌≡◌, ◌∙◌, ◌*◌, ◌/◌, ◌≤◌, ap, sym, subst, arith, false}
+use Rattle.std.proofs.Common.{rules, ◌≡◌, ◌∙◌, ◌*◌, ◌/◌, ◌≤◌, ap, sym, subst, refl, arith, false}
 use Rattle.std.specs.Prelude.{◌&&◌, nat_le, min}
 use Rattle.std.proofs.lemmas.Result.{IfOk-weaker}
 use Rattle.h2_debug.specs.Debugging.{Debugging}
 use Rattle.h2_debug.specs.Places.{IsAt, Kept}
+use Rattle.h2_debug.proofs.PlaceLaws.{place-anew}
 use Rattle.h2_debug.proofs.KeptLaws.{kept-at, kept-precedes, near-kept, place-follows, place-goes}
 use Rattle.h2_debug.proofs.debugger.Debugger.start_for.Goals as goal
 
@@ -31,4 +32,4 @@ returns g c =
     let kept : c.kept_at.result.now.position ≡ p.position = ap (λ (k : Kept). k.position) found.0.same in
     let follows = place-follows _ p c.farthest_place.result.now found.0.here at (omega (arith, found.1, least, far, kept)) in
     rw (← c.self.view_is, near)
-    (IfOk-weaker c.restore.result _ _ (λ q same. rw (same p found.0.same (place-goes _ p found.0.here) follows) (found.0.here, omega (arith, kept, found.1, least))) c.restore.ensures)
+    (IfOk-weaker c.restore.result _ _ (λ q same. rw (same p found.0.same (place-goes _ p found.0.here) follows) (place-anew _ p found.0.here, omega (arith, kept, found.1, least), refl)) c.restore.ensures)

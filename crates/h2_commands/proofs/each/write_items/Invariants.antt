@@ -1,0 +1,23 @@
+use Rattle.std.proofs.Common.{◌≡◌, ◌≤◌, ◌+◌, ◌-◌, ℕ, List, Some, [], ◌++◌, false, drop, length, take}
+use Rattle.std.specs.List.{concat}
+use Rattle.h2_spec.specs.Trace.{trace}
+use Rattle.h2_conn.specs.Connection.{going}
+use Rattle.h2_commands.specs.Printed.{item_texts}
+use Rattle.h2_commands.proofs.Places.{events}
+use Rattle.h2_commands.proofs.each.write_items.Given as goal
+
+abbrev pub invariant-loop-taken : goal.invariant-loop-taken
+invariant-loop-taken g l =
+    let items = item_texts 1 (trace l.fn.conn.state l.octets).events in
+    record {
+      within : l.at ≤ length l.octets;
+      new : l.conn ≡ going l.conn.state [];
+      counted : l.place ≤ l.at;
+      writer : g.O.Output.has_failed l.output ≡ false;
+      name : g.O.Output.name l.output ≡ g.O.Output.name l.fn.output;
+      left : drop l.place items ≡ item_texts (l.place + 1) (events l.conn.state (drop l.at l.octets));
+      printed : (held : List ℕ) → g.O.Output.written l.fn.output ≡ Some held → g.O.Output.written l.output ≡ Some (held ++ concat (take l.place items));
+    }
+
+abbrev pub decreases-loop-taken : goal.decreases-loop-taken
+decreases-loop-taken g l = length l.octets - l.at

@@ -1,0 +1,20 @@
+-- The faults of programs: their numbers, and the line that reports one.
+use Rattle.std.specs.Prelude.{ℕ, List, [], ◌∷◌, codes, decimal}
+use Rattle.h2_spec.specs.Show.{joined}
+use Rattle.h2_request.specs.Fault.{entry_number}
+use Rattle.h2_commands.specs.declared.fault.BenchFault.{BenchFault}
+use Rattle.h2_commands.specs.declared.fault.BenchFault.TheVariants.{NoMemory, BadEntry, BadConfig, Read, BadHex, BadAnswer, BadCommand, Socket}
+
+abbrev pub fault_number : BenchFault → ℕ
+fault_number NoMemory = 0
+fault_number (BadEntry fault) = entry_number fault
+fault_number BadConfig = 16
+fault_number Read = 22
+fault_number BadHex = 25
+fault_number BadAnswer = 26
+fault_number BadCommand = 27
+fault_number Socket = 28
+
+-- the line of the fault with this number
+unfoldable pub fault_line : ℕ → List ℕ
+fault_line number = joined (codes "fault " ∷ decimal number ∷ codes "\n" ∷ [])

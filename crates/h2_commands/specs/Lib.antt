@@ -1,0 +1,16 @@
+pub mod AnswerParts
+pub mod Books
+pub mod CommandEnd
+pub mod Commands
+pub mod Each
+pub mod ExplainProgram
+pub mod Faults
+pub mod Input
+pub mod Limits
+pub mod Pieces
+pub mod Printed
+pub mod Printing
+pub mod Reports
+pub mod ScriptPrograms
+pub mod TableProgram
+pub mod TableReplies

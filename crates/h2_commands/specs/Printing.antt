@@ -1,0 +1,32 @@
+-- What a program reports: a text and an exit status.
+use Rattle.std.specs.Prelude.{◌≡◌, ◌⊎◌, ◌++◌, ℕ, List, take}
+use Rattle.std.specs.List.{concat}
+use Rattle.h2_commands.specs.Faults.{fault_line, fault_number}
+use Rattle.h2_commands.specs.declared.fault.BenchFault.{BenchFault}
+use Rattle.h2_commands.specs.declared.fault.BenchFault.TheVariants.{NoMemory}
+
+-- a text that is written, and the exit status
+pub record Printed : Type 0 where
+  pub text : List ℕ
+  pub status : ℕ
+
+abbrev pub done : List ℕ → Printed
+done text = record { text = text; status = 0 }
+
+abbrev pub refused : ℕ → Printed
+refused fault = record { text = fault_line fault; status = 1 }
+
+abbrev pub failed : BenchFault → Printed
+failed fault = refused (fault_number fault)
+
+-- a text, and behind it the line of a fault
+abbrev pub failed_after : List ℕ → BenchFault → Printed
+failed_after text fault = record { text = text ++ fault_line (fault_number fault); status = 1 }
+
+-- so many first places of those that are reported, each whole, and then memory was refused
+abbrev pub cut_short : ℕ → List (List ℕ) → Printed
+cut_short count places = failed_after (concat (take count places)) NoMemory
+
+-- what is to be reported, or some first places of it, and then memory was refused
+abbrev pub OrCutShort : List (List ℕ) → Printed → Printed → Type 0
+OrCutShort places printed t = (t ≡ printed) ⊎ ((count : ℕ) × (t ≡ cut_short count places))

@@ -1,0 +1,273 @@
+//! A command that reads its whole input, from what the words ask for to its output and the exit status. Rests on `books`,
+//! `input`, `play`, `asm`, `dis`, `table`, `explain` and h2_device; definitions: `specs/Printed.antt`,
+//! `specs/CommandEnd.antt`, `specs/ExplainProgram.antt`.
+
+ghost use Rattle.std.specs.Prelude.{◌≡◌, ◌==◌, ◌≤◌, length, ◌<◌, ◌⊎◌, ◌++◌, ℕ, List, Some, Ok, Err, true, false, IfOk, IfErr, OnOk};
+ghost use Rattle.h2_words.specs.Plans.{batch_asked, book_asked};
+ghost use Rattle.h2_commands.specs.Reports.{seen};
+ghost use Rattle.h2_commands.specs.Books.{book_in};
+ghost use Rattle.h2_commands.specs.Each.{not_written, printed_after};
+ghost use Rattle.h2_commands.specs.CommandEnd.{EndsBatch, KnowsFile, Prints, PrintsSome, asks_why_batch, file_of};
+ghost use Rattle.h2_commands.specs.ExplainProgram.{EndsExplain, ReportsText, cut_off, explained_after, form_of};
+ghost use Rattle.h2_commands.specs.Faults.{fault_number};
+ghost use Rattle.h2_commands.specs.Input.{most, octets_spelled};
+ghost use Rattle.h2_commands.specs.TableProgram.{table_parts, table_text};
+ghost use Rattle.h2_commands.specs.Printed.{OrCutShort, done, failed, places, places_play, printed, printed_play};
+ghost use Rattle.h2_commands.specs.declared.fault.BenchFault.TheVariants.{NoMemory};
+
+use crate::asm::asm_report;
+use crate::books::book_for_words;
+use crate::dis::dis_text;
+use crate::each::{PlacesFault, write_text};
+use crate::explain::{ExplainEnd, explain_text, read_text};
+use crate::fault::BenchFault;
+use crate::input::read_all;
+use crate::play::write_play;
+use crate::report::{Report, whole};
+use crate::table::write_table;
+use h2_book::Files;
+use h2_device::{Input, Output, Text};
+use h2_explain::Form;
+use h2_request::book::Book;
+use h2_words::command::{Batch, Explain, Play};
+use std::alloc::Global;
+
+/// The book of a command; a sentence is written to `errors` where an entry is refused and the reason was asked for.
+fn book_for<F: Files, E: Output>(
+    alloc: Global,
+    batch: &Batch<'_>,
+    files: &mut F,
+    errors: &mut E,
+) -> Result<Book<Global>, BenchFault>
+    ensures ok { KnowsFile (file_of (batch_asked batch.now)) (F.is_printed files.old)
+        → IfOk result (λ book. book_in (F.file files.old) (batch_asked batch.now) ≡ Ok book) }
+    ensures err { KnowsFile (file_of (batch_asked batch.now)) (F.is_printed files.old)
+        → IfErr result (λ fault. (fault ≡ NoMemory)
+        ⊎ (book_in (F.file files.old) (batch_asked batch.now) ≡ Err (fault_number fault))) }
+    ensures calm { OnOk result (errors.new ≡ errors.old) }
+    ensures quiet { asks_why_batch (batch_asked batch.now) ≡ false → errors.new ≡ errors.old }
+    ensures name { E.name errors.new ≡ E.name errors.old }
+{
+    match batch {
+        Batch::Play(play) => book_for_words(alloc, &play.book, files, errors),
+        Batch::Asm | Batch::Dis | Batch::Table(_) => Ok(Book::new(alloc)),
+    }
+}
+
+/// Writes a text, and gives its status, or 3 where that failed.
+pub fn print<O: Output, T: Text>(output: &mut O, text: &T, status: u8) -> u8
+    requires writer { O.has_failed output.old ≡ false }
+    requires status { status < 3 }
+    ensures printed { O.has_failed output.new ≡ false → (held : List ℕ) → O.written output.old ≡ Some held
+        → Prints (record { text = T.text text.now; status = status }) held (O.written output.new) result }
+    ensures flag { O.has_failed output.new ≡ (result == 3) }
+    ensures name { O.name output.new ≡ O.name output.old }
+{
+    match write_text(output, text) {
+        Ok(()) => status,
+        Err(_) => 3,
+    }
+}
+
+/// Writes the line of a fault, and gives status 1, or 3 where that failed.
+pub fn print_fault<O: Output>(output: &mut O, fault: BenchFault) -> u8
+    requires { O.has_failed output.old ≡ false }
+    ensures printed { O.has_failed output.new ≡ false → (held : List ℕ) → O.written output.old ≡ Some held
+        → Prints (failed fault) held (O.written output.new) result }
+    ensures flag { O.has_failed output.new ≡ (result == 3) }
+    ensures name { O.name output.new ≡ O.name output.old }
+{
+    print(output, &fault.line(), 1)
+}
+
+/// Writes an answer: the text of a report with its status, or the line of a fault with status 1.
+fn print_answer<O: Output>(output: &mut O, answer: Result<Report, BenchFault>) -> u8
+    requires { O.has_failed output.old ≡ false }
+    ensures printed { O.has_failed output.new ≡ false → (held : List ℕ) → O.written output.old ≡ Some held
+        → Prints (seen answer) held (O.written output.new) result }
+    ensures flag { O.has_failed output.new ≡ (result == 3) }
+    ensures name { O.name output.new ≡ O.name output.old }
+{
+    match answer {
+        Ok(report) => print(output, &report, report.status()),
+        Err(fault) => print_fault(output, fault),
+    }
+}
+
+/// Writes what is left to say of places that were written: the line of a fault that ended them. Gives the status.
+pub fn print_end<O: Output>(output: &mut O, ended: Result<(), PlacesFault>) -> u8
+    requires { O.has_failed output.old ≡ not_written ended }
+    ensures printed { O.has_failed output.new ≡ false → (held text : List ℕ) → O.written output.old ≡ Some (held ++ text)
+        → Prints (printed_after text ended) held (O.written output.new) result }
+    ensures kept { O.has_failed output.new ≡ false → O.has_failed output.old ≡ false }
+    ensures flag { O.has_failed output.new ≡ (result == 3) }
+    ensures name { O.name output.new ≡ O.name output.old }
+{
+    match ended {
+        Ok(()) => 0,
+        Err(why) => match why {
+            PlacesFault::Fault(fault) => print_fault(output, fault),
+            PlacesFault::NotWritten => 3,
+        },
+    }
+}
+
+/// Plays a connection over a whole input, and reports it.
+fn print_played<O: Output>(
+    alloc: Global,
+    play: &Play<'_>,
+    book: &Book<Global>,
+    input: Vec<u8>,
+    output: &mut O,
+) -> u8
+    requires { O.has_failed output.old ≡ false }
+    ensures printed { O.has_failed output.new ≡ false → let spelled = octets_spelled input.items in
+        PrintsSome (OrCutShort (places_play play.now.each book.now play.now.config spelled) (printed_play play.now.each book.now play.now.config spelled))
+        (O.written output.old) (O.written output.new) result }
+    ensures flag { O.has_failed output.new ≡ (result == 3) }
+    ensures name { O.name output.new ≡ O.name output.old }
+{
+    let ended = write_play(alloc, play, book, input, output);
+    print_end(output, ended)
+}
+
+/// Does what the lines of a whole input ask of a dynamic table, and reports it.
+fn print_table<O: Output>(alloc: Global, limit: u32, input: Vec<u8>, output: &mut O) -> u8
+    requires { O.has_failed output.old ≡ false }
+    ensures printed { O.has_failed output.new ≡ false
+        → PrintsSome (OrCutShort (table_parts limit input.items) (done (table_text limit input.items)))
+        (O.written output.old) (O.written output.new) result }
+    ensures flag { O.has_failed output.new ≡ (result == 3) }
+    ensures name { O.name output.new ≡ O.name output.old }
+{
+    let ended = write_table(alloc, limit, input.as_slice(), output);
+    print_end(output, ended)
+}
+
+/// Does a command over a whole input, with its book. The input is given back once it is read.
+fn print_input<O: Output>(
+    alloc: Global,
+    batch: &Batch<'_>,
+    book: &Book<Global>,
+    input: Vec<u8>,
+    output: &mut O,
+) -> u8
+    requires { O.has_failed output.old ≡ false }
+    ensures printed { O.has_failed output.new ≡ false
+        → PrintsSome (OrCutShort (places book.now (batch_asked batch.now) input.items) (printed book.now
+        (batch_asked batch.now) input.items))
+        (O.written output.old) (O.written output.new) result }
+    ensures flag { O.has_failed output.new ≡ (result == 3) }
+    ensures name { O.name output.new ≡ O.name output.old }
+{
+    match batch {
+        Batch::Play(play) => print_played(alloc, play, book, input, output),
+        Batch::Asm => print_answer(output, asm_report(alloc, input.as_slice())),
+        Batch::Dis => print_answer(output, whole(dis_text(alloc, input.as_slice()))),
+        Batch::Table(limit) => print_table(alloc, *limit, input, output),
+    }
+}
+
+/// Reads the input of a command, and does it.
+pub fn respond<F: Files, I: Input, O: Output, E: Output>(
+    alloc: Global,
+    batch: &Batch<'_>,
+    files: &mut F,
+    input: &mut I,
+    output: &mut O,
+    errors: &mut E,
+) -> u8
+    requires reader { I.has_failed input.old ≡ false }
+    requires writer { O.has_failed output.old ≡ false }
+    ensures printed { KnowsFile (file_of (batch_asked batch.now)) (F.is_printed files.old) → O.has_failed output.new ≡ false
+        → EndsBatch (F.file files.old) (batch_asked batch.now) (I.remaining input.old) (I.has_failed input.new)
+        (O.written output.old) (O.written output.new) result }
+    ensures flag { O.has_failed output.new ≡ (result == 3) }
+    ensures input { I.name input.new ≡ I.name input.old }
+    ensures name { O.name output.new ≡ O.name output.old }
+    ensures quiet { asks_why_batch (batch_asked batch.now) ≡ false → errors.new ≡ errors.old }
+    ensures errors { E.name errors.new ≡ E.name errors.old }
+{
+    let book = match book_for(alloc, batch, files, errors) {
+        Ok(book) => book,
+        Err(fault) => return print_fault(output, fault),
+    };
+    match read_all(alloc, input) {
+        Ok(octets) => print_input(alloc, batch, &book, octets, output),
+        Err(fault) => print_fault(output, fault),
+    }
+}
+
+/// Writes what is left to say of an explanation: the line of a fault that ended it. Gives the status: 0 where no
+/// connection error ended the connection, 4 where one did, 1 after a fault, 3 where the output failed.
+fn print_explained<O: Output>(output: &mut O, ended: Result<bool, ExplainEnd>) -> u8
+    requires { O.has_failed output.old ≡ cut_off ended }
+    ensures printed { O.has_failed output.new ≡ false → (held text : List ℕ) → O.written output.old ≡ Some (held ++ text)
+        → Prints (explained_after text ended) held (O.written output.new) result }
+    ensures kept { O.has_failed output.new ≡ false → O.has_failed output.old ≡ false }
+    ensures flag { O.has_failed output.new ≡ (result == 3) }
+    ensures name { O.name output.new ≡ O.name output.old }
+{
+    match ended {
+        Ok(true) => 4,
+        Ok(false) => 0,
+        Err(end) => match end {
+            ExplainEnd::Fault(fault) => print_fault(output, fault),
+            ExplainEnd::NotWritten => 3,
+        },
+    }
+}
+
+/// Explains a connection over a whole text, and gives the status.
+fn print_text<O: Output>(
+    alloc: Global,
+    plan: &Explain<'_>,
+    book: &Book<Global>,
+    text: &[u8],
+    output: &mut O,
+) -> u8
+    requires few { length text.now ≤ most }
+    requires writer { O.has_failed output.old ≡ false }
+    ensures printed { O.has_failed output.new ≡ false
+        → PrintsSome (λ t. ReportsText (form_of plan.now.json plan.now.color) book.now plan.now.config text.now t) (O.written output.old) (O.written output.new) result }
+    ensures flag { O.has_failed output.new ≡ (result == 3) }
+    ensures name { O.name output.new ≡ O.name output.old }
+{
+    let form = Form {
+        json: plan.json,
+        color: plan.color,
+    };
+    let ended = explain_text(alloc, form, plan.config, book, text, output);
+    print_explained(output, ended)
+}
+
+/// Makes the book of an explanation, reads its text, and explains it.
+pub fn explain_plan<F: Files, I: Input, O: Output, E: Output>(
+    alloc: Global,
+    plan: &Explain<'_>,
+    files: &mut F,
+    input: &mut I,
+    output: &mut O,
+    errors: &mut E,
+) -> u8
+    requires reader { I.has_failed input.old ≡ false }
+    requires writer { O.has_failed output.old ≡ false }
+    ensures printed { KnowsFile plan.now.book.file.now (F.is_printed files.old) → KnowsFile plan.now.file.now (F.is_printed files.old)
+        → O.has_failed output.new ≡ false
+        → EndsExplain (form_of plan.now.json plan.now.color) (F.file files.old) plan.now.config plan.now.file.now (book_asked plan.now.book) (I.remaining input.old)
+        (I.has_failed input.new) (O.written output.old) (O.written output.new) result }
+    ensures flag { O.has_failed output.new ≡ (result == 3) }
+    ensures input { I.name input.new ≡ I.name input.old }
+    ensures name { O.name output.new ≡ O.name output.old }
+    ensures quiet { plan.now.book.why ≡ false → errors.new ≡ errors.old }
+    ensures errors { E.name errors.new ≡ E.name errors.old }
+{
+    let book = match book_for_words(alloc, &plan.book, files, errors) {
+        Ok(book) => book,
+        Err(fault) => return print_fault(output, fault),
+    };
+    match read_text(alloc, plan.file, files, input) {
+        Ok(text) => print_text(alloc, plan, &book, text.as_slice(), output),
+        Err(fault) => print_fault(output, fault),
+    }
+}

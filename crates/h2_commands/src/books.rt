@@ -1,0 +1,177 @@
+//! The book of answers that a command is given: the entries of its file, and behind them those of its words.
+//! Rests on `answer`, h2_book and h2_request; definitions: `specs/Books.antt`.
+
+ghost use Rattle.std.specs.Prelude.{◌≡◌, ◌⊎◌, ◌<◌, [], Ok, Err, false, map, IfOk, IfErr, OnOk};
+ghost use Rattle.h2_request.specs.Fault as book;
+ghost use Rattle.h2_request.specs.declared.fault.BookFault.TheVariants as books;
+ghost use Rattle.h2_words.specs.Plans.{book_asked};
+ghost use Rattle.h2_commands.specs.Books.{book_filed, book_of, book_said, with_answer};
+ghost use Rattle.h2_commands.specs.CommandEnd.{KnowsFile};
+ghost use Rattle.h2_commands.specs.Faults.{fault_number};
+ghost use Rattle.h2_commands.specs.declared.fault.BenchFault.TheVariants.{NoMemory};
+
+use crate::answer::parse_answer;
+use crate::fault::BenchFault;
+use h2_book::{BookFileFault, Cause, Files, add_book};
+use h2_device::Output;
+use h2_request::book::Book;
+use h2_request::fault::{BookFault, EntryFault};
+use h2_words::command::BookWords;
+use std::alloc::{AllocError, Global};
+
+/// What a book refused, as a fault of this crate.
+fn refused_by(fault: BookFault) -> BenchFault
+    ensures number { fault_number result ≡ book.fault_number fault }
+    ensures memory { fault ≡ books.NoMemory → result ≡ NoMemory }
+{
+    match fault {
+        BookFault::NoMemory => BenchFault::NoMemory,
+        BookFault::BadEntry(fault) => BenchFault::BadEntry(fault),
+    }
+}
+
+/// Puts the entry that a word says last in the book.
+#[tactic(auto, unfolding(crate::specs::Books::with_answer))]
+fn add_answer(alloc: Global, book: &mut Book<Global>, word: &str) -> Result<(), BenchFault>
+    ensures ok { OnOk result (with_answer book.old word.now ≡ Ok book.new) }
+    ensures err { IfErr result (λ fault. (fault ≡ NoMemory)
+        ⊎ (with_answer book.old word.now ≡ Err (fault_number fault))) }
+{
+    let entry = match parse_answer(alloc, word) {
+        Ok(entry) => entry,
+        Err(fault) => return Err(fault),
+    };
+    match book.add(entry) {
+        Ok(()) => Ok(()),
+        Err(fault) => Err(refused_by(fault)),
+    }
+}
+
+/// Why the file of a book was refused, as a fault of this crate.
+fn file_refused(fault: &BookFileFault) -> BenchFault
+    ensures { fault_number result ≡ fault.now }
+{
+    match fault.cause() {
+        Cause::NoMemory => BenchFault::NoMemory,
+        Cause::Unread | Cause::FileUnread => BenchFault::Read,
+        Cause::FileTooLong | Cause::FillTooLong => BenchFault::BadEntry(EntryFault::TooLong),
+        Cause::BadEntry(fault) => BenchFault::BadEntry(*fault),
+        Cause::NoText
+        | Cause::NoToml(_)
+        | Cause::UnknownTop(_)
+        | Cause::NoTable
+        | Cause::UnknownKey(_)
+        | Cause::Missing(_)
+        | Cause::Malformed(_)
+        | Cause::ManyBodies => BenchFault::BadAnswer,
+    }
+}
+
+/// An answer that was refused: which of the words it is, from 1, and why.
+#[derive(Clone, Copy)]
+struct Refused {
+    place: usize,
+    fault: BenchFault,
+}
+
+/// Puts the answers that these words say last in the book, from the left.
+///
+/// The first word that is refused decides: `BadAnswer` where it says no answer, else what the book refuses it for;
+/// `NoMemory` may come before.
+#[tactic(auto, unfolding(crate::specs::Books::book_of))]
+fn add_answers(alloc: Global, book: &mut Book<Global>, words: &[&str]) -> Result<(), Refused>
+    ensures ok { OnOk result (book_of book.old (map (λ s. s.now) words.now) ≡ Ok book.new) }
+    ensures err { IfErr result (λ r. (r.fault ≡ NoMemory)
+        ⊎ (book_of book.old (map (λ s. s.now) words.now) ≡ Err (fault_number r.fault))) }
+{
+    for (before, word) in words.iter().enumerate() {
+        if let Err(fault) = add_answer(alloc, book, word) {
+            let place = before + 1;
+            return Err(Refused { place, fault });
+        }
+    }
+    Ok(())
+}
+
+/// Puts the entries of a file last in the book; an empty path is no file.
+fn add_file<F: Files>(
+    alloc: Global,
+    files: &mut F,
+    path: &str,
+    book: &mut Book<Global>,
+) -> Result<(), BookFileFault>
+    requires { book.old ≡ [] }
+    ensures ok { KnowsFile path.now (F.is_printed files.old)
+        → OnOk result (book_filed (F.file files.old) path.now ≡ Ok book.new) }
+    ensures err { KnowsFile path.now (F.is_printed files.old) → IfErr result (λ fault. 0 < fault
+        → book_filed (F.file files.old) path.now ≡ Err fault) }
+    ensures same_printed { F.is_printed files.new ≡ F.is_printed files.old }
+    ensures same_files { F.file files.new ≡ F.file files.old }
+{
+    if path.is_empty() {
+        return Ok(());
+    }
+    add_book(alloc, files, path, book)
+}
+
+/// Writes a text where it is there and asked for. What can't be written is left out.
+fn explain<E: Output>(errors: &mut E, why: bool, text: Result<String, AllocError>)
+    ensures quiet { why ≡ false → errors.new ≡ errors.old }
+    ensures name { E.name errors.new ≡ E.name errors.old }
+{
+    if why && let Ok(text) = text {
+        let _ = errors.write(text.as_bytes());
+    }
+}
+
+/// Why a file was refused, as a sentence on its own line.
+fn file_sentence(alloc: Global, fault: &BookFileFault) -> Result<String, AllocError> {
+    format!(in alloc; "{fault}\n")
+}
+
+/// Why an answer was refused, as a sentence on its own line.
+fn answer_sentence(alloc: Global, refused: Refused) -> Result<String, AllocError> {
+    let place = refused.place;
+    let fault = refused.fault;
+    format!(in alloc; "answer {place} of the command line: {fault}.\n")
+}
+
+/// The book with the entries of the file that the words name, and behind them the answers that they say.
+///
+/// Where an entry is refused and the words ask for the reason, a sentence is written to `errors`; otherwise nothing is.
+///
+/// # Errors
+///
+/// The file is read first, then the answers from the left, and the first that is refused decides. `Read` where a file
+/// can't be read, `BadAnswer` where the file is no book or a word says no answer, else what the book refuses an entry
+/// for; `NoMemory` may come before.
+pub fn book_for_words<F: Files, E: Output>(
+    alloc: Global,
+    words: &BookWords<'_>,
+    files: &mut F,
+    errors: &mut E,
+) -> Result<Book<Global>, BenchFault>
+    ensures ok { KnowsFile words.now.file.now (F.is_printed files.old)
+        → IfOk result (λ book. book_said (F.file files.old) (book_asked words.now) ≡ Ok book) }
+    ensures err { KnowsFile words.now.file.now (F.is_printed files.old)
+        → IfErr result (λ fault. (fault ≡ NoMemory)
+        ⊎ (book_said (F.file files.old) (book_asked words.now) ≡ Err (fault_number fault))) }
+    ensures calm { OnOk result (errors.new ≡ errors.old) }
+    ensures quiet { words.now.why ≡ false → errors.new ≡ errors.old }
+    ensures name { E.name errors.new ≡ E.name errors.old }
+    ensures same_printed { F.is_printed files.new ≡ F.is_printed files.old }
+    ensures same_files { F.file files.new ≡ F.file files.old }
+{
+    let mut book = Book::new(alloc);
+    if let Err(fault) = add_file(alloc, files, words.file, &mut book) {
+        explain(errors, words.why, file_sentence(alloc, &fault));
+        return Err(file_refused(&fault));
+    }
+    match add_answers(alloc, &mut book, words.answers.as_slice()) {
+        Ok(()) => Ok(book),
+        Err(refused) => {
+            explain(errors, words.why, answer_sentence(alloc, refused));
+            Err(refused.fault)
+        }
+    }
+}

@@ -1,0 +1,462 @@
+//! The program `check`: the cases of files, each on a connection of its own, and the verdicts on them.
+//! Rests on h2_check, `books` and h2_book; definitions: `specs/CheckProgram.antt`.
+
+ghost use Rattle.std.specs.Prelude.{◌≡◌, ◌≤◌, ◌<◌, [], false, length, is_err};
+ghost use Rattle.h2_commands.specs.Each.{not_written};
+
+use crate::books::book_for_words;
+use crate::each::PlacesFault;
+use crate::fault::BenchFault;
+use crate::input::LIMIT;
+use h2_book::{Files, FilesFault};
+use h2_check::{CaseFault, Line, ShellFault, Title, Verdict, Wrong, add_words, are_silent, case_length, check_case, line_of, lines_in, plan_line, title_of, verdict_text};
+use h2_device::{Gathered, Output};
+use h2_request::book::Book;
+use h2_spec::connection::Config;
+use h2_words::Words;
+use h2_words::command::{BookWords, Check, Debug, Plan, Refusal, parse};
+use std::alloc::{AllocError, Global};
+use std::path::{Path, PathBuf};
+use std::str;
+
+/// How many cases have a verdict, and whether none failed.
+#[derive(Clone, Copy)]
+pub struct Tally {
+    pub count: u64,
+    pub all_hold: bool,
+}
+
+/// The limits, the settings and the book of cases that have no words of their own.
+#[derive(Clone, Copy)]
+struct Common<'c> {
+    config: Config,
+    book: &'c Book<Global>,
+}
+
+/// A case of a file.
+#[derive(Clone, Copy)]
+struct Case<'c, 't> {
+    file: &'c str,
+    lines: &'c [&'t [u8]],
+    /// The number of its first line, from 1.
+    number: usize,
+}
+
+/// Memory was refused.
+fn no_memory(_error: AllocError) -> PlacesFault {
+    PlacesFault::Fault(BenchFault::NoMemory)
+}
+
+/// What a case is called.
+fn title<'c, 't>(case: Case<'c, 't>) -> Title<'c>
+where
+    't: 'c,
+{
+    Title {
+        file: case.file,
+        title: title_of(case.lines),
+    }
+}
+
+/// Writes octets, or says that they were not written.
+fn write<O: Output>(output: &mut O, octets: &[u8]) -> Result<(), PlacesFault> {
+    match output.write(octets) {
+        Ok(()) => Ok(()),
+        Err(_) => Err(PlacesFault::NotWritten),
+    }
+}
+
+/// The tally with one more verdict.
+fn tallied(tally: Tally, verdict: &Verdict<'_>) -> Tally {
+    Tally {
+        count: tally.count + 1,
+        all_hold: tally.all_hold && !matches!(verdict, Verdict::Fails(_)),
+    }
+}
+
+/// Writes a verdict, and counts it.
+fn report<O: Output>(
+    alloc: Global,
+    title: Title<'_>,
+    verdict: &Verdict<'_>,
+    tally: &mut Tally,
+    output: &mut O,
+) -> Result<(), PlacesFault> {
+    *tally = tallied(*tally, verdict);
+    match verdict_text(alloc, tally.count, title, verdict) {
+        Ok(text) => write(output, text.as_slice()),
+        Err(error) => Err(no_memory(error)),
+    }
+}
+
+/// Writes that a case failed at a line.
+fn report_wrong<O: Output>(
+    alloc: Global,
+    title: Title<'_>,
+    wrong: Wrong<'_>,
+    tally: &mut Tally,
+    output: &mut O,
+) -> Result<(), PlacesFault> {
+    let mut wrongs = Vec::new(alloc);
+    match wrongs.push(wrong) {
+        Ok(()) => report(alloc, title, &Verdict::Fails(wrongs), tally, output),
+        Err(_) => Err(PlacesFault::Fault(BenchFault::NoMemory)),
+    }
+}
+
+/// Writes that a case failed at a line for a reason in words.
+fn report_words<O: Output>(
+    alloc: Global,
+    title: Title<'_>,
+    line: usize,
+    wanted: &str,
+    found: &str,
+    tally: &mut Tally,
+    output: &mut O,
+) -> Result<(), PlacesFault> {
+    let wanted = wanted.as_bytes();
+    match String::from_str(alloc, found) {
+        Ok(found) => report_wrong(alloc, title, Wrong { line, wanted, found }, tally, output),
+        Err(error) => Err(no_memory(error)),
+    }
+}
+
+/// Checks a case with this book, these limits and these settings.
+fn check_on<O: Output>(
+    alloc: Global,
+    common: Common<'_>,
+    case: Case<'_, '_>,
+    tally: &mut Tally,
+    output: &mut O,
+) -> Result<(), PlacesFault> {
+    match check_case(alloc, common.book, common.config, case.lines, case.number) {
+        Ok(verdict) => report(alloc, title(case), &verdict, tally, output),
+        Err(CaseFault::BadConfig) => refuse_words(
+            alloc,
+            case,
+            "a limit or a setting is out of range",
+            tally,
+            output,
+        ),
+        Err(CaseFault::NoMemory) => Err(PlacesFault::Fault(BenchFault::NoMemory)),
+    }
+}
+
+/// The number of the first line that has words of the command line, or else of the first line.
+fn words_line(case: Case<'_, '_>) -> usize {
+    for (place, line) in case.lines.iter().enumerate() {
+        if let Line::Words(_) = line_of(line) {
+            return case.number + place;
+        }
+    }
+    case.number
+}
+
+/// Whether a case has words of its own.
+fn has_words(case: Case<'_, '_>) -> bool {
+    case.lines
+        .iter()
+        .any(|line| matches!(line_of(line), Line::Words(_)))
+}
+
+/// Puts the words of a line behind others, where it has some.
+fn add_line_words(alloc: Global, line: &[u8], words: &mut Words) -> Result<(), ShellFault> {
+    match line_of(line) {
+        Line::Words(text) => match str::from_utf8(text) {
+            Ok(text) => add_words(alloc, text, words),
+            Err(_) => Err(ShellFault::Open),
+        },
+        _ => Ok(()),
+    }
+}
+
+/// Puts the words of a case behind others.
+fn add_case_words(
+    alloc: Global,
+    case: Case<'_, '_>,
+    words: &mut Words,
+) -> Result<(), ShellFault> {
+    for line in case.lines {
+        match add_line_words(alloc, line, words) {
+            Ok(()) => {}
+            Err(fault) => return Err(fault),
+        }
+    }
+    Ok(())
+}
+
+/// The words that a case stands for: a command with limits, settings, a book and answers.
+fn command_of(alloc: Global, case: Case<'_, '_>, words: &mut Words) -> Result<(), ShellFault> {
+    match words.add("h2_bench") {
+        Ok(()) => {}
+        Err(_) => return Err(ShellFault::NoMemory),
+    }
+    match words.add("debug") {
+        Ok(()) => add_case_words(alloc, case, words),
+        Err(_) => Err(ShellFault::NoMemory),
+    }
+}
+
+/// The first line of a text.
+fn first_line(text: &str) -> &str {
+    match text.split_once('\n') {
+        Some((line, _)) => line,
+        None => text,
+    }
+}
+
+/// Checks a case that has words of its own.
+fn check_worded<F: Files, O: Output>(
+    alloc: Global,
+    files: &mut F,
+    case: Case<'_, '_>,
+    tally: &mut Tally,
+    output: &mut O,
+) -> Result<(), PlacesFault> {
+    let mut words = Words::new(alloc);
+    match command_of(alloc, case, &mut words) {
+        Ok(()) => check_words(alloc, files, case, &words, tally, output),
+        Err(ShellFault::NoMemory) => Err(PlacesFault::Fault(BenchFault::NoMemory)),
+        Err(ShellFault::Open) => refuse_words(alloc, case, "a quote is not closed", tally, output),
+    }
+}
+
+/// Writes that the words of a case are refused.
+fn refuse_words<O: Output>(
+    alloc: Global,
+    case: Case<'_, '_>,
+    found: &str,
+    tally: &mut Tally,
+    output: &mut O,
+) -> Result<(), PlacesFault> {
+    let wanted = "words of a command line";
+    report_words(
+        alloc,
+        title(case),
+        words_line(case),
+        wanted,
+        found,
+        tally,
+        output,
+    )
+}
+
+/// Checks a case whose command has these words.
+fn check_words<F: Files, O: Output>(
+    alloc: Global,
+    files: &mut F,
+    case: Case<'_, '_>,
+    words: &Words,
+    tally: &mut Tally,
+    output: &mut O,
+) -> Result<(), PlacesFault> {
+    match parse(alloc, words) {
+        Ok(Plan::Debug(plan)) => check_plan(alloc, files, case, plan, tally, output),
+        Ok(_) => refuse_words(alloc, case, "other words", tally, output),
+        Err(Refusal::Words(text)) => {
+            refuse_words(alloc, case, first_line(text.as_str()), tally, output)
+        }
+        Err(Refusal::NoMemory) => Err(PlacesFault::Fault(BenchFault::NoMemory)),
+    }
+}
+
+/// The place of a case's book: where its path is relative, it starts from the directory of the case's file.
+fn book_place(alloc: Global, case: Case<'_, '_>, book: &str) -> Result<PathBuf, AllocError> {
+    match Path::new(case.file).parent() {
+        Some(directory) => directory.join(alloc, book),
+        None => Path::new("").join(alloc, book),
+    }
+}
+
+/// The path of a case's book at this place; empty where there is none.
+fn path_of<'p>(book: &str, place: &'p PathBuf) -> &'p str {
+    if book.is_empty() { "" } else { place.as_str() }
+}
+
+/// Checks a case that has this plan.
+fn check_plan<F: Files, O: Output>(
+    alloc: Global,
+    files: &mut F,
+    case: Case<'_, '_>,
+    plan: Debug<'_>,
+    tally: &mut Tally,
+    output: &mut O,
+) -> Result<(), PlacesFault> {
+    let place = match book_place(alloc, case, plan.book.file) {
+        Ok(place) => place,
+        Err(error) => return Err(no_memory(error)),
+    };
+    let book = BookWords {
+        file: path_of(plan.book.file, &place),
+        why: true,
+        answers: plan.book.answers,
+    };
+    let mut why = Gathered::new(alloc);
+    match book_for_words(alloc, &book, files, &mut why) {
+        Ok(book) => {
+            let config = plan.config;
+            let common = Common {
+                config,
+                book: &book,
+            };
+            check_on(alloc, common, case, tally, output)
+        }
+        Err(BenchFault::NoMemory) => Err(PlacesFault::Fault(BenchFault::NoMemory)),
+        Err(_) => refuse_words(alloc, case, said_in(&why), tally, output),
+    }
+}
+
+/// The first line that was written.
+fn said_in(gathered: &Gathered) -> &str {
+    match str::from_utf8(gathered.octets.as_slice()) {
+        Ok(text) => first_line(text),
+        Err(_) => "an answer is refused",
+    }
+}
+
+/// Checks a case: with its own words where it has some, else with those of the command.
+fn check_one<F: Files, O: Output>(
+    alloc: Global,
+    common: Common<'_>,
+    files: &mut F,
+    case: Case<'_, '_>,
+    tally: &mut Tally,
+    output: &mut O,
+) -> Result<(), PlacesFault> {
+    if has_words(case) {
+        check_worded(alloc, files, case, tally, output)
+    } else {
+        check_on(alloc, common, case, tally, output)
+    }
+}
+
+/// Whether lines in front of the first title are no case: they say nothing.
+fn is_preamble(case: Case<'_, '_>, all: usize) -> bool {
+    case.number == 1
+        && case.lines.len() < all
+        && title_of(case.lines).is_none()
+        && are_silent(case.lines)
+}
+
+/// Checks the cases of a file's lines.
+fn check_cases<F: Files, O: Output>(
+    alloc: Global,
+    common: Common<'_>,
+    files: &mut F,
+    file: &str,
+    lines: &[&[u8]],
+    tally: &mut Tally,
+    output: &mut O,
+) -> Result<(), PlacesFault> {
+    let mut first = 0;
+    while first < lines.len() {
+        let length = case_length(&lines[first..]);
+        let number = first + 1;
+        let case = Case {
+            file,
+            lines: &lines[first..first + length],
+            number,
+        };
+        if !is_preamble(case, lines.len()) {
+            match check_one(alloc, common, files, case, tally, output) {
+                Ok(()) => {}
+                Err(fault) => return Err(fault),
+            }
+        }
+        first += length;
+    }
+    Ok(())
+}
+
+/// Writes that a file has no cases, and why.
+fn refuse_file<O: Output>(
+    alloc: Global,
+    file: &str,
+    found: &str,
+    tally: &mut Tally,
+    output: &mut O,
+) -> Result<(), PlacesFault> {
+    let title = Title { file, title: None };
+    report_words(alloc, title, 1, "a file of cases", found, tally, output)
+}
+
+/// Checks the cases of a text.
+fn check_text<F: Files, O: Output>(
+    alloc: Global,
+    common: Common<'_>,
+    files: &mut F,
+    file: &str,
+    text: &[u8],
+    tally: &mut Tally,
+    output: &mut O,
+) -> Result<(), PlacesFault> {
+    if str::from_utf8(text).is_err() {
+        return refuse_file(alloc, file, "the file is not UTF-8", tally, output);
+    }
+    match lines_in(alloc, text) {
+        Ok(lines) => check_cases(alloc, common, files, file, lines.as_slice(), tally, output),
+        Err(error) => Err(no_memory(error)),
+    }
+}
+
+/// Checks the cases of a file.
+fn check_file<F: Files, O: Output>(
+    alloc: Global,
+    common: Common<'_>,
+    files: &mut F,
+    file: &str,
+    tally: &mut Tally,
+    output: &mut O,
+) -> Result<(), PlacesFault> {
+    match files.read(alloc, file, LIMIT) {
+        Ok(text) => check_text(alloc, common, files, file, text.as_slice(), tally, output),
+        Err(FilesFault::NoMemory) => Err(PlacesFault::Fault(BenchFault::NoMemory)),
+        Err(FilesFault::Failed) => {
+            refuse_file(alloc, file, "the file can't be read", tally, output)
+        }
+        Err(FilesFault::TooLong) => {
+            let found = "the file has more than 16777216 octets";
+            refuse_file(alloc, file, found, tally, output)
+        }
+    }
+}
+
+/// Writes how many verdicts there are.
+fn write_plan<O: Output>(alloc: Global, tally: Tally, output: &mut O) -> Result<(), PlacesFault> {
+    match plan_line(alloc, tally.count) {
+        Ok(line) => write(output, line.as_slice()),
+        Err(error) => Err(no_memory(error)),
+    }
+}
+
+/// Checks the cases of files, and says whether none failed.
+///
+/// `Fault` where memory is refused: some first verdicts were written. `NotWritten` where a write failed.
+pub fn check_files<F: Files, O: Output>(
+    alloc: Global,
+    plan: &Check<'_>,
+    book: &Book<Global>,
+    files: &mut F,
+    output: &mut O,
+) -> Result<bool, PlacesFault> {
+    let config = plan.config;
+    let common = Common { config, book };
+    let mut tally = Tally {
+        count: 0,
+        all_hold: true,
+    };
+    match write(output, b"TAP version 14\n") {
+        Ok(()) => {}
+        Err(fault) => return Err(fault),
+    }
+    for file in plan.files.as_slice() {
+        match check_file(alloc, common, files, file, &mut tally, output) {
+            Ok(()) => {}
+            Err(fault) => return Err(fault),
+        }
+    }
+    match write_plan(alloc, tally, output) {
+        Ok(()) => Ok(tally.all_hold),
+        Err(fault) => Err(fault),
+    }
+}

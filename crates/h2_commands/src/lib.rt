@@ -1,0 +1,24 @@
+//! The commands that read their whole input before they answer: what is printed for it, and the exit status.
+//! They are a crate of their own, apart from `debug`, so that they are proved without the debugger.
+#![tactic(auto)]
+
+mod answer;
+mod asm;
+mod batch;
+mod books;
+mod check;
+mod dis;
+mod each;
+mod explain;
+mod fault;
+mod input;
+mod play;
+mod report;
+mod table;
+
+pub use answer::parse_answer;
+pub use batch::{explain_plan, print, print_end, print_fault, respond};
+pub use books::book_for_words;
+pub use check::check_files;
+pub use each::PlacesFault;
+pub use fault::BenchFault;

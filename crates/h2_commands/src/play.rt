@@ -1,0 +1,201 @@
+//! The program `play`: a connection over the octets that hex text spells.
+//! Rests on `each` and h2_conn; definitions: `specs/Printed.antt`.
+
+ghost use Rattle.std.specs.Prelude.{◌≡◌, ◌⊎◌, ◌<◌, ◌^◌, [], Ok, Err, Some, true, false, length, map, is_some, IfErr, IfOk, OnOk};
+ghost use Rattle.h2_spec.specs.View.{view};
+ghost use Rattle.h2_conn.specs.Connection.{going};
+ghost use Rattle.h2_spec.specs.State.{is_allowed};
+ghost use Rattle.h2_conn.specs.Runs.{Opens};
+ghost use Rattle.h2_commands.specs.Each.{PrintsRun, WritesSome, fed_first, not_written};
+ghost use Rattle.h2_commands.specs.Input.{IsNoHex, octets_spelled};
+ghost use Rattle.h2_commands.specs.Limits.{limits_fault};
+ghost use Rattle.h2_commands.specs.declared.each.PlacesFault.TheVariants.{Fault};
+ghost use Rattle.h2_commands.specs.Pieces.{piece_lengths};
+ghost use Rattle.h2_commands.specs.Printed.{OrCutShort, done, places_play, places_played, sent_and_state, printed_play, printed_played};
+ghost use Rattle.h2_commands.specs.declared.fault.BenchFault.TheVariants.{BadConfig, NoMemory};
+
+use crate::each::{PlacesFault, write_places, write_text};
+use crate::fault::BenchFault;
+use crate::input::{is_hex_text, read_hex};
+use h2_conn::play::open_and_feed;
+use h2_conn::{Conn, ConnFault};
+use h2_device::{DeviceFault, HexText, Output, Text, texts};
+use h2_request::book::Book;
+use h2_spec::connection::Config;
+use h2_words::command::Play;
+use std::alloc::{AllocError, Global};
+
+/// The line of the octets sent, and the text of the state.
+#[derive(Drop)]
+struct PlayedText<'p, 'b> {
+    sent: &'p [u8],
+    conn: &'p Conn<'b, Global>,
+}
+
+#[tactic(auto, using(h2_device::proofs::Appending::both), unfolding(crate::specs::Printed::sent_and_state))]
+impl Text for PlayedText<'_, '_> {
+    ghost text = { λ x. sent_and_state x.sent.now (view x.conn.now.state) };
+
+    fn write_to<O: Output>(&self, output: &mut O) -> Result<(), DeviceFault> {
+        texts!("sent ", HexText(self.sent), "\n").write_to(output)?;
+        self.conn.write_to(output)
+    }
+}
+
+/// How long a piece is where the words don't say it: a connection holds a copy of a piece, so a whole input is fed
+/// piece after piece.
+const PIECE: usize = 65536;
+
+/// The lengths of the pieces into which this many octets are cut: as many as there are whole ones of this length, or
+/// of 65,536 octets where it is 0.
+fn piece_lengths(alloc: Global, cut: u32, total: usize) -> Result<Vec<usize>, AllocError>
+    ensures { IfOk result (λ lengths. lengths.items ≡ piece_lengths cut total) }
+{
+    let length = if cut == 0 { PIECE } else { cut as usize };
+    vec![in alloc; length; total / length]
+}
+
+/// What is fed to a connection before it is reported: nothing where each of its places is.
+fn fed_first(each: bool, octets: &[u8]) -> &[u8]
+    ensures { result.now ≡ fed_first each octets.now }
+{
+    if each { &[] } else { octets }
+}
+
+/// A new connection that the octets were fed to, in pieces of this length, and what was sent.
+fn played<'b>(
+    alloc: Global,
+    book: &'b Book<Global>,
+    config: Config,
+    cut: u32,
+    octets: &[u8],
+    sent: &mut Vec<u8>,
+) -> Result<Conn<'b, Global>, BenchFault>
+    ensures ok { IfOk result (λ conn. Opens book.now config octets.now sent.old.items conn sent.new.items) }
+    ensures allowed { OnOk result (is_allowed config ≡ true) }
+    ensures fault { IfErr result (λ fault. (fault ≡ NoMemory) ⊎ ((fault ≡ BadConfig) × (is_allowed config ≡ false))) }
+{
+    let lengths = piece_lengths(alloc, cut, octets.len())?;
+    match open_and_feed(book, config, octets, lengths.as_slice(), sent) {
+        Ok(conn) => Ok(conn),
+        Err(ConnFault::BadConfig) => Err(BenchFault::BadConfig),
+        Err(_) => Err(BenchFault::NoMemory),
+    }
+}
+
+/// Writes the line of the octets sent, and the text of the state. Takes no memory.
+///
+/// `NotWritten` where the output failed, and only then.
+fn write_sent<O: Output>(
+    conn: &Conn<'_, Global>,
+    sent: &[u8],
+    output: &mut O,
+) -> Result<(), PlacesFault>
+    requires { O.has_failed output.old ≡ false }
+    ensures printed { O.has_failed output.new ≡ false → WritesSome (λ t. t ≡ done (sent_and_state sent.now (view conn.now.state)))
+        result (O.written output.old) (O.written output.new) }
+    ensures flag { O.has_failed output.new ≡ not_written result }
+    ensures name { O.name output.new ≡ O.name output.old }
+{
+    write_text(output, &PlayedText { sent, conn })
+}
+
+/// Writes what `play` prints of a connection: each place of its run over the octets, for which items are taken one by
+/// one; or what was sent, and its state, for which no memory is needed.
+fn write_conn<O: Output>(
+    alloc: Global,
+    each: bool,
+    conn: &mut Conn<'_, Global>,
+    sent: &[u8],
+    octets: &[u8],
+    output: &mut O,
+) -> Result<(), PlacesFault>
+    requires new { each ≡ true → conn.old ≡ going conn.old.state [] }
+    requires few { length octets.now < 2 ^ 63 }
+    requires writer { O.has_failed output.old ≡ false }
+    ensures printed { O.has_failed output.new ≡ false → WritesSome (PrintsRun each conn.old.state sent.now octets.now) result (O.written output.old) (O.written output.new) }
+    ensures flag { O.has_failed output.new ≡ not_written result }
+    ensures name { O.name output.new ≡ O.name output.old }
+{
+    if each {
+        write_places(alloc, conn, sent, octets, output)
+    } else {
+        write_sent(conn, sent, output)
+    }
+}
+
+/// Writes what `play` prints of octets: of each place of their run, for which items are taken one by one, or of the
+/// whole.
+fn write_played<O: Output>(
+    alloc: Global,
+    play: &Play<'_>,
+    book: &Book<Global>,
+    octets: &[u8],
+    output: &mut O,
+) -> Result<(), PlacesFault>
+    requires few { length octets.now < 2 ^ 63 }
+    requires writer { O.has_failed output.old ≡ false }
+    ensures printed { O.has_failed output.new ≡ false → WritesSome (OrCutShort (places_played play.now.each book.now play.now.config octets.now) (printed_played play.now.each book.now play.now.config octets.now))
+        result (O.written output.old) (O.written output.new) }
+    ensures flag { O.has_failed output.new ≡ not_written result }
+    ensures name { O.name output.new ≡ O.name output.old }
+{
+    let mut sent = Vec::new(alloc);
+    let first = fed_first(play.each, octets);
+    match played(alloc, book, play.config, play.cut, first, &mut sent) {
+        Ok(mut conn) => {
+            let sent = sent.as_slice();
+            write_conn(alloc, play.each, &mut conn, sent, octets, output)
+        }
+        Err(fault) => Err(PlacesFault::Fault(fault)),
+    }
+}
+
+/// The octets that hex text spells; the text is given back.
+fn octets_of(alloc: Global, input: Vec<u8>) -> Result<Vec<u8>, BenchFault>
+    ensures ok { IfOk result (λ octets. octets_spelled input.items ≡ Some octets.items) }
+    ensures err { IfErr result (λ fault. IsNoHex (octets_spelled input.items) fault) }
+{
+    read_hex(alloc, input.as_slice())
+}
+
+/// Why an input is refused whose limits or settings are out of range: it is no hex text, or it is for them. Takes no memory.
+pub(crate) fn refused_limits(input: &[u8]) -> BenchFault
+    ensures { result ≡ limits_fault (octets_spelled input.now) }
+{
+    if is_hex_text(input) {
+        BenchFault::BadConfig
+    } else {
+        BenchFault::BadHex
+    }
+}
+
+/// Writes what `play` prints of its input, however the octets are cut: the octets sent, and the state after all of
+/// them; or the same of each place.
+///
+/// `BadHex` where the input is no hex text, then `BadConfig` where a limit or a setting is out of range; nothing is written then,
+/// and no memory is needed. `NoMemory`
+/// where memory is refused: nothing was written, or some first places. `NotWritten` where a write failed.
+pub fn write_play<O: Output>(
+    alloc: Global,
+    play: &Play<'_>,
+    book: &Book<Global>,
+    input: Vec<u8>,
+    output: &mut O,
+) -> Result<(), PlacesFault>
+    requires { O.has_failed output.old ≡ false }
+    ensures printed { O.has_failed output.new ≡ false → let spelled = octets_spelled input.items in
+        WritesSome (OrCutShort (places_play play.now.each book.now play.now.config spelled) (printed_play play.now.each book.now play.now.config spelled))
+        result (O.written output.old) (O.written output.new) }
+    ensures memory { result ≡ Err (Fault NoMemory) → (is_allowed play.now.config ≡ true) × (is_some (octets_spelled input.items) ≡ true) }
+    ensures flag { O.has_failed output.new ≡ not_written result }
+    ensures name { O.name output.new ≡ O.name output.old }
+{
+    if !play.config.is_allowed() {
+        return Err(PlacesFault::Fault(refused_limits(input.as_slice())));
+    }
+    match octets_of(alloc, input) {
+        Ok(octets) => write_played(alloc, play, book, octets.as_slice(), output),
+        Err(fault) => Err(PlacesFault::Fault(fault)),
+    }
+}

@@ -1,0 +1,254 @@
+//! What an item changes on streams beside what `changes` lists: the numbers that a stream begins with, the windows of
+//! other streams that settings move, bodies that are sent to their end, and the open field block. With these every state can be made again
+//! from the changes alone.
+//! Rests on `changes` and `notes`; no definition speaks of it.
+
+use crate::count::Count;
+use crate::item::Explained;
+use crate::notes::Notes;
+use h2_conn::Conn;
+use h2_describe::names::is_live;
+use h2_describe::sent::next_frame;
+use h2_spec::connection::BlockView;
+use h2_spec::streams::{Numbers, Stream};
+use std::alloc::{AllocError, Global};
+use std::collections::BTreeMap;
+
+/// A change of a stream.
+#[derive(Clone, Copy)]
+pub enum Moved {
+    /// A stream opens: its identifier, its receive window and its send window, and its content-length, if it has one (RFC
+    /// 9113, 5.1, 6.9.2 and 8.1.1).
+    Opened(u32, i64, i64, Option<u64>),
+    /// A number of a stream, before and after.
+    Number(u32, Count, i64, i64),
+    /// The body of the answer on a stream is sent to its end, and the stream is still live.
+    BodySent(u32),
+    /// A field block is open after the item (RFC 9113, 4.3).
+    Block(BlockView),
+    /// The block of a stream is not open any more.
+    BlockEnds(u32),
+}
+
+/// The streams that are live, by their identifiers.
+pub(crate) type Live = BTreeMap<u32, ()>;
+
+/// The streams of the frames that were sent for an item.
+fn sent_streams(alloc: Global, sent: &[u8]) -> Result<Live, AllocError> {
+    let mut streams = BTreeMap::new(alloc);
+    let mut rest = sent;
+    for _frame in 0..sent.len() {
+        let Some((frame, after)) = next_frame(rest) else {
+            return Ok(streams);
+        };
+        rest = after;
+        if frame.head.stream != 0 {
+            streams.insert(frame.head.stream, ())?;
+        }
+    }
+    Ok(streams)
+}
+
+/// Whether an item moves the windows of all streams: an initial window of one side is another after it (RFC 9113, 6.9.2).
+fn moves_windows(item: &Explained<'_>) -> bool {
+    let (before, after) = (&item.before.counts, &item.after.counts);
+    before.peer.window != after.peer.window || before.own.window != after.own.window
+}
+
+/// Appends the row of a window, where it is another than before.
+fn put_window(
+    stream: u32,
+    count: Count,
+    before: i64,
+    after: i64,
+    out: &mut Vec<Moved>,
+) -> Result<(), AllocError> {
+    if before != after {
+        out.push(Moved::Number(stream, count, before, after))?;
+    }
+    Ok(())
+}
+
+/// Appends the windows of a stream that are other than before.
+fn put_windows(
+    stream: u32,
+    before: &Numbers,
+    after: &Numbers,
+    out: &mut Vec<Moved>,
+) -> Result<(), AllocError> {
+    let (recv, send) = (
+        i64::from(before.recv.value()),
+        i64::from(before.send.value()),
+    );
+    put_window(
+        stream,
+        Count::ReceiveWindow,
+        recv,
+        i64::from(after.recv.value()),
+        out,
+    )?;
+    put_window(
+        stream,
+        Count::SendWindow,
+        send,
+        i64::from(after.send.value()),
+        out,
+    )
+}
+
+/// Appends what a stream begins with, and its send window, where the answer has taken of it already; `initial` is the
+/// client's initial window.
+fn put_opened(stream: &Stream, initial: u32, out: &mut Vec<Moved>) -> Result<(), AllocError> {
+    let numbers = &stream.numbers;
+    let (recv, send) = (
+        i64::from(numbers.recv.value()),
+        i64::from(numbers.send.value()),
+    );
+    let first = i64::from(initial);
+    out.push(Moved::Opened(stream.id, recv, first, numbers.declared))?;
+    put_window(stream.id, Count::SendWindow, first, send, out)
+}
+
+/// Appends that the body of a stream is sent to its end, where it is.
+fn put_body_sent(before: &Stream, after: &Stream, out: &mut Vec<Moved>) -> Result<(), AllocError> {
+    if before.numbers.body_remaining.is_some() && after.numbers.body_remaining.is_none() {
+        out.push(Moved::BodySent(after.id))?;
+    }
+    Ok(())
+}
+
+/// Appends what `changes` does not list of a stream on which an item is, or a frame was sent.
+fn put_listed(
+    before: &Stream,
+    after: &Stream,
+    initial: u32,
+    out: &mut Vec<Moved>,
+) -> Result<(), AllocError> {
+    match (is_live(before.kind), is_live(after.kind)) {
+        (false, true) => put_opened(after, initial, out),
+        (true, true) => put_body_sent(before, after, out),
+        (_, false) => Ok(()),
+    }
+}
+
+/// Appends the windows of a live stream that settings moved, unless `changes` lists them.
+fn put_other(
+    conn: &Conn<'_, Global>,
+    notes: &Notes,
+    sent: &Live,
+    stream: u32,
+    out: &mut Vec<Moved>,
+) -> Result<(), AllocError> {
+    if sent.contains_key(&stream) {
+        return Ok(());
+    }
+    match notes.of(stream) {
+        Some(note) => put_windows(
+            stream,
+            &note.seen.numbers,
+            &conn.stream(stream).numbers,
+            out,
+        ),
+        None => Ok(()),
+    }
+}
+
+/// Appends what `changes` does not list of the streams that frames were sent on.
+fn put_sent(
+    conn: &Conn<'_, Global>,
+    item: &Explained<'_>,
+    notes: &Notes,
+    sent: &Live,
+    out: &mut Vec<Moved>,
+) -> Result<(), AllocError> {
+    let initial = item.after.counts.peer.window;
+    for stream in sent.keys() {
+        if *stream != item.after.stream.id {
+            if let Some(note) = notes.of(*stream) {
+                put_listed(&note.seen, &conn.stream(*stream), initial, out)?;
+            }
+        }
+    }
+    Ok(())
+}
+
+/// Appends how far the open block has come, or that it is not open any more: only a frame of the block changes it.
+fn put_block(item: &Explained<'_>, out: &mut Vec<Moved>) -> Result<(), AllocError> {
+    match (item.before.block, item.after.block) {
+        (None, None) => {}
+        (Some(block), None) => out.push(Moved::BlockEnds(block.stream))?,
+        (Some(before), Some(after))
+            if before.octets == after.octets && before.list_size == after.list_size => {}
+        (_, Some(block)) => out.push(Moved::Block(block))?,
+    }
+    Ok(())
+}
+
+/// What an item changes on streams beside what `changes` lists; `notes` are those before the item, and `live` the streams
+/// that were live then.
+pub(crate) fn moved_by(
+    alloc: Global,
+    conn: &Conn<'_, Global>,
+    item: &Explained<'_>,
+    notes: &Notes,
+    live: &Live,
+) -> Result<Vec<Moved>, AllocError> {
+    let mut list = Vec::new(alloc);
+    let sent = sent_streams(alloc, item.sent.as_slice())?;
+    if item.after.stream.id != 0 {
+        let initial = item.after.counts.peer.window;
+        put_listed(&item.before.stream, &item.after.stream, initial, &mut list)?;
+    }
+    put_sent(conn, item, notes, &sent, &mut list)?;
+    if moves_windows(item) {
+        for stream in live.keys() {
+            put_other(conn, notes, &sent, *stream, &mut list)?;
+        }
+    }
+    put_block(item, &mut list)?;
+    Ok(list)
+}
+
+/// Notes the streams that settings have moved as they are now.
+fn note_live(
+    conn: &Conn<'_, Global>,
+    number: u64,
+    notes: &mut Notes,
+    live: &Live,
+) -> Result<(), AllocError> {
+    for stream in live.keys() {
+        notes.see(number, number, conn.stream(*stream))?;
+    }
+    Ok(())
+}
+
+/// Keeps a stream among the live ones where it is live, and else not.
+fn keep_live(stream: &Stream, live: &mut Live) -> Result<(), AllocError> {
+    if is_live(stream.kind) {
+        live.insert(stream.id, ())?;
+    } else {
+        live.remove(&stream.id);
+    }
+    Ok(())
+}
+
+/// Notes what an item has moved, and which streams are live after it.
+pub(crate) fn note_moved(
+    alloc: Global,
+    conn: &Conn<'_, Global>,
+    item: &Explained<'_>,
+    notes: &mut Notes,
+    live: &mut Live,
+) -> Result<(), AllocError> {
+    if moves_windows(item) {
+        note_live(conn, item.number, notes, live)?;
+    }
+    if item.after.stream.id != 0 {
+        keep_live(&item.after.stream, live)?;
+    }
+    let sent = sent_streams(alloc, item.sent.as_slice())?;
+    for stream in sent.keys() {
+        keep_live(&conn.stream(*stream), live)?;
+    }
+    Ok(())
+}
