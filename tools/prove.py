@@ -2,9 +2,9 @@
 """Proves and builds the program: `h2_bench --prove`.
 
 The crates that the program is made of are copied to a temporary folder, without their must-fail edits. `rt ci NAME` proves each there once those below it are proved,
-two side by side where there are two processors; each call gives its crate the half of the processors. What it has proved is kept on this machine, so a later call and
-the gate prove only what has changed since. At the end `rt ci` over all of them takes what is kept, builds the program with both compilers and runs it. The two
-programs are put into crates/h2_program/out, and beside them the checksum of the sources that were proved.
+two side by side where processors and memory carry them; a call gives its crate half of the processors, at most four. What it has proved is kept on this machine, so
+a later call and the gate prove only what has changed since. At the end `rt ci` over all of them takes what is kept, builds the program with both compilers and runs
+it. The two programs are put into crates/h2_program/out, and beside them the checksum of the sources that were proved.
 
 out/proved has the checksums of crates that were proved and kept before: no call is made for these.
 """
@@ -78,6 +78,13 @@ class Progress:
                 print("\r\033[K", end="", file=sys.stderr, flush=True)
 
 
+def side_by_side():
+    """How many crates to prove side by side. A call of rt gives its crate half of the processors, at most four, and takes some 6 GB of memory."""
+    processors = len(os.sched_getaffinity(0))
+    gigabytes = int(re.search(r"MemAvailable: +([0-9]+)", program.read("/proc/meminfo"))[1]) // 1_000_000
+    return max(1, min(max(min(2, processors), processors // 4), gigabytes // 6))
+
+
 class Proofs:
     """The calls of rt in the copy."""
 
@@ -123,7 +130,7 @@ class Proofs:
             self.progress.count(name, "was proved before")
         behind, running = self.behind(), {}
         left = sorted((name for name in self.lines if name not in done), key=lambda name: -behind[name])
-        lanes = min(2, len(os.sched_getaffinity(0)))
+        lanes = side_by_side()
         with concurrent.futures.ThreadPoolExecutor(lanes) as pool:
             try:
                 while left or running:

@@ -8,9 +8,10 @@ ghost use Rattle.h2_words.specs.Plans.{asked_in, book_asked};
 ghost use Rattle.h2_commands.specs.CommandEnd.{EndsBatch, KnowsFile, PrintsSome, file_of, no_files};
 ghost use Rattle.h2_commands.specs.ExplainProgram.{EndsExplain, form_of};
 ghost use Rattle.h2_bench.specs.ProgramEnd.{EndsServe, EndsSession, EndsSomehow, PrintsRefusal, asks_why, is_reader, is_serve, printed_for};
+ghost use Rattle.h2_commands.specs.Each.{not_written};
 
 use h2_book::{Files, FilesInMemory};
-use h2_commands::{BenchFault, PlacesFault, book_for_words, check_files, explain_plan, print, print_end, print_fault, respond};
+use h2_commands::{BenchFault, PlacesFault, Tally, book_for_words, check_files, explain_plan, print, print_end, print_fault, respond};
 use h2_device::{FromRead, Input, IntoWrite, Output};
 use h2_session::debug_session;
 use h2_words::Words;
@@ -47,11 +48,17 @@ fn debug<F: Files, I: Input, O: Output, E: Output>(
 
 /// Writes what is left to say of cases: the line of a fault that ended them. Gives the status: 0 where no case failed, 1
 /// where one did, and after a fault, 3 where the output failed.
-fn print_checked<O: Output>(output: &mut O, ended: Result<bool, PlacesFault>) -> u8
+fn print_checked<O: Output>(
+    output: &mut O,
+    ended: Result<(), PlacesFault>,
+    all_hold: bool,
+) -> u8
+    requires { O.has_failed output.old ≡ not_written ended }
+    ensures flag { O.has_failed output.new ≡ (result == 3) }
+    ensures name { O.name output.new ≡ O.name output.old }
 {
     match ended {
-        Ok(true) => 0,
-        Ok(false) => 1,
+        Ok(()) => { if all_hold { 0 } else { 1 } }
         Err(fault) => print_end(output, Err(fault)),
     }
 }
@@ -64,11 +71,17 @@ fn check<F: Files, O: Output, E: Output>(
     output: &mut O,
     errors: &mut E,
 ) -> u8
+    requires writer { O.has_failed output.old ≡ false }
+    ensures flag { O.has_failed output.new ≡ (result == 3) }
+    ensures name { O.name output.new ≡ O.name output.old }
+    ensures quiet { plan.now.book.why ≡ false → errors.new ≡ errors.old }
+    ensures errors { E.name errors.new ≡ E.name errors.old }
 {
     match book_for_words(alloc, &plan.book, files, errors) {
         Ok(book) => {
-            let ended = check_files(alloc, plan, &book, files, output);
-            print_checked(output, ended)
+            let mut tally = Tally::new();
+            let ended = check_files(alloc, plan, &book, files, &mut tally, output);
+            print_checked(output, ended, tally.all_hold)
         }
         Err(fault) => print_fault(output, fault),
     }

@@ -1,1 +1,3 @@
+pub mod Feeds
+pub mod Items
 pub mod Lists

@@ -1,10 +1,11 @@
 -- What is seen of the items of a run: what was sent, and why items were errors or were ignored (RFC 9113, 5.4).
-use Rattle.std.specs.Prelude.{ℕ, ◌++◌, List, [], ◌∷◌, Option, Some, None}
+use Rattle.std.specs.Prelude.{◌≡◌, ℕ, ◌++◌, List, [], ◌∷◌, Option, Some, None}
 use Rattle.h2_spec.specs.Effect.{cause_of}
 use Rattle.h2_spec.specs.Frame.{frames_octets}
 use Rattle.h2_spec.specs.Ignored.{ignored_of}
 use Rattle.h2_spec.specs.State.{State}
-use Rattle.h2_spec.specs.Trace.{Event, trace}
+use Rattle.h2_spec.specs.Parse.{Stop, One}
+use Rattle.h2_spec.specs.Trace.{Event, next_event, trace}
 use Rattle.h2_spec.specs.declared.causes.Cause.{Cause}
 use Rattle.h2_spec.specs.declared.ignored.Ignored.{Ignored}
 use Rattle.h2_check.specs.declared.run.Seen.{Seen}
@@ -47,3 +48,20 @@ sight s sent octets = with_items s (no_item sent) (trace s octets).events
 -- the sight that a value has
 abbrev pub seen_by : Seen → Sight
 seen_by seen = record { sent = seen.sent.items; first = seen.first; cause = seen.cause; ignored = seen.ignored }
+
+-- the next item of the octets was taken: it has so many of them
+pub record TakesItem (s : State) (b : List ℕ) (seen : Sight) (t : State) (seen' : Sight) (used : ℕ) : Type 0 where
+  pub event : Event
+  pub comes : next_event s b ≡ One event t used
+  pub state : event.state ≡ t
+  pub sight : seen' ≡ with_item s seen event
+
+-- or there is none
+pub record TakesNone (s : State) (b : List ℕ) (seen : Sight) (t : State) (seen' : Sight) : Type 0 where
+  pub none : next_event s b ≡ Stop
+  pub same : t ≡ s
+  pub sight : seen' ≡ seen
+
+abbrev pub TakesNext : State → List ℕ → Sight → State → Sight → Option ℕ → Type 0
+TakesNext s b seen t seen' None = TakesNone s b seen t seen'
+TakesNext s b seen t seen' (Some used) = TakesItem s b seen t seen' used

@@ -5,7 +5,7 @@ ghost use Rattle.std.specs.Prelude.{◌≡◌, ◌≤◌, ◌<◌, ◌^◌, [], 
 ghost use Rattle.h2_conn.specs.Connection.{going};
 ghost use Rattle.h2_spec.specs.Parse.{parse_all};
 ghost use Rattle.h2_spec.specs.Trace.{next_event};
-ghost use Rattle.h2_check.specs.Seen.{cause_or, seen_by, with_items};
+ghost use Rattle.h2_check.specs.Seen.{TakesNext, cause_or, seen_by, with_items};
 
 use h2_conn::Conn;
 use h2_spec::causes::Cause;
@@ -36,6 +36,30 @@ fn cause_or(one: Option<Cause>, other: Option<Cause>) -> Option<Cause>
     }
 }
 
+/// Takes the item that octets begin with, if there is a whole one, and gives how many octets it has.
+///
+/// `AllocError` where memory is refused.
+fn take_item(
+    conn: &mut Conn<'_, Global>,
+    octets: &[u8],
+    seen: &mut Seen,
+) -> Result<Option<usize>, AllocError>
+    requires ready { conn.old ≡ going conn.old.state [] }
+    ensures ready { conn.new ≡ going conn.new.state [] }
+    ensures takes { IfOk result (λ used. TakesNext conn.old.state octets.now (seen_by seen.old) conn.new.state (seen_by seen.new) used) }
+{
+    match conn.take_and_report(octets, &mut seen.sent) {
+        Ok(Some(taken)) => {
+            seen.first = cause_or(seen.first, taken.cause);
+            seen.cause = taken.cause;
+            seen.ignored = taken.ignored;
+            Ok(Some(taken.used))
+        }
+        Ok(None) => Ok(None),
+        Err(error) => Err(error),
+    }
+}
+
 /// Takes the items that octets have from a place on, and gives the place behind them.
 ///
 /// `AllocError` where memory is refused.
@@ -47,7 +71,6 @@ pub(crate) fn take_items(
 ) -> Result<usize, AllocError>
     requires ready { conn.old ≡ going conn.old.state [] }
     requires within { start ≤ length octets.now }
-    requires few { length octets.now < 2 ^ 63 }
     ensures ready { conn.new ≡ going conn.new.state [] }
     ensures within { IfOk result (λ at. at ≤ length octets.now) }
     ensures state { IfOk result (λ at. (parse_all next_event conn.old.state (drop start octets.now)).state ≡ conn.new.state) }
@@ -56,13 +79,8 @@ pub(crate) fn take_items(
 {
     let mut at = start;
     loop {
-        match conn.take_and_report(octets_from(octets, at), &mut seen.sent) {
-            Ok(Some(taken)) => {
-                at += taken.used;
-                seen.first = cause_or(seen.first, taken.cause);
-                seen.cause = taken.cause;
-                seen.ignored = taken.ignored;
-            }
+        match take_item(conn, octets_from(octets, at), seen) {
+            Ok(Some(used)) => at += used,
             Ok(None) => return Ok(at),
             Err(error) => return Err(error),
         }

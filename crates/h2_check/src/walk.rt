@@ -268,6 +268,7 @@ impl<'t> Walk<'t> {
         requires ready { conn.old ≡ going conn.old.state [] }
         requires within { self.old.at ≤ length self.old.octets.items }
         ensures ready { conn.new ≡ going conn.new.state [] }
+        ensures within { OnOk result (self.new.at ≤ length self.new.octets.items) }
         ensures walks { OnOk result ((start : Start) → Walks start self.old conn.old → Walks start self.new conn.new) }
         ensures octets { OnOk result (self.new.octets.items ≡ self.old.octets.items ++ more.now) }
         ensures place { (self.new.spoken ≡ self.old.spoken) × (self.new.speaks ≡ self.old.speaks) }
@@ -288,6 +289,7 @@ impl<'t> Walk<'t> {
         requires ready { conn.old ≡ going conn.old.state [] }
         requires within { self.old.at ≤ length self.old.octets.items }
         ensures ready { conn.new ≡ going conn.new.state [] }
+        ensures within { OnOk result (self.new.at ≤ length self.new.octets.items) }
         ensures walks { OnOk result ((start : Start) → Walks start self.old conn.old → Walks start self.new conn.new) }
         ensures goes { OnOk result ((start : Start) → Walks start self.old conn.old
             → Goes (plays start (place_of self.old) (Some more.now)) (played start (place_of self.old) (Some more.now)) self.old self.new) }
@@ -312,6 +314,7 @@ impl<'t> Walk<'t> {
         requires ready { conn.old ≡ going conn.old.state [] }
         requires within { self.old.at ≤ length self.old.octets.items }
         ensures ready { conn.new ≡ going conn.new.state [] }
+        ensures within { OnOk result (self.new.at ≤ length self.new.octets.items) }
         ensures walks { OnOk result ((start : Start) → Walks start self.old conn.old → Walks start self.new conn.new) }
         ensures goes { OnOk result ((start : Start) → Walks start self.old conn.old
             → Goes (plays start (place_of self.old) (octets_at text.now)) (played start (place_of self.old) (octets_at text.now)) self.old self.new) }
@@ -449,6 +452,7 @@ impl<'t> Walk<'t> {
         requires ready { conn.old ≡ going conn.old.state [] }
         requires within { self.old.at ≤ length self.old.octets.items }
         ensures ready { conn.new ≡ going conn.new.state [] }
+        ensures within { OnOk result (self.new.at ≤ length self.new.octets.items) }
         ensures walks { OnOk result ((start : Start) → Walks start self.old conn.old → Walks start self.new conn.new) }
         ensures goes { OnOk result ((start : Start) → Walks start self.old conn.old → Passes start (line_said line.now) self.old self.new) }
     {

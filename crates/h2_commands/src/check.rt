@@ -1,7 +1,7 @@
 //! The program `check`: the cases of files, each on a connection of its own, and the verdicts on them.
 //! Rests on h2_check, `books` and h2_book; definitions: `specs/CheckProgram.antt`.
 
-ghost use Rattle.std.specs.Prelude.{◌≡◌, ◌≤◌, ◌<◌, [], false, length, is_err};
+ghost use Rattle.std.specs.Prelude.{◌≡◌, ◌≤◌, ◌<◌, [], false, true, length, is_err};
 ghost use Rattle.h2_commands.specs.Each.{not_written};
 
 use crate::books::book_for_words;
@@ -24,6 +24,18 @@ use std::str;
 pub struct Tally {
     pub count: u64,
     pub all_hold: bool,
+}
+
+impl Tally {
+    /// No verdict yet.
+    pub fn new() -> Tally
+        ensures { (result.count ≡ 0) × (result.all_hold ≡ true) }
+    {
+        Tally {
+            count: 0,
+            all_hold: true,
+        }
+    }
 }
 
 /// The limits, the settings and the book of cases that have no words of their own.
@@ -59,7 +71,11 @@ where
 }
 
 /// Writes octets, or says that they were not written.
-fn write<O: Output>(output: &mut O, octets: &[u8]) -> Result<(), PlacesFault> {
+fn write<O: Output>(output: &mut O, octets: &[u8]) -> Result<(), PlacesFault>
+    requires writer { O.has_failed output.old ≡ false }
+    ensures flag { O.has_failed output.new ≡ not_written result }
+    ensures name { O.name output.new ≡ O.name output.old }
+{
     match output.write(octets) {
         Ok(()) => Ok(()),
         Err(_) => Err(PlacesFault::NotWritten),
@@ -69,7 +85,7 @@ fn write<O: Output>(output: &mut O, octets: &[u8]) -> Result<(), PlacesFault> {
 /// The tally with one more verdict.
 fn tallied(tally: Tally, verdict: &Verdict<'_>) -> Tally {
     Tally {
-        count: tally.count + 1,
+        count: tally.count.saturating_add(1),
         all_hold: tally.all_hold && !matches!(verdict, Verdict::Fails(_)),
     }
 }
@@ -81,7 +97,11 @@ fn report<O: Output>(
     verdict: &Verdict<'_>,
     tally: &mut Tally,
     output: &mut O,
-) -> Result<(), PlacesFault> {
+) -> Result<(), PlacesFault>
+    requires writer { O.has_failed output.old ≡ false }
+    ensures flag { O.has_failed output.new ≡ not_written result }
+    ensures name { O.name output.new ≡ O.name output.old }
+{
     *tally = tallied(*tally, verdict);
     match verdict_text(alloc, tally.count, title, verdict) {
         Ok(text) => write(output, text.as_slice()),
@@ -96,7 +116,11 @@ fn report_wrong<O: Output>(
     wrong: Wrong<'_>,
     tally: &mut Tally,
     output: &mut O,
-) -> Result<(), PlacesFault> {
+) -> Result<(), PlacesFault>
+    requires writer { O.has_failed output.old ≡ false }
+    ensures flag { O.has_failed output.new ≡ not_written result }
+    ensures name { O.name output.new ≡ O.name output.old }
+{
     let mut wrongs = Vec::new(alloc);
     match wrongs.push(wrong) {
         Ok(()) => report(alloc, title, &Verdict::Fails(wrongs), tally, output),
@@ -113,7 +137,11 @@ fn report_words<O: Output>(
     found: &str,
     tally: &mut Tally,
     output: &mut O,
-) -> Result<(), PlacesFault> {
+) -> Result<(), PlacesFault>
+    requires writer { O.has_failed output.old ≡ false }
+    ensures flag { O.has_failed output.new ≡ not_written result }
+    ensures name { O.name output.new ≡ O.name output.old }
+{
     let wanted = wanted.as_bytes();
     match String::from_str(alloc, found) {
         Ok(found) => report_wrong(alloc, title, Wrong { line, wanted, found }, tally, output),
@@ -128,7 +156,11 @@ fn check_on<O: Output>(
     case: Case<'_, '_>,
     tally: &mut Tally,
     output: &mut O,
-) -> Result<(), PlacesFault> {
+) -> Result<(), PlacesFault>
+    requires writer { O.has_failed output.old ≡ false }
+    ensures flag { O.has_failed output.new ≡ not_written result }
+    ensures name { O.name output.new ≡ O.name output.old }
+{
     match check_case(alloc, common.book, common.config, case.lines, case.number) {
         Ok(verdict) => report(alloc, title(case), &verdict, tally, output),
         Err(CaseFault::BadConfig) => refuse_words(
@@ -212,7 +244,11 @@ fn check_worded<F: Files, O: Output>(
     case: Case<'_, '_>,
     tally: &mut Tally,
     output: &mut O,
-) -> Result<(), PlacesFault> {
+) -> Result<(), PlacesFault>
+    requires writer { O.has_failed output.old ≡ false }
+    ensures flag { O.has_failed output.new ≡ not_written result }
+    ensures name { O.name output.new ≡ O.name output.old }
+{
     let mut words = Words::new(alloc);
     match command_of(alloc, case, &mut words) {
         Ok(()) => check_words(alloc, files, case, &words, tally, output),
@@ -228,7 +264,11 @@ fn refuse_words<O: Output>(
     found: &str,
     tally: &mut Tally,
     output: &mut O,
-) -> Result<(), PlacesFault> {
+) -> Result<(), PlacesFault>
+    requires writer { O.has_failed output.old ≡ false }
+    ensures flag { O.has_failed output.new ≡ not_written result }
+    ensures name { O.name output.new ≡ O.name output.old }
+{
     let wanted = "words of a command line";
     report_words(
         alloc,
@@ -249,7 +289,11 @@ fn check_words<F: Files, O: Output>(
     words: &Words,
     tally: &mut Tally,
     output: &mut O,
-) -> Result<(), PlacesFault> {
+) -> Result<(), PlacesFault>
+    requires writer { O.has_failed output.old ≡ false }
+    ensures flag { O.has_failed output.new ≡ not_written result }
+    ensures name { O.name output.new ≡ O.name output.old }
+{
     match parse(alloc, words) {
         Ok(Plan::Debug(plan)) => check_plan(alloc, files, case, plan, tally, output),
         Ok(_) => refuse_words(alloc, case, "other words", tally, output),
@@ -281,7 +325,11 @@ fn check_plan<F: Files, O: Output>(
     plan: Debug<'_>,
     tally: &mut Tally,
     output: &mut O,
-) -> Result<(), PlacesFault> {
+) -> Result<(), PlacesFault>
+    requires writer { O.has_failed output.old ≡ false }
+    ensures flag { O.has_failed output.new ≡ not_written result }
+    ensures name { O.name output.new ≡ O.name output.old }
+{
     let place = match book_place(alloc, case, plan.book.file) {
         Ok(place) => place,
         Err(error) => return Err(no_memory(error)),
@@ -322,7 +370,11 @@ fn check_one<F: Files, O: Output>(
     case: Case<'_, '_>,
     tally: &mut Tally,
     output: &mut O,
-) -> Result<(), PlacesFault> {
+) -> Result<(), PlacesFault>
+    requires writer { O.has_failed output.old ≡ false }
+    ensures flag { O.has_failed output.new ≡ not_written result }
+    ensures name { O.name output.new ≡ O.name output.old }
+{
     if has_words(case) {
         check_worded(alloc, files, case, tally, output)
     } else {
@@ -347,7 +399,11 @@ fn check_cases<F: Files, O: Output>(
     lines: &[&[u8]],
     tally: &mut Tally,
     output: &mut O,
-) -> Result<(), PlacesFault> {
+) -> Result<(), PlacesFault>
+    requires writer { O.has_failed output.old ≡ false }
+    ensures flag { O.has_failed output.new ≡ not_written result }
+    ensures name { O.name output.new ≡ O.name output.old }
+{
     let mut first = 0;
     while first < lines.len() {
         let length = case_length(&lines[first..]);
@@ -375,7 +431,11 @@ fn refuse_file<O: Output>(
     found: &str,
     tally: &mut Tally,
     output: &mut O,
-) -> Result<(), PlacesFault> {
+) -> Result<(), PlacesFault>
+    requires writer { O.has_failed output.old ≡ false }
+    ensures flag { O.has_failed output.new ≡ not_written result }
+    ensures name { O.name output.new ≡ O.name output.old }
+{
     let title = Title { file, title: None };
     report_words(alloc, title, 1, "a file of cases", found, tally, output)
 }
@@ -389,7 +449,11 @@ fn check_text<F: Files, O: Output>(
     text: &[u8],
     tally: &mut Tally,
     output: &mut O,
-) -> Result<(), PlacesFault> {
+) -> Result<(), PlacesFault>
+    requires writer { O.has_failed output.old ≡ false }
+    ensures flag { O.has_failed output.new ≡ not_written result }
+    ensures name { O.name output.new ≡ O.name output.old }
+{
     if str::from_utf8(text).is_err() {
         return refuse_file(alloc, file, "the file is not UTF-8", tally, output);
     }
@@ -407,7 +471,11 @@ fn check_file<F: Files, O: Output>(
     file: &str,
     tally: &mut Tally,
     output: &mut O,
-) -> Result<(), PlacesFault> {
+) -> Result<(), PlacesFault>
+    requires writer { O.has_failed output.old ≡ false }
+    ensures flag { O.has_failed output.new ≡ not_written result }
+    ensures name { O.name output.new ≡ O.name output.old }
+{
     match files.read(alloc, file, LIMIT) {
         Ok(text) => check_text(alloc, common, files, file, text.as_slice(), tally, output),
         Err(FilesFault::NoMemory) => Err(PlacesFault::Fault(BenchFault::NoMemory)),
@@ -422,14 +490,40 @@ fn check_file<F: Files, O: Output>(
 }
 
 /// Writes how many verdicts there are.
-fn write_plan<O: Output>(alloc: Global, tally: Tally, output: &mut O) -> Result<(), PlacesFault> {
+fn write_plan<O: Output>(alloc: Global, tally: Tally, output: &mut O) -> Result<(), PlacesFault>
+    requires writer { O.has_failed output.old ≡ false }
+    ensures flag { O.has_failed output.new ≡ not_written result }
+    ensures name { O.name output.new ≡ O.name output.old }
+{
     match plan_line(alloc, tally.count) {
         Ok(line) => write(output, line.as_slice()),
         Err(error) => Err(no_memory(error)),
     }
 }
 
-/// Checks the cases of files, and says whether none failed.
+/// Checks the cases of files in their order.
+fn check_all<F: Files, O: Output>(
+    alloc: Global,
+    common: Common<'_>,
+    names: &[&str],
+    files: &mut F,
+    tally: &mut Tally,
+    output: &mut O,
+) -> Result<(), PlacesFault>
+    requires writer { O.has_failed output.old ≡ false }
+    ensures flag { O.has_failed output.new ≡ not_written result }
+    ensures name { O.name output.new ≡ O.name output.old }
+{
+    for file in names {
+        match check_file(alloc, common, files, file, tally, output) {
+            Ok(()) => {}
+            Err(fault) => return Err(fault),
+        }
+    }
+    Ok(())
+}
+
+/// Checks the cases of files, and counts the verdicts.
 ///
 /// `Fault` where memory is refused: some first verdicts were written. `NotWritten` where a write failed.
 pub fn check_files<F: Files, O: Output>(
@@ -437,26 +531,21 @@ pub fn check_files<F: Files, O: Output>(
     plan: &Check<'_>,
     book: &Book<Global>,
     files: &mut F,
+    tally: &mut Tally,
     output: &mut O,
-) -> Result<bool, PlacesFault> {
+) -> Result<(), PlacesFault>
+    requires writer { O.has_failed output.old ≡ false }
+    ensures flag { O.has_failed output.new ≡ not_written result }
+    ensures name { O.name output.new ≡ O.name output.old }
+{
     let config = plan.config;
     let common = Common { config, book };
-    let mut tally = Tally {
-        count: 0,
-        all_hold: true,
-    };
     match write(output, b"TAP version 14\n") {
         Ok(()) => {}
         Err(fault) => return Err(fault),
     }
-    for file in plan.files.as_slice() {
-        match check_file(alloc, common, files, file, &mut tally, output) {
-            Ok(()) => {}
-            Err(fault) => return Err(fault),
-        }
-    }
-    match write_plan(alloc, tally, output) {
-        Ok(()) => Ok(tally.all_hold),
+    match check_all(alloc, common, plan.files.as_slice(), files, tally, output) {
+        Ok(()) => write_plan(alloc, *tally, output),
         Err(fault) => Err(fault),
     }
 }

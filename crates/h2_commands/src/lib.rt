@@ -19,6 +19,6 @@ mod table;
 pub use answer::parse_answer;
 pub use batch::{explain_plan, print, print_end, print_fault, respond};
 pub use books::book_for_words;
-pub use check::check_files;
+pub use check::{Tally, check_files};
 pub use each::PlacesFault;
 pub use fault::BenchFault;

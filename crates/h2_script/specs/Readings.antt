@@ -1,7 +1,7 @@
 -- What the code read, beside what reading gives.
 use Rattle.std.specs.Prelude.{◌≡◌, ◌≤◌, ◌==◌, ◌^◌, ◌++◌, ℕ, Bool, true, false, List, [], ◌∷◌, length, Option, Some, None, Result, Ok, Err}
 use Rattle.h2_spec.specs.Instruction.{Instruction}
-use Rattle.h2_spec.specs.Script.{Payload, Statement, instruction_octets, octets_of, payload_octets}
+use Rattle.h2_spec.specs.Script.{Bad, Payload, Statement, instruction_octets, octets_of, payload_octets}
 use Rattle.h2_spec.specs.declared.scripts.SyntaxKind.{SyntaxKind}
 use Rattle.h2_script.specs.declared.built.Built.{Built}
 use Rattle.h2_script.specs.declared.built.Built.TheVariants as built
@@ -56,3 +56,8 @@ Refuses (script.Syntax at kind) read = read ≡ Err (at, kind)
 abbrev pub Assembles : {X : Type 0} → (X → List ℕ) → Result X ScriptFault → Result (List ℕ) (ℕ × SyntaxKind) → Type 0
 Assembles view (Ok x) read = read ≡ Ok (view x)
 Assembles view (Err fault) read = Refuses fault read
+
+-- the fault names the text's first bad line and its least kind of fault, unless memory was refused
+abbrev pub NamesBadLine : List ℕ → ScriptFault → Type 0
+NamesBadLine text script.NoMemory = Unit {0}
+NamesBadLine text (script.Syntax at kind) = Bad text at kind

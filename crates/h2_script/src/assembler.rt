@@ -1,10 +1,10 @@
-//! Assembling a script, line by line. It rests on `line`; the definition is `assembled` of `h2_spec`,
-//! specs/Assemble.antt, and the law that this is what the script says is `h2_laws::script_laws::scripts_are_read`.
+//! Assembling a script, line by line. It rests on `line`; the definitions are `Script` and `Bad` of `h2_spec`,
+//! specs/Script.antt, and `assembled`, specs/Assemble.antt, which computes them.
 
-ghost use Rattle.std.specs.Prelude.{◌+◌, ◌<◌};
+ghost use Rattle.std.specs.Prelude.{◌+◌, ◌<◌, IfErr, IfOk};
 ghost use Rattle.h2_spec.specs.Assemble.{assembled, lines_at, statement_at};
-ghost use Rattle.h2_spec.specs.Script.{lines_of};
-ghost use Rattle.h2_script.specs.Readings.{AddsAt, Assembles};
+ghost use Rattle.h2_spec.specs.Script.{Script, lines_of};
+ghost use Rattle.h2_script.specs.Readings.{AddsAt, Assembles, NamesBadLine};
 
 use crate::fault::{LineFault, ScriptFault};
 use crate::line::add_line;
@@ -20,7 +20,9 @@ use std::alloc::Allocator;
 /// `NoMemory` where memory was refused before that was found.
 #[tactic(auto, unfolding(h2_spec::specs::Assemble::assembled))]
 pub fn assemble<A: Allocator + Copy>(alloc: A, text: &str) -> Result<Vec<u8, A>, ScriptFault>
-    ensures { Assembles (λ v. v.items) result (assembled text.now) }
+    ensures value { Assembles (λ v. v.items) result (assembled text.now) }
+    ensures script { IfOk result (λ v. Script text.now v.items) }
+    ensures bad { IfErr result (λ fault. NamesBadLine text.now fault) }
 {
     assemble_lines(alloc, text.as_bytes())
 }

@@ -59,7 +59,7 @@ fn takes(splitter: &mut Splitter<&LocalHeap>, octets: &[u8]) -> bool {
 }
 
 /// Whether a splitter takes the first piece, and then so many times the second.
-fn takes_all(splitter: &mut Splitter<&LocalHeap>, call: &Call<'_>) -> bool {
+fn takes_items(splitter: &mut Splitter<&LocalHeap>, call: &Call<'_>) -> bool {
     let mut takes_all = takes(splitter, call.piece(0));
     for _ in 0..call.number(1) {
         takes_all = takes_all && takes(splitter, call.piece(1));
@@ -72,7 +72,7 @@ fn takes_all(splitter: &mut Splitter<&LocalHeap>, call: &Call<'_>) -> bool {
 pub fn room(alloc: Global, call: &Call<'_>) -> Result<Answer, AllocError> {
     let heap = LocalHeap::new(alloc, call.size(0))?;
     let mut splitter = Splitter::new(&heap);
-    let takes_all = takes_all(&mut splitter, call);
+    let takes_all = takes_items(&mut splitter, call);
     Ok(Answer {
         text: format!(in alloc; "all taken {takes_all}")?,
         failed: false,

@@ -72,6 +72,15 @@ fn driven<'h>(
     drive(conn, out, wire, call.short(3))
 }
 
+/// How driving ended.
+fn shown(alloc: Global, end: Result<DriveEnd, DriveFault>) -> Result<String, AllocError> {
+    match end {
+        Ok(DriveEnd::Input) => String::from_str(alloc, "input"),
+        Ok(DriveEnd::Goaway(code)) => format!(in alloc; "goaway {code}"),
+        Err(fault) => format!(in alloc; "{fault:?}"),
+    }
+}
+
 /// What was written and, behind it, the pending output, in hex.
 fn sent_by(alloc: Global, wire: &ScriptedWire<'_>, pending: &[u8]) -> Result<String, AllocError> {
     let mut sent = hex::encode(alloc, wire.written())?;
@@ -95,7 +104,8 @@ pub fn with_memory<'h>(
     let sent = sent_by(alloc, &wire, out.as_slice())?;
     Ok(Left {
         text: format!(in alloc;
-            "{end:?} sent {sent}{}",
+            "{} sent {sent}{}",
+            shown(alloc, end)?,
             driven_again(alloc, conn, out, call, end)?
         )?,
         place: String::new(alloc),
@@ -111,7 +121,7 @@ fn driven_again<'h>(
     call: &Call<'_>,
     end: Result<DriveEnd, DriveFault>,
 ) -> Result<String, AllocError> {
-    if end != Err(DriveFault::NoMemory) {
+    if !matches!(end, Err(DriveFault::NoMemory)) {
         return Ok(String::new(alloc));
     }
     let steps = steps_of(alloc, call, usize::MAX)?;
@@ -119,7 +129,8 @@ fn driven_again<'h>(
     let pending = out.len();
     let again = driven(conn, out, &mut wire, call);
     format!(in alloc;
-        "; again {again:?}, written {}, unchanged {}",
+        "; again {}, written {}, unchanged {}",
+        shown(alloc, again)?,
         wire.written().len(),
         out.len() == pending
     )
@@ -145,12 +156,13 @@ pub fn with_writes<'h>(
     let writable = before(turn);
     let mut wire = wire_of(alloc, call, steps.as_slice(), writable);
     let end = driven(conn, out, &mut wire, call);
-    let failed = end == Err(DriveFault::Write);
+    let failed = matches!(end, Err(DriveFault::Write));
     let sent = sent_by(alloc, &wire, out.as_slice())?;
     let is_as_much = !failed || wire.written().len() == writable;
     Ok(Left {
         text: format!(in alloc;
-            "{end:?} sent {sent}, written as far as the wire takes it {is_as_much}"
+            "{} sent {sent}, written as far as the wire takes it {is_as_much}",
+            shown(alloc, end)?
         )?,
         place: String::new(alloc),
         failed,
@@ -174,11 +186,12 @@ pub fn with_reads<'h>(
     let sent = sent_by(alloc, &wire, out.as_slice())?;
     Ok(Left {
         text: format!(in alloc;
-            "{end:?} sent {sent}, pending {}, reads {:?}",
+            "{} sent {sent}, pending {}, reads {:?}",
+            shown(alloc, end)?,
             out.len(),
             wire.lengths()
         )?,
         place: String::new(alloc),
-        failed: end == Err(DriveFault::Read),
+        failed: matches!(end, Err(DriveFault::Read)),
     })
 }

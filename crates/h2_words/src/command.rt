@@ -624,11 +624,12 @@ fn check_from<'a>(alloc: Global, matches: &ArgMatches<'a>) -> Result<Check<'a>, 
         (found_of matches.now))) }
 {
     let files = texts_at(alloc, matches, "FILE")?;
+    let file = text_at(matches, "book");
     let answers = Vec::new(alloc);
     Ok(Check {
         config: config_at(matches),
         book: BookWords {
-            file: text_at(matches, "book"),
+            file,
             why: false,
             answers,
         },

@@ -10,7 +10,7 @@ returns-in_default c = inr (printed_unread c.args.input.now (c.in_default.ensure
 
 pub returns-in-Ok-assemble : goal.returns-in-Ok-assemble
 returns-in-Ok-assemble c =
-    printed_octets c.args.input.now c.in-Ok.text.now c.in-Ok-assemble.octets.items _ (c.in-Ok.ensures.cases.0) (c.in-Ok.ensures.cases.1) c.in-Ok-assemble.ensures refl
+    printed_octets c.args.input.now c.in-Ok.text.now c.in-Ok-assemble.octets.items _ (c.in-Ok.ensures.cases.0) (c.in-Ok.ensures.cases.1) c.in-Ok-assemble.ensures.value refl
 
 pub returns-in-Err-Syntax : goal.returns-in-Err-Syntax
 returns-in-Err-Syntax c =
