@@ -60,7 +60,14 @@ pub fn run_in_memory(
     let mut rest = input;
     let mut output = Gathered::new(alloc);
     let mut reason = Gathered::new(alloc);
-    let status = run_on(alloc, words, &mut known, &mut rest, &mut output, &mut reason);
+    let status = run_on(
+        alloc,
+        words,
+        &mut known,
+        &mut rest,
+        &mut output,
+        &mut reason,
+    );
     if output.failed {
         return Err(AllocError);
     }

@@ -20,8 +20,8 @@ pub stepped : (d after : Debugging) (n : ℕ) (r : Result ℕ DebugFault) → If
 stepped d after n (Ok p) ok more fault some same =
     let q = min (d.position + n) (end d.run) in
     inl (cond_both (nat_lt 0 n && d.position == end d.run) (refused 19 d) (arrived q (moved q d)) (λ (a : Answer). (reply_text after (moved_reply (Ok p)) ≡ a.text) × (after ≡ a.after))
-      (λ none. let x = both (nat_lt 0 n) (d.position == end d.run) none in absurd (omega (arith, more (ltb-true 0 n x.0), eqb-true d.position (end d.run) x.1)))
-      (λ moves. rw (ok.1, ok.0) (refl, refl)))
+    (λ none. let x = both (nat_lt 0 n) (d.position == end d.run) none in absurd (omega (arith, more (ltb-true 0 n x.0), eqb-true d.position (end d.run) x.1)))
+    (λ moves. rw (ok.1, ok.0) (refl, refl)))
 stepped d after n (Err f) ok more fault some same = by (d.position == end d.run) refl
   where
     by : (b : Bool) → (d.position == end d.run) ≡ b → Obeys d (Some (Step n)) (reply_text after (moved_reply (Err f))) after
@@ -33,8 +33,8 @@ pub backed : (d after : Debugging) (n : ℕ) (r : Result ℕ DebugFault) → IfO
 backed d after n (Ok p) ok more fault some same =
     let q = d.position - n in
     inl (cond_both (nat_lt 0 n && d.position == 0) (refused 20 d) (arrived q (moved_counting q d)) (λ (a : Answer). (reply_text after (moved_reply (Ok p)) ≡ a.text) × (after ≡ a.after))
-      (λ none. let x = both (nat_lt 0 n) (d.position == 0) none in absurd (omega (arith, more (ltb-true 0 n x.0), eqb-true d.position 0 x.1)))
-      (λ moves. rw (ok.1, ok.0) (refl, refl)))
+    (λ none. let x = both (nat_lt 0 n) (d.position == 0) none in absurd (omega (arith, more (ltb-true 0 n x.0), eqb-true d.position 0 x.1)))
+    (λ moves. rw (ok.1, ok.0) (refl, refl)))
 backed d after n (Err f) ok more fault some same = by d.position refl
   where
     by : (p : ℕ) → d.position ≡ p → Obeys d (Some (Back n)) (reply_text after (moved_reply (Err f))) after
@@ -46,8 +46,8 @@ pub run-on : (d after : Debugging) (r : Result ℕ DebugFault) → IfOk r (λ p.
 run-on d after (Ok p) ok more fault same =
     let q = stop d.breaks (events d.run) d.position in
     inl (cond_both (d.position == end d.run) (refused 19 d) (arrived q (moved q d)) (λ (a : Answer). (reply_text after (moved_reply (Ok p)) ≡ a.text) × (after ≡ a.after))
-      (λ none. absurd (omega (arith, more, eqb-true d.position (end d.run) none)))
-      (λ moves. rw (ok.1, ok.0) (refl, refl)))
+    (λ none. absurd (omega (arith, more, eqb-true d.position (end d.run) none)))
+    (λ moves. rw (ok.1, ok.0) (refl, refl)))
 run-on d after (Err f) ok more fault same = by (d.position == end d.run) refl
   where
     by : (b : Bool) → (d.position == end d.run) ≡ b → Obeys d (Some Run) (reply_text after (moved_reply (Err f))) after
