@@ -306,11 +306,7 @@ fn explain<F: Files, I: Input, O: Output, E: Output>(
 
 /// Writes what is left to say of cases: the line of a fault that ended them. Gives the status: 0 where no case failed, 1
 /// where one did, and after a fault, 3 where the output failed.
-fn print_checked<O: Output>(
-    output: &mut O,
-    ended: Result<(), PlacesFault>,
-    all_hold: bool,
-) -> u8
+fn print_checked<O: Output>(output: &mut O, ended: Result<(), PlacesFault>, all_hold: bool) -> u8
     requires { O.has_failed output.old ≡ not_written ended }
     ensures flag { O.has_failed output.new ≡ (result == 3) }
     ensures name { O.name output.new ≡ O.name output.old }
