@@ -423,7 +423,11 @@ impl<'t> Walk<'t> {
         ensures { OnOk result (Finds (errs (seen_by self.old.seen) text.now) self.old self.new) }
     {
         let none = text == b"-".as_slice();
-        let cause = if none { self.seen.first } else { self.seen.cause };
+        let cause = if none {
+            self.seen.first
+        } else {
+            self.seen.cause
+        };
         let found = cause_name(cause).as_bytes();
         self.find(alloc, text == found, number, text, found)
     }
