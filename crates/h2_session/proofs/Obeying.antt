@@ -1,12 +1,13 @@
 -- Moves of a debugger, as the answers to commands.
-use Rattle.std.proofs.Common.{◌≡◌, ◌⊎◌, ◌+◌, ◌-◌, ◌<◌, ◌==◌, ℕ, zero, suc, Bool, true, false, true≢false, cond, Result, Ok, Err, IfErr, IfOk, OnErr, OnOk, eqb-true, inl, inr, refl, sym, arith}
+use Rattle.std.proofs.Common.{◌≡◌, ◌∙◌, ◌⊎◌, ◌+◌, ◌-◌, ◌<◌, ◌==◌, ℕ, zero, suc, Bool, true, false, true≢false, cond, Result, Ok, Err, IfErr, IfOk, OnErr, OnOk, ap, eq-eqb, eqb-true, inl, inr, refl, sym, arith}
 use Rattle.std.specs.Prelude.{◌&&◌, nat_lt, min, not, Some}
-use Rattle.std.proofs.lemmas.Bool.{cond_both, lt-ltb, ltb-true}
+use Rattle.std.proofs.lemmas.Bool.{cond_both, lt-ltb, ltb-true, ne_eqb}
 use Rattle.h2_spec.specs.Debug.{stop}
 use Rattle.h2_debug.specs.Debugging.{Debugging, moved, moved_counting}
 use Rattle.h2_debug.specs.Faults.{end_fault, start_fault}
 use Rattle.h2_debug.specs.Places.{end, events}
 use Rattle.h2_debug.specs.declared.fault.DebugFault.{DebugFault}
+use Rattle.h2_debug.specs.declared.fault.DebugFault.TheVariants.{AtStart, NoMemory}
 use Rattle.h2_session.specs.Commands.{Step, Back, Run}
 use Rattle.h2_session.specs.Replies.{Answer, Obeys, arrived, moved_reply, refused, reply_text}
 
@@ -38,8 +39,14 @@ backed d after n (Ok p) ok more fault some same =
 backed d after n (Err f) ok more fault some same = by d.position refl
   where
     by : (p : ℕ) → d.position ≡ p → Obeys d (Some (Back n)) (reply_text after (moved_reply (Err f))) after
-    by zero e = inl (rw (fault, e, lt-ltb 0 n some) (refl, same))
-    by (suc p) e = inr (rw (fault, e, lt-ltb 0 n some) (refl, refl, same))
+    by zero e =
+        let is : f ≡ AtStart = fault ∙ ap start_fault e in
+        let start : (d.position == 0) ≡ true = eq-eqb d.position 0 e in
+        inl (rw (is, start, lt-ltb 0 n some) (refl, same))
+    by (suc p) e =
+        let is : f ≡ NoMemory = fault ∙ ap start_fault e in
+        let behind : (d.position == 0) ≡ false = ne_eqb d.position 0 (λ z. omega (arith, z, e)) in
+        inr (rw (is, behind, lt-ltb 0 n some) (refl, refl, same))
 
 pub run-on : (d after : Debugging) (r : Result ℕ DebugFault) → IfOk r (λ p. (p ≡ stop d.breaks (events d.run) d.position) × (after ≡ moved p d)) → OnOk r (d.position < end d.run)
     → IfErr r (λ fault. fault ≡ end_fault (d.position == end d.run)) → OnErr r (after ≡ d) → Obeys d (Some Run) (reply_text after (moved_reply r)) after
