@@ -191,7 +191,7 @@ fn check_on<O: Output>(
 fn words_line(case: Case<'_, '_>) -> usize {
     for (place, line) in case.lines.iter().enumerate() {
         if let Line::Words(_) = line_of(line) {
-            return case.number + place;
+            return case.number.saturating_add(place);
         }
     }
     case.number
