@@ -1,6 +1,7 @@
 //! Connections of trials: their books, and single calls.
 
 use crate::line::Call;
+use crate::shown::Hex;
 use h2_conn::{Conn, ConnFault};
 use h2_device::string_of;
 use h2_fields::octets::Octets;
@@ -102,7 +103,6 @@ pub fn place_of<A: Allocator>(
     conn: &Conn<'_, A>,
     sent: &[u8],
 ) -> Result<String, AllocError> {
-    let sent = hex::encode(alloc, sent)?;
     let state = string_of(alloc, conn)?;
-    format!(in alloc; "{sent} {state}")
+    format!(in alloc; "{} {state}", Hex(sent))
 }

@@ -8,60 +8,90 @@ use crate::feeds::{Left, Way, left_by};
 use crate::heap::Heap;
 use crate::line::Call;
 use crate::scripted::{ScriptedWire, Step};
+use crate::shown::{End, Hex};
 use crate::trials::Answer;
 use h2_conn::Conn;
 use h2_drive::{DriveEnd, DriveFault, drive};
 use std::alloc::{AllocError, Global};
 
+/// What fails while a connection is driven.
+#[derive(Clone, Copy)]
+pub enum Failing {
+    Memory,
+    Write,
+    Read,
+}
+
 pub fn tried(alloc: Global, verb: &str, call: &Call<'_>, turn: u64) -> Result<Answer, AllocError> {
-    let way = match verb {
-        "memory" => Way::Memory,
-        "write" => Way::Write,
-        "read" => Way::Read,
+    let failing = match verb {
+        "memory" => Failing::Memory,
+        "write" => Failing::Write,
+        "read" => Failing::Read,
         _ => return Err(AllocError),
     };
-    let left = left_by(alloc, call, (way, turn))?;
+    let left = left_by(alloc, call, Way::Drive(failing), turn)?;
     Ok(Answer {
         text: left.text,
         failed: left.failed,
     })
 }
 
-/// What the read of a piece gives.
-fn step_at<'c>(call: &'c Call<'_>, place: usize) -> Step<'c> {
+/// What the read of a piece gives; the read that fails has no piece.
+fn step_at<'c>(call: &'c Call<'_>, place: usize, failing: usize) -> Step<'c> {
+    if place == failing {
+        return Step::Fault;
+    }
     Step::Piece {
         after: call.size(place.saturating_add(5)),
         octets: call.piece(place),
     }
 }
 
-/// What the reads of the first pieces give, so many.
+/// What the reads give: the pieces, or those before the read that fails.
 fn steps_of<'c>(
     alloc: Global,
     call: &'c Call<'_>,
-    count: usize,
+    failing: usize,
 ) -> Result<Vec<Step<'c>>, AllocError> {
     let mut steps = Vec::new(alloc);
-    for place in 0..call.pieces().len().min(count) {
-        steps.push(step_at(call, place))?;
+    for place in 0..=call.pieces().len().min(failing) {
+        steps.push(step_at(call, place, failing))?;
     }
     Ok(steps)
 }
 
-/// A wire that takes so many octets in all.
-fn wire_of<'c>(
+/// How many come before the one in this turn, counted from 1; all at 0, or where something else fails.
+fn before(turn: u64, is_this: bool) -> usize {
+    match usize::try_from(turn) {
+        Ok(turn) if turn > 0 && is_this => turn.saturating_sub(1),
+        _ => usize::MAX,
+    }
+}
+
+/// Drives over a wire that gives all pieces; an allocation, the octet of a write, or a read fails in this turn, counted
+/// from 1.
+pub fn driven<'h>(
     alloc: Global,
+    heap: &'h Heap,
+    conn: &mut Conn<'_, &'h Heap>,
+    out: &mut Vec<u8, &'h Heap>,
     call: &Call<'_>,
-    steps: &'c [Step<'c>],
-    writable: usize,
-) -> ScriptedWire<'c>
-    ensures { result.failed ≡ false }
-{
-    ScriptedWire::new(alloc, steps, writable, call.size(4))
+    (failing, turn): (Failing, u64),
+) -> Result<Left, AllocError> {
+    let reads = before(turn, matches!(failing, Failing::Read));
+    let writable = before(turn, matches!(failing, Failing::Write));
+    let steps = steps_of(alloc, call, reads)?;
+    let mut wire = ScriptedWire::new(alloc, steps.as_slice(), writable, call.size(4));
+    heap.refuse(if matches!(failing, Failing::Memory) {
+        turn
+    } else {
+        0
+    });
+    over_wire(alloc, heap, conn, out, call, &mut wire, writable)
 }
 
 // This has no clause but what it needs, so that no proof above it carries the run.
-fn driven<'h>(
+fn gone<'h>(
     conn: &mut Conn<'_, &'h Heap>,
     out: &mut Vec<u8, &'h Heap>,
     wire: &mut ScriptedWire<'_>,
@@ -72,126 +102,76 @@ fn driven<'h>(
     drive(conn, out, wire, call.short(3))
 }
 
-/// How driving ended.
-fn shown(alloc: Global, end: Result<DriveEnd, DriveFault>) -> Result<String, AllocError> {
-    match end {
-        Ok(DriveEnd::Input) => String::from_str(alloc, "input"),
-        Ok(DriveEnd::Goaway(code)) => format!(in alloc; "goaway {code}"),
-        Err(fault) => format!(in alloc; "{fault:?}"),
+/// How much of what was sent is written.
+fn amount(pending: &[u8], written: usize, writable: usize) -> &'static str {
+    if pending.is_empty() {
+        "all"
+    } else if written == writable {
+        "as far as the wire takes it"
+    } else {
+        "in part"
     }
 }
 
-/// What was written and, behind it, the pending output, in hex.
-fn sent_by(alloc: Global, wire: &ScriptedWire<'_>, pending: &[u8]) -> Result<String, AllocError> {
-    let mut sent = hex::encode(alloc, wire.written())?;
-    sent.push_str(hex::encode(alloc, pending)?.as_str())?;
-    Ok(sent)
+/// How driving ended, what was written with the pending output behind it, and the lengths of the reads.
+fn told(
+    alloc: Global,
+    end: Result<DriveEnd, DriveFault>,
+    wire: &ScriptedWire<'_>,
+    pending: &[u8],
+    writable: usize,
+) -> Result<String, AllocError> {
+    let amount = amount(pending, wire.written().len(), writable);
+    let end = End(end);
+    let written = Hex(wire.written());
+    let pending = Hex(pending);
+    format!(in alloc;
+        "{end} sent {written}{pending}, written {amount}, reads {:?}",
+        wire.lengths()
+    )
 }
 
-/// Drives over wires that give all pieces, the first time with an allocation refused.
-pub fn with_memory<'h>(
+/// Drives over a wire: how that ends, and what was read and written.
+fn over_wire<'h>(
     alloc: Global,
     heap: &'h Heap,
     conn: &mut Conn<'_, &'h Heap>,
     out: &mut Vec<u8, &'h Heap>,
     call: &Call<'_>,
-    turn: u64,
-) -> Result<Left, AllocError> {
-    let steps = steps_of(alloc, call, usize::MAX)?;
-    let mut wire = wire_of(alloc, call, steps.as_slice(), usize::MAX);
-    heap.refuse(turn);
-    let end = driven(conn, out, &mut wire, call);
-    let sent = sent_by(alloc, &wire, out.as_slice())?;
+    wire: &mut ScriptedWire<'_>,
+    writable: usize,
+) -> Result<Left, AllocError>
+    requires { wire.old.failed ≡ false }
+{
+    let end = gone(conn, out, wire, call);
+    let failed = heap.has_refused();
+    let mut text = told(alloc, end, wire, out.as_slice(), writable)?;
+    if failed {
+        add_again(alloc, conn, out, call, &mut text)?;
+    }
     Ok(Left {
-        text: format!(in alloc;
-            "{} sent {sent}{}",
-            shown(alloc, end)?,
-            driven_again(alloc, conn, out, call, end)?
-        )?,
+        text,
         place: String::new(alloc),
-        failed: heap.has_refused(),
+        failed: failed || matches!(end, Err(DriveFault::Read | DriveFault::Write)),
     })
 }
 
-/// Where memory was refused, what driving again over a new wire answers and writes.
-fn driven_again<'h>(
+/// What driving once more over a new wire answers and writes.
+fn add_again<'h>(
     alloc: Global,
     conn: &mut Conn<'_, &'h Heap>,
     out: &mut Vec<u8, &'h Heap>,
     call: &Call<'_>,
-    end: Result<DriveEnd, DriveFault>,
-) -> Result<String, AllocError> {
-    if !matches!(end, Err(DriveFault::NoMemory)) {
-        return Ok(String::new(alloc));
-    }
-    let steps = steps_of(alloc, call, usize::MAX)?;
-    let mut wire = wire_of(alloc, call, steps.as_slice(), usize::MAX);
+    text: &mut String,
+) -> Result<(), AllocError> {
+    let mut wire = ScriptedWire::new(alloc, &[], usize::MAX, usize::MAX);
     let pending = out.len();
-    let again = driven(conn, out, &mut wire, call);
-    format!(in alloc;
+    let end = gone(conn, out, &mut wire, call);
+    write!(
+        *text,
         "; again {}, written {}, unchanged {}",
-        shown(alloc, again)?,
+        End(end),
         wire.written().len(),
         out.len() == pending
     )
-}
-
-/// How many octets can be written before the one in this turn; all at 0.
-fn before(turn: u64) -> usize {
-    match usize::try_from(turn) {
-        Ok(0) | Err(_) => usize::MAX,
-        Ok(turn) => turn.saturating_sub(1),
-    }
-}
-
-/// Drives over a wire that does not take the octet in this turn, counted from 1.
-pub fn with_writes<'h>(
-    alloc: Global,
-    conn: &mut Conn<'_, &'h Heap>,
-    out: &mut Vec<u8, &'h Heap>,
-    call: &Call<'_>,
-    turn: u64,
-) -> Result<Left, AllocError> {
-    let steps = steps_of(alloc, call, usize::MAX)?;
-    let writable = before(turn);
-    let mut wire = wire_of(alloc, call, steps.as_slice(), writable);
-    let end = driven(conn, out, &mut wire, call);
-    let failed = matches!(end, Err(DriveFault::Write));
-    let sent = sent_by(alloc, &wire, out.as_slice())?;
-    let is_as_much = !failed || wire.written().len() == writable;
-    Ok(Left {
-        text: format!(in alloc;
-            "{} sent {sent}, written as far as the wire takes it {is_as_much}",
-            shown(alloc, end)?
-        )?,
-        place: String::new(alloc),
-        failed,
-    })
-}
-
-/// Drives over a wire whose read in this turn fails, counted from 1.
-pub fn with_reads<'h>(
-    alloc: Global,
-    conn: &mut Conn<'_, &'h Heap>,
-    out: &mut Vec<u8, &'h Heap>,
-    call: &Call<'_>,
-    turn: u64,
-) -> Result<Left, AllocError> {
-    let mut steps = steps_of(alloc, call, before(turn))?;
-    if turn > 0 && before(turn) <= call.pieces().len() {
-        steps.push(Step::Fault)?;
-    }
-    let mut wire = wire_of(alloc, call, steps.as_slice(), usize::MAX);
-    let end = driven(conn, out, &mut wire, call);
-    let sent = sent_by(alloc, &wire, out.as_slice())?;
-    Ok(Left {
-        text: format!(in alloc;
-            "{} sent {sent}, pending {}, reads {:?}",
-            shown(alloc, end)?,
-            out.len(),
-            wire.lengths()
-        )?,
-        place: String::new(alloc),
-        failed: matches!(end, Err(DriveFault::Read)),
-    })
 }

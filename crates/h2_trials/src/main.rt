@@ -18,6 +18,7 @@ mod programs;
 mod scripted;
 mod scripts;
 mod sessions;
+mod shown;
 mod trials;
 
 use std::io;

@@ -4,6 +4,7 @@
 use crate::conns::{book_of, config_of, opened as opened_conn, place_of};
 use crate::heap::Heap;
 use crate::line::Call;
+use crate::shown::Hex;
 use crate::trials::Answer;
 use h2_conn::ConnFault;
 use h2_conn::play::open_and_feed;
@@ -21,23 +22,29 @@ fn opening_fault<'h>(
 }
 
 /// Opens a connection behind an octet with an allocation refused, and once more where it was.
+fn opened_twice<'h>(
+    alloc: Global,
+    heap: &'h Heap,
+    book: &Book<&'h Heap>,
+    call: &Call<'_>,
+    turn: u64,
+) -> Result<Answer, AllocError> {
+    let mut out = Vec::from_slice(heap, b"\x01")?;
+    heap.refuse(turn);
+    let first = opening_fault(book, call, &mut out);
+    let failed = heap.has_refused();
+    let mut text = format!(in alloc; "{first:?} {}", Hex(out.as_slice()))?;
+    if failed {
+        let second = opening_fault(book, call, &mut out);
+        write!(text, ", then {second:?} {}", Hex(out.as_slice()))?;
+    }
+    Ok(Answer { text, failed })
+}
+
 pub fn opened(alloc: Global, call: &Call<'_>, turn: u64) -> Result<Answer, AllocError> {
     let heap = Refusing::new(alloc, 0);
     let book = Book::new(&heap);
-    let mut out = Vec::from_slice(&heap, b"\x01")?;
-    heap.refuse(turn);
-    let first = opening_fault(&book, call, &mut out);
-    let failed = heap.has_refused();
-    let mut text = format!(in alloc; "{first:?} {}", hex::encode(alloc, out.as_slice())?)?;
-    if failed {
-        let second = opening_fault(&book, call, &mut out);
-        write!(
-            text,
-            ", then {second:?} {}",
-            hex::encode(alloc, out.as_slice())?
-        )?;
-    }
-    Ok(Answer { text, failed })
+    opened_twice(alloc, &heap, &book, call, turn)
 }
 
 /// What a program prints of a connection that was opened and fed: what was sent, and its state.
@@ -53,14 +60,26 @@ fn played_text<'h>(
     }
 }
 
+/// The same with an allocation refused.
+fn played_over<'h>(
+    alloc: Global,
+    heap: &'h Heap,
+    book: &Book<&'h Heap>,
+    call: &Call<'_>,
+    turn: u64,
+) -> Result<Answer, AllocError> {
+    let mut out = Vec::new(heap);
+    heap.refuse(turn);
+    let text = played_text(alloc, book, call, &mut out)?;
+    Ok(Answer {
+        text,
+        failed: heap.has_refused(),
+    })
+}
+
 /// Opens a connection and feeds it the first piece, with an allocation refused.
 pub fn played(alloc: Global, call: &Call<'_>, turn: u64) -> Result<Answer, AllocError> {
     let heap = Refusing::new(alloc, 0);
     let book = book_of(&heap, call.number(2))?;
-    let mut out = Vec::new(&heap);
-    heap.refuse(turn);
-    Ok(Answer {
-        text: played_text(alloc, &book, call, &mut out)?,
-        failed: heap.has_refused(),
-    })
+    played_over(alloc, &heap, &book, call, turn)
 }

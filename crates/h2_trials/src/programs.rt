@@ -98,39 +98,74 @@ struct Outcome {
     failed: bool,
 }
 
-/// A run of the program whose reads and writes have at most so many octets; the read with this number fails, and the
-/// writer takes so many octets in all.
-fn ran(
-    alloc: Global,
-    call: &Call<'_>,
+/// How the devices of a run fail: the most octets of a read and of a write, the read that fails, counted from 1, and how
+/// many octets the writer takes in all.
+#[derive(Clone, Copy)]
+struct Limits {
     size: usize,
-    calls: u64,
-    limit: usize,
-) -> Result<Outcome, AllocError> {
-    let input = input_of(alloc, call)?;
-    let words = words_of(alloc, call)?;
+    read: u64,
+    written: usize,
+}
+
+fn over_input(alloc: Global, words: &Words, input: &[u8], limits: Limits) -> Outcome {
     let mut reader = Reader {
-        octets: input.as_slice(),
-        size,
-        calls,
+        octets: input,
+        size: limits.size,
+        calls: limits.read,
         failed: false,
     };
     let mut writer = Writer {
         taken: Vec::new(alloc),
-        size,
-        limit,
+        size: limits.size,
+        limit: limits.written,
     };
-    let status = status_of(alloc, &words, &mut reader, &mut writer);
-    Ok(Outcome {
+    let status = status_of(alloc, words, &mut reader, &mut writer);
+    Outcome {
         status,
         printed: writer.taken,
         failed: reader.failed,
-    })
+    }
+}
+
+fn over_words(
+    alloc: Global,
+    call: &Call<'_>,
+    words: &Words,
+    limits: Limits,
+) -> Result<Outcome, AllocError> {
+    let input = input_of(alloc, call)?;
+    Ok(over_input(alloc, words, input.as_slice(), limits))
+}
+
+/// A run of the program over devices that fail so.
+fn ran(alloc: Global, call: &Call<'_>, limits: Limits) -> Result<Outcome, AllocError> {
+    let words = words_of(alloc, call)?;
+    over_words(alloc, call, &words, limits)
+}
+
+/// Devices that do not fail.
+const WHOLE: Limits = Limits {
+    size: usize::MAX,
+    read: 0,
+    written: usize::MAX,
+};
+
+/// Devices of so many octets at a time that do not fail.
+fn in_pieces(size: usize) -> Limits {
+    Limits { size, ..WHOLE }
 }
 
 /// A run whose read in this turn fails.
 fn over_reads(alloc: Global, call: &Call<'_>, turn: u64) -> Result<Answer, AllocError> {
-    let found = ran(alloc, call, call.size(0), turn, usize::MAX)?;
+    let limits = in_pieces(call.size(0));
+    let found = ran(
+        alloc,
+        call,
+        Limits {
+            read: turn,
+            ..limits
+        },
+    )?;
     let printed = str::from_utf8(found.printed.as_slice()).unwrap_or("no text");
     Ok(Answer {
         text: format!(in alloc; "status {}, printed {printed:?}", found.status)?,
@@ -146,34 +181,52 @@ fn limit_of(call: &Call<'_>, turn: u64) -> usize {
     }
 }
 
-/// A run whose writer takes some octets, compared with one whose writer takes all.
-fn over_writes(alloc: Global, call: &Call<'_>, turn: u64) -> Result<Answer, AllocError> {
-    let limit = limit_of(call, turn);
-    let whole = ran(alloc, call, usize::MAX, 0, usize::MAX)?;
-    let found = ran(alloc, call, call.size(0), 0, limit)?;
-    let (whole, printed) = (whole.printed.as_slice(), found.printed.as_slice());
+/// What the writer took, compared with what one that takes all takes.
+fn write_text(
+    alloc: Global,
+    found: &Outcome,
+    whole: &[u8],
+    limit: usize,
+) -> Result<Answer, AllocError> {
+    let printed = found.printed.as_slice();
     let is_as_much = printed.len() == limit.min(whole.len());
+    let text = format!(in alloc;
+        "status {}, as much as the writer takes {is_as_much}, a beginning of the whole {}",
+        found.status,
+        whole.starts_with(printed)
+    )?;
     Ok(Answer {
-        text: format!(in alloc;
-            "status {}, written as far as the writer takes it {is_as_much}, as with a writer that takes all {}",
-            found.status,
-            whole.starts_with(printed)
-        )?,
+        text,
         failed: limit < whole.len(),
     })
 }
 
+/// A run whose writer takes some octets, compared with one whose writer takes all.
+fn over_writes(alloc: Global, call: &Call<'_>, turn: u64) -> Result<Answer, AllocError> {
+    let written = limit_of(call, turn);
+    let whole = ran(alloc, call, WHOLE)?;
+    let limits = in_pieces(call.size(0));
+    let found = ran(alloc, call, Limits { written, ..limits })?;
+    write_text(alloc, &found, whole.printed.as_slice(), written)
+}
+
 /// A run in pieces, compared with one that reads and writes all at once.
-fn in_pieces(alloc: Global, call: &Call<'_>) -> Result<Answer, AllocError> {
-    let whole = ran(alloc, call, usize::MAX, 0, usize::MAX)?;
-    let found = ran(alloc, call, call.size(0), 0, usize::MAX)?;
-    let is_same = found.status == whole.status && found.printed == whole.printed;
+fn over_pieces(alloc: Global, call: &Call<'_>) -> Result<Answer, AllocError> {
+    let whole = ran(alloc, call, WHOLE)?;
+    let found = ran(alloc, call, in_pieces(call.size(0)))?;
+    pieces_text(alloc, &found, &whole)
+}
+
+fn pieces_text(alloc: Global, found: &Outcome, whole: &Outcome) -> Result<Answer, AllocError> {
+    let is_same = found.status == whole.status
+        && found.printed.as_slice() == whole.printed.as_slice();
+    let text = format!(in alloc;
+        "status {}, prints something {}, as in one piece {is_same}",
+        found.status,
+        !whole.printed.is_empty()
+    )?;
     Ok(Answer {
-        text: format!(in alloc;
-            "status {}, prints something {}, as in one piece {is_same}",
-            found.status,
-            !whole.printed.is_empty()
-        )?,
+        text,
         failed: false,
     })
 }
@@ -182,7 +235,7 @@ pub fn tried(alloc: Global, verb: &str, call: &Call<'_>, turn: u64) -> Result<An
     match verb {
         "read" => over_reads(alloc, call, turn),
         "write" => over_writes(alloc, call, turn),
-        "pieces" => in_pieces(alloc, call),
+        "pieces" => over_pieces(alloc, call),
         _ => Err(AllocError),
     }
 }
