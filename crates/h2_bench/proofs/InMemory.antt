@@ -1,11 +1,11 @@
 -- What is printed over memory.
-use Rattle.std.proofs.Common.{◌≡◌, ◌⊎◌, ◌++◌, ℕ, true, false, true≢false, List, [], Option, Some, None, Result, Ok, Err, inl, inr, refl, sym, subst}
+use Rattle.std.proofs.Common.{◌≡◌, ◌∙◌, ◌⊎◌, ◌++◌, ℕ, true, false, true≢false, List, [], Option, Some, None, Result, Ok, Err, inl, inr, refl, sym, subst}
 use Rattle.h2_spec.specs.Answer.{Entry}
 use Rattle.h2_spec.specs.declared.connection.Config.{Config}
 use Rattle.h2_book.specs.Entries.{Directory}
 use Rattle.h2_words.specs.Grammar.{BatchAsked, BookAsked}
 use Rattle.h2_commands.specs.Books.{book_in, book_said}
-use Rattle.h2_bench.specs.Memory.{IsDebugged, IsDebuggedWith}
+use Rattle.h2_bench.specs.Memory.{IsDebugged, IsDebuggedWith, unserved}
 use Rattle.h2_commands.specs.Printed.{OrCutShort, Printed, failed, places_with, places_within, printed_with, printed_within}
 use Rattle.h2_commands.specs.CommandEnd.{AnswersAs, EndsBatch, Prints, PrintsSome}
 use Rattle.h2_bench.specs.ProgramEnd.{EndsServe, EndsSession, SessionAs}
@@ -44,6 +44,6 @@ pub session-whole : (files : Directory) (config : Config) (book : BookAsked) (in
 session-whole files config book input o left status (inl memory) = inl (printed-such _ o status memory)
 session-whole files config book input o left status (inr session) = inr (with-book (book_said files book) config input o left status session)
 
-pub serve-whole : (o : List ℕ) (status : ℕ) → EndsServe (Some []) (Some o) status → (record { text = o; status = status } ≡ record { text = []; status = 2 }) ⊎ (record { text = o; status = status } ≡ failed NoMemory)
-serve-whole o status (inl nothing) = let same : o ≡ [] = cc nothing.1 in inl (rw (same, nothing.0) refl)
-serve-whole o status (inr memory) = inr (printed-such _ o status memory)
+pub serve-whole : (o : List ℕ) (status : ℕ) (t : Printed) → t ≡ record { text = o; status = status } → EndsServe (Some []) (Some o) status → (t ≡ unserved) ⊎ (t ≡ failed NoMemory)
+serve-whole o status t is (inl nothing) = let same : o ≡ [] = cc nothing.1 in inl (rw (is, same, nothing.0) refl)
+serve-whole o status t is (inr memory) = inr (is ∙ printed-such _ o status memory)

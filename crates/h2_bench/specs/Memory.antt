@@ -1,5 +1,5 @@
 -- What a command over memory prints, whole.
-use Rattle.std.specs.Prelude.{◌≡◌, ◌⊎◌, ℕ, false, List, None, Result, Ok, Err}
+use Rattle.std.specs.Prelude.{◌≡◌, ◌⊎◌, ℕ, false, List, [], None, Result, Ok, Err}
 use Rattle.h2_spec.specs.Answer.{Entry}
 use Rattle.h2_spec.specs.declared.connection.Config.{Config}
 use Rattle.h2_book.specs.Entries.{Directory}
@@ -13,6 +13,10 @@ use Rattle.h2_bench.specs.declared.memory.Ran.{Ran}
 -- the text and the status
 abbrev pub printed_in : Ran → Printed
 printed_in ran = record { text = ran.output.items; status = ran.status }
+
+-- nothing is printed for words that ask for connections to be served
+abbrev pub unserved : Printed
+unserved = record { text = []; status = 2 }
 
 -- the fault of the book, or a session with its entries over an input of which no read failed
 abbrev pub IsDebuggedWith : Result (List Entry) ℕ → Config → List ℕ → Printed → Type 0

@@ -11,7 +11,10 @@ ghost use Rattle.h2_bench.specs.ProgramEnd.{EndsServe, EndsSession, EndsSomehow,
 ghost use Rattle.h2_commands.specs.Each.{not_written};
 
 use h2_book::{Files, FilesInMemory};
-use h2_commands::{BenchFault, PlacesFault, Tally, book_for_words, check_files, explain_plan, print, print_end, print_fault, respond};
+use h2_commands::{
+    BenchFault, PlacesFault, Tally, book_for_words, check_files, explain_plan, print, print_end,
+    print_fault, respond,
+};
 use h2_device::{FromRead, Input, IntoWrite, Output};
 use h2_session::debug_session;
 use h2_words::Words;
@@ -48,11 +51,7 @@ fn debug<F: Files, I: Input, O: Output, E: Output>(
 
 /// Writes what is left to say of cases: the line of a fault that ended them. Gives the status: 0 where no case failed, 1
 /// where one did, and after a fault, 3 where the output failed.
-fn print_checked<O: Output>(
-    output: &mut O,
-    ended: Result<(), PlacesFault>,
-    all_hold: bool,
-) -> u8
+fn print_checked<O: Output>(output: &mut O, ended: Result<(), PlacesFault>, all_hold: bool) -> u8
     requires { O.has_failed output.old ≡ not_written ended }
     ensures flag { O.has_failed output.new ≡ (result == 3) }
     ensures name { O.name output.new ≡ O.name output.old }

@@ -6,7 +6,7 @@ ghost use Rattle.h2_spec.specs.declared.connection.Config.{Config};
 ghost use Rattle.h2_book.specs.Files.{file_in};
 ghost use Rattle.h2_words.specs.Grammar.{BatchAsked, BookAsked, asked_of, batch, debug, explain};
 ghost use Rattle.h2_commands.specs.ExplainProgram.{IsExplained, form_of};
-ghost use Rattle.h2_bench.specs.Memory.{IsDebugged, printed_in};
+ghost use Rattle.h2_bench.specs.Memory.{IsDebugged, printed_in, unserved};
 ghost use Rattle.h2_commands.specs.Printed.{OrCutShort, failed, places_within, printed_within};
 ghost use Rattle.h2_bench.specs.ProgramEnd.{IsRefusal, asks_why, is_serve};
 ghost use Rattle.h2_commands.specs.declared.fault.BenchFault.TheVariants.{NoMemory};
@@ -51,7 +51,7 @@ pub fn run_in_memory(
         → asked_of words.now ≡ Some (explain config json color file book)
         → IfOk result (λ ran. IsExplained (form_of json color) (file_in files.now) config file book (Some input.now) false (printed_in ran)) }
     ensures serves { is_serve (asked_of words.now) ≡ true
-        → IfOk result (λ ran. (printed_in ran ≡ record { text = []; status = 2 }) ⊎ (printed_in ran ≡ failed NoMemory)) }
+        → IfOk result (λ ran. (printed_in ran ≡ unserved) ⊎ (printed_in ran ≡ failed NoMemory)) }
     ensures refused { asked_of words.now ≡ None → IfOk result (λ ran. IsRefusal (printed_in ran)) }
     ensures written { IfOk result (λ ran. ran.status ≡ 3 → ⊥) }
     ensures quiet { asks_why (asked_of words.now) ≡ false → IfOk result (λ ran. ran.reason.items ≡ []) }
@@ -60,7 +60,14 @@ pub fn run_in_memory(
     let mut rest = input;
     let mut output = Gathered::new(alloc);
     let mut reason = Gathered::new(alloc);
-    let status = run_on(alloc, words, &mut known, &mut rest, &mut output, &mut reason);
+    let status = run_on(
+        alloc,
+        words,
+        &mut known,
+        &mut rest,
+        &mut output,
+        &mut reason,
+    );
     if output.failed {
         return Err(AllocError);
     }

@@ -1,3 +1,5 @@
 pub mod Feeds
+pub mod Gains
+pub mod Going
 pub mod Items
 pub mod Lists

@@ -4,4 +4,5 @@ pub mod Frames
 pub mod Lines
 pub mod Seen
 pub mod Texts
+pub mod Tap
 pub mod Walks

@@ -4,6 +4,7 @@
 #![tactic(auto)]
 
 mod cases;
+mod growing;
 mod line;
 mod pattern;
 mod run;

@@ -1,11 +1,12 @@
 //! The verdict on a case.
 //! Rests on `walk` and h2_conn; definitions: `specs/Cases.antt`.
 
-ghost use Rattle.std.specs.Prelude.{◌≡◌, ◌⊎◌, [], map, length, IfOk, IfErr, ◌<◌, ◌^◌, false};
+ghost use Rattle.std.specs.Prelude.{◌≡◌, ◌⊎◌, [], map, IfOk, IfErr, false};
 ghost use Rattle.h2_conn.specs.Connection.{going};
-ghost use Rattle.h2_spec.specs.Opening.{opening_octets};
-ghost use Rattle.h2_spec.specs.State.{is_allowed, opening};
-ghost use Rattle.h2_check.specs.Cases.{outcome_of};
+ghost use Rattle.h2_spec.specs.State.{is_allowed};
+ghost use Rattle.h2_check.specs.Cases.{Start, all_hold, first_place, outcome, outcome_of};
+ghost use Rattle.h2_check.specs.Files.{expect_something};
+ghost use Rattle.h2_check.specs.Lines.{line_said};
 ghost use Rattle.h2_check.specs.Walks.{outcome_by};
 ghost use Rattle.h2_check.specs.declared.verdict.CaseFault.TheVariants.{BadConfig, NoMemory};
 
@@ -55,6 +56,10 @@ fn check_on<'t>(
     number: usize,
 ) -> Result<Verdict<'t>, CaseFault>
     requires ready { conn.old ≡ going conn.old.state [] }
+    ensures verdict { let start : Start = record { state = conn.old.state; sent = sent.items } in
+        IfOk result (λ verdict. outcome_by verdict
+        ≡ outcome (all_hold start first_place (map line_said (map (λ l. l.now) lines.now))) (expect_something (map (λ l. l.now) lines.now))) }
+    ensures fault { IfErr result (λ fault. fault ≡ NoMemory) }
 {
     let mut walk = Walk::new(alloc, sent);
     match check_lines(alloc, conn, lines, number, &mut walk) {

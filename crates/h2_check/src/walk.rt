@@ -11,7 +11,7 @@ ghost use Rattle.h2_check.specs.Cases.{Start, all_hold, cause_text, closes, errs
 ghost use Rattle.h2_check.specs.Files.{expect_something};
 ghost use Rattle.h2_check.specs.Frames.{is_next, is_none, octets_at, sends, spoken_by};
 ghost use Rattle.h2_check.specs.Lines.{line_said, said_by, Said};
-ghost use Rattle.h2_check.specs.Seen.{seen_by};
+ghost use Rattle.h2_check.specs.Seen.{no_item, seen_by};
 ghost use Rattle.h2_check.specs.Texts.{shows};
 ghost use Rattle.h2_check.specs.Walks.{Closes, Compares, Finds, Goes, Passes, Speaks, Walks, outcome_by, place_of};
 
@@ -133,7 +133,7 @@ impl<'t> Walk<'t> {
     /// No line yet, of a connection for which these octets were sent.
     pub(crate) fn new(alloc: Global, sent: Vec<u8>) -> Walk<'t>
         ensures octets { (result.octets.items ≡ []) × (result.at ≡ 0) }
-        ensures sent { result.seen.sent ≡ sent }
+        ensures seen { seen_by result.seen ≡ no_item sent.items }
         ensures place { (result.spoken ≡ 0) × (result.speaks ≡ false) }
         ensures holds { result.holds ≡ true }
     {
@@ -423,7 +423,11 @@ impl<'t> Walk<'t> {
         ensures { OnOk result (Finds (errs (seen_by self.old.seen) text.now) self.old self.new) }
     {
         let none = text == b"-".as_slice();
-        let cause = if none { self.seen.first } else { self.seen.cause };
+        let cause = if none {
+            self.seen.first
+        } else {
+            self.seen.cause
+        };
         let found = cause_name(cause).as_bytes();
         self.find(alloc, text == found, number, text, found)
     }

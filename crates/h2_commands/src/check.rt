@@ -9,7 +9,10 @@ use crate::each::PlacesFault;
 use crate::fault::BenchFault;
 use crate::input::LIMIT;
 use h2_book::{Files, FilesFault};
-use h2_check::{CaseFault, Line, ShellFault, Title, Verdict, Wrong, add_words, are_silent, case_length, check_case, line_of, lines_in, plan_line, title_of, verdict_text};
+use h2_check::{
+    CaseFault, Line, ShellFault, Title, Verdict, Wrong, add_words, are_silent, case_length,
+    check_case, line_of, lines_in, plan_line, title_of, verdict_text,
+};
 use h2_device::{Gathered, Output};
 use h2_request::book::Book;
 use h2_spec::connection::Config;
@@ -144,7 +147,17 @@ fn report_words<O: Output>(
 {
     let wanted = wanted.as_bytes();
     match String::from_str(alloc, found) {
-        Ok(found) => report_wrong(alloc, title, Wrong { line, wanted, found }, tally, output),
+        Ok(found) => report_wrong(
+            alloc,
+            title,
+            Wrong {
+                line,
+                wanted,
+                found,
+            },
+            tally,
+            output,
+        ),
         Err(error) => Err(no_memory(error)),
     }
 }
@@ -178,7 +191,7 @@ fn check_on<O: Output>(
 fn words_line(case: Case<'_, '_>) -> usize {
     for (place, line) in case.lines.iter().enumerate() {
         if let Line::Words(_) = line_of(line) {
-            return case.number + place;
+            return case.number.saturating_add(place);
         }
     }
     case.number
@@ -203,11 +216,7 @@ fn add_line_words(alloc: Global, line: &[u8], words: &mut Words) -> Result<(), S
 }
 
 /// Puts the words of a case behind others.
-fn add_case_words(
-    alloc: Global,
-    case: Case<'_, '_>,
-    words: &mut Words,
-) -> Result<(), ShellFault> {
+fn add_case_words(alloc: Global, case: Case<'_, '_>, words: &mut Words) -> Result<(), ShellFault> {
     for line in case.lines {
         match add_line_words(alloc, line, words) {
             Ok(()) => {}

@@ -17,6 +17,7 @@ mod PiecesLaws
 mod PreparedLaws
 mod Plays
 mod RestoreLaws
+mod RestLaws
 pub mod Runs
 pub mod Shortest
 mod SentLaws

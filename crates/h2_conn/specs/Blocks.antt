@@ -74,10 +74,10 @@ effect_in s d (Makes shown change) = headers.Makes (record s { block = block_aft
 abbrev pub effect_seen : State → EditOf → Decoding → FragmentEffect → headers.FrameEffect
 effect_seen s edit d e = effect_in (record s { table = edited s.table.entries edit }) d e
 
--- the change keeps what is true of every connection, the edit is one of the table, and an open block is known by its
+-- the edit is one of the table; a change keeps what is true of every connection, and an open block is known by its
 -- stream, with the records after the change
 abbrev pub IsSoundEffect : List Entry → Records → InForce → LimitedTable → EditOf → Decoding → FragmentEffect → Type 0
-IsSoundEffect book r before base edit d (Breaks cause) = Unit {0}
+IsSoundEffect book r before base edit d (Breaks cause) = IsEdit base edit
 IsSoundEffect book r before base edit d (Makes shown change) =
     IsSoundChange book r before change × IsEdit base edit × IsOpenFor (updated_records change.record_update r) (block_after shown d)
 

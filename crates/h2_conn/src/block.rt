@@ -23,7 +23,7 @@ use h2_spec::connection::{BlockView, Purpose};
 use h2_spec::frames::{END_STREAM, Head};
 use h2_spec::reactions::Change;
 use h2_spec::streams::Kind;
-use h2_table::Edit;
+use h2_table::{Draft, Edit};
 use std::alloc::{AllocError, Allocator};
 
 /// The most octets of a block's fragments.
@@ -87,8 +87,8 @@ impl<'b, A: Allocator + Copy> State<'b, A> {
     }
 
     /// A fragment of a block whose stream is known by the block's purpose. The state does not change: the answer is the
-    /// edit that makes the header table the one after the fragment, what takes the block back or on, and what the
-    /// fragment results in. `edit` may be of any table: its memory is used again.
+    /// edit that makes the header table the one after the fragment (or after its instructions in front of a fault), what
+    /// takes the block back or on, and what the fragment results in. `edit` may be of any table: its memory is used again.
     ///
     /// # Errors
     ///
@@ -109,8 +109,9 @@ impl<'b, A: Allocator + Copy> State<'b, A> {
     {
         let count = shown.octets as usize + octets.len();
         if MAX_BLOCK < count {
+            let none = Draft::start(&self.table, edit).into_edit();
             let breaks = FragmentEffect::Breaks(Cause::BlockTooLarge);
-            return (edit, decoding.unchanged(), Ok(breaks));
+            return (none, decoding.unchanged(), Ok(breaks));
         }
         let (edit, tentative, decoded) = decoding.decode(&self.table, edit, octets);
         match decoded {

@@ -6,6 +6,7 @@
 ghost use Rattle.std.specs.Prelude.{◌≡◌, ◌++◌, ◌∷◌, ◌<◌, ◌^◌, [], true, false, IfOk, IfErr, IsOk, OnOk, OnErr, Some, option_map};
 ghost use Rattle.std.specs.String.{string_bytes};
 ghost use Rattle.h2_spec.specs.Errors.{code_number};
+ghost use Rattle.h2_spec.specs.Frame.{NoItem};
 ghost use Rattle.h2_spec.specs.Opening.{opening_octets};
 ghost use Rattle.h2_spec.specs.Show.{show};
 ghost use Rattle.h2_spec.specs.State.{ended_code, opening};
@@ -276,9 +277,12 @@ impl<'b, A: Allocator> Conn<'b, A> {
         &self.state
     }
 
-    /// Whether a call was refused memory. Takes no memory.
+    /// Whether a call was refused memory. Where none was, all items were taken: the octets that wait begin with none,
+    /// and after the end of the connection no octets wait. Takes no memory.
     pub fn failed(&self) -> bool
-        ensures { result ≡ self.now.failed }
+        ensures value { result ≡ self.now.failed }
+        ensures no_item { result ≡ false → next_item self.now.state self.now.rest ≡ NoItem }
+        ensures over { is_ended self.now.state.core.phase ≡ true → self.now.rest ≡ [] }
     {
         self.failed
     }

@@ -67,7 +67,7 @@ impl<A: Allocator + Copy> Decoding<A> {
         ensures before { before_of self.new result.1 ≡ self.old }
         ensures sized { IsSized self.new result.1 }
         ensures purpose { self.new.purpose ≡ self.old.purpose }
-        ensures belongs { OnOk result.2 (IsEdit table.now result.0) }
+        ensures belongs { IsEdit table.now result.0 }
         ensures decoded { OnOk result.2 (block.decoded table.now.limit (before_fragment table.now.table self.old) (self.old.rest ++ octets.now) ≡ after_fragment (edited table.now.table.entries result.0) (after_of self.new result.1)) }
         ensures faulty { IfErr result.2 (λ fault. fault ≢ NoMemory → HasFault fault (block.decoded table.now.limit (before_fragment table.now.table self.old) (self.old.rest ++ octets.now))) }
     {

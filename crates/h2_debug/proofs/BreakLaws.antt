@@ -252,8 +252,10 @@ stop-from breaks es (e ∷ later) p h more =
   where
     item : event_to es (p + 1) ≡ Some e
     item = event-behind es later e p h
+
     next : drop (p + 1) es ≡ later
     next = sym (drop-drop 1 p es) ∙ ap (drop 1) h
+
     behind : (rest : List Event) → later ≡ rest → list_any (matches (p + 1) e) breaks ≡ false → (p + 1 < length es → IsStop breaks es (p + 1) (stop_from breaks (p + 1 + 1) later)) → IsStop breaks es p (stop_from breaks (p + 1 + 1) later)
     behind [] none other further =
         let last : p + 1 ≡ length es = omega (arith, length-drop p es, ap length h, ap length none) in

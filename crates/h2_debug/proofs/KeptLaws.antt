@@ -5,12 +5,12 @@ use Rattle.std.proofs.Math.Nat.{lt-div-mul-add, mul-div-le}
 use Rattle.std.proofs.lemmas.Bool.{cases_lt, cond_both, le-leb, leb-false, leb-true}
 use Rattle.h2_spec.specs.Parse.{Front, Stop, One, Parsed, parse_all, parse_first, parse_upto}
 use Rattle.h2_spec.specs.Trace.{next_event, trace}
-use Rattle.h2_debug.proofs.PlaceLaws.{place-anew}
+use Rattle.h2_debug.proofs.PlaceLaws.{place-anew, place-took}
 use Rattle.h2_debug.specs.Debugging.{Debugging, IsKept, farthest_or, nearest_kept, reached_among, replay_count, replay_start}
 use Rattle.h2_conn.specs.Connection.{Connection, going}
 use Rattle.h2_conn.specs.Mark.{IsConsistent, Precedes}
 use Rattle.h2_conn.specs.Marks.{Follows}
-use Rattle.h2_debug.specs.Places.{Source, Placed, Kept, IsAt, IsKeptOf, IsReached, AreKept, at, end, kept_of, start}
+use Rattle.h2_debug.specs.Places.{Source, Placed, Kept, Advances, IsAt, IsKeptOf, IsReached, AreKept, at, end, kept_of, start}
 
 kept-one : (r : Source) (i : ℕ) (k : Kept) (ks : List Kept) → AreKept r i ks → IsKeptOf r k → k.position ≡ (i + length ks) * 64 → AreKept r i (ks ++ k ∷ [])
 kept-one r i k [] a x e = (x, omega (arith, e), tt)
@@ -147,6 +147,11 @@ kept-stepped r now p o ks ks' reached replayed k x next more = by (nat_le reache
         let before : p.position < reached = leb-false reached p.position e in
         absurd (omega (arith, before, next, k.far_is.as_far))
 
+-- the same, where an item was to come
+pub kept-took : (r : Source) (now p : Placed) (o : Option Placed) (ks ks' : List Kept) (reached replayed : ℕ) (b : Bool) → IsKept r now (farthest_or o now) ks reached replayed → IsReached r p ks' → Advances r now p b → now.position < end r
+    → length ks ≤ length ks' → IsKept r p (farthest_or (cond (nat_le reached p.position) None o) p) ks' (max p.position reached) replayed
+kept-took r now p o ks ks' reached replayed b k x took more le = kept-stepped r now p o ks ks' reached replayed k x (place-took r now p b took more).next le
+
 -- how many items a move ran again is counted
 pub kept-counted : (r : Source) (now far : Placed) (ks : List Kept) (reached replayed count : ℕ) → IsKept r now far ks reached replayed → count ≤ 63 → IsKept r now far ks reached count
 kept-counted r now far ks reached replayed count k few = record {
@@ -213,3 +218,10 @@ replay-counted p d =
     let s : ℕ = replay_start p d in
     let all : reached_among d.reached s (p - s) ≡ min (s + (p - s)) d.reached - s = among-all d.reached s (p - s) in
     omega (arith, all)
+
+-- of the items that a move to a position ran, all but those behind the greatest one that was reached were run again
+pub few-again : (target : ℕ) (d : Debugging) (ran : ℕ) → ran ≡ target - replay_start target d → ran - (target - d.reached) ≤ 63
+few-again target d ran is = let few : min target d.reached - replay_start target d ≤ 63 = replay-few target d in omega (arith, few, is)
+
+pub again-is : (target : ℕ) (d : Debugging) (ran : ℕ) → ran ≡ target - replay_start target d → ran - (target - d.reached) ≡ replay_count target d
+again-is target d ran is = omega (arith, is)

@@ -174,7 +174,8 @@ impl<'b, A: Allocator + Copy> Debugger<'b, A> {
 
     /// Whether an item follows. It takes no memory.
     fn has_next(&self) -> bool
-        ensures { result ≡ nat_lt self.now.position (end self.now.run) }
+        ensures more { result ≡ nat_lt self.now.position (end self.now.run) }
+        ensures last { result ≡ false → self.now.position ≡ end self.now.run }
     {
         let source = Source {
             book: self.book,
@@ -268,11 +269,11 @@ impl<'b, A: Allocator + Copy> Debugger<'b, A> {
         ensures ok { IfOk result (λ p. (p ≡ min (self.old.position + count) (end self.old.run)) × (self.new ≡ moved p self.old)) }
         ensures unchanged { OnErr result (self.new ≡ self.old) }
     {
+        let start = self.present.position();
         if count == 1 {
             return self.step_one();
         }
         let place = self.copy_present()?;
-        let start = place.position();
         let target = start.saturating_add(count);
         match self.move_to(place, target, start)? {
             None => Ok(start),
@@ -294,9 +295,9 @@ impl<'b, A: Allocator + Copy> Debugger<'b, A> {
         ensures nonzero { OnErr result (0 < count) }
         ensures unchanged { OnErr result (self.new ≡ self.old) }
     {
-        let start = self.present.position();
+        let here = self.present.position();
         if count == 0 {
-            return Ok(start);
+            return Ok(here);
         }
         if !self.has_next() {
             return Err(DebugFault::AtEnd);

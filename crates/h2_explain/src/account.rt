@@ -345,11 +345,11 @@ impl Explainer {
         let sentence = self.sentence(alloc, conn, item)?;
         let also = self.others(alloc, conn, item)?;
         let facts = self.facts(conn, item);
-        self.note_refused_end(item)?;
         let moved = moved_by(alloc, conn, item, &self.notes, &self.live)?;
-        let entries = self.entries(alloc, item)?;
         let opening = opening_of(alloc, conn, item)?;
         let changes = self.changes(alloc, conn, item)?;
+        let entries = self.entries(alloc, item)?;
+        self.note_refused_end(item)?;
         note_moved(alloc, conn, item, &mut self.notes, &mut self.live)?;
         if let Some(head) = item.head() {
             self.notes.end(item.number, &head);

@@ -172,14 +172,23 @@ fn put_sent(
     Ok(())
 }
 
+/// The octets of the open block and the size of its list so far, none without one.
+fn extent_of(block: Option<BlockView>) -> Option<(u32, u64)> {
+    match block {
+        Some(block) => Some((block.octets, block.list_size)),
+        None => None,
+    }
+}
+
 /// Appends how far the open block has come, or that it is not open any more: only a frame of the block changes it.
 fn put_block(item: &Explained<'_>, out: &mut Vec<Moved>) -> Result<(), AllocError> {
-    match (item.before.block, item.after.block) {
-        (None, None) => {}
-        (Some(block), None) => out.push(Moved::BlockEnds(block.stream))?,
-        (Some(before), Some(after))
-            if before.octets == after.octets && before.list_size == after.list_size => {}
-        (_, Some(block)) => out.push(Moved::Block(block))?,
+    if extent_of(item.before.block) == extent_of(item.after.block) {
+        return Ok(());
+    }
+    if let Some(block) = item.after.block {
+        out.push(Moved::Block(block))?;
+    } else if let Some(block) = item.before.block {
+        out.push(Moved::BlockEnds(block.stream))?;
     }
     Ok(())
 }

@@ -11,5 +11,5 @@ returns-in-Ok-Some-clause-takes c =
       event = took.event;
       comes = took.comes;
       state = said.state;
-      sight = sight_with c.args.conn.now.state (seen_by c.args.seen.now) took.event c.take_and_report.new.out.items _ _ _ took.sent c.cause_or.ensures said.cause said.ignored;
+      sight = sight_with c.args.conn.now.state (seen_by c.args.seen.now) took.event c.take_and_report.new.out.items _ _ _ took.sent c.cause_or-seen.ensures said.cause said.ignored;
     }

@@ -2,7 +2,7 @@ use Rattle.std.proofs.Common.{◌≡◌, ◌≢◌, ◌+◌, ◌++◌, ℕ, leng
 use Rattle.std.specs.Prelude.{IfErr, OnOk}
 use Rattle.h2_spec.specs.Block.{decoded, list_size}
 use Rattle.h2_spec.specs.State.{State}
-use Rattle.h2_table.specs.Edits.{IsEdit, edited}
+use Rattle.h2_table.specs.Edits.{Drafted, IsEdit, edited}
 use Rattle.h2_fields.specs.declared.fault.BlockFault.TheVariants.{NoMemory}
 use Rattle.h2_conn.specs.Blocks.{cause_by, limited}
 use Rattle.h2_conn.specs.Fragments.{HasFault, after_fragment, after_of, before_fragment}
@@ -30,9 +30,23 @@ returns-in-Ok-clause-sound g c =
     let table = c.self.inside.table in
     let s = c.args.self.now in
     let edit = c.decode-edit.result.0 in
-    let belongs = subst (λ r. OnOk r (IsEdit table edit)) c.in-Ok.is c.decode-edit.ensures.belongs in
-    let held = subst (λ (l : ℕ). IsEdit (limited l table.table) edit) c.self.invariant.1 belongs in
+    let held = subst (λ (l : ℕ). IsEdit (limited l table.table) edit) c.self.invariant.1 c.decode-edit.ensures.belongs in
     c.read-effect.ensures.sound (limited s.core.own.table s.table) edit (subst (λ (x : State). IsEdit (limited x.core.own.table x.table) edit) c.self.view_is held)
+
+pub returns-in-Some-clause-sound : goal.returns-in-Some-clause-sound
+returns-in-Some-clause-sound g c =
+    let table = c.self.inside.table in
+    let edit = c.decode-edit.result.0 in
+    let held = subst (λ (l : ℕ). IsEdit (limited l table.table) edit) c.self.invariant.1 c.decode-edit.ensures.belongs in
+    subst (λ (x : State). IsEdit (limited x.core.own.table x.table) edit) c.self.view_is held
+
+pub returns-then-count-gt-MAX_BLOCK-clause-sound : goal.returns-then-count-gt-MAX_BLOCK-clause-sound
+returns-then-count-gt-MAX_BLOCK-clause-sound g c =
+    let table = c.self.inside.table in
+    let edit = c.into_edit-none.result in
+    let belongs = subst (λ (d : Drafted). IsEdit d.base edit) c.start.ensures c.into_edit-none.ensures.belongs in
+    let held = subst (λ (l : ℕ). IsEdit (limited l table.table) edit) c.self.invariant.1 belongs in
+    subst (λ (x : State). IsEdit (limited x.core.own.table x.table) edit) c.self.view_is held
 
 pub returns-in-Some-clause-effect : goal.returns-in-Some-clause-effect
 returns-in-Some-clause-effect g c =

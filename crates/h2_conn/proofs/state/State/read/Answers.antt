@@ -35,6 +35,9 @@ returns-in-Some-clause-effect g c = λ table.
     let a = c.args in
     sym (read-bad (record a.self.now { table = table }) a.shown (after_of a.decoding.now a.tentative.now) a.end_headers c.in-Some.cause c.if-not-end_headers.false (sym c.bad_end.ensures ∙ c.in-Some.is))
 
+pub returns-in-Some-clause-sound : goal.returns-in-Some-clause-sound
+returns-in-Some-clause-sound g c = λ base edit belongs. belongs
+
 pub returns-in-None-clause-effect : goal.returns-in-None-clause-effect
 returns-in-None-clause-effect g c = λ table.
     let a = c.args in

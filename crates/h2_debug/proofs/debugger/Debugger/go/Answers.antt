@@ -1,10 +1,14 @@
-use Rattle.std.proofs.Common.{rules, ◌≡◌, ◌-◌, ◌≤◌}
-use Rattle.h2_debug.specs.Debugging.{replay_count}
-use Rattle.h2_debug.proofs.KeptLaws.{kept-counted, replay-few}
+use Rattle.std.proofs.Common.{◌≡◌, ◌∙◌, ◌+◌, ◌-◌, ◌≤◌, arith, ap}
+use Rattle.h2_debug.specs.Debugging.{Debugging, replay_start}
+use Rattle.h2_debug.proofs.KeptLaws.{few-again, kept-counted}
 use Rattle.h2_debug.proofs.debugger.Debugger.go.Goals as goal
 
 pub invariant_of-self : goal.invariant_of-self
 invariant_of-self g c =
-    let count : c.min.result - c.position.result ≡ replay_count c.args.target c.args.self.now = search rules in
-    let few : c.min.result - c.position.result ≤ 63 = rw count (replay-few c.args.target c.args.self.now) in
+    let d = c.args.self.now in
+    let moves = rw c.in-Some.is at c.in_ok-move_to.ensures.some in
+    let ran : c.self-2.inside.present.ran ≡ c.in_ok-place.place.ran + (c.in-Some.position - c.in_ok-place.place.position) = ap (λ (x : Debugging). x.ran) (c.self-2.view_is ∙ moves.2) in
+    let all : c.self-2.inside.present.ran ≡ c.args.target - replay_start c.args.target d = omega (arith, ran, moves.0, moves.1, c.in_ok-place.ensures.1, c.in_ok-place.ensures.2) in
+    let reached : c.self.inside.reached ≡ d.reached = ap (λ (x : Debugging). x.reached) c.self.view_is in
+    let few : c.ran.result - c.saturating_sub-first_runs.result ≤ 63 = rw (c.ran.ensures, c.saturating_sub-first_runs.ensures, reached) (few-again c.args.target d _ all) in
     kept-counted _ _ _ _ _ _ _ c.self-2.invariant few

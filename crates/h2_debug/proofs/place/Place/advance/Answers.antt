@@ -24,6 +24,14 @@ overflow_add-self-2 g c =
     let next = place-next c.args.source.now _ c.take_and_report.new.self _ _ here c.take_and_report.ensures.ready took c.in_ok-taken.ensures.follows reported in
     omega (arith, c.octets_from-octets.ensures.few, next.1, next.0.place.counted)
 
+pub overflow_add-self-3 : goal.overflow_add-self-3
+overflow_add-self-3 g c =
+    let here = subst (λ (p : Placed). IsAt c.args.source.now p) (sym c.self.view_is) c.requires in
+    let took = rw (c.octets_from-octets.ensures.octets, c.clear.ensures.items, c.in-Some.is) at c.in_ok-taken.ensures.ok in
+    let reported = rw (c.octets_from-octets.ensures.octets, c.in-Some.is) at c.in_ok-taken.ensures.report in
+    let next = place-next c.args.source.now _ c.take_and_report.new.self _ _ here c.take_and_report.ensures.ready took c.in_ok-taken.ensures.follows reported in
+    omega (arith, c.octets_from-octets.ensures.few, next.1, next.0.place.counted, here.few)
+
 pub returns-clause-advances : goal.returns-clause-advances
 returns-clause-advances g c =
     let here = subst (λ (p : Placed). IsAt c.args.source.now p) (sym c.self.view_is) c.requires in

@@ -1,0 +1,19 @@
+-- A text that gained one part and then another.
+use Rattle.std.proofs.Common.{◌≡◌, ◌∙◌, ◌++◌, false, List, ℕ, sym, ap, append_assoc}
+use Rattle.h2_check.specs.Tap.{Gains, GainsSome}
+use Rattle.h2_check.specs.declared.growing.Growing.{Growing}
+
+pub gains_both : (t u : List ℕ) (a b c : Growing) → Gains t a b → Gains u b c → Gains (t ++ u) a c
+gains_both t u a b c x y = λ well.
+    let two = y well in
+    let one = x two.0 in
+    (one.0, two.1 ∙ ap (λ (r : List ℕ). r ++ u) one.1 ∙ append_assoc a.octets.items t u)
+
+pub gains_some : (t : List ℕ) (a b : Growing) → Gains t a b → GainsSome a b
+gains_some t a b x = λ well. ((x well).0, (t, (x well).1))
+
+pub some_both : (a b c : Growing) → GainsSome a b → GainsSome b c → GainsSome a c
+some_both a b c x y = λ well.
+    let two = y well in
+    let one = x two.0 in
+    (one.0, (one.1.0 ++ two.1.0, two.1.1 ∙ ap (λ (r : List ℕ). r ++ two.1.0) one.1.1 ∙ append_assoc a.octets.items one.1.0 two.1.0))

@@ -1,0 +1,106 @@
+-- What a walk has found over a line, in the words of the definitions.
+use Rattle.std.proofs.Common.{◌≡◌, ◌∙◌, ◌≤◌, ◌+◌, ◌++◌, ◌&&◌, ◌||◌, ◌==◌, ℕ, Bool, true, false, not, cond, List, [], ◌∷◌, Option, Some, None, length, drop, map, refl, sym, ap, ap₂, subst, arith, Bor}
+use Rattle.h2_conn.specs.Connection.{Connection, going}
+use Rattle.h2_spec.specs.Parse.{Parsed, parse_all}
+use Rattle.h2_spec.specs.State.{State}
+use Rattle.h2_spec.specs.Show.{show}
+use Rattle.h2_spec.specs.Trace.{Event, next_event, trace}
+use Rattle.h2_spec.specs.View.{view}
+use Rattle.h2_check.specs.Cases.{Place, Start, all_hold, behind, closes, first_place, holds, passed, played, plays, sight_at, text_at, unspoken}
+use Rattle.h2_check.specs.Frames.{is_none, sends, spoken_by}
+use Rattle.h2_check.specs.Lines as line
+use Rattle.h2_check.specs.Seen.{Sight, no_item, seen_by, sight}
+use Rattle.h2_check.specs.Texts.{shows}
+use Rattle.h2_check.specs.Walks.{Closes, Finds, Goes, Passes, Speaks, Walks, left_by, place_of}
+use Rattle.h2_check.specs.declared.walk.Walk.{Walk}
+
+-- the octets sent are those that a value has
+sent_is : (start : Start) (w : Walk) → seen_by w.seen ≡ sight_at start (place_of w) → w.seen.sent.items ≡ (sight_at start (place_of w)).sent
+sent_is start w e = ap (λ (x : Sight). x.sent) e
+
+left_is : (start : Start) (w : Walk) → seen_by w.seen ≡ sight_at start (place_of w) → left_by w ≡ unspoken start (place_of w)
+left_is start w e = ap (λ (t : List ℕ). drop w.spoken t) (sent_is start w e)
+
+-- a walk that has the same octets and has seen the same
+pub walks_same : (start : Start) (w w' : Walk) (c : Connection) → w'.octets ≡ w.octets → w'.at ≡ w.at → w'.seen ≡ w.seen → Walks start w c → Walks start w' c
+walks_same start w w' c octets at seen is = record {
+  within = rw (octets, at) is.within;
+  ready = is.ready;
+  state = rw octets is.state;
+  rest = rw (octets, at) is.rest;
+  seen = rw (seen, octets) is.seen;
+}
+
+-- where the place stays
+pub goes_found : (b : Bool) (w w' : Walk) → Finds b w w' → Goes b (place_of w) w w'
+goes_found b w w' f = record {
+  found = f.found;
+  place = λ e. rw (f.octets, f.spoken e, f.speaks) refl;
+}
+
+pub goes_nowhere : (w : Walk) → Goes true (place_of w) w w
+goes_nowhere w = record { found = at w.holds; place = λ e. refl }
+  where
+    at : (b : Bool) → b ≡ (b && true)
+    at true = refl
+    at false = refl
+
+-- a line has spoken of what was sent
+pub goes_sent : (start : Start) (w w' : Walk) (text : List ℕ) → seen_by w.seen ≡ sight_at start (place_of w) → Speaks text w w'
+    → Passes start (line.Sent text) w w'
+goes_sent start w w' text seen f = record {
+  found = f.found ∙ ap (λ (t : List ℕ). w.holds && sends text t) (left_is start w seen);
+  place = λ e.
+      let here : sends text (left_by w) ≡ true = ap (sends text) (left_is start w seen) ∙ e in
+      let spoken = f.spoken here ∙ ap (λ (t : List ℕ). spoken_by text (length t) w.spoken) (sent_is start w seen) in
+      rw (f.octets, spoken, f.speaks) refl;
+}
+
+-- more octets behind a place that closes
+closes_is : (start : Start) (w : Walk) → seen_by w.seen ≡ sight_at start (place_of w) → (not w.speaks || is_none (left_by w)) ≡ closes start (place_of w)
+closes_is start w e = ap (λ (t : List ℕ). not w.speaks || is_none t) (left_is start w e)
+
+pub goes_played : (start : Start) (w one two : Walk) (more : List ℕ) → (length more == 0) ≡ false → seen_by w.seen ≡ sight_at start (place_of w) → Closes w one
+    → two.octets.items ≡ one.octets.items ++ more → two.spoken ≡ one.spoken → two.speaks ≡ one.speaks → two.holds ≡ one.holds
+    → Goes (plays start (place_of w) (Some more)) (played start (place_of w) (Some more)) w two
+goes_played start w one two [] some seen f octets spoken speaks found = cc
+goes_played start w one two (o ∷ os) some seen f octets spoken speaks found = record {
+  found = found ∙ f.found ∙ ap (λ (b : Bool). w.holds && b) (closes_is start w seen);
+  place = λ e.
+      let here = closes_is start w seen ∙ e in
+      let above = octets ∙ ap (λ v. v.items ++ o ∷ os) f.octets in
+      let so = spoken ∙ f.spoken here ∙ ap (λ (t : List ℕ). cond (not w.speaks && is_none w.octets.items) (length t) w.spoken) (sent_is start w seen) in
+      rw (above, so, speaks ∙ f.speaks) refl;
+}
+
+-- the case ends
+pub closed : (start : Start) (w w' : Walk) → seen_by w.seen ≡ sight_at start (place_of w) → Closes w w' → w'.holds ≡ (w.holds && closes start (place_of w))
+closed start w w' seen f = f.found ∙ ap (λ (b : Bool). w.holds && b) (closes_is start w seen)
+
+-- a line of the state was looked for
+pub goes_shown : (start : Start) (w w' : Walk) (c : Connection) (text : List ℕ) → Walks start w c → Finds (shows (show (view c.state)) text) w w'
+    → Passes start (line.Shown text) w w'
+unfolding trace
+goes_shown start w w' c text is f = subst (λ (s : State). Goes (shows (show (view s)) text) (place_of w) w w') (sym is.state) (goes_found _ w w' f)
+
+-- before the first line
+pub begun : (start : Start) (w : Walk) (c : Connection) → w.octets.items ≡ [] → w.at ≡ 0 → seen_by w.seen ≡ no_item start.sent → c ≡ going start.state [] → Walks start w c
+unfolding sight trace parse_all
+begun start w c octets at seen is = record {
+  within = omega (arith, at);
+  ready = rw is refl;
+  state = rw (octets, is) refl;
+  rest = rw (octets, at) refl;
+  seen = seen ∙ ap (λ (o : List ℕ). sight start.state start.sent o) (sym octets);
+}
+
+said_lent : (xs : List (Bor (List ℕ))) → map (λ l. line.line_said l.now) xs ≡ map line.line_said (map (λ l. l.now) xs)
+said_lent [] = refl
+said_lent (x ∷ xs) = ap (λ (ls : List line.Said). line.line_said x.now ∷ ls) (said_lent xs)
+
+-- behind the last line
+pub all_held : (start : Start) (w w' : Walk) (lines : List (Bor (List ℕ))) → w.holds ≡ true → w.octets.items ≡ [] → w.spoken ≡ 0 → w.speaks ≡ false
+    → w'.holds ≡ (w.holds && all_hold start (place_of w) (map (λ l. line.line_said l.now) lines))
+    → w'.holds ≡ all_hold start first_place (map line.line_said (map (λ l. l.now) lines))
+all_held start w w' lines held octets spoken speaks is =
+    is ∙ rw (held, octets, spoken, speaks) (ap (λ (ls : List line.Said). all_hold start first_place ls) (said_lent lines))

@@ -1,0 +1,66 @@
+#!/usr/bin/env bash
+# Writes what a new cause of an error needs wherever causes are listed, after another cause, and prints what is left to write by hand.
+#
+#   tools/new-cause.sh NAME AFTER     both as in docs/TABLE.md, such as ping-too-often ping-length
+#
+# The new cause gets a copy of the other's code, sections and duties, and a sentence that is to be replaced; CONTRIBUTING.md says how to go on.
+set -euo pipefail
+cd "$(dirname "$0")/.."
+name=${1:?a name such as ping-too-often} after=${2:?the cause after which it is listed}
+code=crates/h2_spec/src/causes.rt words=crates/h2_spec/specs/CauseWords.antt codes=crates/h2_spec/specs/Cause.antt
+places=crates/h2_spec/proofs/causes/place_of/Answers.antt example=examples/causes/$name.h2
+
+variant_of() { sed -E 's/(^|-)([a-z])/\U\2/g' <<<"$1"; }
+variant=$(variant_of "$name") before=$(variant_of "$after")
+# The variants of the enum, in their order.
+variants() { sed -n '/^pub enum Cause/,/^}/s/^    \([A-Z][A-Za-z]*\),$/\1/p' "$code"; }
+
+place=$(variants | grep -nx "$before" | cut -d: -f1) || { echo "new-cause.sh: there is no cause $after" >&2; exit 1; }
+if variants | grep -qx "$variant"; then
+    echo "new-cause.sh: there is a cause $name already" >&2
+    exit 1
+fi
+count=$(variants | wc -l)
+
+# column TABLE [TEXT]: one entry more in a table of causes.rt, after the other cause's; without a text a copy of that one.
+column() {
+    awk -v head="static $1:" -v place="$place" -v text="${2-}" '
+        { print }
+        index($0, head) == 1 { inside = 1; at = 0; next }
+        inside && ++at == place { print text == "" ? $0 : text; inside = 0 }
+    ' "$code" >"$code.new"
+    mv "$code.new" "$code"
+}
+
+sed -i "/^pub enum Cause/,/^}/s|^    $before,\$|&\n    /// $name: say when it arises.\n    $variant,|" "$code"
+column NAMES "    \"$name\","
+column SECTIONS
+column CLIENT_DUTIES
+column CLIENT_SECTIONS
+column SERVER_DUTIES
+column SENTENCES "    \"$name: say the rule\","
+sed -i "s/^\(static .*; \)$count\] = \[\$/\1$((count + 1))] = [/" "$code"
+sed -i "/pub fn code(self)/,/^    }/s/Cause::$before\b/& | Cause::$variant/" "$code"
+
+for file in "$words" "$codes" "$places"; do
+    sed -i "/^use .*causes\.Cause\.TheVariants\.{/s/\b$before\b/&, $variant/" "$file"
+done
+sed -i "s/^code_of $before = \(.*\)\$/&\ncode_of $variant = \1/" "$codes"
+sed -i "s/^row_of $before = \(.*\) name = codes \"[^\"]*\";\(.*\) sentence = codes \".*\" }\$/&\nrow_of $variant = \1 name = codes \"$name\";\2 sentence = codes \"$name: say the rule\" }/" "$words"
+sed -i "/^all_causes =\$/,/\[\]/s/\b$before ∷/& $variant ∷/" "$words"
+sed -i "s/\b$before ↦ refl/& | $variant ↦ refl/" "$places"
+
+printf '; %s: say in a sentence what the client does (RFC 9113, 0).\nPREFACE\nSETTINGS 00 0 -\n' "$name" >"$example"
+
+cat <<TEXT
+Written: $code, $words, $codes, $places, $example.
+Each has a sentence to replace (grep -rn '$name:' crates examples), and the code, sections and duties of $after to compare with the RFC.
+Then, in this order:
+  the definition that answers $variant (crates/h2_spec/specs), and its laws in crates/h2_laws
+  the function that answers Cause::$variant (crates/h2_rules, or crates/h2_frame for a payload)
+  a row of CauseRows.antt (crates/h2_laws/proofs): the frame, and $variant
+  a sentence with values, if there is one (crates/h2_explain/src/sentence.rt)
+  the end of $example, and what explain prints: ./h2_bench asm < $example > /tmp/hex; ./h2_bench explain /tmp/hex > ${example%.h2}.txt (read each line of it)
+  its cell in docs/TABLE.md, as \`$name\`, and a line in CHANGELOG.md
+  rt fmt in crates/h2_spec, tools/causes.sh --names, tools/calls.py, tests/all --quick
+TEXT
