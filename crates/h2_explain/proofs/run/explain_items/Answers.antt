@@ -23,6 +23,18 @@ overflow_add-at g c =
     let within = item-within c.loop-item.conn.state c.args.octets.now c.loop-item.at _ _ c.take_explained.new.conn c.in-Ok-Some.item c.loop-item.invariant.within item in
     omega (arith, within.1, item.offset_is, c.requires.few)
 
+pub loop-item-init : goal.loop-item-init
+loop-item-init g c = record {
+  within = omega (arith);
+  new = c.requires.new;
+  counted = omega (arith);
+  writer = c.requires.writer;
+  name = refl;
+  summary = omega (arith);
+  run = refl;
+  gains = gains-nothing c.args.form c.args.conn.now.state c.args.octets.now _;
+}
+
 pub returns-in-Err-write_item-clause-gains : goal.returns-in-Err-write_item-clause-gains
 returns-in-Err-write_item-clause-gains g c = λ well.
     let octets = c.args.octets.now in
