@@ -7,7 +7,6 @@ abbrev opening-alone : List ℕ → Words
 opening-alone opening = record { opening = opening; item = []; facts = record { continued = false; empty_name = false; connect = false; other_scheme = false; lengths_differ = false; length_is_long = false; after_end = false }; fields = []; sentence = []; also = []; sent = []; changes = [] }
 
 pub returns-then-is_silent : goal.returns-then-is_silent
-unfolding opening-alone
 returns-then-is_silent c =
     let silent : is_silent c.args.item.now.taken.item ≡ true = sym c.is_silent.ensures ∙ c.if-is_silent.true in
     let said = opening-alone (string_bytes c.in_ok-opening.opening) in

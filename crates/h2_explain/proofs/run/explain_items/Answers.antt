@@ -5,18 +5,6 @@ use Rattle.h2_explain.specs.declared.run.ExplainFault.{ExplainFault}
 use Rattle.h2_explain.proofs.Steps.{Begins, begins-cut, begins-next, begins-written, count-next, final-next, gains-both, gains-cut, gains-nothing, item-within, run-end, summary-end}
 use Rattle.h2_explain.proofs.run.explain_items.Goals as goal
 
-pub loop-item-init : goal.loop-item-init
-loop-item-init g c = record {
-  within = omega arith;
-  new = c.requires.new;
-  counted = omega arith;
-  writer = c.requires.writer;
-  name = refl;
-  summary = omega arith;
-  run = refl;
-  gains = gains-nothing c.args.form c.args.conn.now.state c.args.octets.now _;
-}
-
 pub overflow_add-at : goal.overflow_add-at
 overflow_add-at g c =
     let item = rw (c.octets_from-rest.ensures, c.in-Ok-Some.field-0-is) at c.in-Ok-Some.ensures.ok in
