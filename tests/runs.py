@@ -24,7 +24,7 @@ A line that ends in a backslash has no line feed. Braces stand for other text; w
     {70000 * 61}                                          a text so many times
     {hex www.example.com}                                 the hex digits of a text
     {xff}                                                 octets
-    {folder}                                              the path of the folder of the run
+    {folder}                                              the path of the folder of the run; in the output too
     {NAME}                                                a text that a paragraph of the file defines: a line `{NAME} is`, and then lines that begin with `| `
 
 Each command is counted. The last line is `N passed, M failed`, and the status is 1 where one failed.
@@ -348,6 +348,7 @@ def judged(program, run):
         try:
             items = shown_items(program, run, words, at) if run.has_moves() else []
             taken, wanted = exchanged(run, items)
+            wanted = wanted.replace(b"{folder}", folder.encode())
             if run.source or run.sink:
                 return problems(run, wanted, called_on(program, run, words, at))
             return problems(run, wanted, called(program, words, taken, at))

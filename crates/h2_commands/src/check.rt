@@ -57,11 +57,6 @@ struct Case<'c, 't> {
     number: usize,
 }
 
-/// Memory was refused.
-fn no_memory(_error: AllocError) -> PlacesFault {
-    PlacesFault::Fault(BenchFault::NoMemory)
-}
-
 /// What a case is called.
 fn title<'c, 't>(case: Case<'c, 't>) -> Title<'c>
 where
@@ -108,7 +103,7 @@ fn report<O: Output>(
     *tally = tallied(*tally, verdict);
     match verdict_text(alloc, tally.count, title, verdict) {
         Ok(text) => write(output, text.as_slice()),
-        Err(error) => Err(no_memory(error)),
+        Err(_) => Err(PlacesFault::Fault(BenchFault::NoMemory)),
     }
 }
 
@@ -158,7 +153,7 @@ fn report_words<O: Output>(
             tally,
             output,
         ),
-        Err(error) => Err(no_memory(error)),
+        Err(_) => Err(PlacesFault::Fault(BenchFault::NoMemory)),
     }
 }
 
@@ -341,7 +336,7 @@ fn check_plan<F: Files, O: Output>(
 {
     let place = match book_place(alloc, case, plan.book.file) {
         Ok(place) => place,
-        Err(error) => return Err(no_memory(error)),
+        Err(_) => return Err(PlacesFault::Fault(BenchFault::NoMemory)),
     };
     let book = BookWords {
         file: path_of(plan.book.file, &place),
@@ -468,7 +463,7 @@ fn check_text<F: Files, O: Output>(
     }
     match lines_in(alloc, text) {
         Ok(lines) => check_cases(alloc, common, files, file, lines.as_slice(), tally, output),
-        Err(error) => Err(no_memory(error)),
+        Err(_) => Err(PlacesFault::Fault(BenchFault::NoMemory)),
     }
 }
 
@@ -506,7 +501,7 @@ fn write_plan<O: Output>(alloc: Global, tally: Tally, output: &mut O) -> Result<
 {
     match plan_line(alloc, tally.count) {
         Ok(line) => write(output, line.as_slice()),
-        Err(error) => Err(no_memory(error)),
+        Err(_) => Err(PlacesFault::Fault(BenchFault::NoMemory)),
     }
 }
 

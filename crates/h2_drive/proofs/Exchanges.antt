@@ -1,8 +1,15 @@
 -- Turns, one after another: octets are read, fed and answered.
 use Rattle.std.proofs.Common.{◌≡◌, ◌≢◌, ◌∙◌, ℕ, ◌+◌, ◌<◌, ◌≤◌, Bool, true, false, List, [], ◌∷◌, ◌++◌, length, take, Option, Result, Ok, Err, refl, ap, sym, subst, arith, append_assoc, length-append}
 use Rattle.std.proofs.lemmas.List.{append-nil}
-use Rattle.h2_spec.specs.Trace.{Event, Run, sent_octets}
-use Rattle.h2_conn.specs.Connection.{Connection, going}
+use Rattle.h2_spec.specs.declared.connection.Phase.{Phase}
+use Rattle.h2_spec.specs.declared.connection.Phase.TheVariants.{Preface, Settings, Running, Ended}
+use Rattle.h2_spec.specs.Frame.{NoItem}
+use Rattle.h2_spec.specs.Parse.{Front, Stop, Parsed, parse_all, parse_first}
+use Rattle.h2_spec.specs.State.{State}
+use Rattle.h2_spec.specs.Trace.{Event, Run, event_on, left_by, next_event, next_item, sent_octets, trace}
+use Rattle.h2_spec.proofs.ParseLaws.{parse_all-step}
+use Rattle.h2_spec.proofs.TraceLaws.{event-uses}
+use Rattle.h2_conn.specs.Connection.{Connection, going, is_ended}
 use Rattle.h2_conn.specs.Runs.{Fed, Halts, fed}
 use Rattle.h2_drive.specs.Wires.{Writes}
 use Rattle.h2_drive.specs.Drives.{AreNonempty, Drives, DrivesAs, ReadsAs, HasNoItem, DriveState, drive_state, Exchanges, TakesTurns, FedOrHalted, TurnEndsAs, TakesTurn}
@@ -67,20 +74,50 @@ fed-no_item c c' q o o' x =
       },
     )
 
+trace-none : (s : State) (b : List ℕ) → next_item s b ≡ NoItem → trace s b ≡ record { events = []; state = s; rest = left_by s.core.phase b }
+unfolding trace next_event
+trace-none s b e =
+    let stop : next_event s b ≡ Stop = ap (event_on s) e in
+    let none : parse_all next_event s b ≡ record { elements = []; state = s; rest = b } =
+    parse_all-step next_event event-uses s b ∙ ap (λ (x : Front State Event). parse_first s b x (λ t rest. parse_all next_event t rest)) stop in
+    ap (λ (t : Parsed State Event). let r : Run = record { events = t.elements; state = t.state; rest = left_by t.state.core.phase t.rest } in r) none
+
+left-same : (p : Phase) (b : List ℕ) → (is_ended p ≡ true → b ≡ []) → left_by p b ≡ b
+left-same Preface b over = refl
+left-same Settings b over = refl
+left-same Running b over = refl
+left-same (Ended code) b over = sym (over refl)
+
+-- a connection that took all its items holds back none
+pub taken-no_item : (c : Connection) → c.failed ≡ false → next_item c.state c.rest ≡ NoItem → (is_ended c.state.core.phase ≡ true → c.rest ≡ []) → HasNoItem c
+taken-no_item c kept none over =
+    let run : fed c [] ≡ record { events = []; state = c.state; rest = c.rest } =
+    ap (trace c.state) (append-nil c.rest) ∙ trace-none c.state c.rest none
+    ∙ ap (λ (b : List ℕ). let r : Run = record { events = []; state = c.state; rest = b } in r) (left-same c.state.core.phase c.rest over) in (
+      0,
+      record {
+        items = ap (λ (r : Run). length r.events) (sym run);
+        after = ap (λ (f : Bool). let d : Connection = record { state = c.state; rest = c.rest; failed = f } in d) kept ∙ ap (λ (r : Run). going r.state r.rest) (sym run);
+        sent = sym (rw run sent-none);
+      },
+    )
+
 -- ---- exchanges, one after another
 
--- no octets were fed, and some of the pending output was written
-pub exchanges-write : {read read' known known' lengths lengths' : Option (List ℕ)} {out fed_out out' : List ℕ}
-    {c c' : Connection} → Fed c [] out c' fed_out → read' ≡ read → lengths' ≡ lengths
-    → Writes known fed_out known' out'
-    → Exchanges false (drive_state read known lengths out c) (drive_state read' known' lengths' out' c') []
-exchanges-write {read} {read'} {known} {known'} {lengths} {lengths'} {out} {fed_out} {out'} {c} {c'} x r l w = record {
+-- nothing was read, and some of the pending output was written
+pub exchanges-write : {read read' known known' lengths lengths' : Option (List ℕ)} {out out' : List ℕ}
+    {c : Connection} → HasNoItem c → read' ≡ read → lengths' ≡ lengths
+    → Writes known out known' out'
+    → Exchanges false (drive_state read known lengths out c) (drive_state read' known' lengths' out' c) []
+exchanges-write {read} {read'} {known} {known'} {lengths} {lengths'} {out} {out'} {c} none r l w = record {
   read = [];
   written = w.octets;
   read_is = r ∙ sym (grown-nil read);
   written_is = w.known_is;
   lengths_is = l ∙ sym (grown-nil lengths);
-  feeds = subst (λ (o : List ℕ). Fed c [] out c' o) (sym w.whole) x;
+  feeds =
+      let pending : Fed c [] out c out = subst (λ (o : List ℕ). Fed c [] o c o) (append-nil out) (fed-behind out c c [] [] [] none) in
+      subst (λ (o : List ℕ). Fed c [] out c o) (sym w.whole) pending;
 }
 
 pub exchanges-then : (refused : Bool) {a b c : DriveState} {ls ls' : List ℕ} → Exchanges false a b ls
@@ -122,10 +159,6 @@ reads-fault : (turns at : ℕ) (ns ms : List ℕ) → length ns ≡ at → at < 
 reads-fault turns at ns ms h l x g y = (omega (arith, h, l, g, length-append ns ms), nonempty-more ns ms x y)
 
 -- ---- all turns
-
-pub not-failed : {P : Type 0} (failed : Bool) → (failed ≡ true → P) → (P → ⊥) → failed ≡ false
-not-failed false h n = refl
-not-failed true h n = absurd (n (h refl))
 
 pub drives-going : (turns : ℕ) (a b : DriveState) (result : Result DriveEnd DriveFault) → a.conn.failed ≡ false
     → result ≢ Err Failed → TakesTurns turns a b result → Drives turns a b result

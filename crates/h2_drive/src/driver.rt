@@ -9,7 +9,7 @@ ghost use Rattle.h2_drive.specs.Drives.{Drives, EndsAs, HasNoItem, TakesTurn, Tu
 use crate::fault::{DriveEnd, DriveFault};
 use crate::outgoing::write_all;
 use crate::wire::Wire;
-use h2_conn::{Conn, ConnFault};
+use h2_conn::Conn;
 use h2_spec::octets::octets_up_to;
 use std::alloc::Allocator;
 
@@ -85,10 +85,8 @@ pub fn drive<'b, A: Allocator + Copy, S: Wire>(
     ensures ends { EndsAs result (option_map code_number (ended_code conn.new.state.core.phase)) out.new.items }
     ensures flag { S.has_failed wire.new ≡ is_wire_fault result }
 {
-    match conn.feed(&[], out) {
-        Ok(_) => {}
-        Err(ConnFault::Failed) => return Err(DriveFault::Failed),
-        Err(_) => return Err(DriveFault::NoMemory),
+    if conn.failed() {
+        return Err(DriveFault::Failed);
     }
     match write_all(wire, out) {
         Ok(()) => {}

@@ -14,5 +14,5 @@ returns-in-Ok-assemble c =
 
 pub returns-in-Err-Syntax : goal.returns-in-Err-Syntax
 returns-in-Err-Syntax c =
-    let read = subst (λ (f : ScriptFault). Refuses f (assembled c.in-Ok.text.now)) c.in-Err-Syntax.field-0-is c.in-Err-Syntax.ensures in
+    let read = subst (λ (f : ScriptFault). Refuses f (assembled c.in-Ok.text.now)) c.in-Err-Syntax.field-0-is c.in-Err-Syntax.ensures.value in
     printed_bad c.args.input.now c.in-Ok.text.now _ c.in-Err-Syntax.line c.in-Err-Syntax.kind (c.in-Ok.ensures.cases.0) (c.in-Ok.ensures.cases.1) read refl

@@ -1,26 +1,29 @@
-use Rattle.std.proofs.Common.{◌++◌, [], false, refl, arith}
-use Rattle.h2_drive.proofs.Exchanges.{count-more, drives-going, fault-drives, fed-no_item, not-failed, reads-end, exchanges-then, exchanges-write, nonempty-one}
+use Rattle.std.proofs.Common.{◌∙◌, ◌++◌, [], false, refl, sym, arith}
+use Rattle.h2_drive.proofs.Exchanges.{count-more, drives-going, fault-drives, fed-no_item, reads-end, exchanges-then, exchanges-write, nonempty-one, taken-no_item}
 use Rattle.h2_drive.proofs.driver.drive.Goals as goal
 
-pub returns-in-Err-write_all-clause-drives : goal.returns-in-Err-write_all-clause-drives
-returns-in-Err-write_all-clause-drives g c =
-    let w = c.in-Err-write_all.ensures in
-    drives-going _ _ _ _ (not-failed _ c.in-Ok.ensures.failed (λ x. let differ = x.0 in cc)) (λ e. cc) (record {
+pub returns-in-Err-clause-drives : goal.returns-in-Err-clause-drives
+returns-in-Err-clause-drives g c =
+    let w = c.in-Err.ensures in
+    let kept = sym c.failed.ensures.value ∙ c.if-failed.false in
+    drives-going _ _ _ _ kept (λ e. cc) (record {
       lengths = [];
-      exchanges = exchanges-write (c.in-Ok.field-0, c.in-Ok.ensures.ok) w.read.0 w.read.1 w.written;
+      exchanges = exchanges-write (taken-no_item _ kept (c.failed.ensures.no_item c.if-failed.false) c.failed.ensures.over) w.read.0 w.read.1 w.written;
       reads = (omega arith, tt);
     })
 
 pub loop-turn-init : goal.loop-turn-init
 loop-turn-init g c =
-    let w = c.in-Ok-write_all.ensures in
+    let w = c.in-Ok.ensures in
+    let kept = sym c.failed.ensures.value ∙ c.if-failed.false in
+    let none = taken-no_item _ kept (c.failed.ensures.no_item c.if-failed.false) c.failed.ensures.over in
     record {
       lengths = [];
-      exchanges = exchanges-write (c.in-Ok.field-0, c.in-Ok.ensures.ok) w.read.0 w.read.1 w.written;
+      exchanges = exchanges-write none w.read.0 w.read.1 w.written;
       count = refl;
       nonempty = tt;
-      no_item = fed-no_item _ _ _ _ _ (c.in-Ok.field-0, c.in-Ok.ensures.ok);
-      going = not-failed _ c.in-Ok.ensures.failed (λ x. let differ = x.0 in cc);
+      no_item = none;
+      going = kept;
       flag = w.flag;
       empty = w.ok;
     }

@@ -3,7 +3,7 @@ use Rattle.std.specs.String.{string_bytes}
 use Rattle.h2_explain.specs.Lines.{Words, is_silent, lines_unless}
 use Rattle.h2_explain.proofs.lines.lines_of.Goals as goal
 
-opening-alone : List ℕ → Words
+abbrev opening-alone : List ℕ → Words
 opening-alone opening = record { opening = opening; item = []; facts = record { continued = false; empty_name = false; connect = false; other_scheme = false; lengths_differ = false; length_is_long = false; after_end = false }; fields = []; sentence = []; also = []; sent = []; changes = [] }
 
 pub returns-then-is_silent : goal.returns-then-is_silent

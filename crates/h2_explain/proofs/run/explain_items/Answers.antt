@@ -1,8 +1,8 @@
-use Rattle.std.proofs.Common.{◌∙◌, ◌+◌, ℕ, List, Result, ap, arith, drop, subst}
+use Rattle.std.proofs.Common.{◌∙◌, ◌+◌, ℕ, List, Result, ap, arith, drop, refl, subst}
 use Rattle.std.proofs.lemmas.Result.{IfOk-weaker}
 use Rattle.h2_explain.specs.Explains.{Gains, IsItemText, IsWritten, not_written}
 use Rattle.h2_explain.specs.declared.run.ExplainFault.{ExplainFault}
-use Rattle.h2_explain.proofs.Steps.{Begins, begins-cut, begins-next, begins-written, count-next, final-next, gains-both, gains-cut, item-within, run-end, summary-end}
+use Rattle.h2_explain.proofs.Steps.{Begins, begins-cut, begins-next, begins-written, count-next, final-next, gains-both, gains-cut, gains-nothing, item-within, run-end, summary-end}
 use Rattle.h2_explain.proofs.run.explain_items.Goals as goal
 
 pub overflow_add-at : goal.overflow_add-at
@@ -10,6 +10,18 @@ overflow_add-at g c =
     let item = rw (c.octets_from-rest.ensures, c.in-Ok-Some.field-0-is) at c.in-Ok-Some.ensures.ok in
     let within = item-within c.loop-item.conn.state c.args.octets.now c.loop-item.at _ _ c.take_explained.new.conn c.in-Ok-Some.item c.loop-item.invariant.within item in
     omega (arith, within.1, item.offset_is, c.requires.few)
+
+pub loop-item-init : goal.loop-item-init
+loop-item-init g c = record {
+  within = omega (arith);
+  new = c.requires.new;
+  counted = omega (arith);
+  writer = c.requires.writer;
+  name = refl;
+  summary = omega (arith);
+  run = refl;
+  gains = gains-nothing c.args.form c.args.conn.now.state c.args.octets.now _;
+}
 
 pub returns-in-Err-write_item-clause-gains : goal.returns-in-Err-write_item-clause-gains
 returns-in-Err-write_item-clause-gains g c = λ well.
