@@ -8,8 +8,8 @@ pub returns-in-Err-Words-clause-refused : goal.returns-in-Err-Words-clause-refus
 returns-in-Err-Words-clause-refused g c =
     let is : c.in-Err-Words.field-0 ≡ words.Words c.in-Err-Words.text = search rules in
     rw c.in-Err-Words.is (λ well held known.
-      let said : Printed = record { text = c.as_str.result.now; status = 2 } in
-      (said, rw (is, c.as_str.ensures.value) refl, c.print.ensures.printed well held known))
+    let said : Printed = record { text = c.as_str.result.now; status = 2 } in
+    (said, rw (is, c.as_str.ensures.value) refl, c.print.ensures.printed well held known))
 
 pub returns-in-Err-NoMemory-clause-refused : goal.returns-in-Err-NoMemory-clause-refused
 returns-in-Err-NoMemory-clause-refused g c =
