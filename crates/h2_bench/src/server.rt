@@ -30,6 +30,7 @@ fn refuse<W: Write>(output: &mut W, fault: BenchFault) -> u8
 fn status_of<W: Write>(output: &mut W, ended: Result<(), ServeFault>) -> u8
     ensures ok { OnOk ended (W.contents output.new ≡ W.contents output.old) }
     ensures err { OnErr ended ((result ≡ 1) ⊎ (result ≡ 3)) }
+    ensures status { (result ≡ 0) ⊎ ((result ≡ 1) ⊎ (result ≡ 3)) }
 {
     match ended {
         Ok(()) => 0,
