@@ -187,7 +187,7 @@ def main():
     with tempfile.TemporaryDirectory(prefix="h2_bench-prove-") as room:
         begun = time.time()
         lines = copy_to(room)
-        say(f"proving the {len(lines)} crates that the program is made of: about half an hour where none is proved yet")
+        say(f"proving the {len(lines)} crates that the program is made of: up to an hour where none is proved yet")
         progress = Progress(len(lines))
         proofs = Proofs(room, lines, progress)
         try:
