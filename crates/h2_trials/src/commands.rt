@@ -34,12 +34,7 @@ fn without_files(alloc: Global, call: &Call<'_>, words: &Words) -> Result<Ran, A
     printed_by(alloc, words, &[], input.as_slice())
 }
 
-fn with_file(
-    alloc: Global,
-    call: &Call<'_>,
-    words: &Words,
-    name: &str,
-) -> Result<Ran, AllocError> {
+fn with_file(alloc: Global, call: &Call<'_>, words: &Words, name: &str) -> Result<Ran, AllocError> {
     let input = hex::encode(alloc, call.piece(0))?;
     printed_by(alloc, words, &[(name, call.text())], input.as_bytes())
 }
@@ -54,7 +49,10 @@ fn over_words(alloc: Global, call: &Call<'_>, words: &Words) -> Result<Ran, Allo
 fn text_of(alloc: Global, ran: &Ran) -> Result<String, AllocError> {
     let printed = str::from_utf8(ran.output.as_slice()).unwrap_or("no text");
     let reason = str::from_utf8(ran.reason.as_slice()).unwrap_or("no text");
-    format!(in alloc; "status {}, printed {printed:?}, reason {reason:?}", ran.status)
+    format!(in alloc;
+        "status {}, printed {printed:?}, reason {reason:?}",
+        ran.status
+    )
 }
 
 /// What a command prints, whole, and its status.
