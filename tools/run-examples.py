@@ -1,24 +1,32 @@
 #!/usr/bin/env python3
-"""Runs each example of README.md and docs/*.md that begins with `$ ` and compares what it prints with what the page shows.
+"""Runs each example of README.md and docs/*.md and compares what it prints with what the page shows.
 
-A line that ends in ` ..` is compared up to there, and ends its example. A command with no output shown is run and not compared. `serve` and what follows it in
-its example are left out, since they wait for a client. An output that differs is shown; the last line is `N passed, M failed`, an example each.
+An example begins with `$ `, in a block that is indented by four spaces; or it is a cell of a table, a command, its output and its status where that is not 0:
 
-    tools/run-examples.py [--program FILE]     FILE is the proved program of this repository unless it is named
+    | `printf 0 \\| ./h2_bench play`: `fault 25`, status 1 |
+
+A line that ends in ` ..` is compared up to there, and ends its example. A command with no output shown is run and not compared. `serve` runs beside the commands
+behind it, at a port that is free, and its lines are those that begin with `connection`; where curl is not installed, it and what follows it in its example are left
+out. An output that differs is shown; the last line is `N passed, M failed`, an example each.
+
+    tools/run-examples.py [--program FILE] [--unproved]     FILE is the proved program of this repository unless it is named; --unproved leaves out the examples
+                                                            with a limit on memory, which a program built without proof does not start within
 
 The commands run in a folder that has the repository's files, and the program as h2_bench. A file that `cat FILE` shows and that is not there is written first.
 """
 
 import glob
-import itertools
 import os
 import re
 import shutil
+import socket
 import subprocess
 import sys
 import tempfile
 
 MARK = "@@ next @@"
+CELL = re.compile(r"`([^`]*\./h2_bench[^`]*)`: `([^`]*)`(?:, status (\d+))?")
+PORT = "8080"
 
 
 def examples(path):
@@ -41,11 +49,54 @@ def examples(path):
             yield shown
 
 
+def cells(path):
+    """The examples in the tables of a page: for each the command, the line shown and the status."""
+    for line in open(path, encoding="utf-8"):
+        if line.startswith("|"):
+            for cell in re.split(r"(?<!\\)\|", line.strip().strip("|")):
+                found = CELL.fullmatch(cell.strip())
+                if found:
+                    yield found[1].replace("\\|", "|"), found[2], int(found[3] or 0)
+
+
 def printed(commands):
     """What each command prints, run one after another in one shell."""
     script = "\n".join(f"{command}\nsaved=$?; echo '{MARK}'; (exit $saved)" for command in commands)
     ran = subprocess.run(["bash", "-c", script], capture_output=True, text=True)
     return [part.strip("\n").split("\n") if part.strip("\n") else [] for part in ran.stdout.split(MARK + "\n")]
+
+
+def free_port():
+    with socket.socket() as one:
+        one.bind(("127.0.0.1", 0))
+        return str(one.getsockname()[1])
+
+
+def served(block):
+    """What the commands of a block print that begins with `serve .. &`, at a free port: its lines among those of the commands, as they are shown."""
+    port = free_port()
+    at_port = [(command.replace(PORT, port), shown) for command, shown in block]
+    server = subprocess.Popen(["bash", "-c", f"exec {at_port[0][0].rstrip('& ')}"], stdout=subprocess.PIPE, text=True)
+    outputs = [[server.stdout.readline().rstrip("\n").replace(port, PORT)]]
+    try:
+        for command, shown in at_port[1:]:
+            ran = subprocess.run(["bash", "-c", command], capture_output=True, text=True, timeout=60)
+            own = ran.stdout.rstrip("\n").split("\n") if ran.stdout.rstrip("\n") else []
+            lines = sum(line.startswith("connection ") for line in shown)
+            outputs.append(own + [server.stdout.readline().rstrip("\n") for _ in range(lines)])
+    finally:
+        server.kill()
+        server.wait()
+    return outputs
+
+
+def outputs_of(block):
+    """What each command of a block prints; of `serve` and the commands behind it only where curl is installed."""
+    at = next((at for at, pair in enumerate(block) if " serve " in pair[0] and pair[0].endswith("&")), len(block))
+    outputs = printed([command for command, _ in block[:at]])[:at]
+    if at < len(block) and shutil.which("curl"):
+        outputs += served(block[at:])
+    return outputs
 
 
 def agrees(shown, got):
@@ -80,15 +131,21 @@ def write_shown(block):
 def results(path):
     """Each example of a page whose output is shown: the command, the lines shown and the lines printed."""
     for block in examples(path):
-        block = list(itertools.takewhile(lambda pair: " serve " not in pair[0], block))
         made = write_shown(block)
-        given = printed([command for command, _ in block])
+        given = outputs_of(block)
         for name in made:
             os.remove(name)
         for (command, shown), got in zip(block, given):
             shown = "\n".join(shown).strip("\n")
             if shown:
                 yield command, shown.split("\n"), got
+
+
+def cell_results(path, unproved):
+    """The same of each example in a table; its status is a line more."""
+    for command, shown, status in cells(path):
+        if not (unproved and "ulimit" in command):
+            yield command, [*shown.split("\n"), f"status {status}"], [line for part in printed([command, "echo status $?"]) for line in part]
 
 
 def program_in(words, top):
@@ -99,12 +156,14 @@ def program_in(words, top):
 
 def main():
     top = os.path.dirname(os.path.dirname(os.path.abspath(__file__)))
-    folder = folder_with(program_in(sys.argv[1:], top), top)
+    words = [word for word in sys.argv[1:] if word != "--unproved"]
+    unproved = len(words) < len(sys.argv) - 1
+    folder = folder_with(program_in(words, top), top)
     passed = failed = 0
     try:
         os.chdir(folder)
         for path in ["README.md", *sorted(glob.glob("docs/*.md"))]:
-            for command, shown, got in results(path):
+            for command, shown, got in [*results(path), *cell_results(path, unproved)]:
                 if agrees(shown, got):
                     passed += 1
                 else:
