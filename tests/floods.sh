@@ -5,7 +5,8 @@
 #   tests/floods.sh [--program FILE] [--command play|explain] [--peer FILE] [--limit SECONDS] [--most OCTETS] [--only WORD] [--list]
 #
 # --program is the proved one of this repository unless it is named, and the command is `play` unless it is named. With --peer, bench/peers/nghttp2.c as gcc builds it, the table has the time of a server's
-# session of nghttp2 over the longest input, in pieces of 65,536 octets; it answers each request with two octets. A run above the limit (60 seconds of the processor) is ended, and its longer ones are not
+# session of nghttp2 over the longest input, in pieces of 8,000 octets; it answers each request as `play` does. Where the two send other frames for the first 262,144 octets, by the numbers of each type,
+# the table says so in the place of a time. A run above the limit (60 seconds of the processor) is ended, and its longer ones are not
 # tried. --only takes the floods with this word in their name. A flood counts as linear where four times the octets take at most 8 times the time (of which
 # the first counts as 0.1 s at least) and 5 times the memory. Memory is what the kernel counts, and never below the 12 MiB of the measuring process. The
 # status is 1 where a run crashes or prints a fault.
@@ -28,9 +29,11 @@ import resource
 import subprocess
 import sys
 
+import frames
+
 DATA, HEADERS, RST_STREAM, SETTINGS, PING, WINDOW_UPDATE, CONTINUATION = 0, 1, 3, 4, 6, 8, 9
 END_STREAM, END_HEADERS = 1, 4
-GET = bytes.fromhex("828684")  # :method GET, :scheme http, :path /
+GET = bytes.fromhex("828684010161")  # :method GET, :scheme http, :path /, :authority a, which doesn't enter the table
 
 
 def frame(kind, flags, stream, payload=b""):
@@ -125,8 +128,8 @@ def open_blocks(space):
 
 
 def table_churn(space):
-    """Full HEADERS of literals, each of which enters the table and evicts one."""
-    block = GET + entry(b"a", b"b") * 3276
+    """HEADERS of nearly 16,384 octets of literals, each of which enters the table and evicts one."""
+    block = GET + entry(b"a", b"b") * 3275
     return put(space, FULL_TABLE, (frame(HEADERS, END_STREAM | END_HEADERS, stream, block) for stream in streams() if stream > 1))
 
 
@@ -258,33 +261,34 @@ def last_increments(space):
     return put(space, WAITING, forever(frame(WINDOW_UPDATE, 0, 1999, b"\0\0\0\x01")))
 
 
-MANY = ["--streams", "1000"]
-BODY = "GET|/|200|" + "78" * 60000
+SHORT = "GET|/|200|7878"
+MANY = ["--streams", "1000", SHORT]
+BODY = ["--streams", "1000", "GET|/|200|" + "78" * 60000]
 FLOODS = [
-    ("CONTINUATION of one octet, full table", one_octet_continuations, []),
-    ("CONTINUATION of one entry, full table", one_entry_continuations, []),
-    ("CONTINUATION of no octets, without end", empty_continuations, []),
-    ("CONTINUATION of one field, without end", open_blocks, []),
-    ("table churn, entries of 34 octets", table_churn, []),
-    ("table churn, entries of 4,033 octets", table_churn_of_one, []),
-    ("table emptied and filled again", table_resized, []),
-    ("header bomb, fields of 4,000 octets", header_bomb, []),
-    ("rapid reset of open streams", rapid_reset, []),
-    ("rapid reset of waiting answers", rapid_reset_of_answers, ["GET|/|200|7878"]),
-    ("small requests", small_requests, []),
-    ("refused requests", refused_requests, []),
-    ("refused requests, chosen identifiers", crowding_identifiers, []),
-    ("PING", pings, []),
-    ("SETTINGS of no value", empty_settings, []),
+    ("CONTINUATION of one octet, full table", one_octet_continuations, [SHORT]),
+    ("CONTINUATION of one entry, full table", one_entry_continuations, [SHORT]),
+    ("CONTINUATION of no octets, without end", empty_continuations, [SHORT]),
+    ("CONTINUATION of one field, without end", open_blocks, [SHORT]),
+    ("table churn, entries of 34 octets", table_churn, [SHORT]),
+    ("table churn, entries of 4,033 octets", table_churn_of_one, [SHORT]),
+    ("table emptied and filled again", table_resized, [SHORT]),
+    ("header bomb, fields of 4,000 octets", header_bomb, [SHORT]),
+    ("rapid reset of open streams", rapid_reset, [SHORT]),
+    ("rapid reset of waiting answers", rapid_reset_of_answers, [SHORT]),
+    ("small requests", small_requests, [SHORT]),
+    ("refused requests", refused_requests, [SHORT]),
+    ("refused requests, chosen identifiers", crowding_identifiers, [SHORT]),
+    ("PING", pings, [SHORT]),
+    ("SETTINGS of no value", empty_settings, [SHORT]),
     ("SETTINGS of 2,730 values, 1,000 live streams", settings_beside_live_streams, MANY),
     ("SETTINGS of one value, 1,000 live streams", short_settings_beside_live_streams, MANY),
-    ("DATA of one octet", one_octet_data, []),
-    ("DATA of padding alone", padded_data, []),
-    ("PING, 1,000 streams wait for their windows", pings_beside_waiting_streams, [*MANY, BODY]),
-    ("PING, 1,000 streams wait for the connection's", pings_beside_held_streams, [*MANY, BODY]),
-    ("WINDOW_UPDATE of 1 on each of 1,000 streams", stream_increments, [*MANY, BODY]),
-    ("WINDOW_UPDATE of 1 on the last of 1,000", last_increments, [*MANY, BODY]),
-    ("WINDOW_UPDATE of 1 on the connection", connection_increments, [*MANY, BODY]),
+    ("DATA of one octet", one_octet_data, [SHORT]),
+    ("DATA of padding alone", padded_data, [SHORT]),
+    ("PING, 1,000 streams wait for their windows", pings_beside_waiting_streams, BODY),
+    ("PING, 1,000 streams wait for the connection's", pings_beside_held_streams, BODY),
+    ("WINDOW_UPDATE of 1 on each of 1,000 streams", stream_increments, BODY),
+    ("WINDOW_UPDATE of 1 on the last of 1,000", last_increments, BODY),
+    ("WINDOW_UPDATE of 1 on the connection", connection_increments, BODY),
 ]
 
 
@@ -306,10 +310,32 @@ def measured(program, words, path, limit):
     return used.ru_utime + used.ru_stime, used.ru_maxrss, ran.returncode, front
 
 
-def peer_time(peer, path, limit):
+def body_of(options):
+    """The length of the answer's body."""
+    return str(len(options[-1].rpartition("|")[2]) // 2)
+
+
+def made_by(number, space, path):
+    """Writes a flood of at most so many octets, as hex and, beside it, as octets; says how many there are."""
+    return subprocess.run([sys.executable, __file__, "--make", str(number), str(space), path], check=True, capture_output=True, text=True).stdout.strip()
+
+
+def difference(program, peer, options, path):
+    """In which frames `play` and a session of nghttp2 differ for the octets of a file, in words."""
+    with open(path, "rb") as hex_text:
+        ours = subprocess.run([program, "play", *options], stdin=hex_text, stdout=subprocess.PIPE, check=True).stdout
+    ran = subprocess.run([peer, path + ".octets", "8000", body_of(options), path + ".sent"], stdout=subprocess.DEVNULL, stderr=subprocess.DEVNULL)
+    if ran.returncode:
+        return "ends it"
+    with open(path + ".sent", "rb") as sent:
+        differs = frames.difference(frames.types_of(frames.played(ours)), frames.types_of(sent.read()))
+    return f"they differ: {differs}" if differs else ""
+
+
+def peer_time(peer, path, limit, options):
     """Seconds of the processor that a session of nghttp2 takes for the octets of a file, or that it ends the connection."""
     ran = subprocess.Popen(
-        [peer, "session", path, "65536"],
+        [peer, path, "8000", body_of(options)],
         stdout=subprocess.DEVNULL,
         stderr=subprocess.DEVNULL,
         preexec_fn=lambda: resource.setrlimit(resource.RLIMIT_CPU, (limit, limit)),
@@ -360,7 +386,7 @@ def main():
             continue
         times, sizes, ended = [], [], None
         for space in (words.most // 4, words.most // 2, words.most):
-            octets = subprocess.run([sys.executable, __file__, "--make", str(number), str(space), path], check=True, capture_output=True, text=True).stdout.strip()
+            octets = made_by(number, space, path)
             seconds, size, status, front = measured(words.program, [words.command, *options], path, words.limit)
             if status in (-9, -24):
                 ended = f"> {words.limit} s"
@@ -375,11 +401,13 @@ def main():
         shown = [f"{t:.2f} s" for t in times] + ([ended] if ended else [])
         row = f"| {name} | {int(octets):,} | {', '.join(shown)} | {', '.join(f'{s / 1024:.0f}' for s in sizes)} MiB | {'yes' if linear else '**no**'} |"
         if words.peer:
-            row += f" {peer_time(words.peer, path + '.octets', words.limit)} |"
+            spent = peer_time(words.peer, path + ".octets", words.limit, options)
+            made_by(number, 262144, path)
+            row += f" {difference(words.program, words.peer, options, path) or spent} |"
         print(row, flush=True)
     sys.exit(1 if wrong else 0)
 
 
 main()
 PYTHON
-python3 -B "$made/floods.py" "$@"
+PYTHONPATH=$top/bench/peers python3 -B "$made/floods.py" "$@"
