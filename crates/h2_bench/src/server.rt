@@ -8,7 +8,7 @@ ghost use Rattle.h2_commands.specs.CommandEnd.{KnowsFile};
 ghost use Rattle.h2_bench.specs.ProgramEnd.{IsServed};
 
 use h2_book::Files;
-use h2_commands::{BenchFault, book_for_words};
+use h2_commands::{BenchFault, advise, book_for_words};
 use h2_device::Output;
 use h2_serve::{ServeFault, listen_and_serve};
 use h2_words::command::Serve;
@@ -64,6 +64,7 @@ pub fn serve<N: Net<Listener = TcpListener, Stream = TcpStream>, F: Files, W: Wr
         Ok(book) => book,
         Err(fault) => return refuse(output, fault),
     };
+    advise(alloc, plan.config, plan.book.why, errors);
     let Ok(port) = u16::try_from(plan.port) else {
         return refuse(output, BenchFault::Socket);
     };

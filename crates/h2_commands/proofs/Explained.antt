@@ -1,5 +1,5 @@
 -- What an explanation reports: where its text is, and the status of its run.
-use Rattle.std.proofs.Common.{◌≡◌, ◌⊎◌, ◌<◌, ◌≤◌, ℕ, Bool, true, false, List, Option, Some, None, Ok, Err, refl, sym, subst, inl, inr, is_some, option_map, length, le-ltb, lt-ltb}
+use Rattle.std.proofs.Common.{◌≡◌, ◌⊎◌, ◌<◌, ◌≤◌, ℕ, Bool, true, false, List, Option, Some, None, Ok, Err, refl, sym, subst, ap, ◌∙◌, if◌then◌else◌, inl, inr, is_some, option_map, length, le-ltb, lt-ltb}
 use Rattle.std.specs.Option.{IsSomeAnd}
 use Rattle.h2_spec.specs.Answer.{Entry}
 use Rattle.h2_spec.specs.declared.connection.Config.{Config}
@@ -8,34 +8,51 @@ use Rattle.h2_spec.specs.State.{State, ended_code, is_allowed}
 use Rattle.h2_spec.specs.Trace.{trace}
 use Rattle.h2_spec.specs.declared.connection.Phase.{Phase}
 use Rattle.h2_spec.specs.declared.connection.Phase.TheVariants.{Preface, Settings, Running, Ended}
-use Rattle.h2_explain.specs.Explains.{IsExplanation, not_written}
+use Rattle.h2_explain.specs.Explains.{IsExplanation, IsSummary, not_written}
+use Rattle.h2_explain.specs.Verdicts.{IsVerdict, strict_status}
+use Rattle.h2_explain.specs.declared.verdict.Verdict.{Verdict}
 use Rattle.h2_explain.specs.declared.run.Form.{Form}
 use Rattle.h2_explain.specs.declared.run.Summary.{Summary}
 use Rattle.h2_explain.specs.declared.run.ExplainFault.{ExplainFault}
 use Rattle.h2_explain.specs.declared.run.ExplainFault.TheVariants as explained
-use Rattle.h2_commands.specs.ExplainProgram.{ReportsFile, ReportsIfShort, ReportsInput, ReportsRead, ReportsRun, ReportsSpelled, ReportsText, end_of, explained_after, run_status}
+use Rattle.h2_commands.specs.ExplainProgram.{IsStatus, ReportsFile, ReportsIfShort, ReportsInput, ReportsRead, ReportsRun, ReportsSpelled, ReportsText, end_of, explained_after, is_over, outcome_status, run_status}
 use Rattle.h2_commands.specs.Input.{IsUnread, most}
 use Rattle.h2_commands.specs.Limits.{limits_fault}
 use Rattle.h2_commands.specs.Printing.{Printed, failed}
+use Rattle.h2_commands.specs.declared.explain.Outcome.{Outcome}
 use Rattle.h2_commands.specs.declared.fault.BenchFault.{BenchFault}
 use Rattle.h2_commands.specs.declared.fault.BenchFault.TheVariants.{NoMemory, Read}
 
 -- ---- the status
 
-status-at : (phase : Phase) (text : List ℕ) → (explained_after text (Ok (is_some (option_map code_number (ended_code phase))))).status ≡ run_status phase
-status-at Preface text = refl
-status-at Settings text = refl
-status-at Running text = refl
-status-at (Ended code) text = refl
+abbrev plain_status : Bool → ℕ
+plain_status ended = if ended then 4 else 0
 
--- it is that of the phase in which its run ends
-pub status-of : (form : Form) (s : State) (octets text : List ℕ) (ended : Option ℕ) (b : Bool) → IsExplanation form false s octets text → ended ≡ option_map code_number (ended_code (trace s octets).state.core.phase) → b ≡ is_some ended
-    → ReportsRun form s octets (explained_after text (Ok b))
-status-of form s octets text ended b explains summary is = inl (rw (is, summary) (status-at (trace s octets).state.core.phase text), said b)
-  where
-    said : (b : Bool) → IsExplanation form false s octets (explained_after text (Ok b)).text
-    said true = explains
-    said false = explains
+status-at : (phase : Phase) → plain_status (is_some (option_map code_number (ended_code phase))) ≡ run_status phase
+status-at Preface = refl
+status-at Settings = refl
+status-at Running = refl
+status-at (Ended code) = refl
+
+over-at : (phase : Phase) → is_some (option_map code_number (ended_code phase)) ≡ is_over phase
+over-at Preface = refl
+over-at Settings = refl
+over-at Running = refl
+over-at (Ended code) = refl
+
+abbrev outcome : (strict ended : Bool) → Verdict → Outcome
+outcome strict ended v = record { strict = strict; ended = ended; verdict = v }
+
+status-is : (strict ended : Bool) (s : State) (octets : List ℕ) (v : Verdict) → IsVerdict s octets v → ended ≡ is_some (option_map code_number (ended_code (trace s octets).state.core.phase))
+    → IsStatus strict s octets (outcome_status (outcome strict ended v))
+status-is true ended s octets v said is = (v, said, ap (λ (b : Bool). strict_status v b) (is ∙ over-at (trace s octets).state.core.phase))
+status-is false ended s octets v said is = ap plain_status is ∙ status-at (trace s octets).state.core.phase
+
+-- it is that of the phase in which its run ends, or that of what is said of the client
+pub status-of : (form : Form) (s : State) (octets text : List ℕ) (summary : Summary) (b : Bool) → IsExplanation form false s octets text → IsSummary s octets summary → b ≡ is_some summary.ended
+    → ReportsRun form s octets (explained_after text (Ok (outcome form.strict b summary.verdict)))
+status-of form s octets text summary b explains is same =
+    inl (status-is form.strict b s octets summary.verdict is.1 (same ∙ ap (λ (t : Summary). is_some t.ended) is.0), explains)
 
 -- an explanation that was cut short
 pub end-reports : (form : Form) (s : State) (octets text : List ℕ) (f : ExplainFault) → IsExplanation form true s octets text → not_written {A = Summary} (Err f) ≡ false → ReportsRun form s octets (explained_after text (Err (end_of f)))

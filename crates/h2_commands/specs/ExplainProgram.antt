@@ -1,5 +1,5 @@
 -- What `explain` reports: the explanation of a run, of which h2_explain defines what is fixed, its status, and the faults.
-use Rattle.std.specs.Prelude.{◌≡◌, ◌⊎◌, ℕ, Bool, true, false, List, [], ◌∷◌, length, nat_lt, Option, Some, None, Result, Ok, Err}
+use Rattle.std.specs.Prelude.{◌≡◌, ◌⊎◌, ℕ, Bool, true, false, if◌then◌else◌, List, [], ◌∷◌, length, nat_lt, Option, Some, None, Result, Ok, Err}
 use Rattle.h2_spec.specs.Answer.{Entry}
 use Rattle.h2_spec.specs.declared.connection.Config.{Config}
 use Rattle.h2_spec.specs.declared.connection.Phase.{Phase}
@@ -8,23 +8,26 @@ use Rattle.h2_spec.specs.State.{State, is_allowed, opening}
 use Rattle.h2_spec.specs.Trace.{trace}
 use Rattle.h2_book.specs.Entries.{Directory}
 use Rattle.h2_explain.specs.Explains.{IsExplanation}
+use Rattle.h2_explain.specs.Verdicts.{IsVerdict, strict_status}
 use Rattle.h2_explain.specs.declared.run.Form.{Form}
+use Rattle.h2_explain.specs.declared.verdict.Verdict.{Verdict}
 use Rattle.h2_explain.specs.declared.run.ExplainFault.{ExplainFault}
 use Rattle.h2_explain.specs.declared.run.ExplainFault.TheVariants as explained
-use Rattle.h2_words.specs.Grammar.{BookAsked}
+use Rattle.h2_words.specs.Grammar.{BookAsked, View}
 use Rattle.h2_commands.specs.Books.{book_said}
 use Rattle.h2_commands.specs.Input.{most, octets_spelled}
 use Rattle.h2_commands.specs.Printing.{Printed, failed, failed_after, refused}
 use Rattle.h2_commands.specs.CommandEnd.{PrintsSome}
 use Rattle.h2_commands.specs.declared.explain.ExplainEnd.{ExplainEnd}
 use Rattle.h2_commands.specs.declared.explain.ExplainEnd.TheVariants.{Fault, NotWritten}
+use Rattle.h2_commands.specs.declared.explain.Outcome.{Outcome}
 use Rattle.h2_commands.specs.declared.fault.BenchFault.TheVariants.{BadConfig, BadHex, NoMemory, Read}
 
 -- ---- a run
 
 -- the form that the words ask for
-abbrev pub form_of : (json color : Bool) → Form
-form_of json color = record { json = json; color = color }
+abbrev pub form_of : View → Form
+form_of view = record { json = view.json; color = view.color; strict = view.strict }
 
 -- the status of a run that ends in this phase: 4 where a connection error ended the connection
 abbrev pub run_status : Phase → ℕ
@@ -33,11 +36,23 @@ run_status Settings = 0
 run_status Running = 0
 run_status (Ended code) = 4
 
+-- whether a connection error ended the connection
+abbrev pub is_over : Phase → Bool
+is_over Preface = false
+is_over Settings = false
+is_over Running = false
+is_over (Ended code) = true
+
+-- the status of a run over the octets: with `--strict` that of what is said of the client
+abbrev pub IsStatus : (strict : Bool) → State → List ℕ → ℕ → Type 0
+IsStatus false s octets status = status ≡ run_status (trace s octets).state.core.phase
+IsStatus true s octets status = (v : Verdict) × IsVerdict s octets v × (status ≡ strict_status v (is_over (trace s octets).state.core.phase))
+
 -- the explanation of the run over the octets, with its status; or nothing, or that of some first items, and then memory
 -- was refused
 abbrev pub ReportsRun : Form → State → List ℕ → Printed → Type 0
 ReportsRun form s octets t =
-    ((t.status ≡ run_status (trace s octets).state.core.phase) × IsExplanation form false s octets t.text)
+    (IsStatus form.strict s octets t.status × IsExplanation form false s octets t.text)
     ⊎ ((t ≡ failed_after [] NoMemory) ⊎ ((text : List ℕ) × IsExplanation form true s octets text × (t ≡ failed_after text NoMemory)))
 
 -- where the limits are allowed
@@ -95,16 +110,19 @@ EndsExplain form files config file book input input_failed before after status =
 
 -- ---- how an explanation ends
 
+-- the status of an explanation that was written whole
+abbrev pub outcome_status : Outcome → ℕ
+outcome_status o = if o.strict then strict_status o.verdict o.ended else if o.ended then 4 else 0
+
 -- whether a write failed
-abbrev pub cut_off : Result Bool ExplainEnd → Bool
-cut_off (Ok ended) = false
+abbrev pub cut_off : Result Outcome ExplainEnd → Bool
+cut_off (Ok outcome) = false
 cut_off (Err (Fault fault)) = false
 cut_off (Err NotWritten) = true
 
 -- what is reported in all, where a text was written and then it ended so
-abbrev pub explained_after : List ℕ → Result Bool ExplainEnd → Printed
-explained_after text (Ok true) = record { text = text; status = 4 }
-explained_after text (Ok false) = record { text = text; status = 0 }
+abbrev pub explained_after : List ℕ → Result Outcome ExplainEnd → Printed
+explained_after text (Ok outcome) = record { text = text; status = outcome_status outcome }
 explained_after text (Err (Fault fault)) = failed_after text fault
 explained_after text (Err NotWritten) = record { text = text; status = 3 }
 

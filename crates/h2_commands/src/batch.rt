@@ -3,7 +3,7 @@
 //! `specs/CommandEnd.antt`, `specs/ExplainProgram.antt`.
 
 ghost use Rattle.std.specs.Prelude.{◌≡◌, ◌==◌, ◌≤◌, length, ◌<◌, ◌⊎◌, ◌++◌, ℕ, List, Some, Ok, Err, true, false, IfOk, IfErr, OnOk};
-ghost use Rattle.h2_words.specs.Plans.{batch_asked, book_asked};
+ghost use Rattle.h2_words.specs.Plans.{batch_asked, book_asked, view_asked};
 ghost use Rattle.h2_commands.specs.Reports.{seen};
 ghost use Rattle.h2_commands.specs.Books.{book_in};
 ghost use Rattle.h2_commands.specs.Each.{not_written, printed_after};
@@ -15,11 +15,12 @@ ghost use Rattle.h2_commands.specs.TableProgram.{table_parts, table_text};
 ghost use Rattle.h2_commands.specs.Printed.{OrCutShort, done, failed, places, places_play, printed, printed_play};
 ghost use Rattle.h2_commands.specs.declared.fault.BenchFault.TheVariants.{NoMemory};
 
+use crate::advice::{advise, advise_batch};
 use crate::asm::asm_report;
 use crate::books::book_for_words;
 use crate::dis::dis_text;
 use crate::each::{PlacesFault, write_text};
-use crate::explain::{ExplainEnd, explain_text, read_text};
+use crate::explain::{ExplainEnd, Outcome, explain_text, read_text};
 use crate::fault::BenchFault;
 use crate::input::read_all;
 use crate::play::write_play;
@@ -192,15 +193,16 @@ pub fn respond<F: Files, I: Input, O: Output, E: Output>(
         Ok(book) => book,
         Err(fault) => return print_fault(output, fault),
     };
+    advise_batch(alloc, batch, errors);
     match read_all(alloc, input) {
         Ok(octets) => print_input(alloc, batch, &book, octets, output),
         Err(fault) => print_fault(output, fault),
     }
 }
 
-/// Writes what is left to say of an explanation: the line of a fault that ended it. Gives the status: 0 where no
-/// connection error ended the connection, 4 where one did, 1 after a fault, 3 where the output failed.
-fn print_explained<O: Output>(output: &mut O, ended: Result<bool, ExplainEnd>) -> u8
+/// Writes what is left to say of an explanation: the line of a fault that ended it. Gives the status: that of how the
+/// explanation ended, 1 after a fault, 3 where the output failed.
+fn print_explained<O: Output>(output: &mut O, ended: Result<Outcome, ExplainEnd>) -> u8
     requires { O.has_failed output.old ≡ cut_off ended }
     ensures printed { O.has_failed output.new ≡ false → (held text : List ℕ) → O.written output.old ≡ Some (held ++ text)
         → Prints (explained_after text ended) held (O.written output.new) result }
@@ -209,8 +211,7 @@ fn print_explained<O: Output>(output: &mut O, ended: Result<bool, ExplainEnd>) -
     ensures name { O.name output.new ≡ O.name output.old }
 {
     match ended {
-        Ok(true) => 4,
-        Ok(false) => 0,
+        Ok(outcome) => outcome.status(),
         Err(end) => match end {
             ExplainEnd::Fault(fault) => print_fault(output, fault),
             ExplainEnd::NotWritten => 3,
@@ -229,13 +230,14 @@ fn print_text<O: Output>(
     requires few { length text.now ≤ most }
     requires writer { O.has_failed output.old ≡ false }
     ensures printed { O.has_failed output.new ≡ false
-        → PrintsSome (λ t. ReportsText (form_of plan.now.json plan.now.color) book.now plan.now.config text.now t) (O.written output.old) (O.written output.new) result }
+        → PrintsSome (λ t. ReportsText (form_of (view_asked plan.now)) book.now plan.now.config text.now t) (O.written output.old) (O.written output.new) result }
     ensures flag { O.has_failed output.new ≡ (result == 3) }
     ensures name { O.name output.new ≡ O.name output.old }
 {
     let form = Form {
         json: plan.json,
         color: plan.color,
+        strict: plan.strict,
     };
     let ended = explain_text(alloc, form, plan.config, book, text, output);
     print_explained(output, ended)
@@ -254,7 +256,7 @@ pub fn explain_plan<F: Files, I: Input, O: Output, E: Output>(
     requires writer { O.has_failed output.old ≡ false }
     ensures printed { KnowsFile plan.now.book.file.now (F.is_printed files.old) → KnowsFile plan.now.file.now (F.is_printed files.old)
         → O.has_failed output.new ≡ false
-        → EndsExplain (form_of plan.now.json plan.now.color) (F.file files.old) plan.now.config plan.now.file.now (book_asked plan.now.book) (I.remaining input.old)
+        → EndsExplain (form_of (view_asked plan.now)) (F.file files.old) plan.now.config plan.now.file.now (book_asked plan.now.book) (I.remaining input.old)
         (I.has_failed input.new) (O.written output.old) (O.written output.new) result }
     ensures flag { O.has_failed output.new ≡ (result == 3) }
     ensures input { I.name input.new ≡ I.name input.old }
@@ -266,6 +268,7 @@ pub fn explain_plan<F: Files, I: Input, O: Output, E: Output>(
         Ok(book) => book,
         Err(fault) => return print_fault(output, fault),
     };
+    advise(alloc, plan.config, plan.book.why, errors);
     match read_text(alloc, plan.file, files, input) {
         Ok(text) => print_text(alloc, plan, &book, text.as_slice(), output),
         Err(fault) => print_fault(output, fault),

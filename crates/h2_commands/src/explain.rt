@@ -1,14 +1,14 @@
 //! The program `explain`: a connection over the octets that hex text spells, explained item by item.
 //! Rests on h2_explain and h2_conn; definitions: `specs/ExplainProgram.antt`.
 
-ghost use Rattle.std.specs.Prelude.{◌≡◌, [], ◌≤◌, ◌<◌, ◌^◌, ◌++◌, ◌⊎◌, ℕ, List, Some, Ok, true, false, length, option_map, is_some, IfErr, IfOk};
+ghost use Rattle.std.specs.Prelude.{◌≡◌, ◌==◌, [], ◌≤◌, ◌<◌, ◌^◌, ◌++◌, ◌⊎◌, ℕ, List, Some, Ok, true, false, length, option_map, is_some, IfErr, IfOk};
 ghost use Rattle.std.specs.Vec.{vec_len};
 ghost use Rattle.h2_spec.specs.Answer.{Entry};
 ghost use Rattle.h2_conn.specs.Connection.{going};
 ghost use Rattle.h2_spec.specs.State.{is_allowed, opening};
 ghost use Rattle.h2_spec.specs.declared.connection.Config.{Config};
 ghost use Rattle.h2_explain.specs.declared.run.Form.{Form as ExplainForm};
-ghost use Rattle.h2_commands.specs.ExplainProgram.{ReportsFile, ReportsFrom, ReportsRun, ReportsText, cut_off, end_of, explained_after};
+ghost use Rattle.h2_commands.specs.ExplainProgram.{ReportsFile, ReportsFrom, ReportsRun, ReportsText, cut_off, end_of, explained_after, outcome_status};
 ghost use Rattle.h2_commands.specs.Input.{most};
 ghost use Rattle.h2_commands.specs.Printing.{Printed, failed};
 ghost use Rattle.h2_commands.specs.CommandEnd.{KnowsFile};
@@ -20,7 +20,7 @@ use crate::play::refused_limits;
 use h2_book::{Files, FilesFault};
 use h2_conn::Conn;
 use h2_device::{Input, Output};
-use h2_explain::{ExplainFault, Form, explain};
+use h2_explain::{ExplainFault, Form, Verdict, explain};
 use h2_request::book::Book;
 use h2_spec::connection::Config;
 use h2_words::command::Explain;
@@ -33,6 +33,33 @@ pub enum ExplainEnd {
     Fault(BenchFault),
     /// A write of the output failed.
     NotWritten,
+}
+
+/// How an explanation ended that was written whole.
+#[derive(Clone, Copy)]
+pub struct Outcome {
+    /// Whether a connection error ended the connection (RFC 9113, 5.4.1).
+    pub ended: bool,
+    /// Whether the status says what is said of the client.
+    pub strict: bool,
+    /// What is said of the client.
+    pub verdict: Verdict,
+}
+
+impl Outcome {
+    /// The exit status: 4 where a connection error ended the connection, else 0; with `--strict` that of the verdict.
+    pub fn status(self) -> u8
+        ensures value { result ≡ outcome_status self }
+        ensures written { (result == 3) ≡ false }
+    {
+        if self.strict {
+            self.verdict.status(self.ended)
+        } else if self.ended {
+            4
+        } else {
+            0
+        }
+    }
 }
 
 /// The octets of a file, as `read_all` has those of an input.
@@ -86,14 +113,14 @@ fn end_of(fault: ExplainFault) -> ExplainEnd
     }
 }
 
-/// Explains a connection over octets; says whether a connection error ended it.
+/// Explains a connection over octets; says how it ended.
 fn explain_conn<O: Output>(
     alloc: Global,
     form: Form,
     conn: &mut Conn<'_, Global>,
     octets: &[u8],
     output: &mut O,
-) -> Result<bool, ExplainEnd>
+) -> Result<Outcome, ExplainEnd>
     requires new { conn.old ≡ going conn.old.state [] }
     requires few { length octets.now < 2 ^ 63 }
     requires writer { O.has_failed output.old ≡ false }
@@ -104,12 +131,16 @@ fn explain_conn<O: Output>(
     ensures name { O.name output.new ≡ O.name output.old }
 {
     match explain(alloc, form, conn, octets, output) {
-        Ok(summary) => Ok(summary.ended.is_some()),
+        Ok(summary) => Ok(Outcome {
+            ended: summary.ended.is_some(),
+            strict: form.strict,
+            verdict: summary.verdict,
+        }),
         Err(fault) => Err(end_of(fault)),
     }
 }
 
-/// Explains a new connection over octets; says whether a connection error ended it.
+/// Explains a new connection over octets; says how it ended.
 fn explain_octets<O: Output>(
     alloc: Global,
     form: Form,
@@ -117,7 +148,7 @@ fn explain_octets<O: Output>(
     book: &Book<Global>,
     octets: &[u8],
     output: &mut O,
-) -> Result<bool, ExplainEnd>
+) -> Result<Outcome, ExplainEnd>
     requires allowed { is_allowed config ≡ true }
     requires few { length octets.now < 2 ^ 63 }
     requires writer { O.has_failed output.old ≡ false }
@@ -134,7 +165,7 @@ fn explain_octets<O: Output>(
     }
 }
 
-/// Explains a new connection over the octets that hex text spells; says whether a connection error ended it.
+/// Explains a new connection over the octets that hex text spells; says how it ended.
 ///
 /// `BadHex` where the text is no hex text, then `BadConfig` where a limit or a setting is out of range; nothing is
 /// written then. `NoMemory` where memory is refused: some first items may have been explained. `NotWritten` where a
@@ -146,7 +177,7 @@ pub fn explain_text<O: Output>(
     book: &Book<Global>,
     text: &[u8],
     output: &mut O,
-) -> Result<bool, ExplainEnd>
+) -> Result<Outcome, ExplainEnd>
     requires few { length text.now ≤ most }
     requires writer { O.has_failed output.old ≡ false }
     ensures printed { O.has_failed output.new ≡ false → (held : List ℕ) → O.written output.old ≡ Some held

@@ -2,6 +2,7 @@
 //! They are a crate of their own, apart from `debug`, so that they are proved without the debugger.
 #![tactic(auto)]
 
+mod advice;
 mod answer;
 mod asm;
 mod batch;
@@ -16,6 +17,7 @@ mod play;
 mod report;
 mod table;
 
+pub use advice::advise;
 pub use answer::parse_answer;
 pub use batch::{explain_plan, print, print_end, print_fault, respond};
 pub use books::book_for_words;

@@ -11,7 +11,9 @@ use Rattle.h2_conn.specs.Connection.{Connection, going}
 use Rattle.h2_explain.specs.declared.item.Explained.{Explained}
 use Rattle.h2_explain.specs.declared.run.Summary.{Summary}
 use Rattle.h2_explain.specs.Explained.{ExplainsItem, ExplainsNone}
-use Rattle.h2_explain.specs.Explains.{AreExplained, Gains, IsExplanation, IsItemText, IsRestText, IsWritten, not_written, summary_over}
+use Rattle.h2_explain.specs.Explains.{AreExplained, Gains, IsExplanation, IsItemText, IsRestText, IsSummary, IsWritten, not_written, summary_over}
+use Rattle.h2_explain.specs.Verdicts.{AreTallied, IsVerdict, Tallied, TalliesItem, no_tally, verdict_at}
+use Rattle.h2_explain.specs.declared.verdict.Verdict.{Verdict}
 use Rattle.std.specs.Io.KnownBytes.{Appends}
 use Rattle.h2_explain.specs.declared.run.ExplainFault.TheVariants.{NotWritten}
 use Rattle.h2_explain.specs.declared.run.ExplainFault.{ExplainFault}
@@ -127,8 +129,8 @@ gains-none form s b o = λ held is. ([], is ∙ ap (λ (t : List ℕ). Some t) (
 
 -- ---- the end of the run
 
-abbrev pub summary_with : ℕ → Option ℕ → Summary
-summary_with items ended = record { items = items; ended = ended }
+abbrev pub summary_with : Verdict → ℕ → Option ℕ → Summary
+summary_with verdict items ended = record { items = items; ended = ended; verdict = verdict }
 
 final-at : (s0 s : State) (octets b : List ℕ) (c : Connection) → ExplainsNone s b c → final s0 octets ≡ final s b → (trace s0 octets).state ≡ c.state
 final-at s0 s octets b c n run = trace-final s0 octets ∙ run ∙ final-stop s b n.none ∙ sym (ap (λ (d : Connection). d.state) n.same)
@@ -136,8 +138,39 @@ final-at s0 s octets b c n run = trace-final s0 octets ∙ run ∙ final-stop s 
 pub run-end : (s0 s : State) (octets b : List ℕ) (c : Connection) → ExplainsNone s b c → final s0 octets ≡ final s b → c ≡ going (trace s0 octets).state []
 run-end s0 s octets b c n run = n.same ∙ ap (λ (t : State). going t []) (sym (ap (λ (d : Connection). d.state) n.same) ∙ sym (final-at s0 s octets b c n run))
 
-pub summary-end : (s0 s : State) (octets b : List ℕ) (c : Connection) (items : ℕ) (ended : Option ℕ) → ExplainsNone s b c → final s0 octets ≡ final s b → count s0 octets ≡ items + count s b
-    → ended ≡ option_map code_number (ended_code c.state.core.phase) → summary_with items ended ≡ summary_over s0 octets
-summary-end s0 s octets b c items ended n run counted is =
-    ap₂ summary_with (omega (arith, counted, count-stop s b n.none, trace-count s0 octets))
+summary-end : (s0 s : State) (octets b : List ℕ) (c : Connection) (r : Summary) (items : ℕ) → ExplainsNone s b c → final s0 octets ≡ final s b → count s0 octets ≡ items + count s b
+    → r.items ≡ items → r.ended ≡ option_map code_number (ended_code c.state.core.phase) → r ≡ summary_over s0 octets r.verdict
+summary-end s0 s octets b c r items n run counted same is =
+    ap₂ (summary_with r.verdict) (omega (arith, same, counted, count-stop s b n.none, trace-count s0 octets))
     (is ∙ ap (λ (t : State). option_map code_number (ended_code t.core.phase)) (sym (final-at s0 s octets b c n run)))
+
+-- ---- the tally
+
+-- what is counted so far: a verdict that the items from here on lead to is that on the whole run
+abbrev pub Tallies : State → List ℕ → State → List ℕ → (number offset : ℕ) → Tallied → Type 0
+Tallies s0 b0 s b number offset t = (xs : List Explained) (v : Verdict) → AreTallied s b number offset xs t v → IsVerdict s0 b0 v
+
+-- nothing was counted yet
+pub tallies-nothing : (s0 : State) (b0 : List ℕ) (t : Tallied) → t ≡ no_tally → Tallies s0 b0 s0 b0 1 0 t
+tallies-nothing s0 b0 t is = λ xs v are. (xs, subst (λ (u : Tallied). AreTallied s0 b0 1 0 xs u v) is are)
+
+-- the next item is counted
+pub tallies-next : (s0 s : State) (b0 octets : List ℕ) (at number offset : ℕ) (c : Connection) (x : Explained) (t t' : Tallied)
+    → ExplainsItem s (drop at octets) number offset c x → TalliesItem t x t'
+    → Tallies s0 b0 s (drop at octets) number offset t
+    → Tallies s0 b0 c.state (drop (at + x.taken.used) octets) (number + 1) (offset + x.taken.used) t'
+tallies-next s0 s b0 octets at number offset c x t t' i note tallies = λ xs v are.
+    tallies (x ∷ xs) v (c, i, t', note, subst (λ (b : List ℕ). AreTallied c.state b (number + 1) (offset + x.taken.used) xs t' v) (sym (drop-drop x.taken.used at octets)) are)
+
+-- what is said of the client once there is no item more
+verdict-end : (s0 s : State) (octets b : List ℕ) (c : Connection) (t : Tallied) (v : Verdict) (number offset left : ℕ) → ExplainsNone s b c → left ≡ length b
+    → v ≡ verdict_at t c.state left → Tallies s0 octets s b number offset t → IsVerdict s0 octets v
+verdict-end s0 s octets b c t v number offset left n long is tallies =
+    tallies [] v (n.none, is ∙ ap₂ (λ (u : State) (k : ℕ). verdict_at t u k) (ap (λ (d : Connection). d.state) n.same) long)
+
+-- what is summed up then
+pub summary-is : (s0 s : State) (octets b : List ℕ) (c : Connection) (r : Summary) (items number offset left : ℕ) (t : Tallied) → ExplainsNone s b c → final s0 octets ≡ final s b → count s0 octets ≡ items + count s b
+    → r.items ≡ items → r.ended ≡ option_map code_number (ended_code c.state.core.phase) → left ≡ length b → r.verdict ≡ verdict_at t c.state left
+    → Tallies s0 octets s b number offset t → IsSummary s0 octets r
+summary-is s0 s octets b c r items number offset left t n run counted same is long said tallies =
+    (summary-end s0 s octets b c r items n run counted same is, verdict-end s0 s octets b c t r.verdict number offset left n long said tallies)

@@ -1,5 +1,5 @@
 -- A connection that is explained over all octets: its result, and what is written.
-use Rattle.std.specs.Prelude.{◌≡◌, ℕ, ◌+◌, ◌++◌, Bool, true, false, List, [], ◌∷◌, length, drop, nat_lt, Option, Some, option_map, Result, Ok, Err}
+use Rattle.std.specs.Prelude.{◌≡◌, ◌⊎◌, ℕ, ◌+◌, ◌++◌, Bool, true, false, List, [], ◌∷◌, length, drop, nat_lt, Option, Some, option_map, Result, Ok, Err}
 use Rattle.h2_spec.specs.Errors.{code_number}
 use Rattle.h2_spec.specs.Parse.{Stop}
 use Rattle.h2_spec.specs.State.{State, ended_code}
@@ -8,18 +8,24 @@ use Rattle.h2_conn.specs.Connection.{Connection}
 use Rattle.h2_explain.specs.Explained.{ExplainsItem}
 use Rattle.h2_explain.specs.Lines.{Words, ended, lines_of}
 use Rattle.h2_explain.specs.declared.item.Explained.{Explained}
+use Rattle.h2_explain.specs.declared.verdict.Verdict.{Verdict}
+use Rattle.h2_explain.specs.Verdicts.{IsVerdict}
 use Rattle.h2_explain.specs.declared.run.ExplainFault.{ExplainFault}
 use Rattle.h2_explain.specs.declared.run.ExplainFault.TheVariants.{NoMemory, NotWritten}
 use Rattle.h2_explain.specs.declared.run.Form.{Form}
 use Rattle.h2_explain.specs.declared.run.Summary.{Summary}
 
--- how many items a run had, and the code of the connection error that ended it, if one did
-abbrev pub summary_of : Run → Summary
-summary_of run = record { items = length run.events; ended = option_map code_number (ended_code run.state.core.phase) }
+-- how many items a run had, the code of the connection error that ended it, if one did, and what is said of the client
+abbrev pub summary_of : Run → Verdict → Summary
+summary_of run verdict = record { items = length run.events; ended = option_map code_number (ended_code run.state.core.phase); verdict = verdict }
 
 -- the same of the run of a connection over octets
-abbrev pub summary_over : State → List ℕ → Summary
-summary_over s octets = summary_of (trace s octets)
+abbrev pub summary_over : State → List ℕ → Verdict → Summary
+summary_over s octets verdict = summary_of (trace s octets) verdict
+
+-- what is summed up of a run
+abbrev pub IsSummary : State → List ℕ → Summary → Type 0
+IsSummary s octets summary = (summary ≡ summary_over s octets summary.verdict) × IsVerdict s octets summary.verdict
 
 -- whether a write failed
 abbrev pub not_written : {A : Type 0} → Result A ExplainFault → Bool
@@ -50,10 +56,15 @@ abbrev pub EndsLineIf : Bool → (color : Bool) → List ℕ → Type 0
 EndsLineIf false color t = t ≡ []
 EndsLineIf true color t = EndsLine color t
 
--- the text after the last item: a line where octets are left, and in JSON always
+-- lines, or nothing
+abbrev pub EndsLineOrNone : (color : Bool) → List ℕ → Type 0
+EndsLineOrNone color t = (t ≡ []) ⊎ EndsLine color t
+
+-- the text after the last item: a line where octets are left, and the lines of warnings, of live streams and of
+-- `--strict`, where there are any; in JSON always a line
 abbrev pub IsRestOf : (json color : Bool) → ℕ → List ℕ → Type 0
 IsRestOf true color left t = EndsLine false t
-IsRestOf false color left t = EndsLineIf (nat_lt 0 left) color t
+IsRestOf false color left t = (rest lines : List ℕ) × (t ≡ rest ++ lines) × EndsLineIf (nat_lt 0 left) color rest × EndsLineOrNone color lines
 
 abbrev pub IsRestText : Form → ℕ → List ℕ → Type 0
 IsRestText form left t = IsRestOf form.json form.color left t

@@ -10,6 +10,7 @@ ghost use Rattle.h2_spec.specs.Stream.{stream_at};
 ghost use Rattle.h2_explain.specs.Explained.{head_in};
 ghost use Rattle.h2_explain.specs.Account.{ListsChanges, begun_after, changes_of_sent, changes_since, ended_with, unread, fragment_in, is_compression, is_of_block, is_of_fields, reads_fields, shows_fields_with};
 ghost use Rattle.h2_explain.specs.Notes.{AreNotes, note_of, with_later_note};
+ghost use Rattle.h2_explain.specs.Warnings.{AreWarnings};
 
 use crate::changes::{Changes, connection_changes, stream_changes};
 use crate::error_context::ErrorContext;
@@ -18,8 +19,10 @@ use crate::header_table::{EntryChange, Followed};
 use crate::item::Explained;
 use crate::moved::{Moved, moved_by, note_moved};
 use crate::notes::Notes;
+use crate::request_facts::{RequestFacts, request_facts};
 use crate::sentence::say_sentence;
 use crate::special::CaseFacts;
+use crate::warning::{Warnings, opens_stream, warnings_of};
 use h2_conn::{Conn, write_opening};
 use h2_describe::say::Words;
 use h2_describe::sent::next_frame;
@@ -55,6 +58,8 @@ pub struct Account {
     pub also: Vec<Cause>,
     /// What decides whether its rule is a special case.
     pub facts: CaseFacts,
+    /// What the client may not do and the server let pass.
+    pub warnings: Warnings,
     /// Whether the fields of its block are shown with it: the block ends here, or is refused here.
     pub shows_fields: bool,
     pub changes: Changes,
@@ -278,6 +283,14 @@ impl Explainer {
         facts_of(self.context(conn, item))
     }
 
+    /// What is wrong with the request that an item opens a stream with; nothing where it opens none.
+    fn request_facts(&self, item: &Explained<'_>) -> RequestFacts {
+        if !opens_stream(item) {
+            return RequestFacts::none();
+        }
+        request_facts(self.reader.fields())
+    }
+
     /// What sentences draw their values from.
     fn context<'f, 'o>(
         &'f self,
@@ -339,12 +352,14 @@ impl Explainer {
         item: &Explained<'_>,
     ) -> Result<Account, AllocError>
         ensures fields { IfOk result (λ account. account.shows_fields ≡ shows_fields_with item.now) }
+        ensures warnings { IfOk result (λ account. AreWarnings item.now account.facts account.warnings) }
         ensures changes { IfOk result (λ account. ListsChanges item.now conn.now.state (begun_after self.old.notes.block item.now.number item.now.before.block item.now.taken.item) (note_of self.old.notes) account.changes.items) }
     {
         let shows_fields = self.read_block(alloc, item)?;
         let sentence = self.sentence(alloc, conn, item)?;
         let also = self.others(alloc, conn, item)?;
         let facts = self.facts(conn, item);
+        let warnings = warnings_of(item, facts, self.request_facts(item));
         let moved = moved_by(alloc, conn, item, &self.notes, &self.live)?;
         let opening = opening_of(alloc, conn, item)?;
         let changes = self.changes(alloc, conn, item)?;
@@ -358,6 +373,7 @@ impl Explainer {
             sentence,
             also,
             facts,
+            warnings,
             shows_fields,
             changes,
             moved,

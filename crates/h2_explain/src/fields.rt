@@ -158,7 +158,7 @@ pub(crate) fn is_connect(fields: &[SpelledField]) -> bool {
 }
 
 /// The value of the first field with this name.
-fn value_of<'s>(name: &[u8], fields: &'s [SpelledField]) -> Option<&'s [u8]> {
+pub(crate) fn value_of<'s>(name: &[u8], fields: &'s [SpelledField]) -> Option<&'s [u8]> {
     for field in fields {
         if field.name.as_slice() == name {
             return Some(field.value.as_slice());

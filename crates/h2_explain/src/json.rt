@@ -15,6 +15,7 @@ use crate::json_words::JsonWords;
 use crate::moved::Moved;
 use crate::special::{case_of_error, case_of_reason, rule_of_cause, rule_of_reason};
 use crate::text::{mode_name, read_answer, say_item};
+use crate::warning_words::put_warnings;
 use h2_describe::frame_words::say_frame;
 use h2_describe::names::{code_name, kind_name, registered_setting, registered_type, setting_name};
 use h2_describe::say::{Hex, HexOctet, Say, Words};
@@ -543,6 +544,7 @@ pub(crate) fn json_of(
     if account.shows_fields {
         put_updates(&explainer.reader, &mut out);
     }
+    put_warnings(account.warnings, &mut out);
     out.words("words", item_in_words(alloc, item));
     out.close();
     line_of(out)

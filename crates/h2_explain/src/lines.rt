@@ -14,6 +14,8 @@ use crate::special::{case_of_error, case_of_reason, rule_of_cause, rule_of_reaso
 use crate::text::{
     say_all_moved, say_also, say_changes, say_entries, say_fields, say_item, say_opening, say_sent,
 };
+use crate::warning::Warnings;
+use crate::warning_words::say_warnings;
 use h2_describe::names::{error_name, scope_word};
 use h2_describe::say::Words;
 use h2_device::{DeviceFault, Number, Output, Text, string_of, texts};
@@ -210,7 +212,7 @@ struct ItemWords {
     fields: String,
     /// The line of the other causes that hold of its block, if there are any.
     also: String,
-    /// The lines of the frames that were sent.
+    /// The lines of the warnings, and of the frames that were sent.
     sent: String,
     /// The lines of what changed.
     changes: String,
@@ -244,9 +246,15 @@ fn also_text(alloc: Global, also: &[Cause], paint: Paint) -> Result<String, Allo
     words.finish()
 }
 
-/// The lines of the frames that were sent.
-fn sent_text(alloc: Global, sent: &[u8], paint: Paint) -> Result<String, AllocError> {
+/// The lines of the warnings, and of the frames that were sent.
+fn sent_text(
+    alloc: Global,
+    warnings: Warnings,
+    sent: &[u8],
+    paint: Paint,
+) -> Result<String, AllocError> {
     let mut words = Words::new(alloc);
+    say_warnings(warnings, paint, &mut words);
     say_sent(alloc, sent, paint, &mut words);
     words.finish()
 }
@@ -279,7 +287,7 @@ fn words_of(
         item: item_words(alloc, item)?,
         fields: fields_text(alloc, account, explainer, paint)?,
         also: also_text(alloc, account.also.as_slice(), paint)?,
-        sent: sent_text(alloc, item.sent.as_slice(), paint)?,
+        sent: sent_text(alloc, account.warnings, item.sent.as_slice(), paint)?,
         changes: changes_text(alloc, account, paint)?,
     })
 }

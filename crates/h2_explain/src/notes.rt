@@ -51,7 +51,7 @@ fn is_closed(kind: Kind) -> bool
 }
 
 /// Whether a request opened a stream in this state (RFC 9113, 5.1).
-fn is_opened(kind: Kind) -> bool
+pub(crate) fn is_opened(kind: Kind) -> bool
     ensures { result ≡ is_opened kind }
 {
     !matches!(kind, Kind::Idle | Kind::Skipped)

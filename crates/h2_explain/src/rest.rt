@@ -2,12 +2,12 @@
 //! Rests on `say` and `json`; definitions: `specs/Rest.antt` and `specs/Explains.antt`; the format is in
 //! docs/FORMATS.md.
 
-ghost use Rattle.std.specs.Prelude.{◌≡◌, false, IfOk};
+ghost use Rattle.std.specs.Prelude.{◌≡◌, IfOk, nat_lt};
 ghost use Rattle.std.specs.String.{string_bytes};
-ghost use Rattle.h2_explain.specs.Explains.{EndsLine, IsRestOf};
+ghost use Rattle.h2_explain.specs.Explains.{EndsLineIf};
 ghost use Rattle.h2_explain.specs.Rest.{missing_of, missing_of_front, rest_of};
 
-use crate::json::{line_of, put_head};
+use crate::json::put_head;
 use crate::json_words::JsonWords;
 use crate::paint::{Paint, Role};
 use h2_conn::Conn;
@@ -125,14 +125,19 @@ fn say_blanks(used: usize, out: &mut Words) {
     }
 }
 
+/// Begins a line with how many octets came before, as `@60     `.
+pub(crate) fn say_place(offset: usize, paint: Paint, out: &mut Words) {
+    paint.start(Role::Item, out);
+    let start = out.len();
+    say_all!(out; "@", offset);
+    let used = out.len().saturating_sub(start);
+    say_blanks(used, out);
+}
+
 /// The line of the octets after the last item, without its end.
 fn rest_words(alloc: Global, rest: Rest, paint: Paint) -> Result<String, AllocError> {
     let mut words = Words::new(alloc);
-    paint.start(Role::Item, &mut words);
-    let start = words.len();
-    say_all!(&mut words; "@", rest.offset);
-    let used = words.len().saturating_sub(start);
-    say_blanks(used, &mut words);
+    say_place(rest.offset, paint, &mut words);
     say_all!(&mut words; Octets(rest.octets as u64));
     match rest.ended {
         Some(_) => say_all!(&mut words; " not read"),
@@ -143,7 +148,7 @@ fn rest_words(alloc: Global, rest: Rest, paint: Paint) -> Result<String, AllocEr
 
 /// The line of the octets after the last item, empty if there are none.
 pub(crate) fn rest_line(alloc: Global, rest: Rest, paint: Paint) -> Result<String, AllocError>
-    ensures { IfOk result (λ text. IsRestOf false paint.0 rest.octets (string_bytes text)) }
+    ensures { IfOk result (λ text. EndsLineIf (nat_lt 0 rest.octets) paint.0 (string_bytes text)) }
 {
     if 0 < rest.octets {
         let words = rest_words(alloc, rest, paint)?;
@@ -173,7 +178,7 @@ fn put_cut_frame(missing: Missing, out: &mut JsonWords) {
 }
 
 /// Puts what is after the last item in.
-fn put_end(rest: Rest, out: &mut JsonWords) {
+pub(crate) fn put_end(rest: Rest, out: &mut JsonWords) {
     match rest.ended {
         Some(code) => out.number("code", u64::from(code)),
         None => out.flag("at_least", rest.missing.at_least),
@@ -188,17 +193,4 @@ fn put_end(rest: Rest, out: &mut JsonWords) {
     }
     out.number("octets", rest.octets as u64);
     out.number("offset", rest.offset as u64);
-}
-
-/// The last line of JSON.
-pub(crate) fn rest_json(alloc: Global, rest: Rest) -> Result<String, AllocError>
-    ensures { IfOk result (λ text. EndsLine false (string_bytes text)) }
-{
-    let mut out = JsonWords::new(alloc);
-    out.open_element();
-    out.open("end");
-    put_end(rest, &mut out);
-    out.close();
-    out.close();
-    line_of(out)
 }

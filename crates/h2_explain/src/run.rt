@@ -1,20 +1,25 @@
 //! A connection over octets, explained item by item. The text of each item is written as it is made.
 //! Rests on `item`, `account` and `text`; definitions: `specs/Explains.antt`.
 
-ghost use Rattle.std.specs.Prelude.{◌≡◌, ◌<◌, ◌^◌, [], false, length, is_err, IfOk, IfErr, OnOk};
+ghost use Rattle.std.specs.Prelude.{◌≡◌, ◌<◌, ◌^◌, [], false, length, is_err, option_map, IfOk, IfErr, OnOk};
 ghost use Rattle.std.specs.String.{string_bytes};
 ghost use Rattle.std.specs.Io.KnownBytes.{Appends};
+ghost use Rattle.h2_spec.specs.Errors.{code_number};
+ghost use Rattle.h2_spec.specs.State.{ended_code};
 ghost use Rattle.h2_spec.specs.Trace.{trace};
 ghost use Rattle.h2_conn.specs.Connection.{going};
-ghost use Rattle.h2_explain.specs.Explains.{Gains, IsExplanation, IsItemText, IsRestText, IsWritten, not_written, summary_over};
+ghost use Rattle.h2_explain.specs.Explains.{Gains, IsExplanation, IsItemText, IsRestText, IsSummary, IsWritten, not_written};
+ghost use Rattle.h2_explain.specs.Verdicts.{TalliesItem, verdict_at};
 ghost use Rattle.h2_explain.specs.declared.run.ExplainFault.TheVariants as faults;
 
 use crate::account::Explainer;
+use crate::end::End;
 use crate::item::{Explained, take_explained};
 use crate::json::json_of;
 use crate::lines::lines_of;
 use crate::paint::Paint;
-use crate::rest::{Rest, rest_json, rest_line, rest_of};
+use crate::rest::rest_of;
+use crate::verdict::{Tally, Verdict, verdict_at};
 use h2_conn::Conn;
 use h2_device::Output;
 use h2_spec::octets::octets_from;
@@ -27,6 +32,8 @@ pub struct Form {
     pub json: bool,
     /// As a text with colours.
     pub color: bool,
+    /// Whether it ends with the errors by cause and the number of warnings.
+    pub strict: bool,
 }
 
 /// Why not all items were explained.
@@ -45,6 +52,8 @@ pub struct Summary {
     pub items: u64,
     /// The code of the connection error that ended it, if one did (RFC 9113, 5.4.1).
     pub ended: Option<u32>,
+    /// What is said of the client.
+    pub verdict: Verdict,
 }
 
 /// Writes octets, or says that they were not written.
@@ -66,12 +75,15 @@ fn item_text(
     alloc: Global,
     form: Form,
     explainer: &mut Explainer,
+    tally: &mut Tally,
     conn: &Conn<'_, Global>,
     item: &Explained<'_>,
 ) -> Result<String, AllocError>
-    ensures { IfOk result (λ text. IsItemText form item.now (string_bytes text)) }
+    ensures text { IfOk result (λ text. IsItemText form item.now (string_bytes text)) }
+    ensures tally { OnOk result (TalliesItem tally.old item.now tally.new) }
 {
     let account = explainer.account(alloc, conn, item)?;
+    tally.note(item, account.facts, account.warnings)?;
     if form.json {
         json_of(alloc, item, &account, explainer)
     } else {
@@ -84,36 +96,29 @@ fn write_item<O: Output>(
     alloc: Global,
     form: Form,
     explainer: &mut Explainer,
+    tally: &mut Tally,
     conn: &Conn<'_, Global>,
     item: &Explained<'_>,
     output: &mut O,
 ) -> Result<(), ExplainFault>
     requires writer { O.has_failed output.old ≡ false }
     ensures gains { O.has_failed output.new ≡ false → Gains (IsWritten (λ text. IsItemText form item.now text) result) (O.written output.old) (O.written output.new) }
+    ensures tally { OnOk result (TalliesItem tally.old item.now tally.new) }
     ensures flag { O.has_failed output.new ≡ not_written result }
     ensures name { O.name output.new ≡ O.name output.old }
 {
-    match item_text(alloc, form, explainer, conn, item) {
+    match item_text(alloc, form, explainer, tally, conn, item) {
         Ok(text) => write(output, text.as_bytes()),
         Err(_) => Err(ExplainFault::NoMemory),
     }
 }
 
-/// The text of what is left after the last item.
-fn end_text(alloc: Global, form: Form, rest: Rest) -> Result<String, AllocError>
-    ensures { IfOk result (λ text. IsRestText form rest.octets (string_bytes text)) }
-{
-    if form.json {
-        rest_json(alloc, rest)
-    } else {
-        rest_line(alloc, rest, Paint(form.color))
-    }
-}
-
-/// Writes the text of the octets after the last item.
+/// Writes the text of the octets after the last item, and of the end.
 fn write_end<O: Output>(
     alloc: Global,
     form: Form,
+    explainer: &Explainer,
+    tally: &Tally,
     conn: &Conn<'_, Global>,
     items: u64,
     offset: usize,
@@ -125,9 +130,29 @@ fn write_end<O: Output>(
     ensures flag { O.has_failed output.new ≡ not_written result }
     ensures name { O.name output.new ≡ O.name output.old }
 {
-    match end_text(alloc, form, rest_of(conn, items, offset, rest)) {
+    let end = End {
+        form,
+        conn,
+        explainer,
+        tally,
+        rest: rest_of(conn, items, offset, rest),
+    };
+    match end.said(alloc) {
         Ok(text) => write(output, text.as_bytes()),
         Err(_) => Err(ExplainFault::NoMemory),
+    }
+}
+
+/// What is summed up of a connection that had so many items, with so many octets left.
+fn summary_of(conn: &Conn<'_, Global>, tally: &Tally, items: u64, left: usize) -> Summary
+    ensures items { result.items ≡ items }
+    ensures ended { result.ended ≡ option_map code_number (ended_code conn.now.state.core.phase) }
+    ensures verdict { result.verdict ≡ verdict_at tally.now conn.now.state left }
+{
+    Summary {
+        items,
+        ended: conn.ended(),
+        verdict: verdict_at(tally, conn, left),
     }
 }
 
@@ -155,13 +180,14 @@ fn explain_items<O: Output>(
     requires new { conn.old ≡ going conn.old.state [] }
     requires few { length octets.now < 2 ^ 63 }
     requires writer { O.has_failed output.old ≡ false }
-    ensures summary { IfOk result (λ summary. summary ≡ summary_over conn.old.state octets.now) }
+    ensures summary { IfOk result (λ summary. IsSummary conn.old.state octets.now summary) }
     ensures run { OnOk result (conn.new ≡ going (trace conn.old.state octets.now).state []) }
     ensures gains { O.has_failed output.new ≡ false → Gains (λ text. IsExplanation form (is_err result) conn.old.state octets.now text) (O.written output.old) (O.written output.new) }
     ensures flag { O.has_failed output.new ≡ not_written result }
     ensures name { O.name output.new ≡ O.name output.old }
 {
     let mut explainer = explainer;
+    let mut tally = Tally::new(alloc);
     let mut at = 0usize;
     let mut items = 0u64;
     loop {
@@ -170,15 +196,17 @@ fn explain_items<O: Output>(
             Ok(Some(item)) => {
                 items = item.number;
                 at = item.offset + item.taken.used;
-                match write_item(alloc, form, &mut explainer, conn, &item, output) {
+                match write_item(alloc, form, &mut explainer, &mut tally, conn, &item, output) {
                     Ok(()) => {}
                     Err(fault) => return Err(fault),
                 }
             }
             Ok(None) => {
-                let ended = conn.ended();
-                let written = write_end(alloc, form, conn, items, at, rest, output);
-                return summary_if(written, Summary { items, ended });
+                let summary = summary_of(conn, &tally, items, rest.len());
+                let written = write_end(
+                    alloc, form, &explainer, &tally, conn, items, at, rest, output,
+                );
+                return summary_if(written, summary);
             }
             Err(_) => return Err(ExplainFault::NoMemory),
         }
@@ -201,7 +229,7 @@ pub fn explain<O: Output>(
     requires new { conn.old ≡ going conn.old.state [] }
     requires few { length octets.now < 2 ^ 63 }
     requires writer { O.has_failed output.old ≡ false }
-    ensures summary { IfOk result (λ summary. summary ≡ summary_over conn.old.state octets.now) }
+    ensures summary { IfOk result (λ summary. IsSummary conn.old.state octets.now summary) }
     ensures run { OnOk result (conn.new ≡ going (trace conn.old.state octets.now).state []) }
     ensures gains { O.has_failed output.new ≡ false → Gains (λ text. IsExplanation form (is_err result) conn.old.state octets.now text) (O.written output.old) (O.written output.new) }
     ensures flag { O.has_failed output.new ≡ not_written result }

@@ -1,8 +1,10 @@
-use Rattle.std.proofs.Common.{◌∙◌, ◌+◌, ℕ, List, Result, ap, arith, drop, refl, subst}
+use Rattle.std.proofs.Common.{◌∙◌, ◌+◌, ℕ, List, Result, ap, arith, drop, length, refl, subst, sym}
 use Rattle.std.proofs.lemmas.Result.{IfOk-weaker}
 use Rattle.h2_explain.specs.Explains.{Gains, IsItemText, IsWritten, not_written}
 use Rattle.h2_explain.specs.declared.run.ExplainFault.{ExplainFault}
-use Rattle.h2_explain.proofs.Steps.{Begins, begins-cut, begins-next, begins-written, count-next, final-next, gains-both, gains-cut, gains-nothing, item-within, run-end, summary-end}
+use Rattle.h2_explain.specs.Explains.{IsSummary}
+use Rattle.h2_explain.specs.declared.run.Summary.{Summary}
+use Rattle.h2_explain.proofs.Steps.{Begins, begins-cut, begins-next, begins-written, count-next, final-next, gains-both, gains-cut, gains-nothing, item-within, run-end, summary-is, tallies-next, tallies-nothing}
 use Rattle.h2_explain.proofs.run.explain_items.Goals as goal
 
 pub overflow_add-at : goal.overflow_add-at
@@ -21,6 +23,7 @@ loop-item-init g c = record {
   summary = omega (arith);
   run = refl;
   gains = gains-nothing c.args.form c.args.conn.now.state c.args.octets.now _;
+  tally = tallies-nothing c.args.conn.now.state c.args.octets.now _ c.new-tally.ensures;
 }
 
 pub returns-in-Err-write_item-clause-gains : goal.returns-in-Err-write_item-clause-gains
@@ -62,13 +65,16 @@ loop-item-preserved g c =
           (λ t u begins is. begins-next c.args.form c.args.conn.now.state c.loop-item.conn.state c.args.octets.now c.args.octets.now c.loop-item.at (c.loop-item.items + 1) c.loop-item.at c.take_explained.new.conn c.in-Ok-Some.item item t u begins is)
           _ _ _ c.loop-item.invariant.gains
           (subst (λ (r : Result (Unit {0}) ExplainFault). Gains (IsWritten (λ (t : List ℕ). IsItemText c.args.form c.in-Ok-Some.item t) r) (g.O.Output.written c.loop-item.output) (g.O.Output.written c.write_item.new.output)) c.in-Ok.is (c.write_item.ensures.gains well)));
+      tally = rw (item.number_is, item.offset_is) (tallies-next c.args.conn.now.state c.loop-item.conn.state c.args.octets.now c.args.octets.now c.loop-item.at (c.loop-item.items + 1) c.loop-item.at c.take_explained.new.conn c.in-Ok-Some.item _ _ item c.in-Ok.ensures.tally c.loop-item.invariant.tally);
     }
 
 pub returns-in-Ok-None-clause-summary : goal.returns-in-Ok-None-clause-summary
 returns-in-Ok-None-clause-summary g c =
     let none = rw (c.octets_from-rest.ensures, c.in-Ok-None.field-0-is) at c.in-Ok-None.ensures.ok in
     IfOk-weaker c.summary_if.result _ _
-    (λ t h. h ∙ summary-end c.args.conn.now.state c.loop-item.conn.state c.args.octets.now (drop c.loop-item.at c.args.octets.now) c.take_explained.new.conn c.loop-item.items _ none c.loop-item.invariant.run c.loop-item.invariant.summary c.ended-ended.ensures)
+    (λ t h. subst (λ (r : Summary). IsSummary c.args.conn.now.state c.args.octets.now r) (sym h)
+        (summary-is c.args.conn.now.state c.loop-item.conn.state c.args.octets.now (drop c.loop-item.at c.args.octets.now) c.take_explained.new.conn c.summary_of-summary.result c.loop-item.items _ _ _ _ none c.loop-item.invariant.run c.loop-item.invariant.summary
+        c.summary_of-summary.ensures.items c.summary_of-summary.ensures.ended (c.len.ensures ∙ ap length c.octets_from-rest.ensures) c.summary_of-summary.ensures.verdict c.loop-item.invariant.tally))
     c.summary_if.ensures.summary
 
 pub returns-in-Ok-None-clause-run : goal.returns-in-Ok-None-clause-run

@@ -1,0 +1,177 @@
+//! The end of an explanation: the octets that are left, the warnings of the end, what each live stream waits for, and what
+//! `--strict` says of the client.
+//! Rests on `rest`, `waits`, `verdict` and `warning`; definitions: `specs/Explains.antt`, the form: docs/EXPLAIN.md.
+
+ghost use Rattle.std.specs.Prelude.{◌≡◌, false, IfOk};
+ghost use Rattle.std.specs.String.{string_bytes};
+ghost use Rattle.h2_explain.specs.Explains.{EndsLine, EndsLineOrNone, IsRestOf, IsRestText};
+
+use crate::account::{Explainer, has_ended};
+use crate::json::line_of;
+use crate::json_words::JsonWords;
+use crate::paint::{Paint, Role};
+use crate::request_facts::RequestFacts;
+use crate::rest::{Rest, put_end, rest_line, say_place};
+use crate::run::Form;
+use crate::verdict::{Tally, verdict_at};
+use crate::verdict_words::{put_verdict, say_tally};
+use crate::waits::{put_wait, say_wait, wait_of};
+use crate::warning::{Warning, Warnings, is_unacknowledged};
+use crate::warning_words::put_warnings;
+use h2_conn::Conn;
+use h2_describe::say::Words;
+use h2_describe::say_all;
+use h2_device::{string_of, texts};
+use std::alloc::{AllocError, Global};
+
+/// What the end of an explanation is made from.
+#[derive(Clone, Copy)]
+pub(crate) struct End<'e, 'b> {
+    pub(crate) form: Form,
+    pub(crate) conn: &'e Conn<'b, Global>,
+    pub(crate) explainer: &'e Explainer,
+    pub(crate) tally: &'e Tally,
+    pub(crate) rest: Rest,
+}
+
+impl End<'_, '_> {
+    /// The warnings of the end.
+    fn warnings(&self) -> Warnings {
+        Warnings {
+            request: RequestFacts::none(),
+            after_goaway: false,
+            on_closed: false,
+            zero_increment: false,
+            unacknowledged: is_unacknowledged(&self.conn.counts()),
+        }
+    }
+
+    /// How many warnings there were in all.
+    fn warning_count(&self) -> u64 {
+        self.tally.warnings.saturating_add(self.warnings().count())
+    }
+
+    /// Begins a line, behind the one before.
+    fn begin(&self, out: &mut Words) {
+        let paint = Paint(self.form.color);
+        if out.len() > 0 {
+            paint.end(out);
+        }
+        say_place(self.rest.offset, paint, out);
+    }
+
+    /// Puts the two lines of the warning last, if there is one.
+    fn say_warnings(&self, out: &mut Words) {
+        let warning = Warning::SettingsNotAcknowledged;
+        if !self.warnings().has(warning) {
+            return;
+        }
+        let paint = Paint(self.form.color);
+        self.begin(out);
+        say_all!(out; "warning: ", warning.name(), ", ", warning.section());
+        paint.end(out);
+        paint.begin(Role::Item, out);
+        say_all!(out; warning.sentence());
+    }
+
+    /// Puts a line last for each live stream, unless the connection has ended.
+    fn say_waits(&self, out: &mut Words) {
+        let (counts, config) = (self.conn.counts(), self.conn.config());
+        if has_ended(counts.phase) {
+            return;
+        }
+        for stream in self.explainer.live.keys() {
+            self.begin(out);
+            let wait = wait_of(&self.conn.stream(*stream), &counts);
+            say_wait(&wait, &config, out);
+        }
+    }
+
+    /// Puts the line of the tally last.
+    fn say_verdict(&self, out: &mut Words) {
+        if self.form.strict {
+            self.begin(out);
+            let warnings = self.warning_count();
+            say_tally(self.rest.items, self.tally, warnings, out);
+        }
+    }
+
+    /// The lines behind that of the octets that are left, without the end of the last.
+    fn words(&self, alloc: Global) -> Result<String, AllocError> {
+        let mut words = Words::new(alloc);
+        self.say_warnings(&mut words);
+        self.say_waits(&mut words);
+        self.say_verdict(&mut words);
+        words.finish()
+    }
+
+    /// The lines behind that of the octets that are left.
+    fn lines(&self, alloc: Global) -> Result<String, AllocError>
+        ensures { IfOk result (λ text. EndsLineOrNone self.now.form.color (string_bytes text)) }
+    {
+        let words = self.words(alloc)?;
+        if words.is_empty() {
+            return Ok(String::new(alloc));
+        }
+        let paint = Paint(self.form.color);
+        string_of(alloc, &texts!(words.as_str(), paint.ended()))
+    }
+
+    /// The text, with the line of the octets that are left.
+    fn text(&self, alloc: Global) -> Result<String, AllocError>
+        ensures { IfOk result (λ text. IsRestOf false self.now.form.color self.now.rest.octets (string_bytes text)) }
+    {
+        let rest = rest_line(alloc, self.rest, Paint(self.form.color))?;
+        let lines = self.lines(alloc)?;
+        string_of(alloc, &texts!(rest.as_str(), lines.as_str()))
+    }
+
+    /// Puts what each live stream waits for, if there is one.
+    fn put_waits(&self, out: &mut JsonWords) {
+        let (counts, config) = (self.conn.counts(), self.conn.config());
+        if has_ended(counts.phase) || self.explainer.live.is_empty() {
+            return;
+        }
+        out.open_list("waits");
+        for stream in self.explainer.live.keys() {
+            let wait = wait_of(&self.conn.stream(*stream), &counts);
+            put_wait(&wait, &config, out);
+        }
+        out.close_list();
+    }
+
+    /// Puts what is said of the client.
+    fn put_verdict(&self, out: &mut JsonWords) {
+        if self.form.strict {
+            let verdict = verdict_at(self.tally, self.conn, self.rest.octets);
+            put_verdict(self.tally, verdict, self.warning_count(), out);
+        }
+    }
+
+    /// The last line of JSON.
+    fn json(&self, alloc: Global) -> Result<String, AllocError>
+        ensures { IfOk result (λ text. EndsLine false (string_bytes text)) }
+    {
+        let mut out = JsonWords::new(alloc);
+        out.open_element();
+        out.open("end");
+        put_end(self.rest, &mut out);
+        self.put_verdict(&mut out);
+        self.put_waits(&mut out);
+        put_warnings(self.warnings(), &mut out);
+        out.close();
+        out.close();
+        line_of(out)
+    }
+
+    /// The end in the form that is asked for.
+    pub(crate) fn said(&self, alloc: Global) -> Result<String, AllocError>
+        ensures { IfOk result (λ text. IsRestText self.now.form self.now.rest.octets (string_bytes text)) }
+    {
+        if self.form.json {
+            self.json(alloc)
+        } else {
+            self.text(alloc)
+        }
+    }
+}

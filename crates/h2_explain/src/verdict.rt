@@ -1,0 +1,135 @@
+//! What a run says of a client: the errors and the warnings of its items are counted, and the exit status of `--strict`
+//! comes of them.
+//! Rests on `warning`; definitions: `specs/Verdicts.antt`.
+
+ghost use Rattle.std.specs.Prelude.{◌≡◌, [], ◌||◌, nat_lt, IfOk, OnOk};
+ghost use Rattle.h2_explain.specs.Verdicts.{is_limit, no_tally, strict_status, tally_with, verdict_at, breaks_rule};
+
+use crate::account::has_ended;
+use crate::item::Explained;
+use crate::special::CaseFacts;
+use crate::warning::{Warnings, duty_of_error, duty_of_reason, is_breach, is_unacknowledged};
+use h2_conn::Conn;
+use h2_spec::causes::Cause;
+use h2_spec::rules::ClientDuty;
+use std::alloc::{AllocError, Global};
+use std::marker::Model;
+
+/// What is counted of the items of a run.
+#[derive(Drop)]
+pub struct Tally {
+    /// The causes of the errors, in their order.
+    pub errors: Vec<Cause>,
+    /// How many warnings there were; stays at 2^64 - 1 once there.
+    pub warnings: u64,
+    /// Whether the client broke a rule.
+    pub broken: bool,
+    /// Whether the client was above a limit of this server.
+    pub limited: bool,
+}
+
+impl Model for Tally {
+    ghost use Rattle.h2_explain.specs.Verdicts.{Tallied};
+
+    ghost Value = { Tallied };
+
+    ghost view = { λ t. record { errors = t.errors.items; warnings = t.warnings; broken = t.broken; limited = t.limited } };
+}
+
+/// Whether it is a limit of this server that the client was above.
+fn is_limit(duty: ClientDuty) -> bool
+    ensures { result ≡ is_limit duty }
+{
+    match duty {
+        ClientDuty::Limit => true,
+        ClientDuty::MustNot | ClientDuty::Must | ClientDuty::Nothing => false,
+    }
+}
+
+/// Whether the client broke a rule with an item: by its error, by why it is ignored, or by a warning.
+fn breaks_rule(item: &Explained<'_>, facts: CaseFacts, warnings: Warnings) -> bool
+    ensures { result ≡ breaks_rule item.now facts warnings }
+{
+    is_breach(duty_of_error(item, facts))
+        || is_breach(duty_of_reason(item, facts))
+        || warnings.count() > 0
+}
+
+impl Tally {
+    /// Nothing was counted. Takes no memory.
+    pub(crate) fn new(alloc: Global) -> Tally
+        ensures { result ≡ no_tally }
+    {
+        Tally {
+            errors: Vec::new(alloc),
+            warnings: 0,
+            broken: false,
+            limited: false,
+        }
+    }
+
+    /// Counts an item with its warnings; `facts` decide the special case of its rule.
+    ///
+    /// `AllocError` where memory is refused.
+    pub(crate) fn note(
+        &mut self,
+        item: &Explained<'_>,
+        facts: CaseFacts,
+        warnings: Warnings,
+    ) -> Result<(), AllocError>
+        ensures { OnOk result (self.new ≡ tally_with self.old item.now facts warnings) }
+    {
+        if let Some(cause) = item.taken.cause {
+            self.errors.push(cause)?;
+        }
+        self.warnings = self.warnings.saturating_add(warnings.count());
+        self.broken = self.broken || breaks_rule(item, facts, warnings);
+        self.limited = self.limited || is_limit(duty_of_error(item, facts));
+        Ok(())
+    }
+}
+
+/// What is said of a client at the end of its octets.
+#[derive(Clone, Copy)]
+pub struct Verdict {
+    /// Whether it broke a rule: with an error or an ignored frame whose rule it broke, or with a warning.
+    pub broken: bool,
+    /// Whether it was above a limit of this server.
+    pub limited: bool,
+    /// Whether its octets end within an item.
+    pub unfinished: bool,
+}
+
+impl Verdict {
+    /// The exit status of `--strict`; `ended` is whether a connection error ended the connection (RFC 9113, 5.4.1).
+    ///
+    /// 5: the client broke a rule. 6: it was above a limit of this server. 7: octets of a frame are left. 4: a connection
+    /// error ended the connection, and it broke no rule. 0: else. The first of these decides.
+    pub fn status(self, ended: bool) -> u8
+        ensures { result ≡ strict_status self ended }
+    {
+        if self.broken {
+            5
+        } else if self.limited {
+            6
+        } else if self.unfinished {
+            7
+        } else if ended {
+            4
+        } else {
+            0
+        }
+    }
+}
+
+/// What is said of a client whose items were counted, where so many octets are left after the last.
+pub(crate) fn verdict_at(tally: &Tally, conn: &Conn<'_, Global>, left: usize) -> Verdict
+    ensures { result ≡ verdict_at tally.now conn.now.state left }
+{
+    let counts = conn.counts();
+    Verdict {
+        broken: tally.broken || is_unacknowledged(&counts),
+        limited: tally.limited,
+        unfinished: left > 0 && !has_ended(counts.phase),
+    }
+}

@@ -1,0 +1,213 @@
+//! Why a connection waits at the end of its input: what each live stream waits for, and whose turn it is.
+//! Rests on h2_describe's `say` and on `json_words`; definitions: `specs/Waits.antt`, the words are in docs/EXPLAIN.md.
+
+ghost use Rattle.std.specs.Prelude.{◌≡◌, ◌-◌};
+ghost use Rattle.std.specs.Option.{option_map};
+ghost use Rattle.h2_explain.specs.Waits.{answer_wait, is_sending, request_wait, wait_of};
+
+use crate::json_words::JsonWords;
+use h2_describe::say::{Octets, Words};
+use h2_describe::say_all;
+use h2_spec::connection::{Config, ConnectionState};
+use h2_spec::streams::{Kind, Numbers, Stream};
+
+/// What a client may still send on a stream.
+#[derive(Clone, Copy)]
+pub struct RequestWait {
+    /// The receive window of the stream, in octets (RFC 9113, 6.9).
+    pub window: i64,
+    /// The receive window of the connection.
+    pub connection_window: i64,
+    /// The octets received on the stream that the server has not yet given back by WINDOW_UPDATE.
+    pub owed: u32,
+    /// How many octets of content are missing, if the request has a content-length (RFC 9113, 8.1.1).
+    pub missing: Option<u64>,
+}
+
+/// What the server has still to send on a stream.
+#[derive(Clone, Copy)]
+pub struct AnswerWait {
+    /// The octets that are left of the answer's body.
+    pub remaining: u64,
+    /// The send window of the stream, in octets (RFC 9113, 6.9).
+    pub window: i64,
+    /// The send window of the connection.
+    pub connection_window: i64,
+}
+
+/// What a live stream waits for.
+#[derive(Clone, Copy)]
+pub struct Wait {
+    pub stream: u32,
+    /// What the client may still send, unless it has ended its side.
+    pub request: Option<RequestWait>,
+    /// What the server has still to send, if there is anything.
+    pub answer: Option<AnswerWait>,
+}
+
+/// Whether the client has still to end its side of a live stream (RFC 9113, 5.1).
+fn is_sending(kind: Kind) -> bool
+    ensures { result ≡ is_sending kind }
+{
+    match kind {
+        Kind::BothOpen | Kind::HalfLocal => true,
+        Kind::Idle
+        | Kind::Skipped
+        | Kind::HalfRemote
+        | Kind::Ended
+        | Kind::PeerReset
+        | Kind::WeReset => false,
+    }
+}
+
+/// How much of a declared content is missing.
+fn missing_of(declared: Option<u64>, received: u64) -> Option<u64>
+    ensures { result ≡ option_map (λ n. n - received) declared }
+{
+    match declared {
+        Some(declared) => Some(declared.saturating_sub(received)),
+        None => None,
+    }
+}
+
+/// What the client may still send, where it is still sending.
+fn request_wait(sending: bool, numbers: &Numbers, counts: &ConnectionState) -> Option<RequestWait>
+    ensures { result ≡ request_wait sending numbers.now counts.now }
+{
+    if !sending {
+        return None;
+    }
+    Some(RequestWait {
+        window: i64::from(numbers.recv.value()),
+        connection_window: i64::from(counts.recv.value()),
+        owed: numbers.owed.owed(),
+        missing: missing_of(numbers.declared, numbers.content_received),
+    })
+}
+
+/// What the server has still to send.
+fn answer_wait(numbers: &Numbers, counts: &ConnectionState) -> Option<AnswerWait>
+    ensures { result ≡ answer_wait numbers.now.body_remaining numbers.now counts.now }
+{
+    match numbers.body_remaining {
+        Some(remaining) => Some(AnswerWait {
+            remaining,
+            window: i64::from(numbers.send.value()),
+            connection_window: i64::from(counts.send.value()),
+        }),
+        None => None,
+    }
+}
+
+/// What a live stream waits for.
+pub(crate) fn wait_of(stream: &Stream, counts: &ConnectionState) -> Wait
+    ensures { result ≡ wait_of stream.now counts.now }
+{
+    let numbers = &stream.numbers;
+    Wait {
+        stream: stream.id,
+        request: request_wait(is_sending(stream.kind), numbers, counts),
+        answer: answer_wait(numbers, counts),
+    }
+}
+
+/// Puts last when the octets that a stream is owed come back, if there are any.
+fn say_owed(request: &RequestWait, config: &Config, out: &mut Words) {
+    if request.owed == 0 {
+        return;
+    }
+    let verb = if request.owed == 1 { " is" } else { " are" };
+    say_all!(out; "; ", Octets(u64::from(request.owed)), verb, " to be returned, at ", config.credit);
+    if request.window <= 0 && config.window < config.credit {
+        say_all!(out; ": never, since --window is below --credit");
+    }
+}
+
+/// Puts last what the client may still send.
+fn say_request(request: &RequestWait, config: &Config, out: &mut Words) {
+    let window = request.window.min(request.connection_window);
+    if window > 0 {
+        say_all!(out; "the client has not ended it, and may send ", window, " more");
+    } else {
+        say_all!(out; "the client may send no more: its window is ", window);
+    }
+    say_owed(request, config, out);
+    if let Some(missing) = request.missing {
+        let verb = if missing == 1 { " is" } else { " are" };
+        say_all!(out; "; ", Octets(missing), " of its content", verb, " missing");
+    }
+}
+
+/// Puts last which WINDOW_UPDATE an answer waits for.
+fn say_awaited(stream: u32, answer: &AnswerWait, out: &mut Words) {
+    match (answer.window <= 0, answer.connection_window <= 0) {
+        (true, true) => say_all!(out;
+            "the windows of the stream and of the connection are spent: ", answer.window, " and ",
+            answer.connection_window, "; WINDOW_UPDATE on stream ", stream, " and on stream 0 has to come"),
+        (true, false) => say_all!(out;
+            "the window of the stream is spent: ", answer.window,
+            "; WINDOW_UPDATE on stream ", stream, " has to come"),
+        (false, _) => say_all!(out;
+            "the window of the connection is spent: ", answer.connection_window,
+            "; WINDOW_UPDATE on stream 0 has to come"),
+    }
+}
+
+/// Puts last what the server has still to send.
+fn say_answer(stream: u32, answer: &AnswerWait, out: &mut Words) {
+    let verb = if answer.remaining == 1 { " waits" } else { " wait" };
+    say_all!(out; Octets(answer.remaining), " of the answer", verb, ": ");
+    say_awaited(stream, answer, out);
+}
+
+/// Puts last what a stream waits for.
+pub(crate) fn say_wait(wait: &Wait, config: &Config, out: &mut Words) {
+    say_all!(out; "stream ", wait.stream, ": ");
+    match (wait.request, wait.answer) {
+        (Some(request), None) => say_request(&request, config, out),
+        (None, Some(answer)) => say_answer(wait.stream, &answer, out),
+        (Some(request), Some(answer)) => {
+            say_request(&request, config, out);
+            say_all!(out; "; ");
+            say_answer(wait.stream, &answer, out);
+        }
+        (None, None) => say_all!(out; "nothing waits"),
+    }
+}
+
+/// Puts what the client may still send, null where it has ended its side.
+fn put_request(request: Option<RequestWait>, config: &Config, out: &mut JsonWords) {
+    let Some(request) = request else {
+        out.null("request");
+        return;
+    };
+    out.open("request");
+    out.signed("connection_window", request.connection_window);
+    out.number_if_any("missing", request.missing);
+    out.number("owed", u64::from(request.owed));
+    out.number("returned_at", u64::from(config.credit));
+    out.signed("window", request.window);
+    out.close();
+}
+
+/// Puts what the server has still to send, null where there is nothing.
+fn put_answer(answer: Option<AnswerWait>, out: &mut JsonWords) {
+    let Some(answer) = answer else {
+        out.null("answer");
+        return;
+    };
+    out.open("answer");
+    out.signed("connection_window", answer.connection_window);
+    out.number("remaining", answer.remaining);
+    out.signed("window", answer.window);
+    out.close();
+}
+
+/// Puts what a stream waits for, as an element.
+pub(crate) fn put_wait(wait: &Wait, config: &Config, out: &mut JsonWords) {
+    out.open_element();
+    put_answer(wait.answer, out);
+    put_request(wait.request, config, out);
+    out.number("stream", u64::from(wait.stream));
+    out.close();
+}
