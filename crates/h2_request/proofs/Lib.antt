@@ -1,5 +1,6 @@
 pub mod BlockLaws
 pub mod BookLaws
+mod FirstLaws
 mod LeastReasons
 mod LentLaws
 pub mod MarkedFields

@@ -2,6 +2,7 @@ pub mod Asked
 pub mod BlockLength
 pub mod Fault
 pub mod Fields
+pub mod Firsts
 pub mod Lent
 pub mod Marked
 pub mod ReasonNumber

@@ -16,6 +16,7 @@ ghost use Rattle.h2_spec.specs.declared.streams.Pick.TheVariants.{Listed};
 
 use crate::block_length::is_block_too_long;
 use crate::fault::{BookFault, EntryFault};
+use crate::firsts::Firsts;
 use crate::well_formed::Request;
 use h2_fields::field::Field;
 use h2_fields::octets::Octets;
@@ -102,18 +103,33 @@ impl<A: Allocator> Model for Stored<A> {
 #[derive(Drop)]
 pub struct Book<A: Allocator> {
     entries: Vec<Stored<A>, A>,
+    /// The place of the first entry with each method and path: a later one is never found.
+    firsts: Firsts<A>,
 }
 
 impl<A: Allocator> Model for Book<A> {
     ghost use Rattle.std.specs.Prelude.{List};
     ghost use Rattle.h2_spec.specs.Answer as spec;
+    ghost use Rattle.h2_request.specs.Firsts.{AreFirsts};
 
     ghost Value = { List spec.Entry };
 
     ghost view = { λ b. b.entries.items };
+
+    ghost invariant = { λ b. AreFirsts b.firsts b.entries.items };
 }
 
 impl<A: Allocator + Copy> Book<A> {
+    /// A book without entries; no memory is taken.
+    pub fn new(alloc: A) -> Self
+        ensures { result ≡ [] }
+    {
+        Book {
+            entries: Vec::new(alloc),
+            firsts: Firsts::new(alloc),
+        }
+    }
+
     /// Puts an entry behind those of the book.
     ///
     /// # Errors
@@ -131,7 +147,11 @@ impl<A: Allocator + Copy> Book<A> {
     {
         let headers = self.headers_for(&entry)?;
         let body_frame = frame_of_body(*self.entries.allocator(), entry.body.as_slice())?;
-        self.entries.push(with_frames(entry, headers, body_frame))?;
+        self.entries.reserve(1)?;
+        self.firsts
+            .note(&entry.method, &entry.path, self.entries.len())?;
+        let stored = with_frames(entry, headers, body_frame);
+        self.entries.push_reserved(stored);
         Ok(())
     }
 
@@ -168,15 +188,6 @@ impl<A: Allocator + Copy> Book<A> {
 }
 
 impl<A: Allocator> Book<A> {
-    /// A book without entries; no memory is taken.
-    pub fn new(alloc: A) -> Self
-        ensures { result ≡ [] }
-    {
-        Book {
-            entries: Vec::new(alloc),
-        }
-    }
-
     /// How many entries there are, at most 1000.
     pub fn len(&self) -> usize
         ensures { result ≡ length self.now }
@@ -189,6 +200,7 @@ impl<A: Allocator> Book<A> {
     pub fn truncate(&mut self, count: usize)
         ensures { self.new ≡ take count self.old }
     {
+        self.firsts.truncate(count);
         self.entries.truncate(count);
     }
 
@@ -237,9 +249,7 @@ impl<A: Allocator> Book<A> {
     fn place_of(&self, method: &[u8], path: &[u8]) -> Option<usize>
         ensures { result ≡ position (λ e. bytes_eq e.method method.now && bytes_eq e.path path.now) self.now }
     {
-        self.entries
-            .iter()
-            .position(|entry| is_entry_for(entry, method, path))
+        self.firsts.place_of(method, path)
     }
 
     /// The answer to a request that made this pick: that of the entry, or a bare 404 or 501; a bare 404 too where there
@@ -357,12 +367,6 @@ fn with_frames<A: Allocator>(
         headers,
         body_frame,
     }
-}
-
-fn is_entry_for<A: Allocator>(stored: &Stored<A>, method: &[u8], path: &[u8]) -> bool
-    ensures { result ≡ (bytes_eq stored.now.method method.now && bytes_eq stored.now.path path.now) }
-{
-    octets::same(stored.method.as_slice(), method) && octets::same(stored.path.as_slice(), path)
 }
 
 fn answer_of<A: Allocator>(stored: &Stored<A>) -> Answer<'_, A>

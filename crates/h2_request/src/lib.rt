@@ -8,6 +8,7 @@ mod block_length;
 pub mod book;
 pub mod fault;
 pub mod fields;
+mod firsts;
 pub mod reason;
 mod walk;
 pub mod well_formed;

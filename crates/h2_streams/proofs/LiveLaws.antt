@@ -1,102 +1,172 @@
--- What holds of the places of the live streams, and what is found or changed by way of them.
-use Rattle.std.proofs.Common.{◌≡◌, ℕ, suc, ◌+◌, ◌<◌, ◌≤◌, ◌%◌, Bool, true, false, ◌&&◌, ◌||◌, not, nat_lt, map, cond, eqb, List, [], ◌∷◌, ◌++◌, length, find, Some, None, IfSome, Option, refl, ap, ◌∙◌, sym, arith, true≢false}
+-- What holds of the map of the live streams, and what is found or changed by way of it.
+use Rattle.std.proofs.Common.{◌≡◌, ℕ, zero, suc, ◌+◌, ◌*◌, ◌<◌, ◌≤◌, ◌%◌, Bool, true, false, ◌&&◌, ◌||◌, not, nat_eq, nat_lt, map, filter, cond, eqb, List, [], ◌∷◌, ◌++◌, length, find, Some, None, IfSome, Option, refl, ap, ◌∙◌, sym, arith, true≢false}
 use Rattle.std.proofs.lemmas.Bool.Decides.{nat_tests}
 use Rattle.std.proofs.lemmas.List.{length-map, map-append}
 use Rattle.std.proofs.lemmas.List.Recursion.{is_count_by}
 use Rattle.std.specs.Prelude.{slice_get}
 use Rattle.std.specs.List.{AllByRecursion, list_any}
-use Rattle.std.specs.Option.{option_map}
+use Rattle.std.specs.Map.{keys_of, lookup, values_of}
+use Rattle.std.specs.Option.{option_map, option_map_or}
 use Rattle.h2_spec.specs.declared.streams.Stream.{Stream}
 use Rattle.h2_spec.specs.Stream.{is_live, octets_waiting, waits_above, record_of, put, id_of, live_count, AreRising}
 use Rattle.h2_streams.specs.Put.{can_become, is_closed}
-use Rattle.h2_streams.specs.Kept.{ids_of, places_of, place_of, lives, is_ready, passes_at, id_if, ids_at, IdsRise, without, listed, IsKept}
+use Rattle.h2_streams.specs.Kept.{are_dropped, ended_left, entries_left, entries_of, ids_of, is_entered, next_entry, places_of, lives, is_ready, passes_at, id_if, ids_at, IdsRise, listed, IsKept}
 use Rattle.h2_streams.specs.Shift.{update, update_each}
-use Rattle.h2_streams.proofs.IdsLaws.{rise-weaken, found-over, ids_of-append, ids_of-put, ready-lives}
+use Rattle.h2_streams.proofs.IdsLaws.{found-over, ids_of-append, ids_of-put, ready-lives}
 use Rattle.h2_streams.proofs.PlaceLaws.{rising-push, rising-put}
 
--- ---- the list of places
+-- ---- identifiers and places
 
-rise-map : (low : ℕ) (ps : List ℕ) → IdsRise low ps → IdsRise (suc low) (map suc ps)
-rise-map low [] h = tt
-rise-map low (p ∷ ps) h = (let l = h.0 in omega (arith, l), rise-map (suc p) ps h.1)
+values-next : (es : List (ℕ × ℕ)) → values_of (map next_entry es) ≡ map suc (values_of es)
+values-next [] = refl
+values-next (e ∷ es) = ap (λ ps. suc e.1 ∷ ps) (values-next es)
 
-pub rise-places : (test : Stream → Bool) (rs : List Stream) → IdsRise 0 (places_of test rs)
-rise-places test [] = tt
-rise-places test (x ∷ xs) = by (test x) (rise-map 0 (places_of test xs) (rise-places test xs)) where
-  by : (b : Bool) → IdsRise 1 (map suc (places_of test xs)) → IdsRise 0 (cond b (0 ∷ map suc (places_of test xs)) (map suc (places_of test xs)))
-  by true r = (omega arith, r)
-  by false r = rise-weaken 0 1 (map suc (places_of test xs)) (omega arith) r
+keys-next : (es : List (ℕ × ℕ)) → keys_of (map next_entry es) ≡ keys_of es
+keys-next [] = refl
+keys-next (e ∷ es) = ap (λ ids. e.0 ∷ ids) (keys-next es)
 
-pub length-lives : (rs : List Stream) → length (places_of lives rs) ≡ live_count rs
+pub entered-places : (test : Stream → Bool) (rs : List Stream) → values_of (entries_of test rs) ≡ places_of test rs
+entered-places test [] = refl
+entered-places test (x ∷ xs) = by (test x) where
+  rest : values_of (map next_entry (entries_of test xs)) ≡ map suc (places_of test xs)
+  rest = values-next (entries_of test xs) ∙ ap (map suc) (entered-places test xs)
+
+  by : (b : Bool) → values_of (cond b ((x.id, 0) ∷ map next_entry (entries_of test xs)) (map next_entry (entries_of test xs))) ≡ cond b (0 ∷ map suc (places_of test xs)) (map suc (places_of test xs))
+  by true = ap (λ ps. 0 ∷ ps) rest
+  by false = rest
+
+pub entered-ids : (test : Stream → Bool) (rs : List Stream) → keys_of (entries_of test rs) ≡ ids_of test rs
+entered-ids test [] = refl
+entered-ids test (x ∷ xs) = by (test x) where
+  rest : keys_of (map next_entry (entries_of test xs)) ≡ ids_of test xs
+  rest = keys-next (entries_of test xs) ∙ entered-ids test xs
+
+  by : (b : Bool) → keys_of (cond b ((x.id, 0) ∷ map next_entry (entries_of test xs)) (map next_entry (entries_of test xs))) ≡ cond b (x.id ∷ ids_of test xs) (ids_of test xs)
+  by true = ap (λ ids. x.id ∷ ids) rest
+  by false = rest
+
+-- one more record
+pub entries-append : (test : Stream → Bool) (rs : List Stream) (st : Stream) → entries_of test (rs ++ st ∷ []) ≡ entries_of test rs ++ cond (test st) ((st.id, length rs) ∷ []) []
+entries-append test [] st = by (test st) where
+  by : (b : Bool) → cond {A = List (ℕ × ℕ)} b ((st.id, 0) ∷ []) [] ≡ [] ++ cond b ((st.id, 0) ∷ []) []
+  by true = refl
+  by false = refl
+entries-append test (x ∷ xs) st = by (test x) where
+  last : (b : Bool) → map next_entry (cond b ((st.id, length xs) ∷ []) []) ≡ cond b ((st.id, suc (length xs)) ∷ []) []
+  last true = refl
+  last false = refl
+
+  rest : map next_entry (entries_of test (xs ++ st ∷ [])) ≡ map next_entry (entries_of test xs) ++ cond (test st) ((st.id, suc (length xs)) ∷ []) []
+  rest = ap (map next_entry) (entries-append test xs st) ∙ map-append next_entry (entries_of test xs) (cond (test st) ((st.id, length xs) ∷ []) []) ∙ ap (λ ys. map next_entry (entries_of test xs) ++ ys) (last (test st))
+
+  by : (b : Bool) → cond b ((x.id, 0) ∷ map next_entry (entries_of test (xs ++ st ∷ []))) (map next_entry (entries_of test (xs ++ st ∷ [])))
+      ≡ cond b ((x.id, 0) ∷ map next_entry (entries_of test xs)) (map next_entry (entries_of test xs)) ++ cond (test st) ((st.id, suc (length xs)) ∷ []) []
+  by true = ap (λ ys. (x.id, 0) ∷ ys) rest
+  by false = rest
+
+-- two tests that answer alike above an identifier
+entries-alike : (s t : Stream → Bool) (low last : ℕ) (rs : List Stream) → AreRising low last rs → ((st : Stream) → low < st.id → s st ≡ t st) → entries_of s rs ≡ entries_of t rs
+entries-alike s t low last [] h a = refl
+entries-alike s t low last (x ∷ xs) h a =
+    let over = h.0 in
+    let rest = entries-alike s t x.id last xs h.3 (λ st l. a st (omega (arith, over, l))) in
+    ap (λ b. cond b ((x.id, 0) ∷ map next_entry (entries_of s xs)) (map next_entry (entries_of s xs))) (a x over) ∙ ap (λ es. cond (t x) ((x.id, 0) ∷ map next_entry es) (map next_entry es)) rest
+
+-- a record that is written: where the tests answer alike for the others, and for the old and the new one, the entries
+-- stay
+entries-put : (s t : Stream → Bool) (low last : ℕ) (rs : List Stream) (st old : Stream) → AreRising low last rs → record_of rs st.id ≡ Some old → s old ≡ t st → ((x : Stream) → eqb x.id st.id ≡ false → s x ≡ t x)
+    → entries_of t (put st rs) ≡ entries_of s rs
+entries-put s t low last [] st old h f same others = cc
+entries-put s t low last (x ∷ xs) st old h f same others = at (eqb x.id st.id) refl (entries-put s t x.id last xs st old h.3) where
+  at : (b : Bool) → eqb x.id st.id ≡ b → (record_of xs st.id ≡ Some old → s old ≡ t st → ((y : Stream) → eqb y.id st.id ≡ false → s y ≡ t y) → entries_of t (put st xs) ≡ entries_of s xs)
+      → entries_of t (cond b (st ∷ xs) (x ∷ put st xs)) ≡ cond (s x) ((x.id, 0) ∷ map next_entry (entries_of s xs)) (map next_entry (entries_of s xs))
+  at true e rest =
+      let g : Some x ≡ Some old = rw e at f in
+      let one : x ≡ old = cc in
+      let id : x.id ≡ st.id = Rattle.h2_streams.proofs.IdsLaws.eqb-same x.id st.id e in
+      let alike : s x ≡ t st = ap s one ∙ same in
+      let tail = entries-alike s t x.id last xs h.3 (λ y l. others y (grind (arith, nat_tests, l, id))) in
+      sym (ap (λ b. cond b ((x.id, 0) ∷ map next_entry (entries_of s xs)) (map next_entry (entries_of s xs))) alike
+      ∙ ap (λ es. cond (t st) ((x.id, 0) ∷ map next_entry es) (map next_entry es)) tail
+      ∙ ap (λ n. cond (t st) ((n, 0) ∷ map next_entry (entries_of t xs)) (map next_entry (entries_of t xs))) id)
+  at false e rest =
+      let g : record_of xs st.id ≡ Some old = rw e at f in
+      ap (λ es. cond (t x) ((x.id, 0) ∷ map next_entry es) (map next_entry es)) (rest g same others)
+      ∙ ap (λ b. cond b ((x.id, 0) ∷ map next_entry (entries_of s xs)) (map next_entry (entries_of s xs))) (sym (others x e))
+
+-- those of the entries whose records pass another test
+filter-behind : (test : Stream → Bool) (x : Stream) (rs : List Stream) (es : List (ℕ × ℕ)) → filter (λ e. passes_at test (x ∷ rs) e.1) (map next_entry es) ≡ map next_entry (filter (λ e. passes_at test rs e.1) es)
+filter-behind test x rs [] = refl
+filter-behind test x rs (e ∷ es) = by (passes_at test rs e.1) where
+  by : (b : Bool) → cond b (next_entry e ∷ filter (λ d. passes_at test (x ∷ rs) d.1) (map next_entry es)) (filter (λ d. passes_at test (x ∷ rs) d.1) (map next_entry es))
+      ≡ map next_entry (cond b (e ∷ filter (λ d. passes_at test rs d.1) es) (filter (λ d. passes_at test rs d.1) es))
+  by true = ap (λ ds. next_entry e ∷ ds) (filter-behind test x rs es)
+  by false = filter-behind test x rs es
+
+filter-entries : (s t : Stream → Bool) → ((st : Stream) → s st ≡ false → t st ≡ false) → (rs : List Stream) → filter (λ e. passes_at t rs e.1) (entries_of s rs) ≡ entries_of t rs
+filter-entries s t less [] = refl
+filter-entries s t less (x ∷ xs) = by (s x) refl (t x) refl where
+  rest : filter (λ e. passes_at t (x ∷ xs) e.1) (map next_entry (entries_of s xs)) ≡ map next_entry (entries_of t xs)
+  rest = filter-behind t x xs (entries_of s xs) ∙ ap (map next_entry) (filter-entries s t less xs)
+
+  by : (a : Bool) → s x ≡ a → (b : Bool) → t x ≡ b → filter (λ e. passes_at t (x ∷ xs) e.1) (cond a ((x.id, 0) ∷ map next_entry (entries_of s xs)) (map next_entry (entries_of s xs)))
+      ≡ cond b ((x.id, 0) ∷ map next_entry (entries_of t xs)) (map next_entry (entries_of t xs))
+  by true e true f = rw f (ap (λ ds. (x.id, 0) ∷ ds) rest)
+  by true e false f = rw f rest
+  by false e true f = absurd (true≢false (sym f ∙ less x e))
+  by false e false f = rest
+
+-- ---- how many are live
+
+length-entered : (test : Stream → Bool) (rs : List Stream) → length (entries_of test rs) ≡ length (places_of test rs)
+length-entered test rs = sym (length-map (entries_of test rs) (λ (e : ℕ × ℕ). e.1)) ∙ ap length (entered-places test rs)
+
+length-lives : (rs : List Stream) → length (places_of lives rs) ≡ live_count rs
 length-lives rs = is_count_by (λ (xs : List Stream). length (places_of lives xs)) (λ (st : Stream). is_live st.kind) refl (λ x xs. by (is_live x.kind) (places_of lives xs)) rs where
   by : (b : Bool) (ps : List ℕ) → length (cond b (0 ∷ map suc ps) (map suc ps)) ≡ cond b (1 + length ps) (length ps)
   by true ps = let same = length-map ps suc in omega (arith, same)
   by false ps = length-map ps suc
 
--- one more record
-pub places-append : (test : Stream → Bool) (rs : List Stream) (st : Stream) → places_of test (rs ++ st ∷ []) ≡ places_of test rs ++ cond (test st) (length rs ∷ []) []
-places-append test [] st = by (test st) where
-  by : (b : Bool) → cond {A = List ℕ} b (0 ∷ []) [] ≡ [] ++ cond b (0 ∷ []) []
-  by true = refl
-  by false = refl
-places-append test (x ∷ xs) st = by (test x) (ap (map suc) (places-append test xs st) ∙ map-append suc (places_of test xs) (cond (test st) (length xs ∷ []) []) ∙ ap (λ ys. map suc (places_of test xs) ++ ys) (last (test st))) where
-  last : (b : Bool) → map suc (cond b (length xs ∷ []) []) ≡ cond b (suc (length xs) ∷ []) []
-  last true = refl
-  last false = refl
+abbrev pub as_count : Bool → ℕ
+as_count b = cond b 1 0
 
-  by : (b : Bool) → map suc (places_of test (xs ++ st ∷ [])) ≡ map suc (places_of test xs) ++ cond (test st) (suc (length xs) ∷ []) []
-      → cond b (0 ∷ map suc (places_of test (xs ++ st ∷ []))) (map suc (places_of test (xs ++ st ∷ []))) ≡ cond b (0 ∷ map suc (places_of test xs)) (map suc (places_of test xs)) ++ cond (test st) (suc (length xs) ∷ []) []
-  by true rest = ap (λ ys. 0 ∷ ys) rest
-  by false rest = rest
+pub count-cons : (x : Stream) (xs : List Stream) → live_count (x ∷ xs) ≡ as_count (lives x) + live_count xs
+count-cons x xs = sym (length-lives (x ∷ xs)) ∙ by (lives x) where
+  by : (b : Bool) → length (cond b (0 ∷ map suc (places_of lives xs)) (map suc (places_of lives xs))) ≡ as_count b + live_count xs
+  by true = let same = length-map (places_of lives xs) suc in let n = length-lives xs in omega (arith, same, n)
+  by false = length-map (places_of lives xs) suc ∙ length-lives xs
 
-without-first : (ps : List ℕ) → without 0 (map suc ps) ≡ map suc ps
-without-first [] = refl
-without-first (p ∷ ps) = let apart : eqb (suc p) 0 ≡ false = grind (arith, nat_tests) in rw apart (ap (λ ys. suc p ∷ ys) (without-first ps))
+count-append : (rs : List Stream) (st : Stream) → live_count (rs ++ st ∷ []) ≡ live_count rs + as_count (lives st)
+count-append [] st = let one = count-cons st [] in omega (arith, one)
+count-append (x ∷ xs) st = let longer = count-cons x (xs ++ st ∷ []) in let shorter = count-cons x xs in let rest = count-append xs st in omega (arith, longer, shorter, rest)
 
-without-behind : (k : ℕ) (ps : List ℕ) → without (suc k) (map suc ps) ≡ map suc (without k ps)
-without-behind k [] = refl
-without-behind k (p ∷ ps) = by (eqb p k) refl (without-behind k ps) where
-  by : (b : Bool) → eqb p k ≡ b → without (suc k) (map suc ps) ≡ map suc (without k ps) → without (suc k) (suc p ∷ map suc ps) ≡ map suc (cond (eqb p k) ps (p ∷ without k ps))
-  by true e rest = let same : eqb (suc p) (suc k) ≡ true = grind (arith, nat_tests, e) in rw (e, same) refl
-  by false e rest = let apart : eqb (suc p) (suc k) ≡ false = grind (arith, nat_tests, e) in rw (e, apart) (ap (λ ys. suc p ∷ ys) rest)
-
--- where the test answers as before, the places stay
-places-same : (test : Stream → Bool) (rs : List Stream) (st old : Stream) → record_of rs st.id ≡ Some old → test old ≡ test st → places_of test (put st rs) ≡ places_of test rs
-places-same test [] st old f a = cc
-places-same test (x ∷ xs) st old f a = by (eqb x.id st.id) refl (places-same test xs st old) where
-  by : (t : Bool) → eqb x.id st.id ≡ t → (record_of xs st.id ≡ Some old → test old ≡ test st → places_of test (put st xs) ≡ places_of test xs)
-      → places_of test (cond (eqb x.id st.id) (st ∷ xs) (x ∷ put st xs)) ≡ places_of test (x ∷ xs)
-  by true e rest =
+count-put : (rs : List Stream) (st old : Stream) → record_of rs st.id ≡ Some old → live_count (put st rs) + as_count (lives old) ≡ live_count rs + as_count (lives st)
+count-put [] st old f = cc
+count-put (x ∷ xs) st old f = at (eqb x.id st.id) refl (count-put xs st old) where
+  at : (b : Bool) → eqb x.id st.id ≡ b → (record_of xs st.id ≡ Some old → live_count (put st xs) + as_count (lives old) ≡ live_count xs + as_count (lives st))
+      → live_count (cond b (st ∷ xs) (x ∷ put st xs)) + as_count (lives old) ≡ live_count (x ∷ xs) + as_count (lives st)
+  at true e rest =
       let g : Some x ≡ Some old = rw e at f in
-      let same : x ≡ old = cc in
-      let alike : test x ≡ test st = ap test same ∙ a in
-      rw (e, alike) refl
-  by false e rest = let g : record_of xs st.id ≡ Some old = rw e at f in rw e (ap (λ ys. cond (test x) (0 ∷ map suc ys) (map suc ys)) (rest g a))
-
--- where the new record does not pass the test, its place alone goes
-places-put : (test : Stream → Bool) (low last : ℕ) (rs : List Stream) (st old : Stream) → AreRising low last rs → record_of rs st.id ≡ Some old → test st ≡ false
-    → places_of test (put st rs) ≡ without (place_of st.id rs) (places_of test rs)
-places-put test low last [] st old h f out = cc
-places-put test low last (x ∷ xs) st old h f out = at (eqb x.id st.id) refl (places-put test x.id last xs st old h.3) where
-  ps : List ℕ
-  ps = places_of test xs
-
-  first : (t : Bool) → map suc ps ≡ without 0 (cond t (0 ∷ map suc ps) (map suc ps))
-  first true = refl
-  first false = sym (without-first ps)
-
-  behind : (t : Bool) (k : ℕ) → places_of test (put st xs) ≡ without k ps → cond t (0 ∷ map suc (places_of test (put st xs))) (map suc (places_of test (put st xs))) ≡ without (suc k) (cond t (0 ∷ map suc ps) (map suc ps))
-  behind true k rest = let apart : eqb 0 (suc k) ≡ false = grind (arith, nat_tests) in rw apart (ap (λ ys. 0 ∷ map suc ys) rest ∙ ap (λ ys. 0 ∷ ys) (sym (without-behind k ps)))
-  behind false k rest = ap (map suc) rest ∙ sym (without-behind k ps)
-
-  at : (t : Bool) → eqb x.id st.id ≡ t → (record_of xs st.id ≡ Some old → test st ≡ false → places_of test (put st xs) ≡ without (place_of st.id xs) ps)
-      → places_of test (cond (eqb x.id st.id) (st ∷ xs) (x ∷ put st xs)) ≡ without (cond (nat_lt x.id st.id) (suc (place_of st.id xs)) 0) (cond (test x) (0 ∷ map suc ps) (map suc ps))
-  at true e rest = let here : nat_lt x.id st.id ≡ false = grind (arith, nat_tests, e) in rw (e, here, out) (first (test x))
+      let one : x ≡ old = cc in
+      let same = ap (λ (y : Stream). as_count (lives y)) one in
+      let now = count-cons st xs in
+      let was = count-cons x xs in
+      omega (arith, same, now, was)
   at false e rest =
       let g : record_of xs st.id ≡ Some old = rw e at f in
-      let l = found-over x.id last st.id xs old h.3 g in
-      let under : nat_lt x.id st.id ≡ true = grind (arith, nat_tests, l) in
-      rw (e, under) (behind (test x) (place_of st.id xs) (rest g out))
+      let now = count-cons x (put st xs) in
+      let was = count-cons x xs in
+      let tail = rest g in
+      omega (arith, now, was, tail)
+
+-- ---- what is in the map
+
+-- a stream that is not in the map is not live
+pub unentered : (left : ℕ → Bool) (st : Stream) → is_entered left st ≡ false → is_live st.kind ≡ false
+unentered left st = by (is_live st.kind) where
+  by : (b : Bool) → (b || left st.id) ≡ false → b ≡ false
+  by true h = absurd (true≢false h)
+  by false h = refl
 
 -- of a live or closed stream: a live one was live
 was-live : (a b t : Bool) → (a || (b && not t)) ≡ true → t ≡ true → a ≡ true
@@ -105,13 +175,34 @@ was-live false true true h e = absurd (true≢false (sym h))
 was-live false true false h e = absurd (true≢false (sym e))
 was-live false false t h e = absurd (true≢false (sym h))
 
-live-put : (last : ℕ) (rs : List Stream) (st old : Stream) → AreRising 0 last rs → record_of rs st.id ≡ Some old → can_become old.kind st.kind ≡ true
-    → places_of lives (put st rs) ≡ cond (is_live st.kind) (places_of lives rs) (without (place_of st.id rs) (places_of lives rs))
-live-put last rs st old h f can = by (is_live st.kind) refl
-  where
-    by : (t : Bool) → is_live st.kind ≡ t → places_of lives (put st rs) ≡ cond t (places_of lives rs) (without (place_of st.id rs) (places_of lives rs))
-    by true e = places-same lives rs st old f (was-live (is_live old.kind) (is_closed old.kind) (is_live st.kind) can e ∙ sym e)
-    by false e = places-put lives 0 last rs st old h f e
+-- the identifiers of streams that ended, once this stream has this record
+abbrev left_after : (ℕ → Bool) → ℕ → Bool → ℕ → Bool
+left_after left id was other = cond (eqb other id) was (left other)
+
+entered-put : (left : ℕ → Bool) (last : ℕ) (rs : List Stream) (st old : Stream) → AreRising 0 last rs → record_of rs st.id ≡ Some old → can_become old.kind st.kind ≡ true → old.id ≡ st.id
+    → entries_of (is_entered (left_after left st.id (is_entered left old))) (put st rs) ≡ entries_of (is_entered left) rs
+entered-put left last rs st old h f can same =
+    entries-put (is_entered left) (is_entered (left_after left st.id (is_entered left old))) 0 last rs st old h f here (λ x e. ap (λ b. is_live x.kind || b) (rw e refl)) where
+  stays : (a t l : Bool) → (t ≡ true → a ≡ true) → (a || l) ≡ (t || (a || l))
+  stays a true l g = rw (g refl) refl
+  stays a false l g = refl
+
+  here : is_entered left old ≡ is_entered (left_after left st.id (is_entered left old)) st
+  here =
+      let own : eqb st.id st.id ≡ true = Rattle.h2_streams.proofs.IdsLaws.eqb-refl st.id st.id refl in
+      rw own (stays (is_live old.kind) (is_live st.kind) (left old.id) (was-live (is_live old.kind) (is_closed old.kind) (is_live st.kind) can))
+
+-- what is below all identifiers in the map is not found in it
+absent-over : (id : ℕ) (es : List (ℕ × ℕ)) → AllByRecursion (λ (k : ℕ). k < id) (keys_of es) → lookup (nat_eq id) es ≡ None
+absent-over id [] h = refl
+absent-over id (e ∷ es) h = let l = h.0 in let apart : nat_eq id e.0 ≡ false = grind (arith, nat_tests, l) in rw apart (absent-over id es h.1)
+
+ids-below : (test : Stream → Bool) (low last id : ℕ) (rs : List Stream) → AreRising low last rs → last < id → AllByRecursion (λ (k : ℕ). k < id) (ids_of test rs)
+ids-below test low last id [] h l = tt
+ids-below test low last id (x ∷ xs) h l = by (test x) (ids-below test x.id last id xs h.3 l) where
+  by : (b : Bool) → AllByRecursion (λ (k : ℕ). k < id) (ids_of test xs) → AllByRecursion (λ (k : ℕ). k < id) (cond b (x.id ∷ ids_of test xs) (ids_of test xs))
+  by true rest = (let le = h.2 in omega (arith, le, l), rest)
+  by false rest = rest
 
 -- ---- what is found at the places
 
@@ -119,12 +210,12 @@ any-behind : (test : Stream → Bool) (x : Stream) (rs : List Stream) (ps : List
 any-behind test x rs [] = refl
 any-behind test x rs (p ∷ ps) = ap (λ b. passes_at test rs p || b) (any-behind test x rs ps)
 
--- a test that no stream passes but a live one is asked of the live ones
-pub any-live : (test : Stream → Bool) → ((st : Stream) → is_live st.kind ≡ false → test st ≡ false) → (rs : List Stream) → list_any (passes_at test rs) (places_of lives rs) ≡ list_any test rs
-any-live test idle [] = refl
-any-live test idle (x ∷ xs) = by (is_live x.kind) refl (any-behind test x xs (places_of lives xs) ∙ any-live test idle xs) where
-  by : (b : Bool) → is_live x.kind ≡ b → list_any (passes_at test (x ∷ xs)) (map suc (places_of lives xs)) ≡ list_any test xs
-      → list_any (passes_at test (x ∷ xs)) (cond (is_live x.kind) (0 ∷ map suc (places_of lives xs)) (map suc (places_of lives xs))) ≡ list_any test (x ∷ xs)
+-- a test that no stream passes but one of these is asked of these
+pub any-live : (among test : Stream → Bool) → ((st : Stream) → among st ≡ false → test st ≡ false) → (rs : List Stream) → list_any (passes_at test rs) (places_of among rs) ≡ list_any test rs
+any-live among test idle [] = refl
+any-live among test idle (x ∷ xs) = by (among x) refl (any-behind test x xs (places_of among xs) ∙ any-live among test idle xs) where
+  by : (b : Bool) → among x ≡ b → list_any (passes_at test (x ∷ xs)) (map suc (places_of among xs)) ≡ list_any test xs
+      → list_any (passes_at test (x ∷ xs)) (cond (among x) (0 ∷ map suc (places_of among xs)) (map suc (places_of among xs))) ≡ list_any test (x ∷ xs)
   by true live rest = rw live (ap (λ b. test x || b) rest)
   by false live rest = rw (live, idle x live) rest
 
@@ -132,16 +223,16 @@ ids-behind : (test : Stream → Bool) (x : Stream) (rs : List Stream) (ps : List
 ids-behind test x rs [] = refl
 ids-behind test x rs (p ∷ ps) = ap (λ ids. id_if test (slice_get rs p) ++ ids) (ids-behind test x rs ps)
 
--- those of the live ones that pass such a test are all that pass it
-pub ids-live : (test : Stream → Bool) → ((st : Stream) → is_live st.kind ≡ false → test st ≡ false) → (rs : List Stream) → ids_at test rs (places_of lives rs) ≡ ids_of test rs
-ids-live test idle [] = refl
-ids-live test idle (x ∷ xs) = by (is_live x.kind) refl (ids-behind test x xs (places_of lives xs) ∙ ids-live test idle xs) where
+-- those of these that pass such a test are all that pass it
+pub ids-live : (among test : Stream → Bool) → ((st : Stream) → among st ≡ false → test st ≡ false) → (rs : List Stream) → ids_at test rs (places_of among rs) ≡ ids_of test rs
+ids-live among test idle [] = refl
+ids-live among test idle (x ∷ xs) = by (among x) refl (ids-behind test x xs (places_of among xs) ∙ ids-live among test idle xs) where
   first : (t : Bool) (ids : List ℕ) → cond t (x.id ∷ []) [] ++ ids ≡ cond t (x.id ∷ ids) ids
   first true ids = refl
   first false ids = refl
 
-  by : (b : Bool) → is_live x.kind ≡ b → ids_at test (x ∷ xs) (map suc (places_of lives xs)) ≡ ids_of test xs
-      → ids_at test (x ∷ xs) (cond (is_live x.kind) (0 ∷ map suc (places_of lives xs)) (map suc (places_of lives xs))) ≡ ids_of test (x ∷ xs)
+  by : (b : Bool) → among x ≡ b → ids_at test (x ∷ xs) (map suc (places_of among xs)) ≡ ids_of test xs
+      → ids_at test (x ∷ xs) (cond (among x) (0 ∷ map suc (places_of among xs)) (map suc (places_of among xs))) ≡ ids_of test (x ∷ xs)
   by true live rest = rw live (ap (λ ids. cond (test x) (x.id ∷ []) [] ++ ids) rest ∙ first (test x) (ids_of test xs))
   by false live rest = rw (live, idle x live) rest
 
@@ -182,62 +273,209 @@ each-behind : (f : Stream → Stream) (x : Stream) (ps : List ℕ) (rs : List St
 each-behind f x [] rs = refl
 each-behind f x (p ∷ ps) rs = each-behind f x ps (update f p rs)
 
--- what is done to the live streams, one after another, is done to all, where it leaves the others
-pub each-live : (f : Stream → Stream) → ((st : Stream) → is_live st.kind ≡ false → f st ≡ st) → (rs : List Stream) → update_each f (places_of lives rs) rs ≡ map f rs
-each-live f idle [] = refl
-each-live f idle (x ∷ xs) = by (is_live x.kind) refl (each-live f idle xs) where
-  by : (b : Bool) → is_live x.kind ≡ b → update_each f (places_of lives xs) xs ≡ map f xs
-      → update_each f (cond (is_live x.kind) (0 ∷ map suc (places_of lives xs)) (map suc (places_of lives xs))) (x ∷ xs) ≡ map f (x ∷ xs)
-  by true live rest = rw live (each-behind f (f x) (places_of lives xs) xs ∙ ap (λ ys. f x ∷ ys) rest)
-  by false live rest = rw (live, idle x live) (each-behind f x (places_of lives xs) xs ∙ ap (λ ys. x ∷ ys) rest)
+-- what is done to these streams, one after another, is done to all, where it leaves the others
+pub each-live : (among : Stream → Bool) (f : Stream → Stream) → ((st : Stream) → among st ≡ false → f st ≡ st) → (rs : List Stream) → update_each f (places_of among rs) rs ≡ map f rs
+each-live among f idle [] = refl
+each-live among f idle (x ∷ xs) = by (among x) refl (each-live among f idle xs) where
+  by : (b : Bool) → among x ≡ b → update_each f (places_of among xs) xs ≡ map f xs
+      → update_each f (cond (among x) (0 ∷ map suc (places_of among xs)) (map suc (places_of among xs))) (x ∷ xs) ≡ map f (x ∷ xs)
+  by true live rest = rw live (each-behind f (f x) (places_of among xs) xs ∙ ap (λ ys. f x ∷ ys) rest)
+  by false live rest = rw (live, idle x live) (each-behind f x (places_of among xs) xs ∙ ap (λ ys. x ∷ ys) rest)
 
 -- ---- what is kept
 
-pub kept-added : (rs : List Stream) (live ready : List ℕ) (last : ℕ) (st : Stream) → IsKept rs live ready last → last < st.id → st.id % 2 ≡ 1 →
-    IsKept (rs ++ st ∷ []) (live ++ cond (is_live st.kind) (length rs ∷ []) []) (ready ++ cond (is_ready st) (st.id ∷ []) []) st.id
-kept-added rs live ready last st kept above odd = record {
-  rising = rising-push 0 last rs st kept.rising (omega arith) above odd;
-  live_listed = ap (λ (ps : List ℕ). ps ++ cond (is_live st.kind) (length rs ∷ []) []) kept.live_listed ∙ sym (places-append lives rs st);
-  ready_listed = ap (λ (ids : List ℕ). ids ++ cond (is_ready st) (st.id ∷ []) []) kept.ready_listed ∙ sym (ids_of-append is_ready rs (st ∷ []));
-}
+module _ (rs : List Stream) (es : List (ℕ × ℕ)) (ended : ℕ) (ready : List ℕ) (last : ℕ) (kept : IsKept rs es ended ready last) where
+  -- the places are those of the streams in the map
+  pub kept-places : values_of es ≡ places_of (is_entered kept.left) rs
+  kept-places = ap values_of kept.entered ∙ entered-places (is_entered kept.left) rs
 
-pub kept-put : (rs : List Stream) (live ready : List ℕ) (last : ℕ) (st old : Stream) → IsKept rs live ready last → record_of rs st.id ≡ Some old → can_become old.kind st.kind ≡ true →
-    IsKept (put st rs) (cond (is_live st.kind) live (without (place_of st.id rs) live)) (listed (is_ready st) st.id ready) last
-kept-put rs live ready last st old kept found can = record {
-  rising = rising-put 0 last rs st old kept.rising found;
-  live_listed = ap (λ (ps : List ℕ). cond (is_live st.kind) ps (without (place_of st.id rs) ps)) kept.live_listed ∙ sym (live-put last rs st old kept.rising found can);
-  ready_listed = ap (listed (is_ready st) st.id) kept.ready_listed ∙ sym (ids_of-put is_ready 0 last rs st old kept.rising found);
-}
+  -- a stream above all others is not in the map
+  pub kept-absent : (id : ℕ) → last < id → lookup (nat_eq id) es ≡ None
+  kept-absent id over =
+      let keys : keys_of es ≡ ids_of (is_entered kept.left) rs = ap keys_of kept.entered ∙ entered-ids (is_entered kept.left) rs in
+      absent-over id es (Rattle.std.proofs.Common.subst (AllByRecursion (λ (k : ℕ). k < id)) (sym keys) (ids-below (is_entered kept.left) 0 last id rs kept.rising over))
 
-ready-fewer : (rs : List Stream) → length (ids_of is_ready rs) ≤ length (places_of lives rs)
-ready-fewer [] = omega arith
-ready-fewer (x ∷ xs) = by (is_ready x) (lives x) (ready-lives x) (ready-fewer xs)
+  -- no more streams have ended than are in the map
+  pub kept-ended : ended ≤ length es
+  kept-ended = let n = kept.counted in omega (arith, n)
+
+ready-fewer : (left : ℕ → Bool) (rs : List Stream) → length (ids_of is_ready rs) ≤ length (places_of (is_entered left) rs)
+ready-fewer left [] = omega arith
+ready-fewer left (x ∷ xs) = by (is_ready x) (is_entered left x) (λ e. rw (ready-lives x e) refl) (ready-fewer left xs)
   where
-    by : (s t : Bool) → (s ≡ true → t ≡ true) → length (ids_of is_ready xs) ≤ length (places_of lives xs)
-        → length (cond s (x.id ∷ ids_of is_ready xs) (ids_of is_ready xs)) ≤ length (cond t (0 ∷ map suc (places_of lives xs)) (map suc (places_of lives xs)))
-    by true true f h = let same = length-map (places_of lives xs) suc in omega (arith, h, same)
+    by : (s t : Bool) → (s ≡ true → t ≡ true) → length (ids_of is_ready xs) ≤ length (places_of (is_entered left) xs)
+        → length (cond s (x.id ∷ ids_of is_ready xs) (ids_of is_ready xs)) ≤ length (cond t (0 ∷ map suc (places_of (is_entered left) xs)) (map suc (places_of (is_entered left) xs)))
+    by true true f h = let same = length-map (places_of (is_entered left) xs) suc in omega (arith, h, same)
     by true false f h = absurd (true≢false (sym (f refl)))
-    by false true f h = let same = length-map (places_of lives xs) suc in omega (arith, h, same)
-    by false false f h = let same = length-map (places_of lives xs) suc in omega (arith, h, same)
+    by false true f h = let same = length-map (places_of (is_entered left) xs) suc in omega (arith, h, same)
+    by false false f h = let same = length-map (places_of (is_entered left) xs) suc in omega (arith, h, same)
 
--- no more streams can send than are live
-pub kept-fewer : (rs : List Stream) (live ready : List ℕ) (last : ℕ) → IsKept rs live ready last → length ready ≤ length live
-kept-fewer rs live ready last kept = rw (kept.live_listed, kept.ready_listed) (ready-fewer rs)
-
-without-fewer : (x : ℕ) (xs : List ℕ) → length (without x xs) ≤ length xs
-without-fewer x [] = omega arith
-without-fewer x (y ∷ ys) = by (eqb y x) (without-fewer x ys)
-  where
-    by : (t : Bool) → length (without x ys) ≤ length ys → length (cond t ys (y ∷ without x ys)) ≤ length (y ∷ ys)
-    by true h = omega arith
-    by false h = omega (arith, h)
-
-pub live-fewer : (live : List ℕ) (place : ℕ) (t : Bool) → length (cond t live (without place live)) ≤ length live
-live-fewer live place true = omega arith
-live-fewer live place false = without-fewer place live
+-- no more streams can send than are in the map
+pub kept-fewer : (rs : List Stream) (es : List (ℕ × ℕ)) (ended : ℕ) (ready : List ℕ) (last : ℕ) → IsKept rs es ended ready last → length ready ≤ length es
+kept-fewer rs es ended ready last kept =
+    let fewer = ready-fewer kept.left rs in
+    let entries = ap length kept.entered ∙ length-entered (is_entered kept.left) rs in
+    let able = ap length kept.ready_listed in
+    omega (arith, fewer, entries, able)
 
 -- one more at most
-pub one-more : (xs : List ℕ) (t : Bool) (x : ℕ) → length (xs ++ cond t (x ∷ []) []) ≤ suc (length xs)
-one-more [] true x = omega arith
-one-more [] false x = omega arith
+pub one-more : (xs : List (ℕ × ℕ)) (t : Bool) (x : ℕ × ℕ) → length (xs ++ cond t (x ∷ []) []) ≡ length xs + as_count t
+one-more [] true x = refl
+one-more [] false x = refl
 one-more (y ∷ ys) t x = let h = one-more ys t x in omega (arith, h)
+
+pub count-small : (t : Bool) → as_count t ≤ 1
+count-small true = omega arith
+count-small false = omega arith
+
+pub kept-added : (rs : List Stream) (es : List (ℕ × ℕ)) (ended : ℕ) (ready : List ℕ) (last : ℕ) (st : Stream) → IsKept rs es ended ready last → last < st.id → st.id % 2 ≡ 1 →
+    IsKept (rs ++ st ∷ []) (es ++ cond (is_live st.kind) ((st.id, length rs) ∷ []) []) ended (ready ++ cond (is_ready st) (st.id ∷ []) []) st.id
+kept-added rs es ended ready last st kept above odd = record {
+  rising = rising-push 0 last rs st kept.rising (omega arith) above odd;
+  left = below;
+  entered = ap (λ (xs : List (ℕ × ℕ)). xs ++ cond (is_live st.kind) ((st.id, length rs) ∷ []) []) (kept.entered ∙ entries-same-below) ∙ ap (λ b. entries_of (is_entered below) rs ++ cond b ((st.id, length rs) ∷ []) []) own ∙ sym (entries-append (is_entered below) rs st);
+  counted = let longer = one-more es (is_live st.kind) (st.id, length rs) in let count = count-append rs st in let n = kept.counted in omega (arith, longer, count, n);
+  few = let count = count-append rs st in let n = kept.few in omega (arith, count, n);
+  ready_listed = ap (λ (ids : List ℕ). ids ++ cond (is_ready st) (st.id ∷ []) []) kept.ready_listed ∙ sym (ids_of-append is_ready rs (st ∷ []));
+} where
+  -- no stream above the others has ended
+  below : ℕ → Bool
+  below id = cond (nat_lt last id) false (kept.left id)
+
+  own : is_live st.kind ≡ is_entered below st
+  own = let over : nat_lt last st.id ≡ true = grind (arith, nat_tests, above) in rw over (by (is_live st.kind)) where
+    by : (b : Bool) → b ≡ (b || false)
+    by true = refl
+    by false = refl
+
+  same-below : (low : ℕ) (xs : List Stream) → AreRising low last xs → entries_of (is_entered kept.left) xs ≡ entries_of (is_entered below) xs
+  same-below low [] h = refl
+  same-below low (x ∷ xs) h =
+      let le = h.2 in
+      let under : nat_lt last x.id ≡ false = grind (arith, nat_tests, le) in
+      let alike : is_entered kept.left x ≡ is_entered below x = rw under refl in
+      ap (λ b. cond b ((x.id, 0) ∷ map next_entry (entries_of (is_entered kept.left) xs)) (map next_entry (entries_of (is_entered kept.left) xs))) alike
+      ∙ ap (λ ds. cond (is_entered below x) ((x.id, 0) ∷ map next_entry ds) (map next_entry ds)) (same-below x.id xs h.3)
+
+  entries-same-below : entries_of (is_entered kept.left) rs ≡ entries_of (is_entered below) rs
+  entries-same-below = same-below 0 rs kept.rising
+
+-- a record is written, and its stream is not live for the first time
+module _ (rs : List Stream) (es : List (ℕ × ℕ)) (ended : ℕ) (ready : List ℕ) (last : ℕ) (st old : Stream) (kept : IsKept rs es ended ready last) (found : record_of rs st.id ≡ Some old) (same : old.id ≡ st.id)
+    (can : can_become old.kind st.kind ≡ true) where
+  after : ℕ → Bool
+  after = left_after kept.left st.id (is_entered kept.left old)
+
+  entered-after : es ≡ entries_of (is_entered after) (put st rs)
+  entered-after = kept.entered ∙ sym (entered-put kept.left last rs st old kept.rising found can same)
+
+  rising-after : AreRising 0 last (put st rs)
+  rising-after = rising-put 0 last rs st old kept.rising found
+
+  ready-after : listed (is_ready st) st.id ready ≡ ids_of is_ready (put st rs)
+  ready-after = ap (listed (is_ready st) st.id) kept.ready_listed ∙ sym (ids_of-put is_ready 0 last rs st old kept.rising found)
+
+  -- it was live and is, or was not
+  pub kept-put : (is_live old.kind && not (is_live st.kind)) ≡ false → IsKept (put st rs) es ended (listed (is_ready st) st.id ready) last
+  kept-put stays = record {
+    rising = rising-after;
+    left = after;
+    entered = entered-after;
+    counted = let count = count-put rs st old found in let n = kept.counted in omega (arith, count, n, alike (is_live old.kind) (is_live st.kind) (was-live (is_live old.kind) (is_closed old.kind) (is_live st.kind) can) stays);
+    few = let count = count-put rs st old found in let n = kept.few in omega (arith, count, n, alike (is_live old.kind) (is_live st.kind) (was-live (is_live old.kind) (is_closed old.kind) (is_live st.kind) can) stays);
+    ready_listed = ready-after;
+  } where
+    alike : (a t : Bool) → (t ≡ true → a ≡ true) → (a && not t) ≡ false → as_count a ≡ as_count t
+    alike true true g h = refl
+    alike true false g h = absurd (true≢false h)
+    alike false true g h = absurd (true≢false (sym (g refl)))
+    alike false false g h = refl
+
+  -- it was in the map
+  pub kept-there : is_live old.kind ≡ true → ended < length es
+  kept-there was =
+      let count = count-put rs st old found in
+      let one : as_count (is_live old.kind) ≡ 1 = rw was refl in
+      let n = kept.counted in
+      let small = count-small (is_live st.kind) in
+      omega (arith, count, one, n, live-there rs old found was) where
+    live-there : (xs : List Stream) (x : Stream) → record_of xs st.id ≡ Some x → is_live x.kind ≡ true → 1 ≤ live_count xs
+    live-there [] x f w = cc
+    live-there (y ∷ ys) x f w = at (eqb y.id st.id) refl f (live-there ys x) where
+      at : (b : Bool) → eqb y.id st.id ≡ b → cond b (Some y) (record_of ys st.id) ≡ Some x → (record_of ys st.id ≡ Some x → is_live x.kind ≡ true → 1 ≤ live_count ys) → 1 ≤ live_count (y ∷ ys)
+      at true e g rest =
+          let same : y ≡ x = cc in
+          let here : as_count (is_live y.kind) ≡ 1 = ap (λ (z : Stream). as_count (is_live z.kind)) same ∙ rw w refl in
+          let count = count-cons y ys in
+          omega (arith, here, count)
+      at false e g rest = let tail = rest g w in let count = count-cons y ys in omega (arith, tail, count)
+
+  -- it was live and is not
+  pub kept-ends : is_live old.kind ≡ true → is_live st.kind ≡ false → IsKept (put st rs) (entries_left (ended + 1) (put st rs) es) (ended_left (ended + 1) es) (listed (is_ready st) st.id ready) last
+  kept-ends was now = by (are_dropped (ended + 1) es) refl where
+    count : live_count (put st rs) + 1 ≡ live_count rs
+    count =
+        let was-one : as_count (is_live old.kind) ≡ 1 = rw was refl in
+        let now-none : as_count (is_live st.kind) ≡ 0 = rw now refl in
+        let change = count-put rs st old found in
+        omega (arith, was-one, now-none, change)
+
+    swept : filter (λ e. passes_at lives (put st rs) e.1) es ≡ entries_of lives (put st rs)
+    swept = ap (filter (λ e. passes_at lives (put st rs) e.1)) entered-after ∙ filter-entries (is_entered after) lives (unentered after) (put st rs)
+
+    none : ℕ → Bool
+    none id = false
+
+    or-none : (b : Bool) → b ≡ (b || false)
+    or-none true = refl
+    or-none false = refl
+
+    by : (b : Bool) → are_dropped (ended + 1) es ≡ b
+        → IsKept (put st rs) (cond b (filter (λ e. passes_at lives (put st rs) e.1) es) es) (cond b 0 (ended + 1)) (listed (is_ready st) st.id ready) last
+    by true e = record {
+      rising = rising-after;
+      left = none;
+      entered = swept ∙ entries-alike lives (is_entered none) 0 last (put st rs) rising-after (λ x l. or-none (is_live x.kind));
+      counted = let all = ap length swept ∙ length-entered lives (put st rs) ∙ length-lives (put st rs) in omega (arith, all);
+      few = omega arith;
+      ready_listed = ready-after;
+    }
+    by false e = record {
+      rising = rising-after;
+      left = after;
+      entered = entered-after;
+      counted = let n = kept.counted in omega (arith, n, count);
+      few = let n = kept.counted in let less : 2 * (ended + 1) ≤ length es + 32 = Rattle.std.proofs.Common.ltb-false (length es + 32) (2 * (ended + 1)) e in omega (arith, n, count, less);
+      ready_listed = ready-after;
+    }
+
+  -- the entries become no more
+  pub left-fewer : length (entries_left (ended + 1) (put st rs) es) ≤ length es
+  left-fewer = by (are_dropped (ended + 1) es) where
+    fewer : (test : ℕ × ℕ → Bool) (xs : List (ℕ × ℕ)) → length (filter test xs) ≤ length xs
+    fewer test [] = omega arith
+    fewer test (x ∷ xs) = cases (test x) (fewer test xs) where
+      cases : (b : Bool) → length (filter test xs) ≤ length xs → length (cond b (x ∷ filter test xs) (filter test xs)) ≤ suc (length xs)
+      cases true h = omega (arith, h)
+      cases false h = omega (arith, h)
+
+    by : (b : Bool) → length (cond b (filter (λ e. passes_at lives (put st rs) e.1) es) es) ≤ length es
+    by true = fewer (λ e. passes_at lives (put st rs) e.1) es
+    by false = omega arith
+
+-- a map of the live streams alone
+pub kept-anew : (last : ℕ) (rs : List Stream) (es : List (ℕ × ℕ)) → AreRising 0 last rs → es ≡ entries_of lives rs → IsKept rs es 0 (ids_of is_ready rs) last
+kept-anew last rs es rising live = record {
+  rising = rising;
+  left = none;
+  entered = live ∙ entries-alike lives (is_entered none) 0 last rs rising (λ x l. or-none (is_live x.kind));
+  counted = let all = ap length live ∙ length-entered lives rs ∙ length-lives rs in omega (arith, all);
+  few = omega arith;
+  ready_listed = refl;
+} where
+  none : ℕ → Bool
+  none id = false
+
+  or-none : (b : Bool) → b ≡ (b || false)
+  or-none true = refl
+  or-none false = refl

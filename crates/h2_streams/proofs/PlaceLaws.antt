@@ -4,13 +4,13 @@ use Rattle.std.proofs.lemmas.Bool.Decides.{nat_tests}
 use Rattle.std.specs.Prelude.{slice_get, slice_set, slice_index_or}
 use Rattle.std.specs.List.{AllWithin}
 use Rattle.std.specs.List.Sorted.{IsNonDecreasingBy}
-use Rattle.std.specs.Option.{is_some}
+use Rattle.std.specs.Option.{is_some, option_map_or}
 use Rattle.h2_spec.specs.declared.streams.Stream.{Stream}
 use Rattle.h2_spec.specs.declared.streams.Kind.{Kind}
 use Rattle.h2_spec.specs.declared.streams.Kind.TheVariants.{Idle}
 use Rattle.h2_spec.specs.Stream.{record_of, put, AreRising, stream_at, kind_of, recorded, is_live, not_live, Records, added, with_record}
 use Rattle.h2_streams.specs.Put.{can_become}
-use Rattle.h2_streams.specs.Kept.{Rise, place_of}
+use Rattle.h2_streams.specs.Kept.{Rise, passes_at, place_of}
 
 eqb-same : (a b : ℕ) → eqb a b ≡ true → a ≡ b
 eqb-same a b h = grind (arith, nat_tests, h)
@@ -155,3 +155,28 @@ live-id last rs id h = by_test (eqb (id % 2) 0) (nat_lt last id) (record_of rs i
   by_test false true o f = refl
   by_test false false None f = refl
   by_test false false (Some st) f = f st refl
+
+-- a record with this identifier is at the place
+pub place-found : (id low : ℕ) (rs : List Stream) (p : ℕ) → Rise low rs → passes_at (λ st. eqb st.id id) rs p ≡ true → (low < id) × (p ≡ place_of id rs)
+place-found id low [] p h k = absurd (true≢false (sym k))
+place-found id low (x ∷ xs) zero h k =
+    let same = eqb-same x.id id k in
+    let here : nat_lt x.id id ≡ false = grind (arith, nat_tests, same) in
+    let l = h.0 in
+    (omega (arith, l, same), rw here refl)
+place-found id low (x ∷ xs) (suc p) h k =
+    let rest = place-found id x.id xs p h.1 k in
+    let over = rest.0 in
+    let under : nat_lt x.id id ≡ true = grind (arith, nat_tests, over) in
+    let l = h.0 in
+    (omega (arith, l, over), rw under (ap suc rest.1))
+
+-- what a test says of the record with an identifier is what it says at its place
+pub test-there : (test : Stream → Bool) (id low : ℕ) (rs : List Stream) → Rise low rs → is_some (record_of rs id) ≡ true → passes_at test rs (place_of id rs) ≡ option_map_or test (record_of rs id) false
+test-there test id low rs h known = by (slice_get rs (place_of id rs)) (record-at id low rs h) where
+  by : (o : Option Stream) → checked id o ≡ record_of rs id → option_map_or test o false ≡ option_map_or test (record_of rs id) false
+  by None e = absurd (true≢false (sym (ap is_some e ∙ known)))
+  by (Some x) e = at (eqb x.id id) e where
+    at : (b : Bool) → cond b (Some x) None ≡ record_of rs id → test x ≡ option_map_or test (record_of rs id) false
+    at true g = ap (λ o. option_map_or test o false) g
+    at false g = absurd (true≢false (sym (ap is_some g ∙ known)))

@@ -1,14 +1,15 @@
 -- Records made again from those of a later list.
-use Rattle.std.proofs.Common.{◌≡◌, ℕ, zero, suc, ◌+◌, ◌<◌, ◌≤◌, ◌%◌, Bool, true, false, ◌||◌, cond, eqb, nat_lt, map, take, drop, List, [], ◌∷◌, ◌++◌, length, Some, None, Option, refl, ap, ◌∙◌, sym, subst, arith, true≢false}
+use Rattle.std.proofs.Common.{◌≡◌, ℕ, zero, suc, ◌+◌, ◌<◌, ◌≤◌, ◌%◌, Bool, true, false, ◌||◌, cond, eqb, nat_eq, nat_lt, map, take, drop, List, [], ◌∷◌, ◌++◌, length, Some, None, Option, refl, ap, ◌∙◌, sym, subst, arith, true≢false}
 use Rattle.std.proofs.lemmas.Bool.{eqb-true}
 use Rattle.std.proofs.lemmas.Bool.Decides.{nat_tests}
 use Rattle.std.specs.Prelude.{slice_get, unwrap_or}
 use Rattle.std.specs.List.{AllByRecursion, filter, insert}
+use Rattle.std.specs.Map.{keys_of, lookup}
 use Rattle.std.specs.Option.{is_some}
 use Rattle.h2_spec.specs.declared.streams.Stream.{Stream}
 use Rattle.h2_spec.specs.Stream.{AreRising, id_of, is_live, put, record_of}
-use Rattle.h2_streams.specs.Kept.{Rise, lives, place_of, places_of}
-use Rattle.h2_streams.specs.Rebuilt.{AreKnown, AreOthersClosed, as_in, if_any, is_live_or, live_places, rebuilt, records_at}
+use Rattle.h2_streams.specs.Kept.{Rise, entries_of, lives, next_entry, place_of, places_of}
+use Rattle.h2_streams.specs.Rebuilt.{AreKnown, AreOthersClosed, as_in, if_live, is_live_or, live_at, live_entries, rebuilt}
 use Rattle.h2_streams.proofs.PlaceLaws.{found-id, none-below}
 
 eqb-other : (a b : ℕ) → a < b → eqb a b ≡ false
@@ -77,9 +78,9 @@ place-put st id (x ∷ xs) known = at (eqb x.id st.id) refl (place-put st id xs)
     at true e more k = ap (λ i. cond (nat_lt i id) (suc (place_of id xs)) 0) (sym (eqb-true x.id st.id e))
     at false e more k = ap (λ n. cond (nat_lt x.id id) (suc n) 0) (more k)
 
-places-put : (st : Stream) (rs cs : List Stream) → is_some (record_of rs st.id) ≡ true → live_places cs (put st rs) ≡ live_places cs rs
-places-put st rs [] known = refl
-places-put st rs (c ∷ cs) known = rw (place-put st c.id rs known, places-put st rs cs known) refl
+entries-put : (st : Stream) (rs cs : List Stream) → is_some (record_of rs st.id) ≡ true → live_entries cs (put st rs) ≡ live_entries cs rs
+entries-put st rs [] known = refl
+entries-put st rs (c ∷ cs) known = rw (place-put st c.id rs known, entries-put st rs cs known) refl
 
 -- ---- one record after another
 
@@ -118,41 +119,50 @@ as_in-put low st cs (x ∷ xs) h r known = at (eqb x.id st.id) refl (as_in-put x
     at false e more k = rw (as_in-other st cs x (flip x.id st.id e), more k) refl
 
 -- what has been written, and what is left to write
-pub record Writes (changed base : List Stream) (live : List ℕ) (rest records : List Stream) (places : List ℕ) : Type 0 where
+pub record Writes (changed base : List Stream) (rest records : List Stream) (entries : List (ℕ × ℕ)) : Type 0 where
   pub rising : Rise 0 records
   pub order : Rise 0 rest
   pub known : AreKnown records rest
   pub items : map (as_in rest) records ≡ map (as_in changed) base
-  pub live_is : places ++ live_places rest records ≡ live ++ live_places changed base
+  pub live_is : entries ++ live_entries rest records ≡ live_entries changed base
+  pub behind : AllByRecursion (λ (id : ℕ). Rise id rest) (keys_of entries)
 
-pub writes-next : (changed base : List Stream) (live : List ℕ) (st : Stream) (rest records : List Stream) (places : List ℕ) → Writes changed base live (st ∷ rest) records places
-    → Writes changed base live rest (put st records) (places ++ cond (is_live st.kind) (place_of st.id records ∷ []) [])
-writes-next changed base live st rest records places w = record {
+-- those that are behind others are behind them without the first
+behind-less : (st : Stream) (rest : List Stream) (ids : List ℕ) → AllByRecursion (λ (id : ℕ). Rise id (st ∷ rest)) ids → AllByRecursion (λ (id : ℕ). Rise id rest) ids
+behind-less st rest [] h = tt
+behind-less st rest (id ∷ ids) h = (let over = h.0.0 in rise-from id st.id rest (omega (arith, over)) h.0.1, behind-less st rest ids h.1)
+
+behind-more : (st : Stream) (place : ℕ) (rest : List Stream) (es : List (ℕ × ℕ)) (b : Bool) → Rise st.id rest → AllByRecursion (λ (id : ℕ). Rise id rest) (keys_of es) → AllByRecursion (λ (id : ℕ). Rise id rest) (keys_of (es ++ cond b ((st.id, place) ∷ []) []))
+behind-more st place rest [] true r h = (r, tt)
+behind-more st place rest [] false r h = tt
+behind-more st place rest (e ∷ es) b r h = (h.0, behind-more st place rest es b r h.1)
+
+pub writes-next : (changed base : List Stream) (st : Stream) (rest records : List Stream) (entries : List (ℕ × ℕ)) → Writes changed base (st ∷ rest) records entries
+    → Writes changed base rest (put st records) (entries ++ cond (is_live st.kind) ((st.id, place_of st.id records) ∷ []) [])
+writes-next changed base st rest records entries w = record {
   rising = rise-put 0 st records w.rising w.known.0;
   order = rise-from 0 st.id rest (omega arith) w.order.1;
   known = known-put st records rest w.known.1;
   items = as_in-put 0 st rest records w.rising w.order.1 w.known.0 ∙ w.items;
-  live_is = ap (λ ps. (places ++ cond (is_live st.kind) (place_of st.id records ∷ []) []) ++ ps) (places-put st records rest w.known.0) ∙ Rattle.std.proofs.Common.append_assoc places _ _ ∙ w.live_is;
+  live_is = ap (λ es. (entries ++ cond (is_live st.kind) ((st.id, place_of st.id records) ∷ []) []) ++ es) (entries-put st records rest w.known.0) ∙ Rattle.std.proofs.Common.append_assoc entries _ _ ∙ w.live_is;
+  behind = behind-more st (place_of st.id records) rest entries (is_live st.kind) w.order.1 (behind-less st rest (keys_of entries) w.behind);
 }
+
+-- the next one is not yet in the map
+pub writes-absent : (st : Stream) (rest : List Stream) (entries : List (ℕ × ℕ)) → AllByRecursion (λ (id : ℕ). Rise id (st ∷ rest)) (keys_of entries) → lookup (nat_eq st.id) entries ≡ None
+writes-absent st rest [] h = refl
+writes-absent st rest (e ∷ es) h = let over = h.0.0 in let apart : nat_eq st.id e.0 ≡ false = grind (arith, nat_tests, over) in rw apart (writes-absent st rest es h.1)
 
 -- ---- what is live
 
-live_places-few : (cs rs : List Stream) → length (live_places cs rs) ≤ length cs
-live_places-few [] rs = omega arith
-live_places-few (c ∷ cs) rs = by (lives c) (live_places-few cs rs)
-  where
-    by : (b : Bool) → length (live_places cs rs) ≤ length cs → length (cond b (place_of c.id rs ∷ []) [] ++ live_places cs rs) ≤ suc (length cs)
-    by true h = omega (arith, h)
-    by false h = omega (arith, h)
-
-places-behind : (x : Stream) (rs : List Stream) (cs : List Stream) → Rise x.id cs → live_places cs (x ∷ rs) ≡ map suc (live_places cs rs)
-places-behind x rs [] h = refl
-places-behind x rs (c ∷ cs) h =
+entries-behind : (x : Stream) (rs : List Stream) (cs : List Stream) → Rise x.id cs → live_entries cs (x ∷ rs) ≡ map next_entry (live_entries cs rs)
+entries-behind x rs [] h = refl
+entries-behind x rs (c ∷ cs) h =
     let over = h.0 in
     let under : nat_lt x.id c.id ≡ true = grind (arith, nat_tests, over) in
-    rw (under, places-behind x rs cs (rise-from x.id c.id cs (omega (arith, over)) h.1)) (by (lives c))
+    rw (under, entries-behind x rs cs (rise-from x.id c.id cs (omega (arith, over)) h.1)) (by (lives c))
   where
-    by : (b : Bool) → cond {A = List ℕ} b (suc (place_of c.id rs) ∷ []) [] ++ map suc (live_places cs rs) ≡ map suc (cond b (place_of c.id rs ∷ []) [] ++ live_places cs rs)
+    by : (b : Bool) → cond {A = List (ℕ × ℕ)} b ((c.id, suc (place_of c.id rs)) ∷ []) [] ++ map next_entry (live_entries cs rs) ≡ map next_entry (cond b ((c.id, place_of c.id rs) ∷ []) [] ++ live_entries cs rs)
     by true = refl
     by false = refl
 
@@ -180,33 +190,33 @@ found-above low id (y ∷ ys) h k = by (eqb y.id id) refl k (found-above y.id id
     by true e k more = let same = eqb-true y.id id e in let l = h.0 in omega (arith, same, l)
     by false e k more = let tail = more k in let l = h.0 in omega (arith, tail, l)
 
-placed-first : (b : Bool) (ps : List ℕ) → cond b (0 ∷ map suc ps) (map suc ps) ≡ cond b (0 ∷ []) [] ++ map suc ps
-placed-first true ps = refl
-placed-first false ps = refl
+entered-first : (b : Bool) (id : ℕ) (es : List (ℕ × ℕ)) → cond b ((id, 0) ∷ map next_entry es) (map next_entry es) ≡ cond b ((id, 0) ∷ []) [] ++ map next_entry es
+entered-first true id es = refl
+entered-first false id es = refl
 
-pub live-rebuilt : (low : ℕ) (cs rs : List Stream) → Rise low rs → Rise low cs → AreKnown rs cs → AreOthersClosed cs rs → places_of lives (map (as_in cs) rs) ≡ live_places cs rs
+pub live-rebuilt : (low : ℕ) (cs rs : List Stream) → Rise low rs → Rise low cs → AreKnown rs cs → AreOthersClosed cs rs → entries_of lives (map (as_in cs) rs) ≡ live_entries cs rs
 live-rebuilt low [] [] h r k o = refl
 live-rebuilt low (c ∷ cs) [] h r k o = absurd (true≢false (sym k.0))
-live-rebuilt low [] (x ∷ xs) h r k o = rw (o.0 refl) (ap (map suc) (live-rebuilt x.id [] xs h.1 tt tt o.1))
+live-rebuilt low [] (x ∷ xs) h r k o = rw (o.0 refl) (ap (map next_entry) (live-rebuilt x.id [] xs h.1 tt tt o.1))
 live-rebuilt low (c ∷ cs) (x ∷ xs) h r k o = at (eqb x.id c.id) refl (live-rebuilt x.id cs xs h.1) (live-rebuilt x.id (c ∷ cs) xs h.1)
   where
     at : (b : Bool) → eqb x.id c.id ≡ b
-        → (Rise x.id cs → AreKnown xs cs → AreOthersClosed cs xs → places_of lives (map (as_in cs) xs) ≡ live_places cs xs)
-        → (Rise x.id (c ∷ cs) → AreKnown xs (c ∷ cs) → AreOthersClosed (c ∷ cs) xs → places_of lives (map (as_in (c ∷ cs)) xs) ≡ live_places (c ∷ cs) xs)
-        → places_of lives (map (as_in (c ∷ cs)) (x ∷ xs)) ≡ live_places (c ∷ cs) (x ∷ xs)
+        → (Rise x.id cs → AreKnown xs cs → AreOthersClosed cs xs → entries_of lives (map (as_in cs) xs) ≡ live_entries cs xs)
+        → (Rise x.id (c ∷ cs) → AreKnown xs (c ∷ cs) → AreOthersClosed (c ∷ cs) xs → entries_of lives (map (as_in (c ∷ cs)) xs) ≡ live_entries (c ∷ cs) xs)
+        → entries_of lives (map (as_in (c ∷ cs)) (x ∷ xs)) ≡ live_entries (c ∷ cs) (x ∷ xs)
     at true e taken left =
         let same = eqb-true x.id c.id e in
         let above : Rise x.id cs = rise-from x.id c.id cs (omega (arith, same)) r.1 in
         let below : nat_lt x.id c.id ≡ false = grind (arith, nat_tests, same) in
         let rest = taken above (known-behind x xs cs above k.1) (others-behind c cs x.id xs (omega (arith, same)) h.1 o.1) in
-        rw (as_in-here c cs x (eqb-same c.id x.id (sym same)), as_in-below c cs x.id xs (omega (arith, same)) h.1, below, places-behind x xs cs above, rest) (placed-first (lives c) (live_places cs xs))
+        rw (as_in-here c cs x (eqb-same c.id x.id (sym same)), as_in-below c cs x.id xs (omega (arith, same)) h.1, below, entries-behind x xs cs above, rest) (entered-first (lives c) c.id (live_entries cs xs))
     at false e taken left =
         let there : is_some (record_of xs c.id) ≡ true = rw e at k.0 in
         let over = found-above x.id c.id xs h.1 there in
         let above : Rise x.id (c ∷ cs) = (over, r.1) in
         let none : record_of (c ∷ cs) x.id ≡ None = none-below x.id x.id (c ∷ cs) (omega arith) above in
         let rest = left above (there, known-behind x xs cs (rise-from x.id c.id cs (omega (arith, over)) r.1) k.1) o.1 in
-        rw (as_in-none (c ∷ cs) x none, o.0 none) (ap (map suc) rest ∙ sym (places-behind x xs (c ∷ cs) above))
+        rw (as_in-none (c ∷ cs) x none, o.0 none) (ap (map next_entry) rest ∙ sym (entries-behind x xs (c ∷ cs) above))
 
 as_in-id : (cs : List Stream) (st : Stream) → (as_in cs st).id ≡ st.id
 as_in-id cs st = by (record_of cs st.id) (found-id cs st.id)
@@ -221,18 +231,23 @@ rising-rebuilt low last cs (x ∷ xs) h = rw (as_in-id cs x) (h.0, h.1, h.2, ris
 
 -- ---- the records that are kept
 
-records-behind : (x : Stream) (rs : List Stream) (ps : List ℕ) → records_at (x ∷ rs) (map suc ps) ≡ records_at rs ps
-records-behind x rs [] = refl
-records-behind x rs (p ∷ ps) = ap (λ ys. if_any (slice_get rs p) ++ ys) (records-behind x rs ps)
+live-behind : (x : Stream) (rs : List Stream) (ps : List ℕ) → live_at (x ∷ rs) (map suc ps) ≡ live_at rs ps
+live-behind x rs [] = refl
+live-behind x rs (p ∷ ps) = ap (λ ys. if_live (slice_get rs p) ++ ys) (live-behind x rs ps)
 
-pub records-of : (t : Stream → Bool) (rs : List Stream) → records_at rs (places_of t rs) ≡ filter t rs
-records-of t [] = refl
-records-of t (x ∷ xs) = by (t x) (records-behind x xs (places_of t xs) ∙ records-of t xs)
+-- of places among which are those of all live ones, the live records are all that are live
+pub live-of : (t : Stream → Bool) → ((st : Stream) → t st ≡ false → is_live st.kind ≡ false) → (rs : List Stream) → live_at rs (places_of t rs) ≡ filter lives rs
+live-of t idle [] = refl
+live-of t idle (x ∷ xs) = by (t x) refl (live-behind x xs (places_of t xs) ∙ live-of t idle xs)
   where
-    by : (b : Bool) → records_at (x ∷ xs) (map suc (places_of t xs)) ≡ filter t xs
-        → records_at (x ∷ xs) (cond b (0 ∷ map suc (places_of t xs)) (map suc (places_of t xs))) ≡ cond b (x ∷ filter t xs) (filter t xs)
-    by true h = ap (λ ys. x ∷ ys) h
-    by false h = h
+    first : (b : Bool) → cond {A = List Stream} b (x ∷ []) [] ++ filter lives xs ≡ cond b (x ∷ filter lives xs) (filter lives xs)
+    first true = refl
+    first false = refl
+
+    by : (b : Bool) → t x ≡ b → live_at (x ∷ xs) (map suc (places_of t xs)) ≡ filter lives xs
+        → live_at (x ∷ xs) (cond b (0 ∷ map suc (places_of t xs)) (map suc (places_of t xs))) ≡ filter lives (x ∷ xs)
+    by true e h = ap (λ ys. if_live (Some x) ++ ys) h ∙ first (lives x)
+    by false e h = rw (idle x e) h
 
 pub filter-same : (s t : Stream → Bool) → ((st : Stream) → s st ≡ t st) → (rs : List Stream) → filter s rs ≡ filter t rs
 filter-same s t h [] = refl

@@ -3,17 +3,18 @@ use Rattle.std.proofs.Common.{◌≡◌, ℕ, zero, suc, ◌<◌, ◌≤◌, ◌
 use Rattle.std.proofs.lemmas.Int.{ints}
 use Rattle.std.specs.List.{AllByRecursion, list_any}
 use Rattle.std.specs.Prelude.{slice_index_or, slice_set}
+use Rattle.std.specs.Map.{values_of}
 use Rattle.std.specs.Option.{option_map}
 use Rattle.h2_spec.specs.declared.streams.Kind.{Kind}
 use Rattle.h2_spec.specs.declared.streams.Kind.TheVariants.{Idle, Skipped, BothOpen, HalfRemote, HalfLocal, Ended, PeerReset, WeReset}
 use Rattle.h2_spec.specs.declared.streams.Stream.{Stream}
 use Rattle.h2_spec.specs.Change.{follows_initial_window, received, received_one, shifted, shifted_one, overflows, overflows_one, with_recv, with_send}
 use Rattle.h2_spec.specs.Window.{max_window, is_above_max}
-use Rattle.h2_spec.specs.Stream.{is_live, octets_waiting, AreRising}
-use Rattle.h2_streams.specs.Kept.{places_of, ids_of, ids_at, lives, is_ready, passes_at, IsKept}
+use Rattle.h2_spec.specs.Stream.{is_live, live_count, octets_waiting, AreRising}
+use Rattle.h2_streams.specs.Kept.{entries_of, places_of, ids_of, ids_at, is_entered, is_ready, next_entry, passes_at, IsKept}
 use Rattle.h2_streams.specs.Shift.{CanReceive, CanShift, is_window, moved, moved_or_same, moved_window, received_or_same, update, update_each}
 use Rattle.h2_streams.proofs.IdsLaws.{idle-ready}
-use Rattle.h2_streams.proofs.LiveLaws.{any-live, ids-live, each-live}
+use Rattle.h2_streams.proofs.LiveLaws.{any-live, as_count, count-cons, each-live, entered-places, ids-live, kept-places, unentered}
 
 -- a record that is written at its place is changed there
 pub set-update : (f : Stream → Stream) (place : ℕ) (rs : List Stream) (d : Stream) → place < length rs → slice_set rs place (f (slice_index_or rs place d)) ≡ update f place rs
@@ -90,11 +91,21 @@ rising-map f keeps low last (x ∷ xs) r =
     let tail = rising-map f keeps x.id last xs r.3 in
     subst (λ n. (low < n) × (n % 2 ≡ 1) × (n ≤ last) × AreRising n last (map f xs)) (sym (keeps x)) (r.0, r.1, r.2, tail)
 
-lives-map : (f : Stream → Stream) → ((st : Stream) → (f st).kind ≡ st.kind) → (rs : List Stream) → places_of lives (map f rs) ≡ places_of lives rs
-lives-map f kinds [] = refl
-lives-map f kinds (x ∷ xs) =
-    ap (λ k. cond (is_live k) (0 ∷ map suc (places_of lives (map f xs))) (map suc (places_of lives (map f xs)))) (kinds x)
-    ∙ ap (λ ps. cond (is_live x.kind) (0 ∷ map suc ps) (map suc ps)) (lives-map f kinds xs)
+entries-map : (test : Stream → Bool) (f : Stream → Stream) → ((st : Stream) → (f st).id ≡ st.id) → ((st : Stream) → test (f st) ≡ test st) → (rs : List Stream) → entries_of test (map f rs) ≡ entries_of test rs
+entries-map test f ids tests [] = refl
+entries-map test f ids tests (x ∷ xs) =
+    ap (λ t. cond t (((f x).id, 0) ∷ map next_entry (entries_of test (map f xs))) (map next_entry (entries_of test (map f xs)))) (tests x)
+    ∙ ap (λ id. cond (test x) ((id, 0) ∷ map next_entry (entries_of test (map f xs))) (map next_entry (entries_of test (map f xs)))) (ids x)
+    ∙ ap (λ es. cond (test x) ((x.id, 0) ∷ map next_entry es) (map next_entry es)) (entries-map test f ids tests xs)
+
+count-map : (f : Stream → Stream) → ((st : Stream) → (f st).kind ≡ st.kind) → (rs : List Stream) → live_count (map f rs) ≡ live_count rs
+count-map f kinds [] = refl
+count-map f kinds (x ∷ xs) =
+    let now = count-cons (f x) (map f xs) in
+    let was = count-cons x xs in
+    let same = ap (λ k. as_count (is_live k)) (kinds x) in
+    let rest = count-map f kinds xs in
+    omega (arith, now, was, same, rest)
 
 ids-map : (test : Stream → Bool) (f : Stream → Stream) → ((st : Stream) → (f st).id ≡ st.id) → ((st : Stream) → test (f st) ≡ test st) → (rs : List Stream) → ids_of test (map f rs) ≡ ids_of test rs
 ids-map test f ids tests [] = refl
@@ -103,38 +114,47 @@ ids-map test f ids tests (x ∷ xs) =
     ∙ ap (λ id. cond (test x) (id ∷ ids_of test (map f xs)) (ids_of test (map f xs))) (ids x)
     ∙ ap (λ ys. cond (test x) (x.id ∷ ys) ys) (ids-map test f ids tests xs)
 
--- a function that keeps identifiers and states, and leaves streams alone that are not live, done to the live ones
-module _ (f : Stream → Stream) (ids : (st : Stream) → (f st).id ≡ st.id) (kinds : (st : Stream) → (f st).kind ≡ st.kind) (ended : (st : Stream) → is_live st.kind ≡ false → f st ≡ st)
-    (rs : List Stream) (live ready : List ℕ) (last : ℕ) (kept : IsKept rs live ready last) where
-  each-mapped : update_each f live rs ≡ map f rs
-  each-mapped = ap (λ places. update_each f places rs) kept.live_listed ∙ each-live f ended rs
+-- a function that keeps identifiers and states, and leaves streams alone that are not live, done to those in the map
+module _ (f : Stream → Stream) (ids : (st : Stream) → (f st).id ≡ st.id) (kinds : (st : Stream) → (f st).kind ≡ st.kind) (idle : (st : Stream) → is_live st.kind ≡ false → f st ≡ st)
+    (rs : List Stream) (es : List (ℕ × ℕ)) (ended : ℕ) (ready : List ℕ) (last : ℕ) (kept : IsKept rs es ended ready last) where
+  each-mapped : update_each f (values_of es) rs ≡ map f rs
+  each-mapped = ap (λ places. update_each f places rs) (kept-places rs es ended ready last kept) ∙ each-live (is_entered kept.left) f (λ st out. idle st (unentered kept.left st out)) rs
 
-  live-mapped : live ≡ places_of lives (update_each f live rs)
-  live-mapped = kept.live_listed ∙ sym (lives-map f kinds rs) ∙ ap (places_of lives) (sym each-mapped)
+  entered-mapped : es ≡ entries_of (is_entered kept.left) (update_each f (values_of es) rs)
+  entered-mapped =
+      let tests : (st : Stream) → is_entered kept.left (f st) ≡ is_entered kept.left st = λ st i. is_live (kinds st i) || kept.left (ids st i) in
+      kept.entered ∙ sym (entries-map (is_entered kept.left) f ids tests rs) ∙ ap (entries_of (is_entered kept.left)) (sym each-mapped)
 
-  kept-mapped : (now : List ℕ) → now ≡ ids_of is_ready (update_each f live rs) → IsKept (update_each f live rs) live now last
+  count-mapped : live_count (update_each f (values_of es) rs) ≡ live_count rs
+  count-mapped = ap live_count each-mapped ∙ count-map f kinds rs
+
+  kept-mapped : (now : List ℕ) → now ≡ ids_of is_ready (update_each f (values_of es) rs) → IsKept (update_each f (values_of es) rs) es ended now last
   kept-mapped now listed = record {
     rising = subst (AreRising 0 last) (sym each-mapped) (rising-map f ids 0 last rs kept.rising);
-    live_listed = live-mapped;
+    left = kept.left;
+    entered = entered-mapped;
+    counted = let n = kept.counted in omega (arith, n, count-mapped);
+    few = let n = kept.few in omega (arith, n, count-mapped);
     ready_listed = listed;
   }
 
 -- ---- the send windows
 
-module _ (d : ℤ) (rs : List Stream) (live ready : List ℕ) (last : ℕ) (kept : IsKept rs live ready last) where
+module _ (d : ℤ) (rs : List Stream) (es : List (ℕ × ℕ)) (ended : ℕ) (ready : List ℕ) (last : ℕ) (kept : IsKept rs es ended ready last) where
   abbrev sending : Stream → Stream
   sending st = moved_or_same d st
 
-  live-moved : live ≡ places_of lives (update_each sending live rs)
-  live-moved = live-mapped sending (id-moved d) (kind-moved d) (same-ended d) rs live ready last kept
+  places-moved : values_of es ≡ places_of (is_entered kept.left) (update_each sending (values_of es) rs)
+  places-moved = ap values_of (entered-mapped sending (id-moved d) (kind-moved d) (same-ended d) rs es ended ready last kept) ∙ entered-places (is_entered kept.left) (update_each sending (values_of es) rs)
 
-  pub kept-moved : IsKept (update_each sending live rs) live (ids_at is_ready (update_each sending live rs) live) last
+  pub kept-moved : IsKept (update_each sending (values_of es) rs) es ended (ids_at is_ready (update_each sending (values_of es) rs) (values_of es)) last
   kept-moved =
-      let now = update_each sending live rs in
-      kept-mapped sending (id-moved d) (kind-moved d) (same-ended d) rs live ready last kept (ids_at is_ready now live) (ap (ids_at is_ready now) live-moved ∙ ids-live is_ready idle-ready now)
+      let now = update_each sending (values_of es) rs in
+      kept-mapped sending (id-moved d) (kind-moved d) (same-ended d) rs es ended ready last kept (ids_at is_ready now (values_of es))
+      (ap (ids_at is_ready now) places-moved ∙ ids-live (is_entered kept.left) is_ready (λ st out. idle-ready st (unentered kept.left st out)) now)
 
-  pub records-moved : AllByRecursion (CanShift d) rs → overflows d rs ≡ false → update_each sending live rs ≡ shifted d rs
-  records-moved can free = each-mapped sending (id-moved d) (kind-moved d) (same-ended d) rs live ready last kept ∙ all-free d rs can free
+  pub records-moved : AllByRecursion (CanShift d) rs → overflows d rs ≡ false → update_each sending (values_of es) rs ≡ shifted d rs
+  records-moved can free = each-mapped sending (id-moved d) (kind-moved d) (same-ended d) rs es ended ready last kept ∙ all-free d rs can free
 
 -- ---- the receive windows
 
@@ -180,20 +200,20 @@ unfolding received
 all-received d [] can = refl
 all-received d (x ∷ xs) can = ap (λ y. y ∷ map (received_or_same d) xs) (received-within d x can.0) ∙ ap (λ ys. received_one d x ∷ ys) (all-received d xs can.1)
 
-module _ (d : ℤ) (rs : List Stream) (live ready : List ℕ) (last : ℕ) (kept : IsKept rs live ready last) where
+module _ (d : ℤ) (rs : List Stream) (es : List (ℕ × ℕ)) (ended : ℕ) (ready : List ℕ) (last : ℕ) (kept : IsKept rs es ended ready last) where
   abbrev receiving : Stream → Stream
   receiving st = received_or_same d st
 
-  each-received : update_each receiving live rs ≡ map receiving rs
-  each-received = each-mapped receiving (id-received d) (kind-received d) (same-received d) rs live ready last kept
+  each-received : update_each receiving (values_of es) rs ≡ map receiving rs
+  each-received = each-mapped receiving (id-received d) (kind-received d) (same-received d) rs es ended ready last kept
 
   -- what can be sent stays
-  pub kept-received : IsKept (update_each receiving live rs) live ready last
+  pub kept-received : IsKept (update_each receiving (values_of es) rs) es ended ready last
   kept-received =
-      kept-mapped receiving (id-received d) (kind-received d) (same-received d) rs live ready last kept ready
+      kept-mapped receiving (id-received d) (kind-received d) (same-received d) rs es ended ready last kept ready
       (kept.ready_listed ∙ sym (ids-map is_ready receiving (id-received d) (ready-received d) rs) ∙ ap (ids_of is_ready) (sym each-received))
 
-  pub records-received : AllByRecursion (CanReceive d) rs → update_each receiving live rs ≡ received d rs
+  pub records-received : AllByRecursion (CanReceive d) rs → update_each receiving (values_of es) rs ≡ received d rs
   records-received can = each-received ∙ all-received d rs can
 
 -- ---- the greatest window
@@ -209,7 +229,8 @@ any-overflows d (x ∷ xs) = by (overflows_one d x) (any-overflows d xs) where
   by true rest = refl
   by false rest = rest
 
--- whether a window would pass its limit is asked of the live streams
-pub overflows-listed : (d : ℤ) (rs : List Stream) (live ready : List ℕ) (last : ℕ) → IsKept rs live ready last → list_any (passes_at (overflows_one d) rs) live ≡ overflows d rs
-overflows-listed d rs live ready last kept =
-    ap (list_any (passes_at (overflows_one d) rs)) kept.live_listed ∙ any-live (overflows_one d) (overflows-ended d) rs ∙ any-overflows d rs
+-- whether a window would pass its limit is asked of the streams in the map
+pub overflows-listed : (d : ℤ) (rs : List Stream) (es : List (ℕ × ℕ)) (ended : ℕ) (ready : List ℕ) (last : ℕ) → IsKept rs es ended ready last → list_any (passes_at (overflows_one d) rs) (values_of es) ≡ overflows d rs
+overflows-listed d rs es ended ready last kept =
+    ap (list_any (passes_at (overflows_one d) rs)) (kept-places rs es ended ready last kept)
+    ∙ any-live (is_entered kept.left) (overflows_one d) (λ st out. overflows-ended d st (unentered kept.left st out)) rs ∙ any-overflows d rs

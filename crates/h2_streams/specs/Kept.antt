@@ -1,8 +1,9 @@
--- What the records, the places of the live streams and the identifiers of those that can send keep.
-use Rattle.std.specs.Prelude.{◌≡◌, ℕ, suc, ◌<◌, ◌≤◌, Bool, false, ◌&&◌, List, [], ◌∷◌, ◌++◌, map, nat_lt, ◌==◌, if◌then◌else◌, Option, Some, None, find, slice_get, pos, int_lt}
+-- What the records, the map of the live streams and the identifiers of those that can send keep.
+use Rattle.std.specs.Prelude.{◌≡◌, ℕ, suc, ◌+◌, ◌*◌, ◌<◌, ◌≤◌, Bool, false, ◌&&◌, ◌||◌, List, [], ◌∷◌, ◌++◌, map, length, nat_lt, ◌==◌, if◌then◌else◌, Option, Some, None, find, slice_get, pos, int_lt}
+use Rattle.std.specs.List.{filter}
 use Rattle.std.specs.Option.{option_map, option_map_or}
 use Rattle.h2_spec.specs.declared.streams.Stream.{Stream}
-use Rattle.h2_spec.specs.Stream.{id_of, is_live, octets_waiting, AreRising}
+use Rattle.h2_spec.specs.Stream.{id_of, is_live, live_count, octets_waiting, AreRising}
 
 -- whether the stream can send: it has octets to send, and a send window that lets some of them pass (RFC 9113, 6.9)
 abbrev pub is_ready : Stream → Bool
@@ -78,9 +79,37 @@ abbrev pub ids_at : (Stream → Bool) → List Stream → List ℕ → List ℕ
 ids_at test records [] = []
 ids_at test records (place ∷ places) = id_if test (slice_get records place) ++ ids_at test records places
 
--- the records, the places of the live streams, the identifiers of those that can send, and the last stream that was
--- opened
-pub record IsKept (records : List Stream) (live ready : List ℕ) (last : ℕ) : Type 0 where
+-- an identifier and a place, one record further
+abbrev pub next_entry : ℕ × ℕ → ℕ × ℕ
+next_entry e = (e.0, suc e.1)
+
+-- the identifiers and the places of the records that pass a test
+abbrev pub entries_of : (Stream → Bool) → List Stream → List (ℕ × ℕ)
+entries_of test [] = []
+entries_of test (st ∷ sts) = if test st then (st.id, 0) ∷ map next_entry (entries_of test sts) else map next_entry (entries_of test sts)
+
+-- whether the map has the stream: it is live, or it ended and was left there
+abbrev pub is_entered : (ℕ → Bool) → Stream → Bool
+is_entered left st = lives st || left st.id
+
+-- whether so many streams that ended are in the map that they are taken out
+abbrev pub are_dropped : ℕ → List (ℕ × ℕ) → Bool
+are_dropped ended entries = nat_lt (length entries + 32) (2 * ended)
+
+-- the entries once that many have ended
+abbrev pub entries_left : ℕ → List Stream → List (ℕ × ℕ) → List (ℕ × ℕ)
+entries_left ended records entries = if are_dropped ended entries then filter (λ e. passes_at lives records e.1) entries else entries
+
+-- and how many of them have
+abbrev pub ended_left : ℕ → List (ℕ × ℕ) → ℕ
+ended_left ended entries = if are_dropped ended entries then 0 else ended
+
+-- the records, the entries of the map of the live streams, how many of these have ended, the identifiers of those that
+-- can send, and the last stream that was opened
+pub record IsKept (records : List Stream) (entries : List (ℕ × ℕ)) (ended : ℕ) (ready : List ℕ) (last : ℕ) : Type 0 where
   pub rising : AreRising 0 last records
-  pub live_listed : live ≡ places_of lives records
+  pub left : ℕ → Bool
+  pub entered : entries ≡ entries_of (is_entered left) records
+  pub counted : length entries ≡ live_count records + ended
+  pub few : ended ≤ live_count records + 32
   pub ready_listed : ready ≡ ids_of is_ready records

@@ -1,4 +1,5 @@
 pub mod Greatest
+pub mod Hash
 pub mod Kept
 pub mod Put
 pub mod Rebuilt

@@ -32,17 +32,17 @@ is_this (Some other) id = other == id
 abbrev pub is_live_or : Option ℕ → Stream → Bool
 is_live_or other st = is_live st.kind || is_this other st.id
 
--- a record, if there is one
-abbrev pub if_any : Option Stream → List Stream
-if_any None = []
-if_any (Some st) = st ∷ []
+-- a record, if there is one and it is live
+abbrev pub if_live : Option Stream → List Stream
+if_live None = []
+if_live (Some st) = if lives st then st ∷ [] else []
 
--- the records at these places
-abbrev pub records_at : List Stream → List ℕ → List Stream
-records_at records [] = []
-records_at records (place ∷ places) = if_any (slice_get records place) ++ records_at records places
+-- the live records at these places
+abbrev pub live_at : List Stream → List ℕ → List Stream
+live_at records [] = []
+live_at records (place ∷ places) = if_live (slice_get records place) ++ live_at records places
 
--- the places of the live ones of these in a list
-abbrev pub live_places : List Stream → List Stream → List ℕ
-live_places [] records = []
-live_places (st ∷ sts) records = (if lives st then place_of st.id records ∷ [] else []) ++ live_places sts records
+-- the identifiers of the live ones of these, with their places in a list
+abbrev pub live_entries : List Stream → List Stream → List (ℕ × ℕ)
+live_entries [] records = []
+live_entries (st ∷ sts) records = (if lives st then (st.id, place_of st.id records) ∷ [] else []) ++ live_entries sts records

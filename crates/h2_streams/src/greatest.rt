@@ -1,18 +1,22 @@
 //! The greatest of the send windows that settings move (RFC 9113, 6.9.2).
-//! Rests on `places`, `shift` and the windows of `h2_spec`.
+//! Rests on `indexmap`, `places`, `shift` and the windows of `h2_spec`.
 //! Definitions: `specs/Greatest.antt`, over `h2_spec/specs/Change.antt`.
 
 ghost use Rattle.std.specs.Prelude.{◌≡◌, ◌||◌, ℤ, ◌+ℤ◌};
 ghost use Rattle.std.specs.List.{list_any};
+ghost use Rattle.indexmap.specs.IndexMap.{values};
 ghost use Rattle.h2_spec.specs.Change.{overflows_one};
 ghost use Rattle.h2_spec.specs.Window.{is_above_max};
 ghost use Rattle.h2_streams.specs.Greatest.{overflows_with};
 ghost use Rattle.h2_streams.specs.Kept.{passes_at};
 
+use crate::hash::IdHash;
 use crate::places::record_at;
 use crate::shift::follows_initial_window;
 use h2_spec::flow::{MAX_WINDOW, Window};
 use h2_spec::streams::Stream;
+use indexmap::IndexMap;
+use std::alloc::Allocator;
 
 /// Whether the greatest window, if there is one, passes its limit with this move.
 #[tactic(auto, unfolding(crate::specs::Greatest::overflows_with))]
@@ -25,13 +29,16 @@ pub(crate) fn overflows_with(greatest: Option<Window>, delta: i64) -> bool
     }
 }
 
-/// The greatest of the send windows that settings move, of the records at these places, if there is one.
+/// The greatest of the send windows that settings move, of the streams in the map, if there is one.
 #[tactic(auto, unfolding(crate::specs::Greatest::overflows_with))]
-pub(crate) fn greatest_of(records: &[Stream], places: &[usize]) -> Option<Window>
-    ensures { (d : ℤ) → overflows_with result d ≡ list_any (passes_at (overflows_one d) records.now) places.now }
+pub(crate) fn greatest_of<A: Allocator>(
+    records: &[Stream],
+    live: &IndexMap<u32, usize, IdHash, A>,
+) -> Option<Window>
+    ensures { (d : ℤ) → overflows_with result d ≡ list_any (passes_at (overflows_one d) records.now) (values live.now) }
 {
     let mut greatest = None;
-    for place in places {
+    for place in live.values() {
         greatest = greater_at(records, *place, greatest);
     }
     greatest

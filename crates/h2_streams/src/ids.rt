@@ -1,4 +1,4 @@
-//! Rising lists: of the live streams' places, and of the identifiers of those that can send.
+//! The rising list of the identifiers of the streams that can send.
 //! Definitions: `specs/Kept.antt`.
 
 ghost use Rattle.std.specs.Prelude.{◌≡◌, ◌+◌, ◌<◌, ◌≤◌, ◌++◌, ◌∷◌, [], length, if◌then◌else◌};
@@ -18,26 +18,6 @@ pub(crate) fn list<A: Allocator>(ids: &mut Vec<u32, A>, id: u32, is_in: bool)
         place(ids, id);
     } else {
         remove(ids, id);
-    }
-}
-
-/// Takes a place out of a rising list, unless it is to stay.
-pub(crate) fn keep<A: Allocator>(places: &mut Vec<usize, A>, place: usize, stays: bool)
-    requires { kept.IdsRise 0 places.old.items }
-    ensures items { places.new.items ≡ (if stays then places.old.items else kept.without place places.old.items) }
-{
-    if !stays {
-        remove_place(places, place);
-    }
-}
-
-/// Takes a place out of a rising list.
-fn remove_place<A: Allocator>(places: &mut Vec<usize, A>, place: usize)
-    requires { kept.IdsRise 0 places.old.items }
-    ensures { places.new.items ≡ kept.without place places.old.items }
-{
-    if let Ok(index) = places.binary_search(&place) {
-        places.remove(index);
     }
 }
 
@@ -64,15 +44,15 @@ fn place<A: Allocator>(ids: &mut Vec<u32, A>, id: u32)
     }
 }
 
-/// Puts an identifier or a place behind the others, if it is to be listed. There is space for it.
-pub(crate) fn append<T: Copy, A: Allocator>(list: &mut Vec<T, A>, x: T, is_in: bool)
-    requires { vec_len list.old < vec_capacity list.old }
-    ensures items { list.new.items ≡ list.old.items ++ (if is_in then x ∷ [] else []) }
-    ensures len { vec_len list.new ≤ vec_len list.old + 1 }
-    ensures capacity { vec_capacity list.old ≤ vec_capacity list.new }
+/// Puts an identifier behind the others, if it is to be listed. There is space for it.
+pub(crate) fn append<A: Allocator>(ids: &mut Vec<u32, A>, id: u32, is_in: bool)
+    requires { vec_len ids.old < vec_capacity ids.old }
+    ensures items { ids.new.items ≡ ids.old.items ++ (if is_in then id ∷ [] else []) }
+    ensures len { vec_len ids.new ≤ vec_len ids.old + 1 }
+    ensures capacity { vec_capacity ids.old ≤ vec_capacity ids.new }
 {
     if is_in {
-        list.push_reserved(x);
+        ids.push_reserved(id);
     }
 }
 

@@ -1,11 +1,12 @@
 //! Records by their identifiers, which rise: a binary search.
-//! Rests on the types of `h2_spec`; definitions: `specs/Kept.antt`.
+//! Rests on `kinds`; definitions: `specs/Kept.antt`.
 
-ghost use Rattle.std.specs.Prelude.{◌≡◌, ◌<◌, ◌≤◌, length, IsTrue, slice_get};
-ghost use Rattle.std.specs.Option.{option_copied, is_some};
+ghost use Rattle.std.specs.Prelude.{◌≡◌, ◌<◌, ◌≤◌, false, length, IsTrue, slice_get};
+ghost use Rattle.std.specs.Option.{option_copied, option_map_or, is_some};
 ghost use Rattle.h2_spec.specs.Stream as spec;
 ghost use Rattle.h2_streams.specs.Kept as kept;
 
+use crate::kinds::is_live;
 use h2_spec::streams::Stream;
 use std::alloc::Allocator;
 
@@ -18,16 +19,6 @@ pub(crate) fn place_of(records: &[Stream], id: u32) -> usize
     records.partition_point(|stream| stream.id < id)
 }
 
-/// The record with this identifier.
-pub(crate) fn record_of(records: &[Stream], id: u32) -> Option<&Stream>
-    requires { kept.Rise 0 records.now }
-    ensures { option_copied result ≡ spec.record_of records.now id }
-{
-    let place = place_of(records, id);
-    let stream = record_at(records, place)?;
-    if stream.id == id { Some(stream) } else { None }
-}
-
 /// The record at this place.
 pub(crate) fn record_at(records: &[Stream], place: usize) -> Option<&Stream>
     ensures { option_copied result ≡ slice_get records.now place }
@@ -35,14 +26,29 @@ pub(crate) fn record_at(records: &[Stream], place: usize) -> Option<&Stream>
     records.get(place)
 }
 
-/// Writes a record in the place of the one with its identifier, and returns that place.
-pub(crate) fn write<A: Allocator>(records: &mut Vec<Stream, A>, stream: Stream) -> usize
+/// Whether there is a record at this place and its stream is live.
+pub(crate) fn is_live_at(records: &[Stream], place: usize) -> bool
+    ensures { result ≡ kept.passes_at kept.lives records.now place }
+{
+    match record_at(records, place) {
+        Some(stream) => is_live(stream.kind),
+        None => false,
+    }
+}
+
+/// Writes a record at the place of the one with its identifier, and returns whether that one was live.
+pub(crate) fn write<A: Allocator>(
+    records: &mut Vec<Stream, A>,
+    place: usize,
+    stream: Stream,
+) -> bool
     requires rising { kept.Rise 0 records.old.items }
     requires known { IsTrue (is_some (spec.record_of records.old.items stream.id)) }
+    requires place { place ≡ kept.place_of stream.id records.old.items }
     ensures items { records.new.items ≡ spec.put stream records.old.items }
-    ensures place { result ≡ kept.place_of stream.id records.old.items }
+    ensures was_live { result ≡ option_map_or kept.lives (spec.record_of records.old.items stream.id) false }
 {
-    let place = place_of(records.as_slice(), stream.id);
+    let was_live = is_live_at(records.as_slice(), place);
     records[place] = stream;
-    place
+    was_live
 }

@@ -1,18 +1,21 @@
 //! The records at an earlier time, made again from those of a later one: the few that can change are kept.
-//! Rests on `ids`, `kinds` and `places`; definitions: `specs/Rebuilt.antt`.
+//! Rests on `indexmap`, `kinds`, `live` and `places`; definitions: `specs/Rebuilt.antt`.
 
-ghost use Rattle.std.specs.Prelude.{◌≡◌, ◌+◌, ◌≤◌, ◌++◌, IfOk, OnOk, length, map, take, if◌then◌else◌};
+ghost use Rattle.std.specs.Prelude.{◌≡◌, ◌+◌, ◌≤◌, ◌++◌, [], IfOk, OnOk, length, map, take, if◌then◌else◌};
 ghost use Rattle.std.specs.List.{insert};
 ghost use Rattle.std.specs.Option.{option_copied};
 ghost use Rattle.std.specs.Vec.{vec_capacity};
+ghost use Rattle.indexmap.specs.IndexMap.{spare, values};
 ghost use Rattle.h2_spec.specs.Stream.{is_live};
 ghost use Rattle.h2_streams.specs.Kept as kept;
 ghost use Rattle.h2_streams.specs.Rebuilt as spec;
 
-use crate::ids::append;
+use crate::hash::IdHash;
 use crate::kinds::is_live;
+use crate::live::enter;
 use crate::places::{place_of, record_at, write};
 use h2_spec::streams::Stream;
+use indexmap::IndexMap;
 use std::alloc::{AllocError, Allocator};
 
 /// How many more records there is space for at first.
@@ -32,49 +35,52 @@ pub(crate) fn front_of<A: Allocator + Copy>(
     Ok(copy)
 }
 
-/// Writes records in the places of those with their identifiers, and puts the places of the live ones behind the
-/// others. There is space for them.
+/// Writes records in the places of those with their identifiers, and puts the live ones into a map that is empty. There
+/// is space for them.
 pub(crate) fn write_each<A: Allocator>(
     records: &mut Vec<Stream, A>,
     changed: &[Stream],
-    live: &mut Vec<usize, A>,
+    live: &mut IndexMap<u32, usize, IdHash, A>,
 )
     requires rising { kept.Rise 0 records.old.items }
     requires changed { kept.Rise 0 changed.now }
     requires known { spec.AreKnown records.old.items changed.now }
-    requires enough { length live.old.items + length changed.now ≤ vec_capacity live.old }
+    requires empty { live.old.entries ≡ [] }
+    requires enough { length changed.now ≤ spare live.old }
     ensures items { records.new.items ≡ map (spec.as_in changed.now) records.old.items }
-    ensures live { live.new.items ≡ live.old.items ++ spec.live_places changed.now records.old.items }
+    ensures live { live.new.entries ≡ spec.live_entries changed.now records.old.items }
 {
     for stream in changed {
-        let place = write(records, *stream);
-        append(live, place, is_live(stream.kind));
+        let place = place_of(records.as_slice(), stream.id);
+        write(records, place, *stream);
+        enter(live, stream.id, place, is_live(stream.kind));
     }
 }
 
-/// Puts the record behind the others, if there is one. There is space for it.
-fn append_any<A: Allocator>(list: &mut Vec<Stream, A>, stream: Option<&Stream>)
+/// Puts the record behind the others, if there is one and it is live. There is space for it.
+fn append_live<A: Allocator>(list: &mut Vec<Stream, A>, stream: Option<&Stream>)
     requires { length list.old.items + 1 ≤ vec_capacity list.old }
-    ensures items { list.new.items ≡ list.old.items ++ spec.if_any (option_copied stream.entry) }
+    ensures items { list.new.items ≡ list.old.items ++ spec.if_live (option_copied stream.entry) }
     ensures len { length list.new.items ≤ length list.old.items + 1 }
     ensures capacity { vec_capacity list.old ≤ vec_capacity list.new }
 {
-    if let Some(stream) = stream {
-        list.push_reserved(*stream);
+    match stream {
+        Some(stream) if is_live(stream.kind) => list.push_reserved(*stream),
+        _ => {}
     }
 }
 
-/// The records at these places, once more.
-pub(crate) fn records_at<A: Allocator>(
+/// The live records of the streams in the map, once more.
+pub(crate) fn live_records<A: Allocator>(
     records: &[Stream],
-    places: &[usize],
+    live: &IndexMap<u32, usize, IdHash, A>,
     alloc: A,
 ) -> Result<Vec<Stream, A>, AllocError>
-    ensures { IfOk result (λ list. list.items ≡ spec.records_at records.now places.now) }
+    ensures { IfOk result (λ list. list.items ≡ spec.live_at records.now (values live.now)) }
 {
-    let mut list = Vec::with_capacity(alloc, places.len())?;
-    for place in places {
-        append_any(&mut list, record_at(records, *place));
+    let mut list = Vec::with_capacity(alloc, live.len())?;
+    for place in live.values() {
+        append_live(&mut list, record_at(records, *place));
     }
     Ok(list)
 }

@@ -1,5 +1,5 @@
 //! The records: what opens, changes and ends a stream.
-//! Rests on `kinds`, `places` (the search by identifier) and `ids` (rising lists of identifiers).
+//! Rests on `kinds`, `live` (the map of the live streams), `places` (the search by identifier) and `ids` (rising lists).
 //! Definitions: `h2_spec/specs/Stream.antt`; what the fields keep: `specs/Kept.antt`.
 
 ghost use Rattle.std.specs.Prelude.{◌≡◌, not, take, ◌<◌, ◌≤◌, ◌%◌, ◌==◌, ◌||◌, nat_lt, length, IsOk, OnOk, OnErr, IfOk, IfErr, IfSome, IsTrue, is_err, slice_get};
@@ -16,29 +16,37 @@ ghost use Rattle.h2_streams.specs.Rebuilt as earlier;
 ghost use Rattle.h2_streams.specs.Shift as shift;
 
 use crate::greatest::{greatest_of, overflows_with};
-use crate::ids::{append, ids_above, keep, list};
+use crate::hash::IdHash;
+use crate::ids::{append, ids_above, list};
 use crate::kinds::{is_live, is_ready, not_live, peer_closed, reset_kind, server_ended};
-use crate::places::{record_of, write};
-use crate::rebuilt::{front_of, insert_closed, records_at, write_each};
+use crate::live::{enter, note_ended, place_in, record_in};
+use crate::places::write;
+use crate::rebuilt::{front_of, insert_closed, live_records, write_each};
 use crate::shift::{InitialWindow, move_each};
 use crate::walks::{first_waiting, list_ready};
 use h2_spec::errors::FlowFault;
 use h2_spec::flow::Window;
 use h2_spec::streams::{Kind, Numbers, Pick, Stream};
+use indexmap::IndexMap;
 use std::alloc::{AllocError, Allocator};
 use std::marker::Model;
 
 /// The records of a connection's streams.
 ///
-/// A record is found by binary search over the identifiers: by at most 31 comparisons, since there are at most 2^30 odd
-/// identifiers of 31 bits (RFC 9113, 5.1.1), and by at most 20 among a million. No choice of identifiers costs more.
+/// The record of a live stream is found by one look-up in a map. That of another stream is found by binary search over
+/// the identifiers: by at most 31 comparisons, since there are at most 2^30 odd identifiers of 31 bits (RFC 9113,
+/// 5.1.1), and by at most 20 among a million. The peer chooses identifiers, and could crowd a map of all records, but
+/// this one has at most two entries for each live stream, and 32.
 #[derive(Drop)]
 pub struct Streams<A: Allocator> {
     /// In the order of opening, so that identifiers rise.
     records: Vec<Stream, A>,
-    /// The places of the live streams' records, rising. A record's place never changes.
-    live: Vec<usize, A>,
-    /// The identifiers of the streams that can send, rising; it has space for all live ones.
+    /// The places of the live streams' records, by identifier, in the order of opening. A record's place never changes.
+    /// Streams that ended may be left here, as long as they are at most 32 more than the live ones.
+    live: IndexMap<u32, usize, IdHash, A>,
+    /// How many of the streams in `live` have ended.
+    ended: usize,
+    /// The identifiers of the streams that can send, rising; it has space for all that are in `live`.
     ready: Vec<u32, A>,
     last: u32,
 }
@@ -53,7 +61,7 @@ impl<A: Allocator> Model for Streams<A> {
 
     ghost view = { λ s. record { streams = s.records.items; last = s.last } };
 
-    ghost invariant = { λ s. IsKept s.records.items s.live.items s.ready.items s.last × (length s.live.items ≤ vec_capacity s.ready) };
+    ghost invariant = { λ s. IsKept s.records.items s.live.entries s.ended s.ready.items s.last × (length s.live.entries ≤ vec_capacity s.ready) };
 }
 
 impl<A: Allocator + Copy> Streams<A> {
@@ -63,7 +71,8 @@ impl<A: Allocator + Copy> Streams<A> {
     {
         Streams {
             records: Vec::new(alloc),
-            live: Vec::new(alloc),
+            live: IndexMap::with_hasher(alloc, IdHash),
+            ended: 0,
             ready: Vec::new(alloc),
             last: 0,
         }
@@ -75,10 +84,11 @@ impl<A: Allocator + Copy> Streams<A> {
     {
         let records = copy_of(&self.records)?;
         let live = self.live.clone()?;
-        let ready = copy_with_capacity(&self.ready, live.as_slice().len())?;
+        let ready = copy_with_capacity(&self.ready, live.len())?;
         Ok(Streams {
             records,
             live,
+            ended: self.ended,
             ready,
             last: self.last,
         })
@@ -93,7 +103,7 @@ impl<A: Allocator + Copy> Streams<A> {
         ensures { IfOk result (λ list. list.items ≡ filter (earlier.is_live_or other) self.now.streams) }
     {
         let alloc = *self.records.allocator();
-        let mut list = records_at(self.records.as_slice(), self.live.as_slice(), alloc)?;
+        let mut list = live_records(self.records.as_slice(), &self.live, alloc)?;
         let Some(id) = other else {
             return Ok(list);
         };
@@ -118,13 +128,14 @@ impl<A: Allocator + Copy> Streams<A> {
     {
         let alloc = *self.records.allocator();
         let mut records = front_of(&self.records, count)?;
-        let mut live = Vec::with_capacity(alloc, changed.len())?;
+        let mut live = IndexMap::with_capacity_and_hasher(alloc, changed.len(), IdHash)?;
         write_each(&mut records, changed, &mut live);
         let mut ready = Vec::with_capacity(alloc, live.len())?;
-        list_ready(records.as_slice(), live.as_slice(), &mut ready);
+        list_ready(records.as_slice(), &live, &mut ready);
         Ok(Streams {
             records,
             live,
+            ended: 0,
             ready,
             last,
         })
@@ -140,11 +151,11 @@ impl<A: Allocator> Streams<A> {
         self.last // 0 for none: client streams have odd identifiers
     }
 
-    /// The record of the stream, if it has one, by binary search.
+    /// The record of the stream, if it has one: by one look-up where it is live, and else by binary search.
     pub fn get(&self, id: u32) -> Option<&Stream>
         ensures { option_copied result ≡ spec.record_of self.now.streams id }
     {
-        record_of(self.records.as_slice(), id)
+        record_in(&self.live, self.records.as_slice(), id)
     }
 
     /// The i-th record in the order of opening, from 0.
@@ -165,7 +176,7 @@ impl<A: Allocator> Streams<A> {
     pub fn live_count(&self) -> usize
         ensures { result ≡ spec.live_count self.now.streams }
     {
-        self.live.as_slice().len()
+        self.live.len() - self.ended
     }
 
     /// The stream with this identifier: its record, or, where it has none, `Idle` or `Skipped` without numbers.
@@ -284,7 +295,7 @@ impl<A: Allocator> Streams<A> {
         ensures first { result ≡ spec.next_waiting after self.now.streams }
         ensures least { IfSome result (λ id. AllByRecursion (λ st. IsTrue (spec.waits_above after st) → id ≤ st.id) self.now.streams) }
     {
-        first_waiting(self.records.as_slice(), self.live.as_slice(), after)
+        first_waiting(self.records.as_slice(), &self.live, after)
     }
 
     /// The first stream above this one that can send, if there is one, by binary search: it has octets to send, and a
@@ -307,7 +318,7 @@ impl<A: Allocator> Streams<A> {
     pub fn greatest_send(&self) -> Option<Window>
         ensures { IsGreatest result self.now.streams }
     {
-        greatest_of(self.records.as_slice(), self.live.as_slice())
+        greatest_of(self.records.as_slice(), &self.live)
     }
 
     /// Moves the send windows of the streams that settings move, as SETTINGS_INITIAL_WINDOW_SIZE changes by `delta`
@@ -323,17 +334,8 @@ impl<A: Allocator> Streams<A> {
         if overflows_with(self.greatest_send(), delta) {
             return Err(FlowFault::Overflow);
         }
-        move_each(
-            &mut self.records,
-            self.live.as_slice(),
-            InitialWindow::Peer,
-            delta,
-        );
-        list_ready(
-            self.records.as_slice(),
-            self.live.as_slice(),
-            &mut self.ready,
-        );
+        move_each(&mut self.records, &self.live, InitialWindow::Peer, delta);
+        list_ready(self.records.as_slice(), &self.live, &mut self.ready);
         Ok(())
     }
 
@@ -344,12 +346,7 @@ impl<A: Allocator> Streams<A> {
         requires { AllByRecursion (shift.CanReceive delta) self.old.streams }
         ensures { self.new ≡ record self.old { streams = changes.received delta self.old.streams } }
     {
-        move_each(
-            &mut self.records,
-            self.live.as_slice(),
-            InitialWindow::Own,
-            delta,
-        );
+        move_each(&mut self.records, &self.live, InitialWindow::Own, delta);
     }
 
     /// Records a stream above all others.
@@ -362,11 +359,11 @@ impl<A: Allocator> Streams<A> {
         let live = is_live(stream.kind);
         let ready = is_ready(&stream);
         self.live.reserve(1)?;
-        let more = self.live.as_slice().len() - self.ready.as_slice().len() + 1;
+        let more = self.live.len() - self.ready.as_slice().len() + 1;
         self.ready.reserve(more)?;
         let place = self.records.as_slice().len();
         self.records.push(stream)?;
-        append(&mut self.live, place, live);
+        enter(&mut self.live, stream.id, place, live);
         append(&mut self.ready, stream.id, ready);
         self.last = stream.id;
         Ok(())
@@ -379,9 +376,12 @@ impl<A: Allocator> Streams<A> {
     {
         let live = is_live(stream.kind);
         let ready = is_ready(&stream);
-        let place = write(&mut self.records, stream);
-        keep(&mut self.live, place, live);
+        let place = place_in(&self.live, self.records.as_slice(), stream.id);
+        let was_live = write(&mut self.records, place, stream);
         list(&mut self.ready, stream.id, ready);
+        if was_live && !live {
+            self.ended = note_ended(&mut self.live, self.records.as_slice(), self.ended);
+        }
     }
 }
 

@@ -1,15 +1,18 @@
 //! What a change of an initial window does to the windows of streams: the peer's moves the send windows, the server's
 //! own the receive windows (RFC 9113, 6.9.2).
-//! Rests on the windows of `h2_spec`.
+//! Rests on `indexmap` and the windows of `h2_spec`.
 //! Definitions: `specs/Shift.antt`, over `h2_spec/specs/Change.antt`.
 
 ghost use Rattle.std.specs.Prelude.{◌≡◌};
+ghost use Rattle.indexmap.specs.IndexMap.{values};
 ghost use Rattle.h2_spec.specs.Change as changes;
 ghost use Rattle.h2_streams.specs.Shift as shift;
 
+use crate::hash::IdHash;
 use crate::kinds::is_live;
 use h2_spec::flow::Window;
 use h2_spec::streams::{Kind, Stream};
+use indexmap::IndexMap;
 use std::alloc::Allocator;
 
 /// The least window.
@@ -96,16 +99,16 @@ fn move_at<A: Allocator>(records: &mut Vec<Stream, A>, place: usize, of: Initial
     }
 }
 
-/// Moves the windows of the records at these places.
+/// Moves the windows of the streams in the map.
 pub(crate) fn move_each<A: Allocator>(
     records: &mut Vec<Stream, A>,
-    places: &[usize],
+    live: &IndexMap<u32, usize, IdHash, A>,
     of: InitialWindow,
     delta: i64,
 )
-    ensures { records.new.items ≡ shift.update_each (shift.moved_as of delta) places.now records.old.items }
+    ensures { records.new.items ≡ shift.update_each (shift.moved_as of delta) (values live.now) records.old.items }
 {
-    for place in places {
+    for place in live.values() {
         move_at(records, *place, of, delta);
     }
 }

@@ -1,16 +1,19 @@
 //! What is looked for among the live streams, one after another.
-//! Rests on `ids`, `kinds` and `places`; definitions: `specs/Kept.antt`.
+//! Rests on `indexmap`, `ids`, `kinds` and `places`; definitions: `specs/Kept.antt`.
 
 ghost use Rattle.std.specs.Prelude.{◌≡◌, ◌+◌, ◌<◌, ◌≤◌, ◌++◌, length, slice_get};
 ghost use Rattle.std.specs.Option.{option_copied};
 ghost use Rattle.std.specs.Vec.{vec_capacity, vec_len};
+ghost use Rattle.indexmap.specs.IndexMap.{values};
 ghost use Rattle.h2_spec.specs.Stream as spec;
 ghost use Rattle.h2_streams.specs.Kept as kept;
 
+use crate::hash::IdHash;
 use crate::ids::append;
 use crate::kinds::{is_ready, octets_waiting};
 use crate::places::record_at;
 use h2_spec::streams::Stream;
+use indexmap::IndexMap;
 use std::alloc::Allocator;
 
 /// Puts the stream behind the others, if there is one and it can send. There is space for it.
@@ -25,19 +28,18 @@ fn append_ready<A: Allocator>(ready: &mut Vec<u32, A>, stream: Option<&Stream>)
     }
 }
 
-/// Lists those of the streams at these places that can send, in the place of what was listed. There is space for all of
-/// them.
+/// Lists those of the streams in the map that can send, in the place of what was listed. There is space for all of them.
 pub(crate) fn list_ready<A: Allocator>(
     records: &[Stream],
-    places: &[usize],
+    live: &IndexMap<u32, usize, IdHash, A>,
     ready: &mut Vec<u32, A>,
 )
-    requires { length places.now ≤ vec_capacity ready.old }
-    ensures items { ready.new.items ≡ kept.ids_at kept.is_ready records.now places.now }
+    requires { length live.now.entries ≤ vec_capacity ready.old }
+    ensures items { ready.new.items ≡ kept.ids_at kept.is_ready records.now (values live.now) }
     ensures capacity { vec_capacity ready.old ≤ vec_capacity ready.new }
 {
     ready.clear();
-    for place in places {
+    for place in live.values() {
         append_ready(ready, record_at(records, *place));
     }
 }
@@ -54,11 +56,15 @@ fn waiting_id(stream: Option<&Stream>, after: u32) -> Option<u32>
     }
 }
 
-/// The first of the streams at these places that is above this one and has octets to send.
-pub(crate) fn first_waiting(records: &[Stream], places: &[usize], after: u32) -> Option<u32>
-    ensures { result ≡ slice_get (kept.ids_at (spec.waits_above after) records.now places.now) 0 }
+/// The first of the streams in the map that is above this one and has octets to send.
+pub(crate) fn first_waiting<A: Allocator>(
+    records: &[Stream],
+    live: &IndexMap<u32, usize, IdHash, A>,
+    after: u32,
+) -> Option<u32>
+    ensures { result ≡ slice_get (kept.ids_at (spec.waits_above after) records.now (values live.now)) 0 }
 {
-    for place in places {
+    for place in live.values() {
         let id = waiting_id(record_at(records, *place), after);
         if id.is_some() {
             return id;

@@ -1,7 +1,16 @@
 use Rattle.std.proofs.Common.{◌≡◌, [], ◌∷◌, ◌+◌, ◌∙◌, ap, arith, drop, drop_of_length-le, sym}
 use Rattle.std.proofs.lemmas.List.{drop_more}
-use Rattle.h2_streams.proofs.RebuiltLaws.{as_in-nothing, writes-next}
+use Rattle.h2_streams.proofs.RebuiltLaws.{as_in-nothing, writes-absent, writes-next}
 use Rattle.h2_streams.proofs.rebuilt.write_each.Goals as goal
+
+pub enter-requires-clause-new : goal.enter-requires-clause-new
+enter-requires-clause-new g c =
+    let i = c.loop-stream.stream-index in
+    let st = c.stream-item.result in
+    let w = c.loop-stream.invariant in
+    let left : drop i c.args.changed.now ≡ st ∷ drop (i + 1) c.args.changed.now = drop_more c.args.changed.now i st c.loop-stream-test.true ∙ ap (λ x. x ∷ drop (i + 1) c.args.changed.now) (sym c.stream-item.is) in
+    let next = rw left at w.written in
+    writes-absent st (drop (i + 1) c.args.changed.now) c.loop-stream.live.entries next.behind
 
 pub loop-stream-preserved : goal.loop-stream-preserved
 loop-stream-preserved g c =
@@ -9,11 +18,10 @@ loop-stream-preserved g c =
     let st = c.stream-item.result in
     let w = c.loop-stream.invariant in
     let left : drop i c.args.changed.now ≡ st ∷ drop (i + 1) c.args.changed.now = drop_more c.args.changed.now i st c.loop-stream-test.true ∙ ap (λ x. x ∷ drop (i + 1) c.args.changed.now) (sym c.stream-item.is) in
-    let next = writes-next _ _ _ st (drop (i + 1) c.args.changed.now) _ _ (rw left at w.written) in
+    let next = writes-next _ _ st (drop (i + 1) c.args.changed.now) _ _ (rw left at w.written) in
     record {
-      written = rw (c.append.ensures.items, c.write-place.ensures.place, c.is_live.ensures, c.write-place.ensures.items) next;
-      len = omega (arith, w.len, c.append.ensures.len);
-      capacity = omega (arith, w.capacity, c.append.ensures.capacity);
+      written = rw (c.enter.ensures.entries, c.place_of-place.ensures.value, c.is_live.ensures, c.write.ensures.items) next;
+      enough = omega (arith, w.enough, c.enter.ensures.spare);
     }
 
 pub returns-clause-items : goal.returns-clause-items

@@ -1,10 +1,11 @@
-use Rattle.std.proofs.Common.{◌≡◌, ◌≤◌, ◌∙◌, ap, arith, length, map, refl, subst, sym, take}
+use Rattle.std.proofs.Common.{◌≡◌, ◌≤◌, ◌∙◌, ap, arith, map, subst, sym, take}
 use Rattle.h2_spec.specs.Stream.{AreRising, Records}
-use Rattle.h2_streams.specs.Kept.{lives, places_of}
+use Rattle.std.specs.Map.{values_of}
+use Rattle.h2_streams.specs.Kept.{entries_of, lives, places_of}
 use Rattle.h2_streams.specs.Rebuilt.{AreKnown, AreOthersClosed, as_in}
 use Rattle.h2_streams.specs.Kept.{ids_of, is_ready}
 use Rattle.h2_streams.proofs.IdsLaws.{idle-ready}
-use Rattle.h2_streams.proofs.LiveLaws.{ids-live}
+use Rattle.h2_streams.proofs.LiveLaws.{entered-places, ids-live, kept-anew}
 use Rattle.h2_streams.proofs.PlaceLaws.{rise}
 use Rattle.h2_streams.proofs.RebuiltLaws.{live-rebuilt, rising-rebuilt}
 use Rattle.h2_streams.proofs.records.Streams.rebuilt.Goals as goal
@@ -23,10 +24,12 @@ invariant_of-result g c =
     let known = subst (λ (r : Records). AreKnown (take c.args.count r.streams) changed) (sym c.self.view_is) c.requires.known in
     let closed = subst (λ (r : Records). AreOthersClosed changed (take c.args.count r.streams)) (sym c.self.view_is) c.requires.closed in
     let records : c.write_each.new.records.items ≡ now = c.write_each.ensures.items ∙ ap (map (as_in changed)) c.in_ok-records.ensures in
-    let live : c.write_each.new.live.items ≡ places_of lives now =
-    (rw (c.in_ok-live.ensures.items, c.in_ok-records.ensures) at c.write_each.ensures.live) ∙ sym (live-rebuilt 0 changed base (rise 0 c.args.last base rising) c.requires.changed known closed) in
-    let ready : c.list_ready.new.ready.items ≡ ids_of is_ready now = (rw (c.as_slice.ensures.value, c.as_slice-2.ensures.value, records, live) at c.list_ready.ensures.items) ∙ ids-live is_ready idle-ready now in
+    let live : c.write_each.new.live.entries ≡ entries_of lives now =
+    (rw c.in_ok-records.ensures at c.write_each.ensures.live) ∙ sym (live-rebuilt 0 changed base (rise 0 c.args.last base rising) c.requires.changed known closed) in
+    let places : values_of c.write_each.new.live.entries ≡ places_of lives now = ap values_of live ∙ entered-places lives now in
+    let ready : c.list_ready.new.ready.items ≡ ids_of is_ready now = (rw (c.as_slice.ensures.value, records, places) at c.list_ready.ensures.items) ∙ ids-live lives is_ready idle-ready now in
+    let len = c.len.ensures.len in
     rw (records, ready) (
-      record { rising = rising-rebuilt 0 c.args.last changed base rising; live_listed = live; ready_listed = refl },
-      omega (arith, c.list_ready.ensures.capacity, c.in_ok-ready.ensures.capacity),
+      kept-anew c.args.last now c.write_each.new.live.entries (rising-rebuilt 0 c.args.last changed base rising) live,
+      omega (arith, len, c.list_ready.ensures.capacity, c.in_ok-ready.ensures.capacity),
     )

@@ -9,25 +9,25 @@ use Rattle.h2_streams.proofs.ShiftLaws.{kept-moved, records-moved}
 use Rattle.h2_streams.proofs.records.Streams.shift_send.Goals as goal
 
 pub list_ready-requires : goal.list_ready-requires
-list_ready-requires g c = rw c.as_slice-3.ensures.value c.self.invariant.1
+list_ready-requires g c = c.self.invariant.1
 
 pub invariant_of-self : goal.invariant_of-self
 invariant_of-self g c =
     let s = c.self.inside in
     let d = c.args.delta in
-    let moved = rw (to_z-of_z c.ranges.delta, c.as_slice.ensures.value) at c.move_each.ensures in
-    let listed = rw (c.as_slice-2.ensures.value, c.as_slice-3.ensures.value, moved) at c.list_ready.ensures.items in
+    let moved = rw (to_z-of_z c.ranges.delta) at c.move_each.ensures in
+    let listed = rw (c.as_slice.ensures.value, moved) at c.list_ready.ensures.items in
     let enough = c.self.invariant.1 in
     let more = c.list_ready.ensures.capacity in
-    rw (moved, listed) (kept-moved d s.records.items s.live.items s.ready.items s.last c.self.invariant.0, omega (arith, enough, more))
+    rw (moved, listed) (kept-moved d s.records.items s.live.entries s.ended s.ready.items s.last c.self.invariant.0, omega (arith, enough, more))
 
 pub returns-clause-moved : goal.returns-clause-moved
 returns-clause-moved g c =
     let s = c.self.inside in
     let d = c.args.delta in
-    let moved = rw (to_z-of_z c.ranges.delta, c.as_slice.ensures.value) at c.move_each.ensures in
+    let moved = rw (to_z-of_z c.ranges.delta) at c.move_each.ensures in
     let asked = rw (to_z-of_z c.ranges.delta) at c.overflows_with.ensures in
     let can = let P : Records → Type 0 = λ v. AllByRecursion (CanShift d) v.streams in subst P (sym c.self.view_is) c.requires in
     let free = ap (λ (v : Records). overflows d v.streams) c.self.view_is ∙ c.greatest_send.ensures d ∙ sym asked ∙ c.if-overflows_with.false in
-    let streams = moved ∙ records-moved d s.records.items s.live.items s.ready.items s.last c.self.invariant.0 can free in
+    let streams = moved ∙ records-moved d s.records.items s.live.entries s.ended s.ready.items s.last c.self.invariant.0 can free in
     ap (λ (xs : List Stream). let r : Records = record { streams = xs; last = s.last } in r) streams ∙ ap (λ (v : Records). let r : Records = record v { streams = shifted d v.streams } in r) c.self.view_is

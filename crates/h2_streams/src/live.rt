@@ -1,0 +1,116 @@
+//! The live streams by identifier: the place of each one's record, in the order of opening.
+//! Rests on `indexmap`, `hash` and `kinds`; definitions: `specs/Kept.antt`.
+//! A stream that ends is left in the map until such streams are more than the live ones, and all are then taken out at
+//! once: what the end of a stream costs does not depend on how many are live.
+
+ghost use Rattle.std.specs.Prelude.{◌≡◌, ◌+◌, ◌<◌, ◌≤◌, ◌++◌, ◌∷◌, [], ◌==◌, None, length, nat_eq, if◌then◌else◌, IfSome, IsTrue};
+ghost use Rattle.std.specs.Option.{option_copied};
+ghost use Rattle.indexmap.specs.IndexMap.{get, spare};
+ghost use Rattle.h2_spec.specs.Stream as spec;
+ghost use Rattle.h2_streams.specs.Kept as kept;
+
+use crate::hash::IdHash;
+use crate::places::{is_live_at, place_of, record_at};
+use h2_spec::streams::Stream;
+use indexmap::IndexMap;
+use std::alloc::Allocator;
+
+/// How many streams that ended may be in the map beyond the number of live ones.
+const SPARE_ENTRIES: usize = 32;
+
+/// Puts a stream behind the others, if it is to be there. There is space for it.
+pub(crate) fn enter<A: Allocator>(
+    live: &mut IndexMap<u32, usize, IdHash, A>,
+    id: u32,
+    place: usize,
+    is_in: bool,
+)
+    requires new { get nat_eq live.old id ≡ None }
+    requires enough { 0 < spare live.old }
+    ensures entries { live.new.entries ≡ live.old.entries ++ (if is_in then (id, place) ∷ [] else []) }
+    ensures spare { spare live.old ≤ spare live.new + 1 }
+{
+    if is_in {
+        let _ = live.insert(id, place);
+    }
+}
+
+/// Notes that one more of the streams in the map has ended. Takes those that ended out where they are more than the live
+/// ones and some. Returns how many of them are in it then.
+pub(crate) fn note_ended<A: Allocator>(
+    live: &mut IndexMap<u32, usize, IdHash, A>,
+    records: &[Stream],
+    ended: usize,
+) -> usize
+    requires { ended < length live.old.entries }
+    ensures entries { live.new.entries ≡ kept.entries_left (ended + 1) records.now live.old.entries }
+    ensures ended { result ≡ kept.ended_left (ended + 1) live.old.entries }
+{
+    let listed = live.len();
+    let ended = ended + 1;
+    if listed + SPARE_ENTRIES >= 2 * ended {
+        return ended;
+    }
+    live.retain(
+        |_id: &u32, place: &mut usize| -> bool
+            ensures { (result ≡ kept.passes_at kept.lives records.now place.old) × (place.new ≡ place.old) }
+        { is_live_at(records, *place) },
+    );
+    0
+}
+
+/// How many records are below this identifier: its record's place, by one look-up where the stream is live, and else by
+/// binary search.
+pub(crate) fn place_in<A: Allocator>(
+    live: &IndexMap<u32, usize, IdHash, A>,
+    records: &[Stream],
+    id: u32,
+) -> usize
+    requires { kept.Rise 0 records.now }
+    ensures { result ≡ kept.place_of id records.now }
+{
+    match entered_place(live, records, id) {
+        Some(place) => place,
+        None => place_of(records, id),
+    }
+}
+
+/// The record with this identifier.
+pub(crate) fn record_in<'a, A: Allocator>(
+    live: &IndexMap<u32, usize, IdHash, A>,
+    records: &'a [Stream],
+    id: u32,
+) -> Option<&'a Stream>
+    requires { kept.Rise 0 records.now }
+    ensures { option_copied result ≡ spec.record_of records.now id }
+{
+    let place = place_in(live, records, id);
+    let stream = record_at(records, place)?;
+    if stream.id == id { Some(stream) } else { None }
+}
+
+/// The place of the record with this identifier, if the map has it.
+fn entered_place<A: Allocator>(
+    live: &IndexMap<u32, usize, IdHash, A>,
+    records: &[Stream],
+    id: u32,
+) -> Option<usize>
+    ensures { IfSome result (λ place. IsTrue (kept.passes_at (λ st. st.id == id) records.now place)) }
+{
+    let place = *live.get(&id)?;
+    if has_id(records, place, id) {
+        Some(place)
+    } else {
+        None
+    }
+}
+
+/// Whether the record at this place has this identifier.
+fn has_id(records: &[Stream], place: usize, id: u32) -> bool
+    ensures { result ≡ kept.passes_at (λ st. st.id == id) records.now place }
+{
+    match record_at(records, place) {
+        Some(stream) => stream.id == id,
+        None => false,
+    }
+}
