@@ -9,25 +9,10 @@ ghost use Rattle.h2_spec.specs.Stream as stream;
 use crate::say::{HexOctet, Say, Words};
 use crate::say_all;
 use h2_spec::errors::ErrorCode;
-use h2_spec::frames::{ACK, END_HEADERS, END_STREAM, FrameType, Head, PADDED, WITH_PRIORITY};
+use h2_spec::frames::{
+    ACK, END_HEADERS, END_STREAM, FrameType, Head, PADDED, WITH_PRIORITY, type_name,
+};
 use h2_spec::streams::Kind;
-
-/// The name of a frame's type; what comes before the number of a type that has none (RFC 9113, 6).
-fn type_word(kind: FrameType) -> &'static str {
-    match kind {
-        FrameType::Data => "DATA",
-        FrameType::Headers => "HEADERS",
-        FrameType::Priority => "PRIORITY",
-        FrameType::RstStream => "RST_STREAM",
-        FrameType::Settings => "SETTINGS",
-        FrameType::PushPromise => "PUSH_PROMISE",
-        FrameType::Ping => "PING",
-        FrameType::Goaway => "GOAWAY",
-        FrameType::WindowUpdate => "WINDOW_UPDATE",
-        FrameType::Continuation => "CONTINUATION",
-        FrameType::Unknown(_) => "type ",
-    }
-}
 
 /// The name of a type that other documents than RFC 9113 register with IANA, and that this server does not use.
 pub fn registered_type(kind: u8) -> Option<&'static str> {
@@ -58,10 +43,13 @@ pub(crate) fn say_registered(name: Option<&'static str>, out: &mut Words) {
 
 impl Say for FrameType {
     fn say(self, out: &mut Words) {
-        say_all!(out; type_word(self));
-        if let FrameType::Unknown(kind) = self {
-            say_all!(out; HexOctet(kind));
-            say_registered(registered_type(kind), out);
+        let kind = self.number();
+        match type_name(kind) {
+            Some(name) => say_all!(out; name),
+            None => {
+                say_all!(out; "type ", HexOctet(kind));
+                say_registered(registered_type(kind), out);
+            }
         }
     }
 }

@@ -15,7 +15,7 @@ use crate::number::number_at;
 use crate::payload::payload_at;
 use crate::words::{after, cut, is_word, octet_at, octets_at};
 use h2_frame::append_frame;
-use h2_spec::frames::PREFACE;
+use h2_spec::frames::{PREFACE, type_named};
 use h2_spec::scripts::SyntaxKind;
 use std::alloc::Allocator;
 
@@ -189,40 +189,11 @@ fn stream_number(stream: u32, reserved: bool) -> u32
 fn type_at(text: &[u8]) -> Option<u8>
     ensures { result ≡ type_at text.now }
 {
-    if is_word(text, b"DATA") {
-        return Some(0);
-    }
-    if is_word(text, b"HEADERS") {
-        return Some(1);
-    }
-    if is_word(text, b"PRIORITY") {
-        return Some(2);
-    }
-    if is_word(text, b"RST_STREAM") {
-        return Some(3);
-    }
-    if is_word(text, b"SETTINGS") {
-        return Some(4);
-    }
-    if is_word(text, b"PUSH_PROMISE") {
-        return Some(5);
-    }
-    if is_word(text, b"PING") {
-        return Some(6);
-    }
-    if is_word(text, b"GOAWAY") {
-        return Some(7);
-    }
-    if is_word(text, b"WINDOW_UPDATE") {
-        return Some(8);
-    }
-    if is_word(text, b"CONTINUATION") {
-        return Some(9);
-    }
-    match after(text, b'T') {
+    let other = match after(text, b'T') {
         Some(digits) => octet_at(digits),
         None => None,
-    }
+    };
+    type_named(text, other)
 }
 
 /// A stream's identifier, and whether the reserved bit is set.

@@ -1,18 +1,15 @@
 //! The words of a script as text: octets in hex, numbers, strings, types, streams.
 //! It rests on `hex`; the definitions are in `h2_spec`, specs/Written.antt, as `.._text`.
 
-ghost use Rattle.std.specs.Prelude.{◌≡◌, ◌++◌, ◌∷◌, ◌<◌, [], OnOk, flat_map, option_map, slice_get, slice_index};
+ghost use Rattle.std.specs.Prelude.{◌≡◌, ◌++◌, ◌∷◌, ◌<◌, [], OnOk, flat_map, slice_index};
 ghost use Rattle.std.specs.Fmt.{decimal};
 ghost use Rattle.std.specs.String.{string_bytes};
 ghost use Rattle.hex.specs.Hex.{encode_lower, lower_digits};
-ghost use Rattle.h2_spec.specs.Script.{quote_of, type_names};
+ghost use Rattle.h2_spec.specs.Script.{quote_of};
 ghost use Rattle.h2_spec.specs.Written.{character_text, stream_text, type_text};
 
 use crate::words::is_plain;
-use h2_spec::frames::{
-    CONTINUATION, DATA, GOAWAY, HEADERS, PING, PRIORITY, PUSH_PROMISE, RST_STREAM, SETTINGS,
-    WINDOW_UPDATE,
-};
+use h2_spec::frames::type_name;
 use std::alloc::{AllocError, Allocator};
 use std::fmt::Write;
 
@@ -111,25 +108,6 @@ pub(crate) fn push_string<A: Allocator>(
     out.push(quote(huffman))?;
     push_characters(text, out)?;
     out.push(quote(huffman))
-}
-
-/// The name of a frame type, 0 to 9 (RFC 9113, 6).
-fn type_name(kind: u8) -> Option<&'static str>
-    ensures { option_map (λ t. t.now) result ≡ slice_get type_names kind }
-{
-    match kind {
-        DATA => Some("DATA"),
-        HEADERS => Some("HEADERS"),
-        PRIORITY => Some("PRIORITY"),
-        RST_STREAM => Some("RST_STREAM"),
-        SETTINGS => Some("SETTINGS"),
-        PUSH_PROMISE => Some("PUSH_PROMISE"),
-        PING => Some("PING"),
-        GOAWAY => Some("GOAWAY"),
-        WINDOW_UPDATE => Some("WINDOW_UPDATE"),
-        CONTINUATION => Some("CONTINUATION"),
-        _ => None,
-    }
 }
 
 /// Appends the name of a frame type, or `T` and two hex digits.

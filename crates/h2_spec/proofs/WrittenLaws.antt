@@ -17,7 +17,8 @@ use Rattle.h2_spec.specs.Octets.{big_endian, four_octets}
 use Rattle.h2_spec.specs.Parse.{Front, Stop, One, parse_first, parse_upto, parse_all}
 use Rattle.h2_spec.specs.Payload.{setting_pairs}
 use Rattle.h2_spec.specs.Read.{Read, Whole, More, TooLong, read_map}
-use Rattle.h2_spec.specs.Script.{Payload, Empty, Octets, Pairs, Increment, Code, Instructions, Statement, Nothing, Preface, Raw, Says, SaysCharacter, SaysEach, SaysInstruction, SaysName, SaysNumber, SaysOctet, SaysPayload, SaysSetting, SaysStream, SaysString, SaysText, SaysType, Script, instruction_octets, is_plain, max_u32, octets_of, payload_octets, setting_octets, stream_octets, type_names}
+use Rattle.h2_spec.specs.FrameType.{type_names}
+use Rattle.h2_spec.specs.Script.{Payload, Empty, Octets, Pairs, Increment, Code, Instructions, Statement, Nothing, Preface, Raw, Says, SaysCharacter, SaysEach, SaysInstruction, SaysName, SaysNumber, SaysOctet, SaysPayload, SaysSetting, SaysStream, SaysString, SaysText, SaysType, Script, instruction_octets, is_plain, max_u32, octets_of, payload_octets, setting_octets, stream_octets}
 use Rattle.h2_spec.specs.Written.{block_said, character_text, each_text, first_said, frame_front, frame_said, instruction_text, instructions_in, is_fragment, is_writable, line_text, name_text, next_said, or_octets, payload_said, payload_text, rest_text, setting_text, statement_text, stream_text, string_text, type_text, written}
 use Rattle.h2_spec.proofs.HuffmanLaws.{text_read}
 use Rattle.h2_spec.proofs.ReadShapes.{IsWholeName, IsWholeShape, OnRead, first_whole}

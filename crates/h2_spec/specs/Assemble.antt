@@ -5,6 +5,7 @@ use Rattle.std.specs.Str.{bytes_eq}
 use Rattle.hex.specs.Hex.{decode_of, decode_sized}
 use Rattle.hex.specs.declared.FromHexError.{FromHexError}
 use Rattle.h2_spec.specs.Frame.{preface}
+use Rattle.h2_spec.specs.FrameType.{type_named}
 use Rattle.h2_spec.specs.Huffman.{spell_huffman}
 use Rattle.h2_spec.specs.Instruction.{Instruction, Indexed, Update, Literal, Mode, IncrementalIndexing, WithoutIndexing, NeverIndexed, NameRef, Ref, Named, TextStr, spell}
 use Rattle.h2_spec.specs.Script.{Payload, Empty, Octets, Pairs, Increment, Code, Instructions, Statement, Nothing, Preface, Raw, AFrame, cut_at, is_plain, lines_of, max_stream, max_u32, octets_of, payload_octets}
@@ -181,18 +182,7 @@ payload_at (form ∷ text) =
 
 -- the type of a frame by its name, or T and two hex digits
 abbrev pub type_at : List ℕ → Option ℕ
-type_at text =
-    if bytes_eq text (codes "DATA") then Some 0
-    else if bytes_eq text (codes "HEADERS") then Some 1
-    else if bytes_eq text (codes "PRIORITY") then Some 2
-    else if bytes_eq text (codes "RST_STREAM") then Some 3
-    else if bytes_eq text (codes "SETTINGS") then Some 4
-    else if bytes_eq text (codes "PUSH_PROMISE") then Some 5
-    else if bytes_eq text (codes "PING") then Some 6
-    else if bytes_eq text (codes "GOAWAY") then Some 7
-    else if bytes_eq text (codes "WINDOW_UPDATE") then Some 8
-    else if bytes_eq text (codes "CONTINUATION") then Some 9
-    else option_and_then octet_at (behind 84 text)
+type_at text = type_named text (option_and_then octet_at (behind 84 text))
 
 -- the last octet is an R
 abbrev pub is_reserved : List ℕ → Bool

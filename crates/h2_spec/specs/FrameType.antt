@@ -1,5 +1,6 @@
 -- Frame types and flags (RFC 9113, 6).
-use Rattle.std.specs.Prelude.{ℕ, ◌/◌, ◌%◌, Bool, ◌==◌, if◌then◌else◌}
+use Rattle.std.specs.Prelude.{ℕ, ◌/◌, ◌%◌, Bool, ◌==◌, List, [], ◌∷◌, Option, Some, codes, if◌then◌else◌}
+use Rattle.std.specs.Str.{bytes_eq}
 use Rattle.h2_spec.specs.declared.frames.FrameType.{FrameType}
 use Rattle.h2_spec.specs.declared.frames.FrameType.TheVariants.{Data, Headers, Priority, RstStream, Settings, PushPromise, Ping, Goaway, WindowUpdate, Continuation, Unknown}
 
@@ -71,6 +72,25 @@ type_number Goaway = GOAWAY
 type_number WindowUpdate = WINDOW_UPDATE
 type_number Continuation = CONTINUATION
 type_number (Unknown kind) = kind
+
+-- the names of the types 0 to 9, by number (6)
+abbrev pub type_names : List (List ℕ)
+type_names = codes "DATA" ∷ codes "HEADERS" ∷ codes "PRIORITY" ∷ codes "RST_STREAM" ∷ codes "SETTINGS" ∷ codes "PUSH_PROMISE" ∷ codes "PING" ∷ codes "GOAWAY" ∷ codes "WINDOW_UPDATE" ∷ codes "CONTINUATION" ∷ []
+
+-- the number of the type that a text names; the other one where it names none
+abbrev pub type_named : List ℕ → Option ℕ → Option ℕ
+type_named text other =
+    if bytes_eq text (codes "DATA") then Some DATA
+    else if bytes_eq text (codes "HEADERS") then Some HEADERS
+    else if bytes_eq text (codes "PRIORITY") then Some PRIORITY
+    else if bytes_eq text (codes "RST_STREAM") then Some RST_STREAM
+    else if bytes_eq text (codes "SETTINGS") then Some SETTINGS
+    else if bytes_eq text (codes "PUSH_PROMISE") then Some PUSH_PROMISE
+    else if bytes_eq text (codes "PING") then Some PING
+    else if bytes_eq text (codes "GOAWAY") then Some GOAWAY
+    else if bytes_eq text (codes "WINDOW_UPDATE") then Some WINDOW_UPDATE
+    else if bytes_eq text (codes "CONTINUATION") then Some CONTINUATION
+    else other
 
 -- the flags, as the bit's value: END_STREAM and ACK are the same bit
 abbrev pub END_STREAM : ℕ

@@ -3,6 +3,7 @@ use Rattle.std.specs.Prelude.{◌≡◌, ◌≢◌, ◌⊎◌, ℕ, ◌+◌, ◌
 use Rattle.std.specs.List.{AllByRecursion, before_first, slice_split}
 use Rattle.std.specs.Str.Parse.{IsNumeral, digits_value}
 use Rattle.hex.specs.Hex.{decode_of}
+use Rattle.h2_spec.specs.FrameType.{type_names}
 use Rattle.h2_spec.specs.Frame.{preface}
 use Rattle.h2_spec.specs.Instruction.{Instruction, Indexed, Update, Literal, Mode, IncrementalIndexing, WithoutIndexing, NeverIndexed, NameRef, Ref, Named, TextStr, shape_of, spell}
 use Rattle.h2_spec.specs.Octets.{big_endian}
@@ -146,10 +147,6 @@ SaysPayload text (Pairs pairs) = (each : List ℕ) × (text ≡ 115 ∷ each) ×
 SaysPayload text (Increment n) = (digits : List ℕ) × (text ≡ 119 ∷ digits) × SaysNumber max_stream digits n
 SaysPayload text (Code n) = (digits : List ℕ) × (text ≡ 99 ∷ digits) × SaysNumber max_u32 digits n
 SaysPayload text (Instructions instructions) = (each : List ℕ) × (text ≡ 104 ∷ each) × SaysEach SaysInstruction each instructions
-
--- the names of the frame types 0 to 9 (RFC 9113, 6)
-abbrev pub type_names : List (List ℕ)
-type_names = codes "DATA" ∷ codes "HEADERS" ∷ codes "PRIORITY" ∷ codes "RST_STREAM" ∷ codes "SETTINGS" ∷ codes "PUSH_PROMISE" ∷ codes "PING" ∷ codes "GOAWAY" ∷ codes "WINDOW_UPDATE" ∷ codes "CONTINUATION" ∷ []
 
 -- a frame type: its name, or T and two hex digits
 abbrev pub SaysType : List ℕ → ℕ → Type 0

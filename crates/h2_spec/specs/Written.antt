@@ -11,7 +11,8 @@ use Rattle.h2_spec.specs.Octets.{four_octets}
 use Rattle.h2_spec.specs.Parse.{Front, Stop, One, parse_all}
 use Rattle.h2_spec.specs.Payload.{setting_pairs}
 use Rattle.h2_spec.specs.Read.{Read, Whole, More, TooLong}
-use Rattle.h2_spec.specs.Script.{Payload, Empty, Octets, Pairs, Increment, Code, Instructions, Statement, Nothing, Preface, Raw, AFrame, instruction_octets, is_plain, mode_letter, quote_of, type_names}
+use Rattle.h2_spec.specs.FrameType.{type_names}
+use Rattle.h2_spec.specs.Script.{Payload, Empty, Octets, Pairs, Increment, Code, Instructions, Statement, Nothing, Preface, Raw, AFrame, instruction_octets, is_plain, mode_letter, quote_of}
 use Rattle.h2_spec.specs.declared.frames.Head.{Head}
 
 -- ---- what is said of octets

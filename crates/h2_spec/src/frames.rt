@@ -1,8 +1,10 @@
 //! Heads of frames, frame types and flags (RFC 9113, 4.1 and 6).
 //! Rests on nothing; definitions: `specs/FrameType.antt`, `specs/Frame.antt`.
 
-ghost use Rattle.std.specs.Prelude.{◌≡◌, ◌<◌};
-ghost use Rattle.h2_spec.specs.FrameType.{frame_type, type_number, has};
+ghost use Rattle.std.specs.Prelude.{◌≡◌, ◌<◌, option_map, slice_get};
+ghost use Rattle.h2_spec.specs.FrameType.{frame_type, type_names, type_number, has};
+ghost use Rattle.h2_spec.specs.FrameType as spec;
+ghost use Rattle.std.specs.Str.{bytes_eq};
 
 /// What a client sends first (RFC 9113, 3.4).
 pub static PREFACE: [u8; 24] = *b"PRI * HTTP/2.0\r\n\r\nSM\r\n\r\n";
@@ -93,6 +95,61 @@ impl FrameType {
             FrameType::Continuation => CONTINUATION,
             FrameType::Unknown(kind) => kind,
         }
+    }
+}
+
+/// The name of the frame type with this number, as a script writes it: none above 9 (RFC 9113, 6).
+pub fn type_name(kind: u8) -> Option<&'static str>
+    ensures { option_map (λ t. t.now) result ≡ slice_get type_names kind }
+{
+    match kind {
+        DATA => Some("DATA"),
+        HEADERS => Some("HEADERS"),
+        PRIORITY => Some("PRIORITY"),
+        RST_STREAM => Some("RST_STREAM"),
+        SETTINGS => Some("SETTINGS"),
+        PUSH_PROMISE => Some("PUSH_PROMISE"),
+        PING => Some("PING"),
+        GOAWAY => Some("GOAWAY"),
+        WINDOW_UPDATE => Some("WINDOW_UPDATE"),
+        CONTINUATION => Some("CONTINUATION"),
+        _ => None,
+    }
+}
+
+/// Whether a text is this word.
+fn is_word(text: &[u8], word: &[u8]) -> bool
+    ensures { result ≡ bytes_eq text.now word.now }
+{
+    text == word
+}
+
+/// The number of the frame type that a text names, 0 to 9, and `other` where it names none (RFC 9113, 6).
+pub fn type_named(text: &[u8], other: Option<u8>) -> Option<u8>
+    ensures { result ≡ spec.type_named text.now other }
+{
+    if is_word(text, b"DATA") {
+        Some(DATA)
+    } else if is_word(text, b"HEADERS") {
+        Some(HEADERS)
+    } else if is_word(text, b"PRIORITY") {
+        Some(PRIORITY)
+    } else if is_word(text, b"RST_STREAM") {
+        Some(RST_STREAM)
+    } else if is_word(text, b"SETTINGS") {
+        Some(SETTINGS)
+    } else if is_word(text, b"PUSH_PROMISE") {
+        Some(PUSH_PROMISE)
+    } else if is_word(text, b"PING") {
+        Some(PING)
+    } else if is_word(text, b"GOAWAY") {
+        Some(GOAWAY)
+    } else if is_word(text, b"WINDOW_UPDATE") {
+        Some(WINDOW_UPDATE)
+    } else if is_word(text, b"CONTINUATION") {
+        Some(CONTINUATION)
+    } else {
+        other
     }
 }
 
