@@ -1,4 +1,5 @@
-//! One connection: what each item changes, and what is sent for it (RFC 9113, 3.4 to 6).
+//! One connection: what each item changes, and what is sent for it (RFC 9113, 3.4 to 6). The types of its configuration
+//! and of its view are offered here too.
 #![tactic(auto)]
 
 mod apply_change;
@@ -26,7 +27,11 @@ mod write;
 
 pub use conn::Conn;
 pub use fault::ConnFault;
+pub use h2_spec::connection::{BlockView, Config, Phase};
+pub use h2_spec::flow::Settings;
+pub use h2_spec::streams::{Numbers, StreamView};
 pub use mark::Mark;
 pub use one::One;
 pub use opening::write_opening;
 pub use report::TakenItem;
+pub use view::View;

@@ -1,4 +1,6 @@
-//! A whole run: a new connection, and octets in pieces of any lengths (RFC 9113, 3.4).
+//! A whole run: a new connection, and octets in pieces of any lengths (RFC 9113, 3.4). The program does not call `play`,
+//! which is for users of the library: `open_and_feed` does the same and returns the connection, whose text is written
+//! without a view.
 //! Rests on `conn`; definitions: h2_spec's `specs/Trace.antt`, `specs/Runs.antt`.
 
 ghost use Rattle.std.specs.Prelude.{◌≡◌, true, ◌+◌, ◌≤◌, [], length, take, IfErr, IfOk, OnOk, OnErr};

@@ -1,4 +1,5 @@
-//! A debugger: a position in the run of a new connection over octets, moved forward and back.
+//! A debugger: a position in the run of a new connection over octets, moved forward and back. The program does not call
+//! `view`, `show` and `replayed`, which are for users of the library: it writes the text of `conn`.
 //! A mark of the place at each multiple of 64 is kept from when it is first left, so that no move runs more than 63
 //! items again. A place is made again from its mark and the records of the farthest place that was reached.
 //! Rests on `forward`; definitions: h2_spec's `specs/Debug.antt` for positions and breakpoints,

@@ -1,3 +1,4 @@
+//! For users of the library; the program does not call it: a connection decodes by `decode_piece` of `fragment`.
 //! The decoder of a field block, which comes in fragments (RFC 7541, 3; RFC 9113, 4.3), with fields that own their
 //! memory. It uses `fragment`, and commits what a fragment changes of the table only once no memory is needed any more.
 //! The definitions are `decoded` and `carried_on` of `h2_spec`, specs/Block.antt; contracts see a decoder as

@@ -1,4 +1,5 @@
-//! Heads of frames: reading them, and writing whole frames (RFC 9113, 4.1).
+//! Heads of frames: reading them, and writing whole frames (RFC 9113, 4.1). The program does not call `write_frame`, which
+//! is for users of the library: `append_frame` does the same for a payload in two parts.
 //! Rests on `h2_spec`; definitions: `h2_spec/specs/Frame.antt`.
 
 ghost use Rattle.std.specs.Prelude.{◌≡◌, ℕ, ◌+◌, ◌<◌, ◌≤◌, ◌^◌, ◌∷◌, ◌++◌, List, drop, length, false, Some, OnOk, OnErr};

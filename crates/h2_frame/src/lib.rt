@@ -5,10 +5,12 @@
 #![tactic(auto)]
 
 mod cuts;
+pub mod fault;
 pub mod head;
 pub mod payload;
 pub mod splitter;
 
+pub use fault::PayloadFault;
 pub use h2_spec::frames::{FrameType, Head};
 pub use head::{FrameRef, append_frame, read_head, write_frame};
 pub use payload::{

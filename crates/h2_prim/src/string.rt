@@ -1,4 +1,5 @@
-//! Strings of HPACK (RFC 7541, 5.2): a flag, a length, and octets that are the text or its Huffman string.
+//! Strings of HPACK (RFC 7541, 5.2): a flag, a length, and octets that are the text or its Huffman string. The program does
+//! not call `read_str`, which is for users of the library: `find_str` lends the string, and its reader decodes it.
 //! It rests on `integer` and `huffman`; its definitions are `string_at` and `text_of` of `h2_spec`,
 //! specs/Instruction.antt.
 

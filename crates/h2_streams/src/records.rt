@@ -1,4 +1,6 @@
-//! The records: what opens, changes and ends a stream.
+//! The records: what opens, changes and ends a stream. The program does not call `open_stream`, `open_reset`, `set`,
+//! `end_remote`, `end_local`, `reset` and `next_waiting`, which are for users of the library: its rules return the whole
+//! record after a frame, which `put` puts in place, and `next_ready` finds the next stream that can send.
 //! Rests on `kinds`, `live` (the map of the live streams), `places` (the search by identifier) and `ids` (rising lists).
 //! Definitions: `h2_spec/specs/Stream.antt`; what the fields keep: `specs/Kept.antt`.
 

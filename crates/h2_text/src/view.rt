@@ -1,4 +1,5 @@
-//! What is shown of a connection's state.
+//! What is shown of a connection's state. The program does not make a `View`, which is for users of the library: it writes
+//! the text of what is lent (`Shown`, in `show`).
 //! Rests on h2_table, h2_streams and, for the fields of the header table, on h2_fields; definition: h2_spec's
 //! `specs/View.antt`.
 
