@@ -63,7 +63,7 @@ is_serve None = false
 is_serve (Some (batch b)) = false
 is_serve (Some (debug config book)) = false
 is_serve (Some (serve config port count book)) = true
-is_serve (Some (explain config json color file book)) = false
+is_serve (Some (explain config style file book)) = false
 is_serve (Some (check config book names)) = false
 
 -- whether anything is read for words
@@ -72,7 +72,7 @@ is_reader None = false
 is_reader (Some (batch b)) = true
 is_reader (Some (debug config book)) = true
 is_reader (Some (serve config port count book)) = false
-is_reader (Some (explain config json color file book)) = true
+is_reader (Some (explain config style file book)) = true
 is_reader (Some (check config book names)) = false
 
 abbrev pub asks_why : Option Asked → Bool
@@ -80,5 +80,5 @@ asks_why None = false
 asks_why (Some (batch b)) = asks_why_batch b
 asks_why (Some (debug config book)) = book.why
 asks_why (Some (serve config port count book)) = book.why
-asks_why (Some (explain config json color file book)) = book.why
+asks_why (Some (explain config style file book)) = book.why
 asks_why (Some (check config book names)) = book.why

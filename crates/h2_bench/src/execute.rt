@@ -3,7 +3,7 @@
 
 ghost use Rattle.std.specs.Prelude.{◌≡◌, ◌==◌, ◌⊎◌, ℕ, Bool, List, Some, None, true, false, IfErr};
 ghost use Rattle.h2_spec.specs.declared.connection.Config.{Config};
-ghost use Rattle.h2_words.specs.Grammar.{BatchAsked, BookAsked, asked_of, batch, debug, explain};
+ghost use Rattle.h2_words.specs.Grammar.{BatchAsked, BookAsked, Style, asked_of, batch, debug, explain};
 ghost use Rattle.h2_words.specs.Plans.{asked_in, book_asked};
 ghost use Rattle.h2_commands.specs.CommandEnd.{EndsBatch, KnowsFile, PrintsSome, file_of, no_files};
 ghost use Rattle.h2_commands.specs.ExplainProgram.{EndsExplain, form_of};
@@ -113,10 +113,10 @@ pub fn carry_out<F: Files, I: Input, O: Output, E: Output>(
         → KnowsFile book.file (F.is_printed files.old) → O.has_failed output.new ≡ false
         → EndsSession (F.file files.old) config book (I.remaining input.old) (I.remaining input.new)
         (I.has_failed input.new) (O.written output.old) (O.written output.new) result }
-    ensures explains { (config : Config) → (json color : Bool) → (file : List ℕ) → (book : BookAsked)
-        → asked_in asked.now ≡ Some (explain config json color file book)
+    ensures explains { (config : Config) → (style : Style) → (file : List ℕ) → (book : BookAsked)
+        → asked_in asked.now ≡ Some (explain config style file book)
         → KnowsFile book.file (F.is_printed files.old) → KnowsFile file (F.is_printed files.old) → O.has_failed output.new ≡ false
-        → EndsExplain (form_of json color) (F.file files.old) config file book (I.remaining input.old) (I.has_failed input.new)
+        → EndsExplain (form_of style) (F.file files.old) config file book (I.remaining input.old) (I.has_failed input.new)
         (O.written output.old) (O.written output.new) result }
     ensures serves { is_serve (asked_in asked.now) ≡ true → (result ≡ 2) × (O.written output.new ≡ O.written output.old) }
     ensures refused { IfErr asked.now (λ refusal. O.has_failed output.new ≡ false
@@ -160,10 +160,10 @@ pub fn run_on<F: Files, I: Input, O: Output, E: Output>(
         → KnowsFile book.file (F.is_printed files.old) → O.has_failed output.new ≡ false
         → EndsSession (F.file files.old) config book (I.remaining input.old) (I.remaining input.new)
         (I.has_failed input.new) (O.written output.old) (O.written output.new) result }
-    ensures explains { (config : Config) → (json color : Bool) → (file : List ℕ) → (book : BookAsked)
-        → asked_of words.now ≡ Some (explain config json color file book)
+    ensures explains { (config : Config) → (style : Style) → (file : List ℕ) → (book : BookAsked)
+        → asked_of words.now ≡ Some (explain config style file book)
         → KnowsFile book.file (F.is_printed files.old) → KnowsFile file (F.is_printed files.old) → O.has_failed output.new ≡ false
-        → EndsExplain (form_of json color) (F.file files.old) config file book (I.remaining input.old) (I.has_failed input.new)
+        → EndsExplain (form_of style) (F.file files.old) config file book (I.remaining input.old) (I.has_failed input.new)
         (O.written output.old) (O.written output.new) result }
     ensures serves { is_serve (asked_of words.now) ≡ true → O.has_failed output.new ≡ false
         → EndsServe (O.written output.old) (O.written output.new) result }
@@ -190,9 +190,9 @@ pub fn run<R: Read, W: Write>(alloc: Global, words: &Words, input: &mut R, outpu
     ensures debugs { (config : Config) → (book : BookAsked) → asked_of words.now ≡ Some (debug config book)
         → (result ≡ 3)
         ⊎ ((failed : Bool) × EndsSession no_files config book (R.remaining input.old) (R.remaining input.new) failed (W.contents output.old) (W.contents output.new) result) }
-    ensures explains { (config : Config) → (json color : Bool) → (file : List ℕ) → (book : BookAsked)
-        → asked_of words.now ≡ Some (explain config json color file book) → (result ≡ 3)
-        ⊎ ((failed : Bool) × EndsExplain (form_of json color) no_files config file book (R.remaining input.old) failed (W.contents output.old) (W.contents output.new) result) }
+    ensures explains { (config : Config) → (style : Style) → (file : List ℕ) → (book : BookAsked)
+        → asked_of words.now ≡ Some (explain config style file book) → (result ≡ 3)
+        ⊎ ((failed : Bool) × EndsExplain (form_of style) no_files config file book (R.remaining input.old) failed (W.contents output.old) (W.contents output.new) result) }
     ensures serves { is_serve (asked_of words.now) ≡ true → (result ≡ 3)
         ⊎ EndsServe (W.contents output.old) (W.contents output.new) result }
     ensures refused { asked_of words.now ≡ None → (result ≡ 3)

@@ -11,10 +11,10 @@ use Rattle.h2_explain.specs.Explains.{IsExplanation}
 use Rattle.h2_explain.specs.declared.run.Form.{Form}
 use Rattle.h2_explain.specs.declared.run.ExplainFault.{ExplainFault}
 use Rattle.h2_explain.specs.declared.run.ExplainFault.TheVariants as explained
-use Rattle.h2_words.specs.Grammar.{BookAsked}
+use Rattle.h2_words.specs.Grammar.{BookAsked, Style}
 use Rattle.h2_commands.specs.Books.{book_said}
 use Rattle.h2_commands.specs.Input.{most, octets_spelled}
-use Rattle.h2_commands.specs.Printing.{Printed, failed, failed_after, refused}
+use Rattle.h2_commands.specs.Printing.{Printed, failed, failed_as, failed_after_as, refused_as}
 use Rattle.h2_commands.specs.CommandEnd.{PrintsSome}
 use Rattle.h2_commands.specs.declared.explain.ExplainEnd.{ExplainEnd}
 use Rattle.h2_commands.specs.declared.explain.ExplainEnd.TheVariants.{Fault, NotWritten}
@@ -23,8 +23,8 @@ use Rattle.h2_commands.specs.declared.fault.BenchFault.TheVariants.{BadConfig, B
 -- ---- a run
 
 -- the form that the words ask for
-abbrev pub form_of : (json color : Bool) → Form
-form_of json color = record { json = json; color = color }
+abbrev pub form_of : Style → Form
+form_of style = record { json = style.json; color = style.color; full = style.full }
 
 -- the status of a run that ends in this phase: 4 where a connection error ended the connection
 abbrev pub run_status : Phase → ℕ
@@ -38,15 +38,15 @@ run_status (Ended code) = 4
 abbrev pub ReportsRun : Form → State → List ℕ → Printed → Type 0
 ReportsRun form s octets t =
     ((t.status ≡ run_status (trace s octets).state.core.phase) × IsExplanation form false s octets t.text)
-    ⊎ ((t ≡ failed_after [] NoMemory) ⊎ ((text : List ℕ) × IsExplanation form true s octets text × (t ≡ failed_after text NoMemory)))
+    ⊎ ((t ≡ failed_after_as form.json [] NoMemory) ⊎ ((text : List ℕ) × IsExplanation form true s octets text × (t ≡ failed_after_as form.json text NoMemory)))
 
 -- where the limits are allowed
 abbrev pub ReportsAllowed : Form → Bool → List Entry → Config → List ℕ → Printed → Type 0
-ReportsAllowed form false book config octets t = t ≡ failed BadConfig
+ReportsAllowed form false book config octets t = t ≡ failed_as form.json BadConfig
 ReportsAllowed form true book config octets t = ReportsRun form (opening book config) octets t
 
 abbrev pub ReportsSpelled : Form → List Entry → Config → Option (List ℕ) → Printed → Type 0
-ReportsSpelled form book config None t = t ≡ failed BadHex
+ReportsSpelled form book config None t = t ≡ failed_as form.json BadHex
 ReportsSpelled form book config (Some octets) t = ReportsAllowed form (is_allowed config) book config octets t
 
 -- of a text of hex
@@ -57,7 +57,7 @@ ReportsText form book config text t = ReportsSpelled form book config (octets_sp
 
 -- a text that is too long is not read
 abbrev pub ReportsIfShort : Form → Bool → List Entry → Config → List ℕ → Printed → Type 0
-ReportsIfShort form true book config text t = t ≡ failed Read
+ReportsIfShort form true book config text t = t ≡ failed_as form.json Read
 ReportsIfShort form false book config text t = ReportsText form book config text t
 
 abbrev pub ReportsRead : Form → List Entry → Config → List ℕ → Printed → Type 0
@@ -65,12 +65,12 @@ ReportsRead form book config text t = ReportsIfShort form (nat_lt most (length t
 
 -- the text of a file
 abbrev pub ReportsFile : Form → List Entry → Config → Option (List ℕ) → Printed → Type 0
-ReportsFile form book config None t = t ≡ failed Read
+ReportsFile form book config None t = t ≡ failed_as form.json Read
 ReportsFile form book config (Some text) t = ReportsRead form book config text t
 
 -- the text of the input, where no read failed
 abbrev pub ReportsInput : Form → List Entry → Config → Option (List ℕ) → Bool → Printed → Type 0
-ReportsInput form book config input true t = t ≡ failed Read
+ReportsInput form book config input true t = t ≡ failed_as form.json Read
 ReportsInput form book config input false t = (text : List ℕ) → input ≡ Some text → ReportsRead form book config text t
 
 -- that of the file where one is named, else that of the input
@@ -82,12 +82,12 @@ ReportsFrom form files (octet ∷ octets) input input_failed book config t = Rep
 
 -- the fault of the book is found before anything is read
 abbrev pub ReportsWith : Form → Result (List Entry) ℕ → Directory → List ℕ → Option (List ℕ) → Bool → Config → Printed → Type 0
-ReportsWith form (Err fault) files file input input_failed config t = t ≡ refused fault
+ReportsWith form (Err fault) files file input input_failed config t = t ≡ refused_as form.json fault
 ReportsWith form (Ok book) files file input input_failed config t = ReportsFrom form files file input input_failed book config t
 
--- memory was refused before anything was written, or this is reported
+-- memory was refused before the words or the book were known, or this is reported
 abbrev pub IsExplained : Form → Directory → Config → List ℕ → BookAsked → Option (List ℕ) → Bool → Printed → Type 0
-IsExplained form files config file book input input_failed t = (t ≡ failed NoMemory) ⊎ ReportsWith form (book_said files book) files file input input_failed config t
+IsExplained form files config file book input input_failed t = (t ≡ failed NoMemory) ⊎ ((t ≡ failed_as form.json NoMemory) ⊎ ReportsWith form (book_said files book) files file input input_failed config t)
 
 -- where no write failed: the output gained such a text, and the status is its
 abbrev pub EndsExplain : Form → Directory → Config → List ℕ → BookAsked → Option (List ℕ) → Bool → Option (List ℕ) → Option (List ℕ) → ℕ → Type 0
@@ -102,11 +102,11 @@ cut_off (Err (Fault fault)) = false
 cut_off (Err NotWritten) = true
 
 -- what is reported in all, where a text was written and then it ended so
-abbrev pub explained_after : List ℕ → Result Bool ExplainEnd → Printed
-explained_after text (Ok true) = record { text = text; status = 4 }
-explained_after text (Ok false) = record { text = text; status = 0 }
-explained_after text (Err (Fault fault)) = failed_after text fault
-explained_after text (Err NotWritten) = record { text = text; status = 3 }
+abbrev pub explained_after : (json : Bool) → List ℕ → Result Bool ExplainEnd → Printed
+explained_after json text (Ok true) = record { text = text; status = 4 }
+explained_after json text (Ok false) = record { text = text; status = 0 }
+explained_after json text (Err (Fault fault)) = failed_after_as json text fault
+explained_after json text (Err NotWritten) = record { text = text; status = 3 }
 
 -- the end of an explanation that was cut short
 abbrev pub end_of : ExplainFault → ExplainEnd

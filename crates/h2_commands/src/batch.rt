@@ -3,7 +3,7 @@
 //! `specs/CommandEnd.antt`, `specs/ExplainProgram.antt`.
 
 ghost use Rattle.std.specs.Prelude.{◌≡◌, ◌==◌, ◌≤◌, length, ◌<◌, ◌⊎◌, ◌++◌, ℕ, List, Some, Ok, Err, true, false, IfOk, IfErr, OnOk};
-ghost use Rattle.h2_words.specs.Plans.{batch_asked, book_asked};
+ghost use Rattle.h2_words.specs.Plans.{batch_asked, book_asked, style_asked};
 ghost use Rattle.h2_commands.specs.Reports.{seen};
 ghost use Rattle.h2_commands.specs.Books.{book_in};
 ghost use Rattle.h2_commands.specs.Each.{not_written, printed_after};
@@ -12,7 +12,7 @@ ghost use Rattle.h2_commands.specs.ExplainProgram.{EndsExplain, ReportsText, cut
 ghost use Rattle.h2_commands.specs.Faults.{fault_number};
 ghost use Rattle.h2_commands.specs.Input.{most, octets_spelled};
 ghost use Rattle.h2_commands.specs.TableProgram.{table_parts, table_text};
-ghost use Rattle.h2_commands.specs.Printed.{OrCutShort, done, failed, places, places_play, printed, printed_play};
+ghost use Rattle.h2_commands.specs.Printed.{OrCutShort, done, failed, failed_as, places, places_play, printed, printed_play};
 ghost use Rattle.h2_commands.specs.declared.fault.BenchFault.TheVariants.{NoMemory};
 
 use crate::asm::asm_report;
@@ -20,7 +20,7 @@ use crate::books::book_for_words;
 use crate::dis::dis_text;
 use crate::each::{PlacesFault, write_text};
 use crate::explain::{ExplainEnd, explain_text, read_text};
-use crate::fault::BenchFault;
+use crate::fault::{BenchFault, FaultText};
 use crate::input::read_all;
 use crate::play::write_play;
 use crate::report::{Report, whole};
@@ -78,6 +78,17 @@ pub fn print_fault<O: Output>(output: &mut O, fault: BenchFault) -> u8
     ensures name { O.name output.new ≡ O.name output.old }
 {
     print(output, &fault.line(), 1)
+}
+
+/// Writes what reports a fault, its line or its object of JSON, and gives status 1, or 3 where that failed.
+fn print_fault_as<O: Output>(output: &mut O, json: bool, fault: BenchFault) -> u8
+    requires { O.has_failed output.old ≡ false }
+    ensures printed { O.has_failed output.new ≡ false → (held : List ℕ) → O.written output.old ≡ Some held
+        → Prints (failed_as json fault) held (O.written output.new) result }
+    ensures flag { O.has_failed output.new ≡ (result == 3) }
+    ensures name { O.name output.new ≡ O.name output.old }
+{
+    print(output, &FaultText { json, fault }, 1)
 }
 
 /// Writes an answer: the text of a report with its status, or the line of a fault with status 1.
@@ -198,12 +209,12 @@ pub fn respond<F: Files, I: Input, O: Output, E: Output>(
     }
 }
 
-/// Writes what is left to say of an explanation: the line of a fault that ended it. Gives the status: 0 where no
-/// connection error ended the connection, 4 where one did, 1 after a fault, 3 where the output failed.
-fn print_explained<O: Output>(output: &mut O, ended: Result<bool, ExplainEnd>) -> u8
+/// Writes what is left to say of an explanation: the fault that ended it. Gives the status: 0 where no connection error
+/// ended the connection, 4 where one did, 1 after a fault, 3 where the output failed.
+fn print_explained<O: Output>(output: &mut O, json: bool, ended: Result<bool, ExplainEnd>) -> u8
     requires { O.has_failed output.old ≡ cut_off ended }
     ensures printed { O.has_failed output.new ≡ false → (held text : List ℕ) → O.written output.old ≡ Some (held ++ text)
-        → Prints (explained_after text ended) held (O.written output.new) result }
+        → Prints (explained_after json text ended) held (O.written output.new) result }
     ensures kept { O.has_failed output.new ≡ false → O.has_failed output.old ≡ false }
     ensures flag { O.has_failed output.new ≡ (result == 3) }
     ensures name { O.name output.new ≡ O.name output.old }
@@ -212,7 +223,7 @@ fn print_explained<O: Output>(output: &mut O, ended: Result<bool, ExplainEnd>) -
         Ok(true) => 4,
         Ok(false) => 0,
         Err(end) => match end {
-            ExplainEnd::Fault(fault) => print_fault(output, fault),
+            ExplainEnd::Fault(fault) => print_fault_as(output, json, fault),
             ExplainEnd::NotWritten => 3,
         },
     }
@@ -229,16 +240,17 @@ fn print_text<O: Output>(
     requires few { length text.now ≤ most }
     requires writer { O.has_failed output.old ≡ false }
     ensures printed { O.has_failed output.new ≡ false
-        → PrintsSome (λ t. ReportsText (form_of plan.now.json plan.now.color) book.now plan.now.config text.now t) (O.written output.old) (O.written output.new) result }
+        → PrintsSome (λ t. ReportsText (form_of (style_asked plan.now)) book.now plan.now.config text.now t) (O.written output.old) (O.written output.new) result }
     ensures flag { O.has_failed output.new ≡ (result == 3) }
     ensures name { O.name output.new ≡ O.name output.old }
 {
     let form = Form {
         json: plan.json,
         color: plan.color,
+        full: plan.full,
     };
     let ended = explain_text(alloc, form, plan.config, book, text, output);
-    print_explained(output, ended)
+    print_explained(output, plan.json, ended)
 }
 
 /// Makes the book of an explanation, reads its text, and explains it.
@@ -254,7 +266,7 @@ pub fn explain_plan<F: Files, I: Input, O: Output, E: Output>(
     requires writer { O.has_failed output.old ≡ false }
     ensures printed { KnowsFile plan.now.book.file.now (F.is_printed files.old) → KnowsFile plan.now.file.now (F.is_printed files.old)
         → O.has_failed output.new ≡ false
-        → EndsExplain (form_of plan.now.json plan.now.color) (F.file files.old) plan.now.config plan.now.file.now (book_asked plan.now.book) (I.remaining input.old)
+        → EndsExplain (form_of (style_asked plan.now)) (F.file files.old) plan.now.config plan.now.file.now (book_asked plan.now.book) (I.remaining input.old)
         (I.has_failed input.new) (O.written output.old) (O.written output.new) result }
     ensures flag { O.has_failed output.new ≡ (result == 3) }
     ensures input { I.name input.new ≡ I.name input.old }
@@ -264,10 +276,10 @@ pub fn explain_plan<F: Files, I: Input, O: Output, E: Output>(
 {
     let book = match book_for_words(alloc, &plan.book, files, errors) {
         Ok(book) => book,
-        Err(fault) => return print_fault(output, fault),
+        Err(fault) => return print_fault_as(output, plan.json, fault),
     };
     match read_text(alloc, plan.file, files, input) {
         Ok(text) => print_text(alloc, plan, &book, text.as_slice(), output),
-        Err(fault) => print_fault(output, fault),
+        Err(fault) => print_fault_as(output, plan.json, fault),
     }
 }

@@ -23,6 +23,7 @@ mod rest;
 mod run;
 mod sentence;
 mod special;
+mod string_sentence;
 mod text;
 
 pub use account::{Account, Explainer};

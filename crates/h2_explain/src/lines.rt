@@ -217,8 +217,12 @@ struct ItemWords {
 }
 
 /// The item in words.
-fn item_words(alloc: Global, item: &Explained<'_>) -> Result<String, AllocError> {
-    let mut words = Words::new(alloc);
+fn item_words(
+    alloc: Global,
+    item: &Explained<'_>,
+    explainer: &Explainer,
+) -> Result<String, AllocError> {
+    let mut words = explainer.words(alloc);
     say_item(item, &mut words);
     words.finish()
 }
@@ -230,7 +234,7 @@ fn fields_text(
     explainer: &Explainer,
     paint: Paint,
 ) -> Result<String, AllocError> {
-    let mut fields = Words::new(alloc);
+    let mut fields = explainer.words(alloc);
     if account.shows_fields {
         say_fields(&explainer.reader, paint, &mut fields);
     }
@@ -245,15 +249,25 @@ fn also_text(alloc: Global, also: &[Cause], paint: Paint) -> Result<String, Allo
 }
 
 /// The lines of the frames that were sent.
-fn sent_text(alloc: Global, sent: &[u8], paint: Paint) -> Result<String, AllocError> {
-    let mut words = Words::new(alloc);
+fn sent_text(
+    alloc: Global,
+    sent: &[u8],
+    explainer: &Explainer,
+    paint: Paint,
+) -> Result<String, AllocError> {
+    let mut words = explainer.words(alloc);
     say_sent(alloc, sent, paint, &mut words);
     words.finish()
 }
 
 /// The lines of what an item changed.
-fn changes_text(alloc: Global, account: &Account, paint: Paint) -> Result<String, AllocError> {
-    let mut words = Words::new(alloc);
+fn changes_text(
+    alloc: Global,
+    account: &Account,
+    explainer: &Explainer,
+    paint: Paint,
+) -> Result<String, AllocError> {
+    let mut words = explainer.words(alloc);
     say_changes(account.changes.as_slice(), paint, &mut words);
     say_all_moved(account.moved.as_slice(), paint, &mut words);
     say_entries(account.entries.as_slice(), paint, &mut words);
@@ -276,11 +290,11 @@ fn words_of(
     paint: Paint,
 ) -> Result<ItemWords, AllocError> {
     Ok(ItemWords {
-        item: item_words(alloc, item)?,
+        item: item_words(alloc, item, explainer)?,
         fields: fields_text(alloc, account, explainer, paint)?,
         also: also_text(alloc, account.also.as_slice(), paint)?,
-        sent: sent_text(alloc, item.sent.as_slice(), paint)?,
-        changes: changes_text(alloc, account, paint)?,
+        sent: sent_text(alloc, item.sent.as_slice(), explainer, paint)?,
+        changes: changes_text(alloc, account, explainer, paint)?,
     })
 }
 

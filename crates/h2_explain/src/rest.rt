@@ -4,12 +4,13 @@
 
 ghost use Rattle.std.specs.Prelude.{◌≡◌, false, IfOk};
 ghost use Rattle.std.specs.String.{string_bytes};
-ghost use Rattle.h2_explain.specs.Explains.{EndsLine, IsRestOf};
+ghost use Rattle.h2_explain.specs.Explains.{EndsLine, IsRestOf, is_said};
 ghost use Rattle.h2_explain.specs.Rest.{missing_of, missing_of_front, rest_of};
 
-use crate::json::{line_of, put_head};
+use crate::json::{line_of, put_head, put_opening};
 use crate::json_words::JsonWords;
 use crate::paint::{Paint, Role};
+use crate::text::say_opening;
 use h2_conn::Conn;
 use h2_describe::frame_words::say_head;
 use h2_describe::say::{Octets, Words};
@@ -125,15 +126,36 @@ fn say_blanks(used: usize, out: &mut Words) {
     }
 }
 
-/// The line of the octets after the last item, without its end.
-fn rest_words(alloc: Global, rest: Rest, paint: Paint) -> Result<String, AllocError> {
+/// Whether something is said after so many items: of octets that are left, or that none came at all.
+fn is_said(items: u64, octets: usize) -> bool
+    ensures { result ≡ is_said items octets }
+{
+    0 < octets || items == 0
+}
+
+/// Puts last how many octets there are.
+fn say_count(octets: usize, out: &mut Words) {
+    match octets {
+        0 => say_all!(out; "no octets"),
+        _ => say_all!(out; Octets(octets as u64)),
+    }
+}
+
+/// The lines of the server's opening, if it is given, and that of the octets after the last item, without its end.
+fn rest_words(
+    alloc: Global,
+    rest: Rest,
+    opening: &[u8],
+    paint: Paint,
+) -> Result<String, AllocError> {
     let mut words = Words::new(alloc);
+    say_opening(alloc, opening, paint, &mut words);
     paint.start(Role::Item, &mut words);
     let start = words.len();
     say_all!(&mut words; "@", rest.offset);
     let used = words.len().saturating_sub(start);
     say_blanks(used, &mut words);
-    say_all!(&mut words; Octets(rest.octets as u64));
+    say_count(rest.octets, &mut words);
     match rest.ended {
         Some(_) => say_all!(&mut words; " not read"),
         None => say_missing(rest.missing, &mut words),
@@ -141,12 +163,18 @@ fn rest_words(alloc: Global, rest: Rest, paint: Paint) -> Result<String, AllocEr
     words.finish()
 }
 
-/// The line of the octets after the last item, empty if there are none.
-pub(crate) fn rest_line(alloc: Global, rest: Rest, paint: Paint) -> Result<String, AllocError>
-    ensures { IfOk result (λ text. IsRestOf false paint.0 rest.octets (string_bytes text)) }
+/// The line of the octets after the last item, empty if there are none; before it, where no item came, the lines of the
+/// server's opening.
+pub(crate) fn rest_line(
+    alloc: Global,
+    rest: Rest,
+    opening: &[u8],
+    paint: Paint,
+) -> Result<String, AllocError>
+    ensures { IfOk result (λ text. IsRestOf false paint.0 rest.items rest.octets (string_bytes text)) }
 {
-    if 0 < rest.octets {
-        let words = rest_words(alloc, rest, paint)?;
+    if is_said(rest.items, rest.octets) {
+        let words = rest_words(alloc, rest, opening, paint)?;
         string_of(alloc, &texts!(words.as_str(), paint.ended()))
     } else {
         Ok(String::new(alloc))
@@ -190,11 +218,12 @@ fn put_end(rest: Rest, out: &mut JsonWords) {
     out.number("offset", rest.offset as u64);
 }
 
-/// The last line of JSON.
-pub(crate) fn rest_json(alloc: Global, rest: Rest) -> Result<String, AllocError>
+/// The last line of JSON; before it, where no item came, that of the server's opening.
+pub(crate) fn rest_json(alloc: Global, rest: Rest, opening: &[u8]) -> Result<String, AllocError>
     ensures { IfOk result (λ text. EndsLine false (string_bytes text)) }
 {
-    let mut out = JsonWords::new(alloc);
+    let mut out = JsonWords::over(Words::new(alloc));
+    put_opening(alloc, opening, &mut out);
     out.open_element();
     out.open("end");
     put_end(rest, &mut out);

@@ -9,7 +9,7 @@ ghost use Rattle.h2_conn.specs.Connection.{going};
 ghost use Rattle.h2_explain.specs.Explains.{Gains, IsExplanation, IsItemText, IsRestText, IsWritten, not_written, summary_over};
 ghost use Rattle.h2_explain.specs.declared.run.ExplainFault.TheVariants as faults;
 
-use crate::account::Explainer;
+use crate::account::{Explainer, opening_of};
 use crate::item::{Explained, take_explained};
 use crate::json::json_of;
 use crate::lines::lines_of;
@@ -27,6 +27,8 @@ pub struct Form {
     pub json: bool,
     /// As a text with colours.
     pub color: bool,
+    /// With long texts whole; else the first 100 octets of each are shown.
+    pub full: bool,
 }
 
 /// Why not all items were explained.
@@ -99,14 +101,20 @@ fn write_item<O: Output>(
     }
 }
 
-/// The text of what is left after the last item.
-fn end_text(alloc: Global, form: Form, rest: Rest) -> Result<String, AllocError>
-    ensures { IfOk result (λ text. IsRestText form rest.octets (string_bytes text)) }
+/// The text of what is left after the last item; before it, where no item came, that of the server's opening.
+fn end_text(
+    alloc: Global,
+    form: Form,
+    conn: &Conn<'_, Global>,
+    rest: Rest,
+) -> Result<String, AllocError>
+    ensures { IfOk result (λ text. IsRestText form rest.items rest.octets (string_bytes text)) }
 {
+    let opening = opening_of(alloc, conn, rest.items == 0)?;
     if form.json {
-        rest_json(alloc, rest)
+        rest_json(alloc, rest, opening.as_slice())
     } else {
-        rest_line(alloc, rest, Paint(form.color))
+        rest_line(alloc, rest, opening.as_slice(), Paint(form.color))
     }
 }
 
@@ -121,11 +129,11 @@ fn write_end<O: Output>(
     output: &mut O,
 ) -> Result<(), ExplainFault>
     requires writer { O.has_failed output.old ≡ false }
-    ensures gains { O.has_failed output.new ≡ false → Gains (IsWritten (λ text. IsRestText form (length rest.now) text) result) (O.written output.old) (O.written output.new) }
+    ensures gains { O.has_failed output.new ≡ false → Gains (IsWritten (λ text. IsRestText form items (length rest.now) text) result) (O.written output.old) (O.written output.new) }
     ensures flag { O.has_failed output.new ≡ not_written result }
     ensures name { O.name output.new ≡ O.name output.old }
 {
-    match end_text(alloc, form, rest_of(conn, items, offset, rest)) {
+    match end_text(alloc, form, conn, rest_of(conn, items, offset, rest)) {
         Ok(text) => write(output, text.as_bytes()),
         Err(_) => Err(ExplainFault::NoMemory),
     }
@@ -162,6 +170,7 @@ fn explain_items<O: Output>(
     ensures name { O.name output.new ≡ O.name output.old }
 {
     let mut explainer = explainer;
+    explainer.is_full = form.full;
     let mut at = 0usize;
     let mut items = 0u64;
     loop {

@@ -46,6 +46,10 @@ json_rule = record (new_rule (codes "json")) { long = Some (codes "json"); actio
 abbrev pub color_rule : Rule
 color_rule = record (new_rule (codes "color")) { long = Some (codes "color"); action = Some SetTrue }
 
+-- whether long texts are written whole
+abbrev pub full_rule : Rule
+full_rule = record (new_rule (codes "full")) { long = Some (codes "full"); action = Some SetTrue }
+
 -- the answers, any number of them
 abbrev pub answer_rule : Rule
 answer_rule = record (new_rule (codes "ANSWER")) { action = Some Append }
@@ -101,7 +105,7 @@ abbrev pub serve_app : App
 serve_app = with_rule (with_rule (with_rule (with_book (with_limits (new_app (codes "serve")))) port_rule) count_rule) answer_rule
 
 abbrev pub explain_app : App
-explain_app = with_rule (with_book (with_rule (with_rule (with_limits (new_app (codes "explain"))) json_rule) color_rule)) answer_rule
+explain_app = with_rule (with_book (with_rule (with_rule (with_rule (with_limits (new_app (codes "explain"))) json_rule) color_rule) full_rule)) answer_rule
 
 -- FILE of `check`, one or more
 abbrev pub files_rule : Rule
@@ -134,11 +138,17 @@ pub data BatchAsked : Type 0 where
   dis : BatchAsked
   table : (limit : ℕ) → BatchAsked
 
+-- how an explanation is written: whether as JSON, with colours, with long texts whole
+pub record Style : Type 0 where
+  pub json : Bool
+  pub color : Bool
+  pub full : Bool
+
 pub data Asked : Type 0 where
   batch : BatchAsked → Asked
   debug : (config : Config) → (book : BookAsked) → Asked
   serve : (config : Config) → (port : ℕ) → (count : ℕ) → (book : BookAsked) → Asked
-  explain : (config : Config) → (json : Bool) → (color : Bool) → (file : Text) → (book : BookAsked) → Asked
+  explain : (config : Config) → (style : Style) → (file : Text) → (book : BookAsked) → Asked
   check : (config : Config) → (book : BookAsked) → (files : List Text) → Asked
 
 -- the number that a text spells in decimal digits, if it is below 2 ^ 32
@@ -202,6 +212,10 @@ explain_book_at rows = record (book_at rows) { answers = answers_among (texts_at
 abbrev pub file_book_at : List Row → BookAsked
 file_book_at rows = record { file = text_at (codes "book") rows; why = false; answers = [] }
 
+-- how the explanation is written
+abbrev pub style_at : List Row → Style
+style_at rows = record { json = is_set (codes "json") rows; color = is_set (codes "color") rows; full = is_set (codes "full") rows }
+
 abbrev pub asked_by : Text → List Row → Option Asked
 asked_by name rows =
     if bytes_eq name (codes "play") then Some (batch (play (config_at rows) (number_at (codes "cut") 0 rows) (is_set (codes "each") rows) (book_at rows)))
@@ -210,7 +224,7 @@ asked_by name rows =
     else if bytes_eq name (codes "table") then Some (batch (table (number_at (codes "LIMIT") 0 rows)))
     else if bytes_eq name (codes "debug") then Some (debug (config_at rows) (book_at rows))
     else (if bytes_eq name (codes "serve") then Some (serve (config_at rows) (number_at (codes "PORT") 0 rows) (number_at (codes "COUNT") 0 rows) (book_at rows))
-    else (if bytes_eq name (codes "explain") then Some (explain (config_at rows) (is_set (codes "json") rows) (is_set (codes "color") rows) (file_among (texts_at (codes "ANSWER") rows)) (explain_book_at rows))
+    else (if bytes_eq name (codes "explain") then Some (explain (config_at rows) (style_at rows) (file_among (texts_at (codes "ANSWER") rows)) (explain_book_at rows))
     else (if bytes_eq name (codes "check") then Some (check (config_at rows) (file_book_at rows) (texts_at (codes "FILE") rows)) else None)))
 
 -- what is asked, if no kind of error comes

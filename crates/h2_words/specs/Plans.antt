@@ -1,9 +1,10 @@
 -- What a plan represents, and what a refusal says of words.
 use Rattle.std.specs.Prelude.{◌≡◌, Option, Some, None, Result, Ok, Err, map}
-use Rattle.h2_words.specs.Grammar.{Asked, BatchAsked, BookAsked, batch, play, asm, dis, table, debug, serve, explain, check}
+use Rattle.h2_words.specs.Grammar.{Asked, BatchAsked, BookAsked, Style, batch, play, asm, dis, table, debug, serve, explain, check}
 use Rattle.h2_words.specs.declared.command.Batch.{Batch}
 use Rattle.h2_words.specs.declared.command.Batch.TheVariants.{Play, Asm, Dis, Table}
 use Rattle.h2_words.specs.declared.command.BookWords.{BookWords}
+use Rattle.h2_words.specs.declared.command.Explain.{Explain}
 use Rattle.h2_words.specs.declared.command.Plan.{Plan}
 use Rattle.h2_words.specs.declared.command.Plan.TheVariants as plan
 use Rattle.h2_words.specs.declared.command.Refusal.{Refusal}
@@ -18,11 +19,14 @@ batch_asked Asm = asm
 batch_asked Dis = dis
 batch_asked (Table limit) = table limit
 
+abbrev pub style_asked : Explain → Style
+style_asked e = record { json = e.json; color = e.color; full = e.full }
+
 abbrev pub planned : Plan → Asked
 planned (plan.Batch b) = batch (batch_asked b)
 planned (plan.Debug d) = debug d.config (book_asked d.book)
 planned (plan.Serve s) = serve s.config s.port s.count (book_asked s.book)
-planned (plan.Explain e) = explain e.config e.json e.color e.file.now (book_asked e.book)
+planned (plan.Explain e) = explain e.config (style_asked e) e.file.now (book_asked e.book)
 planned (plan.Check k) = check k.config (book_asked k.book) (map (λ s. s.now) k.files.items)
 
 -- what words that were parsed ask for; nothing where they were refused

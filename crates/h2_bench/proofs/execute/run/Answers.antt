@@ -77,10 +77,10 @@ explained-or-three form config file book input input' before before' after after
     inr (input_failed, rw (← i, ← w, ← o) (printed (flag ∙ e)))
 
 pub returns-clause-explains : goal.returns-clause-explains
-returns-clause-explains g c = λ config json color file book planned.
+returns-clause-explains g c = λ config style file book planned.
     let from = c.into_inner-reader.ensures.same_reference ∙ c.run_on-status.ensures.input ∙ c.new-from.ensures.same_reference in
     let into = c.into_inner-writer.ensures.same_reference ∙ c.run_on-status.ensures.name ∙ c.new-into.ensures.same_reference in
-    explained-or-three (form_of json color) config file book (g.R.Read.remaining c.new-from.result.inner.now) (g.R.Read.remaining c.args.input.now)
+    explained-or-three (form_of style) config file book (g.R.Read.remaining c.new-from.result.inner.now) (g.R.Read.remaining c.args.input.now)
     (g.W.Write.contents c.new-into.result.inner.now) (g.W.Write.contents c.args.output.now) (g.W.Write.contents c.run_on-status.new.output.inner.now) _
     c.run_on-status.result c.run_on-status.new.output.failed c.run_on-status.new.input.failed _
-    (search rules) (search rules) (search rules) c.run_on-status.ensures.flag refl (c.run_on-status.ensures.explains config json color file book planned (inr refl) (inr refl))
+    (search rules) (search rules) (search rules) c.run_on-status.ensures.flag refl (c.run_on-status.ensures.explains config style file book planned (inr refl) (inr refl))

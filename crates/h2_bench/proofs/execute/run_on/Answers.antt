@@ -16,8 +16,8 @@ returns-clause-debugs g c = λ config book words file well. elim (parsed _ c.par
 ]
 
 pub returns-clause-explains : goal.returns-clause-explains
-returns-clause-explains g c = λ config json color file book words bookfile textfile well. elim (parsed _ c.parse-asked.result c.parse-asked.ensures.ok c.parse-asked.ensures.refused) [
-  | inl same ↦ c.carry_out.ensures.explains config json color file book (same ∙ words) bookfile textfile well
+returns-clause-explains g c = λ config style file book words bookfile textfile well. elim (parsed _ c.parse-asked.result c.parse-asked.ensures.ok c.parse-asked.ensures.refused) [
+  | inl same ↦ c.carry_out.ensures.explains config style file book (same ∙ words) bookfile textfile well
   | inr memory ↦ prints-other _ _ _ _ _ (λ t e. inl e) ((rw memory at c.carry_out.ensures.refused) well)
 ]
 

@@ -12,6 +12,6 @@ pub returns-clause-debugs : goal.returns-clause-debugs
 returns-clause-debugs c = λ config book words. session-whole _ config book _ _ _ _ (rw c.new-output.ensures.0 at (c.run_on-status.ensures.debugs config book words (inr refl) c.if-output.false))
 
 pub returns-clause-explains : goal.returns-clause-explains
-returns-clause-explains c = λ config json color file book words.
-    printed-such (λ (t : Printed). IsExplained (form_of json color) (file_in c.args.files.now) config file book (Some c.args.input.now) false t) _ _
-    (rw c.new-output.ensures.0 at (c.run_on-status.ensures.explains config json color file book words (inr refl) (inr refl) c.if-output.false))
+returns-clause-explains c = λ config style file book words.
+    printed-such (λ (t : Printed). IsExplained (form_of style) (file_in c.args.files.now) config file book (Some c.args.input.now) false t) _ _
+    (rw c.new-output.ensures.0 at (c.run_on-status.ensures.explains config style file book words (inr refl) (inr refl) c.if-output.false))

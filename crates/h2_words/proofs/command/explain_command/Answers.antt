@@ -5,5 +5,6 @@ returns c =
     let limits = c.with_limits-command.ensures _ c.described.ensures in
     let one = c.with_arg-command.ensures _ _ limits c.json_option.ensures in
     let two = c.with_arg-command-2.ensures _ _ one c.color_option.ensures in
-    let book = c.with_book-command.ensures _ two in
+    let three = c.with_arg-command-3.ensures _ _ two c.full_option.ensures in
+    let book = c.with_book-command.ensures _ three in
     c.with_arg.ensures _ _ book c.input_words.ensures
