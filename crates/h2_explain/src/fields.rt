@@ -293,9 +293,7 @@ pub(crate) fn other_length<'s>(
     fields: &'s [SpelledField],
 ) -> Option<&'s SpelledField> {
     for field in fields {
-        if is_wrong(Wrong::Length, field)
-            && number_in(field.value.as_slice()) != number_in(value)
-        {
+        if is_wrong(Wrong::Length, field) && number_in(field.value.as_slice()) != number_in(value) {
             return Some(field);
         }
     }

@@ -112,7 +112,9 @@ impl Followed {
         if !self.is_known {
             return None;
         }
-        let place = index.checked_sub(62)?.checked_sub(self.entries.len() as u64)?;
+        let place = index
+            .checked_sub(62)?
+            .checked_sub(self.entries.len() as u64)?;
         self.gone.get(usize::try_from(place).unwrap_or(usize::MAX))
     }
 

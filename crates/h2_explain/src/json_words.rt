@@ -21,9 +21,7 @@ fn is_plain(character: char) -> bool {
 
 /// Whether all characters stand for themselves: those of other than ASCII do, and their octets are above it.
 fn is_all_plain(text: &str) -> bool {
-    text.as_bytes()
-        .iter()
-        .all(|octet| *octet >= b' ' && *octet != b'"' && *octet != b'\\')
+    text.as_bytes().iter().all(|octet| *octet >= b' ' && *octet != b'"' && *octet != b'\\')
 }
 
 /// The short escape of a character, empty where it has none.

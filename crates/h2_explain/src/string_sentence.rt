@@ -152,12 +152,7 @@ fn say_value(
 }
 
 /// The sentence of a literal whose name is a string: of the name, or else of the value.
-fn say_named(
-    alloc: Global,
-    octets: &[u8],
-    context: ErrorContext<'_, '_>,
-    out: &mut Words,
-) -> bool {
+fn say_named(alloc: Global, octets: &[u8], context: ErrorContext<'_, '_>, out: &mut Words) -> bool {
     let StrAt::Whole(huffman, name, used) = find_str(octets) else {
         return false;
     };
