@@ -1,5 +1,5 @@
 #!/usr/bin/env python3
-"""Makes each state of random sessions again from the changes that `explain --json` lists, and compares it with `play --each`.
+"""Makes each state of random sessions again from the changes that `explain --json --full` lists, and compares it with `play --each`.
 
     rebuild.py PROGRAM [--count N] [--seed N]
 
@@ -212,7 +212,7 @@ def compare(program, octets, words):
     with tempfile.NamedTemporaryFile("w", suffix=".hex") as file:
         file.write(octets.hex() + "\n")
         file.flush()
-        explained = run(program, ["explain", "--json", file.name, *words])
+        explained = run(program, ["explain", "--json", "--full", file.name, *words])
     played = states_of(run(program, ["play", "--each", *words], octets.hex().encode() + b"\n"))
     state, lines = State(), [json.loads(line) for line in explained.splitlines()]
     items = [line for line in lines if line.get("item", 0) > 0]

@@ -3,7 +3,7 @@
 
     schema.py PROGRAM
 
-The lines are those of the examples, of the example of each cause, and of random sessions (tests/rebuild.py). The validator has
+The lines are those of the examples, of the example of each cause, of random sessions (tests/rebuild.py) and of faults, with long texts cut and whole. The validator has
 what the schema uses: $ref, oneOf, type, enum, const, properties, required, additionalProperties, items, pattern, minimum and maximum.
 That it refuses is tried too: a line without a member, with one more, and with another value of each kind.
 """
@@ -82,7 +82,7 @@ def lines_of(program, octets_hex, words):
     with tempfile.NamedTemporaryFile("w", suffix=".hex") as file:
         file.write(octets_hex)
         file.flush()
-        return [json.loads(line) for line in rebuild.run(program, ["explain", "--json", file.name, *words]).splitlines()]
+        return [json.loads(line) for form in ([], ["--full"]) for line in rebuild.run(program, ["explain", "--json", *form, file.name, *words]).splitlines()]
 
 
 def inputs(program):
@@ -100,6 +100,8 @@ def inputs(program):
     for number in range(100):
         octets, words = rebuild.session(random.Random(f"schema {number}"))
         yield f"random session {number}", octets.hex() + "\n", words
+    for name, octets, words in (("no octets", "", []), ("no hex", "4", []), ("a limit", "", ["--streams", "0"]), ("a status", "", ["GET|/|199|"])):
+        yield name, octets, words
 
 
 def spoiled(line):
@@ -112,6 +114,8 @@ def spoiled(line):
     yield "with one member more", {**line, "must": True}
     yield "with a negative offset", {**line, "offset": -1}
     yield "with octets of another form", {**line, "octets": {"hex": "0G"}}
+    yield "cut where it is short", {**line, "octets": {"hex": "", "length": 100}}
+    yield "with a fault of another number", {"fault": {"number": 1}}
     if "error" in line:
         yield "with another duty", {**line, "error": {**line["error"], "server": "MUST"}}
         yield "with a cause that there is not", {**line, "error": {**line["error"], "cause": "bad-day"}}

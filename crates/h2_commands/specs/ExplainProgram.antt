@@ -16,7 +16,7 @@ use Rattle.h2_explain.specs.declared.run.ExplainFault.TheVariants as explained
 use Rattle.h2_words.specs.Grammar.{BookAsked, View}
 use Rattle.h2_commands.specs.Books.{book_said}
 use Rattle.h2_commands.specs.Input.{most, octets_spelled}
-use Rattle.h2_commands.specs.Printing.{Printed, failed, failed_after, refused}
+use Rattle.h2_commands.specs.Printing.{Printed, failed, failed_as, failed_after_as, refused_as}
 use Rattle.h2_commands.specs.CommandEnd.{PrintsSome}
 use Rattle.h2_commands.specs.declared.explain.ExplainEnd.{ExplainEnd}
 use Rattle.h2_commands.specs.declared.explain.ExplainEnd.TheVariants.{Fault, NotWritten}
@@ -27,7 +27,7 @@ use Rattle.h2_commands.specs.declared.fault.BenchFault.TheVariants.{BadConfig, B
 
 -- the form that the words ask for
 abbrev pub form_of : View → Form
-form_of view = record { json = view.json; color = view.color; strict = view.strict }
+form_of view = record { json = view.json; color = view.color; strict = view.strict; full = view.full }
 
 -- the status of a run that ends in this phase: 4 where a connection error ended the connection
 abbrev pub run_status : Phase → ℕ
@@ -53,15 +53,15 @@ IsStatus true s octets status = (v : Verdict) × IsVerdict s octets v × (status
 abbrev pub ReportsRun : Form → State → List ℕ → Printed → Type 0
 ReportsRun form s octets t =
     (IsStatus form.strict s octets t.status × IsExplanation form false s octets t.text)
-    ⊎ ((t ≡ failed_after [] NoMemory) ⊎ ((text : List ℕ) × IsExplanation form true s octets text × (t ≡ failed_after text NoMemory)))
+    ⊎ ((t ≡ failed_after_as form.json [] NoMemory) ⊎ ((text : List ℕ) × IsExplanation form true s octets text × (t ≡ failed_after_as form.json text NoMemory)))
 
 -- where the limits are allowed
 abbrev pub ReportsAllowed : Form → Bool → List Entry → Config → List ℕ → Printed → Type 0
-ReportsAllowed form false book config octets t = t ≡ failed BadConfig
+ReportsAllowed form false book config octets t = t ≡ failed_as form.json BadConfig
 ReportsAllowed form true book config octets t = ReportsRun form (opening book config) octets t
 
 abbrev pub ReportsSpelled : Form → List Entry → Config → Option (List ℕ) → Printed → Type 0
-ReportsSpelled form book config None t = t ≡ failed BadHex
+ReportsSpelled form book config None t = t ≡ failed_as form.json BadHex
 ReportsSpelled form book config (Some octets) t = ReportsAllowed form (is_allowed config) book config octets t
 
 -- of a text of hex
@@ -72,7 +72,7 @@ ReportsText form book config text t = ReportsSpelled form book config (octets_sp
 
 -- a text that is too long is not read
 abbrev pub ReportsIfShort : Form → Bool → List Entry → Config → List ℕ → Printed → Type 0
-ReportsIfShort form true book config text t = t ≡ failed Read
+ReportsIfShort form true book config text t = t ≡ failed_as form.json Read
 ReportsIfShort form false book config text t = ReportsText form book config text t
 
 abbrev pub ReportsRead : Form → List Entry → Config → List ℕ → Printed → Type 0
@@ -80,12 +80,12 @@ ReportsRead form book config text t = ReportsIfShort form (nat_lt most (length t
 
 -- the text of a file
 abbrev pub ReportsFile : Form → List Entry → Config → Option (List ℕ) → Printed → Type 0
-ReportsFile form book config None t = t ≡ failed Read
+ReportsFile form book config None t = t ≡ failed_as form.json Read
 ReportsFile form book config (Some text) t = ReportsRead form book config text t
 
 -- the text of the input, where no read failed
 abbrev pub ReportsInput : Form → List Entry → Config → Option (List ℕ) → Bool → Printed → Type 0
-ReportsInput form book config input true t = t ≡ failed Read
+ReportsInput form book config input true t = t ≡ failed_as form.json Read
 ReportsInput form book config input false t = (text : List ℕ) → input ≡ Some text → ReportsRead form book config text t
 
 -- that of the file where one is named, else that of the input
@@ -97,12 +97,12 @@ ReportsFrom form files (octet ∷ octets) input input_failed book config t = Rep
 
 -- the fault of the book is found before anything is read
 abbrev pub ReportsWith : Form → Result (List Entry) ℕ → Directory → List ℕ → Option (List ℕ) → Bool → Config → Printed → Type 0
-ReportsWith form (Err fault) files file input input_failed config t = t ≡ refused fault
+ReportsWith form (Err fault) files file input input_failed config t = t ≡ refused_as form.json fault
 ReportsWith form (Ok book) files file input input_failed config t = ReportsFrom form files file input input_failed book config t
 
--- memory was refused before anything was written, or this is reported
+-- memory was refused before the words or the book were known, or this is reported
 abbrev pub IsExplained : Form → Directory → Config → List ℕ → BookAsked → Option (List ℕ) → Bool → Printed → Type 0
-IsExplained form files config file book input input_failed t = (t ≡ failed NoMemory) ⊎ ReportsWith form (book_said files book) files file input input_failed config t
+IsExplained form files config file book input input_failed t = (t ≡ failed NoMemory) ⊎ ((t ≡ failed_as form.json NoMemory) ⊎ ReportsWith form (book_said files book) files file input input_failed config t)
 
 -- where no write failed: the output gained such a text, and the status is its
 abbrev pub EndsExplain : Form → Directory → Config → List ℕ → BookAsked → Option (List ℕ) → Bool → Option (List ℕ) → Option (List ℕ) → ℕ → Type 0
@@ -121,10 +121,10 @@ cut_off (Err (Fault fault)) = false
 cut_off (Err NotWritten) = true
 
 -- what is reported in all, where a text was written and then it ended so
-abbrev pub explained_after : List ℕ → Result Outcome ExplainEnd → Printed
-explained_after text (Ok outcome) = record { text = text; status = outcome_status outcome }
-explained_after text (Err (Fault fault)) = failed_after text fault
-explained_after text (Err NotWritten) = record { text = text; status = 3 }
+abbrev pub explained_after : (json : Bool) → List ℕ → Result Outcome ExplainEnd → Printed
+explained_after json text (Ok outcome) = record { text = text; status = outcome_status outcome }
+explained_after json text (Err (Fault fault)) = failed_after_as json text fault
+explained_after json text (Err NotWritten) = record { text = text; status = 3 }
 
 -- the end of an explanation that was cut short
 abbrev pub end_of : ExplainFault → ExplainEnd

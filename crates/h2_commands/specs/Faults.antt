@@ -1,5 +1,5 @@
 -- The faults of programs: their numbers, and the line that reports one.
-use Rattle.std.specs.Prelude.{ℕ, List, [], ◌∷◌, codes, decimal}
+use Rattle.std.specs.Prelude.{ℕ, Bool, true, false, List, [], ◌∷◌, codes, decimal}
 use Rattle.h2_spec.specs.Show.{joined}
 use Rattle.h2_request.specs.Fault.{entry_number}
 use Rattle.h2_commands.specs.declared.fault.BenchFault.{BenchFault}
@@ -18,3 +18,12 @@ fault_number Socket = 28
 -- the line of the fault with this number
 unfoldable pub fault_line : ℕ → List ℕ
 fault_line number = joined (codes "fault " ∷ decimal number ∷ codes "\n" ∷ [])
+
+-- the same as an object of JSON, on a line of its own
+unfoldable pub fault_object : ℕ → List ℕ
+fault_object number = joined (codes "{\"fault\":{\"number\":" ∷ decimal number ∷ codes "}}\n" ∷ [])
+
+-- what reports a fault: its line, or its object where JSON is written
+abbrev pub fault_text : (json : Bool) → ℕ → List ℕ
+fault_text false number = fault_line number
+fault_text true number = fault_object number

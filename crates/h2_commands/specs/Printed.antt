@@ -17,7 +17,7 @@ use Rattle.h2_words.specs.Grammar.{BatchAsked, play, asm, dis, table}
 use Rattle.h2_commands.specs.Input.{most, octets_spelled}
 use Rattle.h2_commands.specs.ScriptPrograms.{printed_asm, printed_dis}
 use Rattle.h2_commands.specs.TableProgram.{table_parts, table_text}
-pub use Rattle.h2_commands.specs.Printing.{OrCutShort, Printed, cut_short, done, failed, refused}
+pub use Rattle.h2_commands.specs.Printing.{OrCutShort, Printed, cut_short, done, failed, failed_as, refused}
 use Rattle.h2_commands.specs.declared.fault.BenchFault.TheVariants.{BadConfig, Read, BadHex}
 
 -- the line of the octets sent, and the text of the state

@@ -1,7 +1,7 @@
 -- What a program reports: a text and an exit status.
-use Rattle.std.specs.Prelude.{◌≡◌, ◌⊎◌, ◌++◌, ℕ, List, take}
+use Rattle.std.specs.Prelude.{◌≡◌, ◌⊎◌, ◌++◌, ℕ, Bool, List, take}
 use Rattle.std.specs.List.{concat}
-use Rattle.h2_commands.specs.Faults.{fault_line, fault_number}
+use Rattle.h2_commands.specs.Faults.{fault_line, fault_number, fault_text}
 use Rattle.h2_commands.specs.declared.fault.BenchFault.{BenchFault}
 use Rattle.h2_commands.specs.declared.fault.BenchFault.TheVariants.{NoMemory}
 
@@ -22,6 +22,16 @@ failed fault = refused (fault_number fault)
 -- a text, and behind it the line of a fault
 abbrev pub failed_after : List ℕ → BenchFault → Printed
 failed_after text fault = record { text = text ++ fault_line (fault_number fault); status = 1 }
+
+-- the same three of a command that may write JSON
+abbrev pub refused_as : (json : Bool) → ℕ → Printed
+refused_as json fault = record { text = fault_text json fault; status = 1 }
+
+abbrev pub failed_as : (json : Bool) → BenchFault → Printed
+failed_as json fault = refused_as json (fault_number fault)
+
+abbrev pub failed_after_as : (json : Bool) → List ℕ → BenchFault → Printed
+failed_after_as json text fault = record { text = text ++ fault_text json (fault_number fault); status = 1 }
 
 -- so many first places of those that are reported, each whole, and then memory was refused
 abbrev pub cut_short : ℕ → List (List ℕ) → Printed

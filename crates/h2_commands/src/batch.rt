@@ -12,7 +12,7 @@ ghost use Rattle.h2_commands.specs.ExplainProgram.{EndsExplain, ReportsText, cut
 ghost use Rattle.h2_commands.specs.Faults.{fault_number};
 ghost use Rattle.h2_commands.specs.Input.{most, octets_spelled};
 ghost use Rattle.h2_commands.specs.TableProgram.{table_parts, table_text};
-ghost use Rattle.h2_commands.specs.Printed.{OrCutShort, done, failed, places, places_play, printed, printed_play};
+ghost use Rattle.h2_commands.specs.Printed.{OrCutShort, done, failed, failed_as, places, places_play, printed, printed_play};
 ghost use Rattle.h2_commands.specs.declared.fault.BenchFault.TheVariants.{NoMemory};
 
 use crate::advice::{advise, advise_batch};
@@ -21,7 +21,7 @@ use crate::books::book_for_words;
 use crate::dis::dis_text;
 use crate::each::{PlacesFault, write_text};
 use crate::explain::{ExplainEnd, Outcome, explain_text, read_text};
-use crate::fault::BenchFault;
+use crate::fault::{BenchFault, FaultText};
 use crate::input::read_all;
 use crate::play::write_play;
 use crate::report::{Report, whole};
@@ -79,6 +79,17 @@ pub fn print_fault<O: Output>(output: &mut O, fault: BenchFault) -> u8
     ensures name { O.name output.new ≡ O.name output.old }
 {
     print(output, &fault.line(), 1)
+}
+
+/// Writes what reports a fault, its line or its object of JSON, and gives status 1, or 3 where that failed.
+fn print_fault_as<O: Output>(output: &mut O, json: bool, fault: BenchFault) -> u8
+    requires { O.has_failed output.old ≡ false }
+    ensures printed { O.has_failed output.new ≡ false → (held : List ℕ) → O.written output.old ≡ Some held
+        → Prints (failed_as json fault) held (O.written output.new) result }
+    ensures flag { O.has_failed output.new ≡ (result == 3) }
+    ensures name { O.name output.new ≡ O.name output.old }
+{
+    print(output, &FaultText { json, fault }, 1)
 }
 
 /// Writes an answer: the text of a report with its status, or the line of a fault with status 1.
@@ -200,12 +211,12 @@ pub fn respond<F: Files, I: Input, O: Output, E: Output>(
     }
 }
 
-/// Writes what is left to say of an explanation: the line of a fault that ended it. Gives the status: that of how the
-/// explanation ended, 1 after a fault, 3 where the output failed.
-fn print_explained<O: Output>(output: &mut O, ended: Result<Outcome, ExplainEnd>) -> u8
+/// Writes what is left to say of an explanation: the fault that ended it. Gives the status: that of how the explanation
+/// ended, 1 after a fault, 3 where the output failed.
+fn print_explained<O: Output>(output: &mut O, json: bool, ended: Result<Outcome, ExplainEnd>) -> u8
     requires { O.has_failed output.old ≡ cut_off ended }
     ensures printed { O.has_failed output.new ≡ false → (held text : List ℕ) → O.written output.old ≡ Some (held ++ text)
-        → Prints (explained_after text ended) held (O.written output.new) result }
+        → Prints (explained_after json text ended) held (O.written output.new) result }
     ensures kept { O.has_failed output.new ≡ false → O.has_failed output.old ≡ false }
     ensures flag { O.has_failed output.new ≡ (result == 3) }
     ensures name { O.name output.new ≡ O.name output.old }
@@ -213,7 +224,7 @@ fn print_explained<O: Output>(output: &mut O, ended: Result<Outcome, ExplainEnd>
     match ended {
         Ok(outcome) => outcome.status(),
         Err(end) => match end {
-            ExplainEnd::Fault(fault) => print_fault(output, fault),
+            ExplainEnd::Fault(fault) => print_fault_as(output, json, fault),
             ExplainEnd::NotWritten => 3,
         },
     }
@@ -238,9 +249,10 @@ fn print_text<O: Output>(
         json: plan.json,
         color: plan.color,
         strict: plan.strict,
+        full: plan.full,
     };
     let ended = explain_text(alloc, form, plan.config, book, text, output);
-    print_explained(output, ended)
+    print_explained(output, plan.json, ended)
 }
 
 /// Makes the book of an explanation, reads its text, and explains it.
@@ -266,11 +278,11 @@ pub fn explain_plan<F: Files, I: Input, O: Output, E: Output>(
 {
     let book = match book_for_words(alloc, &plan.book, files, errors) {
         Ok(book) => book,
-        Err(fault) => return print_fault(output, fault),
+        Err(fault) => return print_fault_as(output, plan.json, fault),
     };
     advise(alloc, plan.config, plan.book.why, errors);
     match read_text(alloc, plan.file, files, input) {
         Ok(text) => print_text(alloc, plan, &book, text.as_slice(), output),
-        Err(fault) => print_fault(output, fault),
+        Err(fault) => print_fault_as(output, plan.json, fault),
     }
 }

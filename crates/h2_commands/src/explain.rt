@@ -10,7 +10,7 @@ ghost use Rattle.h2_spec.specs.declared.connection.Config.{Config};
 ghost use Rattle.h2_explain.specs.declared.run.Form.{Form as ExplainForm};
 ghost use Rattle.h2_commands.specs.ExplainProgram.{ReportsFile, ReportsFrom, ReportsRun, ReportsText, cut_off, end_of, explained_after, outcome_status};
 ghost use Rattle.h2_commands.specs.Input.{most};
-ghost use Rattle.h2_commands.specs.Printing.{Printed, failed};
+ghost use Rattle.h2_commands.specs.Printing.{Printed, failed_as};
 ghost use Rattle.h2_commands.specs.CommandEnd.{KnowsFile};
 ghost use Rattle.h2_commands.specs.declared.fault.BenchFault.TheVariants.{NoMemory};
 
@@ -68,7 +68,7 @@ fn read_file<F: Files>(alloc: Global, files: &mut F, path: &str) -> Result<Vec<u
         → ReportsText form book config text.items t → ReportsFile form book config (F.file files.old path.now) t) }
     ensures within { IfOk result (λ text. length text.items ≤ most) }
     ensures err { F.is_printed files.old ≡ true → IfErr result (λ fault. (fault ≡ NoMemory)
-        ⊎ ((form : ExplainForm) → (book : List Entry) → (config : Config) → ReportsFile form book config (F.file files.old path.now) (failed fault))) }
+        ⊎ ((form : ExplainForm) → (book : List Entry) → (config : Config) → ReportsFile form book config (F.file files.old path.now) (failed_as form.json fault))) }
 {
     match files.read(alloc, path, LIMIT) {
         Ok(octets) => Ok(octets),
@@ -93,7 +93,7 @@ pub fn read_text<F: Files, I: Input>(
     ensures within { IfOk result (λ text. length text.items ≤ most) }
     ensures err { KnowsFile file.now (F.is_printed files.old) → IfErr result (λ fault. (fault ≡ NoMemory)
         ⊎ ((form : ExplainForm) → (book : List Entry) → (config : Config)
-        → ReportsFrom form (F.file files.old) file.now (I.remaining input.old) (I.has_failed input.new) book config (failed fault))) }
+        → ReportsFrom form (F.file files.old) file.now (I.remaining input.old) (I.has_failed input.new) book config (failed_as form.json fault))) }
     ensures input { I.name input.new ≡ I.name input.old }
 {
     if file.is_empty() {
@@ -126,7 +126,7 @@ fn explain_conn<O: Output>(
     requires writer { O.has_failed output.old ≡ false }
     ensures printed { O.has_failed output.new ≡ false → (held : List ℕ) → O.written output.old ≡ Some held
         → (text : List ℕ) × (O.written output.new ≡ Some (held ++ text))
-        × ReportsRun form conn.old.state octets.now (explained_after text result) }
+        × ReportsRun form conn.old.state octets.now (explained_after form.json text result) }
     ensures flag { O.has_failed output.new ≡ cut_off result }
     ensures name { O.name output.new ≡ O.name output.old }
 {
@@ -154,7 +154,7 @@ fn explain_octets<O: Output>(
     requires writer { O.has_failed output.old ≡ false }
     ensures printed { O.has_failed output.new ≡ false → (held : List ℕ) → O.written output.old ≡ Some held
         → (text : List ℕ) × (O.written output.new ≡ Some (held ++ text))
-        × ReportsRun form (opening book.now config) octets.now (explained_after text result) }
+        × ReportsRun form (opening book.now config) octets.now (explained_after form.json text result) }
     ensures flag { O.has_failed output.new ≡ cut_off result }
     ensures name { O.name output.new ≡ O.name output.old }
 {
@@ -182,7 +182,7 @@ pub fn explain_text<O: Output>(
     requires writer { O.has_failed output.old ≡ false }
     ensures printed { O.has_failed output.new ≡ false → (held : List ℕ) → O.written output.old ≡ Some held
         → (said : List ℕ) × (O.written output.new ≡ Some (held ++ said))
-        × ReportsText form book.now config text.now (explained_after said result) }
+        × ReportsText form book.now config text.now (explained_after form.json said result) }
     ensures flag { O.has_failed output.new ≡ cut_off result }
     ensures name { O.name output.new ≡ O.name output.old }
 {

@@ -2,10 +2,11 @@
 //! It uses the faults of an entry of h2_request; definitions: `specs/Faults.antt`.
 
 ghost use Rattle.std.specs.Prelude.{◌≡◌};
-ghost use Rattle.h2_commands.specs.Faults.{fault_line, fault_number};
+ghost use Rattle.h2_commands.specs.Faults.{fault_line, fault_number, fault_object, fault_text};
 ghost use Rattle.h2_request.specs.Fault.{entry_number};
 ghost use Rattle.h2_commands.specs.declared.fault.BenchFault.TheVariants.{NoMemory};
 
+use h2_device::{DeviceFault, Number, Output, Text, texts};
 use h2_request::fault::EntryFault;
 use std::alloc::{AllocError, AllocFailed};
 use thiserror::Error;
@@ -82,6 +83,39 @@ fn entry_line(fault: EntryFault) -> &'static str
         EntryFault::BadField => "fault 13\n",
         EntryFault::BodyNotAllowed => "fault 14\n",
         EntryFault::TooLong => "fault 15\n",
+    }
+}
+
+/// The object that reports the fault of a number in JSON, on a line of its own.
+#[derive(Clone, Copy)]
+struct FaultObject(u8);
+
+#[tactic(auto, unfolding(crate::specs::Faults::fault_object))]
+impl Text for FaultObject {
+    ghost text = { λ o. fault_object o.0 };
+
+    fn write_to<O: Output>(&self, output: &mut O) -> Result<(), DeviceFault> {
+        let number = Number(u64::from(self.0));
+        texts!("{\"fault\":{\"number\":", number, "}}\n").write_to(output)
+    }
+}
+
+/// What reports a fault: the line `fault N`, or its object where JSON is written.
+#[derive(Clone, Copy)]
+pub struct FaultText {
+    pub json: bool,
+    pub fault: BenchFault,
+}
+
+impl Text for FaultText {
+    ghost text = { λ t. fault_text t.json (fault_number t.fault) };
+
+    fn write_to<O: Output>(&self, output: &mut O) -> Result<(), DeviceFault> {
+        if self.json {
+            FaultObject(self.fault.number()).write_to(output)
+        } else {
+            self.fault.line().write_to(output)
+        }
     }
 }
 

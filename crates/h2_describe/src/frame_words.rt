@@ -2,7 +2,7 @@
 //! Rests on h2_frame and `names`; no definition speaks of them.
 
 use crate::names::{Code, registered_setting, say_flags, say_registered, setting_name};
-use crate::say::{Hex, Octets, Text, Words};
+use crate::say::{Cut, Hex, Octets, Words};
 use crate::say_all;
 use h2_frame::{DataPart, FrameRef, Head, HeadersPart, Part, SettingsPart, part_of};
 use h2_spec::frames::{END_HEADERS, FrameType, WITH_PRIORITY};
@@ -99,7 +99,7 @@ fn say_settings(settings: SettingsPart<'_>, out: &mut Words) {
 fn say_goaway(last: u32, code: u32, payload: &[u8], out: &mut Words) {
     say_all!(out; " last ", last, " ", Code(code));
     if payload.len() > 8 {
-        say_all!(out; ", debug \"", Text(octets_from(payload, 8)), "\"");
+        say_all!(out; ", debug \"", Cut(octets_from(payload, 8)), "\"");
     }
 }
 

@@ -105,6 +105,13 @@ impl Reading {
         self.table.len()
     }
 
+    /// The name and the value at an index of both tables; none where no entry has it.
+    pub(crate) fn field_at(&self, index: u64) -> Option<(&[u8], &[u8])>
+        ensures { option_map lent_field result ≡ field_at index self.now.table.table.entries }
+    {
+        field_found(&self.table, index)
+    }
+
     /// What the fields that are kept count together, in octets.
     pub(crate) fn size(&self) -> usize
         ensures { result ≡ list_size (fields_of self.now.fields) }

@@ -1,5 +1,5 @@
 //! Texts that are put together part by part.
-//! Rests on `sent` and the crate `itoa`; no definition speaks of them.
+//! Rests on `sent` and the crates `itoa` and `hex`; no definition speaks of them.
 
 use crate::sent::first_of;
 use itoa::Buffer;
@@ -11,15 +11,47 @@ use std::alloc::{AllocError, Global};
 pub struct Words {
     text: String,
     refused: bool,
+    /// How many octets of a long text are shown.
+    shown: usize,
 }
 
+/// How many octets of a long text are shown, where it is not shown whole.
+const SHOWN: usize = 100;
+
+/// How many octets a text has space for at first.
+const ROOM: usize = 240;
+
 impl Words {
-    /// No part yet. Takes no memory.
+    /// No part yet; of a long text the first 100 octets are shown. Takes no memory.
     pub fn new(alloc: Global) -> Words {
         Words {
             text: String::new(alloc),
             refused: false,
+            shown: SHOWN,
         }
+    }
+
+    /// No part yet; long texts are shown whole where this is asked for, else as by `new`. Takes no memory.
+    pub fn with(alloc: Global, is_whole: bool) -> Words {
+        Words {
+            text: String::new(alloc),
+            refused: false,
+            shown: if is_whole { usize::MAX } else { SHOWN },
+        }
+    }
+
+    /// No part yet; as much is shown of long texts as here. Takes no memory.
+    pub fn empty(&self, alloc: Global) -> Words {
+        Words {
+            text: String::new(alloc),
+            refused: false,
+            shown: self.shown,
+        }
+    }
+
+    /// What is shown of octets: the first of them, or all.
+    pub fn shown_of<'o>(&self, octets: &'o [u8]) -> &'o [u8] {
+        first_of(octets, self.shown)
     }
 
     /// The text.
@@ -44,10 +76,20 @@ impl Words {
         self.refused = true;
     }
 
-    /// Puts a text last.
+    /// Puts a text last. Before the first one there is space for a line or two, so that few parts make the text grow.
     fn text(&mut self, part: &str) {
+        if self.text.is_empty() && !self.refused {
+            self.refused = self.text.reserve(ROOM).is_err();
+        }
         if !self.refused {
             self.refused = self.text.push_str(part).is_err();
+        }
+    }
+
+    /// Puts octets last that are all of ASCII.
+    fn ascii(&mut self, octets: &[u8]) {
+        if let Ok(part) = str::from_utf8(octets) {
+            self.text(part);
         }
     }
 
@@ -58,10 +100,13 @@ impl Words {
         }
     }
 
-    /// Puts the two digits of an octet last.
-    fn digits(&mut self, octet: u8) {
-        self.character(digit(octet / 16));
-        self.character(digit(octet % 16));
+    /// Puts the digits of octets last, 32 at most.
+    fn digits(&mut self, octets: &[u8]) {
+        let mut digits = [0u8; 64];
+        let space = &mut digits[..2 * octets.len().min(32)];
+        if hex::encode_to_slice(octets, space).is_ok() {
+            self.ascii(space);
+        }
     }
 
     /// Puts an octet of a text last.
@@ -70,7 +115,7 @@ impl Words {
             self.character(char::from(octet));
         } else {
             self.text("\\");
-            self.digits(octet);
+            self.digits(&[octet]);
         }
     }
 }
@@ -125,24 +170,14 @@ impl Say for usize {
     }
 }
 
-/// The digits of numbers to the base 16.
-static DIGITS: [char; 16] = [
-    '0', '1', '2', '3', '4', '5', '6', '7', '8', '9', 'a', 'b', 'c', 'd', 'e', 'f',
-];
-
-/// The digit of a value below 16.
-fn digit(value: u8) -> char {
-    DIGITS.get(usize::from(value)).copied().unwrap_or('0')
-}
-
 /// Octets as lower-case hex digits.
 #[derive(Clone, Copy)]
 pub struct Hex<'a>(pub &'a [u8]);
 
 impl Say for Hex<'_> {
     fn say(self, out: &mut Words) {
-        for octet in self.0 {
-            out.digits(*octet);
+        for piece in self.0.chunks(32) {
+            out.digits(piece);
         }
     }
 }
@@ -154,7 +189,7 @@ pub struct HexOctet(pub u8);
 impl Say for HexOctet {
     fn say(self, out: &mut Words) {
         out.text("0x");
-        out.digits(self.0);
+        out.digits(&[self.0]);
     }
 }
 
@@ -169,14 +204,15 @@ fn is_plain(octet: u8) -> bool {
 
 impl Say for Text<'_> {
     fn say(self, out: &mut Words) {
+        if self.0.iter().all(|octet| is_plain(*octet)) {
+            out.ascii(self.0);
+            return;
+        }
         for octet in self.0 {
             out.octet(*octet);
         }
     }
 }
-
-/// How many octets of a long text are shown.
-const SHOWN: usize = 100;
 
 /// The first octets of a text, and how many it has where not all are shown.
 #[derive(Clone, Copy)]
@@ -184,8 +220,9 @@ pub struct Cut<'a>(pub &'a [u8]);
 
 impl Say for Cut<'_> {
     fn say(self, out: &mut Words) {
-        Text(first_of(self.0, SHOWN)).say(out);
-        if self.0.len() > SHOWN {
+        let shown = out.shown_of(self.0);
+        Text(shown).say(out);
+        if self.0.len() > shown.len() {
             out.text(".. of ");
             Octets(self.0.len() as u64).say(out);
         }

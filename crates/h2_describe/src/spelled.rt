@@ -3,8 +3,10 @@
 //! Rests on `reading` for the instructions; the definitions are in specs/Spelled.antt, on those of `h2_spec`,
 //! specs/Block.antt.
 
-ghost use Rattle.std.specs.Prelude.{◌≡◌, ◌+◌, ◌^◌, ◌-◌, [], ◌++◌, length, min, None, IfOk, OnOk, OnErr};
+ghost use Rattle.std.specs.Prelude.{◌≡◌, ◌+◌, ◌^◌, ◌-◌, [], ◌++◌, length, min, option_map, None, IfOk, OnOk, OnErr};
 ghost use Rattle.h2_spec.specs.Block.{decoded, list_size};
+ghost use Rattle.h2_spec.specs.DynamicTable.{field_at};
+ghost use Rattle.h2_table.specs.Lent.{lent_field};
 ghost use Rattle.h2_describe.specs.Spelled.{Agrees, begun_with, fields_of, progress_of, read_more};
 
 use crate::reading::Reading;
@@ -155,6 +157,21 @@ impl BlockReader {
         ensures { result ≡ length self.now.rest }
     {
         self.rest.len()
+    }
+
+    /// These octets: they begin with the instruction that is not whole, or was refused.
+    pub fn rest(&self) -> &[u8]
+        ensures { result.now ≡ self.now.rest }
+    {
+        self.rest.as_slice()
+    }
+
+    /// The name and the value at an index of the static and the dynamic table; none where no entry has it (RFC 7541,
+    /// 2.3.3).
+    pub fn field_at(&self, index: u64) -> Option<(&[u8], &[u8])>
+        ensures { option_map lent_field result ≡ field_at index self.now.reading.table.table.entries }
+    {
+        self.reading.field_at(index)
     }
 
     /// The highest index that has an entry in the static or the dynamic table, 61 or more (RFC 7541, 2.3.3).

@@ -70,12 +70,12 @@ item-within s octets at number offset c x h i =
 -- ---- what is written
 
 -- what is written so far is a beginning: an explanation from here on makes one of the whole run with it
-abbrev pub Begins : Form → State → List ℕ → State → List ℕ → (number offset : ℕ) → List ℕ → Type 0
-Begins form s0 b0 s b number offset text =
-    (cut : Bool) (xs : List Explained) (more : List ℕ) → AreExplained form cut s b number offset xs more → IsExplanation form cut s0 b0 (text ++ more)
+abbrev pub Begins : Form → State → List ℕ → State → List ℕ → (items offset : ℕ) → List ℕ → Type 0
+Begins form s0 b0 s b items offset text =
+    (cut : Bool) (xs : List Explained) (more : List ℕ) → AreExplained form cut s b items offset xs more → IsExplanation form cut s0 b0 (text ++ more)
 
 -- nothing was written yet
-pub gains-nothing : (form : Form) (s0 : State) (b0 : List ℕ) (o : Option (List ℕ)) → Gains (Begins form s0 b0 s0 b0 1 0) o o
+pub gains-nothing : (form : Form) (s0 : State) (b0 : List ℕ) (o : Option (List ℕ)) → Gains (Begins form s0 b0 s0 b0 0 0) o o
 gains-nothing form s0 b0 o = λ held is. ([], is ∙ ap (λ (t : List ℕ). Some t) (sym (append-nil held)), λ cut xs more are. (xs, are))
 
 -- a text after another
@@ -86,28 +86,28 @@ gains-both P Q R join a b c x y = λ held is.
     (one.0 ++ two.0, two.1 ∙ ap (λ (t : List ℕ). Some t) (append_assoc held one.0 two.0), join one.0 two.0 one.2 two.2)
 
 -- the text of the next item makes a longer beginning
-pub begins-next : (form : Form) (s0 s : State) (b0 octets : List ℕ) (at number offset : ℕ) (c : Connection) (x : Explained)
-    → ExplainsItem s (drop at octets) number offset c x → (t u : List ℕ)
-    → Begins form s0 b0 s (drop at octets) number offset t → IsItemText form x u
-    → Begins form s0 b0 c.state (drop (at + x.taken.used) octets) (number + 1) (offset + x.taken.used) (t ++ u)
-begins-next form s0 s b0 octets at number offset c x i t u begins is = λ cut xs more are.
-    let here = subst (λ (b : List ℕ). AreExplained form cut c.state b (number + 1) (offset + x.taken.used) xs more) (sym (drop-drop x.taken.used at octets)) are in
+pub begins-next : (form : Form) (s0 s : State) (b0 octets : List ℕ) (at items offset : ℕ) (c : Connection) (x : Explained)
+    → ExplainsItem s (drop at octets) (items + 1) offset c x → (t u : List ℕ)
+    → Begins form s0 b0 s (drop at octets) items offset t → IsItemText form x u
+    → Begins form s0 b0 c.state (drop (at + x.taken.used) octets) (items + 1) (offset + x.taken.used) (t ++ u)
+begins-next form s0 s b0 octets at items offset c x i t u begins is = λ cut xs more are.
+    let here = subst (λ (b : List ℕ). AreExplained form cut c.state b (items + 1) (offset + x.taken.used) xs more) (sym (drop-drop x.taken.used at octets)) are in
     subst (λ (y : List ℕ). IsExplanation form cut s0 b0 y) (sym (append_assoc t u more))
     (begins cut (x ∷ xs) (u ++ more) (c, i, u, more, is, refl, here))
 
 -- the explanation is cut short: nothing more is written
-pub begins-cut : (form : Form) (s0 s : State) (b0 b : List ℕ) (number offset : ℕ) (t u : List ℕ) → Begins form s0 b0 s b number offset t → u ≡ [] → IsExplanation form true s0 b0 (t ++ u)
-begins-cut form s0 s b0 b number offset t u begins none = begins true [] u none
+pub begins-cut : (form : Form) (s0 s : State) (b0 b : List ℕ) (items offset : ℕ) (t u : List ℕ) → Begins form s0 b0 s b items offset t → u ≡ [] → IsExplanation form true s0 b0 (t ++ u)
+begins-cut form s0 s b0 b items offset t u begins none = begins true [] u none
 
 -- it ends with what is left after the last item
-pub begins-end : (form : Form) (s0 s : State) (b0 b : List ℕ) (number offset : ℕ) → next_event s b ≡ Stop → (t u : List ℕ) → Begins form s0 b0 s b number offset t → IsRestText form (length b) u → IsExplanation form false s0 b0 (t ++ u)
-begins-end form s0 s b0 b number offset stop t u begins is = begins false [] u (stop, is)
+pub begins-end : (form : Form) (s0 s : State) (b0 b : List ℕ) (items offset : ℕ) → next_event s b ≡ Stop → (t u : List ℕ) → Begins form s0 b0 s b items offset t → IsRestText form items (length b) u → IsExplanation form false s0 b0 (t ++ u)
+begins-end form s0 s b0 b items offset stop t u begins is = begins false [] u (stop, is)
 
 -- what was written of what is left, after a beginning
-pub begins-written : (form : Form) (s0 s : State) (b0 b : List ℕ) (number offset : ℕ) → next_event s b ≡ Stop → (r : Result (Unit {0}) ExplainFault) (t u : List ℕ)
-    → Begins form s0 b0 s b number offset t → IsWritten (λ (x : List ℕ). IsRestText form (length b) x) r u → IsExplanation form (is_err r) s0 b0 (t ++ u)
-begins-written form s0 s b0 b number offset stop (Ok x) t u begins is = begins-end form s0 s b0 b number offset stop t u begins is
-begins-written form s0 s b0 b number offset stop (Err fault) t u begins none = begins-cut form s0 s b0 b number offset t u begins none
+pub begins-written : (form : Form) (s0 s : State) (b0 b : List ℕ) (items offset : ℕ) → next_event s b ≡ Stop → (r : Result (Unit {0}) ExplainFault) (t u : List ℕ)
+    → Begins form s0 b0 s b items offset t → IsWritten (λ (x : List ℕ). IsRestText form items (length b) x) r u → IsExplanation form (is_err r) s0 b0 (t ++ u)
+begins-written form s0 s b0 b items offset stop (Ok x) t u begins is = begins-end form s0 s b0 b items offset stop t u begins is
+begins-written form s0 s b0 b items offset stop (Err fault) t u begins none = begins-cut form s0 s b0 b items offset t u begins none
 
 -- a text that was written whole
 pub gains-written : (P : List ℕ → Type 0) (r : Result (Unit {0}) ExplainFault) (a b : Option (List ℕ)) (t : List ℕ)
@@ -117,11 +117,11 @@ gains-written P (Ok x) a None t calm only appends p = λ held is. let none : ⊥
 gains-written P (Err fault) a b t calm only appends p = λ held is. let e : not_written {A = Unit {0}} (Err NotWritten) ≡ false = subst (λ (f : ExplainFault). not_written {A = Unit {0}} (Err f) ≡ false) only calm in cc
 
 -- nothing more was written
-pub gains-cut : (form : Form) (s0 s : State) (b0 b : List ℕ) (number offset : ℕ) (x y : Option (List ℕ))
-    → Gains (Begins form s0 b0 s b number offset) x y → Gains (λ (t : List ℕ). IsExplanation form true s0 b0 t) x y
-gains-cut form s0 s b0 b number offset x y gains = λ held is.
+pub gains-cut : (form : Form) (s0 s : State) (b0 b : List ℕ) (items offset : ℕ) (x y : Option (List ℕ))
+    → Gains (Begins form s0 b0 s b items offset) x y → Gains (λ (t : List ℕ). IsExplanation form true s0 b0 t) x y
+gains-cut form s0 s b0 b items offset x y gains = λ held is.
     let one = gains held is in
-    (one.0, one.1, subst (λ (t : List ℕ). IsExplanation form true s0 b0 t) (append-nil one.0) (begins-cut form s0 s b0 b number offset one.0 [] one.2 refl))
+    (one.0, one.1, subst (λ (t : List ℕ). IsExplanation form true s0 b0 t) (append-nil one.0) (begins-cut form s0 s b0 b items offset one.0 [] one.2 refl))
 
 -- nothing was written at all
 pub gains-none : (form : Form) (s : State) (b : List ℕ) (o : Option (List ℕ)) → Gains (λ (t : List ℕ). IsExplanation form true s b t) o o

@@ -1,5 +1,5 @@
 -- A connection that is explained over all octets: its result, and what is written.
-use Rattle.std.specs.Prelude.{◌≡◌, ◌⊎◌, ℕ, ◌+◌, ◌++◌, Bool, true, false, List, [], ◌∷◌, length, drop, nat_lt, Option, Some, option_map, Result, Ok, Err}
+use Rattle.std.specs.Prelude.{◌≡◌, ◌⊎◌, ℕ, ◌+◌, ◌++◌, ◌||◌, ◌==◌, Bool, true, false, List, [], ◌∷◌, length, drop, nat_lt, Option, Some, option_map, Result, Ok, Err}
 use Rattle.h2_spec.specs.Errors.{code_number}
 use Rattle.h2_spec.specs.Parse.{Stop}
 use Rattle.h2_spec.specs.State.{State, ended_code}
@@ -60,32 +60,37 @@ EndsLineIf true color t = EndsLine color t
 abbrev pub EndsLineOrNone : (color : Bool) → List ℕ → Type 0
 EndsLineOrNone color t = (t ≡ []) ⊎ EndsLine color t
 
--- the text after the last item: a line where octets are left, and the lines of warnings, of live streams and of
--- `--strict`, where there are any; in JSON always a line
-abbrev pub IsRestOf : (json color : Bool) → ℕ → List ℕ → Type 0
-IsRestOf true color left t = EndsLine false t
-IsRestOf false color left t = (rest lines : List ℕ) × (t ≡ rest ++ lines) × EndsLineIf (nat_lt 0 left) color rest × EndsLineOrNone color lines
+-- whether something is said after so many items where so many octets are left: of these, or that no octets came at all
+abbrev pub is_said : (items left : ℕ) → Bool
+is_said items left = nat_lt 0 left || items == 0
 
-abbrev pub IsRestText : Form → ℕ → List ℕ → Type 0
-IsRestText form left t = IsRestOf form.json form.color left t
+-- the text after so many items: lines where octets are left or none came, and the lines of warnings, of live streams and
+-- of `--strict`, where there are any; in JSON always a line
+abbrev pub IsRestOf : (json color : Bool) → (items left : ℕ) → List ℕ → Type 0
+IsRestOf true color items left t = EndsLine false t
+IsRestOf false color items left t = (rest lines : List ℕ) × (t ≡ rest ++ lines) × EndsLineIf (is_said items left) color rest × EndsLineOrNone color lines
 
--- how an explanation ends where these octets are left: it is cut short, as memory was refused; or there is no item more
-abbrev pub Ends : Form → (cut : Bool) → State → List ℕ → List ℕ → Type 0
-Ends form true s b t = t ≡ []
-Ends form false s b t = (next_event s b ≡ Stop) × IsRestText form (length b) t
+abbrev pub IsRestText : Form → (items left : ℕ) → List ℕ → Type 0
+IsRestText form items left t = IsRestOf form.json form.color items left t
 
--- the texts of these items, one after another, each of which the connection takes after the others; the first has this
--- number and this offset
-abbrev pub AreExplained : Form → (cut : Bool) → State → List ℕ → (number offset : ℕ) → List Explained → List ℕ → Type 0
-AreExplained form cut s b number offset [] t = Ends form cut s b t
-AreExplained form cut s b number offset (x ∷ xs) t =
-    (c : Connection) × ExplainsItem s b number offset c x
+-- how an explanation ends after so many items where these octets are left: it is cut short, as memory was refused; or
+-- there is no item more
+abbrev pub Ends : Form → (cut : Bool) → State → List ℕ → (items : ℕ) → List ℕ → Type 0
+Ends form true s b items t = t ≡ []
+Ends form false s b items t = (next_event s b ≡ Stop) × IsRestText form items (length b) t
+
+-- the texts of these items, one after another, each of which the connection takes after the others; so many items came
+-- before them, and so many octets
+abbrev pub AreExplained : Form → (cut : Bool) → State → List ℕ → (items offset : ℕ) → List Explained → List ℕ → Type 0
+AreExplained form cut s b items offset [] t = Ends form cut s b items t
+AreExplained form cut s b items offset (x ∷ xs) t =
+    (c : Connection) × ExplainsItem s b (items + 1) offset c x
     × (first : List ℕ) × (rest : List ℕ) × IsItemText form x first × (t ≡ first ++ rest)
-    × AreExplained form cut c.state (drop x.taken.used b) (number + 1) (offset + x.taken.used) xs rest
+    × AreExplained form cut c.state (drop x.taken.used b) (items + 1) (offset + x.taken.used) xs rest
 
 -- the explanation of a connection over octets: of each of its items and of what is left, or of some first items
 abbrev pub IsExplanation : Form → (cut : Bool) → State → List ℕ → List ℕ → Type 0
-IsExplanation form cut s b t = (xs : List Explained) × AreExplained form cut s b 1 0 xs t
+IsExplanation form cut s b t = (xs : List Explained) × AreExplained form cut s b 0 0 xs t
 
 -- what was written of an item, or of what is left: nothing where memory was refused
 abbrev pub IsWritten : {A : Type 0} → (List ℕ → Type 0) → Result A ExplainFault → List ℕ → Type 0

@@ -47,6 +47,8 @@ pub struct Explainer {
     pub table: Followed,
     /// The streams that the server reset at an item that ended the client's side, with the number of that item.
     pub refused_ends: BTreeMap<u32, u64>,
+    /// Whether long texts are shown whole.
+    pub is_full: bool,
 }
 
 /// What there is to say of an item, beside the item itself.
@@ -142,14 +144,14 @@ fn reads_fields(item: &Explained<'_>) -> bool
     }
 }
 
-/// The frames that the server sent before the first item; none for the others.
-fn opening_of(
+/// The frames that the server sends before it reads anything, where they are asked for; else none.
+pub(crate) fn opening_of(
     alloc: Global,
     conn: &Conn<'_, Global>,
-    item: &Explained<'_>,
+    is_asked: bool,
 ) -> Result<Vec<u8>, AllocError> {
     let mut opening = Vec::new(alloc);
-    if item.number == 1 {
+    if is_asked {
         write_opening(conn.config(), &mut opening)?;
     }
     Ok(opening)
@@ -168,6 +170,7 @@ impl Explainer {
             live: BTreeMap::new(alloc),
             table: Followed::new(alloc, 4096),
             refused_ends: BTreeMap::new(alloc),
+            is_full: false,
         })
     }
 
@@ -255,11 +258,16 @@ impl Explainer {
         conn: &Conn<'_, Global>,
         item: &Explained<'_>,
     ) -> Result<String, AllocError> {
-        let mut text = Words::new(alloc);
+        let mut text = self.words(alloc);
         if let Some(cause) = item.taken.cause {
-            say_sentence(cause, self.context(conn, item), &mut text);
+            say_sentence(alloc, cause, self.context(conn, item), &mut text);
         }
         text.finish()
+    }
+
+    /// A text in words that is empty yet; long texts are shown in it as they are asked for.
+    pub(crate) fn words(&self, alloc: Global) -> Words {
+        Words::with(alloc, self.is_full)
     }
 
     /// The other causes that hold of an item's block, none where it is not malformed.
@@ -301,6 +309,7 @@ impl Explainer {
             item,
             notes: &self.notes,
             reader: &self.reader,
+            table: &self.table,
             config: conn.config(),
             widest: self.widest(conn, item),
             after_end: self.is_after_end(item.before.stream.id),
@@ -356,12 +365,13 @@ impl Explainer {
         ensures changes { IfOk result (λ account. ListsChanges item.now conn.now.state (begun_after self.old.notes.block item.now.number item.now.before.block item.now.taken.item) (note_of self.old.notes) account.changes.items) }
     {
         let shows_fields = self.read_block(alloc, item)?;
+        self.table.follow_refused(alloc, item, &self.reader)?;
         let sentence = self.sentence(alloc, conn, item)?;
         let also = self.others(alloc, conn, item)?;
         let facts = self.facts(conn, item);
         let warnings = warnings_of(item, facts, self.request_facts(item));
         let moved = moved_by(alloc, conn, item, &self.notes, &self.live)?;
-        let opening = opening_of(alloc, conn, item)?;
+        let opening = opening_of(alloc, conn, item.number == 1)?;
         let changes = self.changes(alloc, conn, item)?;
         let entries = self.entries(alloc, item)?;
         self.note_refused_end(item)?;
@@ -400,8 +410,7 @@ impl Explainer {
         if has_ended(item.after.counts.phase) {
             return Ok(Vec::new(alloc));
         }
-        let (entries, size) = (item.after.entries, item.after.table_size);
-        self.table.follow(alloc, &self.reader, entries, size)
+        self.table.follow(alloc, item, &self.reader)
     }
 
     /// What an item changed: on the connection, on its stream, and on the streams that frames were sent on for it; these

@@ -6,8 +6,8 @@ ghost use Rattle.std.specs.Prelude.{◌≡◌, false, IfOk};
 ghost use Rattle.std.specs.String.{string_bytes};
 ghost use Rattle.h2_explain.specs.Explains.{EndsLine, EndsLineOrNone, IsRestOf, IsRestText};
 
-use crate::account::{Explainer, has_ended};
-use crate::json::line_of;
+use crate::account::{Explainer, has_ended, opening_of};
+use crate::json::{line_of, put_opening};
 use crate::json_words::JsonWords;
 use crate::paint::{Paint, Role};
 use crate::request_facts::RequestFacts;
@@ -117,11 +117,11 @@ impl End<'_, '_> {
         string_of(alloc, &texts!(words.as_str(), paint.ended()))
     }
 
-    /// The text, with the line of the octets that are left.
-    fn text(&self, alloc: Global) -> Result<String, AllocError>
-        ensures { IfOk result (λ text. IsRestOf false self.now.form.color self.now.rest.octets (string_bytes text)) }
+    /// The text, with the line of the octets that are left; before it, where no item came, the server's opening.
+    fn text(&self, alloc: Global, opening: &[u8]) -> Result<String, AllocError>
+        ensures { IfOk result (λ text. IsRestOf false self.now.form.color self.now.rest.items self.now.rest.octets (string_bytes text)) }
     {
-        let rest = rest_line(alloc, self.rest, Paint(self.form.color))?;
+        let rest = rest_line(alloc, self.rest, opening, Paint(self.form.color))?;
         let lines = self.lines(alloc)?;
         string_of(alloc, &texts!(rest.as_str(), lines.as_str()))
     }
@@ -148,11 +148,12 @@ impl End<'_, '_> {
         }
     }
 
-    /// The last line of JSON.
-    fn json(&self, alloc: Global) -> Result<String, AllocError>
+    /// The last line of JSON; before it, where no item came, that of the server's opening.
+    fn json(&self, alloc: Global, opening: &[u8]) -> Result<String, AllocError>
         ensures { IfOk result (λ text. EndsLine false (string_bytes text)) }
     {
-        let mut out = JsonWords::new(alloc);
+        let mut out = JsonWords::over(Words::new(alloc));
+        put_opening(alloc, opening, &mut out);
         out.open_element();
         out.open("end");
         put_end(self.rest, &mut out);
@@ -166,12 +167,13 @@ impl End<'_, '_> {
 
     /// The end in the form that is asked for.
     pub(crate) fn said(&self, alloc: Global) -> Result<String, AllocError>
-        ensures { IfOk result (λ text. IsRestText self.now.form self.now.rest.octets (string_bytes text)) }
+        ensures { IfOk result (λ text. IsRestText self.now.form self.now.rest.items self.now.rest.octets (string_bytes text)) }
     {
+        let opening = opening_of(alloc, self.conn, self.rest.items == 0)?;
         if self.form.json {
-            self.json(alloc)
+            self.json(alloc, opening.as_slice())
         } else {
-            self.text(alloc)
+            self.text(alloc, opening.as_slice())
         }
     }
 }

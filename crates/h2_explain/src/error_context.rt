@@ -8,6 +8,7 @@ ghost use Rattle.h2_explain.specs.Explained.{frame_in, head_in, payload_in};
 ghost use Rattle.h2_explain.specs.ErrorContext.{fixed_in, increment_in, length_in, pad_in, part_in, setting_in, type_in};
 ghost use Rattle.h2_explain.specs.Notes.{note_of};
 
+use crate::header_table::Followed;
 use crate::item::Explained;
 use crate::notes::{Notes, StreamNote};
 use h2_describe::spelled::{BlockReader, SpelledField};
@@ -21,6 +22,8 @@ pub(crate) struct ErrorContext<'f, 'o> {
     pub(crate) item: &'f Explained<'o>,
     pub(crate) notes: &'f Notes,
     pub(crate) reader: &'f BlockReader,
+    /// The client's header table.
+    pub(crate) table: &'f Followed,
     pub(crate) config: Config,
     /// The open or half-closed (remote) stream with the greatest send window, and that window; looked up for
     /// `InitialWindowSizeOverflow` alone.

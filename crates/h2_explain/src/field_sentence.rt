@@ -4,9 +4,9 @@
 use crate::error_context::ErrorContext;
 use crate::fields::{
     Wrong, bad_octet_of_name, bad_octet_of_value, double_pseudo, first_wrong, has,
-    has_other_scheme, is_blank, is_connect, is_length_long, late_pseudo,
+    has_other_scheme, is_blank, is_connect, is_number, late_pseudo, other_length, refused_length,
 };
-use h2_describe::say::{Cut, HexOctet, Octets, Words};
+use h2_describe::say::{Cut, HexOctet, Words};
 use h2_describe::say_all;
 use h2_describe::spelled::SpelledField;
 use h2_spec::causes::Cause;
@@ -30,6 +30,13 @@ fn say_octet(octet: u8, out: &mut Words) {
     }
 }
 
+/// Puts last what would have been right in place of an octet of a name, where one thing would.
+fn say_repair(octet: u8, out: &mut Words) {
+    if (b'A'..=b'Z').contains(&octet) {
+        say_all!(out; "; names are in lower case");
+    }
+}
+
 fn say_bad_name(context: ErrorContext<'_, '_>, of: &'static str, out: &mut Words) -> bool {
     let Some(field) = found(Wrong::Name, context) else {
         return false;
@@ -43,6 +50,7 @@ fn say_bad_name(context: ErrorContext<'_, '_>, of: &'static str, out: &mut Words
     }
     if let Some(octet) = bad {
         say_octet(octet, out);
+        say_repair(octet, out);
     }
     true
 }
@@ -92,14 +100,24 @@ fn say_lacking(fields: &[SpelledField], out: &mut Words) {
     }
 }
 
-/// What CONNECT lacks, or has too much (RFC 9113, 8.5).
-fn say_connect(fields: &[SpelledField], out: &mut Words) {
+/// What CONNECT has too much, empty where it has not (RFC 9113, 8.5).
+fn too_much(fields: &[SpelledField]) -> &'static str {
     match (has(b":scheme", fields), has(b":path", fields)) {
-        (true, true) => say_all!(out; "CONNECT has :scheme and :path, and may have neither"),
-        (true, false) => say_all!(out; "CONNECT has :scheme, and may not have it"),
-        (false, true) => say_all!(out; "CONNECT has :path, and may not have it"),
-        (false, false) => say_all!(out; "CONNECT lacks :authority"),
+        (true, true) => " has :scheme and :path, and may have neither",
+        (true, false) => " has :scheme, and may not have it",
+        (false, true) => " has :path, and may not have it",
+        (false, false) => "",
     }
+}
+
+/// What CONNECT lacks, and what it has too much (RFC 9113, 8.5).
+fn say_connect(fields: &[SpelledField], out: &mut Words) {
+    let more = too_much(fields);
+    say_all!(out; "CONNECT");
+    if !has(b":authority", fields) {
+        say_all!(out; " lacks :authority", if more.is_empty() { "" } else { "; it" });
+    }
+    say_all!(out; more);
 }
 
 /// Pseudo-fields (RFC 9113, 8.1 and 8.3).
@@ -151,33 +169,29 @@ fn say_te(context: ErrorContext<'_, '_>, of: &'static str, out: &mut Words) -> b
     true
 }
 
-/// Why the value of the one content-length is not taken.
-fn say_digits(value: &[u8], fields: &[SpelledField], out: &mut Words) {
-    if is_length_long(fields) {
-        say_all!(out; ", of ", Octets(value.len() as u64), "; this server takes up to 18 digits");
-    } else {
+/// Puts last what is wrong with the content-length that is shown: `other` is one of another number, if there is one.
+fn say_digits(value: &[u8], other: Option<&SpelledField>, out: &mut Words) {
+    if !is_number(value) {
         say_all!(out; "; it has to be of digits alone");
+    } else if value.len() > 18 {
+        say_all!(out; ", of ", value.len(), " digits; this server takes up to 18");
+    } else if let Some(other) = other {
+        say_all!(out; " and \"", Cut(other.value.as_slice()), "\"; they have to be the same number");
     }
 }
 
 /// The value or the values of content-length (RFC 9113, 8.1.1).
 fn say_content_length(cause: Cause, context: ErrorContext<'_, '_>, out: &mut Words) -> bool {
     let fields = context.reader.fields();
-    let Some(place) = first_wrong(Wrong::Length, 0, fields) else {
+    let Some(field) = refused_length(fields) else {
         return false;
     };
-    let Some(first) = fields.get(place) else {
-        return false;
-    };
-    say_all!(out; "content-length is \"", Cut(first.value.as_slice()), "\"");
+    let value = field.value.as_slice();
+    say_all!(out; "content-length is \"", Cut(value), "\"");
     if let Cause::ContentMissing = cause {
         say_all!(out; ", and HEADERS ended the stream");
-        return true;
-    }
-    let next = first_wrong(Wrong::Length, place.saturating_add(1), fields);
-    match next.and_then(|next| fields.get(next)) {
-        Some(second) => say_all!(out; " and \"", Cut(second.value.as_slice()), "\""),
-        None => say_digits(first.value.as_slice(), fields, out),
+    } else {
+        say_digits(value, other_length(value, fields), out);
     }
     true
 }

@@ -200,7 +200,7 @@ pub(crate) fn has_other_scheme(fields: &[SpelledField]) -> bool {
 }
 
 /// Whether a value is of digits alone, one at least.
-fn is_number(value: &[u8]) -> bool {
+pub(crate) fn is_number(value: &[u8]) -> bool {
     for octet in value {
         if !(b'0'..=b'9').contains(octet) {
             return false;
@@ -268,6 +268,36 @@ fn differs_from(place: usize, fields: &[SpelledField]) -> bool {
         }
     }
     false
+}
+
+/// The first content-length that is no number of 1 to 18 digits, or the first of all where there is none.
+pub(crate) fn refused_length(fields: &[SpelledField]) -> Option<&SpelledField> {
+    let mut first = None;
+    for field in fields {
+        if is_wrong(Wrong::Length, field) {
+            let value = field.value.as_slice();
+            if !is_number(value) || value.len() > 18 {
+                return Some(field);
+            }
+            if first.is_none() {
+                first = Some(field);
+            }
+        }
+    }
+    first
+}
+
+/// The first content-length that is another number than a value of at most 18 digits.
+pub(crate) fn other_length<'s>(
+    value: &[u8],
+    fields: &'s [SpelledField],
+) -> Option<&'s SpelledField> {
+    for field in fields {
+        if is_wrong(Wrong::Length, field) && number_in(field.value.as_slice()) != number_in(value) {
+            return Some(field);
+        }
+    }
+    None
 }
 
 /// Whether the first field whose name is refused has an empty name.

@@ -2,8 +2,10 @@
 //! Rests on h2_describe's `spelled`: what is entered are the fields that were spelled with indexing. No definition speaks
 //! of it; where the table is not followed to its end, nothing more is told of it.
 
+use crate::item::Explained;
 use h2_describe::spelled::{BlockReader, SpelledField, Spelling};
 use h2_fields::instruction::Mode;
+use h2_spec::causes::Cause;
 use std::alloc::{AllocError, Global};
 use std::collections::VecDeque;
 
@@ -15,6 +17,14 @@ pub struct Entry {
 }
 
 impl Entry {
+    /// The same entry once more.
+    fn copy(&self, alloc: Global) -> Result<Entry, AllocError> {
+        Ok(Entry {
+            name: Vec::from_slice(alloc, self.name.as_slice())?,
+            value: Vec::from_slice(alloc, self.value.as_slice())?,
+        })
+    }
+
     /// What it counts: its octets and 32 (RFC 7541, 4.1).
     pub(crate) fn size(&self) -> usize {
         self.name
@@ -31,11 +41,27 @@ pub struct EntryChange {
     pub entry: Entry,
 }
 
+/// An entry that was evicted.
+#[derive(Drop)]
+pub(crate) struct Gone {
+    pub(crate) entry: Entry,
+    /// The number of the item that evicted it.
+    pub(crate) item: u64,
+    /// The name of the entry that evicted it, none where a table size update did.
+    pub(crate) by: Option<Vec<u8>>,
+}
+
+/// How many of the entries that were evicted last are kept.
+const MOST_GONE: usize = 64;
+
 /// The table, followed by the fields of blocks.
 #[derive(Drop)]
 pub struct Followed {
     /// The entries, the newest first.
     entries: VecDeque<Entry>,
+    /// Entries that were evicted, the last one first: with those of the table they are what the table would have if it
+    /// were larger.
+    gone: VecDeque<Gone>,
     size: usize,
     maximum: usize,
     /// Whether it is still known what the table has.
@@ -66,6 +92,7 @@ impl Followed {
     pub(crate) fn new(alloc: Global, maximum: usize) -> Followed {
         Followed {
             entries: VecDeque::new(alloc),
+            gone: VecDeque::new(alloc),
             size: 0,
             maximum,
             is_known: true,
@@ -80,82 +107,168 @@ impl Followed {
         self.updates = 0;
     }
 
+    /// What an index that is beyond both tables would name if nothing had been evicted; none where that is not known.
+    pub(crate) fn gone_at(&self, index: u64) -> Option<&Gone> {
+        if !self.is_known {
+            return None;
+        }
+        let place = index
+            .checked_sub(62)?
+            .checked_sub(self.entries.len() as u64)?;
+        self.gone.get(usize::try_from(place).unwrap_or(usize::MAX))
+    }
+
+    /// Keeps an entry that was evicted, and drops one of those that were evicted long ago.
+    fn keep(&mut self, gone: Gone) -> Result<(), AllocError> {
+        if self.gone.len() >= MOST_GONE {
+            self.gone.pop_back();
+        }
+        self.gone.push_front(gone)?;
+        Ok(())
+    }
+
+    /// Evicts the oldest entry at the item of this number, by the entry of this name or by a table size update.
+    fn evict_one(
+        &mut self,
+        alloc: Global,
+        item: u64,
+        by: Option<&[u8]>,
+        out: &mut Vec<EntryChange>,
+    ) -> Result<(), AllocError> {
+        let Some(entry) = self.entries.pop_back() else {
+            return Ok(());
+        };
+        self.size = self.size.saturating_sub(entry.size());
+        let by = match by {
+            Some(name) => Some(Vec::from_slice(alloc, name)?),
+            None => None,
+        };
+        let copy = entry.copy(alloc)?;
+        self.keep(Gone {
+            entry: copy,
+            item,
+            by,
+        })?;
+        out.push(EntryChange {
+            is_entered: false,
+            entry,
+        })?;
+        Ok(())
+    }
+
     /// Evicts the oldest entries until so many octets more have space.
-    fn evict(&mut self, octets: usize, out: &mut Vec<EntryChange>) -> Result<(), AllocError> {
+    fn evict(
+        &mut self,
+        alloc: Global,
+        octets: usize,
+        item: u64,
+        by: Option<&[u8]>,
+        out: &mut Vec<EntryChange>,
+    ) -> Result<(), AllocError> {
         for _entry in 0..self.entries.len() {
             if self.size.saturating_add(octets) <= self.maximum {
                 return Ok(());
             }
-            if let Some(entry) = self.entries.pop_back() {
-                self.size = self.size.saturating_sub(entry.size());
-                out.push(EntryChange {
-                    is_entered: false,
-                    entry,
-                })?;
-            }
+            self.evict_one(alloc, item, by, out)?;
         }
         Ok(())
     }
 
-    /// Enters a field; what has no space in the empty table only empties it (RFC 7541, 4.4).
+    /// Enters a field; what has no space in the empty table only empties it (RFC 7541, 4.4), and then no index tells any
+    /// more which of the evicted entries it would name.
     fn enter(
         &mut self,
         alloc: Global,
+        item: u64,
         field: &SpelledField,
         out: &mut Vec<EntryChange>,
     ) -> Result<(), AllocError> {
         let entry = entry_of(alloc, field)?;
         let size = entry.size();
-        self.evict(size, out)?;
-        if size <= self.maximum {
-            self.entries.push_front(entry)?;
-            self.size = self.size.saturating_add(size);
-            out.push(EntryChange {
-                is_entered: true,
-                entry: entry_of(alloc, field)?,
-            })?;
+        self.evict(alloc, size, item, Some(field.name.as_slice()), out)?;
+        if size > self.maximum {
+            self.gone.clear();
+            return Ok(());
         }
+        self.entries.push_front(entry)?;
+        self.size = self.size.saturating_add(size);
+        out.push(EntryChange {
+            is_entered: true,
+            entry: entry_of(alloc, field)?,
+        })?;
         Ok(())
     }
 
     /// Carries out the updates of the block that were not followed yet.
     fn update(
         &mut self,
+        alloc: Global,
+        item: u64,
         reader: &BlockReader,
         out: &mut Vec<EntryChange>,
     ) -> Result<(), AllocError> {
         for maximum in reader.updates().iter().skip(self.updates) {
             self.maximum = usize::try_from(*maximum).unwrap_or(usize::MAX);
-            self.evict(0, out)?;
+            self.evict(alloc, 0, item, None, out)?;
         }
         self.updates = reader.updates().len();
         Ok(())
     }
 
-    /// Follows what a block has given since it was followed last, and lists what changed. `entries` and `size` are those
-    /// of the connection's own table afterwards: where they are others, it is not known any more what the table has.
-    pub(crate) fn follow(
+    /// Carries out what a block has given since it was followed last, and lists what changed.
+    fn carry_out(
         &mut self,
         alloc: Global,
+        item: u64,
         reader: &BlockReader,
-        entries: usize,
-        size: usize,
     ) -> Result<Vec<EntryChange>, AllocError> {
         let mut changes = Vec::new(alloc);
-        if !self.is_known {
-            return Ok(changes);
-        }
-        self.update(reader, &mut changes)?;
+        self.update(alloc, item, reader, &mut changes)?;
         for field in reader.fields().iter().skip(self.fields) {
             if is_entered(field) {
-                self.enter(alloc, field, &mut changes)?;
+                self.enter(alloc, item, field, &mut changes)?;
             }
         }
         self.fields = reader.fields().len();
-        if self.entries.len() != entries || self.size != size {
+        Ok(changes)
+    }
+
+    /// Follows what a block has given since it was followed last, and lists what changed. Where the connection's own
+    /// table has other entries after the item, it is not known any more what the table has.
+    pub(crate) fn follow(
+        &mut self,
+        alloc: Global,
+        item: &Explained<'_>,
+        reader: &BlockReader,
+    ) -> Result<Vec<EntryChange>, AllocError> {
+        if !self.is_known {
+            return Ok(Vec::new(alloc));
+        }
+        let mut changes = self.carry_out(alloc, item.number, reader)?;
+        if self.entries.len() != item.after.entries || self.size != item.after.table_size {
             self.is_known = false;
             changes.clear();
         }
         Ok(changes)
+    }
+
+    /// Follows a block up to an index that no entry has, if an item is refused for one: what was evicted before may be
+    /// what it names. The connection has ended then, and its table is as it was.
+    pub(crate) fn follow_refused(
+        &mut self,
+        alloc: Global,
+        item: &Explained<'_>,
+        reader: &BlockReader,
+    ) -> Result<(), AllocError> {
+        let Some(Cause::IndexOutOfTables) = item.taken.cause else {
+            return Ok(());
+        };
+        if item.before.block.is_none() {
+            self.begin();
+        }
+        if self.is_known {
+            self.carry_out(alloc, item.number, reader)?;
+        }
+        Ok(())
     }
 }

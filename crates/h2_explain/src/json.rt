@@ -29,11 +29,20 @@ use h2_spec::octets::octets_from;
 use h2_spec::special_cases::SpecialCase;
 use std::alloc::{AllocError, Global};
 
-/// Octets as hex, and as text where they are UTF-8.
+/// The octets that are shown of some, as hex, and how many there are where not all are shown.
+fn put_hex(shown: &[u8], octets: &[u8], out: &mut JsonWords) {
+    out.plain("hex", Hex(shown));
+    if shown.len() < octets.len() {
+        out.number("length", octets.len() as u64);
+    }
+}
+
+/// Octets as hex, and as text where those that are shown are UTF-8.
 fn put_octets(name: &str, octets: &[u8], out: &mut JsonWords) {
+    let shown = out.shown_of(octets);
     out.open(name);
-    out.plain("hex", Hex(octets));
-    if let Ok(text) = str::from_utf8(octets) {
+    put_hex(shown, octets, out);
+    if let Ok(text) = str::from_utf8(shown) {
         out.text("text", text);
     }
     out.close();
@@ -114,6 +123,10 @@ fn put_parts(frame: FrameRef<'_>, out: &mut JsonWords) {
             out.number("padding", part.padding.len() as u64);
         }
         Ok(Part::Headers(part)) => put_headers(part, frame.payload, out),
+        Ok(Part::Continuation(fragment)) => {
+            put_octets("fragment", fragment, out);
+            put_octets("octets", frame.payload, out);
+        }
         Ok(Part::Priority) => put_priority_frame(frame.payload, out),
         Ok(Part::SettingsAck) => {
             put_octets("octets", frame.payload, out);
@@ -168,11 +181,11 @@ fn put_goaway(last: u32, number: u32, payload: &[u8], out: &mut JsonWords) {
     out.number("last_stream", u64::from(last));
 }
 
-/// A frame in words.
-fn frame_in_words(alloc: Global, frame: FrameRef<'_>) -> Words {
-    let mut words = Words::new(alloc);
+/// Puts a frame in words in.
+fn put_frame_words(alloc: Global, frame: FrameRef<'_>, out: &mut JsonWords) {
+    let mut words = out.empty(alloc);
     say_frame(frame, &mut words);
-    words
+    out.words("words", words);
 }
 
 /// The fields of HEADERS that were sent.
@@ -191,10 +204,10 @@ fn put_sent_frame(alloc: Global, frame: FrameRef<'_>, octets: &[u8], out: &mut J
     put_answer(alloc, frame, out);
     put_head(&frame.head, out);
     out.open("octets");
-    out.plain("hex", Hex(octets));
+    put_hex(out.shown_of(octets), octets, out);
     out.close();
     put_payload(frame, out);
-    out.words("words", frame_in_words(alloc, frame));
+    put_frame_words(alloc, frame, out);
     out.close();
 }
 
@@ -487,11 +500,11 @@ fn put_why(item: &Explained<'_>, account: &Account, reader: &BlockReader, out: &
     }
 }
 
-/// An item in words.
-fn item_in_words(alloc: Global, item: &Explained<'_>) -> Words {
-    let mut words = Words::new(alloc);
+/// Puts an item in words in.
+fn put_item_words(alloc: Global, item: &Explained<'_>, out: &mut JsonWords) {
+    let mut words = out.empty(alloc);
     say_item(item, &mut words);
-    words
+    out.words("words", words);
 }
 
 /// Puts the item in: its number, its octets, and what was sent for it.
@@ -509,7 +522,7 @@ fn put_item(alloc: Global, item: &Explained<'_>, out: &mut JsonWords) {
 const VERSION: u64 = 1;
 
 /// The line of what the server sent before the first item, if there is anything.
-fn put_opening(alloc: Global, opening: &[u8], out: &mut JsonWords) {
+pub(crate) fn put_opening(alloc: Global, opening: &[u8], out: &mut JsonWords) {
     if opening.is_empty() {
         return;
     }
@@ -535,7 +548,7 @@ pub(crate) fn json_of(
 ) -> Result<String, AllocError>
     ensures { IfOk result (λ text. EndsLine false (string_bytes text)) }
 {
-    let mut out = JsonWords::new(alloc);
+    let mut out = JsonWords::over(explainer.words(alloc));
     put_opening(alloc, account.opening.as_slice(), &mut out);
     out.open_element();
     put_why(item, account, &explainer.reader, &mut out);
@@ -545,7 +558,7 @@ pub(crate) fn json_of(
         put_updates(&explainer.reader, &mut out);
     }
     put_warnings(account.warnings, &mut out);
-    out.words("words", item_in_words(alloc, item));
+    put_item_words(alloc, item, &mut out);
     out.close();
     line_of(out)
 }

@@ -19,14 +19,9 @@ fn is_plain(character: char) -> bool {
     character >= ' ' && character != '"' && character != '\\'
 }
 
-/// Whether all characters stand for themselves.
+/// Whether all characters stand for themselves: those of other than ASCII do, and their octets are above it.
 fn is_all_plain(text: &str) -> bool {
-    for character in text.chars() {
-        if !is_plain(character) {
-            return false;
-        }
-    }
-    true
+    text.as_bytes().iter().all(|octet| *octet >= b' ' && *octet != b'"' && *octet != b'\\')
 }
 
 /// The short escape of a character, empty where it has none.
@@ -74,12 +69,22 @@ fn say_string(text: &str, out: &mut Words) {
 }
 
 impl JsonWords {
-    /// Nothing yet. Takes no memory.
-    pub(crate) fn new(alloc: Global) -> JsonWords {
+    /// Nothing yet, over a text that is empty, which says how much of long texts is shown.
+    pub(crate) fn over(words: Words) -> JsonWords {
         JsonWords {
-            words: Words::new(alloc),
+            words,
             is_behind: false,
         }
+    }
+
+    /// What is shown of octets.
+    pub(crate) fn shown_of<'o>(&self, octets: &'o [u8]) -> &'o [u8] {
+        self.words.shown_of(octets)
+    }
+
+    /// A text in words that is empty yet and shows as much of long texts.
+    pub(crate) fn empty(&self, alloc: Global) -> Words {
+        self.words.empty(alloc)
     }
 
     /// The text. `AllocError` where memory for it was refused.

@@ -219,8 +219,12 @@ struct ItemWords {
 }
 
 /// The item in words.
-fn item_words(alloc: Global, item: &Explained<'_>) -> Result<String, AllocError> {
-    let mut words = Words::new(alloc);
+fn item_words(
+    alloc: Global,
+    item: &Explained<'_>,
+    explainer: &Explainer,
+) -> Result<String, AllocError> {
+    let mut words = explainer.words(alloc);
     say_item(item, &mut words);
     words.finish()
 }
@@ -232,7 +236,7 @@ fn fields_text(
     explainer: &Explainer,
     paint: Paint,
 ) -> Result<String, AllocError> {
-    let mut fields = Words::new(alloc);
+    let mut fields = explainer.words(alloc);
     if account.shows_fields {
         say_fields(&explainer.reader, paint, &mut fields);
     }
@@ -251,17 +255,23 @@ fn sent_text(
     alloc: Global,
     warnings: Warnings,
     sent: &[u8],
+    explainer: &Explainer,
     paint: Paint,
 ) -> Result<String, AllocError> {
-    let mut words = Words::new(alloc);
+    let mut words = explainer.words(alloc);
     say_warnings(warnings, paint, &mut words);
     say_sent(alloc, sent, paint, &mut words);
     words.finish()
 }
 
 /// The lines of what an item changed.
-fn changes_text(alloc: Global, account: &Account, paint: Paint) -> Result<String, AllocError> {
-    let mut words = Words::new(alloc);
+fn changes_text(
+    alloc: Global,
+    account: &Account,
+    explainer: &Explainer,
+    paint: Paint,
+) -> Result<String, AllocError> {
+    let mut words = explainer.words(alloc);
     say_changes(account.changes.as_slice(), paint, &mut words);
     say_all_moved(account.moved.as_slice(), paint, &mut words);
     say_entries(account.entries.as_slice(), paint, &mut words);
@@ -284,11 +294,17 @@ fn words_of(
     paint: Paint,
 ) -> Result<ItemWords, AllocError> {
     Ok(ItemWords {
-        item: item_words(alloc, item)?,
+        item: item_words(alloc, item, explainer)?,
         fields: fields_text(alloc, account, explainer, paint)?,
         also: also_text(alloc, account.also.as_slice(), paint)?,
-        sent: sent_text(alloc, account.warnings, item.sent.as_slice(), paint)?,
-        changes: changes_text(alloc, account, paint)?,
+        sent: sent_text(
+            alloc,
+            account.warnings,
+            item.sent.as_slice(),
+            explainer,
+            paint,
+        )?,
+        changes: changes_text(alloc, account, explainer, paint)?,
     })
 }
 

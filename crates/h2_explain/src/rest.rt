@@ -2,14 +2,15 @@
 //! Rests on `say` and `json`; definitions: `specs/Rest.antt` and `specs/Explains.antt`; the format is in
 //! docs/FORMATS.md.
 
-ghost use Rattle.std.specs.Prelude.{◌≡◌, IfOk, nat_lt};
+ghost use Rattle.std.specs.Prelude.{◌≡◌, false, IfOk};
 ghost use Rattle.std.specs.String.{string_bytes};
-ghost use Rattle.h2_explain.specs.Explains.{EndsLineIf};
+ghost use Rattle.h2_explain.specs.Explains.{EndsLineIf, is_said};
 ghost use Rattle.h2_explain.specs.Rest.{missing_of, missing_of_front, rest_of};
 
 use crate::json::put_head;
 use crate::json_words::JsonWords;
 use crate::paint::{Paint, Role};
+use crate::text::say_opening;
 use h2_conn::Conn;
 use h2_describe::frame_words::say_head;
 use h2_describe::say::{Octets, Words};
@@ -134,11 +135,32 @@ pub(crate) fn say_place(offset: usize, paint: Paint, out: &mut Words) {
     say_blanks(used, out);
 }
 
-/// The line of the octets after the last item, without its end.
-fn rest_words(alloc: Global, rest: Rest, paint: Paint) -> Result<String, AllocError> {
+/// Whether something is said after so many items: of octets that are left, or that none came at all.
+fn is_said(items: u64, octets: usize) -> bool
+    ensures { result ≡ is_said items octets }
+{
+    0 < octets || items == 0
+}
+
+/// Puts last how many octets there are.
+fn say_count(octets: usize, out: &mut Words) {
+    match octets {
+        0 => say_all!(out; "no octets"),
+        _ => say_all!(out; Octets(octets as u64)),
+    }
+}
+
+/// The lines of the server's opening, if it is given, and that of the octets after the last item, without its end.
+fn rest_words(
+    alloc: Global,
+    rest: Rest,
+    opening: &[u8],
+    paint: Paint,
+) -> Result<String, AllocError> {
     let mut words = Words::new(alloc);
+    say_opening(alloc, opening, paint, &mut words);
     say_place(rest.offset, paint, &mut words);
-    say_all!(&mut words; Octets(rest.octets as u64));
+    say_count(rest.octets, &mut words);
     match rest.ended {
         Some(_) => say_all!(&mut words; " not read"),
         None => say_missing(rest.missing, &mut words),
@@ -146,12 +168,18 @@ fn rest_words(alloc: Global, rest: Rest, paint: Paint) -> Result<String, AllocEr
     words.finish()
 }
 
-/// The line of the octets after the last item, empty if there are none.
-pub(crate) fn rest_line(alloc: Global, rest: Rest, paint: Paint) -> Result<String, AllocError>
-    ensures { IfOk result (λ text. EndsLineIf (nat_lt 0 rest.octets) paint.0 (string_bytes text)) }
+/// The line of the octets after the last item, empty if there are none; before it, where no item came, the lines of the
+/// server's opening.
+pub(crate) fn rest_line(
+    alloc: Global,
+    rest: Rest,
+    opening: &[u8],
+    paint: Paint,
+) -> Result<String, AllocError>
+    ensures { IfOk result (λ text. EndsLineIf (is_said rest.items rest.octets) paint.0 (string_bytes text)) }
 {
-    if 0 < rest.octets {
-        let words = rest_words(alloc, rest, paint)?;
+    if is_said(rest.items, rest.octets) {
+        let words = rest_words(alloc, rest, opening, paint)?;
         string_of(alloc, &texts!(words.as_str(), paint.ended()))
     } else {
         Ok(String::new(alloc))

@@ -34,6 +34,8 @@ pub struct Form {
     pub color: bool,
     /// Whether it ends with the errors by cause and the number of warnings.
     pub strict: bool,
+    /// With long texts whole; else the first 100 octets of each are shown.
+    pub full: bool,
 }
 
 /// Why not all items were explained.
@@ -126,7 +128,7 @@ fn write_end<O: Output>(
     output: &mut O,
 ) -> Result<(), ExplainFault>
     requires writer { O.has_failed output.old ≡ false }
-    ensures gains { O.has_failed output.new ≡ false → Gains (IsWritten (λ text. IsRestText form (length rest.now) text) result) (O.written output.old) (O.written output.new) }
+    ensures gains { O.has_failed output.new ≡ false → Gains (IsWritten (λ text. IsRestText form items (length rest.now) text) result) (O.written output.old) (O.written output.new) }
     ensures flag { O.has_failed output.new ≡ not_written result }
     ensures name { O.name output.new ≡ O.name output.old }
 {
@@ -188,6 +190,7 @@ fn explain_items<O: Output>(
 {
     let mut explainer = explainer;
     let mut tally = Tally::new(alloc);
+    explainer.is_full = form.full;
     let mut at = 0usize;
     let mut items = 0u64;
     loop {

@@ -3,6 +3,8 @@
 
 use crate::error_context::ErrorContext;
 use crate::field_sentence::say_field;
+use crate::header_table::Gone;
+use crate::string_sentence::say_huffman;
 use h2_describe::say::{Cut, Fields, HexOctet, Octets, Ordinal, Words};
 use h2_describe::say_all;
 use h2_describe::sent::first_of;
@@ -10,9 +12,15 @@ use h2_describe::spelled::Stopped;
 use h2_spec::causes::Cause;
 use h2_spec::frames::PREFACE;
 use h2_spec::streams::Kind;
+use std::alloc::Global;
 
 /// Puts the sentence of a cause last: with its values, or the rule alone where they are not at hand.
-pub(crate) fn say_sentence(cause: Cause, context: ErrorContext<'_, '_>, out: &mut Words) {
+pub(crate) fn say_sentence(
+    alloc: Global,
+    cause: Cause,
+    context: ErrorContext<'_, '_>,
+    out: &mut Words,
+) {
     let said = say_first(cause, context, out)
         || say_place(cause, context, out)
         || say_length(cause, context, out)
@@ -26,6 +34,7 @@ pub(crate) fn say_sentence(cause: Cause, context: ErrorContext<'_, '_>, out: &mu
         || say_block(cause, context, out)
         || say_index(cause, context, out)
         || say_update(cause, context, out)
+        || say_huffman(alloc, cause, context, out)
         || say_content(cause, context, out)
         || say_field(cause, context, out);
     if !said {
@@ -407,10 +416,25 @@ fn say_index(cause: Cause, context: ErrorContext<'_, '_>, out: &mut Words) -> bo
             };
             say_all!(out;
                 "index ", index, "; both tables end at ", context.reader.highest_index());
+            if let Some(gone) = context.table.gone_at(index) {
+                say_gone(gone, out);
+            }
         }
         _ => return false,
     }
     true
+}
+
+/// Puts last which entry an index would name that was evicted (RFC 7541, 4.4).
+fn say_gone(gone: &Gone, out: &mut Words) {
+    let entry = &gone.entry;
+    say_all!(out;
+        "; it was ", Cut(entry.name.as_slice()), ": \"", Cut(entry.value.as_slice()), "\" until #",
+        gone.item, ", where ");
+    match &gone.by {
+        Some(name) => say_all!(out; "the entry ", Cut(name.as_slice()), " evicted it"),
+        None => say_all!(out; "a table size update evicted it"),
+    }
 }
 
 /// Table size updates (RFC 7541, 4.2 and 6.3; RFC 9113, 4.3.1).

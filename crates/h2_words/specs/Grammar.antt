@@ -50,6 +50,10 @@ color_rule = record (new_rule (codes "color")) { long = Some (codes "color"); ac
 abbrev pub strict_rule : Rule
 strict_rule = record (new_rule (codes "strict")) { long = Some (codes "strict"); action = Some SetTrue }
 
+-- whether long texts are written whole
+abbrev pub full_rule : Rule
+full_rule = record (new_rule (codes "full")) { long = Some (codes "full"); action = Some SetTrue }
+
 -- the answers, any number of them
 abbrev pub answer_rule : Rule
 answer_rule = record (new_rule (codes "ANSWER")) { action = Some Append }
@@ -105,7 +109,7 @@ abbrev pub serve_app : App
 serve_app = with_rule (with_rule (with_rule (with_book (with_limits (new_app (codes "serve")))) port_rule) count_rule) answer_rule
 
 abbrev pub explain_app : App
-explain_app = with_rule (with_book (with_rule (with_rule (with_rule (with_limits (new_app (codes "explain"))) json_rule) color_rule) strict_rule)) answer_rule
+explain_app = with_rule (with_book (with_rule (with_rule (with_rule (with_rule (with_limits (new_app (codes "explain"))) json_rule) color_rule) strict_rule) full_rule)) answer_rule
 
 -- FILE of `check`, one or more
 abbrev pub files_rule : Rule
@@ -138,11 +142,12 @@ pub data BatchAsked : Type 0 where
   dis : BatchAsked
   table : (limit : ℕ) → BatchAsked
 
--- how an explanation is written: whether as JSON, with colours, with what `--strict` says
+-- how an explanation is written: whether as JSON, with colours, with what `--strict` says, with long texts whole
 pub record View : Type 0 where
   pub json : Bool
   pub color : Bool
   pub strict : Bool
+  pub full : Bool
 
 pub data Asked : Type 0 where
   batch : BatchAsked → Asked
@@ -214,7 +219,7 @@ file_book_at rows = record { file = text_at (codes "book") rows; why = false; an
 
 -- how the explanation is written
 abbrev pub view_at : List Row → View
-view_at rows = record { json = is_set (codes "json") rows; color = is_set (codes "color") rows; strict = is_set (codes "strict") rows }
+view_at rows = record { json = is_set (codes "json") rows; color = is_set (codes "color") rows; strict = is_set (codes "strict") rows; full = is_set (codes "full") rows }
 
 abbrev pub asked_by : Text → List Row → Option Asked
 asked_by name rows =

@@ -20,7 +20,7 @@ batch_asked Dis = dis
 batch_asked (Table limit) = table limit
 
 abbrev pub view_asked : Explain → View
-view_asked e = record { json = e.json; color = e.color; strict = e.strict }
+view_asked e = record { json = e.json; color = e.color; strict = e.strict; full = e.full }
 
 abbrev pub planned : Plan → Asked
 planned (plan.Batch b) = batch (batch_asked b)

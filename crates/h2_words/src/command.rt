@@ -4,7 +4,7 @@
 ghost use Rattle.std.specs.Prelude.{◌≡◌, ◌≤◌, length, IfOk, IfErr, bytes_eq, Some, None, codes, map, option_map};
 ghost use Rattle.clap.specs.Words.{App, Rule, found_of, kind_of, new_app, rows_of, subcommand_rows_of, with_rule, with_subcommand};
 ghost use Rattle.clap.specs.declared.error.ErrorKind.TheVariants.{OutOfMemory};
-ghost use Rattle.h2_words.specs.Grammar.{answer_rule, answers_among, asked_at, asked_by, asked_of, asm_app, bench_app, book_at, book_rule, check_app, color_rule, config_at, count_rule, credit_rule, cut_rule, debug_app, dis_app, each_rule, explain_app, file_among, files_among, files_rule, frame_rule, is_answer, is_set, json_rule, limit_rule, number_at, play_app, port_rule, serve_app, streams_rule, strict_rule, table_app, table_rule, text_at, texts_at, top_app, why_rule, window_rule, with_book, with_limits, with_settings};
+ghost use Rattle.h2_words.specs.Grammar.{answer_rule, answers_among, asked_at, asked_by, asked_of, asm_app, bench_app, book_at, book_rule, check_app, color_rule, config_at, count_rule, credit_rule, cut_rule, debug_app, dis_app, each_rule, explain_app, file_among, files_among, files_rule, frame_rule, full_rule, is_answer, is_set, json_rule, limit_rule, number_at, play_app, port_rule, serve_app, streams_rule, strict_rule, table_app, table_rule, text_at, texts_at, top_app, why_rule, window_rule, with_book, with_limits, with_settings};
 ghost use Rattle.h2_words.specs.Built.{IsArg, IsCommand, number_rule, option_rule};
 ghost use Rattle.h2_words.specs.Plans.{book_asked, planned, Refuses};
 
@@ -54,6 +54,8 @@ pub struct Explain<'a> {
     pub color: bool,
     /// Whether the status and a last line say what the client broke.
     pub strict: bool,
+    /// Whether long texts are written whole.
+    pub full: bool,
     /// The path of the file that has the octets as hex; empty where standard input has them.
     pub file: &'a str,
     pub book: BookWords<'a>,
@@ -230,8 +232,19 @@ fn strict_option<'a>(alloc: Global) -> Arg<'a>
     ensures { IsArg strict_rule result }
 {
     Arg::new(alloc, "strict")
-        .help("Ends with status 5 where the client broke a rule, 6 above a limit, 7 within a frame, and says how many errors and warnings there were")
+        .help(
+            "Ends with status 5 where the client broke a rule, 6 above a limit, 7 within a frame, and says how many errors and warnings there were",
+        )
         .long("strict")
+        .action(ArgAction::SetTrue)
+}
+
+fn full_option<'a>(alloc: Global) -> Arg<'a>
+    ensures { IsArg full_rule result }
+{
+    Arg::new(alloc, "full")
+        .help("Writes long texts whole; without it the first 100 octets of each")
+        .long("full")
         .action(ArgAction::SetTrue)
 }
 
@@ -433,6 +446,7 @@ fn explain_command<'a>(alloc: Global) -> Result<Command<'a>, AllocError>
     let command = with_arg(command, json_option(alloc));
     let command = with_arg(command, color_option(alloc));
     let command = with_arg(command, strict_option(alloc));
+    let command = with_arg(command, full_option(alloc));
     let command = with_book(alloc, command);
     with_arg(command, input_words(alloc))
 }
@@ -626,6 +640,7 @@ fn explain_from<'a>(alloc: Global, matches: &ArgMatches<'a>) -> Result<Explain<'
         json: is_set(matches, "json"),
         color: is_set(matches, "color"),
         strict: is_set(matches, "strict"),
+        full: is_set(matches, "full"),
         file: file_among(words.as_slice()),
         book: book_with(matches, answers),
     })

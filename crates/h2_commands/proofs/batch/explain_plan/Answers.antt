@@ -5,7 +5,7 @@ use Rattle.h2_book.specs.Entries.{Directory}
 use Rattle.h2_words.specs.Plans.{view_asked}
 use Rattle.h2_commands.specs.ExplainProgram.{ReportsFrom, ReportsText, ReportsWith, form_of}
 use Rattle.h2_explain.specs.declared.run.Form.{Form}
-use Rattle.h2_commands.specs.Printing.{Printed, failed}
+use Rattle.h2_commands.specs.Printing.{Printed, failed_as}
 use Rattle.h2_commands.specs.CommandEnd.{KnowsFile}
 use Rattle.h2_commands.specs.declared.fault.BenchFault.{BenchFault}
 use Rattle.h2_commands.proofs.batch.explain_plan.Goals as goal
@@ -23,24 +23,24 @@ with-book form made book before after file input input_failed config t is same s
 
 pub returns-in-Err-clause-printed : goal.returns-in-Err-clause-printed
 returns-in-Err-clause-printed g c = λ book file well held is. (
-  failed c.in-Err.fault,
+  failed_as c.args.plan.now.json c.in-Err.fault,
   elim (c.in-Err.ensures.err book) [
-    | inl memory ↦ inl (ap (λ (f : BenchFault). failed f) memory)
-    | inr found ↦ inr (subst (λ (r : Result (List Entry) ℕ). ReportsWith (form_of (view_asked c.args.plan.now)) r (g.F.Files.file c.args.files.now) c.args.plan.now.file.now (g.I.Input.remaining c.args.input.now) (g.I.Input.has_failed c.args.input.now) c.args.plan.now.config (failed c.in-Err.fault)) (sym found) refl)
+    | inl memory ↦ inr (inl (ap (λ (f : BenchFault). failed_as c.args.plan.now.json f) memory))
+    | inr found ↦ inr (inr (subst (λ (r : Result (List Entry) ℕ). ReportsWith (form_of (view_asked c.args.plan.now)) r (g.F.Files.file c.args.files.now) c.args.plan.now.file.now (g.I.Input.remaining c.args.input.now) (g.I.Input.has_failed c.args.input.now) c.args.plan.now.config (failed_as c.args.plan.now.json c.in-Err.fault)) (sym found) refl))
   ],
-  c.print_fault.ensures.printed well held is,
+  c.print_fault_as.ensures.printed well held is,
 )
 
 pub returns-clause-printed : goal.returns-clause-printed
 returns-clause-printed g c = λ book file well held is.
     let fault = c.in-Err-read_text.fault in
     let known = still-known c.args.plan.now.file.now (g.F.Files.is_printed c.args.files.now) (g.F.Files.is_printed c.book_for_words.new.files) c.book_for_words.ensures.same_printed file in (
-      failed fault,
+      failed_as c.args.plan.now.json fault,
       elim (c.in-Err-read_text.ensures.err known) [
-        | inl memory ↦ inl (ap (λ (f : BenchFault). failed f) memory)
-        | inr summary ↦ inr (with-book (form_of (view_asked c.args.plan.now)) _ c.in-Ok.book (g.F.Files.file c.args.files.now) (g.F.Files.file c.book_for_words.new.files) c.args.plan.now.file.now (g.I.Input.remaining c.args.input.now) (g.I.Input.has_failed c.read_text.new.input) c.args.plan.now.config (failed fault) (c.in-Ok.ensures.ok book) c.book_for_words.ensures.same_files (summary (form_of (view_asked c.args.plan.now)) c.in-Ok.book c.args.plan.now.config))
+        | inl memory ↦ inr (inl (ap (λ (f : BenchFault). failed_as c.args.plan.now.json f) memory))
+        | inr summary ↦ inr (inr (with-book (form_of (view_asked c.args.plan.now)) _ c.in-Ok.book (g.F.Files.file c.args.files.now) (g.F.Files.file c.book_for_words.new.files) c.args.plan.now.file.now (g.I.Input.remaining c.args.input.now) (g.I.Input.has_failed c.read_text.new.input) c.args.plan.now.config (failed_as c.args.plan.now.json fault) (c.in-Ok.ensures.ok book) c.book_for_words.ensures.same_files (summary (form_of (view_asked c.args.plan.now)) c.in-Ok.book c.args.plan.now.config)))
       ],
-      c.print_fault-in-Err-read_text.ensures.printed well held is,
+      c.print_fault_as-in-Err-read_text.ensures.printed well held is,
     )
 
 pub returns-in-Ok-read_text-clause-printed : goal.returns-in-Ok-read_text-clause-printed
@@ -48,8 +48,8 @@ returns-in-Ok-read_text-clause-printed g c = λ book file well held is.
     let x = c.print_text.ensures.printed well held is in
     let known = still-known c.args.plan.now.file.now (g.F.Files.is_printed c.args.files.now) (g.F.Files.is_printed c.book_for_words.new.files) c.book_for_words.ensures.same_printed file in (
       x.0,
-      inr (with-book (form_of (view_asked c.args.plan.now)) _ c.in-Ok.book (g.F.Files.file c.args.files.now) (g.F.Files.file c.book_for_words.new.files) c.args.plan.now.file.now (g.I.Input.remaining c.args.input.now) (g.I.Input.has_failed c.read_text.new.input) c.args.plan.now.config x.0 (c.in-Ok.ensures.ok book) c.book_for_words.ensures.same_files
+      inr (inr (with-book (form_of (view_asked c.args.plan.now)) _ c.in-Ok.book (g.F.Files.file c.args.files.now) (g.F.Files.file c.book_for_words.new.files) c.args.plan.now.file.now (g.I.Input.remaining c.args.input.now) (g.I.Input.has_failed c.read_text.new.input) c.args.plan.now.config x.0 (c.in-Ok.ensures.ok book) c.book_for_words.ensures.same_files
           (c.in-Ok-read_text.ensures.ok known (form_of (view_asked c.args.plan.now)) c.in-Ok.book c.args.plan.now.config x.0
-          (subst (λ (octets : List ℕ). ReportsText (form_of (view_asked c.args.plan.now)) c.in-Ok.book c.args.plan.now.config octets x.0) c.as_slice.ensures.value x.1))),
+          (subst (λ (octets : List ℕ). ReportsText (form_of (view_asked c.args.plan.now)) c.in-Ok.book c.args.plan.now.config octets x.0) c.as_slice.ensures.value x.1)))),
       x.2,
     )

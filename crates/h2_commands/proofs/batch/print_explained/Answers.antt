@@ -9,6 +9,6 @@ use Rattle.h2_commands.proofs.batch.print_explained.Goals as goal
 pub returns-in-Fault-clause-printed : goal.returns-in-Fault-clause-printed
 returns-in-Fault-clause-printed g c = λ well held text known.
     let is : c.args.ended ≡ Err (Fault c.in-Fault.fault) = c.in-Err.is ∙ ap (λ (w : ExplainEnd). Err w) c.in-Fault.is in
-    let line = c.print_fault.ensures.printed well (held ++ text) known in
-    subst (λ (r : Result Outcome ExplainEnd). Prints (explained_after text r) held (g.O.Output.written c.print_fault.new.output) c.print_fault.result) (sym is)
+    let line = c.print_fault_as.ensures.printed well (held ++ text) known in
+    subst (λ (r : Result Outcome ExplainEnd). Prints (explained_after c.args.json text r) held (g.O.Output.written c.print_fault_as.new.output) c.print_fault_as.result) (sym is)
     (line.0 ∙ ap (λ (t : List ℕ). Some t) (append_assoc held text _), line.1)

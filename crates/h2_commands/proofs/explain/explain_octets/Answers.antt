@@ -7,4 +7,4 @@ use Rattle.h2_commands.proofs.explain.explain_octets.Goals as goal
 pub returns-in-Ok-clause-printed : goal.returns-in-Ok-clause-printed
 returns-in-Ok-clause-printed g c = λ well held is.
     let x = c.explain_conn.ensures.printed well held is in
-    (x.0, x.1, subst (λ (s : State). ReportsRun c.args.form s c.args.octets.now (explained_after x.0 c.explain_conn.result)) (ap (λ (d : Connection). d.state) c.in-Ok.ensures.opened) x.2)
+    (x.0, x.1, subst (λ (s : State). ReportsRun c.args.form s c.args.octets.now (explained_after c.args.form.json x.0 c.explain_conn.result)) (ap (λ (d : Connection). d.state) c.in-Ok.ensures.opened) x.2)

@@ -30,13 +30,13 @@ pub returns-in-Err-write_item-clause-gains : goal.returns-in-Err-write_item-clau
 returns-in-Err-write_item-clause-gains g c = λ well.
     let octets = c.args.octets.now in
     let failed = subst (λ (r : Result (Unit {0}) ExplainFault). Gains (IsWritten (λ (t : List ℕ). IsItemText c.args.form c.in-Ok-Some.item t) r) (g.O.Output.written c.loop-item.output) (g.O.Output.written c.write_item.new.output)) c.in-Err-write_item.is (c.write_item.ensures.gains well) in
-    gains-both (Begins c.args.form c.args.conn.now.state octets c.loop-item.conn.state (drop c.loop-item.at octets) (c.loop-item.items + 1) c.loop-item.at) _ _
-    (λ t u begins none. begins-cut c.args.form c.args.conn.now.state c.loop-item.conn.state octets (drop c.loop-item.at octets) (c.loop-item.items + 1) c.loop-item.at t u begins none)
+    gains-both (Begins c.args.form c.args.conn.now.state octets c.loop-item.conn.state (drop c.loop-item.at octets) c.loop-item.items c.loop-item.at) _ _
+    (λ t u begins none. begins-cut c.args.form c.args.conn.now.state c.loop-item.conn.state octets (drop c.loop-item.at octets) c.loop-item.items c.loop-item.at t u begins none)
     _ _ _ c.loop-item.invariant.gains failed
 
 pub returns-in-Err-clause-gains : goal.returns-in-Err-clause-gains
 returns-in-Err-clause-gains g c = λ well.
-    gains-cut c.args.form c.args.conn.now.state c.loop-item.conn.state c.args.octets.now (drop c.loop-item.at c.args.octets.now) (c.loop-item.items + 1) c.loop-item.at _ _ c.loop-item.invariant.gains
+    gains-cut c.args.form c.args.conn.now.state c.loop-item.conn.state c.args.octets.now (drop c.loop-item.at c.args.octets.now) c.loop-item.items c.loop-item.at _ _ c.loop-item.invariant.gains
 
 pub loop-item-smaller : goal.loop-item-smaller
 loop-item-smaller g c =
@@ -59,10 +59,10 @@ loop-item-preserved g c =
       summary = rw (item.number_is, item.offset_is) (omega (arith, c.loop-item.invariant.summary, next));
       run = rw item.offset_is (c.loop-item.invariant.run ∙ final-next c.loop-item.conn.state c.args.octets.now c.loop-item.at _ _ c.take_explained.new.conn c.in-Ok-Some.item item);
       gains = rw (item.number_is, item.offset_is) (gains-both
-          (Begins c.args.form c.args.conn.now.state c.args.octets.now c.loop-item.conn.state (drop c.loop-item.at c.args.octets.now) (c.loop-item.items + 1) c.loop-item.at)
+          (Begins c.args.form c.args.conn.now.state c.args.octets.now c.loop-item.conn.state (drop c.loop-item.at c.args.octets.now) c.loop-item.items c.loop-item.at)
           (λ (u : List ℕ). IsItemText c.args.form c.in-Ok-Some.item u)
           _
-          (λ t u begins is. begins-next c.args.form c.args.conn.now.state c.loop-item.conn.state c.args.octets.now c.args.octets.now c.loop-item.at (c.loop-item.items + 1) c.loop-item.at c.take_explained.new.conn c.in-Ok-Some.item item t u begins is)
+          (λ t u begins is. begins-next c.args.form c.args.conn.now.state c.loop-item.conn.state c.args.octets.now c.args.octets.now c.loop-item.at c.loop-item.items c.loop-item.at c.take_explained.new.conn c.in-Ok-Some.item item t u begins is)
           _ _ _ c.loop-item.invariant.gains
           (subst (λ (r : Result (Unit {0}) ExplainFault). Gains (IsWritten (λ (t : List ℕ). IsItemText c.args.form c.in-Ok-Some.item t) r) (g.O.Output.written c.loop-item.output) (g.O.Output.written c.write_item.new.output)) c.in-Ok.is (c.write_item.ensures.gains well)));
       tally = rw (item.number_is, item.offset_is) (tallies-next c.args.conn.now.state c.loop-item.conn.state c.args.octets.now c.args.octets.now c.loop-item.at (c.loop-item.items + 1) c.loop-item.at c.take_explained.new.conn c.in-Ok-Some.item _ _ item c.in-Ok.ensures.tally c.loop-item.invariant.tally);
@@ -73,8 +73,8 @@ returns-in-Ok-None-clause-summary g c =
     let none = rw (c.octets_from-rest.ensures, c.in-Ok-None.field-0-is) at c.in-Ok-None.ensures.ok in
     IfOk-weaker c.summary_if.result _ _
     (λ t h. subst (λ (r : Summary). IsSummary c.args.conn.now.state c.args.octets.now r) (sym h)
-        (summary-is c.args.conn.now.state c.loop-item.conn.state c.args.octets.now (drop c.loop-item.at c.args.octets.now) c.take_explained.new.conn c.summary_of-summary.result c.loop-item.items _ _ _ _ none c.loop-item.invariant.run c.loop-item.invariant.summary
-        c.summary_of-summary.ensures.items c.summary_of-summary.ensures.ended (c.len.ensures ∙ ap length c.octets_from-rest.ensures) c.summary_of-summary.ensures.verdict c.loop-item.invariant.tally))
+    (summary-is c.args.conn.now.state c.loop-item.conn.state c.args.octets.now (drop c.loop-item.at c.args.octets.now) c.take_explained.new.conn c.summary_of-summary.result c.loop-item.items _ _ _ _ none c.loop-item.invariant.run c.loop-item.invariant.summary
+    c.summary_of-summary.ensures.items c.summary_of-summary.ensures.ended (c.len.ensures ∙ ap length c.octets_from-rest.ensures) c.summary_of-summary.ensures.verdict c.loop-item.invariant.tally))
     c.summary_if.ensures.summary
 
 pub returns-in-Ok-None-clause-run : goal.returns-in-Ok-None-clause-run
@@ -89,6 +89,6 @@ returns-in-Ok-None-clause-gains g c = λ well.
     let octets = c.args.octets.now in
     let none = rw (c.octets_from-rest.ensures, c.in-Ok-None.field-0-is) at c.in-Ok-None.ensures.ok in
     let left = rw c.octets_from-rest.ensures at c.write_end-written.ensures.gains well in
-    rw c.summary_if.ensures.err (gains-both (Begins c.args.form c.args.conn.now.state octets c.loop-item.conn.state (drop c.loop-item.at octets) (c.loop-item.items + 1) c.loop-item.at) _ _
-    (λ t u begins is. begins-written c.args.form c.args.conn.now.state c.loop-item.conn.state octets (drop c.loop-item.at octets) (c.loop-item.items + 1) c.loop-item.at none.none c.write_end-written.result t u begins is)
+    rw c.summary_if.ensures.err (gains-both (Begins c.args.form c.args.conn.now.state octets c.loop-item.conn.state (drop c.loop-item.at octets) c.loop-item.items c.loop-item.at) _ _
+    (λ t u begins is. begins-written c.args.form c.args.conn.now.state c.loop-item.conn.state octets (drop c.loop-item.at octets) c.loop-item.items c.loop-item.at none.none c.write_end-written.result t u begins is)
     _ _ _ c.loop-item.invariant.gains left)

@@ -13,7 +13,7 @@ invariant-loop-item g l = record {
   name : g.O.Output.name l.output ≡ g.O.Output.name l.fn.output;
   summary : count l.fn.conn.state l.octets ≡ l.items + count l.conn.state (drop l.at l.octets);
   run : final l.fn.conn.state l.octets ≡ final l.conn.state (drop l.at l.octets);
-  gains : Gains (Begins l.form l.fn.conn.state l.octets l.conn.state (drop l.at l.octets) (l.items + 1) l.at) (g.O.Output.written l.fn.output) (g.O.Output.written l.output);
+  gains : Gains (Begins l.form l.fn.conn.state l.octets l.conn.state (drop l.at l.octets) l.items l.at) (g.O.Output.written l.fn.output) (g.O.Output.written l.output);
   tally : Tallies l.fn.conn.state l.octets l.conn.state (drop l.at l.octets) (l.items + 1) l.at l.tally;
 }
 

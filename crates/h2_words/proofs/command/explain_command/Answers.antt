@@ -6,5 +6,6 @@ returns c =
     let one = c.with_arg-command.ensures _ _ limits c.json_option.ensures in
     let two = c.with_arg-command-2.ensures _ _ one c.color_option.ensures in
     let three = c.with_arg-command-3.ensures _ _ two c.strict_option.ensures in
-    let book = c.with_book-command.ensures _ three in
+    let four = c.with_arg-command-4.ensures _ _ three c.full_option.ensures in
+    let book = c.with_book-command.ensures _ four in
     c.with_arg.ensures _ _ book c.input_words.ensures
