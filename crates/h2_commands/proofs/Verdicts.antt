@@ -1,5 +1,5 @@
 -- The texts of verdicts that were written one after another.
-use Rattle.std.proofs.Common.{◌≡◌, ◌∙◌, ◌⊎◌, ◌&&◌, ◌||◌, ◌+◌, ◌<◌, ◌≤◌, ℕ, Bool, true, false, true≢false, cond, nat_lt, Bor, List, [], ◌∷◌, ◌++◌, length, map, take, drop, get_or, Option, Some, None, Result, Ok, Err, IfErr, refl, sym, ap, subst, inl, inr, append_assoc}
+use Rattle.std.proofs.Common.{◌≡◌, ◌∙◌, ◌⊎◌, ◌&&◌, ◌||◌, ◌+◌, ◌<◌, ◌≤◌, ℕ, Bool, true, false, true≢false, cond, nat_lt, Bor, List, [], ◌∷◌, ◌++◌, length, map, take, drop, get_or, Option, Some, None, IsSomeAnd, Result, Ok, Err, IfErr, refl, sym, ap, subst, inl, inr, append_assoc}
 use Rattle.std.specs.Io.KnownBytes.{Appends}
 use Rattle.std.specs.Str.{IsUtf8, is_utf8}
 use Rattle.std.proofs.lemmas.List.{append-nil, drop_more}
@@ -204,3 +204,7 @@ not-utf8 octets no = at (is_utf8 octets) refl
     at : (b : Bool) → is_utf8 octets ≡ b → b ≡ false
     at true e = absurd (no (IsUtf8-from_is_utf8 octets e))
     at false e = refl
+
+pub long-file : (file : List ℕ) (octets : Option (List ℕ)) → IsSomeAnd octets (λ o. most < length o) → subjects_read file octets ≡ NoCases file ∷ []
+long-file file None h = absurd h
+long-file file (Some octets) h = too-long file octets h

@@ -3,6 +3,7 @@
 
 ghost use Rattle.std.specs.Prelude.{◌≡◌, ◌⊎◌, ◌==◌, ◌≤◌, ◌&&◌, ◌++◌, ◌∷◌, ℕ, List, [], Some, Ok, false, true, length, map, IfOk, IfErr, OnOk};
 ghost use Rattle.std.specs.Io.KnownBytes.{Appends};
+ghost use Rattle.std.specs.Str.{is_utf8};
 ghost use Rattle.h2_check.specs.Files.{cases_in};
 ghost use Rattle.h2_words.specs.Plans.{book_asked};
 ghost use Rattle.h2_commands.specs.CheckProgram.{Case as ACase, EndsCheck, Gains, Ground, IsCheckedWith, IsCut, IsJudged, IsWhole, Judges, NoCases, Subject, WentWhole, Wrote, file_in, ground, next_number, no_verdict, plan_line, subjects_of, subjects_read, title_at};
@@ -144,6 +145,16 @@ fn refuse_file<O: Output>(
     write_verdict(judged, tally, output)
 }
 
+/// Whether octets are UTF-8.
+fn is_text(octets: &[u8]) -> bool
+    ensures { result ≡ is_utf8 octets.now }
+{
+    match str::from_utf8(octets) {
+        Ok(_) => true,
+        Err(_) => false,
+    }
+}
+
 /// Checks the cases of a file's octets.
 fn check_text<F: Files, O: Output>(
     alloc: Global,
@@ -163,7 +174,7 @@ fn check_text<F: Files, O: Output>(
     ensures same_printed { F.is_printed files.new ≡ F.is_printed files.old }
     ensures same_files { F.file files.new ≡ F.file files.old }
 {
-    if str::from_utf8(text).is_err() {
+    if !is_text(text) {
         return refuse_file(alloc, file, "the file is not UTF-8", tally, output);
     }
     match lines_in(alloc, text) {
