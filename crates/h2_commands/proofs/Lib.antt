@@ -9,4 +9,5 @@ pub mod Places
 pub mod Played
 pub mod RefusedWords
 pub mod Tables
+pub mod Verdicts
 pub mod Written
