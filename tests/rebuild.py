@@ -5,7 +5,7 @@
 
 A session is a few dozen frames, most of them valid, under random limits and answers. From the JSON lines alone a reader
 keeps the counts of the connection, the client's settings, the server's own, the open block, the header table and the
-streams. After each item these have to be the lines that `play --each` prints. 300 sessions by default.
+streams. After each item these have to be the lines that `play --each` prints. 3,000 sessions by default: most of the time goes to starting the program, twice a session.
 """
 
 import argparse
@@ -233,7 +233,7 @@ def compare(program, octets, words):
 def main():
     parser = argparse.ArgumentParser()
     parser.add_argument("program")
-    parser.add_argument("--count", type=int, default=300)
+    parser.add_argument("--count", type=int, default=3000)
     parser.add_argument("--seed", type=int, default=1)
     given = parser.parse_args()
     sessions = [session(random.Random(f"{given.seed} {number}")) for number in range(given.count)]

@@ -33,10 +33,10 @@ pub fn say_head(head: &Head, out: &mut Words) {
     say_flags(head, out);
 }
 
-/// Puts the length of a payload last, and that the block stays open where it does.
-fn say_fragment(head: &Head, out: &mut Words) {
+/// Puts the length of a payload last, and that the block stays open where it does: if it can.
+fn say_fragment(head: &Head, can_stay: bool, out: &mut Words) {
     say_all!(out; ", ", Octets(u64::from(head.length)));
-    if !head.has(END_HEADERS) {
+    if can_stay && !head.has(END_HEADERS) {
         say_all!(out; "; the block stays open");
     }
 }
@@ -62,14 +62,14 @@ fn say_data(head: &Head, part: DataPart<'_>, out: &mut Words) {
     say_padding(part.pad, out);
 }
 
-fn say_headers(head: &Head, part: HeadersPart<'_>, out: &mut Words) {
+fn say_headers(head: &Head, part: HeadersPart<'_>, can_stay: bool, out: &mut Words) {
     if head.has(WITH_PRIORITY) {
         if let Some((bits, weight)) = part.priority {
             say_priority(bits, weight, out);
         }
     }
     say_padding(part.pad, out);
-    say_fragment(head, out);
+    say_fragment(head, can_stay, out);
 }
 
 /// Puts a setting last: its name, or its number, and its value.
@@ -111,11 +111,11 @@ fn say_dependency(payload: &[u8], out: &mut Words) {
 }
 
 /// Puts what a payload has last.
-fn say_part(frame: FrameRef<'_>, part: Part<'_>, out: &mut Words) {
+fn say_part(frame: FrameRef<'_>, part: Part<'_>, can_stay: bool, out: &mut Words) {
     let head = frame.head;
     match part {
         Part::Data(part) => say_data(&head, part, out),
-        Part::Headers(part) => say_headers(&head, part, out),
+        Part::Headers(part) => say_headers(&head, part, can_stay, out),
         Part::Priority => say_dependency(frame.payload, out),
         Part::RstStream(code) => say_all!(out; " ", Code(code)),
         Part::Settings(settings) => say_settings(settings, out),
@@ -123,16 +123,22 @@ fn say_part(frame: FrameRef<'_>, part: Part<'_>, out: &mut Words) {
         Part::Ping(octets) => say_all!(out; " ", Hex(&octets)),
         Part::Goaway(last, code) => say_goaway(last, code, frame.payload, out),
         Part::WindowUpdate(increment) => say_all!(out; ", ", increment),
-        Part::Continuation(_) => say_fragment(&head, out),
+        Part::Continuation(_) => say_fragment(&head, can_stay, out),
         Part::PushPromise | Part::Unknown => say_all!(out; ", ", Octets(u64::from(head.length))),
     }
 }
 
 /// Puts a frame in words last; its length alone where its payload can't be read.
 pub fn say_frame(frame: FrameRef<'_>, out: &mut Words) {
+    say_frame_in(frame, true, out);
+}
+
+/// The same of a frame that a connection took: `can_stay` is whether a field block can be open after it, since the frame
+/// did not end the connection.
+pub fn say_frame_in(frame: FrameRef<'_>, can_stay: bool, out: &mut Words) {
     say_head(&frame.head, out);
     match part_of(frame) {
-        Ok(part) => say_part(frame, part, out),
+        Ok(part) => say_part(frame, part, can_stay, out),
         Err(_) => say_all!(out; ", ", Octets(u64::from(frame.head.length))),
     }
 }

@@ -1,13 +1,14 @@
 //! The words of an item: the item itself, and the lines of its fields, of the frames that were sent, and of what changed.
 //! Rests on `account` and `frame_words`; no definition speaks of them, the format is in docs/FORMATS.md.
 
+use crate::account::has_ended;
 use crate::changes::Change;
 use crate::count::Count;
 use crate::header_table::EntryChange;
 use crate::item::Explained;
 use crate::moved::Moved;
 use crate::paint::{Paint, Role};
-use h2_describe::frame_words::{say_frame, say_head};
+use h2_describe::frame_words::{say_frame, say_frame_in, say_head};
 use h2_describe::names::kind_name;
 use h2_describe::say::{Cut, Octets, Words};
 use h2_describe::say_all;
@@ -31,7 +32,7 @@ pub(crate) fn say_item(item: &Explained<'_>, out: &mut Words) {
         }
         ItemHead::Frame(_) => {
             if let Some(frame) = item.frame() {
-                say_frame(frame, out);
+                say_frame_in(frame, !has_ended(item.after.counts.phase), out);
             }
         }
     }
