@@ -6,4 +6,5 @@ returns c =
     let one = c.with_arg-command.ensures _ _ limits c.json_option.ensures in
     let two = c.with_arg-command-2.ensures _ _ one c.color_option.ensures in
     let book = c.with_book-command.ensures _ two in
-    c.with_arg.ensures _ _ book c.input_words.ensures
+    let raw = c.with_arg-command-3.ensures _ _ book c.raw_option.ensures in
+    c.with_arg.ensures _ _ raw c.input_words.ensures
