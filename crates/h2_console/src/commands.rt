@@ -1,4 +1,6 @@
-//! What a person writes to a session, and the command that it means. Rests on h2_script for the names of frames.
+//! What a person writes to a session, and the command that it means. Rests on h2_reasons for the names of frames.
+
+use h2_reasons::type_number;
 
 /// What a line means.
 #[derive(Clone, Copy)]
@@ -17,29 +19,9 @@ pub(crate) enum Meaning<'l> {
     List,
 }
 
-/// The frame types by name, in the order of their numbers.
-static TYPES: [&str; 10] = [
-    "DATA",
-    "HEADERS",
-    "PRIORITY",
-    "RST_STREAM",
-    "SETTINGS",
-    "PUSH_PROMISE",
-    "PING",
-    "GOAWAY",
-    "WINDOW_UPDATE",
-    "CONTINUATION",
-];
-
-/// The number of a frame type, by its name.
-fn type_of(name: &[u8]) -> Option<u8> {
-    let place = TYPES.iter().position(|each| each.as_bytes() == name)?;
-    u8::try_from(place).ok()
-}
-
 /// A command whose type may be a name.
 fn typed<'l>(front: &'l [u8], line: &'l [u8]) -> Option<Meaning<'l>> {
-    match type_of(line.strip_prefix(front)?) {
+    match type_number(line.strip_prefix(front)?) {
         Some(number) => Some(Meaning::Typed(front, number)),
         None => None,
     }

@@ -19,23 +19,9 @@ pub struct Hexed<R> {
     alloc: Global,
 }
 
-/// The digits of numbers to the base 16.
-static DIGITS: [u8; 16] = [
-    b'0', b'1', b'2', b'3', b'4', b'5', b'6', b'7', b'8', b'9', b'a', b'b', b'c', b'd', b'e', b'f',
-];
-
-fn digit(value: u8) -> u8 {
-    DIGITS.get(usize::from(value)).copied().unwrap_or(b'0')
-}
-
 /// Octets as pairs of hex digits.
 pub fn hex_of(alloc: Global, octets: &[u8]) -> Result<Vec<u8>, AllocError> {
-    let mut digits = Vec::new(alloc);
-    for octet in octets {
-        digits.push(digit(*octet / 16))?;
-        digits.push(digit(*octet % 16))?;
-    }
-    Ok(digits)
+    Ok(hex::encode(alloc, octets)?.into_bytes())
 }
 
 impl<R: Read> Hexed<R> {

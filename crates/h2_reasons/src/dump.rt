@@ -61,10 +61,8 @@ fn is_binary(octet: u8) -> bool {
     octet > 126 || (octet < 32 && octet != b'\t' && octet != b'\n' && octet != b'\r')
 }
 
-/// The first words of scripts.
-static SCRIPT_WORDS: [&str; 12] = [
-    "PREFACE",
-    "RAW",
+/// The frame types by name, in the order of their numbers (RFC 9113, 6).
+static TYPES: [&str; 10] = [
     "DATA",
     "HEADERS",
     "PRIORITY",
@@ -77,6 +75,12 @@ static SCRIPT_WORDS: [&str; 12] = [
     "CONTINUATION",
 ];
 
+/// The number of a frame type, by its name.
+pub fn type_number(name: &[u8]) -> Option<u8> {
+    let place = TYPES.iter().position(|each| each.as_bytes() == name)?;
+    u8::try_from(place).ok()
+}
+
 /// Whether the first line that is not empty is one of a script.
 fn is_script(text: &[u8]) -> bool {
     for line in text.split(|octet| *octet == b'\n').take(LINES) {
@@ -88,7 +92,7 @@ fn is_script(text: &[u8]) -> bool {
 }
 
 fn is_script_word(word: &[u8]) -> bool {
-    SCRIPT_WORDS.iter().any(|name| name.as_bytes() == word)
+    word == b"PREFACE".as_slice() || word == b"RAW".as_slice() || type_number(word).is_some()
 }
 
 /// What precedes the first blank of a line.

@@ -2,6 +2,7 @@
 
 use h2_describe::say::{Cut, Octets, Say, Words};
 use h2_describe::say_all;
+use h2_request::book::MAX_BODY;
 use h2_request::fault::EntryFault;
 
 /// What a book refuses an entry for.
@@ -23,9 +24,6 @@ impl From<EntryFault> for Refusal {
         }
     }
 }
-
-/// The most octets of a body.
-const MOST: usize = 1_048_576;
 
 /// The names of fields that are one connection's (RFC 9113, 8.2.2), and what the server does itself.
 static REFUSED: [&str; 6] = [
@@ -88,8 +86,8 @@ pub fn say_entry(refusal: Refusal, method: &str, status: Cut<'_>, octets: usize,
         Refusal::Body => {
             say_all!(out; "an answer with status ", status, " has no body, and this one has ", Octets(octets as u64), ".\n");
         }
-        Refusal::Length if octets > MOST => {
-            say_all!(out; "the body has ", Octets(octets as u64), "; at most ", MOST, " are taken.\n");
+        Refusal::Length if octets > MAX_BODY => {
+            say_all!(out; "the body has ", Octets(octets as u64), "; at most ", MAX_BODY, " are taken.\n");
         }
         Refusal::Length => {
             say_all!(out; "the fields take more than 16383 octets, or the book has 1000 answers already.\n");

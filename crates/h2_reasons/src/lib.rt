@@ -16,7 +16,7 @@ mod table;
 mod written;
 
 pub use answer::{say_answer, say_no_answer};
-pub use dump::has_offsets;
+pub use dump::{has_offsets, type_number};
 pub use entry::{Refusal, field_reason, say_entry};
 pub use h2_describe::say::{Cut, Say, Words};
 pub use hex::{digit_count, is_hex, say_no_hex, say_no_octets, say_offsets};
