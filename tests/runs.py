@@ -14,7 +14,9 @@ and lines that begin with a mark and a blank:
     > LINE               a line of the output that is wanted. Input and output may alternate, as in a session; all of the output is compared, octet for octet
     ~ 0..6 3 6           moves of `debug`: to each of these positions, by `step 1`, `back 1` or `go`, where it is not there already, and `show`. What is wanted of
                          `show` is what `play --each` prints of that item with the same words and octets
-    ! LINE               a line of standard error that is wanted; a last line that ends in ` ..` is compared up to there. Without such lines it is empty
+    ! LINE               a line of standard error that is wanted; a last line that ends in ` ..` is compared up to there. Without such lines it is empty, but for
+                         a sentence where a line of the output is `fault N`, or the output was not written (of that only that it can be read and ends in a full
+                         stop; with --quiet it is empty), and for what is said of an empty input
     = STATUS             the exit status that is wanted; 0 without this line
     NAME| LINE           a line of the file NAME in the folder of the run. A run without files is run at the top of the repository
 
@@ -47,6 +49,7 @@ TOP = os.path.dirname(os.path.dirname(os.path.abspath(__file__)))
 SECONDS = 300
 MOST_UNPROVED = 100_000
 FILE_LINE = re.compile(r"([^\s|]+)\| ?(.*)", re.DOTALL)
+SENTENCES = re.compile(rb"([ -~]+\.\n)+")
 RANGE = re.compile(r"\{(\d+)\.\.(\d+)\}")
 
 
@@ -323,7 +326,15 @@ def difference(what, wanted, printed):
     return lines
 
 
-def errors_agree(wanted, printed):
+def has_fault(output):
+    return re.search(rb"^fault \d", output, re.MULTILINE) is not None
+
+
+def errors_agree(wanted, printed, is_fault):
+    if not wanted and printed == b"standard input: no octets.\n":
+        return True
+    if is_fault and not wanted:
+        return SENTENCES.fullmatch(printed) is not None
     if wanted.endswith(b" ..\n"):
         return printed.startswith(wanted[:-3])
     return wanted == printed
@@ -332,7 +343,7 @@ def errors_agree(wanted, printed):
 def problems(run, wanted, found):
     """How a run went otherwise than is wanted."""
     lines = difference("standard output", wanted, found.stdout or b"")
-    if not errors_agree(run.errors, found.stderr):
+    if not errors_agree(run.errors, found.stderr, "--quiet" not in run.words and (found.returncode == 3 or has_fault(found.stdout or b""))):
         lines += difference("standard error", run.errors, found.stderr)
     if found.returncode != run.status:
         lines.append(f"  status: wanted {run.status}, was {found.returncode}")

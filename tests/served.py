@@ -144,7 +144,9 @@ def limits_out_of_range_are_refused_behind_the_port(program):
     for limit in REFUSED:
         for count in (0, 1):
             with Server(program, count, *limit.split()) as server:
-                yield server.ended(), (f"listening {server.port}\nfault 16\n", 1, "")
+                output, status, said = server.ended()
+                yield (output, status), (f"listening {server.port}\nfault 16\n", 1)
+                yield said.startswith(f"{limit} is out of range: "), True
 
 
 def no_connection_is_served(program):
@@ -161,7 +163,8 @@ def a_port_in_use_is_refused(program):
         port = taken.getsockname()[1]
         for words in ([], ["--streams", "0"]):
             with Server(program, 1, *words, port=port) as server:
-                yield server.ended(), ("fault 28\n", 1, "")
+                said = f"port {port} of 127.0.0.1 is in use: end the program that listens there, or take another port.\n"
+                yield server.ended(), ("fault 28\n", 1, said)
 
 
 def a_line_that_is_not_written_ends_the_server(program):
@@ -170,14 +173,21 @@ def a_line_that_is_not_written_ends_the_server(program):
         yield server.line(), f"listening {server.port}\n"
         server.process.stdout.close()
         yield read_all(client(server.port, START + PING, ends=True)), (ANSWERED, True)
-        yield server.ended(), ("", 3, "")
+        yield server.ended(), ("", 3, "standard output: its reader has left; the output is not whole.\n")
 
 
 def refused_answers_open_no_port(program):
     """The faults of answers and of the book come before the port is opened."""
+    said = {
+        26: "answer 1 of the command line: `x` has no |,",
+        12: "answer 1 of the command line, part 3, STATUS: the status is 199;",
+        22: "none.toml: there is no such file.",
+    }
     for words, number in ((["x"], 26), (["GET|/|199|"], 12), (["--book", "none.toml", "x"], 22)):
         with Server(program, 1, *words) as server:
-            yield server.ended(), (f"fault {number}\n", 1, "")
+            output, status, errors = server.ended()
+            yield (output, status), (f"fault {number}\n", 1)
+            yield errors.startswith(said[number]), True
 
 
 TESTS = [

@@ -24,7 +24,7 @@ use std::alloc::{AllocError, Global};
 pub struct Ran {
     /// The octets of the output.
     pub output: Vec<u8>,
-    /// The sentence that `--why` asks for, where an entry of the book was refused.
+    /// The sentence that says why an entry of the book was refused, where one was and the words do not ask for quiet.
     pub reason: Vec<u8>,
     /// The exit status: 0, 1, 2 or 4, as `carry_out` says.
     pub status: u8,

@@ -7,7 +7,7 @@ use Rattle.h2_book.specs.declared.fault.Cause.TheVariants.{NoMemory, Unread, NoT
 -- the number of a cause
 abbrev pub cause_number : Cause → ℕ
 cause_number NoMemory = 0
-cause_number Unread = 22
+cause_number (Unread why) = 22
 cause_number NoText = 26
 cause_number (NoToml error) = 26
 cause_number (UnknownTop key) = 26
@@ -16,7 +16,7 @@ cause_number (UnknownKey key) = 26
 cause_number (Missing key) = 26
 cause_number (Malformed key) = 26
 cause_number ManyBodies = 26
-cause_number FileUnread = 22
+cause_number (FileUnread why) = 22
 cause_number FileTooLong = 15
 cause_number FillTooLong = 15
 cause_number (BadEntry fault) = entry_number fault

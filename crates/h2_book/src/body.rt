@@ -263,7 +263,7 @@ fn read_file<F: Files>(
     let place = directory_of(path).join(alloc, name)?;
     match files.read(alloc, place.as_str(), MAX_BODY) {
         Ok(octets) => Ok(Octets::new(octets)),
-        Err(FilesFault::Failed) => Err(Cause::FileUnread),
+        Err(FilesFault::Failed) => Err(Cause::FileUnread(files.failure(place.as_str()))),
         Err(FilesFault::TooLong) => Err(Cause::FileTooLong),
         Err(FilesFault::NoMemory) => Err(Cause::NoMemory),
     }

@@ -13,9 +13,10 @@ ghost use Rattle.h2_book.specs.Entries as spec;
 ghost use Rattle.h2_book.specs.Faults.{cause_number};
 
 use crate::answer::entry_in;
-use crate::fault::{BookFileFault, Cause, Key, Place, copy_of_key};
+use crate::fault::{BookFileFault, Cause, Key, copy_of_key};
 use crate::files::{Files, FilesFault};
-use crate::line::{line_at, line_of_answer};
+use crate::line::line_at;
+use crate::sentence::Where;
 use crate::table::value_at;
 use h2_request::book::Book;
 use h2_request::fault::BookFault;
@@ -55,7 +56,10 @@ pub fn add_book<F: Files>(
             path,
             Cause::NoMemory,
         )),
-        Err(_) => return Err(BookFileFault::of_file(alloc, path, Cause::Unread)),
+        Err(_) => {
+            let why = files.failure(path);
+            return Err(BookFileFault::of_file(alloc, path, Cause::Unread(why)));
+        }
     };
     let Ok(text) = std::str::from_utf8(octets.as_slice()) else {
         return Err(BookFileFault::of_file(alloc, path, Cause::NoText));
@@ -86,26 +90,24 @@ fn add_text<F: Files>(
             return Err(BookFileFault::of_file(alloc, path, Cause::NoMemory));
         }
         Err(error) => {
-            let line = line_of_error(text, &error);
-            return Err(BookFileFault::new(
-                alloc,
-                path,
-                Place { answer: 0, line },
-                Cause::NoToml(error),
-            ));
+            let place = Where::of_line(path, text, line_of_error(text, &error));
+            return Err(BookFileFault::new(alloc, place, Cause::NoToml(error)));
         }
     };
     let answers = match answers_in(alloc, &table) {
         Ok(answers) => answers,
-        Err(cause) => return Err(BookFileFault::of_file(alloc, path, cause)),
+        Err(cause) => {
+            let place = Where::of_line(path, text, 0);
+            return Err(BookFileFault::new(alloc, place, cause));
+        }
     };
     let before = book.len();
     match add_answers(alloc, files, path, answers, book) {
         Ok(()) => Ok(()),
         Err((answer, cause)) => {
             book.truncate(before);
-            let line = line_of_answer(text, answer, answers.len());
-            Err(BookFileFault::new(alloc, path, Place { answer, line }, cause))
+            let place = Where::of_answer(path, text, answer, answers);
+            Err(BookFileFault::new(alloc, place, cause))
         }
     }
 }

@@ -1,4 +1,4 @@
-//! Why a book's file is refused, and the sentence that says so.
+//! Why a book's file is refused. The sentence that says so is made by `sentence`.
 //! Rests on the faults of `h2_request` and `toml`; definition: specs/Faults.antt.
 
 ghost use Rattle.std.specs.Prelude.{◌≡◌};
@@ -6,8 +6,10 @@ ghost use Rattle.h2_book.specs.Faults.{cause_number};
 ghost use Rattle.h2_book.specs.Said.{key_name};
 ghost use Rattle.h2_book.specs.declared.fault.Cause.TheVariants.{NoMemory};
 
+use crate::sentence::{Where, sentence_of};
 use h2_request::fault::EntryFault;
 use std::alloc::{AllocError, Global};
+use std::io::ErrorKind;
 use std::marker::Model;
 use std::{error, fmt};
 use toml::de;
@@ -47,7 +49,7 @@ impl Key {
     }
 
     /// What the value of the key has to be.
-    fn wanted(self) -> &'static str {
+    pub(crate) fn wanted(self) -> &'static str {
         match self {
             Key::Answer => "an array of tables, written as [[answer]]",
             Key::Method | Key::Path | Key::Body | Key::BodyFile => "a string",
@@ -67,8 +69,8 @@ impl Key {
 pub enum Cause {
     /// Memory was refused.
     NoMemory,
-    /// The book can't be read, or is too long.
-    Unread,
+    /// The book can't be read, for this reason where the device knows one; or is too long.
+    Unread(Option<ErrorKind>),
     /// The book is not UTF-8.
     NoText,
     /// The book is not TOML.
@@ -85,8 +87,8 @@ pub enum Cause {
     Malformed(Key),
     /// There are two bodies or more.
     ManyBodies,
-    /// The file of a body can't be read.
-    FileUnread,
+    /// The file of a body can't be read, for this reason where the device knows one.
+    FileUnread(Option<ErrorKind>),
     /// The file of a body is too long.
     FileTooLong,
     /// A repeated text is too long for a body.
@@ -102,7 +104,7 @@ impl Cause {
     {
         match self {
             Cause::NoMemory => 0,
-            Cause::Unread | Cause::FileUnread => 22,
+            Cause::Unread(_) | Cause::FileUnread(_) => 22,
             Cause::FileTooLong | Cause::FillTooLong => 15,
             Cause::BadEntry(fault) => fault.number(),
             Cause::NoText
@@ -113,26 +115,6 @@ impl Cause {
             | Cause::Missing(_)
             | Cause::Malformed(_)
             | Cause::ManyBodies => 26,
-        }
-    }
-
-    /// What is wrong, where that does not depend on what the cause holds.
-    fn sentence(&self) -> &'static str {
-        match self {
-            Cause::NoMemory => "out of memory",
-            Cause::Unread => "the file can't be read, or has more than 16777216 octets",
-            Cause::NoText => "the file is not UTF-8",
-            Cause::NoTable => "an answer has to be a table",
-            Cause::ManyBodies => "there are two bodies or more",
-            Cause::FileUnread => "the file of `body-file` can't be read",
-            Cause::FileTooLong => "the file of `body-file` has more than 1048576 octets",
-            Cause::FillTooLong => "the count of `body-fill` is above 1048576",
-            Cause::NoToml(_)
-            | Cause::UnknownTop(_)
-            | Cause::UnknownKey(_)
-            | Cause::Missing(_)
-            | Cause::Malformed(_)
-            | Cause::BadEntry(_) => "",
         }
     }
 }
@@ -150,22 +132,12 @@ pub fn copy_of_key(alloc: Global, key: &str) -> Option<String> {
     String::from_str(alloc, key).ok()
 }
 
-/// Where in a book's file something is wrong: numbers from 1, 0 where there is none.
-#[derive(Clone, Copy)]
-pub struct Place {
-    /// Which answer.
-    pub answer: usize,
-    /// Which line.
-    pub line: usize,
-}
-
 /// Why a book's file is refused. Its `Display` is one sentence with the file, the line, the answer, the key and what
 /// is wrong.
 #[derive(Drop)]
 pub struct BookFileFault {
-    /// The path of the book; none where memory was refused for a copy.
-    path: Option<String>,
-    place: Place,
+    /// The sentence; none where memory for it was refused.
+    sentence: Option<String>,
     cause: Cause,
 }
 
@@ -179,13 +151,12 @@ impl Model for BookFileFault {
 }
 
 impl BookFileFault {
-    /// A fault of the book at a path.
-    pub fn new(alloc: Global, path: &str, place: Place, cause: Cause) -> BookFileFault
+    /// A fault of a book.
+    pub(crate) fn new(alloc: Global, place: Where<'_>, cause: Cause) -> BookFileFault
         ensures { result ≡ cause_number cause }
     {
         BookFileFault {
-            path: String::from_str(alloc, path).ok(),
-            place,
+            sentence: sentence_of(alloc, place, &cause).ok(),
             cause,
         }
     }
@@ -194,7 +165,7 @@ impl BookFileFault {
     pub fn of_file(alloc: Global, path: &str, cause: Cause) -> BookFileFault
         ensures { result ≡ cause_number cause }
     {
-        BookFileFault::new(alloc, path, Place { answer: 0, line: 0 }, cause)
+        BookFileFault::new(alloc, Where::of_file(path), cause)
     }
 
     /// Why the book is refused.
@@ -214,11 +185,10 @@ impl BookFileFault {
 
 impl fmt::Display for BookFileFault {
     fn fmt<W: fmt::Write>(&self, f: &mut fmt::Formatter<W>) -> fmt::Result {
-        let path = match &self.path {
-            Some(path) => path.as_str(),
-            None => "the book",
-        };
-        write!(f, "{path}{}: {}.", self.place, Wrong(&self.cause))
+        match &self.sentence {
+            Some(sentence) => f.write_str(sentence.as_str()),
+            None => f.write_str("the book is refused, and there is no memory to say why."),
+        }
     }
 }
 
@@ -230,62 +200,3 @@ impl fmt::Debug for BookFileFault {
 }
 
 impl error::Error for BookFileFault {}
-
-/// The place behind the path of a file: its line and its answer, each where there is one.
-impl fmt::Display for Place {
-    fn fmt<W: fmt::Write>(&self, f: &mut fmt::Formatter<W>) -> fmt::Result {
-        let (line, answer) = (self.line, self.answer);
-        match (line > 0, answer > 0) {
-            (false, false) => Ok(()),
-            (true, false) => write!(f, ", line {line}"),
-            (false, true) => write!(f, ", answer {answer}"),
-            (true, true) => write!(f, ", line {line}, answer {answer}"),
-        }
-    }
-}
-
-/// What is wrong, without a full stop.
-#[derive(Clone, Copy)]
-struct Wrong<'c>(&'c Cause);
-
-impl fmt::Display for Wrong<'_> {
-    fn fmt<W: fmt::Write>(&self, f: &mut fmt::Formatter<W>) -> fmt::Result {
-        match self.0 {
-            Cause::NoToml(error) => {
-                let message = error.message();
-                write!(f, "the file is not TOML: {message}")
-            }
-            Cause::UnknownTop(key) => {
-                let key = Unknown(key);
-                write!(f, "{key} is unknown, a book has nothing but [[answer]]")
-            }
-            Cause::UnknownKey(key) => {
-                let key = Unknown(key);
-                write!(f, "{key} is unknown")
-            }
-            Cause::Missing(key) => {
-                let name = key.name();
-                write!(f, "the key `{name}` is missing")
-            }
-            Cause::Malformed(key) => {
-                let (name, wanted) = (key.name(), key.wanted());
-                write!(f, "the key `{name}` has to be {wanted}")
-            }
-            Cause::BadEntry(fault) => write!(f, "{fault}"),
-            other => f.write_str(other.sentence()),
-        }
-    }
-}
-
-/// A key that was copied, or was not for lack of memory.
-#[derive(Clone, Copy)]
-struct Unknown<'k>(&'k Option<String>);
-
-impl fmt::Display for Unknown<'_> {
-    fn fmt<W: fmt::Write>(&self, f: &mut fmt::Formatter<W>) -> fmt::Result {
-        match self.0 {
-            Some(key) => write!(f, "the key `{key}`"),
-            None => f.write_str("a key"),
-        }
-    }
-}

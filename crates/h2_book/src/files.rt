@@ -5,6 +5,7 @@ ghost use Rattle.std.specs.Prelude.{◌≡◌, ◌≤◌, ℕ, List, Option, Boo
 ghost use Rattle.h2_book.specs.Files.{Reads};
 
 use std::alloc::Global;
+use std::io::ErrorKind;
 use thiserror::Error;
 
 /// Why a file was not read.
@@ -39,4 +40,9 @@ pub trait Files {
         ensures within { IfOk result (λ octets. vec_len octets ≤ most) }
         ensures same_printed { is_printed self.new ≡ is_printed self.old }
         ensures same_files { file self.new ≡ file self.old };
+
+    /// Why the file at a path was not read, where the device knows it.
+    fn failure(&self, _path: &str) -> Option<ErrorKind> {
+        None
+    }
 }

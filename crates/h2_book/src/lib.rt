@@ -11,6 +11,7 @@ mod files;
 mod header;
 mod line;
 mod memory;
+mod sentence;
 mod standard;
 mod table;
 

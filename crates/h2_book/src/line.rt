@@ -29,6 +29,32 @@ pub fn line_of_answer(text: &str, answer: usize, answers: usize) -> usize {
     if headers == answers { found } else { 0 }
 }
 
+/// The line of a key, from this line on up to the next answer; 0 where no line begins with the key.
+pub fn line_of_key(text: &str, from: usize, key: &str) -> usize {
+    if key.is_empty() {
+        return 0;
+    }
+    for (before, line) in text.lines().enumerate().skip(from.saturating_sub(1)) {
+        if is_header(line) {
+            return 0;
+        }
+        if is_of_key(line, key) {
+            return before.saturating_add(1);
+        }
+    }
+    0
+}
+
+/// Whether a line begins with a key and `=`; the key may be between quotes.
+fn is_of_key(line: &str, key: &str) -> bool {
+    let line = line.trim_start();
+    let quotes: &[char] = &['"', '\''];
+    match line.split_once('=') {
+        Some((front, _)) => front.trim().trim_matches(quotes) == key,
+        None => false,
+    }
+}
+
 /// Whether a line is `[[answer]]`, with blanks in it or not.
 fn is_header(line: &str) -> bool {
     let line = line.trim_start();

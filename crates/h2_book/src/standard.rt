@@ -5,7 +5,7 @@ ghost use Rattle.std.specs.Prelude.{◌≤◌, IfOk, None, false, vec_len};
 
 use crate::files::{Files, FilesFault};
 use std::alloc::Global;
-use std::io::Read;
+use std::io::{ErrorKind, Read};
 use std::{fs, rt};
 
 /// The system's files, through the runtime that a program is given.
@@ -23,6 +23,19 @@ impl<R: rt::Files> Files for StdFiles<'_, R> {
         match fs::open(self.runtime, path) {
             Ok(mut file) => read_whole(alloc, &mut file, most),
             Err(_) => Err(FilesFault::Failed),
+        }
+    }
+
+    /// A directory can be opened, and is no file all the same.
+    fn failure(&self, path: &str) -> Option<ErrorKind> {
+        match self.runtime.metadata(path) {
+            Ok(about) if about.is_dir() => Some(ErrorKind::IsADirectory),
+            Ok(about) if about.is_file() => match fs::open(self.runtime, path) {
+                Ok(_) => None,
+                Err(error) => Some(error.kind()),
+            },
+            Ok(_) => None,
+            Err(error) => Some(error.kind()),
         }
     }
 }

@@ -71,7 +71,7 @@ JudgesAsked files file None lines o = o ≡ Fails
 JudgesAsked files file (Some (batch b)) lines o = o ≡ Fails
 JudgesAsked files file (Some (debug config book)) lines o = JudgesWith (book_said files (own_book file book)) config lines o
 JudgesAsked files file (Some (serve config port count book)) lines o = o ≡ Fails
-JudgesAsked files file (Some (explain config json color path book)) lines o = o ≡ Fails
+JudgesAsked files file (Some (explain config view path book)) lines o = o ≡ Fails
 JudgesAsked files file (Some (check config book names)) lines o = o ≡ Fails
 
 -- with these words of a command line

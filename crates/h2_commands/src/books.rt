@@ -14,6 +14,7 @@ use crate::answer::parse_answer;
 use crate::fault::BenchFault;
 use h2_book::{BookFileFault, Cause, Files, add_book};
 use h2_device::Output;
+use h2_reasons::{Refusal, Words, say_answer, say_no_answer, say_no_memory};
 use h2_request::book::Book;
 use h2_request::fault::{BookFault, EntryFault};
 use h2_words::command::BookWords;
@@ -53,7 +54,7 @@ fn file_refused(fault: &BookFileFault) -> BenchFault
 {
     match fault.cause() {
         Cause::NoMemory => BenchFault::NoMemory,
-        Cause::Unread | Cause::FileUnread => BenchFault::Read,
+        Cause::Unread(_) | Cause::FileUnread(_) => BenchFault::Read,
         Cause::FileTooLong | Cause::FillTooLong => BenchFault::BadEntry(EntryFault::TooLong),
         Cause::BadEntry(fault) => BenchFault::BadEntry(*fault),
         Cause::NoText
@@ -129,11 +130,29 @@ fn file_sentence(alloc: Global, fault: &BookFileFault) -> Result<String, AllocEr
     format!(in alloc; "{fault}\n")
 }
 
+/// The word of an answer, from 1.
+fn word_at<'w>(words: &[&'w str], place: usize) -> &'w str {
+    match words.get(place.saturating_sub(1)) {
+        Some(word) => word,
+        None => "",
+    }
+}
+
 /// Why an answer was refused, as a sentence on its own line.
-fn answer_sentence(alloc: Global, refused: Refused) -> Result<String, AllocError> {
-    let place = refused.place;
-    let fault = refused.fault;
-    format!(in alloc; "answer {place} of the command line: {fault}.\n")
+fn answer_sentence(alloc: Global, refused: Refused, words: &[&str]) -> Result<String, AllocError> {
+    let mut out = Words::new(alloc);
+    let word = word_at(words, refused.place);
+    match refused.fault {
+        BenchFault::BadEntry(fault) => say_answer(
+            refused.place,
+            word,
+            Refusal::from(fault),
+            &mut out,
+        ),
+        BenchFault::NoMemory => say_no_memory(&mut out),
+        _ => say_no_answer(refused.place, word, &mut out),
+    }
+    out.finish()
 }
 
 /// The book with the entries of the file that the words name, and behind them the answers that they say.
@@ -170,7 +189,8 @@ pub fn book_for_words<F: Files, E: Output>(
     match add_answers(alloc, &mut book, words.answers.as_slice()) {
         Ok(()) => Ok(book),
         Err(refused) => {
-            explain(errors, words.why, answer_sentence(alloc, refused));
+            let said = words.answers.as_slice();
+            explain(errors, words.why, answer_sentence(alloc, refused, said));
             Err(refused.fault)
         }
     }

@@ -1,10 +1,20 @@
 //! The program: the words of its command line, its files, its standard input, output and error, as h2_bench runs them.
-//! Rests on h2_bench, h2_book and h2_device; what it prints for its input is defined in `h2_bench/specs/Printed.antt`.
+//! Rests on h2_bench, h2_console and h2_device; what it prints for its input is defined in `h2_bench/specs/Printed.antt`.
+//! Which device is the input is decided here, by `input`; what is said of a fault, by `ending`.
 #![tactic(auto)]
 
+mod ending;
+mod input;
+mod version;
+
+use crate::ending::{Ending, end};
+use crate::input::{Given, Standard, input_of, is_session, refusal_of};
 use h2_bench::{Plan, Words, carry_out, parse, serve};
 use h2_book::StdFiles;
-use h2_device::{FromRead, IntoWrite, Output};
+use h2_console::{Noted, WaitingOutput, Watched};
+use h2_device::{IntoWrite, Output};
+use h2_words::command::{Devices, Refusal, devices_of};
+use std::cell::Cell;
 use std::io;
 use std::io::{BufWriter, Write};
 use std::process::ExitCode;
@@ -33,41 +43,134 @@ fn refuse<W: Write>(output: &mut W, error: &io::Error) -> ExitCode {
     }
 }
 
-/// The exit status, once what was gathered is written.
-fn finish<O: Output>(output: &mut O, status: u8) -> ExitCode {
-    match output.flush() {
-        Ok(()) => ExitCode::from(status),
-        Err(_) => ExitCode::from(3),
+/// What the words say of devices; nothing where they are no command.
+fn devices_said<'w>(rt: &HostRuntime, words: &'w Words) -> Devices<'w> {
+    match devices_of(rt.alloc(), words) {
+        Some(devices) => devices,
+        None => Devices {
+            file: "",
+            raw: false,
+            quiet: false,
+            prompt: "",
+        },
     }
+}
+
+/// Does what the words ask for over an input; gives the status, and whether a sentence was written for the book.
+fn carry_out_over<O: Output>(
+    rt: &HostRuntime,
+    asked: &Result<Plan<'_>, Refusal>,
+    devices: Devices<'_>,
+    given: &mut Given<'_, '_>,
+    output: &mut O,
+) -> (u8, bool) {
+    let mut files = StdFiles { runtime: rt };
+    let mut stderr = rt.stderr();
+    let mut errors = IntoWrite::new(&mut stderr);
+    let mut noted = Noted::new(&mut errors);
+    let status = if is_session(asked) {
+        let has_dots = devices.prompt == "dot";
+        let mut watched = Watched::new(
+            rt.alloc(),
+            output,
+            rt.stderr(),
+            devices.quiet,
+            has_dots,
+            given.position,
+        );
+        carry_out(
+            rt.alloc(),
+            asked,
+            &mut files,
+            &mut given.taken,
+            &mut watched,
+            &mut noted,
+        )
+    } else {
+        carry_out(
+            rt.alloc(),
+            asked,
+            &mut files,
+            &mut given.taken,
+            output,
+            &mut noted,
+        )
+    };
+    (status, noted.is_written())
+}
+
+/// Serves, as the words ask for; gives the status, and whether a sentence was written for the book.
+fn serve_over<W: Write>(
+    rt: &HostRuntime,
+    plan: &h2_words::command::Serve<'_>,
+    output: &mut W,
+) -> (u8, bool) {
+    let mut files = StdFiles { runtime: rt };
+    let mut stderr = rt.stderr();
+    let mut errors = IntoWrite::new(&mut stderr);
+    let mut noted = Noted::new(&mut errors);
+    let status = serve(rt.alloc(), rt, plan, &mut files, output, &mut noted);
+    (status, noted.is_written())
+}
+
+/// Does what the words ask for, and says what is to be said of a fault.
+fn answer_over<'w>(
+    rt: &HostRuntime,
+    words: &Words,
+    asked: &mut Result<Plan<'w>, Refusal>,
+    devices: Devices<'w>,
+    gathered: &mut BufWriter<Standard<'_>>,
+) -> ExitCode {
+    if let Some(text) = refusal_of(asked, devices) {
+        return match gathered
+            .write_all(text.as_bytes())
+            .and_then(|_| gathered.flush())
+        {
+            Ok(()) => ExitCode::from(2),
+            Err(_) => ExitCode::from(3),
+        };
+    }
+    let position = Cell::new(0usize);
+    let mut given = input_of(rt, asked, devices, &position);
+    let (status, is_said) = match &*asked {
+        Ok(Plan::Serve(plan)) => serve_over(rt, plan, gathered),
+        _ => carry_out_over(
+            rt,
+            asked,
+            devices,
+            &mut given,
+            &mut IntoWrite::new(gathered),
+        ),
+    };
+    let status = match gathered.flush() {
+        Ok(()) => status,
+        Err(_) => 3,
+    };
+    let ending = Ending {
+        status,
+        is_said,
+        unwritten: gathered.get_ref().failure(),
+    };
+    if !devices.quiet {
+        end(rt, words, asked, &given, ending);
+    }
+    ExitCode::from(status)
 }
 
 /// Does what the words ask for. The output is gathered into larger writes; where there is no memory for that, nothing
 /// is done.
 fn answer(rt: &HostRuntime, words: &Words) -> ExitCode {
-    let mut gathered = match BufWriter::with_capacity(rt.alloc(), GATHERED, rt.stdout()) {
+    if version::is_asked(words) {
+        return version::print(rt);
+    }
+    let output = WaitingOutput::new(rt, rt.stdout());
+    let mut gathered = match BufWriter::with_capacity(rt.alloc(), GATHERED, output) {
         Ok(gathered) => gathered,
         Err(error) => return refuse(&mut rt.stdout(), &error),
     };
-    let mut files = StdFiles { runtime: rt };
-    let mut stderr = rt.stderr();
-    let mut errors = IntoWrite::new(&mut stderr);
-    let asked = parse(rt.alloc(), words);
-    if let Ok(Plan::Serve(plan)) = &asked {
-        let status = serve(rt.alloc(), rt, plan, &mut files, &mut gathered, &mut errors);
-        return finish(&mut IntoWrite::new(&mut gathered), status);
-    }
-    let mut output = IntoWrite::new(&mut gathered);
-    let mut stdin = rt.stdin();
-    let mut input = FromRead::new(&mut stdin);
-    let status = carry_out(
-        rt.alloc(),
-        &asked,
-        &mut files,
-        &mut input,
-        &mut output,
-        &mut errors,
-    );
-    finish(&mut output, status)
+    let mut asked = parse(rt.alloc(), words);
+    let devices = devices_said(rt, words);
+    answer_over(rt, words, &mut asked, devices, &mut gathered)
 }
 
 fn main(rt: HostRuntime) -> ExitCode {

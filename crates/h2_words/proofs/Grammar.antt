@@ -8,7 +8,7 @@ use Rattle.std.specs.Box.{box_value}
 use Rattle.clap.specs.declared.Error.{Error}
 use Rattle.clap.specs.declared.error.ErrorKind.{ErrorKind}
 use Rattle.clap.specs.declared.error.ErrorKind.TheVariants.{OutOfMemory}
-use Rattle.h2_words.specs.Grammar.{Asked, BookAsked, batch, play, asked_at, asked_by, bench_app, asked_of, unless_refused}
+use Rattle.h2_words.specs.Grammar.{Asked, BookAsked, batch, play, asked_at, asked_by, bench_app, asked_of, devices_at, devices_of, unless_refused}
 use Rattle.h2_words.specs.Plans.{Refuses}
 use Rattle.h2_words.specs.declared.command.Refusal.{Refusal}
 use Rattle.h2_words.specs.declared.command.Refusal.TheVariants.{Words, NoMemory}
@@ -33,11 +33,15 @@ refused : (words : List Text) (k : ErrorKind) → IsAmong k (fault_of bench_app 
 unfolding asked_of
 refused words k h = none_of (fault_of bench_app words) k (asked_at (subcommand_of bench_app words)) h
 
+pub rows_found : (a : App) (texts words : List Text) (m : ArgMatches) → a ≡ bench_app → texts ≡ words → HasMatchesOf a texts m
+    → subcommand_rows_of m ≡ subcommand_of bench_app words
+rows_found a texts words m app same matches = rw (← app, ← same) ((matches (rw app bench-simple)).1)
+
 pub clap_took : (a : App) (texts words : List Text) (m : ArgMatches) → a ≡ bench_app → texts ≡ words → HasMatchesOf a texts m
     → (is_simple_and_free a ≡ true → fault_of a texts ≡ []) → asked_of words ≡ asked_at (subcommand_rows_of m)
 clap_took a texts words m app same matches kinds =
     let none : fault_of bench_app words ≡ [] = rw (← app, ← same) (kinds (rw app bench-free)) in
-    let rows : subcommand_rows_of m ≡ subcommand_of bench_app words = rw (← app, ← same) ((matches (rw app bench-simple)).1) in
+    let rows = rows_found a texts words m app same matches in
     taken words none ∙ ap asked_at (sym rows)
 
 pub clap_refused : (a : App) (texts words : List Text) (e : Error) → a ≡ bench_app → texts ≡ words
@@ -79,3 +83,12 @@ printed_refuses a texts words e (Words text) app same kinds memory =
 
 pub plays-alike : (a b : Config) (m n : ℕ) (d e : Bool) (x y : BookAsked) → a ≡ b → m ≡ n → d ≡ e → x ≡ y → Some (batch (play a m d x)) ≡ Some (batch (play b n e y))
 plays-alike a b m n d e x y ab mn de xy = rw (ab, mn, de, xy) refl
+
+pub devices_found : (m : ArgMatches) (words : List Text) (rows : List Row) → subcommand_rows_of m ≡ subcommand_of bench_app words
+    → Some rows ≡ option_map (λ p. p.1) (subcommand_rows_of m) → devices_of words ≡ Some (devices_at rows)
+unfolding devices_of
+devices_found m words rows same found = at_rows (subcommand_of bench_app words) (found ∙ ap (λ (o : Option (Text × List Row)). option_map (λ p. p.1) o) same)
+  where
+    at_rows : (o : Option (Text × List Row)) → Some rows ≡ option_map (λ p. p.1) o → option_map (λ p. devices_at p.1) o ≡ Some (devices_at rows)
+    at_rows None h = cc
+    at_rows (Some p) h = let same_rows : rows ≡ p.1 = cc in rw same_rows refl

@@ -1,5 +1,5 @@
 -- The words of a command line: the commands as clap reads them, and what words ask for.
-use Rattle.std.specs.Prelude.{◌&&◌, ◌^◌, ℕ, Bool, true, false, List, [], ◌∷◌, Option, Some, None, codes, drop, length, nat_eq, nat_lt, if◌then◌else◌, unwrap_or, option_and_then}
+use Rattle.std.specs.Prelude.{◌&&◌, ◌^◌, ℕ, Bool, true, false, List, [], ◌∷◌, Option, Some, None, codes, drop, length, nat_eq, nat_lt, if◌then◌else◌, not, unwrap_or, option_and_then, option_map}
 use Rattle.std.specs.List.{list_all, list_any}
 use Rattle.std.specs.Option.{option_map_or}
 use Rattle.std.specs.Str.{bytes_eq}
@@ -66,9 +66,33 @@ book_rule = record (new_rule (codes "book")) { long = Some (codes "book"); actio
 abbrev pub why_rule : Rule
 why_rule = record (new_rule (codes "why")) { long = Some (codes "why"); action = Some SetTrue }
 
+-- whether faults are left without a sentence
+abbrev pub quiet_rule : Rule
+quiet_rule = record (new_rule (codes "quiet")) { long = Some (codes "quiet"); action = Some SetTrue }
+
+-- the file that is the input, one text
+abbrev pub in_rule : Rule
+in_rule = record (new_rule (codes "in")) { long = Some (codes "in"); action = Some Set }
+
+-- whether the input has the octets themselves, not their hex
+abbrev pub raw_rule : Rule
+raw_rule = record (new_rule (codes "raw")) { long = Some (codes "raw"); action = Some SetTrue }
+
+-- what shows that a session waits for a command, one text
+abbrev pub prompt_rule : Rule
+prompt_rule = record (new_rule (codes "prompt")) { long = Some (codes "prompt"); action = Some Set }
+
 -- a command with the rules of a book
 abbrev pub with_book : App → App
-with_book app = with_rule (with_rule app book_rule) why_rule
+with_book app = with_rule (with_rule (with_rule app book_rule) why_rule) quiet_rule
+
+-- a command with the rules of an input that has octets
+abbrev pub with_octets : App → App
+with_octets app = with_rule (with_rule app in_rule) raw_rule
+
+-- a command without a book, whose input is a text
+abbrev pub with_text : App → App
+with_text app = with_rule (with_rule app in_rule) quiet_rule
 
 -- a command with the server's own settings
 abbrev pub with_settings : App → App
@@ -79,23 +103,23 @@ abbrev pub with_limits : App → App
 with_limits app = with_settings (with_rule (with_rule app streams_rule) credit_rule)
 
 abbrev pub play_app : App
-play_app = with_rule (with_book (with_rule (with_rule (with_limits (new_app (codes "play"))) cut_rule) each_rule)) answer_rule
+play_app = with_rule (with_octets (with_book (with_rule (with_rule (with_limits (new_app (codes "play"))) cut_rule) each_rule))) answer_rule
 
 abbrev pub asm_app : App
-asm_app = new_app (codes "asm")
+asm_app = with_text (new_app (codes "asm"))
 
 abbrev pub dis_app : App
-dis_app = new_app (codes "dis")
+dis_app = with_rule (with_octets (new_app (codes "dis"))) quiet_rule
 
 -- LIMIT of `table`, 0 to 65536
 abbrev pub limit_rule : Rule
 limit_rule = record (new_rule (codes "LIMIT")) { required = true; action = Some Set; parser = Some (parser.Unsigned 0 65536) }
 
 abbrev pub table_app : App
-table_app = with_rule (new_app (codes "table")) limit_rule
+table_app = with_rule (with_text (new_app (codes "table"))) limit_rule
 
 abbrev pub debug_app : App
-debug_app = with_rule (with_book (with_limits (new_app (codes "debug")))) answer_rule
+debug_app = with_rule (with_rule (with_octets (with_book (with_limits (new_app (codes "debug"))))) prompt_rule) answer_rule
 
 -- PORT of `serve`, 1 to 65535
 abbrev pub port_rule : Rule
@@ -109,14 +133,14 @@ abbrev pub serve_app : App
 serve_app = with_rule (with_rule (with_rule (with_book (with_limits (new_app (codes "serve")))) port_rule) count_rule) answer_rule
 
 abbrev pub explain_app : App
-explain_app = with_rule (with_book (with_rule (with_rule (with_rule (with_rule (with_limits (new_app (codes "explain"))) json_rule) color_rule) strict_rule) full_rule)) answer_rule
+explain_app = with_rule (with_rule (with_book (with_rule (with_rule (with_rule (with_rule (with_limits (new_app (codes "explain"))) json_rule) color_rule) strict_rule) full_rule)) raw_rule) answer_rule
 
 -- FILE of `check`, one or more
 abbrev pub files_rule : Rule
 files_rule = record (new_rule (codes "FILE")) { required = true; action = Some Append }
 
 abbrev pub check_app : App
-check_app = with_rule (with_rule (with_limits (new_app (codes "check"))) book_rule) files_rule
+check_app = with_rule (with_rule (with_rule (with_limits (new_app (codes "check"))) book_rule) quiet_rule) files_rule
 
 abbrev pub top_app : App
 top_app = record (new_app (codes "h2_bench")) { top = record (new_app (codes "h2_bench")).top { subcommand_required = true } }
@@ -129,7 +153,7 @@ bench_app =
 -- ---- what words ask for
 
 -- a book of answers: the path of its file, empty where there is none; whether the reason of a refused entry is
--- written; the words of further answers
+-- written, as it is unless the words ask for quiet; the words of further answers
 pub record BookAsked : Type 0 where
   pub file : Text
   pub why : Bool
@@ -189,16 +213,20 @@ config_at rows = record {
 }
 
 abbrev pub book_at : List Row → BookAsked
-book_at rows = record { file = text_at (codes "book") rows; why = is_set (codes "why") rows; answers = texts_at (codes "ANSWER") rows }
+book_at rows = record { file = text_at (codes "book") rows; why = not (is_set (codes "quiet") rows); answers = texts_at (codes "ANSWER") rows }
 
 -- whether a word is an answer: it has a `|`
 abbrev pub is_answer : Text → Bool
 is_answer word = list_any (λ c. nat_eq c 124) word
 
+-- the path that a word is; that of standard input, `-`, is empty
+abbrev pub path_in : Text → Text
+path_in word = if bytes_eq word (codes "-") then [] else word
+
 -- the file among the words of `explain`: the first one, where it is no answer
 abbrev pub file_among : List Text → Text
 file_among [] = []
-file_among (word ∷ words) = if is_answer word then [] else word
+file_among (word ∷ words) = if is_answer word then [] else path_in word
 
 -- how many files there are among them
 abbrev pub files_among : List Text → ℕ
@@ -215,7 +243,7 @@ explain_book_at rows = record (book_at rows) { answers = answers_among (texts_at
 
 -- the book of `check`: a file alone
 abbrev pub file_book_at : List Row → BookAsked
-file_book_at rows = record { file = text_at (codes "book") rows; why = false; answers = [] }
+file_book_at rows = record { file = text_at (codes "book") rows; why = not (is_set (codes "quiet") rows); answers = [] }
 
 -- how the explanation is written
 abbrev pub view_at : List Row → View
@@ -231,6 +259,28 @@ asked_by name rows =
     else (if bytes_eq name (codes "serve") then Some (serve (config_at rows) (number_at (codes "PORT") 0 rows) (number_at (codes "COUNT") 0 rows) (book_at rows))
     else (if bytes_eq name (codes "explain") then Some (explain (config_at rows) (view_at rows) (file_among (texts_at (codes "ANSWER") rows)) (explain_book_at rows))
     else (if bytes_eq name (codes "check") then Some (check (config_at rows) (file_book_at rows) (texts_at (codes "FILE") rows)) else None)))
+
+-- ---- what words say of devices
+
+-- the path of the input's file, empty for standard input; whether it has the octets themselves; whether faults are left
+-- without a sentence; what shows that a session waits
+pub record DevicesAsked : Type 0 where
+  pub file : Text
+  pub raw : Bool
+  pub quiet : Bool
+  pub prompt : Text
+
+abbrev pub devices_at : List Row → DevicesAsked
+devices_at rows = record {
+  file = path_in (text_at (codes "in") rows);
+  raw = is_set (codes "raw") rows;
+  quiet = is_set (codes "quiet") rows;
+  prompt = text_at (codes "prompt") rows;
+}
+
+-- what words say of devices, if they name a command
+unfoldable pub devices_of : List Text → Option DevicesAsked
+devices_of words = option_map (λ p. devices_at p.1) (subcommand_of bench_app words)
 
 -- what is asked, if no kind of error comes
 abbrev pub unless_refused : Kinds → Option Asked → Option Asked

@@ -1,9 +1,10 @@
 -- What a plan represents, and what a refusal says of words.
 use Rattle.std.specs.Prelude.{◌≡◌, Option, Some, None, Result, Ok, Err, map}
-use Rattle.h2_words.specs.Grammar.{Asked, BatchAsked, BookAsked, View, batch, play, asm, dis, table, debug, serve, explain, check}
+use Rattle.h2_words.specs.Grammar.{Asked, BatchAsked, BookAsked, DevicesAsked, View, batch, play, asm, dis, table, debug, serve, explain, check}
 use Rattle.h2_words.specs.declared.command.Batch.{Batch}
 use Rattle.h2_words.specs.declared.command.Batch.TheVariants.{Play, Asm, Dis, Table}
 use Rattle.h2_words.specs.declared.command.BookWords.{BookWords}
+use Rattle.h2_words.specs.declared.command.Devices.{Devices}
 use Rattle.h2_words.specs.declared.command.Explain.{Explain}
 use Rattle.h2_words.specs.declared.command.Plan.{Plan}
 use Rattle.h2_words.specs.declared.command.Plan.TheVariants as plan
@@ -12,6 +13,9 @@ use Rattle.h2_words.specs.declared.command.Refusal.TheVariants.{Words, NoMemory}
 
 abbrev pub book_asked : BookWords → BookAsked
 book_asked b = record { file = b.file.now; why = b.why; answers = map (λ s. s.now) b.answers.items }
+
+abbrev pub devices_asked : Devices → DevicesAsked
+devices_asked d = record { file = d.file.now; raw = d.raw; quiet = d.quiet; prompt = d.prompt.now }
 
 abbrev pub batch_asked : Batch → BatchAsked
 batch_asked (Play p) = play p.config p.cut p.each (book_asked p.book)

@@ -1,13 +1,14 @@
 //! What the words of a command line ask for.
 //! Rests on `words` and on clap, whose definition of a command says which words are taken: `specs/Grammar.antt`.
 
-ghost use Rattle.std.specs.Prelude.{◌≡◌, ◌≤◌, length, IfOk, IfErr, bytes_eq, Some, None, codes, map, option_map};
-ghost use Rattle.clap.specs.Words.{App, Rule, found_of, kind_of, new_app, rows_of, subcommand_rows_of, with_rule, with_subcommand};
+ghost use Rattle.std.specs.Prelude.{◌≡◌, ◌≤◌, length, IfOk, IfErr, IfSome, bytes_eq, Some, None, codes, map, option_map};
+ghost use Rattle.clap.specs.Words.{App, Rule, found_of, kind_of, new_app, rows_of, subcommand_of, subcommand_rows_of, with_rule, with_subcommand};
 ghost use Rattle.clap.specs.declared.error.ErrorKind.TheVariants.{OutOfMemory};
-ghost use Rattle.h2_words.specs.Grammar.{answer_rule, answers_among, asked_at, asked_by, asked_of, asm_app, bench_app, book_at, book_rule, check_app, color_rule, config_at, count_rule, credit_rule, cut_rule, debug_app, dis_app, each_rule, explain_app, file_among, files_among, files_rule, frame_rule, full_rule, is_answer, is_set, json_rule, limit_rule, number_at, play_app, port_rule, serve_app, streams_rule, strict_rule, table_app, table_rule, text_at, texts_at, top_app, why_rule, window_rule, with_book, with_limits, with_settings};
-ghost use Rattle.h2_words.specs.Built.{IsArg, IsCommand, number_rule, option_rule};
-ghost use Rattle.h2_words.specs.Plans.{book_asked, planned, Refuses};
+ghost use Rattle.h2_words.specs.Grammar.{answer_rule, answers_among, asked_at, asked_by, asked_of, asm_app, bench_app, book_at, book_rule, check_app, color_rule, config_at, count_rule, credit_rule, cut_rule, debug_app, devices_at, devices_of, dis_app, each_rule, explain_app, file_among, files_among, files_rule, frame_rule, full_rule, in_rule, is_answer, is_set, json_rule, limit_rule, number_at, path_in, play_app, port_rule, prompt_rule, quiet_rule, raw_rule, serve_app, streams_rule, strict_rule, table_app, table_rule, text_at, texts_at, top_app, why_rule, window_rule, with_book, with_limits, with_octets, with_settings, with_text};
+ghost use Rattle.h2_words.specs.Built.{IsArg, IsCommand, flag_rule, number_rule, option_rule, text_rule};
+ghost use Rattle.h2_words.specs.Plans.{book_asked, devices_asked, planned, Refuses};
 
+use crate::legend::LEGEND;
 use crate::words::Words;
 use clap::builder::ValueParser;
 use clap::error::ErrorKind;
@@ -20,7 +21,7 @@ use std::alloc::{AllocError, Global};
 pub struct BookWords<'a> {
     /// The path of the book's file; empty where there is none.
     pub file: &'a str,
-    /// Whether the reason is written where an entry is refused.
+    /// Whether the reason is written where an entry is refused: unless the words ask for quiet.
     pub why: bool,
     /// The words of further answers, which come after the entries of the file.
     pub answers: Vec<&'a str>,
@@ -56,7 +57,7 @@ pub struct Explain<'a> {
     pub strict: bool,
     /// Whether long texts are written whole.
     pub full: bool,
-    /// The path of the file that has the octets as hex; empty where standard input has them.
+    /// The path of the file that has the octets; empty where standard input has them.
     pub file: &'a str,
     pub book: BookWords<'a>,
 }
@@ -81,6 +82,20 @@ pub struct Check<'a> {
     pub book: BookWords<'a>,
     /// The paths of the files that have the cases.
     pub files: Vec<&'a str>,
+}
+
+/// What the words say of the devices that a command is given. The program that has the devices chooses them by this:
+/// a command itself takes its input as hex, or as a text, from where it is given.
+#[derive(Clone, Copy)]
+pub struct Devices<'a> {
+    /// The path of the input's file; empty for standard input.
+    pub file: &'a str,
+    /// Whether the input has the octets themselves, not their hex.
+    pub raw: bool,
+    /// Whether faults are left without a sentence.
+    pub quiet: bool,
+    /// What shows that a session waits for a command; empty where nothing does.
+    pub prompt: &'a str,
 }
 
 /// A command that reads its whole input before it answers.
@@ -261,9 +276,69 @@ fn why_option<'a>(alloc: Global) -> Arg<'a>
     ensures { IsArg why_rule result }
 {
     Arg::new(alloc, "why")
-        .help("Writes the reason to standard error where an answer or the book is refused")
+        .help("Nothing more: the reason is written to standard error in any case")
         .long("why")
         .action(ArgAction::SetTrue)
+}
+
+/// An option of this name that takes a text.
+fn text_option<'a>(alloc: Global, name: &'a str, help: &'a str) -> Arg<'a>
+    ensures { IsArg (text_rule name.entry.now) result }
+{
+    Arg::new(alloc, name)
+        .help(help)
+        .long(name)
+        .action(ArgAction::Set)
+}
+
+/// A flag of this name.
+fn flag<'a>(alloc: Global, name: &'a str, help: &'a str) -> Arg<'a>
+    ensures { IsArg (flag_rule name.entry.now) result }
+{
+    Arg::new(alloc, name)
+        .help(help)
+        .long(name)
+        .action(ArgAction::SetTrue)
+}
+
+fn quiet_option<'a>(alloc: Global) -> Arg<'a>
+    ensures { IsArg quiet_rule result }
+{
+    flag(
+        alloc,
+        "quiet",
+        "Writes nothing to standard error where something is refused",
+    )
+}
+
+fn in_option<'a>(alloc: Global) -> Arg<'a>
+    ensures { IsArg in_rule result }
+{
+    text_option(
+        alloc,
+        "in",
+        "The file that is the input, in place of standard input; - is standard input",
+    )
+}
+
+fn raw_option<'a>(alloc: Global) -> Arg<'a>
+    ensures { IsArg raw_rule result }
+{
+    flag(
+        alloc,
+        "raw",
+        "The input has the octets themselves, not their hex",
+    )
+}
+
+fn prompt_option<'a>(alloc: Global) -> Arg<'a>
+    ensures { IsArg prompt_rule result }
+{
+    text_option(
+        alloc,
+        "prompt",
+        "dot: a line . behind each answer, for programs; line: a prompt and words for people, as the launcher asks for on a terminal",
+    )
 }
 
 fn answer_words<'a>(alloc: Global) -> Arg<'a>
@@ -355,6 +430,28 @@ fn with_limits<'a>(
     with_settings(alloc, command)
 }
 
+/// The command with the file of an input, and whether it has the octets themselves.
+fn with_octets<'a>(
+    alloc: Global,
+    command: Result<Command<'a>, AllocError>,
+) -> Result<Command<'a>, AllocError>
+    ensures { (app : App) → IfOk command.entry (IsCommand app) → IfOk result (IsCommand (with_octets app)) }
+{
+    let command = with_arg(command, in_option(alloc));
+    with_arg(command, raw_option(alloc))
+}
+
+/// The command with the file of an input that is a text, and whether faults are left without a sentence.
+fn with_text<'a>(
+    alloc: Global,
+    command: Result<Command<'a>, AllocError>,
+) -> Result<Command<'a>, AllocError>
+    ensures { (app : App) → IfOk command.entry (IsCommand app) → IfOk result (IsCommand (with_text app)) }
+{
+    let command = with_arg(command, in_option(alloc));
+    with_arg(command, quiet_option(alloc))
+}
+
 /// The command with the file of a book, and whether reasons are written.
 fn with_book<'a>(
     alloc: Global,
@@ -363,7 +460,8 @@ fn with_book<'a>(
     ensures { (app : App) → IfOk command.entry (IsCommand app) → IfOk result (IsCommand (with_book app)) }
 {
     let command = with_arg(command, book_option(alloc));
-    with_arg(command, why_option(alloc))
+    let command = with_arg(command, why_option(alloc));
+    with_arg(command, quiet_option(alloc))
 }
 
 /// The command with one more subcommand.
@@ -392,21 +490,23 @@ fn play_command<'a>(alloc: Global) -> Result<Command<'a>, AllocError>
     let command = with_arg(command, cut_option(alloc));
     let command = with_arg(command, each_option(alloc));
     let command = with_book(alloc, command);
+    let command = with_octets(alloc, command);
     with_arg(command, answer_words(alloc))
 }
 
-fn asm_command<'a>(alloc: Global) -> Command<'a>
-    ensures { IsCommand asm_app result }
+fn asm_command<'a>(alloc: Global) -> Result<Command<'a>, AllocError>
+    ensures { IfOk result (IsCommand asm_app) }
 {
     let about = "Writes the octets of the script that standard input is, as hex";
-    described(alloc, "asm", about)
+    with_text(alloc, Ok(described(alloc, "asm", about)))
 }
 
-fn dis_command<'a>(alloc: Global) -> Command<'a>
-    ensures { IsCommand dis_app result }
+fn dis_command<'a>(alloc: Global) -> Result<Command<'a>, AllocError>
+    ensures { IfOk result (IsCommand dis_app) }
 {
     let about = "Writes the script of the octets that standard input has as hex";
-    described(alloc, "dis", about)
+    let command = with_octets(alloc, Ok(described(alloc, "dis", about)));
+    with_arg(command, quiet_option(alloc))
 }
 
 fn table_command<'a>(alloc: Global) -> Result<Command<'a>, AllocError>
@@ -414,7 +514,8 @@ fn table_command<'a>(alloc: Global) -> Result<Command<'a>, AllocError>
 {
     let about =
         "Changes a dynamic header table by the lines of standard input: add NAME VALUE, max N";
-    described(alloc, "table", about).arg(limit_word(alloc))
+    let command = with_text(alloc, Ok(described(alloc, "table", about)));
+    with_arg(command, limit_word(alloc))
 }
 
 fn debug_command<'a>(alloc: Global) -> Result<Command<'a>, AllocError>
@@ -424,6 +525,8 @@ fn debug_command<'a>(alloc: Global) -> Result<Command<'a>, AllocError>
         "Debugs one connection: the first line of standard input is hex, each further line a command";
     let command = with_limits(alloc, Ok(described(alloc, "debug", about)));
     let command = with_book(alloc, command);
+    let command = with_octets(alloc, command);
+    let command = with_arg(command, prompt_option(alloc));
     with_arg(command, answer_words(alloc))
 }
 
@@ -448,6 +551,7 @@ fn explain_command<'a>(alloc: Global) -> Result<Command<'a>, AllocError>
     let command = with_arg(command, strict_option(alloc));
     let command = with_arg(command, full_option(alloc));
     let command = with_book(alloc, command);
+    let command = with_arg(command, raw_option(alloc));
     with_arg(command, input_words(alloc))
 }
 
@@ -457,6 +561,7 @@ fn check_command<'a>(alloc: Global) -> Result<Command<'a>, AllocError>
     let about = "Plays the cases of files, and says of each whether what it expects holds";
     let command = with_limits(alloc, Ok(described(alloc, "check", about)));
     let command = with_arg(command, book_option(alloc));
+    let command = with_arg(command, quiet_option(alloc));
     with_arg(command, case_files(alloc))
 }
 
@@ -464,15 +569,17 @@ fn top_command<'a>(alloc: Global) -> Command<'a>
     ensures { IsCommand top_app result }
 {
     let about = "An HTTP/2 server emulator and frame debugger";
-    described(alloc, "h2_bench", about).subcommand_required(true)
+    described(alloc, "h2_bench", about)
+        .after_help(LEGEND)
+        .subcommand_required(true)
 }
 
 fn bench_command<'a>(alloc: Global) -> Result<Command<'a>, AllocError>
     ensures { IfOk result (IsCommand bench_app) }
 {
     let command = with_subcommand(Ok(top_command(alloc)), play_command(alloc));
-    let command = with_subcommand(command, Ok(asm_command(alloc)));
-    let command = with_subcommand(command, Ok(dis_command(alloc)));
+    let command = with_subcommand(command, asm_command(alloc));
+    let command = with_subcommand(command, dis_command(alloc));
     let command = with_subcommand(command, table_command(alloc));
     let command = with_subcommand(command, debug_command(alloc));
     let command = with_subcommand(command, serve_command(alloc));
@@ -540,7 +647,7 @@ fn book_with<'a>(matches: &ArgMatches<'a>, answers: Vec<&'a str>) -> BookWords<'
 {
     BookWords {
         file: text_at(matches, "book"),
-        why: is_set(matches, "why"),
+        why: !is_set(matches, "quiet"),
         answers,
     }
 }
@@ -600,12 +707,19 @@ fn is_answer(word: &str) -> bool
     word.as_bytes().contains(&b'|')
 }
 
+/// The path that a word is; that of standard input, `-`, is empty.
+fn path_in(word: &str) -> &str
+    ensures { result.now ≡ path_in word.now }
+{
+    if is(word, "-") { "" } else { word }
+}
+
 /// The file among the words of `explain`: the first one, where it is no answer; else empty.
 fn file_among<'a>(words: &[&'a str]) -> &'a str
     ensures { result.now ≡ file_among (map (λ s. s.now) words.now) }
 {
     match words.split_first() {
-        Some((first, _)) => { if is_answer(first) { "" } else { first } }
+        Some((first, _)) => { if is_answer(first) { "" } else { path_in(first) } }
         None => "",
     }
 }
@@ -658,14 +772,14 @@ fn check_from<'a>(alloc: Global, matches: &ArgMatches<'a>) -> Result<Check<'a>, 
         config: config_at(matches),
         book: BookWords {
             file,
-            why: false,
+            why: !is_set(matches, "quiet"),
             answers,
         },
         files,
     })
 }
 
-/// Whether a command has this name.
+/// Whether two names are the same.
 fn is(name: &str, command: &str) -> bool
     ensures { result ≡ bytes_eq name.now command.now }
 {
@@ -723,6 +837,7 @@ fn printed_of(alloc: Global, error: &clap::Error) -> Refusal
 /// What clap finds in the words, where it takes them.
 fn matches_of<'a>(alloc: Global, words: &'a Words) -> Result<ArgMatches<'a>, Refusal>
     ensures ok { IfOk result (λ matches. asked_of words.entry.now ≡ asked_at (subcommand_rows_of matches)) }
+    ensures rows { IfOk result (λ matches. subcommand_rows_of matches ≡ subcommand_of bench_app words.entry.now) }
     ensures refused { IfErr result (Refuses (asked_of words.entry.now)) }
 {
     let Ok(command) = bench_command(alloc) else {
@@ -746,6 +861,31 @@ fn plan_in<'a>(alloc: Global, matches: &ArgMatches<'a>) -> Result<Plan<'a>, Refu
         Ok(Some(plan)) => Ok(plan),
         Ok(None) => Err(Refusal::Words(String::new(alloc))),
         Err(_) => Err(Refusal::NoMemory),
+    }
+}
+
+/// What the words of a command say of devices.
+fn devices_in<'a>(matches: &ArgMatches<'a>) -> Devices<'a>
+    ensures { devices_asked result ≡ devices_at (rows_of (found_of matches.now)) }
+{
+    Devices {
+        file: path_in(text_at(matches, "in")),
+        raw: is_set(matches, "raw"),
+        quiet: is_set(matches, "quiet"),
+        prompt: text_at(matches, "prompt"),
+    }
+}
+
+/// What the words say of devices, where they name a command; `None` also where memory is refused.
+pub fn devices_of<'a>(alloc: Global, words: &'a Words) -> Option<Devices<'a>>
+    ensures { IfSome result (λ devices. devices_of words.entry.now ≡ Some (devices_asked devices)) }
+{
+    match matches_of(alloc, words) {
+        Ok(matches) => match matches.subcommand() {
+            Some((_, inner)) => Some(devices_in(inner)),
+            None => None,
+        },
+        Err(_) => None,
     }
 }
 

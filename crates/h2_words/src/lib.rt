@@ -3,6 +3,7 @@
 #![tactic(auto)]
 
 pub mod command;
+mod legend;
 mod words;
 
 pub use words::Words;

@@ -4,4 +4,5 @@ pub returns : goal.returns
 returns c =
     let limits = c.with_limits-command.ensures _ c.described.ensures in
     let book = c.with_arg-command.ensures _ _ limits c.book_option.ensures in
-    c.with_arg.ensures _ _ book c.case_files.ensures
+    let quiet = c.with_arg-command-2.ensures _ _ book c.quiet_option.ensures in
+    c.with_arg.ensures _ _ quiet c.case_files.ensures

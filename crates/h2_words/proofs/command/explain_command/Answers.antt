@@ -8,4 +8,5 @@ returns c =
     let three = c.with_arg-command-3.ensures _ _ two c.strict_option.ensures in
     let four = c.with_arg-command-4.ensures _ _ three c.full_option.ensures in
     let book = c.with_book-command.ensures _ four in
-    c.with_arg.ensures _ _ book c.input_words.ensures
+    let raw = c.with_arg-command-5.ensures _ _ book c.raw_option.ensures in
+    c.with_arg.ensures _ _ raw c.input_words.ensures

@@ -6,4 +6,5 @@ returns c =
     let one = c.with_arg-command.ensures _ _ limits c.cut_option.ensures in
     let two = c.with_arg-command-2.ensures _ _ one c.each_option.ensures in
     let book = c.with_book-command.ensures _ two in
-    c.with_arg.ensures _ _ book c.answer_words.ensures
+    let octets = c.with_octets-command.ensures _ book in
+    c.with_arg.ensures _ _ octets c.answer_words.ensures

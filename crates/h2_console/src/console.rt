@@ -1,0 +1,250 @@
+//! A person, or a program, at a session: lines are read one at a time, each is given to the session as the command that
+//! it means, and what is no command of the session is answered here. Rests on `commands` and `items`.
+
+ghost use Rattle.std.specs.Prelude.{◌≤◌, length, IfOk};
+
+use crate::commands::{HELP, Meaning, meaning_of};
+use crate::items::{write_item, write_items};
+use std::alloc::{AllocError, Global};
+use std::cell::Cell;
+use std::io;
+use std::io::{Read, Write};
+
+/// Lines for a session.
+#[derive(Drop)]
+pub struct Console<'c, R, O, E> {
+    reader: R,
+    output: O,
+    errors: E,
+    alloc: Global,
+    /// Whether a prompt is written before a line is read.
+    has_prompt: bool,
+    has_dots: bool,
+    /// Whether the next line is the octets, which are given as they are.
+    is_first: bool,
+    /// What `explain` prints of the octets, where they are those of a file.
+    explained: Option<Vec<u8>>,
+    position: &'c Cell<usize>,
+    /// What was read and is in no line yet.
+    held: Vec<u8>,
+    /// The command that is given, with its line feed, and how much of it was.
+    command: Vec<u8>,
+    given: usize,
+}
+
+/// How a console is set up.
+#[derive(Drop)]
+pub struct Manner {
+    pub has_prompt: bool,
+    pub has_dots: bool,
+    /// What `explain` prints of the octets, where they are those of a file; else the first line has them.
+    pub explained: Option<Vec<u8>>,
+}
+
+impl<'c, R: Read, O: Write, E: Write> Console<'c, R, O, E> {
+    /// Lines of a reader; what is answered here is written to `output`, prompts to `errors`.
+    pub fn new(
+        alloc: Global,
+        reader: R,
+        output: O,
+        errors: E,
+        manner: Manner,
+        position: &'c Cell<usize>,
+    ) -> Console<'c, R, O, E> {
+        Console {
+            reader,
+            output,
+            errors,
+            alloc,
+            has_prompt: manner.has_prompt,
+            has_dots: manner.has_dots,
+            is_first: manner.explained.is_none(),
+            explained: manner.explained,
+            position,
+            held: Vec::new(alloc),
+            command: Vec::new(alloc),
+            given: 0,
+        }
+    }
+
+    /// Writes the prompt, with the position.
+    fn prompt(&mut self) -> io::Result<()> {
+        if !self.has_prompt {
+            return Ok(());
+        }
+        if self.is_first {
+            return self.errors.write_all(b"octets in hex> ".as_slice());
+        }
+        let position = self.position.get();
+        let text = format!(in self.alloc; "{position}> ")?;
+        self.errors.write_all(text.as_bytes())
+    }
+
+    /// Reads a line, without its line feed, to `line`; says whether there was one.
+    fn read_line(&mut self, line: &mut Vec<u8>) -> io::Result<bool> {
+        let mut buffer = [0; 4096];
+        for _ in 0..u64::MAX {
+            if let Some(end) = self
+                .held
+                .as_slice()
+                .iter()
+                .position(|octet| *octet == b'\n')
+            {
+                let (front, rest) = self.held.as_slice().split_at(end);
+                line.extend_from_slice(front)?;
+                let rest = rest.split_at(1).1.to_vec(self.alloc)?;
+                self.held = rest;
+                return Ok(true);
+            }
+            let count = self.reader.read(&mut buffer)?;
+            if count == 0 {
+                let is_some = !self.held.is_empty();
+                line.extend_from_slice(self.held.as_slice())?;
+                self.held.clear();
+                return Ok(is_some);
+            }
+            self.held.extend_from_slice(&buffer[..count])?;
+        }
+        Ok(false)
+    }
+
+    /// Makes a line the command that is given next.
+    fn set_command(&mut self, front: &[u8], number: Option<u8>) -> io::Result<()> {
+        let mut command = Vec::new(self.alloc);
+        command.extend_from_slice(front)?;
+        if let Some(number) = number {
+            let text = format!(in self.alloc; "{number}")?;
+            command.extend_from_slice(text.as_bytes())?;
+        }
+        command.push(b'\n')?;
+        self.command = command;
+        self.given = 0;
+        Ok(())
+    }
+
+    /// Answers a line that is no command of the session.
+    fn answer(&mut self, meaning: Meaning<'_>) -> io::Result<()> {
+        let position = self.position.get();
+        match (meaning, &self.explained) {
+            (Meaning::Help, _) => self.output.write_all(HELP.as_bytes())?,
+            (Meaning::Explain, Some(text)) => write_item(
+                &mut self.output,
+                text.as_slice(),
+                position,
+            )?,
+            (Meaning::List, Some(text)) => write_items(
+                &mut self.output,
+                text.as_slice(),
+                position,
+            )?,
+            _ => self.output.write_all(
+                b"explain and list need the octets of a file: --in FILE\n".as_slice(),
+            )?,
+        }
+        if self.has_dots {
+            self.output.write_all(b".\n".as_slice())?;
+        }
+        self.output.flush()
+    }
+
+    /// Takes a line; says whether there is a command to give, and whether the session goes on.
+    fn take_line(&mut self, line: &[u8]) -> io::Result<Next> {
+        match meaning_of(line) {
+            Meaning::Command(command) => self.set_command(command, None)?,
+            Meaning::Typed(front, number) => self.set_command(front, Some(number))?,
+            Meaning::Again if self.command.is_empty() => self.set_command(line, None)?,
+            Meaning::Again => self.given = 0,
+            Meaning::Quit => return Ok(Next::End),
+            other => {
+                self.answer(other)?;
+                return Ok(Next::Line);
+            }
+        }
+        Ok(Next::Command)
+    }
+
+    /// Reads lines until one is a command of the session; says whether there is one.
+    fn next_command(&mut self) -> io::Result<bool> {
+        for _ in 0..u64::MAX {
+            self.prompt()?;
+            let mut line = Vec::new(self.alloc);
+            if !self.read_line(&mut line)? {
+                return Ok(false);
+            }
+            match self.take_line(line.as_slice())? {
+                Next::Command => return Ok(true),
+                Next::End => return Ok(false),
+                Next::Line => {}
+            }
+        }
+        Ok(false)
+    }
+
+    /// Gives as much of the command as there is space for.
+    fn give(&mut self, buffer: &mut [u8]) -> usize
+        ensures { result ≤ length buffer.new }
+    {
+        let rest = match self.command.as_slice().get(self.given..) {
+            Some(rest) => rest,
+            None => &[],
+        };
+        let count = rest.len().min(buffer.len());
+        buffer[..count].copy_from_slice(&rest[..count]);
+        self.given = self.given.saturating_add(count);
+        count
+    }
+
+    /// Gives the octets that the first line has, as they come.
+    fn give_first(&mut self, buffer: &mut [u8]) -> io::Result<usize>
+        ensures { IfOk result (λ count. count ≤ length buffer.new) }
+    {
+        let count = self.reader.read(buffer)?;
+        let read = &buffer[..count];
+        match read.iter().position(|octet| *octet == b'\n') {
+            Some(end) => {
+                let taken = end.saturating_add(1).min(count);
+                self.is_first = false;
+                self.held.extend_from_slice(&buffer[taken..count])?;
+                Ok(taken)
+            }
+            None => Ok(count),
+        }
+    }
+}
+
+/// What follows a line.
+#[derive(Clone, Copy)]
+enum Next {
+    Command,
+    Line,
+    End,
+}
+
+impl<R: Read, O: Write, E: Write> Read for Console<'_, R, O, E> {
+    fn read(&mut self, buffer: &mut [u8]) -> io::Result<usize> {
+        if self.is_first {
+            self.prompt()?;
+            return self.give_first(buffer);
+        }
+        if self.given >= self.command.len() && !self.next_command()? {
+            return Ok(0);
+        }
+        Ok(self.give(buffer))
+    }
+}
+
+/// What a command reads of standard input: its octets, or the lines of a console.
+#[derive(Drop)]
+pub enum Behind<'c, R, O, E> {
+    Plain(R),
+    Console(Console<'c, R, O, E>),
+}
+
+impl<R: Read, O: Write, E: Write> Read for Behind<'_, R, O, E> {
+    fn read(&mut self, buffer: &mut [u8]) -> io::Result<usize> {
+        match self {
+            Behind::Plain(reader) => reader.read(buffer),
+            Behind::Console(console) => console.read(buffer),
+        }
+    }
+}

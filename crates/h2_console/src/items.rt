@@ -1,0 +1,78 @@
+//! The items of an explanation, as lines of its text: `#N @OCTET ..` and the lines below it. Rests on nothing.
+
+use std::io;
+use std::io::Write;
+
+/// The number that digits spell; what follows them is passed over.
+pub(crate) fn number_in(digits: &[u8]) -> usize {
+    let mut number = 0usize;
+    for digit in digits {
+        if !digit.is_ascii_digit() {
+            return number;
+        }
+        number = number
+            .saturating_mul(10)
+            .saturating_add(usize::from(digit.saturating_sub(b'0')));
+    }
+    number
+}
+
+/// Which item a line begins, if it begins one.
+fn item_of(line: &[u8]) -> Option<usize> {
+    match line.strip_prefix(b"#".as_slice()) {
+        Some(rest) => Some(number_in(rest)),
+        None => None,
+    }
+}
+
+fn write_line<W: Write>(output: &mut W, front: &[u8], line: &[u8]) -> io::Result<()> {
+    output.write_all(front)?;
+    output.write_all(line)?;
+    output.write_all(b"\n".as_slice())
+}
+
+/// Writes the lines of an item.
+pub(crate) fn write_item<W: Write>(output: &mut W, text: &[u8], item: usize) -> io::Result<()> {
+    let mut is_here = false;
+    let mut is_found = false;
+    for line in text.split(|octet| *octet == b'\n') {
+        match item_of(line) {
+            Some(number) => is_here = number == item,
+            None => is_here = is_here && line.first().copied() == Some(b' '),
+        }
+        if is_here {
+            is_found = true;
+            write_line(output, b"".as_slice(), line)?;
+        }
+    }
+    if is_found {
+        return Ok(());
+    }
+    output.write_all(b"nothing to say of this item\n".as_slice())
+}
+
+/// How many items are listed before a position and behind it.
+const AROUND: usize = 3;
+
+/// Writes the first lines of the items around a position; `>` is in front of its own.
+pub(crate) fn write_items<W: Write>(
+    output: &mut W,
+    text: &[u8],
+    position: usize,
+) -> io::Result<()> {
+    for line in text.split(|octet| *octet == b'\n') {
+        let Some(item) = item_of(line) else {
+            continue;
+        };
+        let is_near = item.abs_diff(position) <= AROUND;
+        let front = if item == position {
+            b"> ".as_slice()
+        } else {
+            b"  ".as_slice()
+        };
+        if is_near {
+            write_line(output, front, line)?;
+        }
+    }
+    Ok(())
+}

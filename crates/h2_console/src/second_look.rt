@@ -1,0 +1,206 @@
+//! What to say of a command that ended: a second look at its words and its input finds what was refused. The order is that
+//! of the faults. Rests on h2_reasons and h2_script.
+
+use h2_reasons::{
+    Source, Words, digit_count, has_offsets, is_hex, range_of, say_bad_line, say_limits,
+    say_no_hex, say_no_memory, say_no_octets, say_no_text, say_offsets, say_port, say_range,
+    say_table_faults, say_too_long, say_unread, say_unwritten,
+};
+use h2_script::{ScriptFault, assemble};
+use h2_spec::connection::Config;
+use h2_words::command::{Batch, Plan, Refusal};
+use std::alloc::Global;
+use std::io::ErrorKind;
+use std::str;
+
+/// The most octets that an input may have.
+const LIMIT: usize = 16777216;
+
+/// How a command ended.
+#[derive(Clone, Copy)]
+pub struct Outcome<'o> {
+    /// The exit status.
+    pub status: u8,
+    /// Whether a sentence was written already, for the book.
+    pub is_said: bool,
+    /// What was read.
+    pub source: Source<'o>,
+    /// What was read of it.
+    pub seen: &'o [u8],
+    /// Whether memory for that was refused.
+    pub is_cut: bool,
+    /// Why it could not be read; of a server why its port can't be listened on.
+    pub failure: Option<ErrorKind>,
+    /// Why the output was not written.
+    pub unwritten: Option<ErrorKind>,
+}
+
+impl Outcome<'_> {
+    /// Says why the input was not read; says whether it was.
+    fn say_input(self, out: &mut Words) -> bool {
+        if let Some(kind) = self.failure {
+            say_unread(self.source, kind, out);
+        } else if self.seen.len() > LIMIT {
+            say_too_long(self.source, LIMIT, out);
+        } else if self.is_cut {
+            say_no_memory(out);
+        } else {
+            return true;
+        }
+        false
+    }
+
+    /// Says what is wrong with octets as hex, or with the limits of a connection.
+    fn say_octets(self, config: Option<Config>, out: &mut Words) {
+        if !self.say_input(out) {
+            return;
+        }
+        match config {
+            _ if !is_hex(self.seen) => say_no_hex(self.source, self.seen, out),
+            Some(config) if !config.is_allowed() => say_limits(config, out),
+            _ => say_no_memory(out),
+        }
+    }
+
+    /// Says what is strange about octets that were taken.
+    fn warn(self, out: &mut Words) {
+        if self.failure.is_some() || self.is_cut {
+            return;
+        }
+        if digit_count(self.seen) == 0 {
+            say_no_octets(self.source, out);
+        } else if has_offsets(self.seen) {
+            say_offsets(self.source, out);
+        }
+    }
+
+    /// Says of octets that were refused why, and warns of others.
+    fn say_hex(self, config: Option<Config>, out: &mut Words) {
+        if self.status == 1 {
+            self.say_octets(config, out);
+        } else {
+            self.warn(out);
+        }
+    }
+
+    /// Says why a script was refused.
+    fn say_script(self, alloc: Global, out: &mut Words) {
+        if self.status != 1 || !self.say_input(out) {
+            return;
+        }
+        let Ok(text) = str::from_utf8(self.seen) else {
+            say_no_text(self.source, self.seen, out);
+            return;
+        };
+        match assemble(alloc, text) {
+            Err(ScriptFault::Syntax(line, kind)) => say_bad_line(
+                self.source,
+                self.seen,
+                line,
+                kind,
+                out,
+            ),
+            _ => say_no_memory(out),
+        }
+    }
+
+    /// Says which lines of `table` were refused.
+    fn say_table(self, limit: u32, out: &mut Words) {
+        if self.status == 1 {
+            if self.say_input(out) {
+                say_no_memory(out);
+            }
+        } else if !self.is_cut {
+            say_table_faults(self.source, self.seen, limit, out);
+        }
+    }
+
+    fn say_batch(self, alloc: Global, batch: &Batch<'_>, out: &mut Words) {
+        match batch {
+            Batch::Play(play) => self.say_hex(Some(play.config), out),
+            Batch::Dis => self.say_hex(None, out),
+            Batch::Asm => self.say_script(alloc, out),
+            Batch::Table(limit) => self.say_table(*limit, out),
+        }
+    }
+
+    /// The octets that a session was given: those of a file, or of the first line.
+    fn first(self) -> Self {
+        match self.source {
+            Source::Input => Outcome {
+                seen: first_line(self.seen),
+                ..self
+            },
+            Source::File(_) => self,
+        }
+    }
+
+    /// Says why a session did not begin. Its commands that were refused, and memory that was, have their sentences already.
+    fn say_session(self, config: Config, out: &mut Words) {
+        if self.status != 1 || !self.say_input(out) {
+            return;
+        }
+        if !is_hex(self.first().seen) || !config.is_allowed() {
+            self.first().say_octets(Some(config), out);
+        }
+    }
+
+    /// Says why nothing was served.
+    fn say_served(self, config: Config, port: u32, out: &mut Words) {
+        if self.status != 1 {
+            return;
+        }
+        if self.failure.is_none() && !config.is_allowed() {
+            say_limits(config, out);
+        } else {
+            say_port(port, self.failure, out);
+        }
+    }
+}
+
+/// The first line of a text.
+fn first_line(text: &[u8]) -> &[u8] {
+    match text.split(|octet| *octet == b'\n').next() {
+        Some(line) => line,
+        None => &[],
+    }
+}
+
+/// Says what is to be said of a command that ended.
+pub fn say_outcome(alloc: Global, plan: &Plan<'_>, outcome: Outcome<'_>, out: &mut Words) {
+    if let Some(kind) = outcome.unwritten {
+        say_unwritten(kind, out);
+    } else if !outcome.is_said {
+        match plan {
+            Plan::Batch(batch) => outcome.say_batch(alloc, batch, out),
+            Plan::Debug(debug) => outcome.say_session(debug.config, out),
+            Plan::Serve(serve) => outcome.say_served(serve.config, serve.port, out),
+            Plan::Explain(explain) => outcome.say_hex(Some(explain.config), out),
+            // A case that was not read says so in the verdict on it.
+            Plan::Check(_) => {}
+        }
+    }
+}
+
+/// Whether a text spells a number in a range.
+fn is_within(value: &str, least: u64, most: u64) -> bool {
+    match value.parse::<u64>() {
+        Ok(number) => least <= number && number <= most,
+        Err(_) => false,
+    }
+}
+
+/// Says which numbers of options are out of range among words that were refused.
+pub fn say_refused_words(refusal: &Refusal, words: &[String], out: &mut Words) {
+    if let Refusal::NoMemory = refusal {
+        say_no_memory(out);
+        return;
+    }
+    for (option, value) in words.iter().zip(words.iter().skip(1)) {
+        if let Some(range) = range_of(option.as_str())
+            && !is_within(value.as_str(), range.least, range.most)
+        {
+            say_range(range, value.as_str(), out);
+        }
+    }
+}

@@ -1,0 +1,152 @@
+//! Outputs that are looked at on their way: whether a sentence was written, and what the answers of a session begin with.
+//! Rests on h2_device and h2_reasons.
+
+ghost use Rattle.std.specs.Prelude.{◌≡◌, None, false};
+
+use crate::items::number_in;
+use h2_device::{DeviceFault, Output};
+use h2_reasons::{Words, say_session_fault};
+use std::alloc::Global;
+use std::cell::Cell;
+use std::io::Write;
+
+/// An output that notes whether anything was written to it.
+#[derive(Drop)]
+pub struct Noted<'o, O> {
+    inner: &'o mut O,
+    written: bool,
+}
+
+impl<'o, O: Output> Noted<'o, O> {
+    pub fn new(inner: &'o mut O) -> Noted<'o, O>
+        ensures { result.inner.now ≡ inner.entry.now }
+    {
+        Noted {
+            inner,
+            written: false,
+        }
+    }
+
+    /// Whether anything was written.
+    pub fn is_written(&self) -> bool {
+        self.written
+    }
+}
+
+impl<O: Output> Output for Noted<'_, O> {
+    ghost written = { λ d. O.written d.inner.now };
+
+    ghost has_failed = { λ d. O.has_failed d.inner.now };
+
+    ghost name = { λ d. O.name d.inner.now };
+
+    fn write(&mut self, octets: &[u8]) -> Result<(), DeviceFault> {
+        self.written = true;
+        self.inner.write(octets)
+    }
+
+    fn flush(&mut self) -> Result<(), DeviceFault> {
+        self.inner.flush()
+    }
+}
+
+/// How many octets of an answer are looked at: more than its first line has, where that is a position or a fault.
+const LOOKED_AT: usize = 32;
+
+/// The output of a session: it notes the position, writes a sentence for each command that was refused, and a line `.`
+/// behind each answer where that is asked for.
+#[derive(Drop)]
+pub struct Watched<'w, O, E> {
+    output: &'w mut O,
+    errors: E,
+    alloc: Global,
+    is_quiet: bool,
+    has_dots: bool,
+    position: &'w Cell<usize>,
+    front: Vec<u8>,
+    failed: bool,
+}
+
+impl<'w, O: Output, E: Write> Watched<'w, O, E> {
+    /// The output of a session over this one; sentences are written to `errors`, the position to `position`.
+    pub fn new(
+        alloc: Global,
+        output: &'w mut O,
+        errors: E,
+        is_quiet: bool,
+        has_dots: bool,
+        position: &'w Cell<usize>,
+    ) -> Watched<'w, O, E>
+        ensures { result.failed ≡ false }
+    {
+        Watched {
+            output,
+            errors,
+            alloc,
+            is_quiet,
+            has_dots,
+            position,
+            front: Vec::new(alloc),
+            failed: false,
+        }
+    }
+
+    /// Keeps the first octets of an answer. Without memory for them nothing is said of it.
+    fn note(&mut self, octets: &[u8]) {
+        for octet in octets {
+            if self.front.len() < LOOKED_AT {
+                let _ = self.front.push(*octet);
+            }
+        }
+    }
+
+    /// Looks at the answer that was written.
+    fn look(&mut self) {
+        let line = match self.front.as_slice().split(|octet| *octet == b'\n').next() {
+            Some(line) => line,
+            None => &[],
+        };
+        if let Some(position) = line.strip_prefix(b"at ".as_slice()) {
+            self.position.set(number_in(position));
+        }
+        if let Some(number) = line.strip_prefix(b"fault ".as_slice())
+            && !self.is_quiet
+        {
+            let mut words = Words::new(self.alloc);
+            say_session_fault(number, &mut words);
+            if let Ok(text) = words.finish() {
+                let _ = self.errors.write_all(text.as_bytes());
+            }
+        }
+        self.front.clear();
+    }
+
+    fn write_on(&mut self) -> Result<(), DeviceFault> {
+        if self.has_dots && !self.front.is_empty() {
+            self.output.write(b".\n".as_slice())?;
+        }
+        self.output.flush()
+    }
+}
+
+impl<O: Output, E: Write> Output for Watched<'_, O, E> {
+    ghost written = { λ _. None };
+
+    ghost has_failed = { λ d. d.failed };
+
+    ghost name = { λ _. 0 };
+
+    fn write(&mut self, octets: &[u8]) -> Result<(), DeviceFault> {
+        self.note(octets);
+        let written = self.output.write(octets);
+        self.failed = written.is_err();
+        written
+    }
+
+    fn flush(&mut self) -> Result<(), DeviceFault> {
+        let flushed = self.write_on();
+        self.look();
+        self.failed = flushed.is_err();
+        flushed
+    }
+}

@@ -1,0 +1,141 @@
+//! What is said on standard error once a command has ended. Rests on h2_console's second look.
+
+use crate::input::Given;
+use h2_bench::{Plan, Words};
+use h2_console::{Outcome, say_outcome, say_refused_words};
+use h2_reasons::Source;
+use h2_words::command::Refusal;
+use std::fs;
+use std::io::{ErrorKind, Write};
+use std::net::{IpAddr, Ipv4Addr, SocketAddr, TcpListener};
+use std::rt::Files;
+
+/// How a command ended.
+#[derive(Clone, Copy)]
+pub struct Ending {
+    pub status: u8,
+    /// Whether a sentence was written already, for the book.
+    pub is_said: bool,
+    /// Why the output was not written.
+    pub unwritten: Option<ErrorKind>,
+}
+
+/// The octets of a file that was read already. A pipe can't be read again, and is not.
+fn read_again(rt: &HostRuntime, path: &str) -> Result<Vec<u8>, Option<ErrorKind>> {
+    match rt.metadata(path) {
+        Ok(about) if about.is_file() => match fs::read(rt, path) {
+            Ok(octets) => Ok(octets),
+            Err(error) => Err(Some(error.kind())),
+        },
+        Ok(about) if about.is_dir() => Err(Some(ErrorKind::IsADirectory)),
+        Ok(_) => Err(None),
+        Err(error) => Err(Some(error.kind())),
+    }
+}
+
+/// The outcome of a command over its input.
+fn outcome_of<'o>(given: &'o Given<'_, '_>, ending: Ending) -> Outcome<'o> {
+    Outcome {
+        status: ending.status,
+        is_said: ending.is_said,
+        source: given.source,
+        seen: given.taken.seen(),
+        is_cut: given.taken.is_cut(),
+        failure: given.taken.failure(),
+        unwritten: ending.unwritten,
+    }
+}
+
+/// Says what is to be said of the octets of a file that a command read itself.
+fn say_of_file(
+    rt: &HostRuntime,
+    plan: &Plan<'_>,
+    path: &str,
+    outcome: Outcome<'_>,
+    out: &mut h2_reasons::Words,
+) {
+    let source = Source::File(path);
+    match read_again(rt, path) {
+        Ok(octets) => {
+            let seen = octets.as_slice();
+            say_outcome(
+                rt.alloc(),
+                plan,
+                Outcome {
+                    source,
+                    seen,
+                    ..outcome
+                },
+                out,
+            );
+        }
+        Err(None) => {}
+        Err(failure) => say_outcome(
+            rt.alloc(),
+            plan,
+            Outcome {
+                source,
+                failure,
+                ..outcome
+            },
+            out,
+        ),
+    }
+}
+
+/// Why a port can't be listened on now, if it can't.
+fn failure_of_port(rt: &HostRuntime, port: u32) -> Option<ErrorKind> {
+    let port = u16::try_from(port).ok()?;
+    let address = SocketAddr::new(IpAddr::V4(Ipv4Addr::LOCALHOST), port);
+    match TcpListener::bind(rt, address) {
+        Ok(_) => None,
+        Err(error) => Some(error.kind()),
+    }
+}
+
+/// Says why nothing is served, or no more.
+fn say_of_server(
+    rt: &HostRuntime,
+    plan: &Plan<'_>,
+    port: u32,
+    outcome: Outcome<'_>,
+    out: &mut h2_reasons::Words,
+) {
+    let failure = failure_of_port(rt, port);
+    say_outcome(rt.alloc(), plan, Outcome { failure, ..outcome }, out);
+}
+
+fn say_of_plan(
+    rt: &HostRuntime,
+    plan: &Plan<'_>,
+    outcome: Outcome<'_>,
+    out: &mut h2_reasons::Words,
+) {
+    match plan {
+        Plan::Explain(explain) if explain.file != "" && outcome.unwritten.is_none() => {
+            say_of_file(rt, plan, explain.file, outcome, out);
+        }
+        Plan::Serve(serve) if outcome.status == 1 && !outcome.is_said => {
+            say_of_server(rt, plan, serve.port, outcome, out);
+        }
+        _ => say_outcome(rt.alloc(), plan, outcome, out),
+    }
+}
+
+/// Says on standard error what is to be said of a command that ended.
+pub fn end(
+    rt: &HostRuntime,
+    words: &Words,
+    asked: &Result<Plan<'_>, Refusal>,
+    given: &Given<'_, '_>,
+    ending: Ending,
+) {
+    let mut out = h2_reasons::Words::new(rt.alloc());
+    match asked {
+        Ok(plan) => say_of_plan(rt, plan, outcome_of(given, ending), &mut out),
+        Err(refusal) => say_refused_words(refusal, words.as_slice(), &mut out),
+    }
+    if let Ok(text) = out.finish() {
+        let _ = rt.stderr().write_all(text.as_bytes());
+    }
+}

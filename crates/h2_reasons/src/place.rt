@@ -1,0 +1,64 @@
+//! Where something is: in which input, and at which line, column and octet of it.
+
+use h2_describe::say::{Cut, Say, Words};
+use h2_describe::say_all;
+use h2_describe::sent::first_of;
+
+/// What was read: standard input, or the file at a path.
+#[derive(Clone, Copy)]
+pub enum Source<'a> {
+    Input,
+    File(&'a str),
+}
+
+impl Say for Source<'_> {
+    fn say(self, out: &mut Words) {
+        match self {
+            Source::Input => "standard input".say(out),
+            Source::File(path) => Cut(path.as_bytes()).say(out),
+        }
+    }
+}
+
+/// A place in a text: its line, the octet of the line and the octet of the text, each counted from 1.
+#[derive(Clone, Copy)]
+pub struct Place {
+    pub line: usize,
+    pub column: usize,
+    pub octet: usize,
+}
+
+impl Say for Place {
+    fn say(self, out: &mut Words) {
+        say_all!(out; "line ", self.line, ", column ", self.column, " (octet ", self.octet, ")");
+    }
+}
+
+/// The place of an octet, by how many octets are before it.
+pub fn place_at(text: &[u8], before: usize) -> Place {
+    let mut line = 1usize;
+    let mut column = 1usize;
+    for octet in first_of(text, before) {
+        if *octet == b'\n' {
+            line = line.saturating_add(1);
+            column = 1;
+        } else {
+            column = column.saturating_add(1);
+        }
+    }
+    Place {
+        line,
+        column,
+        octet: before.saturating_add(1),
+    }
+}
+
+/// A text between backquotes, cut and escaped.
+#[derive(Clone, Copy)]
+pub(crate) struct Quoted<'a>(pub(crate) &'a [u8]);
+
+impl Say for Quoted<'_> {
+    fn say(self, out: &mut Words) {
+        say_all!(out; '`', Cut(self.0), '`');
+    }
+}

@@ -1,0 +1,93 @@
+//! What is wrong with a line of a script: its kind in words, and the place in the line.
+
+use crate::place::{Quoted, Source};
+use h2_describe::say::{Say, Words};
+use h2_describe::say_all;
+use h2_describe::sent::first_of;
+use h2_spec::scripts::SyntaxKind;
+
+/// The line with this number, from 1.
+fn line_of(text: &[u8], number: usize) -> &[u8] {
+    match text
+        .split(|octet| *octet == b'\n')
+        .nth(number.saturating_sub(1))
+    {
+        Some(line) => line,
+        None => &[],
+    }
+}
+
+/// Which part of a line is at fault, from 0; 4 for what follows the last part.
+fn part_of(kind: SyntaxKind, line: &[u8]) -> usize {
+    if line.starts_with(b"RAW".as_slice()) {
+        return 1;
+    }
+    match kind {
+        SyntaxKind::Parts => 4,
+        SyntaxKind::Name => 0,
+        SyntaxKind::Flags => 1,
+        SyntaxKind::Stream => 2,
+        SyntaxKind::Payload | SyntaxKind::Size => 3,
+    }
+}
+
+/// Where a part of a line begins: behind so many blanks; at its end where there are fewer.
+fn start_of(line: &[u8], part: usize) -> usize {
+    let mut blanks = 0usize;
+    for (at, octet) in line.iter().enumerate() {
+        if blanks == part {
+            return at;
+        }
+        if *octet == b' ' {
+            blanks = blanks.saturating_add(1);
+        }
+    }
+    line.len()
+}
+
+/// The part of a line that begins at a place: what precedes the next blank, and the whole rest of a payload.
+fn part_at(line: &[u8], part: usize) -> &[u8] {
+    let rest = match line.get(start_of(line, part)..) {
+        Some(rest) => rest,
+        None => &[],
+    };
+    if part == 3 {
+        return rest;
+    }
+    match rest.iter().position(|octet| *octet == b' ') {
+        Some(end) => first_of(rest, end),
+        None => rest,
+    }
+}
+
+/// What a part has to be.
+fn rule(kind: SyntaxKind) -> &'static str {
+    match kind {
+        SyntaxKind::Parts =>
+            "a line is PREFACE, RAW HEX, or NAME FLAGS STREAM PAYLOAD with one blank between them",
+        SyntaxKind::Name =>
+            "a frame type is DATA, HEADERS, PRIORITY, RST_STREAM, SETTINGS, PUSH_PROMISE, PING, GOAWAY, WINDOW_UPDATE, CONTINUATION, or T and two hex digits",
+        SyntaxKind::Flags => "flags are two hex digits",
+        SyntaxKind::Stream => "a stream is 0 to 2147483647, with R behind it for the reserved bit",
+        SyntaxKind::Payload => "a payload is -, xHEX, sID=VALUE,.., wN, cN, or hI,..",
+        SyntaxKind::Size => "a payload has at most 16777215 octets",
+    }
+}
+
+/// Says what is wrong with a line of a script.
+pub fn say_bad_line(
+    source: Source<'_>,
+    text: &[u8],
+    line: usize,
+    kind: SyntaxKind,
+    out: &mut Words,
+) {
+    let found = line_of(text, line);
+    let part = part_of(kind, found);
+    let column = start_of(found, part).saturating_add(1);
+    say_all!(out; source, ", line ", line, ", column ", column, ": ");
+    if part < 4 {
+        say_all!(out; Quoted(part_at(found, part)), ": ");
+    }
+    say_all!(out; rule(kind), ".\n");
+}

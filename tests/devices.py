@@ -1,0 +1,189 @@
+#!/usr/bin/env python3
+"""The program between devices that transcripts don't show: outputs that are closed, full or slow, inputs that are slow, and the launcher on a terminal.
+
+    tests/devices.py PROGRAM
+
+The launcher is tried as tools/install.sh lays it out. The last line is `N passed, M failed`; the status is 1 where one failed.
+"""
+
+import fcntl
+import os
+import pty
+import resource
+import shutil
+import signal
+import subprocess
+import sys
+import tempfile
+import threading
+import time
+
+TOP = os.path.dirname(os.path.dirname(os.path.abspath(__file__)))
+SECONDS = 120
+
+# A script of 20,000 frames, which `dis` writes as more than a pipe holds.
+MANY = b"PREFACE\nSETTINGS 00 0 -\n" + 20_000 * b"PING 00 0 x0102030405060708\n"
+
+
+class Ran:
+    """A run of the program: its status and what it said on standard error."""
+
+    def __init__(self, program, words, **how):
+        self.errors = tempfile.TemporaryFile()
+        self.process = subprocess.Popen(["h2_bench", *words], executable=program, stderr=self.errors, cwd=TOP, **how)
+
+    def ended(self):
+        status = self.process.wait(timeout=SECONDS)
+        self.errors.seek(0)
+        return status, self.errors.read().decode()
+
+
+def hex_of_many(program):
+    return subprocess.run(["h2_bench", "asm"], executable=program, input=MANY, stdout=subprocess.PIPE, check=True).stdout
+
+
+def without_waiting(descriptor):
+    fcntl.fcntl(descriptor, fcntl.F_SETFL, fcntl.fcntl(descriptor, fcntl.F_GETFL) | os.O_NONBLOCK)
+
+
+def a_closed_output_is_status_3(program):
+    """Nothing is written where standard output is closed; a sentence says so."""
+    ran = Ran(program, ["play", "--in", "examples/get.hex"], preexec_fn=lambda: os.close(1))
+    status, said = ran.ended()
+    yield status, 3
+    yield said.startswith("standard output: "), True
+
+
+def a_reader_that_leaves_is_status_3(program):
+    """Its reader has closed the pipe before anything is written."""
+    reader, writer = os.pipe()
+    os.close(reader)
+    ran = Ran(program, ["play", "--in", "examples/get.hex"], stdout=writer)
+    os.close(writer)
+    yield ran.ended(), (3, "standard output: its reader has left; the output is not whole.\n")
+
+
+def a_slow_reader_loses_nothing(program):
+    """Standard output is a non-blocking pipe, which is full before its reader begins."""
+    octets = hex_of_many(program)
+    reader, writer = os.pipe()
+    without_waiting(writer)
+    ran = Ran(program, ["dis"], stdin=subprocess.PIPE, stdout=writer)
+    os.close(writer)
+    ran.process.stdin.write(octets)
+    ran.process.stdin.close()
+    time.sleep(0.5)
+    with open(reader, "rb") as end:
+        yield end.read() == MANY, True
+    yield ran.ended(), (0, "")
+
+
+def a_slow_writer_loses_nothing(program):
+    """Standard input is a non-blocking pipe in which nothing is at first."""
+    octets = hex_of_many(program)
+    reader, writer = os.pipe()
+    without_waiting(reader)
+    ran = Ran(program, ["dis"], stdin=reader, stdout=subprocess.PIPE)
+    os.close(reader)
+
+    def write():
+        time.sleep(0.5)
+        with open(writer, "wb") as end:
+            end.write(octets)
+
+    threading.Thread(target=write).start()
+    yield ran.process.stdout.read() == MANY, True
+    yield ran.ended(), (0, "")
+
+
+def installed(program, folder):
+    """The launcher and the program as tools/install.sh lays them out."""
+    os.makedirs(f"{folder}/bin")
+    os.makedirs(f"{folder}/libexec/h2_bench")
+    shutil.copy(f"{TOP}/h2_bench", f"{folder}/bin/h2_bench")
+    shutil.copy(program, f"{folder}/libexec/h2_bench/h2_bench")
+    return f"{folder}/bin/h2_bench"
+
+
+def a_limit_on_files_is_status_3(program):
+    """A file that would grow above the limit is a failed write and no signal, as the launcher runs the program."""
+    with tempfile.TemporaryDirectory() as folder, open(f"{folder}/out", "wb") as sink:
+        launcher = installed(program, folder)
+
+        def limit():
+            signal.signal(signal.SIGXFSZ, signal.SIG_DFL)
+            resource.setrlimit(resource.RLIMIT_FSIZE, (4096, 4096))
+
+        ran = Ran(launcher, ["dis"], stdin=subprocess.PIPE, stdout=sink, preexec_fn=limit)
+        ran.process.stdin.write(hex_of_many(program))
+        ran.process.stdin.close()
+        yield ran.ended(), (3, "standard output: the file would be larger than is allowed; the output is not whole.\n")
+
+
+def on_terminal(launcher, words, typed, **environment):
+    """What a terminal shows of a run on it, with these words and what is typed."""
+    child, terminal = pty.fork()
+    if child == 0:
+        os.environ.pop("NO_COLOR", None)
+        os.environ.update(environment)
+        os.chdir(TOP)
+        os.execv(launcher, ["h2_bench", *words])
+    os.write(terminal, typed)
+    shown = b""
+    while True:
+        try:
+            part = os.read(terminal, 4096)
+        except OSError:
+            break
+        if not part:
+            break
+        shown += part
+    os.close(terminal)
+    return os.waitstatus_to_exitcode(os.waitpid(child, 0)[1]), shown
+
+
+def terminals_have_colours_but_dumb_ones(program):
+    """`explain` on a terminal is coloured, unless TERM is dumb or NO_COLOR is set."""
+    with tempfile.TemporaryDirectory() as folder:
+        launcher = installed(program, folder)
+        words = ["explain", "examples/get.hex"]
+        yield b"\x1b[" in on_terminal(launcher, words, b"", TERM="xterm")[1], True
+        yield b"\x1b[" in on_terminal(launcher, words, b"", TERM="dumb")[1], False
+        yield b"\x1b[" in on_terminal(launcher, words, b"", TERM="xterm", NO_COLOR="1")[1], False
+
+
+def terminals_have_a_prompt(program):
+    """`debug` on a terminal has a prompt, and takes `quit`."""
+    with tempfile.TemporaryDirectory() as folder:
+        status, shown = on_terminal(installed(program, folder), ["debug", "--in", "examples/get.hex"], b"step 1\nquit\n")
+        yield status, 0
+        yield b"0> " in shown and b"at 1" in shown and b"1> " in shown, True
+
+
+TESTS = [
+    a_closed_output_is_status_3,
+    a_reader_that_leaves_is_status_3,
+    a_slow_reader_loses_nothing,
+    a_slow_writer_loses_nothing,
+    a_limit_on_files_is_status_3,
+    terminals_have_colours_but_dumb_ones,
+    terminals_have_a_prompt,
+]
+
+
+def main():
+    if len(sys.argv) != 2:
+        sys.exit(__doc__)
+    failed = 0
+    for test in TESTS:
+        wrong = [pair for pair in test(os.path.abspath(sys.argv[1])) if pair[0] != pair[1]]
+        if wrong:
+            failed += 1
+            print(f"FAILED {test.__name__}: {test.__doc__}")
+            for found, wanted in wrong:
+                print(f"  wanted {wanted!r}", f"  found  {found!r}", sep="\n")
+    print(f"{len(TESTS) - failed} passed, {failed} failed")
+    sys.exit(1 if failed else 0)
+
+
+main()
