@@ -113,6 +113,8 @@ fn explained(rt: &HostRuntime, debug: &Debug<'_>, text: &[u8]) -> io::Result<Vec
         config: debug.config,
         json: false,
         color: false,
+        strict: false,
+        full: false,
         file: "",
         book: BookWords {
             file: debug.book.file,
