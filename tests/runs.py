@@ -17,6 +17,7 @@ and lines that begin with a mark and a blank:
     ! LINE               a line of standard error that is wanted; a last line that ends in ` ..` is compared up to there. Without such lines it is empty, but for
                          a sentence where a line of the output is `fault N`, or the output was not written (of that only that it can be read and ends in a full
                          stop; with --quiet it is empty), and for what is said of an empty input
+                         and of a window below the credit
     = STATUS             the exit status that is wanted; 0 without this line
     NAME| LINE           a line of the file NAME in the folder of the run. A run without files is run at the top of the repository
 
@@ -50,6 +51,8 @@ SECONDS = 300
 MOST_UNPROVED = 100_000
 FILE_LINE = re.compile(r"([^\s|]+)\| ?(.*)", re.DOTALL)
 SENTENCES = re.compile(rb"([ -~]+\.\n)+")
+# What is said where a window is below the credit, beside all else.
+ADVICE = re.compile(rb"--window \d+ is below --credit \d+: [ -~]+\.\n")
 RANGE = re.compile(r"\{(\d+)\.\.(\d+)\}")
 
 
@@ -327,10 +330,12 @@ def difference(what, wanted, printed):
 
 
 def has_fault(output):
-    return re.search(rb"^fault \d", output, re.MULTILINE) is not None
+    return re.search(rb'^(fault \d|\{"fault":)', output, re.MULTILINE) is not None
 
 
 def errors_agree(wanted, printed, is_fault):
+    if not wanted:
+        printed = ADVICE.sub(b"", printed)
     if not wanted and printed == b"standard input: no octets.\n":
         return True
     if is_fault and not wanted:
