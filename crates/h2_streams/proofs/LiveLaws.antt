@@ -183,14 +183,14 @@ entered-put : (left : ℕ → Bool) (last : ℕ) (rs : List Stream) (st old : St
     → entries_of (is_entered (left_after left st.id (is_entered left old))) (put st rs) ≡ entries_of (is_entered left) rs
 entered-put left last rs st old h f can same =
     entries-put (is_entered left) (is_entered (left_after left st.id (is_entered left old))) 0 last rs st old h f here (λ x e. ap (λ b. is_live x.kind || b) (rw e refl)) where
-  stays : (a t l : Bool) → (t ≡ true → a ≡ true) → (a || l) ≡ (t || (a || l))
-  stays a true l g = rw (g refl) refl
-  stays a false l g = refl
+      stays : (a t l : Bool) → (t ≡ true → a ≡ true) → (a || l) ≡ (t || (a || l))
+      stays a true l g = rw (g refl) refl
+      stays a false l g = refl
 
-  here : is_entered left old ≡ is_entered (left_after left st.id (is_entered left old)) st
-  here =
-      let own : eqb st.id st.id ≡ true = Rattle.h2_streams.proofs.IdsLaws.eqb-refl st.id st.id refl in
-      rw own (stays (is_live old.kind) (is_live st.kind) (left old.id) (was-live (is_live old.kind) (is_closed old.kind) (is_live st.kind) can))
+      here : is_entered left old ≡ is_entered (left_after left st.id (is_entered left old)) st
+      here =
+          let own : eqb st.id st.id ≡ true = Rattle.h2_streams.proofs.IdsLaws.eqb-refl st.id st.id refl in
+          rw own (stays (is_live old.kind) (is_live st.kind) (left old.id) (was-live (is_live old.kind) (is_closed old.kind) (is_live st.kind) can))
 
 -- what is below all identifiers in the map is not found in it
 absent-over : (id : ℕ) (es : List (ℕ × ℕ)) → AllByRecursion (λ (k : ℕ). k < id) (keys_of es) → lookup (nat_eq id) es ≡ None
@@ -399,16 +399,16 @@ module _ (rs : List Stream) (es : List (ℕ × ℕ)) (ended : ℕ) (ready : List
       let n = kept.counted in
       let small = count-small (is_live st.kind) in
       omega (arith, count, one, n, live-there rs old found was) where
-    live-there : (xs : List Stream) (x : Stream) → record_of xs st.id ≡ Some x → is_live x.kind ≡ true → 1 ≤ live_count xs
-    live-there [] x f w = cc
-    live-there (y ∷ ys) x f w = at (eqb y.id st.id) refl f (live-there ys x) where
-      at : (b : Bool) → eqb y.id st.id ≡ b → cond b (Some y) (record_of ys st.id) ≡ Some x → (record_of ys st.id ≡ Some x → is_live x.kind ≡ true → 1 ≤ live_count ys) → 1 ≤ live_count (y ∷ ys)
-      at true e g rest =
-          let same : y ≡ x = cc in
-          let here : as_count (is_live y.kind) ≡ 1 = ap (λ (z : Stream). as_count (is_live z.kind)) same ∙ rw w refl in
-          let count = count-cons y ys in
-          omega (arith, here, count)
-      at false e g rest = let tail = rest g w in let count = count-cons y ys in omega (arith, tail, count)
+        live-there : (xs : List Stream) (x : Stream) → record_of xs st.id ≡ Some x → is_live x.kind ≡ true → 1 ≤ live_count xs
+        live-there [] x f w = cc
+        live-there (y ∷ ys) x f w = at (eqb y.id st.id) refl f (live-there ys x) where
+          at : (b : Bool) → eqb y.id st.id ≡ b → cond b (Some y) (record_of ys st.id) ≡ Some x → (record_of ys st.id ≡ Some x → is_live x.kind ≡ true → 1 ≤ live_count ys) → 1 ≤ live_count (y ∷ ys)
+          at true e g rest =
+              let same : y ≡ x = cc in
+              let here : as_count (is_live y.kind) ≡ 1 = ap (λ (z : Stream). as_count (is_live z.kind)) same ∙ rw w refl in
+              let count = count-cons y ys in
+              omega (arith, here, count)
+          at false e g rest = let tail = rest g w in let count = count-cons y ys in omega (arith, tail, count)
 
   -- it was live and is not
   pub kept-ends : is_live old.kind ≡ true → is_live st.kind ≡ false → IsKept (put st rs) (entries_left (ended + 1) (put st rs) es) (ended_left (ended + 1) es) (listed (is_ready st) st.id ready) last
