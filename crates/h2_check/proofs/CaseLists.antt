@@ -1,8 +1,9 @@
 -- The cases of a file, one after another.
-use Rattle.std.proofs.Common.{◌≡◌, ◌∙◌, ◌+◌, ◌<◌, ◌≤◌, ℕ, Bool, true, false, not, cond, Bor, List, [], ◌∷◌, length, map, take, drop, refl, sym, ap, ap₂, arith, length-drop}
+use Rattle.std.proofs.Common.{◌≡◌, ◌∙◌, ◌+◌, ◌<◌, ◌≤◌, ◌&&◌, ℕ, Bool, true, false, not, cond, ltb, is_some, Bor, List, [], ◌∷◌, length, map, take, drop, refl, sym, ap, ap₂, arith, length-drop}
 use Rattle.std.proofs.lemmas.List.{drop-drop, drop-map, drop_all, length-map, take-map}
-use Rattle.std.specs.List.{position_or_len, prefix_len}
-use Rattle.h2_check.specs.Files.{case_length, cases_from, in_front}
+use Rattle.std.proofs.lemmas.Bool.{le-ltb, lt-ltb}
+use Rattle.std.specs.List.{list_all, position_or_len, prefix_len}
+use Rattle.h2_check.specs.Files.{case_length, cases_from, in_front, is_silent_line, preamble_length, title_in}
 use Rattle.h2_check.specs.Lines.{begins, line_said}
 
 -- whether a line begins a case
@@ -53,3 +54,43 @@ pub none-left : (lines : List (Bor (List ℕ))) (first : ℕ) → length lines �
 none-left lines first h =
     let now : Bor (List ℕ) → List ℕ = λ l. l.now in
     ap cases_from (drop_all first (map now lines) (omega (arith, length-map lines now, h))) ∙ cases-none
+
+-- ---- lines in front of the first case
+
+abbrev front : List (Bor (List ℕ)) → List (List ℕ)
+front lines = map (λ l. l.now) lines
+
+pub no_front-alone : (lines : List (Bor (List ℕ))) (n : ℕ) → n ≡ case_length (front lines) → n ≡ length lines → 0 ≡ preamble_length (front lines)
+no_front-alone lines n is all = at (front lines) n is (omega (arith, all, length-map lines (λ l. l.now)))
+  where
+    at : (m : List (List ℕ)) (n : ℕ) → n ≡ case_length m → length m ≤ n → 0 ≡ preamble_length m
+    at m n is h = rw (← is, le-ltb n (length m) h) refl
+
+pub no_front-titled : (lines : List (Bor (List ℕ))) → is_some (title_in (front lines)) ≡ true → 0 ≡ preamble_length (front lines)
+no_front-titled lines titled = at (front lines) titled
+  where
+    by : (b s : Bool) (n : ℕ) → 0 ≡ cond (b && (not true && s)) n 0
+    by true s n = refl
+    by false s n = refl
+    at : (m : List (List ℕ)) → is_some (title_in m) ≡ true → 0 ≡ preamble_length m
+    at m t = rw t (by (ltb (case_length m) (length m)) (list_all is_silent_line (take (case_length m) m)) (case_length m))
+
+silent_lent : (lines : List (Bor (List ℕ))) (n : ℕ) → list_all is_silent_line (take n (front lines)) ≡ list_all is_silent_line (map (λ l. l.now) (take n lines))
+silent_lent lines n = ap (list_all is_silent_line) (take-map (λ l. l.now) n lines)
+
+pub no_front-loud : (lines : List (Bor (List ℕ))) (n : ℕ) → n ≡ case_length (front lines) → list_all is_silent_line (map (λ l. l.now) (take n lines)) ≡ false → 0 ≡ preamble_length (front lines)
+no_front-loud lines n is loud = at (front lines) n is (silent_lent lines n ∙ loud)
+  where
+    by : (b t : Bool) (n : ℕ) → 0 ≡ cond (b && (t && false)) n 0
+    by true true n = refl
+    by true false n = refl
+    by false t n = refl
+    at : (m : List (List ℕ)) (n : ℕ) → n ≡ case_length m → list_all is_silent_line (take n m) ≡ false → 0 ≡ preamble_length m
+    at m n is s = rw (← is, s) (by (ltb n (length m)) (not (is_some (title_in m))) n)
+
+pub front-is : (lines : List (Bor (List ℕ))) (n : ℕ) → n ≡ case_length (front lines) → n < length lines → is_some (title_in (front lines)) ≡ false
+    → list_all is_silent_line (map (λ l. l.now) (take n lines)) ≡ true → n ≡ preamble_length (front lines)
+front-is lines n is h titled silent = at (front lines) n is (omega (arith, h, length-map lines (λ l. l.now))) titled (silent_lent lines n ∙ silent)
+  where
+    at : (m : List (List ℕ)) (n : ℕ) → n ≡ case_length m → n < length m → is_some (title_in m) ≡ false → list_all is_silent_line (take n m) ≡ true → n ≡ preamble_length m
+    at m n is h t s = rw (← is, lt-ltb n (length m) h, t, s) refl
