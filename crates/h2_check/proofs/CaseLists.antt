@@ -1,5 +1,5 @@
 -- The cases of a file, one after another.
-use Rattle.std.proofs.Common.{◌≡◌, ◌∙◌, ◌+◌, ◌<◌, ◌≤◌, ◌&&◌, ℕ, Bool, true, false, not, cond, ltb, is_some, Bor, List, [], ◌∷◌, length, map, take, drop, refl, sym, ap, ap₂, arith, length-drop}
+use Rattle.std.proofs.Common.{◌≡◌, ◌∙◌, ◌+◌, ◌<◌, ◌≤◌, ◌&&◌, ℕ, suc, Bool, true, false, not, cond, ltb, is_some, Bor, List, [], ◌∷◌, length, map, take, drop, refl, sym, ap, ap₂, arith, length-drop}
 use Rattle.std.proofs.lemmas.List.{drop-drop, drop-map, drop_all, length-map, take-map}
 use Rattle.std.proofs.lemmas.Bool.{le-ltb, lt-ltb}
 use Rattle.std.specs.List.{list_all, position_or_len, prefix_len}
@@ -17,22 +17,34 @@ in_front-true l m ms cases e = rw e refl
 in_front-false : (l m : List ℕ) (ms : List (List ℕ)) (cases : List (List (List ℕ))) → starts m ≡ false → in_front l ((m ∷ ms) ∷ cases) ≡ (l ∷ m ∷ ms) ∷ cases
 in_front-false l m ms cases e = rw e refl
 
+pos-here : (m : List ℕ) (ms : List (List ℕ)) → starts m ≡ true → position_or_len starts (m ∷ ms) ≡ 0
+pos-here m ms e = rw e refl
+
+pos-skip : (m : List ℕ) (ms : List (List ℕ)) → starts m ≡ false → position_or_len starts (m ∷ ms) ≡ suc (position_or_len starts ms)
+pos-skip m ms e = rw e (omega arith)
+
 -- the first of the cases, and those behind it
 split : (l : List ℕ) (ls : List (List ℕ)) → cases_from (l ∷ ls) ≡ (l ∷ take (position_or_len starts ls) ls) ∷ cases_from (drop (position_or_len starts ls) ls)
 unfolding cases_from
 split l [] = refl
-split l (m ∷ ms) = at (starts m) refl
+split l (m ∷ ms) = at (split m ms) (starts m) refl
   where
-    at : (b : Bool) → starts m ≡ b → cases_from (l ∷ m ∷ ms) ≡ (l ∷ take (position_or_len starts (m ∷ ms)) (m ∷ ms)) ∷ cases_from (drop (position_or_len starts (m ∷ ms)) (m ∷ ms))
-    at true e =
-        ap (in_front l) (split m ms) ∙ in_front-true l m _ _ e
-        ∙ rw e (ap (λ (cs : List (List (List ℕ))). (l ∷ []) ∷ cs) (sym (split m ms)))
-    at false e =
-        ap (in_front l) (split m ms) ∙ in_front-false l m _ _ e ∙ rw e refl
+    at : cases_from (m ∷ ms) ≡ (m ∷ take (position_or_len starts ms) ms) ∷ cases_from (drop (position_or_len starts ms) ms) → (b : Bool) → starts m ≡ b
+        → cases_from (l ∷ m ∷ ms) ≡ (l ∷ take (position_or_len starts (m ∷ ms)) (m ∷ ms)) ∷ cases_from (drop (position_or_len starts (m ∷ ms)) (m ∷ ms))
+    at behind true e =
+        ap (in_front l) behind ∙ in_front-true l m _ _ e
+        ∙ ap (λ (cs : List (List (List ℕ))). (l ∷ []) ∷ cs) (sym behind)
+        ∙ ap (λ (k : ℕ). (l ∷ take k (m ∷ ms)) ∷ cases_from (drop k (m ∷ ms))) (sym (pos-here m ms e))
+    at behind false e =
+        ap (in_front l) behind ∙ in_front-false l m _ _ e
+        ∙ ap (λ (k : ℕ). (l ∷ take k (m ∷ ms)) ∷ cases_from (drop k (m ∷ ms))) (sym (pos-skip m ms e))
+
+length-is : (l : List ℕ) (ls : List (List ℕ)) → suc (position_or_len starts ls) ≡ case_length (l ∷ ls)
+length-is l ls = omega arith
 
 cases-first : (xs : List (List ℕ)) → 0 < length xs → cases_from xs ≡ take (case_length xs) xs ∷ cases_from (drop (case_length xs) xs)
 cases-first [] h = absurd (omega arith)
-cases-first (l ∷ ls) h = split l ls
+cases-first (l ∷ ls) h = split l ls ∙ ap (λ (k : ℕ). take k (l ∷ ls) ∷ cases_from (drop k (l ∷ ls))) (length-is l ls)
 
 cases-none : cases_from [] ≡ []
 unfolding cases_from

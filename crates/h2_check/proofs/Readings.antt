@@ -24,8 +24,8 @@ pub word_added : (words : List (List ℕ)) (word text : List ℕ) (after : List 
 word_added words word text after same well e = rw (is_utf8-from_IsUtf8 word well, e, same) refl
 
 pub word_refused : (words : List (List ℕ)) (word : List ℕ) → (IsUtf8 word → ⊥) → with_word words word ≡ None
-word_refused words word no = rw (at (is_utf8 word) refl) refl
+word_refused words word isnt = rw (at (is_utf8 word) refl) refl
   where
     at : (b : Bool) → is_utf8 word ≡ b → is_utf8 word ≡ false
-    at true e = absurd (no (IsUtf8-from_is_utf8 word e))
+    at true e = absurd (isnt (IsUtf8-from_is_utf8 word e))
     at false e = e
