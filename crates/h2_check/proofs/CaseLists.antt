@@ -84,6 +84,7 @@ no_front-titled lines titled = at (front lines) titled
     by : (b s : Bool) (n : ℕ) → 0 ≡ cond (b && (not true && s)) n 0
     by true s n = refl
     by false s n = refl
+
     at : (m : List (List ℕ)) → is_some (title_in m) ≡ true → 0 ≡ preamble_length m
     at m t = rw t (by (ltb (case_length m) (length m)) (list_all is_silent_line (take (case_length m) m)) (case_length m))
 
@@ -97,6 +98,7 @@ no_front-loud lines n is loud = at (front lines) n is (silent_lent lines n ∙ l
     by true true n = refl
     by true false n = refl
     by false t n = refl
+
     at : (m : List (List ℕ)) (n : ℕ) → n ≡ case_length m → list_all is_silent_line (take n m) ≡ false → 0 ≡ preamble_length m
     at m n is s = rw (← is, s) (by (ltb n (length m)) (not (is_some (title_in m))) n)
 

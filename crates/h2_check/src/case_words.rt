@@ -66,11 +66,7 @@ fn add_line_words(alloc: Global, line: &[u8], words: &mut Words) -> Result<(), S
 /// # Errors
 ///
 /// `Open` where a line's words are refused (`add_words`); `NoMemory` may come before. Some words may have been added.
-pub fn add_case_words(
-    alloc: Global,
-    lines: &[&[u8]],
-    words: &mut Words,
-) -> Result<(), ShellFault>
+pub fn add_case_words(alloc: Global, lines: &[&[u8]], words: &mut Words) -> Result<(), ShellFault>
     ensures ok { OnOk result (with_case_words words.old (map (λ l. l.now) lines.now) ≡ Some words.new) }
     ensures err { IfErr result (λ fault. (fault ≡ NoMemory)
         ⊎ (with_case_words words.old (map (λ l. l.now) lines.now) ≡ None)) }

@@ -318,7 +318,14 @@ fn print_verdicts<F: Files, O: Output>(
         count: 0,
         all_hold: true,
     };
-    let ended = check_files(alloc, common, plan.files.as_slice(), files, &mut tally, output);
+    let ended = check_files(
+        alloc,
+        common,
+        plan.files.as_slice(),
+        files,
+        &mut tally,
+        output,
+    );
     print_checked(output, ended, tally)
 }
 

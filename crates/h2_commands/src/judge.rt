@@ -244,10 +244,8 @@ fn judge_words<F: Files>(
 {
     match parse(alloc, words) {
         Ok(Plan::Debug(plan)) => judge_plan(alloc, files, case, plan),
-        Ok(Plan::Batch(_))
-        | Ok(Plan::Serve(_))
-        | Ok(Plan::Explain(_))
-        | Ok(Plan::Check(_)) => judge_refused(alloc, case, "other words"),
+        Ok(Plan::Batch(_)) | Ok(Plan::Serve(_)) | Ok(Plan::Explain(_)) | Ok(Plan::Check(_)) =>
+            judge_refused(alloc, case, "other words"),
         Err(Refusal::Words(text)) => judge_refused(alloc, case, first_line(text.as_str())),
         Err(Refusal::NoMemory) => Err(AllocError),
     }
