@@ -5,6 +5,7 @@ mod HexPairs
 mod HexTable
 pub mod HexTexts
 pub mod Inputs
+pub mod Judging
 pub mod Places
 pub mod Played
 pub mod RefusedWords

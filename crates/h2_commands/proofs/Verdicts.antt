@@ -216,10 +216,10 @@ pub text-cases : (file octets : List ℕ) → length octets ≤ most → is_utf8
 text-cases file octets h e = rw (e, le-ltb most (length octets) h) refl
 
 pub not-utf8 : (octets : List ℕ) → (IsUtf8 octets → ⊥) → is_utf8 octets ≡ false
-not-utf8 octets no = at (is_utf8 octets) refl
+not-utf8 octets isnt = at (is_utf8 octets) refl
   where
     at : (b : Bool) → is_utf8 octets ≡ b → b ≡ false
-    at true e = absurd (no (IsUtf8-from_is_utf8 octets e))
+    at true e = absurd (isnt (IsUtf8-from_is_utf8 octets e))
     at false e = refl
 
 pub long-file : (file : List ℕ) (octets : Option (List ℕ)) → IsSomeAnd octets (λ o. most < length o) → subjects_read file octets ≡ NoCases file ∷ []
