@@ -1,7 +1,7 @@
 //! JSON that is put together member by member.
 //! Rests on h2_describe's `say`; what it writes is tested, no definition speaks of it.
 
-use h2_describe::say::{Hex, Say, Words};
+use h2_describe::say::{Say, Words};
 use h2_describe::say_all;
 use std::alloc::{AllocError, Global};
 
@@ -24,27 +24,23 @@ fn is_all_plain(text: &str) -> bool {
     text.as_bytes().iter().all(|octet| *octet >= b' ' && *octet != b'"' && *octet != b'\\')
 }
 
-/// The short escape of a character, empty where it has none.
-fn short_escape(character: char) -> &'static str {
+/// The escapes of the first 32 characters, in their order (RFC 8259, 7).
+static ESCAPES: [&str; 32] = [
+    "\\u0000", "\\u0001", "\\u0002", "\\u0003", "\\u0004", "\\u0005", "\\u0006", "\\u0007", "\\b",
+    "\\t", "\\n", "\\u000b", "\\f", "\\r", "\\u000e", "\\u000f", "\\u0010", "\\u0011", "\\u0012",
+    "\\u0013", "\\u0014", "\\u0015", "\\u0016", "\\u0017", "\\u0018", "\\u0019", "\\u001a",
+    "\\u001b", "\\u001c", "\\u001d", "\\u001e", "\\u001f",
+];
+
+/// The escape of a character that does not stand for itself.
+fn escape_of(character: char) -> &'static str {
     match character {
         '"' => "\\\"",
         '\\' => "\\\\",
-        '\n' => "\\n",
-        '\r' => "\\r",
-        '\t' => "\\t",
-        '\u{8}' => "\\b",
-        '\u{c}' => "\\f",
-        _ => "",
-    }
-}
-
-/// Puts a character last that does not stand for itself.
-fn say_escape(character: char, out: &mut Words) {
-    let short = short_escape(character);
-    if short.is_empty() {
-        say_all!(out; "\\u00", Hex(&[(u32::from(character) % 256) as u8]));
-    } else {
-        say_all!(out; short);
+        _ => ESCAPES
+            .get(u32::from(character) as usize)
+            .copied()
+            .unwrap_or(""),
     }
 }
 
@@ -53,7 +49,7 @@ fn say_character(character: char, out: &mut Words) {
     if is_plain(character) {
         say_all!(out; character);
     } else {
-        say_escape(character, out);
+        say_all!(out; escape_of(character));
     }
 }
 

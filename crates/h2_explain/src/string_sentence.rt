@@ -1,6 +1,8 @@
 //! The sentences of Huffman strings that are refused: which string, and what is wrong with it (RFC 7541, 5.2).
 //! Rests on the strings and integers of h2_prim: the refused literal is what the second decoder has left.
 
+ghost use Rattle.std.specs.Prelude.{◌≤◌};
+
 use crate::error_context::ErrorContext;
 use h2_describe::say::{Cut, HexOctet, Octets, Ordinal, Words};
 use h2_describe::say_all;
@@ -90,6 +92,13 @@ fn flaw_of(alloc: Global, huffman: bool, octets: &[u8]) -> Result<Option<Flaw>, 
         }
         _ => Ok(None),
     }
+}
+
+/// How many bits of its first octet are of a literal's index (RFC 7541, 6.2).
+fn prefix_of(first: u8) -> u8
+    ensures { (1 ≤ result) × (result ≤ 8) }
+{
+    if first >= 64 { 6 } else { 4 }
 }
 
 /// Puts last what is wrong with a string.
@@ -185,8 +194,7 @@ pub(crate) fn say_huffman(
     let Some(first) = octets.first() else {
         return false;
     };
-    let prefix = if *first >= 64 { 6 } else { 4 };
-    match read_int(prefix, octets) {
+    match read_int(prefix_of(*first), octets) {
         IntRead::Whole(0, used) => say_named(alloc, behind(octets, used), context, out),
         IntRead::Whole(index, used) => say_value(
             alloc,
