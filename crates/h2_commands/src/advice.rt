@@ -13,7 +13,9 @@ use std::alloc::{AllocError, Global};
 /// What there is to say of a window that is below the credit, as a sentence on its own line.
 fn window_sentence(alloc: Global, config: Config) -> Result<String, AllocError> {
     let (window, credit) = (config.window, config.credit);
-    format!(in alloc; "--window {window} is below --credit {credit}: a longer upload stops, since octets are returned only once {credit} of them are owed.\n")
+    format!(in alloc;
+        "--window {window} is below --credit {credit}: a longer upload stops, since octets are returned only once {credit} of them are owed.\n"
+    )
 }
 
 /// Writes a sentence where the server's SETTINGS_INITIAL_WINDOW_SIZE is below the credit: then a stream's window can be

@@ -137,7 +137,9 @@ fn do_hosts_differ(fields: &[SpelledField]) -> bool {
         return false;
     };
     for field in fields {
-        if field.name.as_slice() == "host".as_bytes() && !field.value.eq_ignore_ascii_case(authority) {
+        if field.name.as_slice() == "host".as_bytes()
+            && !field.value.eq_ignore_ascii_case(authority)
+        {
             return true;
         }
     }

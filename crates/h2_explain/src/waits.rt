@@ -155,7 +155,11 @@ fn say_awaited(stream: u32, answer: &AnswerWait, out: &mut Words) {
 
 /// Puts last what the server has still to send.
 fn say_answer(stream: u32, answer: &AnswerWait, out: &mut Words) {
-    let verb = if answer.remaining == 1 { " waits" } else { " wait" };
+    let verb = if answer.remaining == 1 {
+        " waits"
+    } else {
+        " wait"
+    };
     say_all!(out; Octets(answer.remaining), " of the answer", verb, ": ");
     say_awaited(stream, answer, out);
 }

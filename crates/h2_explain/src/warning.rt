@@ -308,11 +308,7 @@ pub(crate) fn warnings_of(item: &Explained<'_>, facts: CaseFacts, request: Reque
     let ignored = item.taken.ignored;
     let zero_increment = is_zero_increment(ignored);
     Warnings {
-        request: if opens {
-            request
-        } else {
-            RequestFacts::none()
-        },
+        request: if opens { request } else { RequestFacts::none() },
         after_goaway: opens && item.before.counts.goaway.is_some(),
         on_closed: is_breach(duty_of_reason(item, facts)) && !zero_increment,
         zero_increment,

@@ -230,7 +230,9 @@ fn strict_option<'a>(alloc: Global) -> Arg<'a>
     ensures { IsArg strict_rule result }
 {
     Arg::new(alloc, "strict")
-        .help("Ends with status 5 where the client broke a rule, 6 above a limit, 7 within a frame, and says how many errors and warnings there were")
+        .help(
+            "Ends with status 5 where the client broke a rule, 6 above a limit, 7 within a frame, and says how many errors and warnings there were",
+        )
         .long("strict")
         .action(ArgAction::SetTrue)
 }
