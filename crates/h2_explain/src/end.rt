@@ -48,7 +48,8 @@ impl End<'_, '_> {
 
     /// How many warnings there were in all.
     fn warning_count(&self) -> u64 {
-        self.tally.warnings.saturating_add(self.warnings().count())
+        let tally = self.tally;
+        tally.warnings.saturating_add(self.warnings().count())
     }
 
     /// Begins a line, behind the one before.

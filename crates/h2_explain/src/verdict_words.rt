@@ -8,12 +8,12 @@ use h2_describe::say::Words;
 use h2_describe::say_all;
 use h2_spec::causes::Cause;
 
-/// How many causes there are.
-const CAUSES: usize = 76;
+/// How many places there are for counts; there are fewer causes.
+const PLACES: usize = 256;
 
 /// How many errors each cause has.
-fn counts_of(errors: &[Cause]) -> [u64; CAUSES] {
-    let mut counts = [0u64; CAUSES];
+fn counts_of(errors: &[Cause]) -> [u64; PLACES] {
+    let mut counts = [0u64; PLACES];
     for cause in errors {
         if let Some(count) = counts.get_mut(*cause as usize) {
             *count = count.saturating_add(1);
