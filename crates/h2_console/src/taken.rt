@@ -14,7 +14,7 @@ pub struct TakenInput<R> {
     /// What is given first.
     front: Vec<u8>,
     given: usize,
-    /// What is read behind it; nothing where a file is all.
+    /// What is read after it; nothing where a file is all.
     behind: Option<R>,
     /// What was refused is looked for in this text.
     seen: Vec<u8>,
@@ -25,7 +25,7 @@ pub struct TakenInput<R> {
     failed: bool,
 }
 
-/// The text of a file as the first line of a session: without its line feeds, and one behind it.
+/// The text of a file as the first line of a session: without its line feeds, and one after it.
 pub fn one_line(alloc: Global, text: &[u8]) -> Result<Vec<u8>, AllocError> {
     let mut line = Vec::new(alloc);
     for octet in text {
@@ -51,7 +51,7 @@ impl<R: Read> TakenInput<R> {
         }
     }
 
-    /// A text, which was read of a file as `seen`, and what a reader gives behind it.
+    /// A text, which was read of a file as `seen`, and what a reader gives after it.
     pub fn of_text(front: Vec<u8>, seen: Vec<u8>, behind: Option<R>) -> TakenInput<R> {
         TakenInput {
             front,
@@ -106,7 +106,7 @@ impl<R: Read> TakenInput<R> {
         count
     }
 
-    /// Reads behind what is given first.
+    /// Reads after what is given first.
     fn read_behind(&mut self, buffer: &mut [u8]) -> io::Result<usize>
         ensures { IfOk result (λ count. count ≤ length buffer.new) }
     {

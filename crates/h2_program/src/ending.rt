@@ -46,7 +46,7 @@ fn outcome_of<'o>(given: &'o Given<'_, '_>, ending: Ending) -> Outcome<'o> {
     }
 }
 
-/// Says what is to be said of the octets of a file that a command read itself.
+/// Says what is to be said about the octets of a file that a command read itself.
 fn say_of_file(
     rt: &HostRuntime,
     plan: &Plan<'_>,
@@ -122,7 +122,7 @@ fn say_of_plan(
     }
 }
 
-/// Says on standard error what is to be said of a command that ended.
+/// Says on standard error what is to be said about a command that ended.
 pub fn end(
     rt: &HostRuntime,
     words: &Words,

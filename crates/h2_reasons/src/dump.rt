@@ -13,7 +13,7 @@ pub(crate) enum Look {
     Octets,
     /// A dump whose lines begin with offsets.
     Offsets,
-    /// Hex digits behind `0x`.
+    /// Hex digits after `0x`.
     Prefix,
     /// Hex digits with something between them.
     Separator,
@@ -149,7 +149,7 @@ fn grows(text: &[u8], base: u32) -> bool {
     lines >= 2
 }
 
-/// The number that five digits or more of this base spell, with `:` behind them or not.
+/// The number that five digits or more of this base spell, with `:` after them or not.
 fn offset_in(word: &[u8], base: u32) -> Option<u64> {
     let word = match word.strip_suffix(b":".as_slice()) {
         Some(digits) => digits,
