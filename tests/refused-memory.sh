@@ -1,10 +1,13 @@
 #!/usr/bin/env bash
 # Runs the program with its first allocation refused, then with its second, and so on until a run asks for no more.
 #
-#   tests/refused-memory.sh [PROGRAM]     PROGRAM is the proved one of this repository unless it is named
+#   tests/refused-memory.sh [--stored] [PROGRAM]     PROGRAM is the proved one of this repository unless it is named
 #
-# A malloc of some 25 lines is compiled with cc and loaded before the C library's; it refuses the N-th call of malloc, calloc, realloc and posix_memalign
-# that the process makes once it has started. Each run must end in one of these ways:
+# --stored: only the run that crates/h2_program has, which takes a second and is part of the gate. All runs take about a minute, and are not.
+#
+# A malloc of some 25 lines is compiled with the kit's clang and loaded before the C library's; it refuses the N-th call of malloc, calloc, realloc and
+# posix_memalign that the process makes once it has started. A program that is built without proof has a malloc of its own, and can't be tried. Each run must end in
+# one of these ways:
 #   - as with ample memory, the same output and status: the allocation was one that the run can do without;
 #   - with status 1 and the one line `fault 0`;
 #   - `play --each`: with status 1 and `fault 0` behind the first places, each of them whole;
@@ -13,9 +16,14 @@
 #     there;
 #   - `serve`: with `fault 0` behind `listening PORT`, or with `connection 1 fault 0`; the client has received the first octets of what it
 #     receives with ample memory.
-# Nothing may be written to standard error. It is no part of the gate, and takes about a minute.
+# Nothing may be written to standard error. The last line is `N passed, M failed`, a run each.
 set -eu
 top=$(cd "$(dirname "$0")/.." && pwd)
+stored=
+if [ "${1-}" = --stored ]; then
+    stored=1
+    shift
+fi
 program=${1-}
 if [ -z "$program" ]; then
     program=$(python3 -B "$top/tools/program.py" proved)
@@ -24,13 +32,15 @@ made=$(mktemp -d)
 trap 'rm -rf "$made"' EXIT
 
 cat > "$made/refuse.c" <<'C'
-#include <errno.h>
-#include <stdlib.h>
-#include <unistd.h>
-void *__libc_malloc(size_t size);
-void *__libc_calloc(size_t count, size_t size);
-void *__libc_realloc(void *old, size_t size);
-void *__libc_memalign(size_t align, size_t size);
+extern void *__libc_malloc(unsigned long size);
+extern void *__libc_calloc(unsigned long count, unsigned long size);
+extern void *__libc_realloc(void *old, unsigned long size);
+extern void *__libc_memalign(unsigned long align, unsigned long size);
+extern char *getenv(const char *name);
+extern long atol(const char *text);
+extern long write(int file, const void *octets, unsigned long count);
+extern int *__errno_location(void);
+enum { NO_MEMORY = 12 }; /* ENOMEM */
 static long left; /* the calls up to the one that is refused; 0: none is refused any more */
 __attribute__((constructor)) static void begin(void) {
     const char *text = getenv("REFUSED_CALL");
@@ -38,19 +48,21 @@ __attribute__((constructor)) static void begin(void) {
 }
 static int refuses(void) {
     if (left == 0 || --left > 0) return 0;
-    errno = ENOMEM;
+    *__errno_location() = NO_MEMORY;
     return write(9, "x", 1) != 0; /* the script reads from this file that a call was refused */
 }
-void *malloc(size_t size) { return refuses() ? NULL : __libc_malloc(size); }
-void *calloc(size_t count, size_t size) { return refuses() ? NULL : __libc_calloc(count, size); }
-void *realloc(void *old, size_t size) { return refuses() ? NULL : __libc_realloc(old, size); }
-int posix_memalign(void **at, size_t align, size_t size) {
-    if (refuses()) return ENOMEM;
+void *malloc(unsigned long size) { return refuses() ? 0 : __libc_malloc(size); }
+void *calloc(unsigned long count, unsigned long size) { return refuses() ? 0 : __libc_calloc(count, size); }
+void *realloc(void *old, unsigned long size) { return refuses() ? 0 : __libc_realloc(old, size); }
+int posix_memalign(void **at, unsigned long align, unsigned long size) {
+    if (refuses()) return NO_MEMORY;
     *at = __libc_memalign(align, size);
-    return *at ? 0 : ENOMEM;
+    return *at ? 0 : NO_MEMORY;
 }
 C
-cc -O1 -shared -fPIC -o "$made/refuse.so" "$made/refuse.c"
+# No header and no start files: the C library is the program's.
+kit=$(dirname "$(dirname "$(readlink -f "$(command -v rt)")")")
+"$kit/toolchain/bin/clang" --target=x86_64-unknown-linux-gnu -O1 -shared -fPIC -nostdlib -fuse-ld=lld -o "$made/refuse.so" "$made/refuse.c"
 
 # Runs the program on $made/input: its N-th allocation is refused, or none where N is 0. Leaves output, errors, status, and what was refused.
 run() {
@@ -61,10 +73,18 @@ run() {
     REFUSED_CALL=$call LD_PRELOAD=$made/refuse.so "$program" "$@" < "$made/input" > "$made/output" 2> "$made/errors" 9> "$made/refused" || status=$?
 }
 
+right=0
 wrong=0
 fail() {
     echo "  allocation $1 of '$name': $2" >&2
     wrong=$((wrong + 1))
+}
+
+# The last line, and the status.
+end() {
+    echo "$right passed, $wrong failed"
+    [ "$wrong" = 0 ]
+    exit
 }
 
 printf 'fault 0\n' > "$made/fault"
@@ -147,8 +167,13 @@ refuse_each() {
     for ((call = 1; ; call++)); do
         run "$call" "$@"
         [ -s "$made/refused" ] || break
-        ends_well || fail "$call" "status $status, output: $(head -c 300 "$made/output")"
-        ! grep -qv '^\(debug: \)\?out of memory' "$made/errors" || fail "$call" "standard error: $(head -c 300 "$made/errors")"
+        if ! ends_well; then
+            fail "$call" "status $status, output: $(head -c 300 "$made/output")"
+        elif grep -qv '^\(debug: \)\?out of memory' "$made/errors"; then
+            fail "$call" "standard error: $(head -c 300 "$made/errors")"
+        else
+            right=$((right + 1))
+        fi
     done
     echo "$name: $((call - 1)) allocations; refused: $alone end in 'fault 0' alone, $behind behind whole answers, $spared are done without"
     if [ "$alone" = 0 ]; then fail 1 "no run ended in 'fault 0': is the malloc of this script loaded?"; fi
@@ -232,13 +257,23 @@ refuse_each_served() {
     for ((call = 1; ; call++)); do
         serve "$call" "$@"
         [ -s "$made/refused" ] || break
-        serves_well || fail "$call" "status $status, output: $(head -c 300 "$made/output")"
-        ! grep -qv '^\(debug: \)\?out of memory' "$made/errors" || fail "$call" "standard error: $(head -c 300 "$made/errors")"
+        if ! serves_well; then
+            fail "$call" "status $status, output: $(head -c 300 "$made/output")"
+        elif grep -qv '^\(debug: \)\?out of memory' "$made/errors"; then
+            fail "$call" "standard error: $(head -c 300 "$made/errors")"
+        else
+            right=$((right + 1))
+        fi
     done
     echo "$name: $((call - 1)) allocations; refused: $alone end in 'fault 0' alone, $behind behind 'listening', $spared are done without"
 }
 
 cd "$top"
+cp crates/h2_program/stdin "$made/input"
+mapfile -t words < crates/h2_program/args
+refuse_each whole 'the stored run' "${words[@]}"
+cmp -s "$made/whole" crates/h2_program/stdout || fail 0 'with ample memory the output is not crates/h2_program/stdout'
+if [ -n "$stored" ]; then end; fi
 cp examples/ping.hex "$made/input"
 refuse_each whole 'play, three items' play
 cp examples/get.hex "$made/input"
@@ -259,7 +294,4 @@ refuse_each session 'debug' debug 'GET|/|200|6869'
 cp examples/get.hex "$made/input"
 refuse_each_served 'serve' 'GET|/|200|6869'
 
-if [ "$wrong" != 0 ]; then
-    echo "$wrong runs ended otherwise" >&2
-    exit 1
-fi
+end

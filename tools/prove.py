@@ -4,7 +4,8 @@
 The crates that the program is made of are copied to a temporary folder, without their must-fail edits. `rt ci NAME` proves each there once those below it are proved,
 two side by side where processors and memory carry them; a call gives its crate half of the processors, at most four. What it has proved is kept on this machine, so
 a later call and the gate prove only what has changed since. At the end `rt ci` over all of them takes what is kept, builds the program with both compilers and runs
-it. The two programs are put into crates/h2_program/out, and beside them the checksum of the sources that were proved.
+it. A kit whose `rt ci` takes no names keeps nothing; there that last call proves all crates. The two programs are put into crates/h2_program/out, and beside them
+the checksum of the sources that were proved.
 
 out/proved has the checksums of crates that were proved and kept before: no call is made for these.
 """
@@ -96,13 +97,19 @@ class Proofs:
 
     def rt(self, *words):
         """Runs rt and returns what it printed."""
+        return "".join(self.lines_of(*words))
+
+    def lines_of(self, *words):
+        """Runs rt and gives its lines as they come."""
         how = {"stdin": subprocess.DEVNULL, "stdout": subprocess.PIPE, "stderr": subprocess.STDOUT, "errors": "replace", "start_new_session": True}
         ran = subprocess.Popen(["rt", *words], cwd=self.room, **how)
         self.begun.append(ran)
-        said = ran.communicate()[0]
-        if ran.returncode:
-            raise Failed(said)
-        return said
+        said = []
+        for line in ran.stdout:
+            said.append(line)
+            yield line
+        if ran.wait():
+            raise Failed("".join(said))
 
     def prove(self, name):
         self.progress.running.append(name)
@@ -151,13 +158,21 @@ class Proofs:
 
     def all(self):
         """Proves each crate, and builds the program."""
-        try:
-            self.prove_each()
-        except NotKept:
-            say("what is proved can't be kept on this machine, so all is proved in one call")
-        finally:
-            self.note()
-        self.rt("ci")
+        if program.keeps_proofs():
+            try:
+                self.prove_each()
+            except NotKept:
+                say("what is proved can't be kept on this machine, so all is proved in one call")
+            finally:
+                self.note()
+        self.prove_at_once()
+
+    def prove_at_once(self):
+        """One call over all crates: it takes what is kept, proves the others side by side, and builds the program."""
+        for line in self.lines_of("ci"):
+            proved = re.match(r"rt: (\w+) proved$", line)
+            if proved and self.sums[proved[1]] not in self.before:
+                self.progress.count(proved[1], "proved")
 
     def note(self):
         os.makedirs(os.path.dirname(BEFORE), exist_ok=True)

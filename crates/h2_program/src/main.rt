@@ -43,16 +43,28 @@ fn refuse<W: Write>(output: &mut W, error: &io::Error) -> ExitCode {
     }
 }
 
-/// What the words say of devices; nothing where they are no command.
-fn devices_said<'w>(rt: &HostRuntime, words: &'w Words) -> Devices<'w> {
+/// What words say of devices that say nothing of them.
+const NO_DEVICES: Devices<'static> = Devices {
+    file: "",
+    raw: false,
+    quiet: false,
+    prompt: "",
+};
+
+/// What the words say of devices. Where memory is refused for that, the words are refused for it.
+fn devices_said<'w>(
+    rt: &HostRuntime,
+    words: &'w Words,
+    asked: &mut Result<Plan<'w>, Refusal>,
+) -> Devices<'w> {
     match devices_of(rt.alloc(), words) {
         Some(devices) => devices,
-        None => Devices {
-            file: "",
-            raw: false,
-            quiet: false,
-            prompt: "",
-        },
+        None => {
+            if asked.is_ok() {
+                *asked = Err(Refusal::NoMemory);
+            }
+            NO_DEVICES
+        }
     }
 }
 
@@ -175,7 +187,7 @@ fn answer(rt: &HostRuntime, words: &Words) -> ExitCode {
         Err(error) => return refuse(&mut rt.stdout(), &error),
     };
     let mut asked = parse(rt.alloc(), words);
-    let devices = devices_said(rt, words);
+    let devices = devices_said(rt, words, &mut asked);
     if let Some(text) = refusal_of(&asked, devices) {
         return refuse_words(&mut gathered, text);
     }

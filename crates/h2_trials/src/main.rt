@@ -6,6 +6,7 @@
 
 mod ask;
 mod bounds;
+mod commands;
 mod conns;
 mod debuggers;
 mod devices;

@@ -2,7 +2,9 @@
 //! input is the text, or the first piece in hex where there is none.
 //! The numbers of a line are how many octets a read gives and a write takes at most, and how many octets the writer
 //! takes in all.
+//! Runs over memory, where nothing can fail but an allocation: `commands`.
 
+use crate::commands;
 use crate::line::Call;
 use crate::trials::Answer;
 use h2_bench::{Words, run};
@@ -61,7 +63,7 @@ impl Write for Writer {
 }
 
 /// The words of a program, its name first.
-fn words_of(alloc: Global, call: &Call<'_>) -> Result<Words, AllocError> {
+pub fn words_of(alloc: Global, call: &Call<'_>) -> Result<Words, AllocError> {
     let mut words = Words::new(alloc);
     add_words(&mut words, call.words())?;
     Ok(words)
@@ -76,7 +78,7 @@ fn add_words(words: &mut Words, text: &str) -> Result<(), AllocError> {
 }
 
 /// The input of a program.
-fn input_of(alloc: Global, call: &Call<'_>) -> Result<Vec<u8>, AllocError> {
+pub fn input_of(alloc: Global, call: &Call<'_>) -> Result<Vec<u8>, AllocError> {
     if call.text().is_empty() {
         let digits = hex::encode(alloc, call.piece(0))?;
         return Vec::from_slice(alloc, digits.as_bytes());
@@ -236,6 +238,7 @@ pub fn tried(alloc: Global, verb: &str, call: &Call<'_>, turn: u64) -> Result<An
         "read" => over_reads(alloc, call, turn),
         "write" => over_writes(alloc, call, turn),
         "pieces" => over_pieces(alloc, call),
+        "memory" => commands::ran(alloc, call),
         _ => Err(AllocError),
     }
 }
