@@ -31,7 +31,8 @@ pub struct Ran {
 }
 
 /// Does what the words ask for over memory, and gives what is printed for it, whole, and the exit status. Each file is a
-/// path and its octets; where two have one path, the first is the file there.
+/// path and its octets; where two have one path, the first is the file there. What the words say of devices
+/// (`--in`, `--raw`, `--prompt`) is for a program that has them: here the input is `input`.
 ///
 /// No call of a device can fail here: the status is never 3, and `fault 22` is printed only where the input or a file is
 /// too long, or a file is not there.

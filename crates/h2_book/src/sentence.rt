@@ -47,7 +47,7 @@ impl<'w> Where<'w> {
         }
     }
 
-    /// An answer of the file, from 1, among so many.
+    /// An answer of the file, from 1, among these.
     pub(crate) fn of_answer(
         path: &'w str,
         text: &'w str,

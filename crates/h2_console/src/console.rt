@@ -80,28 +80,36 @@ impl<'c, R: Read, O: Write, E: Write> Console<'c, R, O, E> {
         self.errors.write_all(text.as_bytes())
     }
 
+    /// Takes the first line of what was read to `line`, without its line feed; says whether there was a whole one.
+    fn take_held(&mut self, line: &mut Vec<u8>) -> io::Result<bool> {
+        let held = self.held.as_slice();
+        let Some(end) = held.iter().position(|octet| *octet == b'\n') else {
+            return Ok(false);
+        };
+        line.extend_from_slice(part(held, 0, end))?;
+        let rest = part(held, end.saturating_add(1), held.len()).to_vec(self.alloc)?;
+        self.held = rest;
+        Ok(true)
+    }
+
+    /// Takes the rest of what was read to `line`, at the end of the input; says whether there was any.
+    fn take_rest(&mut self, line: &mut Vec<u8>) -> io::Result<bool> {
+        let is_some = !self.held.is_empty();
+        line.extend_from_slice(self.held.as_slice())?;
+        self.held.clear();
+        Ok(is_some)
+    }
+
     /// Reads a line, without its line feed, to `line`; says whether there was one.
     fn read_line(&mut self, line: &mut Vec<u8>) -> io::Result<bool> {
         let mut buffer = [0; 4096];
         for _ in 0..u64::MAX {
-            if let Some(end) = self
-                .held
-                .as_slice()
-                .iter()
-                .position(|octet| *octet == b'\n')
-            {
-                let (front, rest) = self.held.as_slice().split_at(end);
-                line.extend_from_slice(front)?;
-                let rest = rest.split_at(1).1.to_vec(self.alloc)?;
-                self.held = rest;
+            if self.take_held(line)? {
                 return Ok(true);
             }
             let count = self.reader.read(&mut buffer)?;
             if count == 0 {
-                let is_some = !self.held.is_empty();
-                line.extend_from_slice(self.held.as_slice())?;
-                self.held.clear();
-                return Ok(is_some);
+                return self.take_rest(line);
             }
             self.held.extend_from_slice(&buffer[..count])?;
         }
@@ -209,6 +217,14 @@ impl<'c, R: Read, O: Write, E: Write> Console<'c, R, O, E> {
             }
             None => Ok(count),
         }
+    }
+}
+
+/// The octets from a place to another; none where there are fewer.
+fn part(octets: &[u8], start: usize, end: usize) -> &[u8] {
+    match octets.get(start..end) {
+        Some(part) => part,
+        None => &[],
     }
 }
 

@@ -51,7 +51,7 @@ pub(crate) fn write_item<W: Write>(output: &mut W, text: &[u8], item: usize) -> 
     output.write_all(b"nothing to say of this item\n".as_slice())
 }
 
-/// How many items are listed before a position and behind it.
+/// How many items are listed before a position and after it.
 const AROUND: usize = 3;
 
 /// Writes the first lines of the items around a position; `>` is in front of its own.

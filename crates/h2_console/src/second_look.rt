@@ -166,7 +166,7 @@ fn first_line(text: &[u8]) -> &[u8] {
     }
 }
 
-/// Says what is to be said of a command that ended.
+/// Says what is to be said about a command that ended.
 pub fn say_outcome(alloc: Global, plan: &Plan<'_>, outcome: Outcome<'_>, out: &mut Words) {
     if let Some(kind) = outcome.unwritten {
         say_unwritten(kind, out);

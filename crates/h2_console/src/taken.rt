@@ -1,20 +1,19 @@
 //! The input of a command: the text of a file, or what a reader gives. What was given is kept for a second look, since a
-//! reader can't be read again. Rests on h2_device.
+//! reader can't be read again. Rests on nothing.
 
-ghost use Rattle.std.specs.Prelude.{◌≤◌, length, IfOk, None};
+ghost use Rattle.std.specs.Prelude.{◌≤◌, length, IfOk};
 
-use h2_device::{DeviceFault, Input};
 use std::alloc::{AllocError, Global};
 use std::io;
 use std::io::{ErrorKind, Read};
 
-/// An input of which contracts know nothing but whether its last call failed.
+/// The input of a command.
 #[derive(Drop)]
 pub struct TakenInput<R> {
     /// What is given first.
     front: Vec<u8>,
     given: usize,
-    /// What is read behind it; nothing where a file is all.
+    /// What is read after it; nothing where a file is all.
     behind: Option<R>,
     /// What was refused is looked for in this text.
     seen: Vec<u8>,
@@ -22,10 +21,9 @@ pub struct TakenInput<R> {
     is_cut: bool,
     /// Why the file or the reader was not read.
     failure: Option<ErrorKind>,
-    failed: bool,
 }
 
-/// The text of a file as the first line of a session: without its line feeds, and one behind it.
+/// The text of a file as the first line of a session: without its line feeds, and one after it.
 pub fn one_line(alloc: Global, text: &[u8]) -> Result<Vec<u8>, AllocError> {
     let mut line = Vec::new(alloc);
     for octet in text {
@@ -47,11 +45,10 @@ impl<R: Read> TakenInput<R> {
             seen: Vec::new(alloc),
             is_cut: false,
             failure: None,
-            failed: false,
         }
     }
 
-    /// A text, which was read of a file as `seen`, and what a reader gives behind it.
+    /// A text, which was read of a file as `seen`, and what a reader gives after it.
     pub fn of_text(front: Vec<u8>, seen: Vec<u8>, behind: Option<R>) -> TakenInput<R> {
         TakenInput {
             front,
@@ -60,7 +57,6 @@ impl<R: Read> TakenInput<R> {
             seen,
             is_cut: false,
             failure: None,
-            failed: false,
         }
     }
 
@@ -73,7 +69,6 @@ impl<R: Read> TakenInput<R> {
             seen: Vec::new(alloc),
             is_cut: false,
             failure: Some(failure),
-            failed: false,
         }
     }
 
@@ -106,8 +101,8 @@ impl<R: Read> TakenInput<R> {
         count
     }
 
-    /// Reads behind what is given first.
-    fn read_behind(&mut self, buffer: &mut [u8]) -> io::Result<usize>
+    /// Reads after what is given first.
+    fn read_after(&mut self, buffer: &mut [u8]) -> io::Result<usize>
         ensures { IfOk result (λ count. count ≤ length buffer.new) }
     {
         match &mut self.behind {
@@ -123,31 +118,23 @@ impl<R: Read> TakenInput<R> {
     }
 }
 
-impl<R: Read> Input for TakenInput<R> {
-    ghost remaining = { λ _. None };
-
-    ghost has_failed = { λ d. d.failed };
-
-    ghost name = { λ _. 0 };
-
-    fn read(&mut self, buffer: &mut [u8]) -> Result<usize, DeviceFault> {
-        self.failed = self.failure.is_some();
-        if self.failed {
-            return Err(DeviceFault);
+impl<R: Read> Read for TakenInput<R> {
+    fn read(&mut self, buffer: &mut [u8]) -> io::Result<usize> {
+        if let Some(kind) = self.failure {
+            return Err(io::Error::from(kind));
         }
         let count = self.give_front(buffer);
         if count > 0 {
             return Ok(count);
         }
-        match self.read_behind(buffer) {
+        match self.read_after(buffer) {
             Ok(count) => {
                 self.keep(&buffer[..count]);
                 Ok(count)
             }
             Err(error) => {
                 self.failure = Some(error.kind());
-                self.failed = true;
-                Err(DeviceFault)
+                Err(error)
             }
         }
     }

@@ -54,7 +54,7 @@ impl<O: Output> Output for Noted<'_, O> {
 const LOOKED_AT: usize = 32;
 
 /// The output of a session: it notes the position, writes a sentence for each command that was refused, and a line `.`
-/// behind each answer where that is asked for.
+/// after each answer where that is asked for.
 #[derive(Drop)]
 pub struct Watched<'w, O, E> {
     output: &'w mut O,
@@ -91,7 +91,7 @@ impl<'w, O: Output, E: Write> Watched<'w, O, E> {
         }
     }
 
-    /// Keeps the first octets of an answer. Without memory for them nothing is said of it.
+    /// Keeps the first octets of an answer. Without memory for them nothing is said about it.
     fn note(&mut self, octets: &[u8]) {
         for octet in octets {
             if self.front.len() < LOOKED_AT {

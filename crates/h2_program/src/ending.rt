@@ -1,11 +1,10 @@
 //! What is said on standard error once a command has ended. Rests on h2_console's second look.
 
-use crate::input::Given;
+use crate::input::{Given, LIMIT, read_file};
 use h2_bench::{Plan, Words};
 use h2_console::{Outcome, say_outcome, say_refused_words};
 use h2_reasons::Source;
 use h2_words::command::Refusal;
-use std::fs;
 use std::io::{ErrorKind, Write};
 use std::net::{IpAddr, Ipv4Addr, SocketAddr, TcpListener};
 use std::rt::Files;
@@ -23,11 +22,10 @@ pub struct Ending {
 /// The octets of a file that was read already. A pipe can't be read again, and is not.
 fn read_again(rt: &HostRuntime, path: &str) -> Result<Vec<u8>, Option<ErrorKind>> {
     match rt.metadata(path) {
-        Ok(about) if about.is_file() => match fs::read(rt, path) {
+        Ok(about) if about.is_file() || about.is_dir() => match read_file(rt, path, LIMIT) {
             Ok(octets) => Ok(octets),
-            Err(error) => Err(Some(error.kind())),
+            Err(kind) => Err(Some(kind)),
         },
-        Ok(about) if about.is_dir() => Err(Some(ErrorKind::IsADirectory)),
         Ok(_) => Err(None),
         Err(error) => Err(Some(error.kind())),
     }
@@ -46,7 +44,7 @@ fn outcome_of<'o>(given: &'o Given<'_, '_>, ending: Ending) -> Outcome<'o> {
     }
 }
 
-/// Says what is to be said of the octets of a file that a command read itself.
+/// Says what is to be said about the octets of a file that a command read itself.
 fn say_of_file(
     rt: &HostRuntime,
     plan: &Plan<'_>,
@@ -122,7 +120,7 @@ fn say_of_plan(
     }
 }
 
-/// Says on standard error what is to be said of a command that ended.
+/// Says on standard error what is to be said about a command that ended.
 pub fn end(
     rt: &HostRuntime,
     words: &Words,

@@ -2,7 +2,7 @@
 //! octets themselves or their hex. Rests on h2_console.
 
 use h2_bench::{Plan, carry_out};
-use h2_book::StdFiles;
+use h2_book::{Files, FilesFault, StdFiles};
 use h2_console::{
     Behind, Console, Hexed, Manner, TakenInput, WaitingInput, WaitingOutput, hex_of, one_line,
 };
@@ -98,17 +98,34 @@ fn behind<'r, 'c>(
     ))
 }
 
-/// The text of a file: as it is, or the hex of its octets.
-fn text_of(rt: &HostRuntime, path: &str, is_raw: bool) -> io::Result<Vec<u8>> {
-    let octets = fs::read(rt, path)?;
-    if is_raw {
-        return Ok(hex_of(rt.alloc(), octets.as_slice())?);
+/// The most octets of an input's text.
+pub const LIMIT: usize = 16777216;
+
+/// The octets of a file, at most so many as an input may have; `OutOfMemory` only where memory was refused.
+pub fn read_file(rt: &HostRuntime, path: &str, most: usize) -> Result<Vec<u8>, ErrorKind> {
+    let mut files = StdFiles { runtime: rt };
+    match files.read(rt.alloc(), path, most) {
+        Ok(octets) => Ok(octets),
+        Err(FilesFault::NoMemory) => Err(ErrorKind::OutOfMemory),
+        Err(FilesFault::TooLong) => Err(ErrorKind::FileTooLarge),
+        Err(FilesFault::Failed) => Err(files.failure(path).unwrap_or(ErrorKind::Other)),
     }
-    Ok(octets)
+}
+
+/// The text of a file: as it is, or the hex of its octets.
+fn text_of(rt: &HostRuntime, path: &str, is_raw: bool) -> Result<Vec<u8>, ErrorKind> {
+    if !is_raw {
+        return read_file(rt, path, LIMIT);
+    }
+    let octets = read_file(rt, path, LIMIT / 2)?;
+    match hex_of(rt.alloc(), octets.as_slice()) {
+        Ok(text) => Ok(text),
+        Err(_) => Err(ErrorKind::OutOfMemory),
+    }
 }
 
 /// What `explain` prints of a text, for a session over it.
-fn explained(rt: &HostRuntime, debug: &Debug<'_>, text: &[u8]) -> io::Result<Vec<u8>> {
+fn explained(rt: &HostRuntime, debug: &Debug<'_>, text: &[u8]) -> Result<Vec<u8>, AllocError> {
     let plan = Ok(Plan::Explain(Explain {
         config: debug.config,
         json: false,
@@ -144,7 +161,7 @@ fn session_over<'r, 'c>(
     devices: Devices<'_>,
     text: Vec<u8>,
     position: &'c Cell<usize>,
-) -> io::Result<Taken<'r, 'c>> {
+) -> Result<Taken<'r, 'c>, AllocError> {
     let line = one_line(rt.alloc(), text.as_slice())?;
     let explained = if devices.prompt == "" {
         Vec::new(rt.alloc())
@@ -155,15 +172,14 @@ fn session_over<'r, 'c>(
     Ok(TakenInput::of_text(line, text, Some(behind)))
 }
 
-/// The input of a command over a file.
-fn over_file<'r, 'c>(
+/// The input of a command over the text of a file.
+fn over_text<'r, 'c>(
     rt: &'r HostRuntime,
     asked: &Result<Plan<'_>, Refusal>,
     devices: Devices<'_>,
-    path: &str,
+    text: Vec<u8>,
     position: &'c Cell<usize>,
-) -> io::Result<Taken<'r, 'c>> {
-    let text = text_of(rt, path, devices.raw)?;
+) -> Result<Taken<'r, 'c>, AllocError> {
     match asked {
         Ok(Plan::Debug(debug)) => session_over(rt, debug, devices, text, position),
         _ => {
@@ -173,7 +189,22 @@ fn over_file<'r, 'c>(
     }
 }
 
-/// The input of a command.
+/// The input of a command over a file.
+fn over_file<'r, 'c>(
+    rt: &'r HostRuntime,
+    asked: &Result<Plan<'_>, Refusal>,
+    devices: Devices<'_>,
+    path: &str,
+    position: &'c Cell<usize>,
+) -> Result<Taken<'r, 'c>, ErrorKind> {
+    let text = text_of(rt, path, devices.raw)?;
+    match over_text(rt, asked, devices, text, position) {
+        Ok(taken) => Ok(taken),
+        Err(_) => Err(ErrorKind::OutOfMemory),
+    }
+}
+
+/// The input of a command. Where memory for a file is refused, the words are refused for that.
 pub fn input_of<'r, 'c, 'w: 'c>(
     rt: &'r HostRuntime,
     asked: &mut Result<Plan<'w>, Refusal>,
@@ -191,7 +222,12 @@ pub fn input_of<'r, 'c, 'w: 'c>(
     }
     let taken = match over_file(rt, asked, devices, path, position) {
         Ok(taken) => taken,
-        Err(error) => TakenInput::unread(rt.alloc(), error.kind()),
+        Err(kind) => {
+            if kind == ErrorKind::OutOfMemory {
+                *asked = Err(Refusal::NoMemory);
+            }
+            TakenInput::unread(rt.alloc(), kind)
+        }
     };
     Given {
         taken,

@@ -1,6 +1,6 @@
 //! The program: the words of its command line, its files, its standard input, output and error, as h2_bench runs them.
 //! Rests on h2_bench, h2_console and h2_device; what it prints for its input is defined in `h2_bench/specs/Printed.antt`.
-//! Which device is the input is decided here, by `input`; what is said of a fault, by `ending`.
+//! Which device is the input is decided here, by `input`; what is said about a fault, by `ending`.
 #![tactic(auto)]
 
 mod ending;
@@ -12,8 +12,8 @@ use crate::input::{Given, Standard, input_of, is_session, refusal_of};
 use h2_bench::{Plan, Words, carry_out, parse, serve};
 use h2_book::StdFiles;
 use h2_console::{Noted, WaitingOutput, Watched};
-use h2_device::{IntoWrite, Output};
-use h2_words::command::{Devices, Refusal, devices_of};
+use h2_device::{FromRead, IntoWrite, Output};
+use h2_words::command::{Devices, Refusal, Serve, devices_of};
 use std::cell::Cell;
 use std::io;
 use std::io::{BufWriter, Write};
@@ -43,68 +43,93 @@ fn refuse<W: Write>(output: &mut W, error: &io::Error) -> ExitCode {
     }
 }
 
-/// What the words say of devices; nothing where they are no command.
-fn devices_said<'w>(rt: &HostRuntime, words: &'w Words) -> Devices<'w> {
+/// What words say of devices that say nothing of them.
+const NO_DEVICES: Devices<'static> = Devices {
+    file: "",
+    raw: false,
+    quiet: false,
+    prompt: "",
+};
+
+/// What the words say of devices. Where memory is refused for that, the words are refused for it.
+fn devices_said<'w>(
+    rt: &HostRuntime,
+    words: &'w Words,
+    asked: &mut Result<Plan<'w>, Refusal>,
+) -> Devices<'w> {
     match devices_of(rt.alloc(), words) {
         Some(devices) => devices,
-        None => Devices {
-            file: "",
-            raw: false,
-            quiet: false,
-            prompt: "",
-        },
+        None => {
+            if asked.is_ok() {
+                *asked = Err(Refusal::NoMemory);
+            }
+            NO_DEVICES
+        }
     }
 }
 
-/// Does what the words ask for over an input; gives the status, and whether a sentence was written for the book.
-fn carry_out_over<O: Output>(
+/// Runs a session over an input: its output is looked at on the way.
+fn run_session<O: Output, E: Output>(
     rt: &HostRuntime,
     asked: &Result<Plan<'_>, Refusal>,
     devices: Devices<'_>,
     given: &mut Given<'_, '_>,
     output: &mut O,
-) -> (u8, bool) {
+    errors: &mut E,
+) -> u8 {
     let mut files = StdFiles { runtime: rt };
+    let has_dots = devices.prompt == "dot";
+    let position = given.position;
+    let mut input = FromRead::new(&mut given.taken);
+    let mut watched = Watched::new(
+        rt.alloc(),
+        output,
+        rt.stderr(),
+        devices.quiet,
+        has_dots,
+        position,
+    );
+    carry_out(
+        rt.alloc(),
+        asked,
+        &mut files,
+        &mut input,
+        &mut watched,
+        errors,
+    )
+}
+
+/// Does what the words ask for over an input; gives the status, and whether a sentence was written for the book.
+fn carry_out_over<W: Write>(
+    rt: &HostRuntime,
+    asked: &Result<Plan<'_>, Refusal>,
+    devices: Devices<'_>,
+    given: &mut Given<'_, '_>,
+    output: &mut W,
+) -> (u8, bool) {
     let mut stderr = rt.stderr();
     let mut errors = IntoWrite::new(&mut stderr);
     let mut noted = Noted::new(&mut errors);
-    let status = if is_session(asked) {
-        let has_dots = devices.prompt == "dot";
-        let mut watched = Watched::new(
-            rt.alloc(),
-            output,
-            rt.stderr(),
-            devices.quiet,
-            has_dots,
-            given.position,
-        );
-        carry_out(
-            rt.alloc(),
-            asked,
-            &mut files,
-            &mut given.taken,
-            &mut watched,
-            &mut noted,
-        )
-    } else {
-        carry_out(
-            rt.alloc(),
-            asked,
-            &mut files,
-            &mut given.taken,
-            output,
-            &mut noted,
-        )
-    };
+    let mut output = IntoWrite::new(output);
+    if is_session(asked) {
+        let status = run_session(rt, asked, devices, given, &mut output, &mut noted);
+        return (status, noted.is_written());
+    }
+    let mut files = StdFiles { runtime: rt };
+    let mut input = FromRead::new(&mut given.taken);
+    let status = carry_out(
+        rt.alloc(),
+        asked,
+        &mut files,
+        &mut input,
+        &mut output,
+        &mut noted,
+    );
     (status, noted.is_written())
 }
 
 /// Serves, as the words ask for; gives the status, and whether a sentence was written for the book.
-fn serve_over<W: Write>(
-    rt: &HostRuntime,
-    plan: &h2_words::command::Serve<'_>,
-    output: &mut W,
-) -> (u8, bool) {
+fn serve_over<W: Write>(rt: &HostRuntime, plan: &Serve<'_>, output: &mut W) -> (u8, bool) {
     let mut files = StdFiles { runtime: rt };
     let mut stderr = rt.stderr();
     let mut errors = IntoWrite::new(&mut stderr);
@@ -113,7 +138,15 @@ fn serve_over<W: Write>(
     (status, noted.is_written())
 }
 
-/// Does what the words ask for, and says what is to be said of a fault.
+/// Writes why the words are refused, with status 2.
+fn refuse_words<W: Write>(output: &mut W, text: &str) -> ExitCode {
+    if output.write_all(text.as_bytes()).is_err() || output.flush().is_err() {
+        return ExitCode::from(3);
+    }
+    ExitCode::from(2)
+}
+
+/// Does what the words ask for, and says what is to be said about a fault.
 fn answer_over<'w>(
     rt: &HostRuntime,
     words: &Words,
@@ -121,26 +154,11 @@ fn answer_over<'w>(
     devices: Devices<'w>,
     gathered: &mut BufWriter<Standard<'_>>,
 ) -> ExitCode {
-    if let Some(text) = refusal_of(asked, devices) {
-        return match gathered
-            .write_all(text.as_bytes())
-            .and_then(|_| gathered.flush())
-        {
-            Ok(()) => ExitCode::from(2),
-            Err(_) => ExitCode::from(3),
-        };
-    }
     let position = Cell::new(0usize);
     let mut given = input_of(rt, asked, devices, &position);
     let (status, is_said) = match &*asked {
         Ok(Plan::Serve(plan)) => serve_over(rt, plan, gathered),
-        _ => carry_out_over(
-            rt,
-            asked,
-            devices,
-            &mut given,
-            &mut IntoWrite::new(gathered),
-        ),
+        _ => carry_out_over(rt, asked, devices, &mut given, gathered),
     };
     let status = match gathered.flush() {
         Ok(()) => status,
@@ -169,7 +187,10 @@ fn answer(rt: &HostRuntime, words: &Words) -> ExitCode {
         Err(error) => return refuse(&mut rt.stdout(), &error),
     };
     let mut asked = parse(rt.alloc(), words);
-    let devices = devices_said(rt, words);
+    let devices = devices_said(rt, words, &mut asked);
+    if let Some(text) = refusal_of(&asked, devices) {
+        return refuse_words(&mut gathered, text);
+    }
     answer_over(rt, words, &mut asked, devices, &mut gathered)
 }
 

@@ -29,7 +29,7 @@ fn is_hex(part: &str) -> bool {
             .all(|octet| octet.is_ascii_hexdigit())
 }
 
-/// How often a word is `early` behind the first four parts.
+/// How often a word is `early` after the first four parts.
 fn early_words(word: &str) -> usize {
     word.split('|')
         .skip(4)

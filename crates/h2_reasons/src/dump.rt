@@ -13,7 +13,7 @@ pub(crate) enum Look {
     Octets,
     /// A dump whose lines begin with offsets.
     Offsets,
-    /// Hex digits behind `0x`.
+    /// Hex digits after `0x`.
     Prefix,
     /// Hex digits with something between them.
     Separator,
@@ -132,7 +132,7 @@ pub fn has_offsets(text: &[u8]) -> bool {
 }
 
 /// The same for digits of this base.
-fn grows(text: &[u8], base: u32) -> bool {
+fn grows(text: &[u8], base: u64) -> bool {
     let mut expected = 0u64;
     let mut lines = 0usize;
     for line in text.split(|octet| *octet == b'\n').take(LINES) {
@@ -149,8 +149,19 @@ fn grows(text: &[u8], base: u32) -> bool {
     lines >= 2
 }
 
-/// The number that five digits or more of this base spell, with `:` behind them or not.
-fn offset_in(word: &[u8], base: u32) -> Option<u64> {
+/// The value of a digit of this base.
+fn digit_value(octet: u8, base: u64) -> Option<u64> {
+    let value = match octet {
+        b'0'..=b'9' => octet.saturating_sub(b'0'),
+        b'a'..=b'f' => octet.saturating_sub(b'a').saturating_add(10),
+        _ => return None,
+    };
+    let value = u64::from(value);
+    if value < base { Some(value) } else { None }
+}
+
+/// The number that five digits or more of this base spell, with `:` after them or not.
+fn offset_in(word: &[u8], base: u64) -> Option<u64> {
     let word = match word.strip_suffix(b":".as_slice()) {
         Some(digits) => digits,
         None => word,
@@ -160,10 +171,8 @@ fn offset_in(word: &[u8], base: u32) -> Option<u64> {
     }
     let mut number = 0u64;
     for octet in word {
-        let digit = char::from(*octet).to_digit(base)?;
-        number = number
-            .saturating_mul(u64::from(base))
-            .saturating_add(u64::from(digit));
+        let digit = digit_value(*octet, base)?;
+        number = number.saturating_mul(base).saturating_add(digit);
     }
     Some(number)
 }

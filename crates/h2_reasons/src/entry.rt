@@ -35,7 +35,7 @@ static REFUSED: [&str; 6] = [
     "content-length",
 ];
 
-/// Why a field is not allowed in an answer, behind its name.
+/// Why a field is not allowed in an answer, after its name.
 pub fn field_reason(name: &[u8], value: &[u8]) -> Option<&'static str> {
     if name.is_empty() {
         Some("has an empty name")
@@ -75,7 +75,7 @@ fn value_reason(value: &[u8]) -> Option<&'static str> {
     }
 }
 
-/// Says what a book refuses an entry for that has this method and this status, and a body of so many octets.
+/// Says what a book refuses an entry for that has this method and this status, and a body of this many octets.
 pub fn say_entry(refusal: Refusal, method: &str, status: Cut<'_>, octets: usize, out: &mut Words) {
     match refusal {
         Refusal::Status => say_all!(out; "the status is ", status, "; it has to be 200 to 599.\n"),

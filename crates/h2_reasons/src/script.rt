@@ -31,7 +31,7 @@ fn part_of(kind: SyntaxKind, line: &[u8]) -> usize {
     }
 }
 
-/// Where a part of a line begins: behind so many blanks; at its end where there are fewer.
+/// Where a part of a line begins: after this many blanks; at its end where there are fewer.
 fn start_of(line: &[u8], part: usize) -> usize {
     let mut blanks = 0usize;
     for (at, octet) in line.iter().enumerate() {

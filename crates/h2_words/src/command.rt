@@ -317,7 +317,7 @@ fn in_option<'a>(alloc: Global) -> Arg<'a>
     text_option(
         alloc,
         "in",
-        "The file that is the input, in place of standard input; - is standard input",
+        "The file that is the input, instead of standard input; - is standard input",
     )
 }
 
