@@ -1,5 +1,5 @@
 -- What holds of the map of the live streams, and what is found or changed by way of it.
-use Rattle.std.proofs.Common.{◌≡◌, ℕ, zero, suc, ◌+◌, ◌*◌, ◌<◌, ◌≤◌, ◌%◌, Bool, true, false, ◌&&◌, ◌||◌, not, nat_eq, nat_lt, map, filter, cond, eqb, List, [], ◌∷◌, ◌++◌, length, find, Some, None, IfSome, Option, refl, ap, ◌∙◌, sym, arith, true≢false}
+use Rattle.std.proofs.Common.{◌≡◌, ℕ, zero, suc, ◌+◌, ◌*◌, ◌<◌, ◌≤◌, ◌%◌, Bool, true, false, ◌&&◌, ◌||◌, not, nat_eq, nat_lt, map, filter, cond, eqb, List, [], ◌∷◌, ◌++◌, length, find, Some, None, IfSome, IsOk, OnOk, Ok, Err, Result, Option, refl, ap, ◌∙◌, sym, arith, true≢false}
 use Rattle.std.proofs.lemmas.Bool.Decides.{nat_tests}
 use Rattle.std.proofs.lemmas.List.{length-map, map-append}
 use Rattle.std.proofs.lemmas.List.Recursion.{is_count_by}
@@ -27,23 +27,19 @@ keys-next (e ∷ es) = ap (λ ids. e.0 ∷ ids) (keys-next es)
 
 pub entered-places : (test : Stream → Bool) (rs : List Stream) → values_of (entries_of test rs) ≡ places_of test rs
 entered-places test [] = refl
-entered-places test (x ∷ xs) = by (test x) where
-  rest : values_of (map next_entry (entries_of test xs)) ≡ map suc (places_of test xs)
-  rest = values-next (entries_of test xs) ∙ ap (map suc) (entered-places test xs)
-
-  by : (b : Bool) → values_of (cond b ((x.id, 0) ∷ map next_entry (entries_of test xs)) (map next_entry (entries_of test xs))) ≡ cond b (0 ∷ map suc (places_of test xs)) (map suc (places_of test xs))
-  by true = ap (λ ps. 0 ∷ ps) rest
-  by false = rest
+entered-places test (x ∷ xs) = by (test x) (values-next (entries_of test xs) ∙ ap (map suc) (entered-places test xs)) where
+  by : (b : Bool) → values_of (map next_entry (entries_of test xs)) ≡ map suc (places_of test xs)
+      → values_of (cond b ((x.id, 0) ∷ map next_entry (entries_of test xs)) (map next_entry (entries_of test xs))) ≡ cond b (0 ∷ map suc (places_of test xs)) (map suc (places_of test xs))
+  by true rest = ap (λ ps. 0 ∷ ps) rest
+  by false rest = rest
 
 pub entered-ids : (test : Stream → Bool) (rs : List Stream) → keys_of (entries_of test rs) ≡ ids_of test rs
 entered-ids test [] = refl
-entered-ids test (x ∷ xs) = by (test x) where
-  rest : keys_of (map next_entry (entries_of test xs)) ≡ ids_of test xs
-  rest = keys-next (entries_of test xs) ∙ entered-ids test xs
-
-  by : (b : Bool) → keys_of (cond b ((x.id, 0) ∷ map next_entry (entries_of test xs)) (map next_entry (entries_of test xs))) ≡ cond b (x.id ∷ ids_of test xs) (ids_of test xs)
-  by true = ap (λ ids. x.id ∷ ids) rest
-  by false = rest
+entered-ids test (x ∷ xs) = by (test x) (keys-next (entries_of test xs) ∙ entered-ids test xs) where
+  by : (b : Bool) → keys_of (map next_entry (entries_of test xs)) ≡ ids_of test xs
+      → keys_of (cond b ((x.id, 0) ∷ map next_entry (entries_of test xs)) (map next_entry (entries_of test xs))) ≡ cond b (x.id ∷ ids_of test xs) (ids_of test xs)
+  by true rest = ap (λ ids. x.id ∷ ids) rest
+  by false rest = rest
 
 -- one more record
 pub entries-append : (test : Stream → Bool) (rs : List Stream) (st : Stream) → entries_of test (rs ++ st ∷ []) ≡ entries_of test rs ++ cond (test st) ((st.id, length rs) ∷ []) []
@@ -51,18 +47,19 @@ entries-append test [] st = by (test st) where
   by : (b : Bool) → cond {A = List (ℕ × ℕ)} b ((st.id, 0) ∷ []) [] ≡ [] ++ cond b ((st.id, 0) ∷ []) []
   by true = refl
   by false = refl
-entries-append test (x ∷ xs) st = by (test x) where
-  last : (b : Bool) → map next_entry (cond b ((st.id, length xs) ∷ []) []) ≡ cond b ((st.id, suc (length xs)) ∷ []) []
-  last true = refl
-  last false = refl
+entries-append test (x ∷ xs) st =
+    by (test x)
+    (ap (map next_entry) (entries-append test xs st) ∙ map-append next_entry (entries_of test xs) (cond (test st) ((st.id, length xs) ∷ []) []) ∙ ap (λ ys. map next_entry (entries_of test xs) ++ ys) (last (test st)))
+  where
+    last : (b : Bool) → map next_entry (cond b ((st.id, length xs) ∷ []) []) ≡ cond b ((st.id, suc (length xs)) ∷ []) []
+    last true = refl
+    last false = refl
 
-  rest : map next_entry (entries_of test (xs ++ st ∷ [])) ≡ map next_entry (entries_of test xs) ++ cond (test st) ((st.id, suc (length xs)) ∷ []) []
-  rest = ap (map next_entry) (entries-append test xs st) ∙ map-append next_entry (entries_of test xs) (cond (test st) ((st.id, length xs) ∷ []) []) ∙ ap (λ ys. map next_entry (entries_of test xs) ++ ys) (last (test st))
-
-  by : (b : Bool) → cond b ((x.id, 0) ∷ map next_entry (entries_of test (xs ++ st ∷ []))) (map next_entry (entries_of test (xs ++ st ∷ [])))
-      ≡ cond b ((x.id, 0) ∷ map next_entry (entries_of test xs)) (map next_entry (entries_of test xs)) ++ cond (test st) ((st.id, suc (length xs)) ∷ []) []
-  by true = ap (λ ys. (x.id, 0) ∷ ys) rest
-  by false = rest
+    by : (b : Bool) → map next_entry (entries_of test (xs ++ st ∷ [])) ≡ map next_entry (entries_of test xs) ++ cond (test st) ((st.id, suc (length xs)) ∷ []) []
+        → cond b ((x.id, 0) ∷ map next_entry (entries_of test (xs ++ st ∷ []))) (map next_entry (entries_of test (xs ++ st ∷ [])))
+        ≡ cond b ((x.id, 0) ∷ map next_entry (entries_of test xs)) (map next_entry (entries_of test xs)) ++ cond (test st) ((st.id, suc (length xs)) ∷ []) []
+    by true rest = ap (λ ys. (x.id, 0) ∷ ys) rest
+    by false rest = rest
 
 -- two tests that answer alike above an identifier
 entries-alike : (s t : Stream → Bool) (low last : ℕ) (rs : List Stream) → AreRising low last rs → ((st : Stream) → low < st.id → s st ≡ t st) → entries_of s rs ≡ entries_of t rs
@@ -97,24 +94,23 @@ entries-put s t low last (x ∷ xs) st old h f same others = at (eqb x.id st.id)
 -- those of the entries whose records pass another test
 filter-behind : (test : Stream → Bool) (x : Stream) (rs : List Stream) (es : List (ℕ × ℕ)) → filter (λ e. passes_at test (x ∷ rs) e.1) (map next_entry es) ≡ map next_entry (filter (λ e. passes_at test rs e.1) es)
 filter-behind test x rs [] = refl
-filter-behind test x rs (e ∷ es) = by (passes_at test rs e.1) where
-  by : (b : Bool) → cond b (next_entry e ∷ filter (λ d. passes_at test (x ∷ rs) d.1) (map next_entry es)) (filter (λ d. passes_at test (x ∷ rs) d.1) (map next_entry es))
+filter-behind test x rs (e ∷ es) = by (passes_at test rs e.1) (filter-behind test x rs es) where
+  by : (b : Bool) → filter (λ d. passes_at test (x ∷ rs) d.1) (map next_entry es) ≡ map next_entry (filter (λ d. passes_at test rs d.1) es)
+      → cond b (next_entry e ∷ filter (λ d. passes_at test (x ∷ rs) d.1) (map next_entry es)) (filter (λ d. passes_at test (x ∷ rs) d.1) (map next_entry es))
       ≡ map next_entry (cond b (e ∷ filter (λ d. passes_at test rs d.1) es) (filter (λ d. passes_at test rs d.1) es))
-  by true = ap (λ ds. next_entry e ∷ ds) (filter-behind test x rs es)
-  by false = filter-behind test x rs es
+  by true rest = ap (λ ds. next_entry e ∷ ds) rest
+  by false rest = rest
 
 filter-entries : (s t : Stream → Bool) → ((st : Stream) → s st ≡ false → t st ≡ false) → (rs : List Stream) → filter (λ e. passes_at t rs e.1) (entries_of s rs) ≡ entries_of t rs
 filter-entries s t less [] = refl
-filter-entries s t less (x ∷ xs) = by (s x) refl (t x) refl where
-  rest : filter (λ e. passes_at t (x ∷ xs) e.1) (map next_entry (entries_of s xs)) ≡ map next_entry (entries_of t xs)
-  rest = filter-behind t x xs (entries_of s xs) ∙ ap (map next_entry) (filter-entries s t less xs)
-
-  by : (a : Bool) → s x ≡ a → (b : Bool) → t x ≡ b → filter (λ e. passes_at t (x ∷ xs) e.1) (cond a ((x.id, 0) ∷ map next_entry (entries_of s xs)) (map next_entry (entries_of s xs)))
+filter-entries s t less (x ∷ xs) = by (s x) refl (t x) refl (filter-behind t x xs (entries_of s xs) ∙ ap (map next_entry) (filter-entries s t less xs)) where
+  by : (a : Bool) → s x ≡ a → (b : Bool) → t x ≡ b → filter (λ e. passes_at t (x ∷ xs) e.1) (map next_entry (entries_of s xs)) ≡ map next_entry (entries_of t xs)
+      → filter (λ e. passes_at t (x ∷ xs) e.1) (cond a ((x.id, 0) ∷ map next_entry (entries_of s xs)) (map next_entry (entries_of s xs)))
       ≡ cond b ((x.id, 0) ∷ map next_entry (entries_of t xs)) (map next_entry (entries_of t xs))
-  by true e true f = rw f (ap (λ ds. (x.id, 0) ∷ ds) rest)
-  by true e false f = rw f rest
-  by false e true f = absurd (true≢false (sym f ∙ less x e))
-  by false e false f = rest
+  by true e true f rest = rw f (ap (λ ds. (x.id, 0) ∷ ds) rest)
+  by true e false f rest = rw f rest
+  by false e true f rest = absurd (true≢false (sym f ∙ less x e))
+  by false e false f rest = rest
 
 -- ---- how many are live
 
@@ -134,7 +130,7 @@ pub count-cons : (x : Stream) (xs : List Stream) → live_count (x ∷ xs) ≡ a
 count-cons x xs = sym (length-lives (x ∷ xs)) ∙ by (lives x) where
   by : (b : Bool) → length (cond b (0 ∷ map suc (places_of lives xs)) (map suc (places_of lives xs))) ≡ as_count b + live_count xs
   by true = let same = length-map (places_of lives xs) suc in let n = length-lives xs in omega (arith, same, n)
-  by false = length-map (places_of lives xs) suc ∙ length-lives xs
+  by false = let same = length-map (places_of lives xs) suc in let n = length-lives xs in omega (arith, same, n)
 
 count-append : (rs : List Stream) (st : Stream) → live_count (rs ++ st ∷ []) ≡ live_count rs + as_count (lives st)
 count-append [] st = let one = count-cons st [] in omega (arith, one)
@@ -324,46 +320,71 @@ one-more [] true x = refl
 one-more [] false x = refl
 one-more (y ∷ ys) t x = let h = one-more ys t x in omega (arith, h)
 
+-- a stream that was live and is not
+pub ends-was : (a t : Bool) → (a && not t) ≡ true → (a ≡ true) × (t ≡ false)
+ends-was true true h = absurd (true≢false (sym h))
+ends-was true false h = (refl, refl)
+ends-was false t h = absurd (true≢false (sym h))
+
 pub count-small : (t : Bool) → as_count t ≤ 1
 count-small true = omega arith
 count-small false = omega arith
+
+-- no stream above the last has ended
+abbrev left_below : (ℕ → Bool) → ℕ → ℕ → Bool
+left_below left last id = cond (nat_lt last id) false (left id)
+
+same-below : (left : ℕ → Bool) (last low : ℕ) (xs : List Stream) → AreRising low last xs → entries_of (is_entered left) xs ≡ entries_of (is_entered (left_below left last)) xs
+same-below left last low [] h = refl
+same-below left last low (x ∷ xs) h =
+    let le = h.2 in
+    let under : nat_lt last x.id ≡ false = grind (arith, nat_tests, le) in
+    let alike : is_entered left x ≡ is_entered (left_below left last) x = ap (λ b. is_live x.kind || cond b false (left x.id)) (sym under) in
+    ap (λ b. cond b ((x.id, 0) ∷ map next_entry (entries_of (is_entered left) xs)) (map next_entry (entries_of (is_entered left) xs))) alike
+    ∙ ap (λ ds. cond (is_entered (left_below left last) x) ((x.id, 0) ∷ map next_entry ds) (map next_entry ds)) (same-below left last x.id xs h.3)
+
+-- nothing has
+abbrev none_left : ℕ → Bool
+none_left id = false
+
+or-none : (b : Bool) → b ≡ (b || false)
+or-none true = refl
+or-none false = refl
+
+live-there : (id : ℕ) (rs : List Stream) (st : Stream) → record_of rs id ≡ Some st → is_live st.kind ≡ true → 1 ≤ live_count rs
+live-there id [] st f w = cc
+live-there id (y ∷ ys) st f w = at (eqb y.id id) refl f (live-there id ys st) where
+  at : (b : Bool) → eqb y.id id ≡ b → cond b (Some y) (record_of ys id) ≡ Some st → (record_of ys id ≡ Some st → is_live st.kind ≡ true → 1 ≤ live_count ys) → 1 ≤ live_count (y ∷ ys)
+  at true e g rest =
+      let same : y ≡ st = cc in
+      let one : as_count (is_live st.kind) ≡ 1 = rw w refl in
+      let here = ap (λ (z : Stream). as_count (is_live z.kind)) same in
+      let count = count-cons y ys in
+      omega (arith, here, one, count)
+  at false e g rest = let tail = rest g w in let count = count-cons y ys in omega (arith, tail, count)
 
 pub kept-added : (rs : List Stream) (es : List (ℕ × ℕ)) (ended : ℕ) (ready : List ℕ) (last : ℕ) (st : Stream) → IsKept rs es ended ready last → last < st.id → st.id % 2 ≡ 1 →
     IsKept (rs ++ st ∷ []) (es ++ cond (is_live st.kind) ((st.id, length rs) ∷ []) []) ended (ready ++ cond (is_ready st) (st.id ∷ []) []) st.id
 kept-added rs es ended ready last st kept above odd = record {
   rising = rising-push 0 last rs st kept.rising (omega arith) above odd;
-  left = below;
-  entered = ap (λ (xs : List (ℕ × ℕ)). xs ++ cond (is_live st.kind) ((st.id, length rs) ∷ []) []) (kept.entered ∙ entries-same-below) ∙ ap (λ b. entries_of (is_entered below) rs ++ cond b ((st.id, length rs) ∷ []) []) own ∙ sym (entries-append (is_entered below) rs st);
+  left = left_below kept.left last;
+  entered = ap (λ (xs : List (ℕ × ℕ)). xs ++ cond (is_live st.kind) ((st.id, length rs) ∷ []) []) (kept.entered ∙ entries-same-below) ∙ ap (λ b. entries_of (is_entered (left_below kept.left last)) rs ++ cond b ((st.id, length rs) ∷ []) []) own ∙ sym (entries-append (is_entered (left_below kept.left last)) rs st);
   counted = let longer = one-more es (is_live st.kind) (st.id, length rs) in let count = count-append rs st in let n = kept.counted in omega (arith, longer, count, n);
   few = let count = count-append rs st in let n = kept.few in omega (arith, count, n);
   ready_listed = ap (λ (ids : List ℕ). ids ++ cond (is_ready st) (st.id ∷ []) []) kept.ready_listed ∙ sym (ids_of-append is_ready rs (st ∷ []));
 } where
-  -- no stream above the others has ended
-  below : ℕ → Bool
-  below id = cond (nat_lt last id) false (kept.left id)
+  own : is_live st.kind ≡ is_entered (left_below kept.left last) st
+  own =
+      let over : nat_lt last st.id ≡ true = grind (arith, nat_tests, above) in
+      or-none (is_live st.kind) ∙ ap (λ b. is_live st.kind || cond b false (kept.left st.id)) (sym over)
 
-  own : is_live st.kind ≡ is_entered below st
-  own = let over : nat_lt last st.id ≡ true = grind (arith, nat_tests, above) in rw over (by (is_live st.kind)) where
-    by : (b : Bool) → b ≡ (b || false)
-    by true = refl
-    by false = refl
-
-  same-below : (low : ℕ) (xs : List Stream) → AreRising low last xs → entries_of (is_entered kept.left) xs ≡ entries_of (is_entered below) xs
-  same-below low [] h = refl
-  same-below low (x ∷ xs) h =
-      let le = h.2 in
-      let under : nat_lt last x.id ≡ false = grind (arith, nat_tests, le) in
-      let alike : is_entered kept.left x ≡ is_entered below x = rw under refl in
-      ap (λ b. cond b ((x.id, 0) ∷ map next_entry (entries_of (is_entered kept.left) xs)) (map next_entry (entries_of (is_entered kept.left) xs))) alike
-      ∙ ap (λ ds. cond (is_entered below x) ((x.id, 0) ∷ map next_entry ds) (map next_entry ds)) (same-below x.id xs h.3)
-
-  entries-same-below : entries_of (is_entered kept.left) rs ≡ entries_of (is_entered below) rs
-  entries-same-below = same-below 0 rs kept.rising
+  entries-same-below : entries_of (is_entered kept.left) rs ≡ entries_of (is_entered (left_below kept.left last)) rs
+  entries-same-below = same-below kept.left last 0 rs kept.rising
 
 -- a record is written, and its stream is not live for the first time
 module _ (rs : List Stream) (es : List (ℕ × ℕ)) (ended : ℕ) (ready : List ℕ) (last : ℕ) (st old : Stream) (kept : IsKept rs es ended ready last) (found : record_of rs st.id ≡ Some old) (same : old.id ≡ st.id)
     (can : can_become old.kind st.kind ≡ true) where
-  after : ℕ → Bool
+  abbrev after : ℕ → Bool
   after = left_after kept.left st.id (is_entered kept.left old)
 
   entered-after : es ≡ entries_of (is_entered after) (put st rs)
@@ -394,21 +415,8 @@ module _ (rs : List Stream) (es : List (ℕ × ℕ)) (ended : ℕ) (ready : List
   -- it was in the map
   pub kept-there : is_live old.kind ≡ true → ended < length es
   kept-there was =
-      let count = count-put rs st old found in
-      let one : as_count (is_live old.kind) ≡ 1 = rw was refl in
       let n = kept.counted in
-      let small = count-small (is_live st.kind) in
-      omega (arith, count, one, n, live-there rs old found was) where
-        live-there : (xs : List Stream) (x : Stream) → record_of xs st.id ≡ Some x → is_live x.kind ≡ true → 1 ≤ live_count xs
-        live-there [] x f w = cc
-        live-there (y ∷ ys) x f w = at (eqb y.id st.id) refl f (live-there ys x) where
-          at : (b : Bool) → eqb y.id st.id ≡ b → cond b (Some y) (record_of ys st.id) ≡ Some x → (record_of ys st.id ≡ Some x → is_live x.kind ≡ true → 1 ≤ live_count ys) → 1 ≤ live_count (y ∷ ys)
-          at true e g rest =
-              let same : y ≡ x = cc in
-              let here : as_count (is_live y.kind) ≡ 1 = ap (λ (z : Stream). as_count (is_live z.kind)) same ∙ rw w refl in
-              let count = count-cons y ys in
-              omega (arith, here, count)
-          at false e g rest = let tail = rest g w in let count = count-cons y ys in omega (arith, tail, count)
+      omega (arith, n, live-there st.id rs old found was)
 
   -- it was live and is not
   pub kept-ends : is_live old.kind ≡ true → is_live st.kind ≡ false → IsKept (put st rs) (entries_left (ended + 1) (put st rs) es) (ended_left (ended + 1) es) (listed (is_ready st) st.id ready) last
@@ -423,19 +431,12 @@ module _ (rs : List Stream) (es : List (ℕ × ℕ)) (ended : ℕ) (ready : List
     swept : filter (λ e. passes_at lives (put st rs) e.1) es ≡ entries_of lives (put st rs)
     swept = ap (filter (λ e. passes_at lives (put st rs) e.1)) entered-after ∙ filter-entries (is_entered after) lives (unentered after) (put st rs)
 
-    none : ℕ → Bool
-    none id = false
-
-    or-none : (b : Bool) → b ≡ (b || false)
-    or-none true = refl
-    or-none false = refl
-
     by : (b : Bool) → are_dropped (ended + 1) es ≡ b
         → IsKept (put st rs) (cond b (filter (λ e. passes_at lives (put st rs) e.1) es) es) (cond b 0 (ended + 1)) (listed (is_ready st) st.id ready) last
     by true e = record {
       rising = rising-after;
-      left = none;
-      entered = swept ∙ entries-alike lives (is_entered none) 0 last (put st rs) rising-after (λ x l. or-none (is_live x.kind));
+      left = none_left;
+      entered = swept ∙ entries-alike lives (is_entered none_left) 0 last (put st rs) rising-after (λ x l. or-none (is_live x.kind));
       counted = let all = ap length swept ∙ length-entered lives (put st rs) ∙ length-lives (put st rs) in omega (arith, all);
       few = omega arith;
       ready_listed = ready-after;
@@ -448,6 +449,14 @@ module _ (rs : List Stream) (es : List (ℕ × ℕ)) (ended : ℕ) (ready : List
       few = let n = kept.counted in let less : 2 * (ended + 1) ≤ length es + 32 = Rattle.std.proofs.Common.ltb-false (length es + 32) (2 * (ended + 1)) e in omega (arith, n, count, less);
       ready_listed = ready-after;
     }
+
+  -- those that can send are no more than are in the map
+  pub ready-within : length (listed (is_ready st) st.id ready) ≤ length es
+  ready-within =
+      let fewer = ready-fewer after (put st rs) in
+      let entries = ap length entered-after ∙ length-entered (is_entered after) (put st rs) in
+      let able = ap length ready-after in
+      omega (arith, fewer, entries, able)
 
   -- the entries become no more
   pub left-fewer : length (entries_left (ended + 1) (put st rs) es) ≤ length es
@@ -467,15 +476,28 @@ module _ (rs : List Stream) (es : List (ℕ × ℕ)) (ended : ℕ) (ready : List
 pub kept-anew : (last : ℕ) (rs : List Stream) (es : List (ℕ × ℕ)) → AreRising 0 last rs → es ≡ entries_of lives rs → IsKept rs es 0 (ids_of is_ready rs) last
 kept-anew last rs es rising live = record {
   rising = rising;
-  left = none;
-  entered = live ∙ entries-alike lives (is_entered none) 0 last rs rising (λ x l. or-none (is_live x.kind));
+  left = none_left;
+  entered = live ∙ entries-alike lives (is_entered none_left) 0 last rs rising (λ x l. or-none (is_live x.kind));
   counted = let all = ap length live ∙ length-entered lives rs ∙ length-lives rs in omega (arith, all);
   few = omega arith;
   ready_listed = refl;
-} where
-  none : ℕ → Bool
-  none id = false
+}
 
-  or-none : (b : Bool) → b ≡ (b || false)
-  or-none true = refl
-  or-none false = refl
+-- ---- one more has ended
+
+pub kept-entries : (ended : ℕ) (rs : List Stream) (es : List (ℕ × ℕ)) → 2 * ended ≤ length es + 32 → es ≡ entries_left ended rs es
+kept-entries ended rs es few = let stays : are_dropped ended es ≡ false = grind (arith, nat_tests, few) in ap (λ b. cond b (filter (λ e. passes_at lives rs e.1) es) es) (sym stays)
+
+pub kept-count : (ended : ℕ) (es : List (ℕ × ℕ)) → 2 * ended ≤ length es + 32 → ended ≡ ended_left ended es
+kept-count ended es few = let stays : are_dropped ended es ≡ false = grind (arith, nat_tests, few) in ap (λ b. cond b 0 ended) (sym stays)
+
+pub swept-entries : (ended : ℕ) (rs : List Stream) (es : List (ℕ × ℕ)) → length es + 32 < 2 * ended → filter (λ e. passes_at lives rs e.1) es ≡ entries_left ended rs es
+swept-entries ended rs es many = let goes : are_dropped ended es ≡ true = grind (arith, nat_tests, many) in ap (λ b. cond b (filter (λ e. passes_at lives rs e.1) es) es) (sym goes)
+
+pub swept-count : (ended : ℕ) (es : List (ℕ × ℕ)) → length es + 32 < 2 * ended → 0 ≡ ended_left ended es
+swept-count ended es many = let goes : are_dropped ended es ≡ true = grind (arith, nat_tests, many) in ap (λ b. cond b 0 ended) (sym goes)
+
+-- what holds of a success, where there is one
+pub on_ok : {A E : Type 0} (r : Result A E) (P : Type 0) → IsOk r → OnOk r P → P
+on_ok (Ok x) P is h = h
+on_ok (Err e) P is h = absurd (true≢false (sym is))

@@ -53,7 +53,7 @@ pub(crate) fn note_ended<A: Allocator>(
     }
     live.retain(
         |_id: &u32, place: &mut usize| -> bool
-            ensures { (result ≡ kept.passes_at kept.lives records.now place.old) × (place.new ≡ place.old) }
+            ensures { (result ≡ kept.passes_at kept.lives records.entry.now place.old) × (place.new ≡ place.old) }
         { is_live_at(records, *place) },
     );
     0

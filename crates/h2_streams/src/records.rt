@@ -4,7 +4,7 @@
 //! Rests on `kinds`, `live` (the map of the live streams), `places` (the search by identifier) and `ids` (rising lists).
 //! Definitions: `h2_spec/specs/Stream.antt`; what the fields keep: `specs/Kept.antt`.
 
-ghost use Rattle.std.specs.Prelude.{◌≡◌, not, take, ◌<◌, ◌≤◌, ◌%◌, ◌==◌, ◌||◌, nat_lt, length, IsOk, OnOk, OnErr, IfOk, IfErr, IfSome, IsTrue, is_err, slice_get};
+ghost use Rattle.std.specs.Prelude.{◌≡◌, not, take, ◌<◌, ◌≤◌, ◌%◌, ◌==◌, ◌&&◌, ◌||◌, nat_lt, length, IsOk, OnOk, OnErr, IfOk, IfErr, IfSome, IsTrue, is_err, slice_get};
 ghost use Rattle.std.specs.List.{AllByRecursion, filter, list_any};
 ghost use Rattle.std.specs.Option.{option_copied};
 ghost use Rattle.std.specs.Vec.{vec_capacity};
@@ -381,10 +381,17 @@ impl<A: Allocator> Streams<A> {
         let place = place_in(&self.live, self.records.as_slice(), stream.id);
         let was_live = write(&mut self.records, place, stream);
         list(&mut self.ready, stream.id, ready);
-        if was_live && !live {
+        if has_ended(was_live, live) {
             self.ended = note_ended(&mut self.live, self.records.as_slice(), self.ended);
         }
     }
+}
+
+/// Whether a stream has ended, by whether it was live and is.
+fn has_ended(was_live: bool, live: bool) -> bool
+    ensures { result ≡ (was_live && not live) }
+{
+    was_live && !live
 }
 
 fn first(ids: &[u32]) -> Option<u32>

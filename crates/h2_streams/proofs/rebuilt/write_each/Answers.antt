@@ -20,7 +20,7 @@ loop-stream-preserved g c =
     let left : drop i c.args.changed.now ≡ st ∷ drop (i + 1) c.args.changed.now = drop_more c.args.changed.now i st c.loop-stream-test.true ∙ ap (λ x. x ∷ drop (i + 1) c.args.changed.now) (sym c.stream-item.is) in
     let next = writes-next _ _ st (drop (i + 1) c.args.changed.now) _ _ (rw left at w.written) in
     record {
-      written = rw (c.enter.ensures.entries, c.place_of-place.ensures.value, c.is_live.ensures, c.write.ensures.items) next;
+      written = rw (c.enter.ensures.entries, c.place_of-place.ensures.value, c.as_slice.ensures.value, c.is_live.ensures, c.write.ensures.items) next;
       enough = omega (arith, w.enough, c.enter.ensures.spare);
     }
 
