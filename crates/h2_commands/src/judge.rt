@@ -1,10 +1,11 @@
 //! The verdict on one case of a file, with the words of its own where it has some, and its text.
 //! Rests on h2_check, `books` and h2_words; definitions: `specs/CheckProgram.antt`.
 
-ghost use Rattle.std.specs.Prelude.{◌≡◌, [], Some, Ok, true, map, unwrap_or, IfOk, OnOk};
+ghost use Rattle.std.specs.Prelude.{◌≡◌, [], Some, Ok, true, map, unwrap_or, is_err, IfOk, OnOk};
 ghost use Rattle.std.specs.Option.{option_map};
 ghost use Rattle.std.specs.Path.{path_buf_bytes, path_bytes, path_parent};
 ghost use Rattle.h2_commands.specs.Books.{book_said};
+ghost use Rattle.h2_commands.specs.declared.fault.BenchFault.TheVariants.{NoMemory};
 ghost use Rattle.h2_check.specs.Cases.{Fails};
 ghost use Rattle.h2_check.specs.CaseWords.{with_case_words};
 ghost use Rattle.h2_check.specs.Files.{title_in};
@@ -184,6 +185,29 @@ fn book_place(alloc: Global, file: &str, book: &str) -> Result<PathBuf, AllocErr
     directory_of(file).join(alloc, book)
 }
 
+/// The verdict on a case whose book is refused, in these words; where that is for memory, there is none.
+fn judge_fault(
+    alloc: Global,
+    case: Case<'_, '_>,
+    fault: BenchFault,
+    found: &str,
+) -> Result<Judged, AllocError>
+    ensures judged { let lines = map (λ l. l.now) case.entry.lines.now in
+        IfOk result (IsJudged (λ o. o ≡ Fails) case.entry.number case.entry.file.now (title_in lines)) }
+    ensures memory { fault ≡ NoMemory → is_err result ≡ true }
+{
+    match fault {
+        BenchFault::NoMemory => Err(AllocError),
+        BenchFault::BadEntry(_)
+        | BenchFault::BadConfig
+        | BenchFault::Read
+        | BenchFault::BadHex
+        | BenchFault::BadAnswer
+        | BenchFault::BadCommand
+        | BenchFault::Socket => judge_refused(alloc, case, found),
+    }
+}
+
 /// The verdict on a case with the book that these words say.
 fn judge_book<F: Files>(
     alloc: Global,
@@ -200,8 +224,7 @@ fn judge_book<F: Files>(
     let mut why = Gathered::new(alloc);
     match book_for_words(alloc, words, files, &mut why) {
         Ok(book) => judge_with(alloc, &book, config, case),
-        Err(BenchFault::NoMemory) => Err(AllocError),
-        Err(_) => judge_refused(alloc, case, said_in(&why)),
+        Err(fault) => judge_fault(alloc, case, fault, said_in(&why)),
     }
 }
 
