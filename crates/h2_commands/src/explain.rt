@@ -50,7 +50,7 @@ impl Outcome {
     /// The exit status: 4 where a connection error ended the connection, else 0; with `--strict` that of the verdict.
     pub fn status(self) -> u8
         ensures value { result ≡ outcome_status self }
-        ensures written { (result == 3) ≡ false }
+        ensures other { (result == 3) ≡ false }
     {
         if self.strict {
             self.verdict.status(self.ended)

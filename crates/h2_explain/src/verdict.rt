@@ -2,7 +2,7 @@
 //! comes of them.
 //! Rests on `warning`; definitions: `specs/Verdicts.antt`.
 
-ghost use Rattle.std.specs.Prelude.{◌≡◌, [], ◌||◌, nat_lt, IfOk, OnOk};
+ghost use Rattle.std.specs.Prelude.{◌≡◌, ◌==◌, false, OnOk};
 ghost use Rattle.h2_explain.specs.Verdicts.{is_limit, no_tally, strict_status, tally_with, verdict_at, breaks_rule};
 
 use crate::account::has_ended;
@@ -106,7 +106,8 @@ impl Verdict {
     /// 5: the client broke a rule. 6: it was above a limit of this server. 7: octets of a frame are left. 4: a connection
     /// error ended the connection, and it broke no rule. 0: else. The first of these decides.
     pub fn status(self, ended: bool) -> u8
-        ensures { result ≡ strict_status self ended }
+        ensures value { result ≡ strict_status self ended }
+        ensures other { (result == 3) ≡ false }
     {
         if self.broken {
             5

@@ -11,7 +11,7 @@ pub returns-in-Ok-clause-printed : goal.returns-in-Ok-clause-printed
 returns-in-Ok-clause-printed g c = λ well held is.
     let x = c.explain.ensures.gains well held is in
     let explains = subst (λ (r : Result Summary ExplainFault). IsExplanation c.args.form (is_err r) c.args.conn.now.state c.args.octets.now x.0) c.in-Ok.is x.2 in
-    (x.0, x.1, status-of c.args.form c.args.conn.now.state c.args.octets.now x.0 _ _ explains c.in-Ok.ensures.summary c.is_some.ensures)
+    (x.0, x.1, status-of c.args.form c.args.conn.now.state c.args.octets.now x.0 c.in-Ok.summary c.is_some.result explains c.in-Ok.ensures.summary c.is_some.ensures)
 
 pub returns-in-Err-clause-printed : goal.returns-in-Err-clause-printed
 returns-in-Err-clause-printed g c = λ well held is.
