@@ -9,9 +9,9 @@ use h2_console::{
 use h2_device::Gathered;
 use h2_reasons::Source;
 use h2_words::command::{BookWords, Debug, Devices, Explain, Refusal};
+use std::alloc::AllocError;
 use std::cell::Cell;
 use std::io::{ErrorKind, Stderr, Stdin, Stdout};
-use std::{fs, io};
 
 /// Standard output as the program writes to it.
 pub type Standard<'r> = WaitingOutput<'r, HostRuntime, Stdout>;

@@ -1,6 +1,6 @@
 //! Which part of an ANSWER is at fault: METHOD|PATH|STATUS|BODYHEX, and further parts NAME=VALUE or early.
 
-use crate::entry::{Refusal, say_entry};
+use crate::entry::{Refusal, field_reason, say_entry};
 use crate::place::Quoted;
 use h2_describe::say::{Cut, Hex, Say, Words};
 use h2_describe::say_all;
@@ -89,60 +89,61 @@ fn say_bad_part(place: usize, word: &str, out: &mut Words) {
     }
 }
 
-/// Says why the book refuses the answer that a word says.
-pub fn say_answer(place: usize, word: &str, refusal: Refusal, out: &mut Words) {
-    say_all!(out; Answer(place));
-    match refusal {
-        Refusal::Status => say_all!(out; ", part 3, STATUS: "),
-        Refusal::Body => say_all!(out; ", part 4, BODYHEX: "),
-        Refusal::Field => say_field_place(word, out),
-        Refusal::Length => say_all!(out; ": "),
-    }
-    say_what(word, refusal, out);
+/// A field that is not allowed: which part it is, its name, and why.
+#[derive(Clone, Copy)]
+struct BadField<'w> {
+    part: usize,
+    name: &'w str,
+    reason: &'static str,
 }
 
-/// The fields of a word, cut at their first `=`.
-fn field_in(part: &str) -> Option<(&str, &str)> {
-    part.split_once('=')
-}
-
-/// Which further part is the first field that is not allowed.
-fn say_field_place(word: &str, out: &mut Words) {
+/// The first field of a word that is not allowed.
+fn bad_field(word: &str) -> Option<BadField<'_>> {
     for (before, part) in word.split('|').enumerate().skip(4) {
-        if let Some((name, value)) = field_in(part)
-            && crate::entry::field_reason(name.as_bytes(), value.as_bytes()).is_some()
+        if let Some((name, value)) = part.split_once('=')
+            && let Some(reason) = field_reason(name.as_bytes(), value.as_bytes())
         {
-            let number = before.saturating_add(1);
-            say_all!(out; ", part ", number, ": the field ", Quoted(name.as_bytes()), " ");
-            return;
+            let part = before.saturating_add(1);
+            return Some(BadField { part, name, reason });
         }
     }
-    say_all!(out; ": ");
-}
-
-fn say_what(word: &str, refusal: Refusal, out: &mut Words) {
-    let status = part_of(word, 3);
-    let octets = part_of(word, 4).len() / 2;
-    match refusal {
-        Refusal::Field => say_field(word, out),
-        _ => say_entry(
-            refusal,
-            part_of(word, 1),
-            Cut(status.as_bytes()),
-            octets,
-            out,
-        ),
-    }
+    None
 }
 
 fn say_field(word: &str, out: &mut Words) {
-    for part in word.split('|').skip(4) {
-        if let Some((name, value)) = field_in(part)
-            && let Some(reason) = crate::entry::field_reason(name.as_bytes(), value.as_bytes())
-        {
-            say_all!(out; reason, ".\n");
-            return;
-        }
+    match bad_field(word) {
+        Some(field) => say_all!(
+            out;
+            ", part ",
+            field.part,
+            ": the field ",
+            Quoted(field.name.as_bytes()),
+            " ",
+            field.reason,
+            ".\n"
+        ),
+        None => ": a field is not allowed in an answer.\n".say(out),
     }
-    say_all!(out; "a field is not allowed in an answer.\n");
+}
+
+/// Where in a word the reason of a refusal is.
+fn place_of(refusal: Refusal) -> &'static str {
+    match refusal {
+        Refusal::Status => ", part 3, STATUS: ",
+        Refusal::Body => ", part 4, BODYHEX: ",
+        Refusal::Field | Refusal::Length => ": ",
+    }
+}
+
+/// Says why the book refuses the answer that a word says.
+pub fn say_answer(place: usize, word: &str, refusal: Refusal, out: &mut Words) {
+    Answer(place).say(out);
+    if let Refusal::Field = refusal {
+        say_field(word, out);
+        return;
+    }
+    place_of(refusal).say(out);
+    let status = Cut(part_of(word, 3).as_bytes());
+    let octets = part_of(word, 4).len() / 2;
+    say_entry(refusal, part_of(word, 1), status, octets, out);
 }
