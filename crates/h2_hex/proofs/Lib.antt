@@ -1,0 +1,3 @@
+pub mod Blocks
+mod Pairs
+pub mod Relations

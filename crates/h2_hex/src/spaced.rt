@@ -1,0 +1,45 @@
+//! White space dropped: the digits at the front of a text, as many as a block takes.
+//! Rests on arrayvec; definition: `is_digit` of `specs/HexText.antt`.
+
+ghost use Rattle.std.specs.Prelude.{◌≡◌, ◌<◌, ◌≤◌, ◌∷◌, ◌++◌, [], filter, length, not, take};
+ghost use Rattle.h2_hex.specs.HexText.{is_digit, most_digits};
+
+use crate::block::DIGITS;
+use arrayvec::ArrayVec;
+
+/// Digits without white space, as many as are decoded at a time.
+pub(crate) type Digits = ArrayVec<u8, DIGITS>;
+
+/// Whether an octet is a space, a tab, a carriage return or a line feed.
+fn is_space(octet: u8) -> bool
+    ensures { result ≡ not (is_digit octet) }
+{
+    octet == b' ' || octet == b'\t' || octet == b'\r' || octet == b'\n'
+}
+
+/// Puts an octet after the others, unless it is white space.
+fn keep_digit(digits: &mut Digits, octet: u8)
+    requires { length digits.old.items < most_digits }
+    ensures { digits.new.items ≡ digits.old.items ++ filter is_digit (octet ∷ []) }
+{
+    if !is_space(octet) {
+        digits.push(octet);
+    }
+}
+
+/// Takes the digits at the front of a text, as many as there is space for, and says how far that is in the text.
+pub(crate) fn take_digits(text: &[u8], digits: &mut Digits) -> usize
+    requires empty { digits.old.items ≡ [] }
+    ensures digits { digits.new.items ≡ filter is_digit (take result text.now) }
+    ensures within { result ≤ length text.now }
+    ensures few { length digits.new.items ≤ most_digits }
+    ensures whole { length digits.new.items < most_digits → result ≡ length text.now }
+    ensures some { 0 < length text.now → 0 < result }
+{
+    let mut used = 0;
+    while used < text.len() && !digits.is_full() {
+        keep_digit(digits, text[used]);
+        used += 1;
+    }
+    used
+}
