@@ -32,6 +32,7 @@ pub(crate) fn empty_splitter<A: Allocator>(phase: Phase, alloc: A) -> Splitter<A
 
 /// Takes the item that octets begin with, if there is a whole one, and returns how many of them it takes; none after
 /// the end. Where memory is refused nothing of it is done.
+#[inline(always)]
 pub(crate) fn take_first<'b, A: Allocator + Copy>(
     state: &mut State<'b, A>,
     octets: &[u8],

@@ -99,6 +99,7 @@ impl Point {
 
 /// The instruction at the front of the octets, and how many octets it takes (RFC 7541, 6); reading goes on from a point
 /// of it.
+#[inline(always)]
 pub fn shape_from(point: Point, octets: &[u8]) -> Result<(Shape<'_>, usize), ShapeFault>
     requires point { IsPoint octets.now point }
     ensures read { read_of shape_of result ≡ spec.instr_at octets.now }
@@ -119,6 +120,7 @@ pub fn shape_from(point: Point, octets: &[u8]) -> Result<(Shape<'_>, usize), Sha
 }
 
 /// The instruction at the front of the octets, from its first octet.
+#[inline(always)]
 fn from_first(octets: &[u8]) -> Result<(Shape<'_>, usize), ShapeFault>
     ensures { IsReadOn octets.now Nothing 0 0 result }
 {

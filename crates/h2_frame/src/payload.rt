@@ -272,6 +272,7 @@ pub enum Part<'a> {
 
 /// What a frame's payload holds, by the frame's type; the refusals are those of the readers above, and PRIORITY
 /// has 5 octets, PING 8 (RFC 9113, 6).
+#[inline(always)]
 #[tactic(auto, unfolding(h2_spec::specs::Payload::part_as))]
 pub fn part_of(frame: FrameRef<'_>) -> Result<Part<'_>, Cause>
     ensures { seen part_seen result ≡ spec.part_of frame.entry.head frame.entry.payload.now }
