@@ -8,7 +8,7 @@ use Rattle.std.specs.Box.{box_value}
 use Rattle.clap.specs.declared.Error.{Error}
 use Rattle.clap.specs.declared.error.ErrorKind.{ErrorKind}
 use Rattle.clap.specs.declared.error.ErrorKind.TheVariants.{OutOfMemory}
-use Rattle.h2_words.specs.Grammar.{Asked, BookAsked, batch, play, asked_at, asked_by, bench_app, asked_of, devices_at, devices_of, unless_refused}
+use Rattle.h2_words.specs.Grammar.{Asked, BookAsked, batch, play, asked_at, asked_by, bench_app, asked_of, devices_at, devices_found, unless_refused}
 use Rattle.h2_words.specs.Plans.{Refuses}
 use Rattle.h2_words.specs.declared.command.Refusal.{Refusal}
 use Rattle.h2_words.specs.declared.command.Refusal.TheVariants.{Words, NoMemory}
@@ -84,11 +84,8 @@ printed_refuses a texts words e (Words text) app same kinds memory =
 pub plays-alike : (a b : Config) (m n : ℕ) (d e : Bool) (x y : BookAsked) → a ≡ b → m ≡ n → d ≡ e → x ≡ y → Some (batch (play a m d x)) ≡ Some (batch (play b n e y))
 plays-alike a b m n d e x y ab mn de xy = rw (ab, mn, de, xy) refl
 
-pub devices_found : (m : ArgMatches) (words : List Text) (rows : List Row) → subcommand_rows_of m ≡ subcommand_of bench_app words
-    → Some rows ≡ option_map (λ p. p.1) (subcommand_rows_of m) → devices_of words ≡ Some (devices_at rows)
-unfolding devices_of
-devices_found m words rows same found = at_rows (subcommand_of bench_app words) (found ∙ ap (λ (o : Option (Text × List Row)). option_map (λ p. p.1) o) same)
-  where
-    at_rows : (o : Option (Text × List Row)) → Some rows ≡ option_map (λ p. p.1) o → option_map (λ p. devices_at p.1) o ≡ Some (devices_at rows)
-    at_rows None h = cc
-    at_rows (Some p) h = let same_rows : rows ≡ p.1 = cc in rw same_rows refl
+pub devices_entered : (o : Option (Text × List Row)) (rows : List Row) → Some rows ≡ option_map (λ p. p.1) o → devices_found o ≡ Some (devices_at rows)
+devices_entered None rows h = cc
+devices_entered (Some p) rows h =
+    let same : rows ≡ p.1 = cc in
+    rw same refl

@@ -278,9 +278,13 @@ devices_at rows = record {
   prompt = text_at (codes "prompt") rows;
 }
 
+-- what a command's name and rows say of devices, if there are any
+abbrev pub devices_found : Option (Text × List Row) → Option DevicesAsked
+devices_found entered = option_map (λ p. devices_at p.1) entered
+
 -- what words say of devices, if they name a command
-unfoldable pub devices_of : List Text → Option DevicesAsked
-devices_of words = option_map (λ p. devices_at p.1) (subcommand_of bench_app words)
+abbrev pub devices_of : List Text → Option DevicesAsked
+devices_of words = devices_found (subcommand_of bench_app words)
 
 -- what is asked, if no kind of error comes
 abbrev pub unless_refused : Kinds → Option Asked → Option Asked

@@ -4,7 +4,7 @@
 ghost use Rattle.std.specs.Prelude.{◌≡◌, ◌≤◌, length, IfOk, IfErr, IfSome, bytes_eq, Some, None, codes, map, option_map};
 ghost use Rattle.clap.specs.Words.{App, Rule, found_of, kind_of, new_app, rows_of, subcommand_of, subcommand_rows_of, with_rule, with_subcommand};
 ghost use Rattle.clap.specs.declared.error.ErrorKind.TheVariants.{OutOfMemory};
-ghost use Rattle.h2_words.specs.Grammar.{answer_rule, answers_among, asked_at, asked_by, asked_of, asm_app, bench_app, book_at, book_rule, check_app, color_rule, config_at, count_rule, credit_rule, cut_rule, debug_app, devices_at, devices_of, dis_app, each_rule, explain_app, file_among, files_among, files_rule, frame_rule, full_rule, in_rule, is_answer, is_set, json_rule, limit_rule, number_at, path_in, play_app, port_rule, prompt_rule, quiet_rule, raw_rule, serve_app, streams_rule, strict_rule, table_app, table_rule, text_at, texts_at, top_app, why_rule, window_rule, with_book, with_limits, with_octets, with_settings, with_text};
+ghost use Rattle.h2_words.specs.Grammar.{answer_rule, answers_among, asked_at, asked_by, asked_of, asm_app, bench_app, book_at, book_rule, check_app, color_rule, config_at, count_rule, credit_rule, cut_rule, debug_app, devices_at, devices_found, devices_of, dis_app, each_rule, explain_app, file_among, files_among, files_rule, frame_rule, full_rule, in_rule, is_answer, is_set, json_rule, limit_rule, number_at, path_in, play_app, port_rule, prompt_rule, quiet_rule, raw_rule, serve_app, streams_rule, strict_rule, table_app, table_rule, text_at, texts_at, top_app, why_rule, window_rule, with_book, with_limits, with_octets, with_settings, with_text};
 ghost use Rattle.h2_words.specs.Built.{IsArg, IsCommand, flag_rule, number_rule, option_rule, text_rule};
 ghost use Rattle.h2_words.specs.Plans.{book_asked, devices_asked, planned, Refuses};
 
@@ -876,15 +876,22 @@ fn devices_in<'a>(matches: &ArgMatches<'a>) -> Devices<'a>
     }
 }
 
+/// What clap finds in the words says of devices, where there is a command.
+fn devices_within<'a>(matches: &ArgMatches<'a>) -> Option<Devices<'a>>
+    ensures { IfSome result (λ devices. devices_found (subcommand_rows_of matches.now) ≡ Some (devices_asked devices)) }
+{
+    match matches.subcommand() {
+        Some((_, inner)) => Some(devices_in(inner)),
+        None => None,
+    }
+}
+
 /// What the words say of devices, where they name a command; `None` also where memory is refused.
 pub fn devices_of<'a>(alloc: Global, words: &'a Words) -> Option<Devices<'a>>
     ensures { IfSome result (λ devices. devices_of words.entry.now ≡ Some (devices_asked devices)) }
 {
     match matches_of(alloc, words) {
-        Ok(matches) => match matches.subcommand() {
-            Some((_, inner)) => Some(devices_in(inner)),
-            None => None,
-        },
+        Ok(matches) => devices_within(&matches),
         Err(_) => None,
     }
 }
