@@ -99,7 +99,7 @@ def inputs(program):
             yield path, subprocess.run([program, "asm"], stdin=file, stdout=subprocess.PIPE, check=True).stdout.decode(), words
     for number in range(100):
         octets, words = rebuild.session(random.Random(f"schema {number}"))
-        yield f"random session {number}", octets.hex() + "\n", words
+        yield f"random session {number}", octets.hex() + "\n", words + ["--strict"] * (number % 2)
 
 
 def spoiled(line):
