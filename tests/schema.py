@@ -99,7 +99,7 @@ def inputs(program):
             yield path, subprocess.run([program, "asm"], stdin=file, stdout=subprocess.PIPE, check=True).stdout.decode(), words
     for number in range(100):
         octets, words = rebuild.session(random.Random(f"schema {number}"))
-        yield f"random session {number}", octets.hex() + "\n", words
+        yield f"random session {number}", octets.hex() + "\n", words + ["--strict"] * (number % 2)
     for name, octets, words in (("no octets", "", []), ("no hex", "4", []), ("a limit", "", ["--streams", "0"]), ("a status", "", ["GET|/|199|"])):
         yield name, octets, words
 

@@ -74,7 +74,7 @@ returns-in-Ok-None-clause-summary g c =
     IfOk-weaker c.summary_if.result _ _
     (λ t h. subst (λ (r : Summary). IsSummary c.args.conn.now.state c.args.octets.now r) (sym h)
     (summary-is c.args.conn.now.state c.loop-item.conn.state c.args.octets.now (drop c.loop-item.at c.args.octets.now) c.take_explained.new.conn c.summary_of-summary.result c.loop-item.items _ _ _ _ none c.loop-item.invariant.run c.loop-item.invariant.summary
-    c.summary_of-summary.ensures.items c.summary_of-summary.ensures.ended (c.len.ensures ∙ ap length c.octets_from-rest.ensures) c.summary_of-summary.ensures.verdict c.loop-item.invariant.tally))
+    c.summary_of-summary.ensures.items c.summary_of-summary.ensures.ended (ap length c.octets_from-rest.ensures) c.summary_of-summary.ensures.verdict c.loop-item.invariant.tally))
     c.summary_if.ensures.summary
 
 pub returns-in-Ok-None-clause-run : goal.returns-in-Ok-None-clause-run
