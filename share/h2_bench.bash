@@ -12,7 +12,7 @@ _h2_bench() {
         table) words="--in --quiet --help" ;;
         debug) words="--streams --credit --table --window --frame --book --why --quiet --in --raw --prompt --help" ;;
         serve) words="--streams --credit --table --window --frame --book --why --quiet --help" ;;
-        explain) words="--streams --credit --table --window --frame --json --color --book --why --quiet --raw --help" ;;
+        explain) words="--streams --credit --table --window --frame --json --color --strict --full --book --why --quiet --raw --help" ;;
         check) words="--streams --credit --table --window --frame --book --quiet --help" ;;
     esac
     if [[ $current == -* ]]; then

@@ -51,6 +51,8 @@ complete -c h2_bench -n '__fish_seen_subcommand_from explain' -l window -x -d 'S
 complete -c h2_bench -n '__fish_seen_subcommand_from explain' -l frame -x -d 'SETTINGS_MAX_FRAME_SIZE of the server, 16384 to 65536; 16384 where none is given'
 complete -c h2_bench -n '__fish_seen_subcommand_from explain' -l json -d 'Writes one JSON object a line'
 complete -c h2_bench -n '__fish_seen_subcommand_from explain' -l color -d 'Colours the lines of the text by what they say'
+complete -c h2_bench -n '__fish_seen_subcommand_from explain' -l strict -d 'Ends with status 5 where the client broke a rule, 6 above a limit, 7 within a frame, and says how many errors and warnings there were'
+complete -c h2_bench -n '__fish_seen_subcommand_from explain' -l full -d 'Writes long texts whole; without it the first 100 octets of each'
 complete -c h2_bench -n '__fish_seen_subcommand_from explain' -l book -r -d 'A TOML file of answers, which come before those of the command line'
 complete -c h2_bench -n '__fish_seen_subcommand_from explain' -l why -d 'Nothing more: the reason is written to standard error in any case'
 complete -c h2_bench -n '__fish_seen_subcommand_from explain' -l quiet -d 'Writes nothing to standard error where something is refused'
