@@ -1,18 +1,18 @@
 -- What holds of the map of the live streams, and what is found or changed by way of it.
-use Rattle.std.proofs.Common.{◌≡◌, ℕ, zero, suc, ◌+◌, ◌*◌, ◌<◌, ◌≤◌, ◌%◌, Bool, true, false, ◌&&◌, ◌||◌, not, nat_eq, nat_lt, map, filter, cond, eqb, List, [], ◌∷◌, ◌++◌, length, find, Some, None, IfSome, IsOk, OnOk, Ok, Err, Result, Option, refl, ap, ◌∙◌, sym, arith, true≢false}
+use Rattle.std.proofs.Common.{◌≡◌, ℕ, suc, ◌+◌, ◌*◌, ◌<◌, ◌≤◌, ◌%◌, Bool, true, false, ◌&&◌, ◌||◌, not, nat_eq, nat_lt, map, filter, cond, eqb, List, [], ◌∷◌, ◌++◌, length, find, Some, None, IfSome, IsOk, OnOk, Ok, Err, Result, Option, refl, ap, ◌∙◌, sym, arith, true≢false}
 use Rattle.std.proofs.lemmas.Bool.Decides.{nat_tests}
 use Rattle.std.proofs.lemmas.List.{length-map, map-append}
 use Rattle.std.proofs.lemmas.List.Recursion.{is_count_by}
 use Rattle.std.specs.Prelude.{slice_get}
 use Rattle.std.specs.List.{AllByRecursion, list_any}
 use Rattle.std.specs.Map.{keys_of, lookup, values_of}
-use Rattle.std.specs.Option.{option_map, option_map_or}
+use Rattle.std.specs.Option.{option_map}
 use Rattle.h2_spec.specs.declared.streams.Stream.{Stream}
 use Rattle.h2_spec.specs.Stream.{is_live, octets_waiting, waits_above, record_of, put, id_of, live_count, AreRising}
 use Rattle.h2_streams.specs.Put.{can_become, is_closed}
-use Rattle.h2_streams.specs.Kept.{are_dropped, ended_left, entries_left, entries_of, ids_of, is_entered, next_entry, places_of, lives, is_ready, passes_at, id_if, ids_at, IdsRise, listed, IsKept}
+use Rattle.h2_streams.specs.Kept.{are_dropped, ended_left, entries_left, entries_of, ids_of, is_entered, next_entry, places_of, lives, is_ready, passes_at, id_if, ids_at, listed, IsKept}
 use Rattle.h2_streams.specs.Shift.{update, update_each}
-use Rattle.h2_streams.proofs.IdsLaws.{found-over, ids_of-append, ids_of-put, ready-lives}
+use Rattle.h2_streams.proofs.IdsLaws.{ids_of-append, ids_of-put, ready-lives}
 use Rattle.h2_streams.proofs.PlaceLaws.{rising-push, rising-put}
 
 -- ---- identifiers and places
@@ -290,10 +290,6 @@ module _ (rs : List Stream) (es : List (ℕ × ℕ)) (ended : ℕ) (ready : List
   kept-absent id over =
       let keys : keys_of es ≡ ids_of (is_entered kept.left) rs = ap keys_of kept.entered ∙ entered-ids (is_entered kept.left) rs in
       absent-over id es (Rattle.std.proofs.Common.subst (AllByRecursion (λ (k : ℕ). k < id)) (sym keys) (ids-below (is_entered kept.left) 0 last id rs kept.rising over))
-
-  -- no more streams have ended than are in the map
-  pub kept-ended : ended ≤ length es
-  kept-ended = let n = kept.counted in omega (arith, n)
 
 ready-fewer : (left : ℕ → Bool) (rs : List Stream) → length (ids_of is_ready rs) ≤ length (places_of (is_entered left) rs)
 ready-fewer left [] = omega arith

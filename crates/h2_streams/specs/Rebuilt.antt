@@ -1,7 +1,7 @@
 -- The records at an earlier time, by those of a later one: records are only appended, and few of them can change
 -- (RFC 9113, 5.1).
 use Rattle.std.specs.Prelude.{◌≡◌, ℕ, Bool, true, false, ◌||◌, List, [], ◌∷◌, ◌++◌, map, take, ◌==◌, if◌then◌else◌, Option, Some, None, slice_get, unwrap_or}
-use Rattle.std.specs.List.{AllByRecursion, filter}
+use Rattle.std.specs.List.{AllByRecursion}
 use Rattle.std.specs.Option.{is_some}
 use Rattle.h2_spec.specs.declared.streams.Stream.{Stream}
 use Rattle.h2_spec.specs.Stream.{is_live, record_of}

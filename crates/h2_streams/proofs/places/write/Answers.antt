@@ -1,4 +1,4 @@
-use Rattle.std.proofs.Common.{◌≡◌, arith, ap, ◌∙◌, length, ℕ}
+use Rattle.std.proofs.Common.{arith, ap, ◌∙◌, ℕ}
 use Rattle.std.specs.Prelude.{slice_set}
 use Rattle.h2_streams.specs.Kept.{lives, passes_at}
 use Rattle.h2_streams.proofs.PlaceLaws.{place-within, put-at, test-there}

@@ -1,6 +1,6 @@
 use Rattle.std.proofs.Common.{◌<◌, length, ◌∙◌, ap, sym, subst, arith}
 use Rattle.h2_spec.specs.Stream.{Records, is_live}
-use Rattle.h2_streams.proofs.LiveLaws.{as_count, count-small, kept-absent, kept-added, kept-fewer, one-more}
+use Rattle.h2_streams.proofs.LiveLaws.{count-small, kept-absent, kept-added, kept-fewer, one-more}
 use Rattle.h2_streams.proofs.records.Streams.add.Goals as goal
 
 pub overflow_sub-more : goal.overflow_sub-more

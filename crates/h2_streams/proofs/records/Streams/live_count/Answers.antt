@@ -1,7 +1,6 @@
-use Rattle.std.proofs.Common.{arith, ap, ◌∙◌}
+use Rattle.std.proofs.Common.{arith, ap}
 use Rattle.h2_spec.specs.Stream as spec
 use Rattle.h2_spec.specs.Stream.{Records}
-use Rattle.h2_streams.proofs.LiveLaws.{kept-ended}
 use Rattle.h2_streams.proofs.records.Streams.live_count.Goals as goal
 
 pub returns : goal.returns

@@ -1,4 +1,4 @@
-use Rattle.std.proofs.Common.{◌≡◌, ◌≤◌, ◌∙◌, ap, arith, map, subst, sym, take}
+use Rattle.std.proofs.Common.{◌≡◌, ◌∙◌, ap, arith, map, subst, sym, take}
 use Rattle.h2_spec.specs.Stream.{AreRising, Records}
 use Rattle.std.specs.Map.{values_of}
 use Rattle.h2_streams.specs.Kept.{entries_of, lives, places_of}

@@ -1,6 +1,5 @@
 use Rattle.std.proofs.Common.{◌≡◌, ◌&&◌, not, true, false, ap, sym, ◌∙◌, subst, arith}
 use Rattle.std.specs.Option.{is_some, option_map_or}
-use Rattle.h2_spec.specs.declared.streams.Stream.{Stream}
 use Rattle.h2_spec.specs.Stream.{Records, kind_of, is_live}
 use Rattle.h2_streams.specs.Put.{can_become}
 use Rattle.h2_streams.specs.Kept.{IdsRise, lives, is_ready, place_of}
