@@ -19,7 +19,7 @@ use crate::books::book_for_words;
 use crate::each::PlacesFault;
 use crate::fault::BenchFault;
 use crate::input::LIMIT;
-use crate::judge::{Case, Common, Judged, judge, judged_wrong};
+use crate::judge::{Case, Common, Judged, judge, wrong_verdict};
 use h2_book::{Files, FilesFault};
 use h2_check::{Title, case_length, lines_in, plan_line, preamble_length};
 use h2_device::Output;
@@ -141,7 +141,7 @@ fn refuse_file<O: Output>(
 {
     let title = Title { file, title: None };
     let number = next_number(*tally);
-    let judged = judged_wrong(alloc, number, title, 1, "a file of cases", found);
+    let judged = wrong_verdict(alloc, number, title, 1, "a file of cases", found);
     write_verdict(judged, tally, output)
 }
 
