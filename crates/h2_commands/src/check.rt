@@ -74,7 +74,7 @@ fn write_verdict<O: Output>(
 ) -> Result<(), PlacesFault>
     requires { O.has_failed output.old ≡ false }
     ensures printed { O.has_failed output.new ≡ false → (g : Ground) → (s : Subject)
-        → IfOk judged.entry (IsJudged (Judges g s) (next_number tally.old.count) (file_in s) (title_at s))
+        → IfOk judged (IsJudged (Judges g s) (next_number tally.old.count) (file_in s) (title_at s))
         → Wrote g tally.old (s ∷ []) result tally.new (O.written output.old) (O.written output.new) }
     ensures flag { O.has_failed output.new ≡ not_written result }
     ensures name { O.name output.new ≡ O.name output.old }
