@@ -9,11 +9,10 @@ ghost use Rattle.h2_commands.specs.declared.fault.BenchFault.TheVariants.{NoMemo
 ghost use Rattle.h2_check.specs.Cases.{Fails};
 ghost use Rattle.h2_check.specs.CaseWords.{with_case_words};
 ghost use Rattle.h2_check.specs.Files.{title_in};
-ghost use Rattle.h2_check.specs.Tap.{IsResult};
 ghost use Rattle.h2_check.specs.Walks.{outcome_by};
 ghost use Rattle.h2_words.specs.Grammar.{asked_of, debug};
 ghost use Rattle.h2_words.specs.Plans.{book_asked};
-ghost use Rattle.h2_commands.specs.CheckProgram.{Case as ACase, IsJudged, Judges, JudgesAsked, JudgesCase, JudgesWith, JudgesWords, book_path, file_in, first_words, ground, holds_all, title_at};
+ghost use Rattle.h2_commands.specs.CheckProgram.{Case as ACase, IsJudged, Judges, JudgesAsked, JudgesWith, JudgesWords, book_path, first_words, ground, holds_all};
 
 use crate::books::book_for_words;
 use crate::fault::BenchFault;
