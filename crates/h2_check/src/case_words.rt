@@ -35,11 +35,11 @@ pub fn have_words(lines: &[&[u8]]) -> bool
     lines.iter().any(|line| says_words(line))
 }
 
-/// How many lines there are before the first that has words of the command line; all of them where none has.
+/// How many lines there are before the first that has words of the command line; 0 where none has.
 pub fn before_words(lines: &[&[u8]]) -> usize {
     match lines.iter().position(|line| says_words(line)) {
         Some(place) => place,
-        None => lines.len(),
+        None => 0,
     }
 }
 

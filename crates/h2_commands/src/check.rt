@@ -19,7 +19,7 @@ use crate::books::book_for_words;
 use crate::each::PlacesFault;
 use crate::fault::BenchFault;
 use crate::input::LIMIT;
-use crate::judge::{Case, Common, Judged, judge, judged_wrong};
+use crate::judge::{Case, Common, Judged, judge, wrong_verdict};
 use h2_book::{Files, FilesFault};
 use h2_check::{Title, case_length, lines_in, plan_line, preamble_length};
 use h2_device::Output;
@@ -74,7 +74,7 @@ fn write_verdict<O: Output>(
 ) -> Result<(), PlacesFault>
     requires { O.has_failed output.old ≡ false }
     ensures printed { O.has_failed output.new ≡ false → (g : Ground) → (s : Subject)
-        → IfOk judged.entry (IsJudged (Judges g s) (next_number tally.old.count) (file_in s) (title_at s))
+        → IfOk judged (IsJudged (Judges g s) (next_number tally.old.count) (file_in s) (title_at s))
         → Wrote g tally.old (s ∷ []) result tally.new (O.written output.old) (O.written output.new) }
     ensures flag { O.has_failed output.new ≡ not_written result }
     ensures name { O.name output.new ≡ O.name output.old }
@@ -141,7 +141,7 @@ fn refuse_file<O: Output>(
 {
     let title = Title { file, title: None };
     let number = next_number(*tally);
-    let judged = judged_wrong(alloc, number, title, 1, "a file of cases", found);
+    let judged = wrong_verdict(alloc, number, title, 1, "a file of cases", found);
     write_verdict(judged, tally, output)
 }
 

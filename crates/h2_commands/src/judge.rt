@@ -9,11 +9,10 @@ ghost use Rattle.h2_commands.specs.declared.fault.BenchFault.TheVariants.{NoMemo
 ghost use Rattle.h2_check.specs.Cases.{Fails};
 ghost use Rattle.h2_check.specs.CaseWords.{with_case_words};
 ghost use Rattle.h2_check.specs.Files.{title_in};
-ghost use Rattle.h2_check.specs.Tap.{IsResult};
 ghost use Rattle.h2_check.specs.Walks.{outcome_by};
 ghost use Rattle.h2_words.specs.Grammar.{asked_of, debug};
 ghost use Rattle.h2_words.specs.Plans.{book_asked};
-ghost use Rattle.h2_commands.specs.CheckProgram.{Case as ACase, IsJudged, Judges, JudgesAsked, JudgesCase, JudgesWith, JudgesWords, book_path, file_in, first_words, ground, holds_all, title_at};
+ghost use Rattle.h2_commands.specs.CheckProgram.{Case as ACase, IsJudged, Judges, JudgesAsked, JudgesWith, JudgesWords, book_path, first_words, ground, holds_all};
 
 use crate::books::book_for_words;
 use crate::fault::BenchFault;
@@ -69,7 +68,7 @@ fn holds(verdict: &Verdict<'_>) -> bool
 }
 
 /// A verdict with its text.
-fn judged(
+fn with_text(
     alloc: Global,
     number: u64,
     title: Title<'_>,
@@ -85,7 +84,7 @@ fn judged(
 }
 
 /// The verdict that something failed at a line, and for which reason in words.
-pub fn judged_wrong(
+pub fn wrong_verdict(
     alloc: Global,
     number: u64,
     title: Title<'_>,
@@ -103,7 +102,7 @@ pub fn judged_wrong(
         wanted,
         found,
     }) {
-        Ok(()) => judged(alloc, number, title, &Verdict::Fails(wrongs)),
+        Ok(()) => with_text(alloc, number, title, &Verdict::Fails(wrongs)),
         Err(_) => Err(AllocError),
     }
 }
@@ -127,7 +126,7 @@ fn judge_refused(alloc: Global, case: Case<'_, '_>, found: &str) -> Result<Judge
 {
     let line = case.line.saturating_add(before_words(case.lines));
     let wanted = "words of a command line";
-    judged_wrong(alloc, case.number, title(case), line, wanted, found)
+    wrong_verdict(alloc, case.number, title(case), line, wanted, found)
 }
 
 /// The verdict on a case with this book, these limits and these settings.
@@ -141,7 +140,7 @@ fn judge_with(
         IfOk result (IsJudged (JudgesWith (Ok book.now) config lines) case.entry.number case.entry.file.now (title_in lines)) }
 {
     match check_case(alloc, book, config, case.lines, case.line) {
-        Ok(verdict) => judged(alloc, case.number, title(case), &verdict),
+        Ok(verdict) => with_text(alloc, case.number, title(case), &verdict),
         Err(CaseFault::BadConfig) => {
             judge_refused(alloc, case, "a limit or a setting is out of range")
         }

@@ -8,9 +8,9 @@ use Rattle.h2_commands.proofs.judge.judge_with.Goals as goal
 pub returns-in-Ok : goal.returns-in-Ok
 returns-in-Ok c =
     let lines : List (List ℕ) = map (λ l. l.now) c.args.case.lines.now in
-    judged-as (λ o. o ≡ outcome_by c.in-Ok.verdict) (JudgesWith (Ok c.args.book.now) c.args.config lines) c.args.case.number c.args.case.file.now (title_in lines) c.judged.result
+    judged-as (λ o. o ≡ outcome_by c.in-Ok.verdict) (JudgesWith (Ok c.args.book.now) c.args.config lines) c.args.case.number c.args.case.file.now (title_in lines) c.with_text.result
     (λ o e. with-allowed c.args.book.now c.args.config lines o (outcome_by c.in-Ok.verdict) c.in-Ok.ensures.allowed c.in-Ok.ensures.verdict e)
-    (rw (c.title.ensures.0, c.title.ensures.1) at c.judged.ensures)
+    (rw (c.title.ensures.0, c.title.ensures.1) at c.with_text.ensures)
 
 pub returns-in-Err-BadConfig : goal.returns-in-Err-BadConfig
 returns-in-Err-BadConfig c =

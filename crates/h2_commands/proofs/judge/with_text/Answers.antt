@@ -1,6 +1,6 @@
 use Rattle.std.proofs.Common.{refl}
 use Rattle.h2_check.specs.Walks.{outcome_by}
-use Rattle.h2_commands.proofs.judge.judged.Goals as goal
+use Rattle.h2_commands.proofs.judge.with_text.Goals as goal
 
 pub returns-in-Ok : goal.returns-in-Ok
 returns-in-Ok c = record {
