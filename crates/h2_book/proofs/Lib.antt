@@ -1,6 +1,5 @@
 pub mod Appends
 pub mod Headers
-pub mod HexTexts
 pub mod Keys
 pub mod Pairs
 pub mod Texts

@@ -1,12 +1,10 @@
 //! The body of an answer: `body`, `body-hex`, `body-file` or `body-fill`, and its octets.
-//! Rests on `files` and on the crates `toml` and `hex`; definitions: specs/Contents.antt.
+//! Rests on `files`, on h2_hex and on the crate `toml`; definitions: specs/Contents.antt.
 
 ghost use Rattle.std.specs.Prelude.{◌≡◌, ◌+◌, ◌<◌, ◌==◌, ◌&&◌, true, option_map, option_and_then, IfOk};
 ghost use Rattle.std.specs.Prelude.{IfErr, IfNone, IfSome, IsTrue, is_some, length, unwrap_or, None, Some, []};
-ghost use Rattle.std.specs.List.{list_all};
 ghost use Rattle.std.specs.Option.{option_copied};
 ghost use Rattle.std.specs.Path.{path_bytes, path_parent};
-ghost use Rattle.hex.specs.Hex.{is_hex_digit};
 ghost use Rattle.toml.specs.Data.{as_str, as_array, as_integer};
 ghost use Rattle.toml.specs.View.{view, items_view, table_view};
 ghost use Rattle.h2_spec.specs.AnswerWords.{body_of as octets_in_hex};
@@ -19,6 +17,7 @@ use crate::fault::{Cause, Key};
 use crate::files::{Files, FilesFault};
 use crate::table::value_at;
 use h2_fields::octets::Octets;
+use h2_hex::{is_hex, octets_of};
 use h2_request::book::MAX_BODY;
 use std::alloc::{AllocError, Global};
 use std::path::Path;
@@ -144,19 +143,6 @@ fn hex_said(value: &Value) -> Option<Contents<'_>>
     }
 }
 
-/// Whether a text is pairs of hex digits.
-fn is_hex(digits: &[u8]) -> bool
-    ensures { result ≡ is_some (octets_in_hex digits.now) }
-{
-    digits.len() % 2 == 0 && are_hex_digits(digits)
-}
-
-fn are_hex_digits(digits: &[u8]) -> bool
-    ensures { result ≡ list_all is_hex_digit digits.now }
-{
-    digits.iter().all(|digit| digit.is_ascii_hexdigit())
-}
-
 /// A path as a body.
 fn file_said(value: &Value) -> Option<Contents<'_>>
     ensures said { option_and_then spec.contents_seen result ≡ spec.file_said (view value.now) }
@@ -242,9 +228,9 @@ fn read_hex(alloc: Global, digits: &[u8]) -> Result<Vec<u8>, AllocError>
     requires { IsTrue (is_some (octets_in_hex digits.now)) }
     ensures { IfOk result (λ octets. octets_in_hex digits.now ≡ Some octets.items) }
 {
-    match hex::decode(alloc, digits) {
-        Ok(octets) => Ok(octets),
-        Err(_) => Err(AllocError),
+    match octets_of(alloc, digits)? {
+        Some(octets) => Ok(octets),
+        None => unreachable!(),
     }
 }
 

@@ -13,8 +13,9 @@ use crate::built::Built;
 use crate::fault::LineFault;
 use crate::number::number_at;
 use crate::payload::payload_at;
-use crate::words::{after, cut, is_word, octet_at, octets_at};
+use crate::words::{after, cut, is_word, octets_at};
 use h2_frame::append_frame;
+use h2_hex::octet_of;
 use h2_spec::frames::{PREFACE, type_named};
 use h2_spec::scripts::SyntaxKind;
 use std::alloc::Allocator;
@@ -141,7 +142,7 @@ fn add_parts<A: Allocator + Copy>(
 fn flags_at(text: &[u8]) -> Option<u8>
     ensures { result ≡ octet_at text.now }
 {
-    octet_at(text)
+    octet_of(text)
 }
 
 /// Appends a frame with this reserved bit, unless its payload is longer than a frame's can be (RFC 9113, 4.1).
@@ -190,7 +191,7 @@ fn type_at(text: &[u8]) -> Option<u8>
     ensures { result ≡ type_at text.now }
 {
     let other = match after(text, b'T') {
-        Some(digits) => octet_at(digits),
+        Some(digits) => octet_of(digits),
         None => None,
     };
     type_named(text, other)

@@ -1,14 +1,14 @@
 //! The words of a line: parts between octets, octets in hex, the text of a string.
-//! It rests on `hex`; the definitions are in `h2_spec`, specs/Assemble.antt, under the same names.
+//! It rests on h2_hex; the definitions are in `h2_spec`, specs/Assemble.antt, under the same names.
 
 ghost use Rattle.std.specs.Prelude.{◌≡◌, ◌≤◌, ◌==◌, ◌<◌, ◌+◌, length, bytes_eq, drop, take, option_map, position, IfOk, IfSome};
 ghost use Rattle.std.specs.List.{position_or_len};
-ghost use Rattle.h2_spec.specs.Assemble.{before, behind, octet_at, octets_at, onwards, unescaped};
+ghost use Rattle.h2_spec.specs.Assemble.{before, behind, octets_at, onwards, unescaped};
 ghost use Rattle.h2_spec.specs.Script.{cut_at, is_plain};
 ghost use Rattle.h2_script.specs.Characters.{character_at};
 
+use h2_hex::{octet_of, octets_of};
 use h2_spec::octets::octets_from;
-use hex::{FromHex, FromHexError};
 use std::alloc::{AllocError, Allocator};
 
 /// Whether a text is this word.
@@ -61,17 +61,8 @@ pub(crate) fn after(text: &[u8], octet: u8) -> Option<&[u8]>
     Some(&text[1..])
 }
 
-/// The octet that two hex digits write.
-pub(crate) fn octet_at(text: &[u8]) -> Option<u8>
-    ensures { result ≡ octet_at text.now }
-{
-    match <[u8; 1] as FromHex>::from_hex(text) {
-        Ok(octets) => Some(octets[0]),
-        Err(_) => None,
-    }
-}
-
 /// The octets that hex digits write, at least one octet.
+#[tactic(auto, using(h2_hex::proofs::Relations::same_octets))]
 pub(crate) fn octets_at<A: Allocator>(
     alloc: A,
     text: &[u8],
@@ -81,11 +72,7 @@ pub(crate) fn octets_at<A: Allocator>(
     if text.is_empty() {
         return Ok(None);
     }
-    match hex::decode(alloc, text) {
-        Ok(octets) => Ok(Some(octets)),
-        Err(FromHexError::OutOfMemory) => Err(AllocError),
-        Err(_) => Ok(None),
-    }
+    octets_of(alloc, text)
 }
 
 /// The octets of a text between quotes: each is itself, or a backslash and two hex digits.
@@ -120,7 +107,7 @@ fn character_at(text: &[u8]) -> Option<(u8, usize)>
     if first != b'\\' || text.len() < 3 {
         return None;
     }
-    match octet_at(&text[1..3]) {
+    match octet_of(&text[1..3]) {
         Some(octet) => Some((octet, 3)),
         None => None,
     }
