@@ -25,7 +25,7 @@ use Rattle.h2_commands.specs.declared.fault.BenchFault.TheVariants.{NoMemory, Re
 
 -- ---- the status
 
-abbrev plain_status : Bool → ℕ
+abbrev pub plain_status : Bool → ℕ
 plain_status ended = if ended then 4 else 0
 
 status-at : (phase : Phase) → plain_status (is_some (option_map code_number (ended_code phase))) ≡ run_status phase
@@ -40,7 +40,7 @@ over-at Settings = refl
 over-at Running = refl
 over-at (Ended code) = refl
 
-abbrev outcome : (strict ended : Bool) → Verdict → Outcome
+abbrev pub outcome : (strict ended : Bool) → Verdict → Outcome
 outcome strict ended v = record { strict = strict; ended = ended; verdict = v }
 
 status-is : (strict ended : Bool) (s : State) (octets : List ℕ) (v : Verdict) → IsVerdict s octets v → ended ≡ is_some (option_map code_number (ended_code (trace s octets).state.core.phase))
