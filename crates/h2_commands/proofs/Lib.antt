@@ -1,9 +1,6 @@
 pub mod AnswerTexts
 pub mod Assembled
 pub mod Explained
-mod HexPairs
-mod HexTable
-pub mod HexTexts
 pub mod Inputs
 pub mod Places
 pub mod Played
