@@ -1,15 +1,11 @@
 -- The words of an answer cut at their signs, and the fields that parts say one after another.
-use Rattle.std.proofs.Common.{◌≡◌, ◌∙◌, ◌+◌, ◌≤◌, ◌%◌, ℕ, suc, Bool, true, false, cond, List, [], ◌∷◌, ◌++◌, Option, Some, None, Result, Ok, Err, length, take, drop, refl, sym, ap, arith, is_some, option_map, append_assoc, nat_lt, ltb-false}
-use Rattle.std.specs.List.{list_all, list_any, position_or_len, before_first, after_first}
+use Rattle.std.proofs.Common.{◌≡◌, ◌∙◌, ◌+◌, ◌≤◌, ℕ, suc, Bool, true, false, cond, List, [], ◌∷◌, ◌++◌, Option, Some, None, length, take, drop, refl, sym, ap, arith, option_map, append_assoc, nat_lt, ltb-false}
+use Rattle.std.specs.List.{list_any, position_or_len, before_first, after_first}
 use Rattle.std.specs.Prelude.{codes, position}
 use Rattle.std.proofs.lemmas.Slice.Eq.{bytes_eq-Decides}
-use Rattle.std.proofs.lemmas.List.Sums.{AllPass-from_list_all, list_all-from_AllPass}
 use Rattle.std.proofs.lemmas.List.{drop_all, take_all}
 use Rattle.std.proofs.lemmas.Bool.Decides.{nat_tests}
-use Rattle.hex.specs.Hex.{decode_of, is_hex_digit}
-use Rattle.hex.specs.declared.error.FromHexError.{FromHexError}
-use Rattle.hex.proofs.HexLemmas.{decode_of-digits, decode_of-ok}
-use Rattle.h2_spec.specs.AnswerWords.{body_of, entry_with, field_of, fields_of, is_bar, is_early_word, is_equals_sign, ok_or_none, parts_of, with_field}
+use Rattle.h2_spec.specs.AnswerWords.{entry_with, field_of, fields_of, is_bar, is_early_word, is_equals_sign, parts_of, with_field}
 use Rattle.h2_spec.specs.Field.{Field, field}
 use Rattle.h2_commands.specs.AnswerParts.{parts_behind}
 
@@ -97,19 +93,3 @@ entry-twice-early method path None body fields = refl
 entry-twice-early method path (Some status) None fields = refl
 entry-twice-early method path (Some status) (Some body) None = refl
 entry-twice-early method path (Some status) (Some body) (Some fields) = refl
-
--- ---- the body
-
--- an even number of digits is a body where each is a hex digit
-pub body-digits : (digits : List ℕ) → length digits % 2 ≡ 0 → list_all is_hex_digit digits ≡ is_some (body_of digits)
-body-digits digits even = go (decode_of digits) refl
-  where
-    none : (t : Bool) (e : FromHexError) → list_all is_hex_digit digits ≡ t → decode_of digits ≡ Err e → t ≡ false
-    none false e all err = refl
-    none true e all err =
-        let said = decode_of-digits digits even (AllPass-from_list_all is_hex_digit digits all) in
-        cc (sym said.1 ∙ err)
-
-    go : (r : Result (List ℕ) FromHexError) → decode_of digits ≡ r → list_all is_hex_digit digits ≡ is_some (ok_or_none r)
-    go (Ok octets) e = list_all-from_AllPass is_hex_digit digits (decode_of-ok digits octets e).1
-    go (Err fault) e = none (list_all is_hex_digit digits) fault refl e

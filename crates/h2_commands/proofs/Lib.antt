@@ -1,9 +1,6 @@
 pub mod AnswerTexts
 pub mod Assembled
 pub mod Explained
-mod HexPairs
-mod HexTable
-pub mod HexTexts
 pub mod Inputs
 pub mod Judging
 pub mod Places

@@ -15,7 +15,8 @@ use Rattle.h2_explain.specs.declared.run.ExplainFault.{ExplainFault}
 use Rattle.h2_explain.specs.declared.run.ExplainFault.TheVariants as explained
 use Rattle.h2_words.specs.Grammar.{BookAsked, View}
 use Rattle.h2_commands.specs.Books.{book_said}
-use Rattle.h2_commands.specs.Input.{most, octets_spelled}
+use Rattle.h2_commands.specs.Input.{most}
+use Rattle.h2_hex.specs.HexText.{octets_spelled}
 use Rattle.h2_commands.specs.Printing.{Printed, failed, failed_as, failed_after_as, refused_as}
 use Rattle.h2_commands.specs.CommandEnd.{PrintsSome}
 use Rattle.h2_commands.specs.declared.explain.ExplainEnd.{ExplainEnd}

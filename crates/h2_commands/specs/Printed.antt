@@ -14,7 +14,8 @@ use Rattle.h2_spec.specs.Show.{joined, octets_text, show}
 use Rattle.h2_commands.specs.Books.{book_in}
 use Rattle.h2_book.specs.Entries.{Directory}
 use Rattle.h2_words.specs.Grammar.{BatchAsked, play, asm, dis, table}
-use Rattle.h2_commands.specs.Input.{most, octets_spelled}
+use Rattle.h2_commands.specs.Input.{most}
+use Rattle.h2_hex.specs.HexText.{octets_spelled}
 use Rattle.h2_commands.specs.ScriptPrograms.{printed_asm, printed_dis}
 use Rattle.h2_commands.specs.TableProgram.{table_parts, table_text}
 pub use Rattle.h2_commands.specs.Printing.{OrCutShort, Printed, cut_short, done, failed, failed_as, refused}

@@ -1,10 +1,8 @@
 //! The answers of the command line: METHOD|PATH|STATUS|BODYHEX, any number of parts |NAME=VALUE, and at most one |early.
-//! Rests on h2_request's entries, on `table` for cutting texts, and on the crate `hex`.
+//! Rests on h2_request's entries, on `table` for cutting texts, and on h2_hex.
 //! Definitions: `h2_spec/specs/AnswerWords.antt` (`entry_of`), and `specs/AnswerParts.antt`.
 
 ghost use Rattle.std.specs.Prelude.{◌≡◌, ◌<◌, ◌≤◌, ◌∷◌, [], Some, None, length, is_some, option_map, IfOk, IfErr, IfNone, IfSome, IsTrue};
-ghost use Rattle.std.specs.List.{list_all};
-ghost use Rattle.hex.specs.Hex.{is_hex_digit};
 ghost use Rattle.h2_spec.specs.AnswerWords as words;
 ghost use Rattle.h2_spec.specs.Field.{field};
 ghost use Rattle.h2_commands.specs.AnswerParts.{entry_from, entry_in, parts_behind, refusal_of};
@@ -13,6 +11,7 @@ use crate::fault::BenchFault;
 use crate::table::{place_of, text_before, text_from};
 use h2_fields::field::Field;
 use h2_fields::octets::Octets;
+use h2_hex::{is_hex, octets_of};
 use h2_request::book::Entry;
 use std::alloc::{AllocError, Global};
 
@@ -140,27 +139,14 @@ fn status_in(digits: &[u8]) -> Option<u16>
     }
 }
 
-/// Whether a text is pairs of hex digits.
-fn is_hex(digits: &[u8]) -> bool
-    ensures { result ≡ is_some (words.body_of digits.now) }
-{
-    digits.len() % 2 == 0 && are_hex_digits(digits)
-}
-
-fn are_hex_digits(digits: &[u8]) -> bool
-    ensures { result ≡ list_all is_hex_digit digits.now }
-{
-    digits.iter().all(|digit| digit.is_ascii_hexdigit())
-}
-
 /// BODYHEX: the octets that pairs of hex digits write.
 fn read_body(alloc: Global, digits: &[u8]) -> Result<Octets<Global>, AllocError>
     requires { IsTrue (is_some (words.body_of digits.now)) }
     ensures { IfOk result (λ octets. words.body_of digits.now ≡ Some octets) }
 {
-    match hex::decode(alloc, digits) {
-        Ok(octets) => Ok(Octets::new(octets)),
-        Err(_) => Err(AllocError),
+    match octets_of(alloc, digits)? {
+        Some(octets) => Ok(Octets::new(octets)),
+        None => unreachable!(),
     }
 }
 

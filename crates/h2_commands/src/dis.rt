@@ -2,7 +2,7 @@
 //! Rests on h2_script and `input`; definitions: `specs/ScriptPrograms.antt`.
 
 ghost use Rattle.h2_commands.specs.Reports.{Meets};
-ghost use Rattle.h2_commands.specs.Input.{octets_spelled};
+ghost use Rattle.h2_hex.specs.HexText.{octets_spelled};
 ghost use Rattle.h2_commands.specs.ScriptPrograms.{printed_dis};
 
 use crate::fault::BenchFault;

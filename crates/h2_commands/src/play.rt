@@ -7,7 +7,8 @@ ghost use Rattle.h2_conn.specs.Connection.{going};
 ghost use Rattle.h2_spec.specs.State.{is_allowed};
 ghost use Rattle.h2_conn.specs.Runs.{Opens};
 ghost use Rattle.h2_commands.specs.Each.{PrintsRun, WritesSome, fed_first, not_written};
-ghost use Rattle.h2_commands.specs.Input.{IsNoHex, octets_spelled};
+ghost use Rattle.h2_commands.specs.Input.{IsNoHex};
+ghost use Rattle.h2_hex.specs.HexText.{octets_spelled};
 ghost use Rattle.h2_commands.specs.Limits.{limits_fault};
 ghost use Rattle.h2_commands.specs.declared.each.PlacesFault.TheVariants.{Fault};
 ghost use Rattle.h2_commands.specs.Pieces.{piece_lengths};
@@ -16,10 +17,11 @@ ghost use Rattle.h2_commands.specs.declared.fault.BenchFault.TheVariants.{BadCon
 
 use crate::each::{PlacesFault, write_places, write_text};
 use crate::fault::BenchFault;
-use crate::input::{is_hex_text, read_hex};
+use crate::input::read_hex;
 use h2_conn::play::open_and_feed;
 use h2_conn::{Conn, ConnFault};
 use h2_device::{DeviceFault, HexText, Output, Text, texts};
+use h2_hex::is_hex_text;
 use h2_request::book::Book;
 use h2_spec::connection::Config;
 use h2_words::command::Play;

@@ -2,7 +2,7 @@ use Rattle.std.proofs.Common.{◌≡◌, ◌∙◌, ℕ, List, [], Bool, false, 
 use Rattle.h2_spec.specs.Answer.{Entry}
 use Rattle.h2_spec.specs.declared.connection.Config.{Config}
 use Rattle.h2_spec.specs.State.{is_allowed}
-use Rattle.h2_commands.specs.Input.{octets_spelled}
+use Rattle.h2_hex.specs.HexText.{octets_spelled}
 use Rattle.h2_commands.specs.Limits.{limits_fault}
 use Rattle.h2_commands.specs.Printing.{failed_after}
 use Rattle.h2_commands.specs.Printed.{printed_play}
