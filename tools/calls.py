@@ -34,13 +34,13 @@ def read(path):
 
 
 def crates():
-    """The crates that the program uses, directly or not, in the order of crates.txt: (name, its sources)."""
+    """The crates that the program uses, directly or not, and h2_flow, in the order of crates.txt: (name, its sources)."""
     uses = {}
     for line in read("crates.txt").split("\n"):
         if ":" in line and not line.startswith("#"):
             name, used = line.split(":", 1)
             uses[name.split()[0]] = used.split()
-    reached, todo = set(), ["h2_program"]
+    reached, todo = {"h2_flow"}, ["h2_program"]
     while todo:
         for used in uses.get(todo.pop(), []):
             if used in uses and used not in reached:

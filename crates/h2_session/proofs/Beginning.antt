@@ -1,11 +1,11 @@
 -- The first line of a session.
 use Rattle.std.proofs.Common.{◌≡◌, ◌-◌, ◌≤◌, ◌⊎◌, ℕ, Bool, true, false, List, [], ◌∷◌, ◌++◌, Option, Some, None, Result, Ok, Err, IfErr, IfOk, OnErr, length, take, filter, nat_le, cond, refl, ap, inl, inr, subst, arith}
-use Rattle.hex.specs.Hex.{decode_of}
+use Rattle.h2_spec.specs.AnswerWords.{body_of}
 use Rattle.h2_spec.specs.declared.connection.Config.{Config}
 use Rattle.h2_spec.specs.Answer.{Entry}
 use Rattle.h2_debug.specs.Debugging.{Debugging}
 use Rattle.h2_session.specs.Faults.{fault_number}
-use Rattle.h2_session.specs.Lines.{ended_lines, is_digit, lines_of, octets_in, octets_spelled}
+use Rattle.h2_session.specs.Lines.{ended_lines, is_digit, lines_of, octets_spelled}
 use Rattle.h2_session.specs.Loading.{Loads, load_fault}
 use Rattle.h2_spec.specs.State.{is_allowed}
 use Rattle.h2_session.specs.Reading.{IsCut, most}
@@ -18,8 +18,8 @@ use Rattle.h2_session.specs.declared.line.End.{End}
 use Rattle.h2_session.specs.declared.line.End.TheVariants.{Input, LineFeed}
 use Rattle.h2_session.proofs.Giving.{cut-given, end-given, known, last-given, line-given}
 
-spelled-digits : (line digits : List ℕ) → digits ≡ filter is_digit line → octets_in (decode_of digits) ≡ octets_spelled line
-spelled-digits line digits e = ap (λ (x : List ℕ). octets_in (decode_of x)) e
+spelled-digits : (line digits : List ℕ) → digits ≡ filter is_digit line → body_of digits ≡ octets_spelled line
+spelled-digits line digits e = ap body_of e
 
 -- nothing more can be read
 pub session-cut : (book : List Entry) (config : Config) (octets : List ℕ) (input_failed : Bool) (first : ℕ) (before after : Option (List ℕ)) → before ≡ Some octets → first ≡ 0
@@ -30,7 +30,7 @@ session-cut book config octets input_failed first before after e zero cut =
 
 -- the line that ends with the input
 pub session-last : (book : List Entry) (config : Config) (octets digits : List ℕ) (first last : ℕ) (before after rest : Option (List ℕ)) (t : Printed) → before ≡ Some octets → first ≡ 0
-    → last ≤ most → TakesFirst before after first last digits Input → IsLoaded book config (octets_in (decode_of digits)) [] true t → IsSession book config octets false rest t
+    → last ≤ most → TakesFirst before after first last digits Input → IsLoaded book config (body_of digits) [] true t → IsSession book config octets false rest t
 session-last book config octets digits first last before after rest t e zero le ([], takes, is) loads =
     let given = end-given before after first last most octets rest e takes in
     inr ([], true, given, subst (λ (s : Option (List ℕ)). IsLoaded book config s [] true t) (spelled-digits [] digits is) loads)
@@ -41,7 +41,7 @@ session-last book config octets digits first last before after rest t e zero le 
 -- the line that ends by a line feed
 pub session-line : (book : List Entry) (config : Config) (octets digits more : List ℕ) (input_failed : Bool) (first last : ℕ) (before after rest : Option (List ℕ)) (lines : List (List ℕ)) (whole : Bool) (t : Printed)
     → before ≡ Some octets → after ≡ Some more → first ≡ 0 → last ≤ most → TakesFirst before after first last digits LineFeed → IsGiven (most - last) more input_failed rest lines whole
-    → IsLoaded book config (octets_in (decode_of digits)) lines whole t → IsSession book config octets input_failed rest t
+    → IsLoaded book config (body_of digits) lines whole t → IsSession book config octets input_failed rest t
 session-line book config octets digits more input_failed first last before after rest lines whole t e f zero le (line, takes, is) given loads =
     let all = line-given before after first last line octets more input_failed rest lines whole e f takes le given in
     inr (line ∷ lines, whole, rw zero at all, subst (λ (s : Option (List ℕ)). IsLoaded book config s lines whole t) (spelled-digits line digits is) loads)
@@ -64,10 +64,10 @@ not-loaded book config spelled fault lines whole why = go spelled (is_allowed co
     go (Some octets) false is bad = inr (rw (bad, is) refl)
 
 pub session-unloaded : (book : List Entry) (config : Config) (octets digits : List ℕ) (end : End) (first last : ℕ) (before after rest : Option (List ℕ)) (fault : SessionFault)
-    → before ≡ Some octets → first ≡ 0 → last ≤ most → TakesFirst before after first last digits end → fault ≡ load_fault (octets_in (decode_of digits)) (is_allowed config)
+    → before ≡ Some octets → first ≡ 0 → last ≤ most → TakesFirst before after first last digits end → fault ≡ load_fault (body_of digits) (is_allowed config)
     → IsSession book config octets false rest (failed (fault_number fault))
 session-unloaded book config octets digits Input first last before after rest fault e zero le takes not =
-    elim (not-loaded book config (octets_in (decode_of digits)) fault [] true not) [
+    elim (not-loaded book config (body_of digits) fault [] true not) [
       | inl none ↦ inl (ap (λ (f : SessionFault). failed (fault_number f)) none)
       | inr loads ↦ session-last book config octets digits first last before after rest _ e zero le takes loads
     ]
@@ -75,7 +75,7 @@ session-unloaded book config octets digits LineFeed first last before after rest
     let k = line-known octets digits first last before after e takes in
     let whole = nat_le (length k.0) (most - last) in
     let lines = cond whole (lines_of k.0) (ended_lines (take (most - last) k.0)) in
-    elim (not-loaded book config (octets_in (decode_of digits)) fault lines whole not) [
+    elim (not-loaded book config (body_of digits) fault lines whole not) [
       | inl none ↦ inl (ap (λ (f : SessionFault). failed (fault_number f)) none)
       | inr loads ↦ session-line book config octets digits k.0 false first last before after rest lines whole _ e k.1 zero le takes (refl, refl) loads
     ]
@@ -86,22 +86,22 @@ answered-loads : (book : List Entry) (config : Config) (spelled : Option (List �
 answered-loads book config spelled d lines whole t (octets, some, limits, is) answered = rw (some, limits) (rw is at answered)
 
 pub session-empty : (book : List Entry) (config : Config) (octets digits : List ℕ) (first last : ℕ) (before after rest : Option (List ℕ)) (d : Debugging) → before ≡ Some octets → first ≡ 0
-    → last ≤ most → TakesFirst before after first last digits Input → Loads book config (octets_in (decode_of digits)) d → IsSession book config octets false rest (closed true [])
+    → last ≤ most → TakesFirst before after first last digits Input → Loads book config (body_of digits) d → IsSession book config octets false rest (closed true [])
 session-empty book config octets digits first last before after rest d e zero le takes loads =
     session-last book config octets digits first last before after rest (closed true []) e zero le takes
-    (answered-loads book config (octets_in (decode_of digits)) d [] true (closed true []) loads ([], refl, refl))
+    (answered-loads book config (body_of digits) d [] true (closed true []) loads ([], refl, refl))
 
 pub session-followed : (book : List Entry) (config : Config) (octets digits more : List ℕ) (input_failed : Bool) (first last : ℕ) (before after rest : Option (List ℕ)) (d : Debugging) (t : Printed)
-    → before ≡ Some octets → after ≡ Some more → first ≡ 0 → last ≤ most → TakesFirst before after first last digits LineFeed → Loads book config (octets_in (decode_of digits)) d
+    → before ≡ Some octets → after ≡ Some more → first ≡ 0 → last ≤ most → TakesFirst before after first last digits LineFeed → Loads book config (body_of digits) d
     → IsFollowed d (most - last) more input_failed rest t → IsSession book config octets input_failed rest t
 session-followed book config octets digits more input_failed first last before after rest d t e f zero le takes loads (lines, whole, given, answered) =
     session-line book config octets digits more input_failed first last before after rest lines whole t e f zero le takes given
-    (answered-loads book config (octets_in (decode_of digits)) d lines whole t loads answered)
+    (answered-loads book config (body_of digits) d lines whole t loads answered)
 
 -- the session behind its first line
 pub session-responded : (book : List Entry) (config : Config) (octets held digits : List ℕ) (loaded : Result Debugging SessionFault) (end : End) (first last : ℕ) (before middle rest : Option (List ℕ)) (input_failed : Bool)
     (written : Option (List ℕ)) (status : ℕ) → before ≡ Some octets → first ≡ 0 → last ≤ most → TakesFirst before middle first last digits end
-    → IfOk loaded (Loads book config (octets_in (decode_of digits))) → IfErr loaded (λ fault. fault ≡ load_fault (octets_in (decode_of digits)) (is_allowed config))
+    → IfOk loaded (Loads book config (body_of digits)) → IfErr loaded (λ fault. fault ≡ load_fault (body_of digits) (is_allowed config))
     → IfOk loaded (λ d. IsResponse d end (most - last) middle input_failed rest false (Some held) written status)
     → IfErr loaded (λ fault. IsRefusal fault false (Some held) written status)
     → OnErr loaded (input_failed ≡ false) → (end ≡ Input → input_failed ≡ false)

@@ -6,5 +6,4 @@ pub mod Giving
 pub mod Lines
 pub mod Obeying
 pub mod Short
-pub mod Spelling
 pub mod Taking

@@ -1,7 +1,6 @@
 -- The lines of an input, and the octets that its first line spells in hex.
-use Rattle.std.specs.Prelude.{ℕ, ◌==◌, ◌||◌, Bool, not, List, [], ◌∷◌, if◌then◌else◌, filter, Option, Some, None, Result, Ok, Err}
-use Rattle.hex.specs.Hex.{decode_of}
-use Rattle.hex.specs.declared.FromHexError.{FromHexError}
+use Rattle.std.specs.Prelude.{ℕ, ◌==◌, ◌||◌, Bool, not, List, [], ◌∷◌, if◌then◌else◌, filter, Option}
+use Rattle.h2_spec.specs.AnswerWords.{body_of}
 
 -- an octet at the front of the first of some lines
 abbrev pub onto_first : ℕ → List (List ℕ) → List (List ℕ)
@@ -26,10 +25,6 @@ ended_lines (octet ∷ octets) = if octet == 10 then [] ∷ ended_lines octets e
 abbrev pub is_digit : ℕ → Bool
 is_digit octet = not (octet == 32 || octet == 9 || octet == 13)
 
-abbrev pub octets_in : Result (List ℕ) FromHexError → Option (List ℕ)
-octets_in (Ok octets) = Some octets
-octets_in (Err fault) = None
-
 -- the octets that a line spells in hex, white space dropped
 abbrev pub octets_spelled : List ℕ → Option (List ℕ)
-octets_spelled line = octets_in (decode_of (filter is_digit line))
+octets_spelled line = body_of (filter is_digit line)

@@ -1,12 +1,11 @@
 //! Lines that are taken from an input: the first one as the octets that it spells in hex, each other one as far as a
 //! command goes.
-//! Rests on `reader` and on the crates `hex` and arrayvec; definitions: `specs/Lines.antt`, `specs/Reading.antt`.
+//! Rests on `reader`, on h2_hex and on the crate arrayvec; definitions: `specs/Lines.antt`, `specs/Reading.antt`.
 
-ghost use Rattle.std.specs.Prelude.{◌≡◌, ◌⊎◌, ◌<◌, ◌≤◌, is_some, false, [], ◌∷◌, ◌++◌, Some, None, filter, length, not, take, IfOk, IfErr, IfSome, OnOk, OnErr};
+ghost use Rattle.std.specs.Prelude.{◌≡◌, ◌⊎◌, ◌<◌, ◌≤◌, false, [], ◌∷◌, ◌++◌, Some, None, filter, length, not, take, IfOk, IfErr, IfSome, OnOk, OnErr};
 ghost use Rattle.h2_session.specs.Commands.{longest};
-ghost use Rattle.std.specs.List.{list_all};
-ghost use Rattle.hex.specs.Hex.{decode_of, is_hex_digit};
-ghost use Rattle.h2_session.specs.Lines.{is_digit, octets_in};
+ghost use Rattle.h2_spec.specs.AnswerWords.{body_of};
+ghost use Rattle.h2_session.specs.Lines.{is_digit};
 ghost use Rattle.h2_session.specs.Reading.{IsCut, ahead, most};
 ghost use Rattle.h2_session.specs.declared.line.End.TheVariants.{Input};
 ghost use Rattle.h2_session.specs.Takes.{IsNoHex, IsRefused, TakesFirst, TakesNext};
@@ -15,7 +14,7 @@ use crate::fault::SessionFault;
 use crate::reader::{Reader, Unread};
 use arrayvec::ArrayVec;
 use h2_device::Input;
-use hex::FromHexError;
+use h2_hex::octets_of;
 use std::alloc::{AllocError, Global};
 
 /// More octets than any command has.
@@ -84,29 +83,15 @@ pub fn take_digits<I: Input>(
     }
 }
 
-/// Whether these are hex digits alone.
-fn are_hex_digits(digits: &[u8]) -> bool
-    ensures { result ≡ list_all is_hex_digit digits.now }
-{
-    digits.iter().all(|digit| digit.is_ascii_hexdigit())
-}
-
-/// Whether digits are pairs of hex digits. Takes no memory.
-pub fn is_hex(digits: &[u8]) -> bool
-    ensures { result ≡ is_some (octets_in (decode_of digits.now)) }
-{
-    digits.len() % 2 == 0 && are_hex_digits(digits)
-}
-
 /// The octets that digits spell: `BadHex` where they spell none, and only elsewhere `NoMemory`.
 pub fn spelled(alloc: Global, digits: &[u8]) -> Result<Vec<u8>, SessionFault>
-    ensures ok { IfOk result (λ octets. octets_in (decode_of digits.now) ≡ Some octets.items) }
-    ensures err { IfErr result (λ fault. IsNoHex (octets_in (decode_of digits.now)) fault) }
+    ensures ok { IfOk result (λ octets. body_of digits.now ≡ Some octets.items) }
+    ensures err { IfErr result (λ fault. IsNoHex (body_of digits.now) fault) }
 {
-    match hex::decode(alloc, digits) {
-        Ok(octets) => Ok(octets),
-        Err(FromHexError::OutOfMemory) if is_hex(digits) => Err(SessionFault::NoMemory),
-        Err(_) => Err(SessionFault::BadHex),
+    match octets_of(alloc, digits) {
+        Ok(Some(octets)) => Ok(octets),
+        Ok(None) => Err(SessionFault::BadHex),
+        Err(_) => Err(SessionFault::NoMemory),
     }
 }
 

@@ -2,11 +2,10 @@
 //! Rests on `line`, `obey` and `reply`; definition: `specs/Session.antt`.
 
 ghost use Rattle.std.specs.Prelude.{◌≡◌, ◌==◌, ◌-◌, ◌≤◌, ℕ, List, Some, false, IfErr, IfOk, OnErr, OnOk, is_err};
-ghost use Rattle.hex.specs.Hex.{decode_of};
 ghost use Rattle.h2_spec.specs.State.{is_allowed};
 ghost use Rattle.h2_session.specs.Faults.{fault_number};
 ghost use Rattle.h2_session.specs.Commands.{command_of};
-ghost use Rattle.h2_session.specs.Lines.{octets_in};
+ghost use Rattle.h2_spec.specs.AnswerWords.{body_of};
 ghost use Rattle.h2_session.specs.Reading.{ahead, most};
 ghost use Rattle.h2_session.specs.Replies.{Obeys, reply_text};
 ghost use Rattle.h2_session.specs.Session.{AnswersLine, IsFollowed, IsSession, Prints, Printed, failed};
@@ -16,12 +15,13 @@ ghost use Rattle.h2_session.specs.Loading.{Loads, load_fault};
 
 use crate::command::command_of;
 use crate::fault::SessionFault;
-use crate::line::{End, Line, is_hex, next_line, spelled, take_digits};
+use crate::line::{End, Line, next_line, spelled, take_digits};
 use crate::obey::obey;
 use crate::reader::Reader;
 use crate::reply::{FaultLine, Reply, ReplyText, write_flushed};
 use h2_debug::Debugger;
 use h2_device::{DeviceFault, Input, Output};
+use h2_hex::is_hex;
 use h2_request::book::Book;
 use h2_spec::connection::Config;
 use std::alloc::Global;
@@ -143,7 +143,7 @@ fn respond<I: Input, O: Output>(
 /// Why digits are not loaded where a limit or a setting is out of range: they are no hex, or it is for that. Takes no
 /// memory.
 fn refused_limits(digits: &[u8]) -> SessionFault
-    ensures { result ≡ load_fault (octets_in (decode_of digits.now)) false }
+    ensures { result ≡ load_fault (body_of digits.now) false }
 {
     if is_hex(digits) {
         SessionFault::BadConfig
@@ -161,8 +161,8 @@ fn load<'b>(
     config: Config,
     digits: Vec<u8>,
 ) -> Result<Debugger<'b, Global>, SessionFault>
-    ensures ok { IfOk result (λ debugger. Loads book.now config (octets_in (decode_of digits.items)) debugger) }
-    ensures err { IfErr result (λ fault. fault ≡ load_fault (octets_in (decode_of digits.items)) (is_allowed config)) }
+    ensures ok { IfOk result (λ debugger. Loads book.now config (body_of digits.items) debugger) }
+    ensures err { IfErr result (λ fault. fault ≡ load_fault (body_of digits.items) (is_allowed config)) }
 {
     if !config.is_allowed() {
         return Err(refused_limits(digits.as_slice()));
