@@ -10,6 +10,7 @@
 # tried. --only takes the floods with this word in their name. A flood counts as linear where four times the octets take at most 8 times the time (of which
 # the first counts as 0.1 s at least) and 5 times the memory. Memory is what the kernel counts, and never below the 12 MiB of the measuring process. The
 # status is 1 where a run crashes or prints a fault.
+# Behind the floods that a peer sends are those that it makes the server send: tests/large_answers.py, for `play` and `serve`; not with --only, --list or another command.
 # It is no part of the gate, and takes some minutes.
 set -eu
 top=$(cd "$(dirname "$0")/.." && pwd)
@@ -411,3 +412,12 @@ def main():
 main()
 PYTHON
 PYTHONPATH=$top/bench/peers python3 -B "$made/floods.py" "$@"
+case " $* " in
+*" --list "* | *" --only "* | *" --command "*) ;;
+*)
+    words=" $* "
+    words=${words#* --program }
+    echo
+    python3 -B "$top/tests/large_answers.py" "${words%% *}"
+    ;;
+esac
