@@ -35,11 +35,11 @@ pub fn have_words(lines: &[&[u8]]) -> bool
     lines.iter().any(|line| says_words(line))
 }
 
-/// How many lines there are before the first that has words of the command line; 0 where none has.
+/// How many lines there are before the first that has words of the command line; all of them where none has.
 pub fn before_words(lines: &[&[u8]]) -> usize {
     match lines.iter().position(|line| says_words(line)) {
         Some(place) => place,
-        None => 0,
+        None => lines.len(),
     }
 }
 
@@ -66,7 +66,11 @@ fn add_line_words(alloc: Global, line: &[u8], words: &mut Words) -> Result<(), S
 /// # Errors
 ///
 /// `Open` where a line's words are refused (`add_words`); `NoMemory` may come before. Some words may have been added.
-pub fn add_case_words(alloc: Global, lines: &[&[u8]], words: &mut Words) -> Result<(), ShellFault>
+pub fn add_case_words(
+    alloc: Global,
+    lines: &[&[u8]],
+    words: &mut Words,
+) -> Result<(), ShellFault>
     ensures ok { OnOk result (with_case_words words.old (map (λ l. l.now) lines.now) ≡ Some words.new) }
     ensures err { IfErr result (λ fault. (fault ≡ NoMemory)
         ⊎ (with_case_words words.old (map (λ l. l.now) lines.now) ≡ None)) }

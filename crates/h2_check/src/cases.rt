@@ -1,7 +1,7 @@
 //! The lines of a case file, and the cases among them.
 //! Rests on `line`; definitions: `specs/Lines.antt`, `specs/Files.antt`.
 
-ghost use Rattle.std.specs.Prelude.{◌≡◌, ◌<◌, ◌≤◌, length, map, take, drop, is_some, IfOk};
+ghost use Rattle.std.specs.Prelude.{◌≡◌, ◌<◌, ◌≤◌, length, map, take, drop, IfOk};
 ghost use Rattle.std.specs.List.{list_all, list_any, position_or_len};
 ghost use Rattle.std.specs.Option.{option_map};
 ghost use Rattle.h2_spec.specs.Script.{lines_of};
@@ -124,16 +124,6 @@ pub fn title_of<'t>(lines: &[&'t [u8]]) -> Option<&'t [u8]>
     }
 }
 
-/// Whether lines begin with a title.
-fn is_titled(lines: &[&[u8]]) -> bool
-    ensures { result ≡ is_some (title_in (map (λ l. l.now) lines.now)) }
-{
-    match title_of(lines) {
-        Some(_) => true,
-        None => false,
-    }
-}
-
 /// How many lines are in front of the first case: those before the first title, where they say nothing.
 pub fn preamble_length(lines: &[&[u8]]) -> usize
     ensures value { result ≡ preamble_length (map (λ l. l.now) lines.now) }
@@ -143,14 +133,9 @@ pub fn preamble_length(lines: &[&[u8]]) -> usize
         return 0;
     }
     let length = case_length(lines);
-    if length == lines.len() {
-        return 0;
+    if length < lines.len() && title_of(lines).is_none() && are_silent(&lines[..length]) {
+        length
+    } else {
+        0
     }
-    if is_titled(lines) {
-        return 0;
-    }
-    if !are_silent(&lines[..length]) {
-        return 0;
-    }
-    length
 }

@@ -116,8 +116,11 @@ fn is_between(place: Place) -> bool
 {
     match place {
         Place::Between => true,
-        Place::Plain | Place::Escaped | Place::Single | Place::Double | Place::DoubleEscaped =>
-            false,
+        Place::Plain
+        | Place::Escaped
+        | Place::Single
+        | Place::Double
+        | Place::DoubleEscaped => false,
     }
 }
 

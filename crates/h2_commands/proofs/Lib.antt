@@ -2,7 +2,6 @@ pub mod AnswerTexts
 pub mod Assembled
 pub mod Explained
 pub mod Inputs
-pub mod Judging
 pub mod Places
 pub mod Played
 pub mod RefusedWords

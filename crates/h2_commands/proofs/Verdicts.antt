@@ -1,5 +1,5 @@
 -- The texts of verdicts that were written one after another.
-use Rattle.std.proofs.Common.{◌≡◌, ◌∙◌, ◌⊎◌, ◌&&◌, ◌||◌, ◌+◌, ◌<◌, ◌≤◌, ℕ, Bool, true, false, true≢false, cond, nat_lt, Bor, List, [], ◌∷◌, ◌++◌, length, map, take, drop, get_or, Option, Some, None, IsSomeAnd, Result, Ok, Err, IfErr, refl, sym, ap, subst, inl, inr, append_assoc}
+use Rattle.std.proofs.Common.{◌≡◌, ◌∙◌, ◌⊎◌, ◌&&◌, ◌||◌, ◌+◌, ◌<◌, ◌≤◌, ℕ, Bool, true, false, true≢false, cond, nat_lt, Bor, List, [], ◌∷◌, ◌++◌, length, map, take, drop, get_or, Option, Some, None, Result, Ok, Err, IfErr, refl, sym, ap, subst, inl, inr, append_assoc}
 use Rattle.std.specs.Io.KnownBytes.{Appends}
 use Rattle.std.specs.Str.{IsUtf8, is_utf8}
 use Rattle.std.proofs.lemmas.List.{append-nil, drop_more}
@@ -35,29 +35,23 @@ reports-append g t u v (s ∷ ss) rs a b x y = record {
 
 went-then : (g : Ground) (t u v : Tally) (ss rs : List Subject) (ended : Result (Unit {0}) PlacesFault) (a b : List ℕ) → Reports g t ss a u → Went g u rs ended v b → Went g t (ss ++ rs) ended v (a ++ b)
 went-then g t u v ss rs (Ok w) a b x y = reports-append g t u v ss rs a b x y
-went-then g t u v ss rs (Err (Fault fault)) a b x y = (
-  y.0,
-  record {
-    first = ss ++ y.1.first;
-    left = y.1.left;
-    tally = y.1.tally;
-    all = ap (λ (r : List Subject). ss ++ r) y.1.all ∙ sym (append_assoc ss y.1.first y.1.left);
-    reports = reports-append g t u y.1.tally ss y.1.first a b x y.1.reports;
-  },
-)
+went-then g t u v ss rs (Err (Fault fault)) a b x y = (y.0, record {
+  first = ss ++ y.1.first;
+  left = y.1.left;
+  tally = y.1.tally;
+  all = ap (λ (r : List Subject). ss ++ r) y.1.all ∙ sym (append_assoc ss y.1.first y.1.left);
+  reports = reports-append g t u y.1.tally ss y.1.first a b x y.1.reports;
+})
 went-then g t u v ss rs (Err NotWritten) a b x y = tt
 
 went-err : (g : Ground) (t v : Tally) (ss rs : List Subject) (why : PlacesFault) (a : List ℕ) → Went g t ss (Err why) v a → Went g t (ss ++ rs) (Err why) v a
-went-err g t v ss rs (Fault fault) a x = (
-  x.0,
-  record {
-    first = x.1.first;
-    left = x.1.left ++ rs;
-    tally = x.1.tally;
-    all = ap (λ (r : List Subject). r ++ rs) x.1.all ∙ append_assoc x.1.first x.1.left rs;
-    reports = x.1.reports;
-  },
-)
+went-err g t v ss rs (Fault fault) a x = (x.0, record {
+  first = x.1.first;
+  left = x.1.left ++ rs;
+  tally = x.1.tally;
+  all = ap (λ (r : List Subject). r ++ rs) x.1.all ∙ append_assoc x.1.first x.1.left rs;
+  reports = x.1.reports;
+})
 went-err g t v ss rs NotWritten a x = tt
 
 -- some were written, and then others
@@ -80,36 +74,26 @@ wrote-none g t done p = λ held is. ([], is ∙ ap (λ (c : List ℕ). Some c) (
 
 -- memory was refused before one was written
 pub wrote-nothing : (g : Ground) (t v : Tally) (ss : List Subject) (p : Option (List ℕ)) → Wrote g t ss (Err (Fault NoMemory)) v p p
-wrote-nothing g t v ss p = λ held is. (
-  [],
-  is ∙ ap (λ (c : List ℕ). Some c) (sym (append-nil held)),
-  (
-    refl,
-    record {
-      first = [];
-      left = ss;
-      tally = t;
-      all = refl;
-      reports = (refl, refl);
-    },
-  ),
-)
+wrote-nothing g t v ss p = λ held is. ([], is ∙ ap (λ (c : List ℕ). Some c) (sym (append-nil held)), (refl, record {
+  first = [];
+  left = ss;
+  tally = t;
+  all = refl;
+  reports = (refl, refl);
+}))
 
 -- one was
 pub wrote-one : (g : Ground) (t v : Tally) (s : Subject) (j : Judged) (done : Unit {0}) (p q : Option (List ℕ)) → IsJudged (Judges g s) (next_number t.count) (file_in s) (title_at s) j
     → v ≡ record { count = next_number t.count; all_hold = t.all_hold && j.holds } → Appends p q j.text.items → Wrote g t (s ∷ []) (Ok done) v p q
-wrote-one g t v s j done p q is tally a = λ held known. (
-  j.text.items,
-  appended held j.text.items p q known a,
-  record {
-    outcome = is.outcome;
-    one = j.text.items;
-    rest = [];
-    verdict = is.verdict;
-    whole = sym (append-nil j.text.items);
-    others = (refl, tally ∙ ap (λ (b : Bool). record { count = next_number t.count; all_hold = t.all_hold && b }) is.holds);
-  },
-)
+wrote-one g t v s j done p q is tally a = λ held known.
+    (j.text.items, appended held j.text.items p q known a, record {
+      outcome = is.outcome;
+      one = j.text.items;
+      rest = [];
+      verdict = is.verdict;
+      whole = sym (append-nil j.text.items);
+      others = (refl, tally ∙ ap (λ (b : Bool). record { count = next_number t.count; all_hold = t.all_hold && b }) is.holds);
+    })
 
 -- behind the first line all verdicts were written, or some
 pub whole-err : (g : Ground) (ss : List Subject) (why : PlacesFault) (v : Tally) (p q r : Option (List ℕ)) → Appends p q first_line → Wrote g no_verdict ss (Err why) v q r
@@ -129,11 +113,10 @@ pub whole-ok : (g : Ground) (ss : List Subject) (done more : Unit {0}) (v : Tall
     → Appends r s (plan_line v.count) → Gains (WentWhole g ss (Ok more) v) p s
 whole-ok g ss done more v p q r s a x b = λ held is.
     let one = x (held ++ first_line) (appended held first_line p q is a) in
-    let two = appended ((held ++ first_line) ++ one.0) (plan_line v.count) r s one.1 b in (
-      first_line ++ one.0 ++ plan_line v.count,
-      two ∙ ap (λ (c : List ℕ). Some c) (append_assoc (held ++ first_line) one.0 (plan_line v.count) ∙ append_assoc held first_line (one.0 ++ plan_line v.count)),
-      (one.0, one.2, refl),
-    )
+    let two = appended ((held ++ first_line) ++ one.0) (plan_line v.count) r s one.1 b in
+    (first_line ++ one.0 ++ plan_line v.count,
+    two ∙ ap (λ (c : List ℕ). Some c) (append_assoc (held ++ first_line) one.0 (plan_line v.count) ∙ append_assoc held first_line (one.0 ++ plan_line v.count)),
+    (one.0, one.2, refl))
 
 pub whole-cut : (g : Ground) (ss : List Subject) (done : Unit {0}) (why : PlacesFault) (v : Tally) (p q r s : Option (List ℕ)) → Appends p q first_line → Wrote g no_verdict ss (Ok done) v q r
     → why ≡ Fault NoMemory → s ≡ r → Gains (WentWhole g ss (Err why) v) p s
@@ -216,12 +199,8 @@ pub text-cases : (file octets : List ℕ) → length octets ≤ most → is_utf8
 text-cases file octets h e = rw (e, le-ltb most (length octets) h) refl
 
 pub not-utf8 : (octets : List ℕ) → (IsUtf8 octets → ⊥) → is_utf8 octets ≡ false
-not-utf8 octets isnt = at (is_utf8 octets) refl
+not-utf8 octets no = at (is_utf8 octets) refl
   where
     at : (b : Bool) → is_utf8 octets ≡ b → b ≡ false
-    at true e = absurd (isnt (IsUtf8-from_is_utf8 octets e))
+    at true e = absurd (no (IsUtf8-from_is_utf8 octets e))
     at false e = refl
-
-pub long-file : (file : List ℕ) (octets : Option (List ℕ)) → IsSomeAnd octets (λ o. most < length o) → subjects_read file octets ≡ NoCases file ∷ []
-long-file file None h = absurd h
-long-file file (Some octets) h = too-long file octets h

@@ -3,7 +3,6 @@
 
 ghost use Rattle.std.specs.Prelude.{◌≡◌, ◌⊎◌, ◌==◌, ◌≤◌, ◌&&◌, ◌++◌, ◌∷◌, ℕ, List, [], Some, Ok, false, true, length, map, IfOk, IfErr, OnOk};
 ghost use Rattle.std.specs.Io.KnownBytes.{Appends};
-ghost use Rattle.std.specs.Str.{is_utf8};
 ghost use Rattle.h2_check.specs.Files.{cases_in};
 ghost use Rattle.h2_words.specs.Plans.{book_asked};
 ghost use Rattle.h2_commands.specs.CheckProgram.{Case as ACase, EndsCheck, Gains, Ground, IsCheckedWith, IsCut, IsJudged, IsWhole, Judges, NoCases, Subject, WentWhole, Wrote, file_in, ground, next_number, no_verdict, plan_line, subjects_of, subjects_read, title_at};
@@ -19,7 +18,7 @@ use crate::books::book_for_words;
 use crate::each::PlacesFault;
 use crate::fault::BenchFault;
 use crate::input::LIMIT;
-use crate::judge::{Case, Common, Judged, judge, wrong_verdict};
+use crate::judge::{Case, Common, Judged, judge, judged_wrong};
 use h2_book::{Files, FilesFault};
 use h2_check::{Title, case_length, lines_in, plan_line, preamble_length};
 use h2_device::Output;
@@ -74,7 +73,7 @@ fn write_verdict<O: Output>(
 ) -> Result<(), PlacesFault>
     requires { O.has_failed output.old ≡ false }
     ensures printed { O.has_failed output.new ≡ false → (g : Ground) → (s : Subject)
-        → IfOk judged (IsJudged (Judges g s) (next_number tally.old.count) (file_in s) (title_at s))
+        → IfOk judged.entry (IsJudged (Judges g s) (next_number tally.old.count) (file_in s) (title_at s))
         → Wrote g tally.old (s ∷ []) result tally.new (O.written output.old) (O.written output.new) }
     ensures flag { O.has_failed output.new ≡ not_written result }
     ensures name { O.name output.new ≡ O.name output.old }
@@ -141,18 +140,8 @@ fn refuse_file<O: Output>(
 {
     let title = Title { file, title: None };
     let number = next_number(*tally);
-    let judged = wrong_verdict(alloc, number, title, 1, "a file of cases", found);
+    let judged = judged_wrong(alloc, number, title, 1, "a file of cases", found);
     write_verdict(judged, tally, output)
-}
-
-/// Whether octets are UTF-8.
-fn is_text(octets: &[u8]) -> bool
-    ensures { result ≡ is_utf8 octets.now }
-{
-    match str::from_utf8(octets) {
-        Ok(_) => true,
-        Err(_) => false,
-    }
 }
 
 /// Checks the cases of a file's octets.
@@ -174,7 +163,7 @@ fn check_text<F: Files, O: Output>(
     ensures same_printed { F.is_printed files.new ≡ F.is_printed files.old }
     ensures same_files { F.file files.new ≡ F.file files.old }
 {
-    if !is_text(text) {
+    if str::from_utf8(text).is_err() {
         return refuse_file(alloc, file, "the file is not UTF-8", tally, output);
     }
     match lines_in(alloc, text) {
@@ -318,14 +307,7 @@ fn print_verdicts<F: Files, O: Output>(
         count: 0,
         all_hold: true,
     };
-    let ended = check_files(
-        alloc,
-        common,
-        plan.files.as_slice(),
-        files,
-        &mut tally,
-        output,
-    );
+    let ended = check_files(alloc, common, plan.files.as_slice(), files, &mut tally, output);
     print_checked(output, ended, tally)
 }
 

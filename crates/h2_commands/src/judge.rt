@@ -1,18 +1,18 @@
 //! The verdict on one case of a file, with the words of its own where it has some, and its text.
 //! Rests on h2_check, `books` and h2_words; definitions: `specs/CheckProgram.antt`.
 
-ghost use Rattle.std.specs.Prelude.{◌≡◌, [], Some, Ok, true, map, unwrap_or, is_err, IfOk, OnOk};
+ghost use Rattle.std.specs.Prelude.{◌≡◌, [], Some, Ok, true, map, unwrap_or, IfOk, OnOk};
 ghost use Rattle.std.specs.Option.{option_map};
 ghost use Rattle.std.specs.Path.{path_buf_bytes, path_bytes, path_parent};
 ghost use Rattle.h2_commands.specs.Books.{book_said};
-ghost use Rattle.h2_commands.specs.declared.fault.BenchFault.TheVariants.{NoMemory};
 ghost use Rattle.h2_check.specs.Cases.{Fails};
 ghost use Rattle.h2_check.specs.CaseWords.{with_case_words};
 ghost use Rattle.h2_check.specs.Files.{title_in};
+ghost use Rattle.h2_check.specs.Tap.{IsResult};
 ghost use Rattle.h2_check.specs.Walks.{outcome_by};
 ghost use Rattle.h2_words.specs.Grammar.{asked_of, debug};
 ghost use Rattle.h2_words.specs.Plans.{book_asked};
-ghost use Rattle.h2_commands.specs.CheckProgram.{Case as ACase, IsJudged, Judges, JudgesAsked, JudgesWith, JudgesWords, book_path, first_words, ground, holds_all};
+ghost use Rattle.h2_commands.specs.CheckProgram.{Case as ACase, IsJudged, Judges, JudgesAsked, JudgesCase, JudgesWith, JudgesWords, book_path, file_in, first_words, ground, holds_all, title_at};
 
 use crate::books::book_for_words;
 use crate::fault::BenchFault;
@@ -68,7 +68,7 @@ fn holds(verdict: &Verdict<'_>) -> bool
 }
 
 /// A verdict with its text.
-fn with_text(
+fn judged(
     alloc: Global,
     number: u64,
     title: Title<'_>,
@@ -84,7 +84,7 @@ fn with_text(
 }
 
 /// The verdict that something failed at a line, and for which reason in words.
-pub fn wrong_verdict(
+pub fn judged_wrong(
     alloc: Global,
     number: u64,
     title: Title<'_>,
@@ -102,7 +102,7 @@ pub fn wrong_verdict(
         wanted,
         found,
     }) {
-        Ok(()) => with_text(alloc, number, title, &Verdict::Fails(wrongs)),
+        Ok(()) => judged(alloc, number, title, &Verdict::Fails(wrongs)),
         Err(_) => Err(AllocError),
     }
 }
@@ -126,7 +126,7 @@ fn judge_refused(alloc: Global, case: Case<'_, '_>, found: &str) -> Result<Judge
 {
     let line = case.line.saturating_add(before_words(case.lines));
     let wanted = "words of a command line";
-    wrong_verdict(alloc, case.number, title(case), line, wanted, found)
+    judged_wrong(alloc, case.number, title(case), line, wanted, found)
 }
 
 /// The verdict on a case with this book, these limits and these settings.
@@ -140,7 +140,7 @@ fn judge_with(
         IfOk result (IsJudged (JudgesWith (Ok book.now) config lines) case.entry.number case.entry.file.now (title_in lines)) }
 {
     match check_case(alloc, book, config, case.lines, case.line) {
-        Ok(verdict) => with_text(alloc, case.number, title(case), &verdict),
+        Ok(verdict) => judged(alloc, case.number, title(case), &verdict),
         Err(CaseFault::BadConfig) => {
             judge_refused(alloc, case, "a limit or a setting is out of range")
         }
@@ -184,29 +184,6 @@ fn book_place(alloc: Global, file: &str, book: &str) -> Result<PathBuf, AllocErr
     directory_of(file).join(alloc, book)
 }
 
-/// The verdict on a case whose book is refused, in these words; where that is for memory, there is none.
-fn judge_fault(
-    alloc: Global,
-    case: Case<'_, '_>,
-    fault: BenchFault,
-    found: &str,
-) -> Result<Judged, AllocError>
-    ensures judged { let lines = map (λ l. l.now) case.entry.lines.now in
-        IfOk result (IsJudged (λ o. o ≡ Fails) case.entry.number case.entry.file.now (title_in lines)) }
-    ensures memory { fault ≡ NoMemory → is_err result ≡ true }
-{
-    match fault {
-        BenchFault::NoMemory => Err(AllocError),
-        BenchFault::BadEntry(_)
-        | BenchFault::BadConfig
-        | BenchFault::Read
-        | BenchFault::BadHex
-        | BenchFault::BadAnswer
-        | BenchFault::BadCommand
-        | BenchFault::Socket => judge_refused(alloc, case, found),
-    }
-}
-
 /// The verdict on a case with the book that these words say.
 fn judge_book<F: Files>(
     alloc: Global,
@@ -223,7 +200,8 @@ fn judge_book<F: Files>(
     let mut why = Gathered::new(alloc);
     match book_for_words(alloc, words, files, &mut why) {
         Ok(book) => judge_with(alloc, &book, config, case),
-        Err(fault) => judge_fault(alloc, case, fault, said_in(&why)),
+        Err(BenchFault::NoMemory) => Err(AllocError),
+        Err(_) => judge_refused(alloc, case, said_in(&why)),
     }
 }
 
@@ -266,8 +244,10 @@ fn judge_words<F: Files>(
 {
     match parse(alloc, words) {
         Ok(Plan::Debug(plan)) => judge_plan(alloc, files, case, plan),
-        Ok(Plan::Batch(_)) | Ok(Plan::Serve(_)) | Ok(Plan::Explain(_)) | Ok(Plan::Check(_)) =>
-            judge_refused(alloc, case, "other words"),
+        Ok(Plan::Batch(_))
+        | Ok(Plan::Serve(_))
+        | Ok(Plan::Explain(_))
+        | Ok(Plan::Check(_)) => judge_refused(alloc, case, "other words"),
         Err(Refusal::Words(text)) => judge_refused(alloc, case, first_line(text.as_str())),
         Err(Refusal::NoMemory) => Err(AllocError),
     }
