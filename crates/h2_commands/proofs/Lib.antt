@@ -6,5 +6,4 @@ pub mod Places
 pub mod Played
 pub mod RefusedWords
 pub mod Tables
-pub mod Verdicts
 pub mod Written

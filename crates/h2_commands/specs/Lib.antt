@@ -1,6 +1,5 @@
 pub mod AnswerParts
 pub mod Books
-pub mod CheckProgram
 pub mod CommandEnd
 pub mod Commands
 pub mod Each
