@@ -1,5 +1,7 @@
+pub mod CaseLists
 pub mod Feeds
 pub mod Gains
 pub mod Going
 pub mod Items
 pub mod Lists
+pub mod Readings

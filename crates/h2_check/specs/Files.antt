@@ -1,6 +1,6 @@
 -- The cases of a file: each begins at a line with a title; a file without one is one case.
-use Rattle.std.specs.Prelude.{ℕ, ◌+◌, ◌==◌, Bool, true, false, List, [], ◌∷◌, Option, Some, None}
-use Rattle.std.specs.List.{list_any, position_or_len}
+use Rattle.std.specs.Prelude.{ℕ, ◌+◌, ◌==◌, ◌&&◌, nat_lt, Bool, true, false, not, List, [], ◌∷◌, length, take, drop, is_some, if◌then◌else◌, Option, Some, None}
+use Rattle.std.specs.List.{list_all, list_any, position_or_len}
 use Rattle.h2_check.specs.Lines as line
 use Rattle.h2_check.specs.Lines.{Said, begins, expects, line_said}
 
@@ -48,3 +48,29 @@ is_silent_line line = is_silent (line_said line)
 -- lines expect something
 abbrev pub expect_something : List (List ℕ) → Bool
 expect_something lines = list_any (λ l. expects (line_said l)) lines
+
+-- ---- the cases of a file
+
+-- lines in front of the first title are no case where they say nothing
+abbrev pub is_preamble : List (List ℕ) → ℕ → Bool
+is_preamble lines n = nat_lt n (length lines) && (not (is_some (title_in lines)) && list_all is_silent_line (take n lines))
+
+-- how many lines are in front of the first case
+abbrev pub preamble_length : List (List ℕ) → ℕ
+preamble_length lines = if is_preamble lines (case_length lines) then case_length lines else 0
+
+-- a line in front of the cases behind it: it begins one of its own where the next line begins one, else it is the first
+-- line of the next
+abbrev pub in_front : List ℕ → List (List (List ℕ)) → List (List (List ℕ))
+in_front l [] = (l ∷ []) ∷ []
+in_front l ([] ∷ cases) = (l ∷ []) ∷ cases
+in_front l ((m ∷ ms) ∷ cases) = if begins (line_said m) then (l ∷ []) ∷ (m ∷ ms) ∷ cases else (l ∷ m ∷ ms) ∷ cases
+
+-- the lines of each case: a line that begins a case is its first
+unfoldable pub cases_from : List (List ℕ) → List (List (List ℕ))
+cases_from [] = []
+cases_from (l ∷ ls) = in_front l (cases_from ls)
+
+-- the cases of a file's lines
+abbrev pub cases_in : List (List ℕ) → List (List (List ℕ))
+cases_in lines = cases_from (drop (preamble_length lines) lines)

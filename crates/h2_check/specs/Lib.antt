@@ -1,8 +1,10 @@
+pub mod CaseWords
 pub mod Cases
 pub mod Files
 pub mod Frames
 pub mod Lines
 pub mod Seen
+pub mod Shell
 pub mod Texts
 pub mod Tap
 pub mod Walks

@@ -1,11 +1,11 @@
 //! The lines of a case file, and the cases among them.
 //! Rests on `line`; definitions: `specs/Lines.antt`, `specs/Files.antt`.
 
-ghost use Rattle.std.specs.Prelude.{◌≡◌, ◌<◌, ◌≤◌, length, map, take, drop, IfOk};
+ghost use Rattle.std.specs.Prelude.{◌≡◌, ◌<◌, ◌≤◌, length, map, take, drop, is_some, IfOk};
 ghost use Rattle.std.specs.List.{list_all, list_any, position_or_len};
 ghost use Rattle.std.specs.Option.{option_map};
 ghost use Rattle.h2_spec.specs.Script.{lines_of};
-ghost use Rattle.h2_check.specs.Files.{case_length, expect_something, is_silent_line, title_in};
+ghost use Rattle.h2_check.specs.Files.{case_length, expect_something, is_silent_line, preamble_length, title_in};
 ghost use Rattle.h2_check.specs.Lines.{begins, expects, line_said};
 
 use crate::line::{Line, line_of};
@@ -77,7 +77,7 @@ pub(crate) fn expect_something(lines: &[&[u8]]) -> bool
 }
 
 /// Whether lines say nothing of a case.
-pub fn are_silent(lines: &[&[u8]]) -> bool
+fn are_silent(lines: &[&[u8]]) -> bool
     ensures { result ≡ list_all is_silent_line (map (λ l. l.now) lines.now) }
 {
     lines.iter().all(|line| is_silent(line))
@@ -122,4 +122,35 @@ pub fn title_of<'t>(lines: &[&'t [u8]]) -> Option<&'t [u8]>
         | Line::Explained(_)
         | Line::Command(_) => None,
     }
+}
+
+/// Whether lines begin with a title.
+fn is_titled(lines: &[&[u8]]) -> bool
+    ensures { result ≡ is_some (title_in (map (λ l. l.now) lines.now)) }
+{
+    match title_of(lines) {
+        Some(_) => true,
+        None => false,
+    }
+}
+
+/// How many lines are in front of the first case: those before the first title, where they say nothing.
+pub fn preamble_length(lines: &[&[u8]]) -> usize
+    ensures value { result ≡ preamble_length (map (λ l. l.now) lines.now) }
+    ensures within { result ≤ length lines.now }
+{
+    if lines.is_empty() {
+        return 0;
+    }
+    let length = case_length(lines);
+    if length == lines.len() {
+        return 0;
+    }
+    if is_titled(lines) {
+        return 0;
+    }
+    if !are_silent(&lines[..length]) {
+        return 0;
+    }
+    length
 }

@@ -3,6 +3,7 @@
 //! Definitions: `specs/Lines.antt` (what a line says), `specs/Cases.antt` (what a case is, and when its lines hold).
 #![tactic(auto)]
 
+mod case_words;
 mod cases;
 mod growing;
 mod line;
@@ -13,8 +14,9 @@ mod tap;
 mod verdict;
 mod walk;
 
-pub use cases::{are_silent, case_length, lines_in, title_of};
+pub use case_words::{add_case_words, before_words, have_words};
+pub use cases::{case_length, lines_in, preamble_length, title_of};
 pub use line::{Line, line_of};
-pub use shell::{ShellFault, add_words};
+pub use shell::ShellFault;
 pub use tap::{Title, plan_line, verdict_text};
 pub use verdict::{CaseFault, Verdict, Wrong, check_case};

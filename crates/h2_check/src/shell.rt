@@ -1,21 +1,26 @@
 //! The words of a line, by a shell's rules of blanks and quotes.
 //! Rests on h2_words; definition: `specs/Shell.antt`.
 
+ghost use Rattle.std.specs.Prelude.{◌≡◌, ◌⊎◌, ◌++◌, ◌∷◌, [], Some, None, IfOk, IfErr, OnOk};
+ghost use Rattle.h2_check.specs.Shell.{Reading, behind_octet, gained, is_between, is_part, keeps_backslash, next_place, outside, with_word, with_words, words_ended};
+ghost use Rattle.h2_check.specs.declared.shell.ShellFault.TheVariants.{NoMemory};
+
 use h2_words::Words;
 use std::alloc::{AllocError, Global};
+use std::str;
 
 /// Why a line has no words.
 #[derive(Clone, Copy)]
 pub enum ShellFault {
     /// Memory was refused.
     NoMemory,
-    /// A quote is not closed, or nothing follows a backslash.
+    /// A quote is not closed, nothing follows a backslash, or a word is not UTF-8.
     Open,
 }
 
-/// Where in a word a character is.
+/// Where in a word an octet is.
 #[derive(Clone, Copy)]
-enum Place {
+pub(crate) enum Place {
     /// Between two words.
     Between,
     /// In a word, outside quotes.
@@ -30,128 +35,181 @@ enum Place {
     DoubleEscaped,
 }
 
-/// Where the next character is, and the characters that this one adds to the word.
-#[derive(Clone, Copy)]
-struct Step {
-    place: Place,
-    /// A backslash that stays, in front of the character.
-    backslash: bool,
-    adds: bool,
-}
-
-fn goes_to(place: Place, adds: bool) -> Step {
-    let backslash = false;
-    Step {
-        place,
-        backslash,
-        adds,
+/// Where the next octet is, behind this one outside quotes; a blank ends a word.
+fn outside(octet: u8) -> Place
+    ensures { result ≡ outside octet }
+{
+    if octet == b' ' || octet == b'\t' {
+        Place::Between
+    } else if octet == b'\\' {
+        Place::Escaped
+    } else if octet == b'\'' {
+        Place::Single
+    } else if octet == b'"' {
+        Place::Double
+    } else {
+        Place::Plain
     }
 }
 
-/// A character outside quotes; a blank ends a word.
-fn plain_step(letter: char) -> Step {
-    match letter {
-        ' ' | '\t' => goes_to(Place::Between, false),
-        '\\' => goes_to(Place::Escaped, false),
-        '\'' => goes_to(Place::Single, false),
-        '"' => goes_to(Place::Double, false),
-        _ => goes_to(Place::Plain, true),
+/// Where the next octet is, behind this one between double quotes.
+fn between_doubles(octet: u8) -> Place
+    ensures { result ≡ next_place Place.Double octet }
+{
+    if octet == b'\\' {
+        Place::DoubleEscaped
+    } else if octet == b'"' {
+        Place::Plain
+    } else {
+        Place::Double
     }
 }
 
-/// A character between double quotes.
-fn double_step(letter: char) -> Step {
-    match letter {
-        '\\' => goes_to(Place::DoubleEscaped, false),
-        '"' => goes_to(Place::Plain, false),
-        _ => goes_to(Place::Double, true),
-    }
-}
-
-/// A character behind a backslash between double quotes; the backslash stays before any but these.
-fn escaped_step(letter: char) -> Step {
-    let backslash = !matches!(letter, '\\' | '"' | '$' | '`');
-    Step {
-        place: Place::Double,
-        backslash,
-        adds: true,
-    }
-}
-
-/// What a character does at a place.
-fn step_at(place: Place, letter: char) -> Step {
+/// Where the next octet is, behind this one.
+fn next_place(place: Place, octet: u8) -> Place
+    ensures { result ≡ next_place place octet }
+{
     match place {
-        Place::Between | Place::Plain => plain_step(letter),
-        Place::Escaped => goes_to(Place::Plain, true),
+        Place::Between | Place::Plain => outside(octet),
+        Place::Escaped => Place::Plain,
         Place::Single => {
-            let ends = letter == '\'';
-            let next = if ends { Place::Plain } else { Place::Single };
-            goes_to(next, !ends)
+            if octet == b'\'' {
+                Place::Plain
+            } else {
+                Place::Single
+            }
         }
-        Place::Double => double_step(letter),
-        Place::DoubleEscaped => escaped_step(letter),
+        Place::Double => between_doubles(octet),
+        Place::DoubleEscaped => Place::Double,
     }
 }
 
-/// Appends what a character adds to a word.
-fn add_letter(word: &mut String, step: Step, letter: char) -> Result<(), AllocError> {
-    if step.backslash {
-        word.push('\\')?;
+/// Whether an octet is part of the word.
+fn is_part(place: Place, octet: u8) -> bool
+    ensures { result ≡ is_part place octet }
+{
+    match place {
+        Place::Between | Place::Plain => {
+            !(octet == b' ' || octet == b'\t' || octet == b'\\' || octet == b'\'' || octet == b'"')
+        }
+        Place::Escaped | Place::DoubleEscaped => true,
+        Place::Single => octet != b'\'',
+        Place::Double => !(octet == b'\\' || octet == b'"'),
     }
-    if step.adds {
-        word.push(letter)?;
+}
+
+/// Whether the backslash before an octet is part of the word: between double quotes, before any but these.
+fn keeps_backslash(place: Place, octet: u8) -> bool
+    ensures { result ≡ keeps_backslash place octet }
+{
+    match place {
+        Place::DoubleEscaped => {
+            !(octet == b'\\' || octet == b'"' || octet == b'$' || octet == b'`')
+        }
+        Place::Between | Place::Plain | Place::Escaped | Place::Single | Place::Double => false,
+    }
+}
+
+/// Whether a place is between two words.
+fn is_between(place: Place) -> bool
+    ensures { result ≡ is_between place }
+{
+    match place {
+        Place::Between => true,
+        Place::Plain | Place::Escaped | Place::Single | Place::Double | Place::DoubleEscaped =>
+            false,
+    }
+}
+
+/// Appends what an octet adds to a word.
+fn add_octet(word: &mut Vec<u8>, place: Place, octet: u8) -> Result<(), AllocError>
+    ensures { OnOk result (word.new.items ≡ word.old.items ++ gained place octet) }
+{
+    if keeps_backslash(place, octet) {
+        word.push(b'\\')?;
+    }
+    if is_part(place, octet) {
+        word.push(octet)?;
     }
     Ok(())
 }
 
-/// Whether a word ends between two places.
-fn ends(before: Place, after: Place) -> bool {
-    matches!(after, Place::Between) && !matches!(before, Place::Between)
-}
-
-/// Puts the last word of a line behind the others, where the line ends in one.
-fn add_last(words: &mut Words, place: Place, word: &str) -> Result<(), ShellFault> {
-    match place {
-        Place::Between => Ok(()),
-        Place::Plain => match words.add(word) {
+/// Puts a word behind others.
+fn add_word(words: &mut Words, word: &[u8]) -> Result<(), ShellFault>
+    ensures ok { OnOk result (with_word words.old word.now ≡ Some words.new) }
+    ensures err { IfErr result (λ fault. (fault ≡ NoMemory) ⊎ (with_word words.old word.now ≡ None)) }
+{
+    match str::from_utf8(word) {
+        Ok(text) => match words.add(text) {
             Ok(()) => Ok(()),
             Err(_) => Err(ShellFault::NoMemory),
         },
+        Err(_) => Err(ShellFault::Open),
+    }
+}
+
+/// Takes an octet of a line at a place: it is added to the word, or ends it. Gives the place of the next.
+fn take_octet(
+    words: &mut Words,
+    word: &mut Vec<u8>,
+    place: Place,
+    octet: u8,
+) -> Result<Place, ShellFault>
+    ensures ok { IfOk result (λ next. behind_octet (record { place = place; word = word.old.items; words = words.old }) octet
+        ≡ Some (record { place = next; word = word.new.items; words = words.new })) }
+    ensures err { IfErr result (λ fault. (fault ≡ NoMemory)
+        ⊎ (behind_octet (record { place = place; word = word.old.items; words = words.old }) octet ≡ None)) }
+{
+    let next = next_place(place, octet);
+    if !is_between(place) && is_between(next) {
+        return match add_word(words, word.as_slice()) {
+            Ok(()) => {
+                word.clear();
+                Ok(next)
+            }
+            Err(fault) => Err(fault),
+        };
+    }
+    match add_octet(word, place, octet) {
+        Ok(()) => Ok(next),
+        Err(_) => Err(ShellFault::NoMemory),
+    }
+}
+
+/// Puts the last word of a line behind the others, where the line ends in one.
+fn add_last(words: &mut Words, place: Place, word: &[u8]) -> Result<(), ShellFault>
+    ensures ok { OnOk result (words_ended place word.now words.old ≡ Some words.new) }
+    ensures err { IfErr result (λ fault. (fault ≡ NoMemory) ⊎ (words_ended place word.now words.old ≡ None)) }
+{
+    match place {
+        Place::Between => Ok(()),
+        Place::Plain => add_word(words, word),
         Place::Escaped | Place::Single | Place::Double | Place::DoubleEscaped => {
             Err(ShellFault::Open)
         }
     }
 }
 
-/// Takes a character of a line: it is added to the word, or ends it.
-fn take_letter(
-    alloc: Global,
-    words: &mut Words,
-    word: &mut String,
-    place: Place,
-    letter: char,
-) -> Result<Place, AllocError> {
-    let step = step_at(place, letter);
-    add_letter(word, step, letter)?;
-    if ends(place, step.place) {
-        words.add(word.as_str())?;
-        *word = String::new(alloc);
-    }
-    Ok(step.place)
-}
-
 /// Puts the words of a line behind others.
 ///
-/// Blanks and tabs separate words. Between single quotes each character is itself. Between double quotes a backslash
-/// before `\`, `"`, `$` or a backquote is dropped; outside quotes it makes the next character itself.
-pub fn add_words(alloc: Global, line: &str, words: &mut Words) -> Result<(), ShellFault> {
+/// Blanks and tabs separate words. Between single quotes each octet is itself. Between double quotes a backslash before
+/// `\`, `"`, `$` or a backquote is dropped; outside quotes it makes the next octet itself.
+///
+/// # Errors
+///
+/// `Open` where a quote is not closed, nothing follows a backslash, or a word is not UTF-8; `NoMemory` may come before.
+/// The words may have gained some words of the line then.
+pub fn add_words(alloc: Global, line: &[u8], words: &mut Words) -> Result<(), ShellFault>
+    ensures ok { OnOk result (with_words words.old line.now ≡ Some words.new) }
+    ensures err { IfErr result (λ fault. (fault ≡ NoMemory) ⊎ (with_words words.old line.now ≡ None)) }
+{
     let mut place = Place::Between;
-    let mut word = String::new(alloc);
-    for letter in line.chars() {
-        match take_letter(alloc, words, &mut word, place, letter) {
+    let mut word = Vec::new(alloc);
+    for octet in line {
+        match take_octet(words, &mut word, place, *octet) {
             Ok(next) => place = next,
-            Err(_) => return Err(ShellFault::NoMemory),
+            Err(fault) => return Err(fault),
         }
     }
-    add_last(words, place, word.as_str())
+    add_last(words, place, word.as_slice())
 }

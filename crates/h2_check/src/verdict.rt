@@ -1,7 +1,7 @@
 //! The verdict on a case.
 //! Rests on `walk` and h2_conn; definitions: `specs/Cases.antt`.
 
-ghost use Rattle.std.specs.Prelude.{◌≡◌, ◌⊎◌, [], map, IfOk, IfErr, false};
+ghost use Rattle.std.specs.Prelude.{◌≡◌, ◌⊎◌, [], map, IfOk, IfErr, OnOk, false, true};
 ghost use Rattle.h2_conn.specs.Connection.{going};
 ghost use Rattle.h2_spec.specs.State.{is_allowed};
 ghost use Rattle.h2_check.specs.Cases.{Start, all_hold, first_place, outcome, outcome_of};
@@ -82,6 +82,7 @@ pub fn check_case<'t>(
     number: usize,
 ) -> Result<Verdict<'t>, CaseFault>
     ensures verdict { IfOk result (λ verdict. outcome_by verdict ≡ outcome_of book.now config (map (λ l. l.now) lines.now)) }
+    ensures allowed { OnOk result (is_allowed config ≡ true) }
     ensures fault { IfErr result (λ fault. (fault ≡ NoMemory) ⊎ ((fault ≡ BadConfig) × (is_allowed config ≡ false))) }
 {
     let mut sent = Vec::new(alloc);

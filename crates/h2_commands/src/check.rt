@@ -1,5 +1,5 @@
 //! The program `check`: the cases of files, each on a connection of its own, and the verdicts on them.
-//! Rests on h2_check, `books` and h2_book; definitions: `specs/CheckProgram.antt`.
+//! Rests on h2_check, `books` and h2_book; definitions: those of h2_check, specs/Files.antt and specs/Cases.antt.
 
 ghost use Rattle.std.specs.Prelude.{◌≡◌, ◌≤◌, ◌<◌, [], false, true, length, is_err};
 ghost use Rattle.h2_commands.specs.Each.{not_written};
@@ -10,8 +10,8 @@ use crate::fault::BenchFault;
 use crate::input::LIMIT;
 use h2_book::{Files, FilesFault};
 use h2_check::{
-    CaseFault, Line, ShellFault, Title, Verdict, Wrong, add_words, are_silent, case_length,
-    check_case, line_of, lines_in, plan_line, title_of, verdict_text,
+    CaseFault, ShellFault, Title, Verdict, Wrong, add_case_words, before_words, case_length,
+    check_case, have_words, lines_in, plan_line, preamble_length, title_of, verdict_text,
 };
 use h2_device::{Gathered, Output};
 use h2_request::book::Book;
@@ -184,41 +184,11 @@ fn check_on<O: Output>(
 
 /// The number of the first line that has words of the command line, or else of the first line.
 fn words_line(case: Case<'_, '_>) -> usize {
-    for (place, line) in case.lines.iter().enumerate() {
-        if let Line::Words(_) = line_of(line) {
-            return case.number.saturating_add(place);
-        }
+    if have_words(case.lines) {
+        case.number.saturating_add(before_words(case.lines))
+    } else {
+        case.number
     }
-    case.number
-}
-
-/// Whether a case has words of its own.
-fn has_words(case: Case<'_, '_>) -> bool {
-    case.lines
-        .iter()
-        .any(|line| matches!(line_of(line), Line::Words(_)))
-}
-
-/// Puts the words of a line behind others, where it has some.
-fn add_line_words(alloc: Global, line: &[u8], words: &mut Words) -> Result<(), ShellFault> {
-    match line_of(line) {
-        Line::Words(text) => match str::from_utf8(text) {
-            Ok(text) => add_words(alloc, text, words),
-            Err(_) => Err(ShellFault::Open),
-        },
-        _ => Ok(()),
-    }
-}
-
-/// Puts the words of a case behind others.
-fn add_case_words(alloc: Global, case: Case<'_, '_>, words: &mut Words) -> Result<(), ShellFault> {
-    for line in case.lines {
-        match add_line_words(alloc, line, words) {
-            Ok(()) => {}
-            Err(fault) => return Err(fault),
-        }
-    }
-    Ok(())
 }
 
 /// The words that a case stands for: a command with limits, settings, a book and answers.
@@ -228,7 +198,7 @@ fn command_of(alloc: Global, case: Case<'_, '_>, words: &mut Words) -> Result<()
         Err(_) => return Err(ShellFault::NoMemory),
     }
     match words.add("debug") {
-        Ok(()) => add_case_words(alloc, case, words),
+        Ok(()) => add_case_words(alloc, case.lines, words),
         Err(_) => Err(ShellFault::NoMemory),
     }
 }
@@ -379,19 +349,11 @@ fn check_one<F: Files, O: Output>(
     ensures flag { O.has_failed output.new ≡ not_written result }
     ensures name { O.name output.new ≡ O.name output.old }
 {
-    if has_words(case) {
+    if have_words(case.lines) {
         check_worded(alloc, files, case, tally, output)
     } else {
         check_on(alloc, common, case, tally, output)
     }
-}
-
-/// Whether lines in front of the first title are no case: they say nothing.
-fn is_preamble(case: Case<'_, '_>, all: usize) -> bool {
-    case.number == 1
-        && case.lines.len() < all
-        && title_of(case.lines).is_none()
-        && are_silent(case.lines)
 }
 
 /// Checks the cases of a file's lines.
@@ -408,7 +370,7 @@ fn check_cases<F: Files, O: Output>(
     ensures flag { O.has_failed output.new ≡ not_written result }
     ensures name { O.name output.new ≡ O.name output.old }
 {
-    let mut first = 0;
+    let mut first = preamble_length(lines);
     while first < lines.len() {
         let length = case_length(&lines[first..]);
         let number = first + 1;
@@ -417,11 +379,9 @@ fn check_cases<F: Files, O: Output>(
             lines: &lines[first..first + length],
             number,
         };
-        if !is_preamble(case, lines.len()) {
-            match check_one(alloc, common, files, case, tally, output) {
-                Ok(()) => {}
-                Err(fault) => return Err(fault),
-            }
+        match check_one(alloc, common, files, case, tally, output) {
+            Ok(()) => {}
+            Err(fault) => return Err(fault),
         }
         first += length;
     }
