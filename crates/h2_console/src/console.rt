@@ -4,6 +4,7 @@
 ghost use Rattle.std.specs.Prelude.{◌≤◌, length, IfOk};
 
 use crate::commands::{HELP, Meaning, meaning_of};
+use crate::copied::copy_from;
 use crate::items::{write_item, write_items};
 use std::alloc::{AllocError, Global};
 use std::cell::Cell;
@@ -192,12 +193,7 @@ impl<'c, R: Read, O: Write, E: Write> Console<'c, R, O, E> {
     fn give(&mut self, buffer: &mut [u8]) -> usize
         ensures { result ≤ length buffer.new }
     {
-        let rest = match self.command.as_slice().get(self.given..) {
-            Some(rest) => rest,
-            None => &[],
-        };
-        let count = rest.len().min(buffer.len());
-        buffer[..count].copy_from_slice(&rest[..count]);
+        let count = copy_from(self.command.as_slice(), self.given, buffer);
         self.given = self.given.saturating_add(count);
         count
     }

@@ -2,6 +2,7 @@
 
 ghost use Rattle.std.specs.Prelude.{◌≤◌, length};
 
+use crate::copied::copy_from;
 use std::alloc::{AllocError, Global};
 use std::io;
 use std::io::Read;
@@ -49,12 +50,7 @@ impl<R: Read> Hexed<R> {
     fn give(&mut self, buffer: &mut [u8]) -> usize
         ensures { result ≤ length buffer.new }
     {
-        let held = match self.digits.as_slice().get(self.given..) {
-            Some(held) => held,
-            None => &[],
-        };
-        let count = held.len().min(buffer.len());
-        buffer[..count].copy_from_slice(&held[..count]);
+        let count = copy_from(self.digits.as_slice(), self.given, buffer);
         self.given = self.given.saturating_add(count);
         count
     }

@@ -5,6 +5,7 @@
 
 mod commands;
 mod console;
+mod copied;
 mod hexed;
 mod items;
 mod second_look;

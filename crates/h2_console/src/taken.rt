@@ -3,6 +3,7 @@
 
 ghost use Rattle.std.specs.Prelude.{◌≤◌, length, IfOk};
 
+use crate::copied::copy_from;
 use std::alloc::{AllocError, Global};
 use std::io;
 use std::io::{ErrorKind, Read};
@@ -91,12 +92,7 @@ impl<R: Read> TakenInput<R> {
     fn give_front(&mut self, buffer: &mut [u8]) -> usize
         ensures { result ≤ length buffer.new }
     {
-        let held = match self.front.as_slice().get(self.given..) {
-            Some(held) => held,
-            None => &[],
-        };
-        let count = held.len().min(buffer.len());
-        buffer[..count].copy_from_slice(&held[..count]);
+        let count = copy_from(self.front.as_slice(), self.given, buffer);
         self.given = self.given.saturating_add(count);
         count
     }
