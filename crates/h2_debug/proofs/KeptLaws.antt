@@ -1,7 +1,7 @@
 -- What is kept of places.
 use Rattle.std.proofs.Common.{◌≡◌, ◌⊎◌, ◌∙◌, inl, inr, ℕ, zero, suc, Option, Some, None, cond, ◌+◌, ◌-◌, ◌*◌, ◌<◌, ◌≤◌, ◌/◌, List, [], ◌∷◌, ◌++◌, length, drop, Bool, true, false, true≢false, refl, sym, ap, arith}
 use Rattle.std.specs.Prelude.{slice_get, min, max, nat_le, ◌&&◌}
-use Rattle.std.proofs.Math.Nat.{lt-div-mul-add, mul-div-le}
+use Rattle.std.proofs.Math.Nat.{div-mul-le_self, lt-div-mul-add, mul-div-le}
 use Rattle.std.proofs.lemmas.Bool.{cases_lt, cond_both, le-leb, leb-false, leb-true}
 use Rattle.h2_spec.specs.Parse.{Front, Stop, One, Parsed, parse_all, parse_first, parse_upto}
 use Rattle.h2_spec.specs.Trace.{next_event, trace}
@@ -168,6 +168,12 @@ kept-counted r now far ks reached replayed count k few = record {
 second : (a b : Bool) → (a && b) ≡ true → b ≡ true
 second true b e = e
 second false b e = absurd (true≢false (sym e))
+
+-- a move starts where the debugger has been
+pub replay-start-reached : (target : ℕ) (d : Debugging) → d.position ≤ d.reached → replay_start target d ≤ d.reached
+replay-start-reached target d within =
+    cond_both (nat_le d.position target && nat_le (nearest_kept target d) d.position) d.position (nearest_kept target d) (λ (n : ℕ). n ≤ d.reached)
+    (λ _. within) (λ _. let low : min target d.reached / 64 * 64 ≤ min target d.reached = div-mul-le_self (min target d.reached) 64 in omega (arith, low))
 
 -- a move runs fewer than 64 items again
 pub replay-few : (target : ℕ) (d : Debugging) → replay_count target d ≤ 63
