@@ -24,7 +24,7 @@ NAME = re.compile(r"`((?:\w+::)*[A-Za-z]+(?:_\w+|[a-z][A-Z]\w*)|(?:\w+::)+\w+)`"
 # Crates of the kit, which no source here names.
 KIT = {"std_alloc", "std_collections", "std_heap", "std_io", "toml_datetime", "toml_parser", "toml_writer", "fast_float"}
 # Pages that speak of code.
-OF_CODE = ("CONTRIBUTING.md", "docs/ARCHITECTURE.md", "docs/DECISIONS.md", "docs/PERFORMANCE.md", "docs/PROOFS.md")
+OF_CODE = ("CONTRIBUTING.md", "docs/ARCHITECTURE.md", "docs/DECISIONS.md", "docs/EDITS.md", "docs/PERFORMANCE.md", "docs/PROOFS.md")
 DECLARES = r"(?:fn|struct|enum|trait|type|const|static|macro_rules!) %s\b"
 
 
