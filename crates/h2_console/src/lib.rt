@@ -16,6 +16,6 @@ mod watched;
 pub use console::{Behind, Console, Manner};
 pub use hexed::{Hexed, hex_of};
 pub use second_look::{Outcome, say_outcome, say_refused_words};
-pub use taken::{TakenInput, one_line};
+pub use taken::{Front, TakenInput, one_line};
 pub use waiting::{WaitingInput, WaitingOutput};
 pub use watched::{Noted, Watched};

@@ -8,14 +8,50 @@ use std::alloc::{AllocError, Global};
 use std::io;
 use std::io::{ErrorKind, Read};
 
+/// What a file gives before the reader is read, if that is read at all.
+#[derive(Drop)]
+pub struct Front {
+    /// What is given first.
+    pub text: Vec<u8>,
+    /// What was refused is looked for in this text.
+    pub seen: Vec<u8>,
+    /// Why the file was not read, where it was not.
+    pub failure: Option<ErrorKind>,
+    /// Whether the reader is read after it.
+    pub reads_on: bool,
+}
+
+impl Front {
+    /// Nothing: all is what the reader gives.
+    pub fn empty(alloc: Global) -> Front {
+        Front {
+            text: Vec::new(alloc),
+            seen: Vec::new(alloc),
+            failure: None,
+            reads_on: true,
+        }
+    }
+
+    /// A file that can't be read for this reason.
+    pub fn unread(alloc: Global, failure: ErrorKind) -> Front {
+        Front {
+            text: Vec::new(alloc),
+            seen: Vec::new(alloc),
+            failure: Some(failure),
+            reads_on: false,
+        }
+    }
+}
+
 /// The input of a command.
 #[derive(Drop)]
 pub struct TakenInput<R> {
     /// What is given first.
     front: Vec<u8>,
     given: usize,
-    /// What is read after it; nothing where a file is all.
-    behind: Option<R>,
+    reader: R,
+    /// Whether the reader is read after what is given first.
+    reads_on: bool,
     /// What was refused is looked for in this text.
     seen: Vec<u8>,
     /// Whether memory for that text was refused.
@@ -37,39 +73,16 @@ pub fn one_line(alloc: Global, text: &[u8]) -> Result<Vec<u8>, AllocError> {
 }
 
 impl<R: Read> TakenInput<R> {
-    /// What a reader gives.
-    pub fn of_reader(alloc: Global, reader: R) -> TakenInput<R> {
+    /// What a file gives, and then what a reader gives, if that is read at all.
+    pub fn new(front: Front, reader: R) -> TakenInput<R> {
         TakenInput {
-            front: Vec::new(alloc),
+            front: front.text,
             given: 0,
-            behind: Some(reader),
-            seen: Vec::new(alloc),
+            reader,
+            reads_on: front.reads_on,
+            seen: front.seen,
             is_cut: false,
-            failure: None,
-        }
-    }
-
-    /// A text, which was read of a file as `seen`, and what a reader gives after it.
-    pub fn of_text(front: Vec<u8>, seen: Vec<u8>, behind: Option<R>) -> TakenInput<R> {
-        TakenInput {
-            front,
-            given: 0,
-            behind,
-            seen,
-            is_cut: false,
-            failure: None,
-        }
-    }
-
-    /// A file that can't be read for this reason.
-    pub fn unread(alloc: Global, failure: ErrorKind) -> TakenInput<R> {
-        TakenInput {
-            front: Vec::new(alloc),
-            given: 0,
-            behind: None,
-            seen: Vec::new(alloc),
-            is_cut: false,
-            failure: Some(failure),
+            failure: front.failure,
         }
     }
 
@@ -101,9 +114,10 @@ impl<R: Read> TakenInput<R> {
     fn read_after(&mut self, buffer: &mut [u8]) -> io::Result<usize>
         ensures { IfOk result (λ count. count ≤ length buffer.new) }
     {
-        match &mut self.behind {
-            Some(reader) => reader.read(buffer),
-            None => Ok(0),
+        if self.reads_on {
+            self.reader.read(buffer)
+        } else {
+            Ok(0)
         }
     }
 

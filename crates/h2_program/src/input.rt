@@ -4,7 +4,8 @@
 use h2_bench::{Plan, carry_out};
 use h2_book::{Files, FilesFault, StdFiles};
 use h2_console::{
-    Behind, Console, Hexed, Manner, TakenInput, WaitingInput, WaitingOutput, hex_of, one_line,
+    Behind, Console, Front, Hexed, Manner, TakenInput, WaitingInput, WaitingOutput, hex_of,
+    one_line,
 };
 use h2_device::Gathered;
 use h2_reasons::Source;
@@ -154,53 +155,78 @@ fn explained(rt: &HostRuntime, debug: &Debug<'_>, text: &[u8]) -> Result<Vec<u8>
     Ok(output.octets)
 }
 
-/// The input of a session over the text of a file: that as one line, and then the lines of standard input.
-fn session_over<'r, 'c>(
-    rt: &'r HostRuntime,
+/// What a session is given of a file: its text as one line; and what `explain` prints of it, where a person or a program
+/// may ask for that.
+fn session_front(
+    rt: &HostRuntime,
     debug: &Debug<'_>,
-    devices: Devices<'_>,
+    has_prompt: bool,
     text: Vec<u8>,
-    position: &'c Cell<usize>,
-) -> Result<Taken<'r, 'c>, AllocError> {
+) -> Result<(Front, Vec<u8>), AllocError> {
     let line = one_line(rt.alloc(), text.as_slice())?;
-    let explained = if devices.prompt == "" {
-        Vec::new(rt.alloc())
-    } else {
+    let explained = if has_prompt {
         explained(rt, debug, text.as_slice())?
+    } else {
+        Vec::new(rt.alloc())
     };
-    let behind = behind(rt, devices, Some(explained), position);
-    Ok(TakenInput::of_text(line, text, Some(behind)))
+    let front = Front {
+        text: line,
+        seen: text,
+        failure: None,
+        reads_on: true,
+    };
+    Ok((front, explained))
 }
 
-/// The input of a command over the text of a file.
-fn over_text<'r, 'c>(
-    rt: &'r HostRuntime,
+/// What a command other than a session is given of a file.
+fn whole_front(rt: &HostRuntime, text: Vec<u8>) -> Result<(Front, Vec<u8>), AllocError> {
+    let seen = text.as_slice().to_vec(rt.alloc())?;
+    let front = Front {
+        text,
+        seen,
+        failure: None,
+        reads_on: false,
+    };
+    Ok((front, Vec::new(rt.alloc())))
+}
+
+/// What a command is given of the text of a file.
+fn front_over(
+    rt: &HostRuntime,
     asked: &Result<Plan<'_>, Refusal>,
-    devices: Devices<'_>,
+    has_prompt: bool,
     text: Vec<u8>,
-    position: &'c Cell<usize>,
-) -> Result<Taken<'r, 'c>, AllocError> {
+) -> Result<(Front, Vec<u8>), AllocError> {
     match asked {
-        Ok(Plan::Debug(debug)) => session_over(rt, debug, devices, text, position),
-        _ => {
-            let seen = text.as_slice().to_vec(rt.alloc())?;
-            Ok(TakenInput::of_text(text, seen, None))
-        }
+        Ok(Plan::Debug(debug)) => session_front(rt, debug, has_prompt, text),
+        _ => whole_front(rt, text),
     }
 }
 
-/// The input of a command over a file.
-fn over_file<'r, 'c>(
-    rt: &'r HostRuntime,
+/// What a command is given of a file, and what `explain` prints of it, for a session.
+fn front_of(
+    rt: &HostRuntime,
     asked: &Result<Plan<'_>, Refusal>,
     devices: Devices<'_>,
     path: &str,
-    position: &'c Cell<usize>,
-) -> Result<Taken<'r, 'c>, ErrorKind> {
-    let text = text_of(rt, path, devices.raw)?;
-    match over_text(rt, asked, devices, text, position) {
-        Ok(taken) => Ok(taken),
-        Err(_) => Err(ErrorKind::OutOfMemory),
+) -> (Front, Vec<u8>) {
+    let text = match text_of(rt, path, devices.raw) {
+        Ok(text) => text,
+        Err(kind) => return (Front::unread(rt.alloc(), kind), Vec::new(rt.alloc())),
+    };
+    match front_over(rt, asked, devices.prompt != "", text) {
+        Ok(front) => front,
+        Err(_) => (
+            Front::unread(rt.alloc(), ErrorKind::OutOfMemory),
+            Vec::new(rt.alloc()),
+        ),
+    }
+}
+
+/// Refuses the words where memory for the input's file was refused.
+fn refuse_for_memory(asked: &mut Result<Plan<'_>, Refusal>, failure: Option<ErrorKind>) {
+    if failure == Some(ErrorKind::OutOfMemory) {
+        *asked = Err(Refusal::NoMemory);
     }
 }
 
@@ -215,22 +241,16 @@ pub fn input_of<'r, 'c, 'w: 'c>(
     if path == "" {
         let behind = behind(rt, devices, None, position);
         return Given {
-            taken: TakenInput::of_reader(rt.alloc(), behind),
+            taken: TakenInput::new(Front::empty(rt.alloc()), behind),
             source: Source::Input,
             position,
         };
     }
-    let taken = match over_file(rt, asked, devices, path, position) {
-        Ok(taken) => taken,
-        Err(kind) => {
-            if kind == ErrorKind::OutOfMemory {
-                *asked = Err(Refusal::NoMemory);
-            }
-            TakenInput::unread(rt.alloc(), kind)
-        }
-    };
+    let (front, explained) = front_of(rt, asked, devices, path);
+    refuse_for_memory(asked, front.failure);
+    let behind = behind(rt, devices, Some(explained), position);
     Given {
-        taken,
+        taken: TakenInput::new(front, behind),
         source: Source::File(path),
         position,
     }
