@@ -27,7 +27,7 @@ by-book (Ok book) asked input t (inr x) = x.1 input refl
 pub batch-whole : (files : Directory) (asked : BatchAsked) (input o : List ℕ) (status : ℕ) → EndsBatch files asked (Some input) false (Some []) (Some o) status
     → OrCutShort (places_within files asked input) (printed_within files asked input) (record { text = o; status = status })
 batch-whole files asked input o status ends = elim (printed-such _ o status ends) [
-  | inl memory ↦ inr (0, memory)
+  | inl memory ↦ inr (0, memory.0)
   | inr known ↦ by-book (book_in files asked) asked input _ known
 ]
 
@@ -41,7 +41,7 @@ with-book (Ok entries) config input o left status ends =
 
 pub session-whole : (files : Directory) (config : Config) (book : BookAsked) (input o : List ℕ) (left : Option (List ℕ)) (status : ℕ) → EndsSession files config book (Some input) left false (Some []) (Some o) status
     → IsDebugged files config book input (record { text = o; status = status })
-session-whole files config book input o left status (inl memory) = inl (printed-such _ o status memory)
+session-whole files config book input o left status (inl memory) = inl (printed-such _ o status memory.0)
 session-whole files config book input o left status (inr session) = inr (with-book (book_said files book) config input o left status session)
 
 pub serve-whole : (o : List ℕ) (status : ℕ) (t : Printed) → t ≡ record { text = o; status = status } → EndsServe (Some []) (Some o) status → (t ≡ unserved) ⊎ (t ≡ failed NoMemory)

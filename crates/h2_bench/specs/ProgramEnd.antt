@@ -44,10 +44,11 @@ SessionAs (Ok entries) config input left input_failed before after status =
     (octets held : List ℕ) → input ≡ Some octets → before ≡ Some held
     → (t : session.Printed) × session.IsSession entries config octets input_failed left t × session.Prints t held after status
 
--- memory for the book was refused, or this is the session; `left` is what the input has left behind it
+-- memory for the book was refused, and nothing was read; or this is the session; `left` is what the input has left
+-- after it
 abbrev pub EndsSession : Directory → Config → BookAsked → Option (List ℕ) → Option (List ℕ) → Bool → Option (List ℕ) → Option (List ℕ) → ℕ → Type 0
 EndsSession files config book input left input_failed before after status =
-    PrintsSome (λ t. t ≡ failed NoMemory) before after status ⊎ SessionAs (book_said files book) config input left input_failed before after status
+    (PrintsSome (λ t. t ≡ failed NoMemory) before after status × (input_failed ≡ false)) ⊎ SessionAs (book_said files book) config input left input_failed before after status
 
 -- nothing is printed for words that ask for connections to be served, and the status is 2; or memory was refused
 abbrev pub EndsServe : Option (List ℕ) → Option (List ℕ) → ℕ → Type 0

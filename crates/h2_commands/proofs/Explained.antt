@@ -83,8 +83,8 @@ input-read form book config input broken text t well ok within x = subst (λ (b 
     (λ known is. subst (λ (u : List ℕ). ReportsRead form book config u t) (ok known is) (short form book config text t within x))
 
 pub input-unread : (form : Form) (book : List Entry) (config : Config) (input : Option (List ℕ)) (broken : Bool) (fault : BenchFault) → IsUnread input broken fault
-    → (fault ≡ NoMemory) ⊎ ReportsInput form book config input broken (failed_as form.json fault)
-input-unread form book config input broken fault (inl memory) = inl memory.0
+    → ((fault ≡ NoMemory) × (broken ≡ false)) ⊎ ReportsInput form book config input broken (failed_as form.json fault)
+input-unread form book config input broken fault (inl memory) = inl memory
 input-unread form book config input broken fault (inr unread) = inr (subst (λ (f : BenchFault). ReportsInput form book config input broken (failed_as form.json f)) (sym unread.0) (elim unread.1 [
   | inl broke ↦ subst (λ (b : Bool). ReportsInput form book config input b (failed_as form.json Read)) (sym broke) refl
   | inr much ↦ subst (λ (b : Bool). ReportsInput form book config input b (failed_as form.json Read)) (sym much.0) (λ known is. long form book config known (much.1 known is))

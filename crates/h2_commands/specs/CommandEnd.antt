@@ -18,9 +18,10 @@ abbrev pub AnswersAs : Result (List Entry) ℕ → BatchAsked → Option (List �
 AnswersAs (Err fault) asked input input_failed t = t ≡ refused fault
 AnswersAs (Ok book) asked input input_failed t = AnswersInput book asked input input_failed t
 
--- memory was refused before anything was written, or this is the answer
+-- memory was refused before anything was written, and no read failed; or this is the answer. So where a read failed,
+-- `fault 22` is all that is reported
 abbrev pub RespondsWith : Directory → BatchAsked → Option (List ℕ) → Bool → Printed → Type 0
-RespondsWith files asked input input_failed t = (t ≡ failed NoMemory) ⊎ AnswersAs (book_in files asked) asked input input_failed t
+RespondsWith files asked input input_failed t = ((t ≡ failed NoMemory) × (input_failed ≡ false)) ⊎ AnswersAs (book_in files asked) asked input input_failed t
 
 -- the output gained the text, and the status is its
 abbrev pub Prints : Printed → List ℕ → Option (List ℕ) → ℕ → Type 0

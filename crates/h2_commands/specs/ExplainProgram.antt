@@ -101,9 +101,13 @@ abbrev pub ReportsWith : Form → Result (List Entry) ℕ → Directory → List
 ReportsWith form (Err fault) files file input input_failed config t = t ≡ refused_as form.json fault
 ReportsWith form (Ok book) files file input input_failed config t = ReportsFrom form files file input input_failed book config t
 
--- memory was refused before the words or the book were known, or this is reported
+-- memory was refused before anything was written, for words that were not parsed too, and no read failed
+abbrev pub IsOutOfMemory : (json input_failed : Bool) → Printed → Type 0
+IsOutOfMemory json input_failed t = ((t ≡ failed NoMemory) ⊎ (t ≡ failed_as json NoMemory)) × (input_failed ≡ false)
+
+-- that, or this is reported. So where a read failed, `fault 22` is all that is reported
 abbrev pub IsExplained : Form → Directory → Config → List ℕ → BookAsked → Option (List ℕ) → Bool → Printed → Type 0
-IsExplained form files config file book input input_failed t = (t ≡ failed NoMemory) ⊎ ((t ≡ failed_as form.json NoMemory) ⊎ ReportsWith form (book_said files book) files file input input_failed config t)
+IsExplained form files config file book input input_failed t = IsOutOfMemory form.json input_failed t ⊎ ReportsWith form (book_said files book) files file input input_failed config t
 
 -- where no write failed: the output gained such a text, and the status is its
 abbrev pub EndsExplain : Form → Directory → Config → List ℕ → BookAsked → Option (List ℕ) → Bool → Option (List ℕ) → Option (List ℕ) → ℕ → Type 0

@@ -103,7 +103,7 @@ fn print_answer<O: Output>(output: &mut O, answer: Result<Report, BenchFault>) -
 {
     match answer {
         Ok(report) => print(output, &report, report.status()),
-        Err(fault) => print_fault(output, fault),
+        Err(why) => print_fault(output, why),
     }
 }
 

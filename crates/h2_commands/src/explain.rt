@@ -91,7 +91,7 @@ pub fn read_text<F: Files, I: Input>(
         → ReportsText form book config text.items t
         → ReportsFrom form (F.file files.old) file.now (I.remaining input.old) (I.has_failed input.new) book config t) }
     ensures within { IfOk result (λ text. length text.items ≤ most) }
-    ensures err { KnowsFile file.now (F.is_printed files.old) → IfErr result (λ fault. (fault ≡ NoMemory)
+    ensures err { KnowsFile file.now (F.is_printed files.old) → IfErr result (λ fault. ((fault ≡ NoMemory) × (I.has_failed input.new ≡ false))
         ⊎ ((form : ExplainForm) → (book : List Entry) → (config : Config)
         → ReportsFrom form (F.file files.old) file.now (I.remaining input.old) (I.has_failed input.new) book config (failed_as form.json fault))) }
     ensures input { I.name input.new ≡ I.name input.old }

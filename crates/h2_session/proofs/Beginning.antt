@@ -68,7 +68,7 @@ pub session-unloaded : (book : List Entry) (config : Config) (octets digits : Li
     → IsSession book config octets false rest (failed (fault_number fault))
 session-unloaded book config octets digits Input first last before after rest fault e zero le takes not =
     elim (not-loaded book config (body_of digits) fault [] true not) [
-      | inl none ↦ inl (ap (λ (f : SessionFault). failed (fault_number f)) none)
+      | inl none ↦ inl (ap (λ (f : SessionFault). failed (fault_number f)) none, refl)
       | inr loads ↦ session-last book config octets digits first last before after rest _ e zero le takes loads
     ]
 session-unloaded book config octets digits LineFeed first last before after rest fault e zero le takes not =
@@ -76,7 +76,7 @@ session-unloaded book config octets digits LineFeed first last before after rest
     let whole = nat_le (length k.0) (most - last) in
     let lines = cond whole (lines_of k.0) (ended_lines (take (most - last) k.0)) in
     elim (not-loaded book config (body_of digits) fault lines whole not) [
-      | inl none ↦ inl (ap (λ (f : SessionFault). failed (fault_number f)) none)
+      | inl none ↦ inl (ap (λ (f : SessionFault). failed (fault_number f)) none, refl)
       | inr loads ↦ session-line book config octets digits k.0 false first last before after rest lines whole _ e k.1 zero le takes (refl, refl) loads
     ]
 

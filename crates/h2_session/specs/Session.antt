@@ -68,9 +68,9 @@ IsFollowed d limit octets failed rest printed = (lines : List (List ℕ)) × (wh
 
 -- a session over an input; `failed` and `rest` are of the input behind it: whether its last read failed, and what it
 -- has left.
--- Where memory for the first line is refused, that fault ends it.
+-- Where memory for the first line is refused, that fault ends it; so where a read failed, no session ends so.
 abbrev pub IsSession : List Entry → Config → List ℕ → Bool → Option (List ℕ) → Printed → Type 0
-IsSession book config octets input_failed rest printed = (printed ≡ failed 0)
+IsSession book config octets input_failed rest printed = ((printed ≡ failed 0) × (input_failed ≡ false))
     ⊎ ((lines : List (List ℕ)) × (whole : Bool) × IsGiven most octets input_failed rest lines whole × IsBegun book config lines whole printed)
 
 -- the output gained the text, and the status is its

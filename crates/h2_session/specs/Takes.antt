@@ -1,5 +1,5 @@
 -- What is taken of an input for a line, and why none is taken.
-use Rattle.std.specs.Prelude.{◌≡◌, ◌⊎◌, ◌<◌, ℕ, List, [], length, take, filter, Option, Some, None}
+use Rattle.std.specs.Prelude.{◌≡◌, ◌⊎◌, ◌<◌, ℕ, Bool, false, List, [], length, take, filter, Option, Some, None}
 use Rattle.h2_session.specs.Commands.{longest}
 use Rattle.h2_session.specs.Lines.{is_digit}
 use Rattle.h2_session.specs.Reading.{TakesLast, TakesLine}
@@ -19,9 +19,9 @@ TakesNext before after first last octets None = TakesLast before after first las
 TakesNext before after first last octets (Some LineFeed) = (line : List ℕ) × TakesLine before after first last line × (octets ≡ take longest line)
 TakesNext before after first last octets (Some Input) = (line : List ℕ) × TakesLast before after first last line × (octets ≡ take longest line) × (0 < length line)
 
--- out of memory, or nothing more can be taken for this cause
-abbrev pub IsRefused : Type 0 → SessionFault → Type 0
-IsRefused cause fault = (fault ≡ NoMemory) ⊎ ((fault ≡ Read) × cause)
+-- out of memory, and no read failed; or nothing more can be taken for this cause
+abbrev pub IsRefused : (input_failed : Bool) → Type 0 → SessionFault → Type 0
+IsRefused input_failed cause fault = ((fault ≡ NoMemory) × (input_failed ≡ false)) ⊎ ((fault ≡ Read) × cause)
 
 -- no octets are spelled, or some are and memory was refused
 abbrev pub IsNoHex : Option (List ℕ) → SessionFault → Type 0

@@ -62,7 +62,7 @@ pub fn take_digits<I: Input>(
     requires well { I.has_failed input.old ≡ false }
     requires empty { digits.old.items ≡ [] }
     ensures ok { IfOk result (λ end. TakesFirst (ahead reader.old (I.remaining input.old)) (ahead reader.new (I.remaining input.new)) reader.old.passed reader.new.passed digits.new.items end) }
-    ensures err { IfErr result (λ fault. IsRefused (IsCut (ahead reader.old (I.remaining input.old)) (I.remaining input.new) reader.old.passed (I.has_failed input.new)) fault) }
+    ensures err { IfErr result (λ fault. IsRefused (I.has_failed input.new) (IsCut (ahead reader.old (I.remaining input.old)) (I.remaining input.new) reader.old.passed (I.has_failed input.new)) fault) }
     ensures within { OnOk result (reader.new.passed ≤ most) }
     ensures well { OnOk result (I.has_failed input.new ≡ false) }
     ensures name { I.name input.new ≡ I.name input.old }

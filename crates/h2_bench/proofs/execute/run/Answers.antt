@@ -24,7 +24,7 @@ by-book (Ok book) asked input input_failed octets held after status t read (inr 
 somehow : (asked : BatchAsked) (input : Option (List ℕ)) (failed : Bool) (before after : Option (List ℕ)) (status : ℕ)
     → EndsBatch no_files asked input failed before after status → EndsSomehow no_files asked input before after status
 somehow asked input input_failed before after status h octets held read had = let x = h held had in elim x.1 [
-  | inl memory ↦ inr (inl (0, subst (λ (t : Printed). Prints t held after status) memory x.2))
+  | inl memory ↦ inr (inl (0, subst (λ (t : Printed). Prints t held after status) memory.0 x.2))
   | inr known ↦ by-book (book_in no_files asked) asked input input_failed octets held after status x.0 read known x.2
 ]
 

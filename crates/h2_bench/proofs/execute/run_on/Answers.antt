@@ -6,19 +6,22 @@ use Rattle.h2_bench.proofs.execute.run_on.Goals as goal
 pub returns-clause-printed : goal.returns-clause-printed
 returns-clause-printed g c = λ is words file well. elim (parsed _ c.parse-asked.result c.parse-asked.ensures.ok c.parse-asked.ensures.refused) [
   | inl same ↦ c.carry_out.ensures.printed is (same ∙ words) file well
-  | inr memory ↦ prints-other _ _ _ _ _ (λ t e. inl e) ((rw memory at c.carry_out.ensures.refused) well)
+  | inr memory ↦ let unread = (rw memory at c.carry_out.ensures.unread) refl in
+      prints-other _ _ _ _ _ (λ t e. inl (e, unread.1)) ((rw memory at c.carry_out.ensures.refused) well)
 ]
 
 pub returns-clause-debugs : goal.returns-clause-debugs
 returns-clause-debugs g c = λ config book words file well. elim (parsed _ c.parse-asked.result c.parse-asked.ensures.ok c.parse-asked.ensures.refused) [
   | inl same ↦ c.carry_out.ensures.debugs config book (same ∙ words) file well
-  | inr memory ↦ inl ((rw memory at c.carry_out.ensures.refused) well)
+  | inr memory ↦ let unread = (rw memory at c.carry_out.ensures.unread) refl in
+      inl ((rw memory at c.carry_out.ensures.refused) well, unread.1)
 ]
 
 pub returns-clause-explains : goal.returns-clause-explains
 returns-clause-explains g c = λ config view file book words bookfile textfile well. elim (parsed _ c.parse-asked.result c.parse-asked.ensures.ok c.parse-asked.ensures.refused) [
   | inl same ↦ c.carry_out.ensures.explains config view file book (same ∙ words) bookfile textfile well
-  | inr memory ↦ prints-other _ _ _ _ _ (λ t e. inl e) ((rw memory at c.carry_out.ensures.refused) well)
+  | inr memory ↦ let unread = (rw memory at c.carry_out.ensures.unread) refl in
+      prints-other _ _ _ _ _ (λ t e. inl (inl e, unread.1)) ((rw memory at c.carry_out.ensures.refused) well)
 ]
 
 pub returns-clause-serves : goal.returns-clause-serves

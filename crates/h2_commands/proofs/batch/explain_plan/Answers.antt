@@ -25,8 +25,8 @@ pub returns-in-Err-clause-printed : goal.returns-in-Err-clause-printed
 returns-in-Err-clause-printed g c = λ book file well held is. (
   failed_as c.args.plan.now.json c.in-Err.fault,
   elim (c.in-Err.ensures.err book) [
-    | inl memory ↦ inr (inl (ap (λ (f : BenchFault). failed_as c.args.plan.now.json f) memory))
-    | inr found ↦ inr (inr (subst (λ (r : Result (List Entry) ℕ). ReportsWith (form_of (view_asked c.args.plan.now)) r (g.F.Files.file c.args.files.now) c.args.plan.now.file.now (g.I.Input.remaining c.args.input.now) (g.I.Input.has_failed c.args.input.now) c.args.plan.now.config (failed_as c.args.plan.now.json c.in-Err.fault)) (sym found) refl))
+    | inl memory ↦ inl (inr (ap (λ (f : BenchFault). failed_as c.args.plan.now.json f) memory), c.requires.reader)
+    | inr found ↦ inr (subst (λ (r : Result (List Entry) ℕ). ReportsWith (form_of (view_asked c.args.plan.now)) r (g.F.Files.file c.args.files.now) c.args.plan.now.file.now (g.I.Input.remaining c.args.input.now) (g.I.Input.has_failed c.args.input.now) c.args.plan.now.config (failed_as c.args.plan.now.json c.in-Err.fault)) (sym found) refl)
   ],
   c.print_fault_as.ensures.printed well held is,
 )
@@ -37,8 +37,8 @@ returns-clause-printed g c = λ book file well held is.
     let known = still-known c.args.plan.now.file.now (g.F.Files.is_printed c.args.files.now) (g.F.Files.is_printed c.book_for_words.new.files) c.book_for_words.ensures.same_printed file in (
       failed_as c.args.plan.now.json fault,
       elim (c.in-Err-read_text.ensures.err known) [
-        | inl memory ↦ inr (inl (ap (λ (f : BenchFault). failed_as c.args.plan.now.json f) memory))
-        | inr summary ↦ inr (inr (with-book (form_of (view_asked c.args.plan.now)) _ c.in-Ok.book (g.F.Files.file c.args.files.now) (g.F.Files.file c.book_for_words.new.files) c.args.plan.now.file.now (g.I.Input.remaining c.args.input.now) (g.I.Input.has_failed c.read_text.new.input) c.args.plan.now.config (failed_as c.args.plan.now.json fault) (c.in-Ok.ensures.ok book) c.book_for_words.ensures.same_files (summary (form_of (view_asked c.args.plan.now)) c.in-Ok.book c.args.plan.now.config)))
+        | inl memory ↦ inl (inr (ap (λ (f : BenchFault). failed_as c.args.plan.now.json f) memory.0), memory.1)
+        | inr summary ↦ inr (with-book (form_of (view_asked c.args.plan.now)) _ c.in-Ok.book (g.F.Files.file c.args.files.now) (g.F.Files.file c.book_for_words.new.files) c.args.plan.now.file.now (g.I.Input.remaining c.args.input.now) (g.I.Input.has_failed c.read_text.new.input) c.args.plan.now.config (failed_as c.args.plan.now.json fault) (c.in-Ok.ensures.ok book) c.book_for_words.ensures.same_files (summary (form_of (view_asked c.args.plan.now)) c.in-Ok.book c.args.plan.now.config))
       ],
       c.print_fault_as-in-Err-read_text.ensures.printed well held is,
     )
@@ -48,8 +48,8 @@ returns-in-Ok-read_text-clause-printed g c = λ book file well held is.
     let x = c.print_text.ensures.printed well held is in
     let known = still-known c.args.plan.now.file.now (g.F.Files.is_printed c.args.files.now) (g.F.Files.is_printed c.book_for_words.new.files) c.book_for_words.ensures.same_printed file in (
       x.0,
-      inr (inr (with-book (form_of (view_asked c.args.plan.now)) _ c.in-Ok.book (g.F.Files.file c.args.files.now) (g.F.Files.file c.book_for_words.new.files) c.args.plan.now.file.now (g.I.Input.remaining c.args.input.now) (g.I.Input.has_failed c.read_text.new.input) c.args.plan.now.config x.0 (c.in-Ok.ensures.ok book) c.book_for_words.ensures.same_files
+      inr (with-book (form_of (view_asked c.args.plan.now)) _ c.in-Ok.book (g.F.Files.file c.args.files.now) (g.F.Files.file c.book_for_words.new.files) c.args.plan.now.file.now (g.I.Input.remaining c.args.input.now) (g.I.Input.has_failed c.read_text.new.input) c.args.plan.now.config x.0 (c.in-Ok.ensures.ok book) c.book_for_words.ensures.same_files
           (c.in-Ok-read_text.ensures.ok known (form_of (view_asked c.args.plan.now)) c.in-Ok.book c.args.plan.now.config x.0
-          (subst (λ (octets : List ℕ). ReportsText (form_of (view_asked c.args.plan.now)) c.in-Ok.book c.args.plan.now.config octets x.0) c.as_slice.ensures.value x.1)))),
+          (subst (λ (octets : List ℕ). ReportsText (form_of (view_asked c.args.plan.now)) c.in-Ok.book c.args.plan.now.config octets x.0) c.as_slice.ensures.value x.1))),
       x.2,
     )

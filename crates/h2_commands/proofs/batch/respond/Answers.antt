@@ -21,7 +21,7 @@ pub returns-in-Err-clause-printed : goal.returns-in-Err-clause-printed
 returns-in-Err-clause-printed g c = λ files well held is. (
   failed c.in-Err.fault,
   elim (c.in-Err.ensures.err files) [
-    | inl memory ↦ inl (ap (λ (f : BenchFault). failed f) memory)
+    | inl memory ↦ inl (ap (λ (f : BenchFault). failed f) memory, c.requires.reader)
     | inr found ↦ inr (subst (λ (r : Result (List Entry) ℕ). AnswersAs r (batch_asked c.args.batch.now) (g.I.Input.remaining c.args.input.now) (g.I.Input.has_failed c.args.input.now) (failed c.in-Err.fault)) (sym found) refl)
   ],
   c.print_fault.ensures.printed well held is,
@@ -32,7 +32,7 @@ returns-clause-printed g c = λ files well held is.
     let fault = c.in-Err-read_all.fault in (
       failed fault,
       elim c.in-Err-read_all.ensures.err [
-        | inl memory ↦ inl (ap (λ (f : BenchFault). failed f) memory.0)
+        | inl memory ↦ inl (ap (λ (f : BenchFault). failed f) memory.0, memory.1)
         | inr unread ↦ inr (subst (λ (r : Result (List Entry) ℕ). AnswersAs r (batch_asked c.args.batch.now) (g.I.Input.remaining c.args.input.now) (g.I.Input.has_failed c.read_all.new.input) (failed fault)) (sym (c.in-Ok.ensures.ok files)) (elim unread.1 [
           | inl broken ↦ inl (broken, ap (λ (f : BenchFault). failed f) unread.0)
           | inr long ↦ inr (long.0, λ octets known. inl (ap (λ (f : BenchFault). failed f) unread.0 ∙ too-long c.in-Ok.book (batch_asked c.args.batch.now) octets (long.1 octets known)))

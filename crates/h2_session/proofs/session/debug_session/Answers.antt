@@ -13,7 +13,7 @@ returns-in-Err-clause-printed g c = λ well octets held knows out.
     let printed = c.refuse.ensures.printed well held out in (
       failed (fault_number c.in-Err.fault),
       elim c.in-Err.ensures.err [
-        | inl none ↦ inl (ap (λ (f : SessionFault). failed (fault_number f)) none)
+        | inl none ↦ inl (ap (λ (f : SessionFault). failed (fault_number f)) none.0, none.1)
         | inr x ↦ rw x.0 (session-cut c.args.book.now c.args.config octets _ _ _ _ start c.new-reader.ensures.1 x.1)
       ],
       printed,
