@@ -38,6 +38,7 @@ class Command:
         self.usage = re.search(r"^Usage: (.*)$", text, re.M)[1]
         self.arguments = rows(text, "Arguments")
         self.options = [row for row in rows(text, "Options") if row[0] != "-h, --help"]
+        self.takes_files = any("FILE" in f"{word} {about}" for word, about in self.arguments)
 
 
 class Help:
@@ -86,6 +87,7 @@ def bash(said):
     """The completion of bash."""
     cases = "".join(f'        {command.name}) words="{" ".join(words_of(command))}" ;;\n' for command in said.commands)
     names = " ".join(command.name for command in said.commands)
+    taking = " | ".join([*(f"{command.name}:*" for command in said.commands if command.takes_files), *(f"*:{word}" for word in FILES)])
     return f"""# Completes the commands and options of h2_bench in bash. Written by tools/manual.py.
 _h2_bench() {{
     local words="" current=${{COMP_WORDS[COMP_CWORD]}} before=${{COMP_WORDS[COMP_CWORD - 1]}}
@@ -100,7 +102,10 @@ _h2_bench() {{
     elif [ "$before" = --prompt ]; then
         mapfile -t COMPREPLY < <(compgen -W "dot line" -- "$current")
     else
-        mapfile -t COMPREPLY < <(compgen -f -- "$current")
+        case ${{COMP_WORDS[1]}}:$before in
+            {taking}) mapfile -t COMPREPLY < <(compgen -f -- "$current") ;;
+            help:help) mapfile -t COMPREPLY < <(compgen -W "{names}" -- "$current") ;;
+        esac
     fi
 }}
 complete -o filenames -F _h2_bench h2_bench
@@ -126,8 +131,9 @@ def zsh(said):
     names = "\n".join("        " + quoted(f"{command.name}:{command.about.replace(':', chr(92) + ':')}") for command in said.commands)
     cases = ""
     for command in said.commands:
-        options = " \\\n                ".join(zsh_option(word, about) for word, about in command.options)
-        cases += f"        {command.name})\n            _arguments \\\n                {options} \\\n                '*:file:_files'\n            ;;\n"
+        others = "'*:file:_files'" if command.takes_files else "'*: : '"
+        options = " \\\n                ".join([*(zsh_option(word, about) for word, about in command.options), "'--help[Prints help]'", others])
+        cases += f"        {command.name})\n            _arguments \\\n                {options}\n            ;;\n"
     return f"""#compdef h2_bench
 # Completes the commands and options of h2_bench in zsh. Written by tools/manual.py.
 _h2_bench() {{
@@ -136,6 +142,11 @@ _h2_bench() {{
 {names}
     )
     if (( CURRENT == 2 )); then
+        _describe command commands
+        compadd -- help --help --version
+        return
+    fi
+    if (( CURRENT == 3 )) && [[ $words[2] == help ]]; then
         _describe command commands
         return
     fi
@@ -151,12 +162,21 @@ _h2_bench "$@"
 
 def fish(said):
     """The completion of fish."""
-    lines = ["# Completes the commands and options of h2_bench in fish. Written by tools/manual.py."]
+    lines = [
+        "# Completes the commands and options of h2_bench in fish. Written by tools/manual.py.",
+        "complete -c h2_bench -f",
+        "complete -c h2_bench -l help -d 'Prints help'",
+        "complete -c h2_bench -n __fish_use_subcommand -l version -d 'Prints the version'",
+        "complete -c h2_bench -n __fish_use_subcommand -a help -d 'Prints help'",
+        f"complete -c h2_bench -n '__fish_seen_subcommand_from help' -a '{' '.join(command.name for command in said.commands)}'",
+    ]
     for command in said.commands:
-        lines.append(f"complete -c h2_bench -n __fish_use_subcommand -f -a {command.name} -d {quoted(command.about)}")
+        lines.append(f"complete -c h2_bench -n __fish_use_subcommand -a {command.name} -d {quoted(command.about)}")
+        if command.takes_files:
+            lines.append(f"complete -c h2_bench -n '__fish_seen_subcommand_from {command.name}' -F")
         for word, about in command.options:
             name = word.split()[0].removeprefix("--")
-            value = "" if " " not in word else " -r" if f"--{name}" in FILES else " -x -a 'dot line'" if name == "prompt" else " -x"
+            value = "" if " " not in word else " -r -F" if f"--{name}" in FILES else " -x -a 'dot line'" if name == "prompt" else " -x"
             lines.append(f"complete -c h2_bench -n '__fish_seen_subcommand_from {command.name}' -l {name}{value} -d {quoted(about)}")
     return "\n".join(lines) + "\n"
 
