@@ -1,4 +1,4 @@
-use Rattle.std.proofs.Common.{length, ◌-◌, ◌≡◌, ◌≤◌, filter, take}
+use Rattle.std.proofs.Common.{◌-◌, ◌≡◌, ◌≤◌, filter, take}
 use Rattle.h2_hex.specs.HexText.{is_digit}
 use Rattle.h2_hex.proofs.spaced.digits_ahead.Given as goal
 
