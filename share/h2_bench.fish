@@ -38,7 +38,7 @@ complete -c h2_bench -n '__fish_seen_subcommand_from debug' -l why -d 'Nothing m
 complete -c h2_bench -n '__fish_seen_subcommand_from debug' -l quiet -d 'Writes nothing to standard error where something is refused'
 complete -c h2_bench -n '__fish_seen_subcommand_from debug' -l in -r -F -d 'The file that is the input, instead of standard input; - is standard input'
 complete -c h2_bench -n '__fish_seen_subcommand_from debug' -l raw -d 'The input has the octets themselves, not their hex'
-complete -c h2_bench -n '__fish_seen_subcommand_from debug' -l prompt -x -a 'dot line' -d 'dot: a line . behind each answer, for programs; line: a prompt and words for people, as the launcher asks for on a terminal'
+complete -c h2_bench -n '__fish_seen_subcommand_from debug' -l prompt -x -a 'dot line' -d 'dot: a line . after each answer, for programs; line: a prompt and words for people, as the launcher asks for on a terminal'
 complete -c h2_bench -n __fish_use_subcommand -a serve -d 'Serves connections of a port, one after another'
 complete -c h2_bench -n '__fish_seen_subcommand_from serve' -l streams -x -d 'The most streams at a time, 1 to 1000; 100 where none is given'
 complete -c h2_bench -n '__fish_seen_subcommand_from serve' -l credit -x -d 'The octets that are owed before they are given back, 1 to 65535; 32768 where none is given'

@@ -15,6 +15,17 @@ import sys
 TOP = os.path.dirname(os.path.dirname(os.path.abspath(__file__)))
 SHARE = f"{TOP}/share"
 FILES = ("--book", "--in")
+ENVIRONMENT = [
+    ("NO_COLOR", "Where it is set and not empty, explain has no colours on a terminal."),
+    ("TERM", "Where it is dumb, the same."),
+]
+EXAMPLES = [
+    ("The octets of a script, played with one answer:", "h2_bench asm < get.h2 | h2_bench play 'GET|/|200|6869'"),
+    ("Which rule a client broke, of octets as they are, with a status for a script:", "h2_bench explain --strict --raw capture.bin 'GET|/|200|6869'"),
+    ("One frame changed, and explained again:", "h2_bench dis --in capture.hex | sed 's/^WINDOW_UPDATE.*/WINDOW_UPDATE 00 1 w5/' | h2_bench asm | h2_bench explain"),
+    ("A person at the keyboard goes through it:", "h2_bench debug --in capture.hex"),
+    ("A server for one connection of a client, with the answers of a book:", "h2_bench serve --book site.toml 8080 1"),
+]
 
 
 def help_of(program, *words):
@@ -69,13 +80,18 @@ def page(said):
     """The manual page."""
     lines = ['.TH H2_BENCH 1 "" "h2_bench" "User Commands"', ".SH NAME", roff(f"h2_bench - {said.about[0].lower()}{said.about[1:]}"), ".SH SYNOPSIS", ".nf"]
     lines += [roff(command.usage) for command in said.commands]
-    lines += [".fi", ".SH DESCRIPTION", "The commands, with their arguments and options; --help behind a command prints the same."]
+    lines += [".fi", ".SH DESCRIPTION", "The commands, with their arguments and options; --help after a command prints the same."]
     for command in said.commands:
         lines += [".SS " + roff(command.usage), roff(command.about) + "."]
         for word, about in command.arguments + command.options:
             lines += [".TP", ".B " + roff(word), roff(about)]
     lines += [".TP", ".B \\-V, \\-\\-version", "In place of a command: prints the version."]
-    lines += [".SH OUTPUT AND EXIT STATUS", ".nf", roff(said.legend), ".fi"]
+    lines += [".SH OUTPUT AND EXIT STATUS", ".nf", roff(said.legend), ".fi", ".SH ENVIRONMENT"]
+    for word, about in ENVIRONMENT:
+        lines += [".TP", ".B " + roff(word), roff(about)]
+    lines += [".SH EXAMPLES"]
+    for about, words in EXAMPLES:
+        lines += [roff(about), ".PP", ".nf", ".RS", roff(words), ".RE", ".fi", ".PP"]
     return "\n".join(lines) + "\n"
 
 
