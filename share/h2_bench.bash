@@ -20,7 +20,10 @@ _h2_bench() {
     elif [ "$before" = --prompt ]; then
         mapfile -t COMPREPLY < <(compgen -W "dot line" -- "$current")
     else
-        mapfile -t COMPREPLY < <(compgen -f -- "$current")
+        case ${COMP_WORDS[1]}:$before in
+            explain:* | check:* | *:--book | *:--in) mapfile -t COMPREPLY < <(compgen -f -- "$current") ;;
+            help:help) mapfile -t COMPREPLY < <(compgen -W "play asm dis table debug serve explain check" -- "$current") ;;
+        esac
     fi
 }
 complete -o filenames -F _h2_bench h2_bench

@@ -169,7 +169,7 @@ refuse_each() {
         [ -s "$made/refused" ] || break
         if ! ends_well; then
             fail "$call" "status $status, output: $(head -c 300 "$made/output")"
-        elif grep -qv '^\(debug: \)\?out of memory' "$made/errors"; then
+        elif grep -qv '^\(standard input, line [0-9]*: \|debug: \)\?out of memory' "$made/errors"; then
             fail "$call" "standard error: $(head -c 300 "$made/errors")"
         else
             right=$((right + 1))
@@ -259,7 +259,7 @@ refuse_each_served() {
         [ -s "$made/refused" ] || break
         if ! serves_well; then
             fail "$call" "status $status, output: $(head -c 300 "$made/output")"
-        elif grep -qv '^\(debug: \)\?out of memory' "$made/errors"; then
+        elif grep -qv '^\(standard input, line [0-9]*: \|debug: \)\?out of memory' "$made/errors"; then
             fail "$call" "standard error: $(head -c 300 "$made/errors")"
         else
             right=$((right + 1))

@@ -15,6 +15,17 @@ import sys
 TOP = os.path.dirname(os.path.dirname(os.path.abspath(__file__)))
 SHARE = f"{TOP}/share"
 FILES = ("--book", "--in")
+ENVIRONMENT = [
+    ("NO_COLOR", "Where it is set and not empty, explain has no colours on a terminal."),
+    ("TERM", "Where it is dumb, the same."),
+]
+EXAMPLES = [
+    ("The octets of a script, played with one answer:", "h2_bench asm < get.h2 | h2_bench play 'GET|/|200|6869'"),
+    ("Which rule a client broke, of octets as they are, with a status for a script:", "h2_bench explain --strict --raw capture.bin 'GET|/|200|6869'"),
+    ("One frame changed, and explained again:", "h2_bench dis --in capture.hex | sed 's/^WINDOW_UPDATE.*/WINDOW_UPDATE 00 1 w5/' | h2_bench asm | h2_bench explain"),
+    ("A person at the keyboard goes through it:", "h2_bench debug --in capture.hex"),
+    ("A server for one connection of a client, with the answers of a book:", "h2_bench serve --book site.toml 8080 1"),
+]
 
 
 def help_of(program, *words):
@@ -38,6 +49,7 @@ class Command:
         self.usage = re.search(r"^Usage: (.*)$", text, re.M)[1]
         self.arguments = rows(text, "Arguments")
         self.options = [row for row in rows(text, "Options") if row[0] != "-h, --help"]
+        self.takes_files = any("FILE" in f"{word} {about}" for word, about in self.arguments)
 
 
 class Help:
@@ -68,13 +80,18 @@ def page(said):
     """The manual page."""
     lines = ['.TH H2_BENCH 1 "" "h2_bench" "User Commands"', ".SH NAME", roff(f"h2_bench - {said.about[0].lower()}{said.about[1:]}"), ".SH SYNOPSIS", ".nf"]
     lines += [roff(command.usage) for command in said.commands]
-    lines += [".fi", ".SH DESCRIPTION", "The commands, with their arguments and options; --help behind a command prints the same."]
+    lines += [".fi", ".SH DESCRIPTION", "The commands, with their arguments and options; --help after a command prints the same."]
     for command in said.commands:
         lines += [".SS " + roff(command.usage), roff(command.about) + "."]
         for word, about in command.arguments + command.options:
             lines += [".TP", ".B " + roff(word), roff(about)]
     lines += [".TP", ".B \\-V, \\-\\-version", "In place of a command: prints the version."]
-    lines += [".SH OUTPUT AND EXIT STATUS", ".nf", roff(said.legend), ".fi"]
+    lines += [".SH OUTPUT AND EXIT STATUS", ".nf", roff(said.legend), ".fi", ".SH ENVIRONMENT"]
+    for word, about in ENVIRONMENT:
+        lines += [".TP", ".B " + roff(word), roff(about)]
+    lines += [".SH EXAMPLES"]
+    for about, words in EXAMPLES:
+        lines += [roff(about), ".PP", ".nf", ".RS", roff(words), ".RE", ".fi", ".PP"]
     return "\n".join(lines) + "\n"
 
 
@@ -86,6 +103,7 @@ def bash(said):
     """The completion of bash."""
     cases = "".join(f'        {command.name}) words="{" ".join(words_of(command))}" ;;\n' for command in said.commands)
     names = " ".join(command.name for command in said.commands)
+    taking = " | ".join([*(f"{command.name}:*" for command in said.commands if command.takes_files), *(f"*:{word}" for word in FILES)])
     return f"""# Completes the commands and options of h2_bench in bash. Written by tools/manual.py.
 _h2_bench() {{
     local words="" current=${{COMP_WORDS[COMP_CWORD]}} before=${{COMP_WORDS[COMP_CWORD - 1]}}
@@ -100,7 +118,10 @@ _h2_bench() {{
     elif [ "$before" = --prompt ]; then
         mapfile -t COMPREPLY < <(compgen -W "dot line" -- "$current")
     else
-        mapfile -t COMPREPLY < <(compgen -f -- "$current")
+        case ${{COMP_WORDS[1]}}:$before in
+            {taking}) mapfile -t COMPREPLY < <(compgen -f -- "$current") ;;
+            help:help) mapfile -t COMPREPLY < <(compgen -W "{names}" -- "$current") ;;
+        esac
     fi
 }}
 complete -o filenames -F _h2_bench h2_bench
@@ -126,8 +147,9 @@ def zsh(said):
     names = "\n".join("        " + quoted(f"{command.name}:{command.about.replace(':', chr(92) + ':')}") for command in said.commands)
     cases = ""
     for command in said.commands:
-        options = " \\\n                ".join(zsh_option(word, about) for word, about in command.options)
-        cases += f"        {command.name})\n            _arguments \\\n                {options} \\\n                '*:file:_files'\n            ;;\n"
+        others = "'*:file:_files'" if command.takes_files else "'*: : '"
+        options = " \\\n                ".join([*(zsh_option(word, about) for word, about in command.options), "'--help[Prints help]'", others])
+        cases += f"        {command.name})\n            _arguments \\\n                {options}\n            ;;\n"
     return f"""#compdef h2_bench
 # Completes the commands and options of h2_bench in zsh. Written by tools/manual.py.
 _h2_bench() {{
@@ -136,6 +158,11 @@ _h2_bench() {{
 {names}
     )
     if (( CURRENT == 2 )); then
+        _describe command commands
+        compadd -- help --help --version
+        return
+    fi
+    if (( CURRENT == 3 )) && [[ $words[2] == help ]]; then
         _describe command commands
         return
     fi
@@ -151,12 +178,21 @@ _h2_bench "$@"
 
 def fish(said):
     """The completion of fish."""
-    lines = ["# Completes the commands and options of h2_bench in fish. Written by tools/manual.py."]
+    lines = [
+        "# Completes the commands and options of h2_bench in fish. Written by tools/manual.py.",
+        "complete -c h2_bench -f",
+        "complete -c h2_bench -l help -d 'Prints help'",
+        "complete -c h2_bench -n __fish_use_subcommand -l version -d 'Prints the version'",
+        "complete -c h2_bench -n __fish_use_subcommand -a help -d 'Prints help'",
+        f"complete -c h2_bench -n '__fish_seen_subcommand_from help' -a '{' '.join(command.name for command in said.commands)}'",
+    ]
     for command in said.commands:
-        lines.append(f"complete -c h2_bench -n __fish_use_subcommand -f -a {command.name} -d {quoted(command.about)}")
+        lines.append(f"complete -c h2_bench -n __fish_use_subcommand -a {command.name} -d {quoted(command.about)}")
+        if command.takes_files:
+            lines.append(f"complete -c h2_bench -n '__fish_seen_subcommand_from {command.name}' -F")
         for word, about in command.options:
             name = word.split()[0].removeprefix("--")
-            value = "" if " " not in word else " -r" if f"--{name}" in FILES else " -x -a 'dot line'" if name == "prompt" else " -x"
+            value = "" if " " not in word else " -r -F" if f"--{name}" in FILES else " -x -a 'dot line'" if name == "prompt" else " -x"
             lines.append(f"complete -c h2_bench -n '__fish_seen_subcommand_from {command.name}' -l {name}{value} -d {quoted(about)}")
     return "\n".join(lines) + "\n"
 

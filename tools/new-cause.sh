@@ -56,11 +56,12 @@ cat <<TEXT
 Written: $code, $words, $codes, $places, $example.
 Each has a sentence to replace (grep -rn '$name:' crates examples), and the code, sections and duties of $after to compare with the RFC.
 Then, in this order:
-  the definition that answers $variant (crates/h2_spec/specs), and its laws in crates/h2_laws
+  the definition that answers cause.$variant, by this name (crates/h2_spec/specs), and its laws in crates/h2_laws
   the function that answers Cause::$variant (crates/h2_rules, or crates/h2_frame for a payload)
   a row of CauseRows.antt (crates/h2_laws/proofs): the frame, and $variant
   a sentence with values, if there is one (crates/h2_explain/src/sentence.rt)
   the end of $example, and what explain prints: ./h2_bench asm < $example > /tmp/hex; ./h2_bench explain /tmp/hex > ${example%.h2}.txt (read each line of it)
-  its cell in docs/TABLE.md, as \`$name\`, and a line in CHANGELOG.md
-  rt fmt in crates/h2_spec, tools/causes.sh --names, tools/calls.py, tests/all --quick
+  its place in the text of docs/TABLE.md, as \`$name\`, a case with the line ;! $name (cases), and a line in CHANGELOG.md
+  where its code is another one: $codes, and its place in code() of $code
+  rt fmt in crates/h2_spec; tools/duties.py and tools/rules.py write docs/TABLE.md's last table and docs/RULES.md again; tools/causes.sh --names, tools/calls.py, tests/all --quick
 TEXT

@@ -19,4 +19,4 @@ pub use book_file::{MAX_BOOK_FILE, add_book};
 pub use fault::{BookFileFault, Cause, Key};
 pub use files::{Files, FilesFault};
 pub use memory::FilesInMemory;
-pub use standard::StdFiles;
+pub use standard::{StdFiles, read_whole};

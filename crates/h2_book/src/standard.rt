@@ -41,7 +41,11 @@ impl<R: rt::Files> Files for StdFiles<'_, R> {
 }
 
 /// All that a reader has left, at most `most` octets.
-fn read_whole<R: Read>(alloc: Global, input: &mut R, most: usize) -> Result<Vec<u8>, FilesFault>
+///
+/// # Errors
+///
+/// `Failed`: a read failed. `TooLong`: the reader has more than `most` octets. `NoMemory`: memory was refused.
+pub fn read_whole<R: Read>(alloc: Global, input: &mut R, most: usize) -> Result<Vec<u8>, FilesFault>
     ensures { IfOk result (λ octets. vec_len octets ≤ most) }
 {
     let mut octets = Vec::new(alloc);

@@ -1,5 +1,6 @@
 //! A person, or a program, at a session: lines are read one at a time, each is given to the session as the command that
-//! it means, and what is no command of the session is answered here. Rests on `commands` and `items`.
+//! it means, and what is no command of the session is answered here. Rests on `commands` and `items`, and on an
+//! `Explainer`, which the program gives.
 
 ghost use Rattle.std.specs.Prelude.{◌≤◌, length, IfOk};
 
@@ -11,9 +12,15 @@ use std::cell::Cell;
 use std::io;
 use std::io::{Read, Write};
 
+/// What explains octets, once a session is asked for it.
+pub trait Explainer {
+    /// What `explain` prints of a text of hex.
+    fn explain(&self, alloc: Global, text: &[u8]) -> Result<Vec<u8>, AllocError>;
+}
+
 /// Lines for a session.
 #[derive(Drop)]
-pub struct Console<'c, R, O, E> {
+pub struct Console<'c, R, O, E, X> {
     reader: R,
     output: O,
     errors: E,
@@ -23,7 +30,10 @@ pub struct Console<'c, R, O, E> {
     has_dots: bool,
     /// Whether the next line is the octets, which are given as they are.
     is_first: bool,
-    /// What `explain` prints of the octets, where they are those of a file.
+    /// The octets in hex: those of a file, or of the first line.
+    octets: Vec<u8>,
+    explainer: X,
+    /// What `explain` prints of the octets, once that was asked for.
     explained: Option<Vec<u8>>,
     position: &'c Cell<usize>,
     /// What was read and is in no line yet.
@@ -35,23 +45,26 @@ pub struct Console<'c, R, O, E> {
 
 /// How a console is set up.
 #[derive(Drop)]
-pub struct Manner {
+pub struct Manner<X> {
     pub has_prompt: bool,
     pub has_dots: bool,
-    /// What `explain` prints of the octets, where they are those of a file; else the first line has them.
-    pub explained: Option<Vec<u8>>,
+    /// Whether the first line has the octets; else they are those of a file.
+    pub has_first: bool,
+    /// The octets of the file, in hex.
+    pub octets: Vec<u8>,
+    pub explainer: X,
 }
 
-impl<'c, R: Read, O: Write, E: Write> Console<'c, R, O, E> {
+impl<'c, R: Read, O: Write, E: Write, X: Explainer> Console<'c, R, O, E, X> {
     /// Lines of a reader; what is answered here is written to `output`, prompts to `errors`.
     pub fn new(
         alloc: Global,
         reader: R,
         output: O,
         errors: E,
-        manner: Manner,
+        manner: Manner<X>,
         position: &'c Cell<usize>,
-    ) -> Console<'c, R, O, E> {
+    ) -> Console<'c, R, O, E, X> {
         Console {
             reader,
             output,
@@ -59,8 +72,10 @@ impl<'c, R: Read, O: Write, E: Write> Console<'c, R, O, E> {
             alloc,
             has_prompt: manner.has_prompt,
             has_dots: manner.has_dots,
-            is_first: manner.explained.is_none(),
-            explained: manner.explained,
+            is_first: manner.has_first,
+            octets: manner.octets,
+            explainer: manner.explainer,
+            explained: None,
             position,
             held: Vec::new(alloc),
             command: Vec::new(alloc),
@@ -131,28 +146,31 @@ impl<'c, R: Read, O: Write, E: Write> Console<'c, R, O, E> {
         Ok(())
     }
 
+    /// What `explain` prints of the octets, which is worked out once.
+    fn explanation(&mut self) -> io::Result<&[u8]> {
+        if self.explained.is_none() {
+            let text = self.explainer.explain(self.alloc, self.octets.as_slice())?;
+            self.explained = Some(text);
+        }
+        match &self.explained {
+            Some(text) => Ok(text.as_slice()),
+            None => Ok(&[]),
+        }
+    }
+
     /// Answers a line that is no command of the session.
     fn answer(&mut self, meaning: Meaning<'_>) -> io::Result<()> {
         let position = self.position.get();
-        match (meaning, &self.explained) {
-            (Meaning::Help, _) => self.output.write_all(HELP.as_bytes())?,
-            (Meaning::Explain, Some(text)) => write_item(
-                &mut self.output,
-                text.as_slice(),
-                position,
-            )?,
-            (Meaning::List, Some(text)) => write_items(
-                &mut self.output,
-                text.as_slice(),
-                position,
-            )?,
-            _ => self.output.write_all(
-                b"explain and list need the octets of a file: --in FILE\n".as_slice(),
-            )?,
+        let mut answer = Vec::new(self.alloc);
+        match meaning {
+            Meaning::Explain => write_item(&mut answer, self.explanation()?, position)?,
+            Meaning::List => write_items(&mut answer, self.explanation()?, position)?,
+            _ => answer.extend_from_slice(HELP.as_bytes())?,
         }
         if self.has_dots {
-            self.output.write_all(b".\n".as_slice())?;
+            answer.extend_from_slice(b".\n".as_slice())?;
         }
+        self.output.write_all(answer.as_slice())?;
         self.output.flush()
     }
 
@@ -209,9 +227,13 @@ impl<'c, R: Read, O: Write, E: Write> Console<'c, R, O, E> {
                 let taken = end.saturating_add(1).min(count);
                 self.is_first = false;
                 self.held.extend_from_slice(&buffer[taken..count])?;
+                self.octets.extend_from_slice(&buffer[..taken])?;
                 Ok(taken)
             }
-            None => Ok(count),
+            None => {
+                self.octets.extend_from_slice(read)?;
+                Ok(count)
+            }
         }
     }
 }
@@ -232,7 +254,7 @@ enum Next {
     End,
 }
 
-impl<R: Read, O: Write, E: Write> Read for Console<'_, R, O, E> {
+impl<R: Read, O: Write, E: Write, X: Explainer> Read for Console<'_, R, O, E, X> {
     fn read(&mut self, buffer: &mut [u8]) -> io::Result<usize> {
         if self.is_first {
             self.prompt()?;
@@ -247,12 +269,12 @@ impl<R: Read, O: Write, E: Write> Read for Console<'_, R, O, E> {
 
 /// What a command reads of standard input: its octets, or the lines of a console.
 #[derive(Drop)]
-pub enum Behind<'c, R, O, E> {
+pub enum Behind<'c, R, O, E, X> {
     Plain(R),
-    Console(Console<'c, R, O, E>),
+    Console(Console<'c, R, O, E, X>),
 }
 
-impl<R: Read, O: Write, E: Write> Read for Behind<'_, R, O, E> {
+impl<R: Read, O: Write, E: Write, X: Explainer> Read for Behind<'_, R, O, E, X> {
     fn read(&mut self, buffer: &mut [u8]) -> io::Result<usize> {
         match self {
             Behind::Plain(reader) => reader.read(buffer),

@@ -13,7 +13,7 @@ mod taken;
 mod waiting;
 mod watched;
 
-pub use console::{Behind, Console, Manner};
+pub use console::{Behind, Console, Explainer, Manner};
 pub use hexed::{Hexed, hex_of};
 pub use second_look::{Outcome, say_outcome, say_refused_words};
 pub use taken::{Front, TakenInput, one_line};

@@ -3,8 +3,8 @@
 
 use h2_reasons::{
     Source, Words, digit_count, has_offsets, is_hex, range_of, say_bad_line, say_limits,
-    say_no_hex, say_no_memory, say_no_octets, say_no_text, say_offsets, say_port, say_range,
-    say_table_faults, say_too_long, say_unread, say_unwritten,
+    say_more_octets, say_no_file, say_no_hex, say_no_memory, say_no_octets, say_no_text,
+    say_offsets, say_port, say_range, say_table_faults, say_too_long, say_unread, say_unwritten,
 };
 use h2_script::{ScriptFault, assemble};
 use h2_spec::connection::Config;
@@ -135,8 +135,12 @@ impl Outcome<'_> {
         }
     }
 
-    /// Says why a session did not begin. Its commands that were refused, and memory that was, have their sentences already.
+    /// Says why a session did not begin, or that it was given more octets than it took. Its commands that were refused, and
+    /// memory that was, have their sentences already.
     fn say_session(self, config: Config, out: &mut Words) {
+        if let (Source::Input, 0, false) = (self.source, self.status, self.is_cut) {
+            say_more_octets(self.seen, out);
+        }
         if self.status != 1 || !self.say_input(out) {
             return;
         }
@@ -176,7 +180,7 @@ pub fn say_outcome(alloc: Global, plan: &Plan<'_>, outcome: Outcome<'_>, out: &m
             Plan::Debug(debug) => outcome.say_session(debug.config, out),
             Plan::Serve(serve) => outcome.say_served(serve.config, serve.port, out),
             Plan::Explain(explain) => outcome.say_hex(Some(explain.config), out),
-            // A case that was not read says so in the verdict on it.
+            // What can't be read of its files has its sentence by the program, which has the files.
             Plan::Check(_) => {}
         }
     }
@@ -190,17 +194,49 @@ fn is_within(value: &str, least: u64, most: u64) -> bool {
     }
 }
 
-/// Says which numbers of options are out of range among words that were refused.
+/// Says that the number of an option is out of range, if it is.
+fn say_option(option: &str, value: &str, out: &mut Words) {
+    if let Some(range) = range_of(option)
+        && !is_within(value, range.least, range.most)
+    {
+        say_range(range, value, out);
+    }
+}
+
+/// The word that clap says is one too many, in what it prints.
+fn refused_word(printed: &str) -> Option<&str> {
+    let (word, _) = printed
+        .strip_prefix("error: unexpected argument '")?
+        .split_once("' found")?;
+    Some(word)
+}
+
+/// Says of a command that takes no FILE that it was given one.
+fn say_file(words: &[String], printed: &str, out: &mut Words) {
+    let Some(command) = words.get(1) else {
+        return;
+    };
+    let command = command.as_str();
+    if let ("asm" | "dis" | "table", Some(word)) = (command, refused_word(printed))
+        && !word.starts_with("--")
+    {
+        say_no_file(command, word, out);
+    }
+}
+
+/// Says of words that were refused which numbers of options are out of range, and which word is a file.
 pub fn say_refused_words(refusal: &Refusal, words: &[String], out: &mut Words) {
-    if let Refusal::NoMemory = refusal {
+    let Refusal::Words(printed) = refusal else {
         say_no_memory(out);
         return;
-    }
-    for (option, value) in words.iter().zip(words.iter().skip(1)) {
-        if let Some(range) = range_of(option.as_str())
-            && !is_within(value.as_str(), range.least, range.most)
-        {
-            say_range(range, value.as_str(), out);
+    };
+    for word in words {
+        if let Some((option, value)) = word.as_str().split_once('=') {
+            say_option(option, value, out);
         }
     }
+    for (option, value) in words.iter().zip(words.iter().skip(1)) {
+        say_option(option.as_str(), value.as_str(), out);
+    }
+    say_file(words, printed.as_str(), out);
 }

@@ -63,12 +63,15 @@ pub struct Watched<'w, O, E> {
     is_quiet: bool,
     has_dots: bool,
     position: &'w Cell<usize>,
+    /// The number of the line that is answered next, where each line has an answer here.
+    line: Option<usize>,
     front: Vec<u8>,
     failed: bool,
 }
 
 impl<'w, O: Output, E: Write> Watched<'w, O, E> {
-    /// The output of a session over this one; sentences are written to `errors`, the position to `position`.
+    /// The output of a session over this one; sentences are written to `errors`, the position to `position`. `line` is
+    /// the number of the first command's line, where each line is answered by the session itself.
     pub fn new(
         alloc: Global,
         output: &'w mut O,
@@ -76,6 +79,7 @@ impl<'w, O: Output, E: Write> Watched<'w, O, E> {
         is_quiet: bool,
         has_dots: bool,
         position: &'w Cell<usize>,
+        line: Option<usize>,
     ) -> Watched<'w, O, E>
         ensures { result.failed ≡ false }
     {
@@ -86,6 +90,7 @@ impl<'w, O: Output, E: Write> Watched<'w, O, E> {
             is_quiet,
             has_dots,
             position,
+            line,
             front: Vec::new(alloc),
             failed: false,
         }
@@ -113,12 +118,15 @@ impl<'w, O: Output, E: Write> Watched<'w, O, E> {
             && !self.is_quiet
         {
             let mut words = Words::new(self.alloc);
-            say_session_fault(number, &mut words);
+            say_session_fault(self.line, number, &mut words);
             if let Ok(text) = words.finish() {
                 let _ = self.errors.write_all(text.as_bytes());
             }
         }
         self.front.clear();
+        if let Some(line) = self.line {
+            self.line = Some(line.saturating_add(1));
+        }
     }
 
     fn write_on(&mut self) -> Result<(), DeviceFault> {

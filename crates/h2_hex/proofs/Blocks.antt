@@ -5,7 +5,7 @@ use Rattle.std.specs.List.{AllPass}
 use Rattle.std.proofs.lemmas.Bool.{cases_eq, cases_lt}
 use Rattle.std.proofs.lemmas.List.{append-nil, length-take-le, take-append-drop, take_all}
 use Rattle.std.proofs.lemmas.List.Elements.{All-head, All-tail, filter-append}
-use Rattle.hex.specs.Hex.{decode_of, decode_sized, hex_digit_value, is_hex_digit}
+use Rattle.hex.specs.Hex.{decode_of, decode_sized, is_hex_digit}
 use Rattle.hex.specs.declared.FromHexError.{FromHexError}
 use Rattle.hex.proofs.HexLemmas.{decode_of-odd, decode_of-ok, decode_sized-odd, decode_sized-twice}
 use Rattle.h2_spec.specs.AnswerWords.{body_of, ok_or_none}
@@ -98,6 +98,11 @@ spaced-refused text digits used is few whole e =
           ap body_of (split text used ∙ ap (λ t. t ++ rest) (sym is)) ∙ front-refused digits rest even e
     ]
 
+-- white space in front of a text
+pub spaces-passed : (text rest : List ℕ) (used : ℕ) → filter is_digit (take used text) ≡ [] → rest ≡ drop used text → octets_spelled rest ≡ octets_spelled text
+spaces-passed text rest used none is =
+    ap octets_spelled is ∙ ap body_of (sym (split text used ∙ ap (λ t. t ++ filter is_digit (drop used text)) none))
+
 -- digits in blocks
 pub block-decoded : (digits octets : List ℕ) (count : ℕ) → body_of (take count digits) ≡ Some octets → body_of digits ≡ all_in_front octets (body_of (drop count digits))
 block-decoded digits octets count e = ap body_of (sym (take-append-drop count digits)) ∙ front-decoded (take count digits) (drop count digits) octets e
@@ -154,6 +159,8 @@ last-or-even digits count e =
           let is : length (take count digits) ≡ count = length-take-le count digits (omega (arith, e)) in
           inr (omega (arith, full, is))
     ]
+
+pub ruleset spaces = (spaces-passed)
 
 pub ruleset spelled = (plain-decoded, spaced-decoded, spaced-refused)
 

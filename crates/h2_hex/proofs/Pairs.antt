@@ -1,6 +1,6 @@
 -- Hex digits pair by pair: octets that are decoded a part after the other.
 use Rattle.std.proofs.Common.{◌≡◌, ◌∙◌, ℕ, ◌+◌, ◌*◌, ◌%◌, Bool, true, false, cond, eqb, List, [], ◌∷◌, ◌++◌, length, refl, sym, ap, arith, Option, Some, None, Result, Ok, Err}
-use Rattle.hex.specs.Hex.{decode_of, decode_pairs, digit_or_error, hex_digit_value, ◌>>=◌}
+use Rattle.hex.specs.Hex.{decode_pairs, digit_or_error, hex_digit_value, ◌>>=◌}
 use Rattle.hex.specs.declared.FromHexError.{FromHexError}
 use Rattle.hex.specs.declared.FromHexError.TheVariants.{OddLength}
 use Rattle.h2_spec.specs.AnswerWords.{body_of, ok_or_none}

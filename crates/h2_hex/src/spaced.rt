@@ -1,11 +1,14 @@
-//! White space dropped: the digits at the front of a text, as many as a block takes.
+//! White space passed over and dropped: the text after it, the digits before it, and the digits at the front of a text, as
+//! many as a block takes.
 //! Rests on arrayvec; definition: `is_digit` of `specs/HexText.antt`.
 
 ghost use Rattle.std.specs.Prelude.{◌≡◌, ◌<◌, ◌≤◌, ◌∷◌, ◌++◌, [], filter, length, not, take};
-ghost use Rattle.h2_hex.specs.HexText.{is_digit, most_digits};
+ghost use Rattle.std.specs.List.{list_all};
+ghost use Rattle.h2_hex.specs.HexText.{is_digit, most_digits, octets_spelled};
 
 use crate::block::DIGITS;
 use arrayvec::ArrayVec;
+use h2_spec::octets::octets_from;
 
 /// Digits without white space, as many as are decoded at a time.
 pub(crate) type Digits = ArrayVec<u8, DIGITS>;
@@ -15,6 +18,40 @@ fn is_space(octet: u8) -> bool
     ensures { result ≡ not (is_digit octet) }
 {
     octet == b' ' || octet == b'\t' || octet == b'\r' || octet == b'\n'
+}
+
+/// Whether a text begins with white space.
+pub(crate) fn begins_with_space(text: &[u8]) -> bool
+    ensures { result ≡ not (list_all is_digit (take 1 text.now)) }
+{
+    !text.is_empty() && is_space(text[0])
+}
+
+/// The text after the white space at its front.
+#[tactic(auto, using(crate::proofs::Blocks::spaces))]
+pub(crate) fn after_spaces(text: &[u8]) -> &[u8]
+    ensures spelled { octets_spelled result.now ≡ octets_spelled text.now }
+    ensures within { length result.now ≤ length text.now }
+{
+    let mut used = 0;
+    while used < text.len() && is_space(text[used]) {
+        used += 1;
+    }
+    octets_from(text, used)
+}
+
+/// How many digits a text has before its first white space, at most as many as are decoded at a time.
+pub(crate) fn digits_ahead(text: &[u8]) -> usize
+    ensures digits { filter is_digit (take result text.now) ≡ take result text.now }
+    ensures within { result ≤ length text.now }
+    ensures few { result ≤ most_digits }
+{
+    let most = text.len().min(DIGITS);
+    let mut used = 0;
+    while used < most && !is_space(text[used]) {
+        used += 1;
+    }
+    used
 }
 
 /// Puts an octet after the others, unless it is white space.

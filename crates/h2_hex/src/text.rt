@@ -1,12 +1,14 @@
 //! Hex text: pairs of hex digits, with white space (space, tab, carriage return, line feed) anywhere between digits.
-//! Each block of text is decoded as it is; only where that fails, white space is dropped into a block of its own first.
+//! Each line of text is decoded as it is, and a text without lines block by block; only where that fails, white space is
+//! dropped into a block of its own first. How many digits are tried is what the line before had, so that lines of the same
+//! length, as other programs write them, cost what one long line does.
 //! Rests on `block` and `spaced`; definition: `octets_spelled` of `specs/HexText.antt`.
 
 ghost use Rattle.std.specs.Prelude.{◌≡◌, ◌<◌, ◌≤◌, [], Some, None, drop, false, is_some, length, option_map, take, true, IfNone, IfOk, IfSome, OnErr};
-ghost use Rattle.h2_hex.specs.HexText.{all_in_front, most_octets, octets_spelled};
+ghost use Rattle.h2_hex.specs.HexText.{all_in_front, most_digits, most_octets, octets_spelled};
 
 use crate::block::{DIGITS, OCTETS, decode_block};
-use crate::spaced::{Digits, take_digits};
+use crate::spaced::{Digits, after_spaces, begins_with_space, digits_ahead, take_digits};
 use h2_spec::octets::{octets_from, octets_up_to};
 use std::alloc::{AllocError, Allocator};
 
@@ -29,9 +31,13 @@ fn decode_spaced(text: &[u8], block: &mut [u8]) -> Option<(usize, usize)>
     }
 }
 
-/// The same, where the text is decoded as it is if it has no white space there.
+/// The least digits of a line that are decoded as they are; before fewer white space is dropped.
+const LINE: usize = 16;
+
+/// The same, for the digits before the first white space, as they are; if there are only few, or they are no pairs, white
+/// space is dropped.
 #[tactic(auto, using(crate::proofs::Blocks::spelled))]
-fn decode_front(text: &[u8], block: &mut [u8]) -> Option<(usize, usize)>
+fn decode_line(text: &[u8], block: &mut [u8]) -> Option<(usize, usize)>
     requires some { 0 < length text.now }
     requires block { length block.old ≡ most_octets }
     ensures spelled { IfSome result (λ x. octets_spelled text.now ≡ all_in_front (take x.1 block.new) (octets_spelled (drop x.0 text.now))) }
@@ -39,10 +45,45 @@ fn decode_front(text: &[u8], block: &mut [u8]) -> Option<(usize, usize)>
     ensures none { IfNone result (octets_spelled text.now ≡ None) }
     ensures same { length block.new ≡ length block.old }
 {
-    let used = text.len().min(DIGITS);
+    let used = digits_ahead(text);
+    if used < LINE {
+        return decode_spaced(text, block);
+    }
     match decode_block(octets_up_to(text, used), block) {
         Some(count) => Some((used, count)),
         None => decode_spaced(text, block),
+    }
+}
+
+/// The same, for the octets of this width as they are, if there is no white space among them.
+#[tactic(auto, using(crate::proofs::Blocks::spelled))]
+fn decode_front(text: &[u8], width: usize, block: &mut [u8]) -> Option<(usize, usize)>
+    requires some { 0 < length text.now }
+    requires width { 0 < width }
+    requires few { width ≤ most_digits }
+    requires block { length block.old ≡ most_octets }
+    ensures spelled { IfSome result (λ x. octets_spelled text.now ≡ all_in_front (take x.1 block.new) (octets_spelled (drop x.0 text.now))) }
+    ensures within { IfSome result (λ x. (0 < x.0) × (x.0 ≤ length text.now) × (x.1 ≤ most_octets)) }
+    ensures none { IfNone result (octets_spelled text.now ≡ None) }
+    ensures same { length block.new ≡ length block.old }
+{
+    let used = text.len().min(width);
+    match decode_block(octets_up_to(text, used), block) {
+        Some(count) => Some((used, count)),
+        None => decode_line(text, block),
+    }
+}
+
+/// How many digits are tried next: as many as were used where a line ends with them, else as many as are decoded at a time.
+fn width_after(used: usize, rest: &[u8]) -> usize
+    requires { 0 < used }
+    ensures some { 0 < result }
+    ensures few { result ≤ most_digits }
+{
+    if begins_with_space(rest) {
+        used.min(DIGITS)
+    } else {
+        DIGITS
     }
 }
 
@@ -52,12 +93,15 @@ pub fn is_hex_text(text: &[u8]) -> bool
     ensures { result ≡ is_some (octets_spelled text.now) }
 {
     let mut block = [0; OCTETS];
-    let mut rest = text;
+    let mut width = DIGITS;
+    let mut rest = after_spaces(text);
     while !rest.is_empty() {
-        let Some((used, _)) = decode_front(rest, &mut block) else {
+        let Some((used, _)) = decode_front(rest, width, &mut block) else {
             return false;
         };
-        rest = octets_from(rest, used);
+        let after = octets_from(rest, used);
+        width = width_after(used, after);
+        rest = after_spaces(after);
     }
     true
 }
@@ -71,13 +115,16 @@ fn decode_text<A: Allocator>(text: &[u8], octets: &mut Vec<u8, A>) -> Result<boo
 {
     octets.reserve(text.len() / 2)?;
     let mut block = [0; OCTETS];
-    let mut rest = text;
+    let mut width = DIGITS;
+    let mut rest = after_spaces(text);
     while !rest.is_empty() {
-        let Some((used, count)) = decode_front(rest, &mut block) else {
+        let Some((used, count)) = decode_front(rest, width, &mut block) else {
             return Ok(false);
         };
         octets.extend_from_slice(octets_up_to(&block, count))?;
-        rest = octets_from(rest, used);
+        let after = octets_from(rest, used);
+        width = width_after(used, after);
+        rest = after_spaces(after);
     }
     Ok(true)
 }

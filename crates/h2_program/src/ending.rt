@@ -1,10 +1,11 @@
 //! What is said on standard error once a command has ended. Rests on h2_console's second look.
 
+use crate::files::failure_of;
 use crate::input::{Given, LIMIT, read_file};
 use h2_bench::{Plan, Words};
 use h2_console::{Outcome, say_outcome, say_refused_words};
-use h2_reasons::Source;
-use h2_words::command::Refusal;
+use h2_reasons::{Source, say_unread};
+use h2_words::command::{Check, Refusal};
 use std::io::{ErrorKind, Write};
 use std::net::{IpAddr, Ipv4Addr, SocketAddr, TcpListener};
 use std::rt::Files;
@@ -103,6 +104,15 @@ fn say_of_server(
     say_outcome(rt.alloc(), plan, Outcome { failure, ..outcome }, out);
 }
 
+/// Says which files of cases can't be read, and why.
+fn say_of_cases(rt: &HostRuntime, check: &Check<'_>, out: &mut h2_reasons::Words) {
+    for path in check.files.as_slice() {
+        if let Some(kind) = failure_of(rt, path) {
+            say_unread(Source::File(path), kind, out);
+        }
+    }
+}
+
 fn say_of_plan(
     rt: &HostRuntime,
     plan: &Plan<'_>,
@@ -112,6 +122,9 @@ fn say_of_plan(
     match plan {
         Plan::Explain(explain) if explain.file != "" && outcome.unwritten.is_none() => {
             say_of_file(rt, plan, explain.file, outcome, out);
+        }
+        Plan::Check(check) if outcome.unwritten.is_none() && !outcome.is_said => {
+            say_of_cases(rt, check, out);
         }
         Plan::Serve(serve) if outcome.status == 1 && !outcome.is_said => {
             say_of_server(rt, plan, serve.port, outcome, out);

@@ -1,15 +1,16 @@
 //! Which device is the input of a command: standard input, a file that the words name, or the lines of a console; and the
 //! octets themselves or their hex. Rests on h2_console.
 
-use h2_bench::{Plan, carry_out};
+use crate::explained::Explained;
+use crate::files::STANDARD_INPUT;
+use h2_bench::Plan;
 use h2_book::{Files, FilesFault, StdFiles};
 use h2_console::{
     Behind, Console, Front, Hexed, Manner, TakenInput, WaitingInput, WaitingOutput, hex_of,
     one_line,
 };
-use h2_device::Gathered;
 use h2_reasons::Source;
-use h2_words::command::{BookWords, Debug, Devices, Explain, Refusal};
+use h2_words::command::{Batch, Devices, Refusal};
 use std::alloc::AllocError;
 use std::cell::Cell;
 use std::io::{ErrorKind, Stderr, Stdin, Stdout};
@@ -21,7 +22,10 @@ pub type Standard<'r> = WaitingOutput<'r, HostRuntime, Stdout>;
 type StandardInput<'r> = Hexed<WaitingInput<'r, HostRuntime, Stdin>>;
 
 /// The input of a command.
-pub type Taken<'r, 'c> = TakenInput<Behind<'c, StandardInput<'r>, Stdout, Stderr>>;
+pub type Taken<'r, 'c> = TakenInput<Lines<'r, 'c>>;
+
+/// What is read of standard input.
+type Lines<'r, 'c> = Behind<'c, StandardInput<'r>, Stdout, Stderr, Explained<'r, 'c>>;
 
 /// The input of a command, and what is known of it.
 #[derive(Drop)]
@@ -32,6 +36,17 @@ pub struct Given<'r, 'c> {
     pub position: &'c Cell<usize>,
 }
 
+impl Given<'_, '_> {
+    /// The line of standard input that has a session's first command, from 1; `None` where a console answers lines too.
+    pub fn first_command(&self, devices: Devices<'_>) -> Option<usize> {
+        match self.source {
+            _ if devices.prompt != "" => None,
+            Source::Input => Some(2),
+            Source::File(_) => Some(1),
+        }
+    }
+}
+
 /// Whether a session is asked for.
 pub fn is_session(asked: &Result<Plan<'_>, Refusal>) -> bool {
     match asked {
@@ -40,8 +55,8 @@ pub fn is_session(asked: &Result<Plan<'_>, Refusal>) -> bool {
     }
 }
 
-/// Why the words of devices are refused, where they are.
-pub fn refusal_of(asked: &Result<Plan<'_>, Refusal>, devices: Devices<'_>) -> Option<&'static str> {
+/// Why the words of a session's devices are refused, where they are.
+fn refusal_of(asked: &Result<Plan<'_>, Refusal>, devices: Devices<'_>) -> Option<&'static str> {
     if !is_session(asked) {
         return None;
     }
@@ -54,6 +69,50 @@ pub fn refusal_of(asked: &Result<Plan<'_>, Refusal>, devices: Devices<'_>) -> Op
         );
     }
     None
+}
+
+/// The path of the book that a plan has; empty where it has none.
+fn book_of<'p>(plan: &'p Plan<'_>) -> &'p str {
+    match plan {
+        Plan::Batch(Batch::Play(play)) => play.book.file,
+        Plan::Debug(debug) => debug.book.file,
+        Plan::Serve(serve) => serve.book.file,
+        Plan::Explain(explain) => explain.book.file,
+        Plan::Check(check) => check.book.file,
+        Plan::Batch(_) => "",
+    }
+}
+
+/// Whether a command reads standard input for something else than its book.
+fn reads_input(plan: &Plan<'_>, devices: Devices<'_>) -> bool {
+    match plan {
+        Plan::Batch(_) => devices.file == "",
+        Plan::Debug(_) => true,
+        Plan::Serve(_) => false,
+        Plan::Explain(explain) => explain.file == "",
+        Plan::Check(check) => check.files.iter().any(|file| *file == STANDARD_INPUT),
+    }
+}
+
+/// Why the words are refused where both the book and the input are standard input.
+fn refusal_of_book(plan: &Plan<'_>, devices: Devices<'_>) -> Option<&'static str> {
+    if book_of(plan) == STANDARD_INPUT && reads_input(plan, devices) {
+        return Some(
+            "error: --book - reads the book from standard input, which this command reads for something else: name a file\n",
+        );
+    }
+    None
+}
+
+/// Why the words are refused for the devices that they name, where they are.
+pub fn refusal_for_devices(
+    asked: &Result<Plan<'_>, Refusal>,
+    devices: Devices<'_>,
+) -> Option<&'static str> {
+    match asked {
+        Ok(plan) => refusal_of_book(plan, devices).or(refusal_of(asked, devices)),
+        Err(_) => None,
+    }
 }
 
 /// The path of the file that is the input: that of `--in`; of `explain` its FILE, where the words say that it has the octets
@@ -74,20 +133,24 @@ fn standard<'r>(rt: &'r HostRuntime, is_raw: bool) -> StandardInput<'r> {
     Hexed::new(rt.alloc(), WaitingInput::new(rt, rt.stdin()), is_raw)
 }
 
-/// What is read of standard input: its octets, or the lines of a console.
+/// What is read of standard input: its octets, or the lines of a console. Those of a session over a file are commands
+/// alone; `octets` are then the file's.
 fn behind<'r, 'c>(
     rt: &'r HostRuntime,
     devices: Devices<'_>,
-    explained: Option<Vec<u8>>,
+    octets: Option<Vec<u8>>,
+    explainer: Explained<'r, 'c>,
     position: &'c Cell<usize>,
-) -> Behind<'c, StandardInput<'r>, Stdout, Stderr> {
+) -> Lines<'r, 'c> {
     if devices.prompt == "" {
-        return Behind::Plain(standard(rt, devices.raw && explained.is_none()));
+        return Behind::Plain(standard(rt, devices.raw && octets.is_none()));
     }
     let manner = Manner {
         has_prompt: devices.prompt == "line",
         has_dots: devices.prompt == "dot",
-        explained,
+        has_first: octets.is_none(),
+        octets: octets.unwrap_or(Vec::new(rt.alloc())),
+        explainer,
     };
     Behind::Console(Console::new(
         rt.alloc(),
@@ -125,47 +188,16 @@ fn text_of(rt: &HostRuntime, path: &str, is_raw: bool) -> Result<Vec<u8>, ErrorK
     }
 }
 
-/// What `explain` prints of a text, for a session over it.
-fn explained(rt: &HostRuntime, debug: &Debug<'_>, text: &[u8]) -> Result<Vec<u8>, AllocError> {
-    let plan = Ok(Plan::Explain(Explain {
-        config: debug.config,
-        json: false,
-        color: false,
-        strict: false,
-        full: false,
-        file: "",
-        book: BookWords {
-            file: debug.book.file,
-            why: false,
-            answers: Vec::from_slice(rt.alloc(), debug.book.answers.as_slice())?,
-        },
-    }));
-    let mut files = StdFiles { runtime: rt };
-    let mut input = text;
-    let mut output = Gathered::new(rt.alloc());
-    let mut errors = Gathered::new(rt.alloc());
-    let _ = carry_out(
-        rt.alloc(),
-        &plan,
-        &mut files,
-        &mut input,
-        &mut output,
-        &mut errors,
-    );
-    Ok(output.octets)
-}
-
-/// What a session is given of a file: its text as one line; and what `explain` prints of it, where a person or a program
-/// may ask for that.
+/// What a session is given of a file: its text as one line; and the text itself, where a person or a program may ask what
+/// it means.
 fn session_front(
     rt: &HostRuntime,
-    debug: &Debug<'_>,
     has_prompt: bool,
     text: Vec<u8>,
 ) -> Result<(Front, Vec<u8>), AllocError> {
     let line = one_line(rt.alloc(), text.as_slice())?;
-    let explained = if has_prompt {
-        explained(rt, debug, text.as_slice())?
+    let octets = if has_prompt {
+        text.as_slice().to_vec(rt.alloc())?
     } else {
         Vec::new(rt.alloc())
     };
@@ -175,7 +207,7 @@ fn session_front(
         failure: None,
         reads_on: true,
     };
-    Ok((front, explained))
+    Ok((front, octets))
 }
 
 /// What a command other than a session is given of a file.
@@ -198,12 +230,12 @@ fn front_over(
     text: Vec<u8>,
 ) -> Result<(Front, Vec<u8>), AllocError> {
     match asked {
-        Ok(Plan::Debug(debug)) => session_front(rt, debug, has_prompt, text),
+        Ok(Plan::Debug(_)) => session_front(rt, has_prompt, text),
         _ => whole_front(rt, text),
     }
 }
 
-/// What a command is given of a file, and what `explain` prints of it, for a session.
+/// What a command is given of a file, and the file's text, for a session.
 fn front_of(
     rt: &HostRuntime,
     asked: &Result<Plan<'_>, Refusal>,
@@ -238,17 +270,18 @@ pub fn input_of<'r, 'c, 'w: 'c>(
     position: &'c Cell<usize>,
 ) -> Given<'r, 'c> {
     let path = file_of(asked, devices);
+    let explainer = Explained::new(rt, asked);
     if path == "" {
-        let behind = behind(rt, devices, None, position);
+        let behind = behind(rt, devices, None, explainer, position);
         return Given {
             taken: TakenInput::new(Front::empty(rt.alloc()), behind),
             source: Source::Input,
             position,
         };
     }
-    let (front, explained) = front_of(rt, asked, devices, path);
+    let (front, octets) = front_of(rt, asked, devices, path);
     refuse_for_memory(asked, front.failure);
-    let behind = behind(rt, devices, Some(explained), position);
+    let behind = behind(rt, devices, Some(octets), explainer, position);
     Given {
         taken: TakenInput::new(front, behind),
         source: Source::File(path),

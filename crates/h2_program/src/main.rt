@@ -4,13 +4,15 @@
 #![tactic(auto)]
 
 mod ending;
+mod explained;
+mod files;
 mod input;
 mod version;
 
 use crate::ending::{Ending, end};
-use crate::input::{Given, Standard, input_of, is_session, refusal_of};
+use crate::files::NamedFiles;
+use crate::input::{Given, Standard, input_of, is_session, refusal_for_devices};
 use h2_bench::{Plan, Words, carry_out, parse, serve};
-use h2_book::StdFiles;
 use h2_console::{Noted, WaitingOutput, Watched};
 use h2_device::{FromRead, IntoWrite, Output};
 use h2_words::command::{Devices, Refusal, Serve, devices_of};
@@ -77,9 +79,10 @@ fn run_session<O: Output, E: Output>(
     output: &mut O,
     errors: &mut E,
 ) -> u8 {
-    let mut files = StdFiles { runtime: rt };
+    let mut files = NamedFiles { rt };
     let has_dots = devices.prompt == "dot";
     let position = given.position;
+    let line = given.first_command(devices);
     let mut input = FromRead::new(&mut given.taken);
     let mut watched = Watched::new(
         rt.alloc(),
@@ -88,6 +91,7 @@ fn run_session<O: Output, E: Output>(
         devices.quiet,
         has_dots,
         position,
+        line,
     );
     carry_out(
         rt.alloc(),
@@ -115,7 +119,7 @@ fn carry_out_over<W: Write>(
         let status = run_session(rt, asked, devices, given, &mut output, &mut noted);
         return (status, noted.is_written());
     }
-    let mut files = StdFiles { runtime: rt };
+    let mut files = NamedFiles { rt };
     let mut input = FromRead::new(&mut given.taken);
     let status = carry_out(
         rt.alloc(),
@@ -130,7 +134,7 @@ fn carry_out_over<W: Write>(
 
 /// Serves, as the words ask for; gives the status, and whether a sentence was written for the book.
 fn serve_over<W: Write>(rt: &HostRuntime, plan: &Serve<'_>, output: &mut W) -> (u8, bool) {
-    let mut files = StdFiles { runtime: rt };
+    let mut files = NamedFiles { rt };
     let mut stderr = rt.stderr();
     let mut errors = IntoWrite::new(&mut stderr);
     let mut noted = Noted::new(&mut errors);
@@ -188,7 +192,7 @@ fn answer(rt: &HostRuntime, words: &Words) -> ExitCode {
     };
     let mut asked = parse(rt.alloc(), words);
     let devices = devices_said(rt, words, &mut asked);
-    if let Some(text) = refusal_of(&asked, devices) {
+    if let Some(text) = refusal_for_devices(&asked, devices) {
         return refuse_words(&mut gathered, text);
     }
     answer_over(rt, words, &mut asked, devices, &mut gathered)

@@ -66,6 +66,10 @@ pub fn say_no_answer(place: usize, word: &str, out: &mut Words) {
 }
 
 fn say_no_bar(place: usize, word: &str, out: &mut Words) {
+    if word == "-" {
+        say_all!(out; Answer(place), ": `-` is no answer; standard input is read without it, or by --in -.\n");
+        return;
+    }
     say_all!(out; Answer(place), ": ", Quoted(word.as_bytes()), " has no |, and an answer is METHOD|PATH|STATUS|BODYHEX; for a file of octets write < FILE or --in FILE, and for explain FILE in front of the answers.\n");
 }
 

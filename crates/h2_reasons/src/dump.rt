@@ -1,6 +1,7 @@
 //! What a text that is no hex looks like, as far as the ways are known in which people have octets at hand.
 
 use h2_describe::sent::first_of;
+use h2_spec::frames::type_named;
 
 /// What a text looks like.
 #[derive(Clone, Copy)]
@@ -15,6 +16,8 @@ pub(crate) enum Look {
     Offsets,
     /// Hex digits after `0x`.
     Prefix,
+    /// Hex digits after `\x`.
+    Escape,
     /// Hex digits with something between them.
     Separator,
     /// None of these.
@@ -34,6 +37,8 @@ pub(crate) fn look_of(text: &[u8], at: usize) -> Look {
         Look::Octets
     } else if has_offsets(text) || is_dump_line(first_line(text)) {
         Look::Offsets
+    } else if is_message(first_line(text)) {
+        Look::Octets
     } else {
         look_at(text, at)
     }
@@ -44,6 +49,7 @@ fn look_at(text: &[u8], at: usize) -> Look {
     let before = text.get(at.wrapping_sub(1)).copied();
     match (before, text.get(at).copied()) {
         (Some(b'0'), Some(b'x' | b'X')) => Look::Prefix,
+        (_, Some(b'\\')) => Look::Escape,
         (_, Some(b':' | b'-' | b',' | b'_')) => Look::Separator,
         _ => Look::Other,
     }
@@ -56,29 +62,20 @@ fn has_mark(text: &[u8]) -> bool {
         || text.starts_with(b"\xfe\xff".as_slice())
 }
 
+/// Whether a line is the first one of a request or of a response, as it is on the wire.
+fn is_message(line: &[u8]) -> bool {
+    line.split(|octet| *octet == b' ')
+        .any(|word| word.starts_with(b"HTTP/".as_slice()))
+}
+
 /// Whether an octet is none of printable text and white space.
 fn is_binary(octet: u8) -> bool {
     octet > 126 || (octet < 32 && octet != b'\t' && octet != b'\n' && octet != b'\r')
 }
 
-/// The frame types by name, in the order of their numbers (RFC 9113, 6).
-static TYPES: [&str; 10] = [
-    "DATA",
-    "HEADERS",
-    "PRIORITY",
-    "RST_STREAM",
-    "SETTINGS",
-    "PUSH_PROMISE",
-    "PING",
-    "GOAWAY",
-    "WINDOW_UPDATE",
-    "CONTINUATION",
-];
-
 /// The number of a frame type, by its name.
 pub fn type_number(name: &[u8]) -> Option<u8> {
-    let place = TYPES.iter().position(|each| each.as_bytes() == name)?;
-    u8::try_from(place).ok()
+    type_named(name, None)
 }
 
 /// Whether the first line that is not empty is one of a script.

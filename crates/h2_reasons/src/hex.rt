@@ -34,6 +34,7 @@ fn advice(look: Look) -> &'static str {
             "it looks like the octets themselves: add --raw, or write them as hex by xxd -p",
         Look::Offsets => "it looks like a dump with offsets: make it by xxd -p",
         Look::Prefix => "leave out each 0x",
+        Look::Escape => "leave out each \\x",
         Look::Separator => "leave out what is between the digits",
         Look::Other =>
             "the octets are given as pairs of hex digits, with blanks and line feeds anywhere",

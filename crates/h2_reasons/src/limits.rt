@@ -57,6 +57,11 @@ pub fn say_range(range: Range, value: &str, out: &mut Words) {
     say_all!(out; range.option, " ", crate::place::Quoted(value.as_bytes()), " is out of range: ", range.what, ", ", range.least, " to ", range.most, ".\n");
 }
 
+/// Says of a command that takes no FILE that a word is none of its own.
+pub fn say_no_file(command: &str, word: &str, out: &mut Words) {
+    say_all!(out; crate::place::Quoted(word.as_bytes()), ": ", command, " takes no FILE; it reads standard input, or the file of --in FILE.\n");
+}
+
 /// The values of the options, in the order of their ranges.
 fn values(config: Config) -> [u32; 5] {
     [

@@ -1,5 +1,6 @@
 //! What is wrong with a line of a script: its kind in words, and the place in the line.
 
+use crate::hex::is_hex;
 use crate::place::{Quoted, Source};
 use h2_describe::say::{Say, Words};
 use h2_describe::say_all;
@@ -68,7 +69,7 @@ fn rule(kind: SyntaxKind) -> &'static str {
         SyntaxKind::Name =>
             "a frame type is DATA, HEADERS, PRIORITY, RST_STREAM, SETTINGS, PUSH_PROMISE, PING, GOAWAY, WINDOW_UPDATE, CONTINUATION, or T and two hex digits",
         SyntaxKind::Flags => "flags are two hex digits",
-        SyntaxKind::Stream => "a stream is 0 to 2147483647, with R behind it for the reserved bit",
+        SyntaxKind::Stream => "a stream is 0 to 2147483647, with R after it for the reserved bit",
         SyntaxKind::Payload => "a payload is -, xHEX, sID=VALUE,.., wN, cN, or hI,..",
         SyntaxKind::Size => "a payload has at most 16777215 octets",
     }
@@ -89,5 +90,9 @@ pub fn say_bad_line(
     if part < 4 {
         say_all!(out; Quoted(part_at(found, part)), ": ");
     }
-    say_all!(out; rule(kind), ".\n");
+    say_all!(out; rule(kind));
+    if is_hex(text) {
+        say_all!(out; "; it looks like hex, of which h2_bench dis writes a script");
+    }
+    say_all!(out; ".\n");
 }

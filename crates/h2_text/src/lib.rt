@@ -5,5 +5,6 @@
 
 pub mod hex_text;
 mod lines;
+pub mod lists;
 pub mod show;
 pub mod view;

@@ -8,6 +8,7 @@ ghost use Rattle.h2_spec.specs.Field.{field};
 ghost use Rattle.h2_table.specs.Lent.{lent_field};
 ghost use Rattle.h2_spec.specs.View.{shown_stream};
 
+use crate::lists::{Entries, StreamViews};
 use h2_fields::field::Field;
 use h2_spec::connection::{BlockView, ConnectionState, Phase};
 use h2_spec::flow::{Credit, LocalSettings, Settings, Window};
@@ -42,13 +43,13 @@ pub struct View<A: Allocator> {
     /// The open field block.
     pub block: Option<BlockView>,
     /// The dynamic table, the newest entry first (RFC 7541, 2.3.2).
-    pub table: Vec<Field<A>, A>,
+    pub table: Entries<A>,
     /// What the entries count (RFC 7541, 4.1).
     pub table_size: usize,
     /// The table's maximum (RFC 7541, 4.2).
     pub table_max: u32,
     /// The streams in the order of their opening.
-    pub streams: Vec<StreamView, A>,
+    pub streams: StreamViews<A>,
 }
 
 impl<A: Allocator> Model for View<A> {
@@ -68,10 +69,10 @@ impl<A: Allocator> Model for View<A> {
       due = v.due;
       goaway = v.goaway;
       block = v.block;
-      table = v.table.items;
+      table = v.table;
       table_size = v.table_size;
       table_max = v.table_max;
-      streams = v.streams.items;
+      streams = v.streams;
     } };
 }
 
@@ -201,10 +202,10 @@ impl<A: Allocator + Copy> Shown<'_, A> {
             due: is_due(&self.core, self.table),
             goaway: self.core.goaway,
             block: self.block,
-            table,
+            table: Entries::new(table),
             table_size: self.table.size(),
             table_max: self.table.max(),
-            streams,
+            streams: StreamViews::new(streams),
         }
     }
 }

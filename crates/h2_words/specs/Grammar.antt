@@ -30,7 +30,7 @@ window_rule = record (new_rule (codes "window")) { long = Some (codes "window");
 abbrev pub frame_rule : Rule
 frame_rule = record (new_rule (codes "frame")) { long = Some (codes "frame"); action = Some Set; parser = Some (parser.Unsigned 0 4294967295) }
 
--- how many octets a piece of `play` has, 0 to 65536; 0 for one piece
+-- how many octets a piece of `play` has, 0 to 65536; 0 for 65536
 abbrev pub cut_rule : Rule
 cut_rule = record (new_rule (codes "cut")) { long = Some (codes "cut"); action = Some Set; parser = Some (parser.Unsigned 0 65536) }
 

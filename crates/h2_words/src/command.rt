@@ -337,7 +337,7 @@ fn prompt_option<'a>(alloc: Global) -> Arg<'a>
     text_option(
         alloc,
         "prompt",
-        "dot: a line . behind each answer, for programs; line: a prompt and words for people, as the launcher asks for on a terminal",
+        "dot: a line . after each answer, for programs; line: a prompt and words for people, as the launcher asks for on a terminal",
     )
 }
 

@@ -12,7 +12,7 @@ pub(crate) const LEGEND: &str = "What play and debug print (docs/FORMATS.md):
   stream        its state and windows; got: octets of content; left: octets of the answer not sent yet
 
 What explain prints (docs/EXPLAIN.md):
-  #N @OCTET     item N, which begins behind so many octets: a frame in words
+  #N @OCTET     item N, which begins after this many octets: a frame in words
   error         a rule was broken: its name (docs/TABLE.md) and section, how far the RFC decides the
                 server's reaction, and what the client broke; the line below has the values
   ignored       why a frame has no effect
@@ -25,4 +25,5 @@ fault N         on standard output, for programs: what was refused (docs/FORMATS
                 standard error says what, where and what to do; --quiet leaves it out
 
 Status: 0 done, 1 a fault or a case that failed, 2 the words were refused or ask for help, 3 the output
-could not be written, 4 explain: a connection error";
+could not be written, 4 explain: a connection error; with --strict 5 a broken rule, 6 above a limit,
+7 the octets end within a frame";

@@ -7,4 +7,4 @@ use Rattle.h2_hex.proofs.text.is_hex_text.Goals as goal
 pub returns : goal.returns
 returns c =
     let none : length c.loop-rest.rest.now ≡ 0 = grind (arith, c.loop-rest-test.ensures) in
-    sym (end-some (octets_spelled c.args.text.now) (filter is_digit c.loop-rest.rest.now) c.loop-rest.invariant (ap (filter is_digit) (nil_from_length c.loop-rest.rest.now none)))
+    sym (end-some (octets_spelled c.args.text.now) (filter is_digit c.loop-rest.rest.now) c.loop-rest.invariant.spelled (ap (filter is_digit) (nil_from_length c.loop-rest.rest.now none)))

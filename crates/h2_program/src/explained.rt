@@ -1,0 +1,89 @@
+//! What `explain` prints of the octets of a session, for the lines `explain` and `list` of a person or a program.
+//! Rests on h2_bench.
+
+use crate::files::NamedFiles;
+use h2_bench::{Plan, carry_out};
+use h2_console::Explainer;
+use h2_device::Gathered;
+use h2_words::command::{BookWords, Debug, Explain, Refusal};
+use std::alloc::{AllocError, Global};
+
+/// What explains the octets of a session.
+pub struct Explained<'r, 'c> {
+    rt: &'r HostRuntime,
+    /// The words of the session; of another command there are none.
+    words: Option<Debug<'c>>,
+}
+
+impl<'r, 'c> Drop for Explained<'r, 'c> {
+    fn drop(self) {
+        let Self { rt: _, words: _ } = self;
+    }
+}
+
+/// The book of a session, whose sentences were said already.
+fn book_of<'c>(alloc: Global, debug: &Debug<'c>) -> Result<BookWords<'c>, AllocError> {
+    let answers = Vec::from_slice(alloc, debug.book.answers.as_slice())?;
+    Ok(BookWords {
+        file: debug.book.file,
+        why: false,
+        answers,
+    })
+}
+
+/// The words of a session once more.
+fn words_of<'c>(alloc: Global, debug: &Debug<'c>) -> Result<Debug<'c>, AllocError> {
+    let book = book_of(alloc, debug)?;
+    Ok(Debug {
+        config: debug.config,
+        book,
+    })
+}
+
+/// `explain` with the limits, the settings and the book of a session.
+fn plan_of<'c>(alloc: Global, words: &Debug<'c>) -> Result<Plan<'c>, AllocError> {
+    let book = book_of(alloc, words)?;
+    Ok(Plan::Explain(Explain {
+        config: words.config,
+        json: false,
+        color: false,
+        strict: false,
+        full: false,
+        file: "",
+        book,
+    }))
+}
+
+impl<'r, 'c> Explained<'r, 'c> {
+    /// What a session is explained by, and no other command. Where memory for its words is refused, there is nothing to
+    /// say of an item.
+    pub fn new(rt: &'r HostRuntime, asked: &Result<Plan<'c>, Refusal>) -> Explained<'r, 'c> {
+        let words = match asked {
+            Ok(Plan::Debug(debug)) => words_of(rt.alloc(), debug).ok(),
+            _ => None,
+        };
+        Explained { rt, words }
+    }
+}
+
+impl Explainer for Explained<'_, '_> {
+    fn explain(&self, alloc: Global, text: &[u8]) -> Result<Vec<u8>, AllocError> {
+        let Some(words) = &self.words else {
+            return Ok(Vec::new(alloc));
+        };
+        let asked: Result<Plan<'_>, Refusal> = Ok(plan_of(alloc, words)?);
+        let mut files = NamedFiles { rt: self.rt };
+        let mut input = text;
+        let mut output = Gathered::new(alloc);
+        let mut errors = Gathered::new(alloc);
+        let _ = carry_out(
+            alloc,
+            &asked,
+            &mut files,
+            &mut input,
+            &mut output,
+            &mut errors,
+        );
+        Ok(output.octets)
+    }
+}

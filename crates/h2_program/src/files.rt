@@ -1,0 +1,46 @@
+//! The files that words name: `-` is standard input, each other path a file of the system. Rests on h2_book and h2_console.
+
+ghost use Rattle.std.specs.Prelude.{◌≤◌, IfOk, None, false, vec_len};
+
+use h2_book::{Files, FilesFault, StdFiles, read_whole};
+use h2_console::WaitingInput;
+use std::alloc::Global;
+use std::io::ErrorKind;
+
+/// The path of standard input.
+pub const STANDARD_INPUT: &str = "-";
+
+/// Why the system refuses to read the file at a path, where it does.
+pub fn failure_of(rt: &HostRuntime, path: &str) -> Option<ErrorKind> {
+    let files = NamedFiles { rt };
+    files.failure(path)
+}
+
+/// The files that words name.
+#[derive(Clone, Copy)]
+pub struct NamedFiles<'r> {
+    pub rt: &'r HostRuntime,
+}
+
+impl Files for NamedFiles<'_> {
+    ghost is_printed = { λ _. false };
+
+    ghost file = { λ _ _. None };
+
+    fn read(&mut self, alloc: Global, path: &str, most: usize) -> Result<Vec<u8>, FilesFault> {
+        if path == STANDARD_INPUT {
+            let mut input = WaitingInput::new(self.rt, self.rt.stdin());
+            return read_whole(alloc, &mut input, most);
+        }
+        let mut files = StdFiles { runtime: self.rt };
+        files.read(alloc, path, most)
+    }
+
+    fn failure(&self, path: &str) -> Option<ErrorKind> {
+        if path == STANDARD_INPUT {
+            return None;
+        }
+        let files = StdFiles { runtime: self.rt };
+        files.failure(path)
+    }
+}
