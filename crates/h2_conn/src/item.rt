@@ -67,7 +67,16 @@ impl<'b, A: Allocator + Copy> State<'b, A> {
         self.core
     }
 
+    /// Looks a stream's record up, so that what comes next finds it at once.
+    #[inline(always)]
+    fn look_up(&mut self, id: u32)
+        ensures { self.new ≡ self.old }
+    {
+        self.streams.look_up(id);
+    }
+
     /// A stream's record, or what represents it where it has none.
+    #[inline(always)]
     pub fn stream_at(&self, id: u32) -> Stream
         ensures value { result ≡ stream_at self.now.core.last self.now.streams id }
         ensures id { result.id ≡ id }
@@ -201,9 +210,9 @@ impl<'b, A: Allocator + Copy> State<'b, A> {
         ensures cause { IfOk result (λ cause. cause ≡ rule.effect_cause (makes self.old reaction)) }
         ensures err { OnErr result ((self.new ≡ self.old) × (out.new.items ≡ out.old.items)) }
     {
-        match reaction {
-            Reaction::ConnectionError(cause) => self.fail(cause, out),
-            Reaction::Continues(change) => self.apply_in_place(&change, out),
+        match &reaction {
+            Reaction::ConnectionError(cause) => self.fail(*cause, out),
+            Reaction::Continues(change) => self.apply_in_place(change, out),
         }
     }
 
@@ -233,6 +242,7 @@ impl<'b, A: Allocator + Copy> State<'b, A> {
         ensures cause { IfOk result (λ cause. cause ≡ rule.effect_cause (makes self.old (rule.on_data self.old.config self.old.core (rule.body_length self.old.book (stream_at self.old.core.last self.old.streams head.now.stream)) (rule.incoming head.now payload.now (data_seen part.entry)) (stream_at self.old.core.last self.old.streams head.now.stream)))) }
         ensures err { OnErr result ((self.new ≡ self.old) × (out.new.items ≡ out.old.items)) }
     {
+        self.look_up(head.stream);
         let reaction = self.on_data(head, payload, part);
         self.conclude_in_place(reaction, out)
     }
@@ -245,6 +255,7 @@ impl<'b, A: Allocator + Copy> State<'b, A> {
         ensures cause { IfOk result (λ cause. cause ≡ rule.effect_cause (makes self.old (rule.on_reset self.old.core (stream_at self.old.core.last self.old.streams id)))) }
         ensures err { OnErr result ((self.new ≡ self.old) × (out.new.items ≡ out.old.items)) }
     {
+        self.look_up(id);
         let reaction = self.on_reset(id);
         self.conclude_in_place(reaction, out)
     }
@@ -328,6 +339,7 @@ impl<'b, A: Allocator + Copy> State<'b, A> {
         ensures cause { IfOk result (λ cause. cause ≡ rule.effect_cause (makes self.old (rule.on_window self.old.core increment (stream_at self.old.core.last self.old.streams id)))) }
         ensures err { OnErr result ((self.new ≡ self.old) × (out.new.items ≡ out.old.items)) }
     {
+        self.look_up(id);
         let reaction = self.on_stream_window(id, increment);
         self.conclude_in_place(reaction, out)
     }

@@ -212,8 +212,5 @@ fn shift<A: Allocator>(streams: &mut Streams<A>, from: u32, to: u32)
     requires { CanApply streams.old (update.Shift from to) }
     ensures { streams.new ≡ updated_records (update.Shift from to) streams.old }
 {
-    match streams.shift_send(i64::from(to) - i64::from(from)) {
-        Ok(()) => {}
-        Err(_) => unreachable!(),
-    }
+    streams.move_send(i64::from(to) - i64::from(from));
 }

@@ -8,6 +8,7 @@ ghost use Rattle.h2_streams.specs.Kept as kept;
 use std::alloc::Allocator;
 
 /// Puts an identifier into a rising list or takes it out. The list has space for it.
+#[inline(always)]
 pub(crate) fn list<A: Allocator>(ids: &mut Vec<u32, A>, id: u32, is_in: bool)
     requires rising { kept.IdsRise 0 ids.old.items }
     requires enough { length (kept.listed is_in id ids.old.items) ≤ vec_capacity ids.old }

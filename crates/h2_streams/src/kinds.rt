@@ -10,6 +10,7 @@ use h2_spec::flow::{Credit, Window};
 use h2_spec::streams::{Kind, Numbers, Pick, Stream};
 
 /// Whether one side of the stream or both are open.
+#[inline(always)]
 pub fn is_live(kind: Kind) -> bool
     ensures { result ≡ spec.is_live kind }
 {
@@ -21,6 +22,7 @@ pub fn is_live(kind: Kind) -> bool
 
 /// The octets of its answer that a stream still has to send: 0 where it is not live or nothing waits.
 #[tactic(auto, unfolding(h2_spec::specs::Stream::octets_waiting))]
+#[inline(always)]
 pub fn octets_waiting(stream: &Stream) -> u64
     ensures { result ≡ spec.octets_waiting stream.now }
 {
@@ -31,6 +33,7 @@ pub fn octets_waiting(stream: &Stream) -> u64
 }
 
 /// Whether the stream can send: it has octets to send, and a send window that lets some of them pass (RFC 9113, 6.9).
+#[inline(always)]
 pub(crate) fn is_ready(stream: &Stream) -> bool
     ensures { result ≡ kept.is_ready stream.now }
 {

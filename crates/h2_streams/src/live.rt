@@ -37,6 +37,7 @@ pub(crate) fn enter<A: Allocator>(
 
 /// Notes that one more of the streams in the map has ended. Takes those that ended out where they are more than the live
 /// ones and some. Returns how many of them are in it then.
+#[inline(never)]
 pub(crate) fn note_ended<A: Allocator>(
     live: &mut IndexMap<u32, usize, IdHash, A>,
     records: &[Stream],
@@ -59,37 +60,59 @@ pub(crate) fn note_ended<A: Allocator>(
     0
 }
 
-/// How many records are below this identifier: its record's place, by one look-up where the stream is live, and else by
-/// binary search.
+/// How many records are below this identifier: its record's place. That is `recent` where the record there has the
+/// identifier; else it is found by one look-up where the stream is live, and else by binary search.
+#[inline(always)]
 pub(crate) fn place_in<A: Allocator>(
     live: &IndexMap<u32, usize, IdHash, A>,
     records: &[Stream],
+    recent: usize,
     id: u32,
 ) -> usize
     requires { kept.Rise 0 records.now }
     ensures { result ≡ kept.place_of id records.now }
 {
-    match entered_place(live, records, id) {
+    match known_place(live, records, recent, id) {
         Some(place) => place,
         None => place_of(records, id),
     }
 }
 
-/// The record with this identifier.
+/// The record with this identifier; `recent` is looked at first.
+#[inline(always)]
 pub(crate) fn record_in<'a, A: Allocator>(
     live: &IndexMap<u32, usize, IdHash, A>,
     records: &'a [Stream],
+    recent: usize,
     id: u32,
 ) -> Option<&'a Stream>
     requires { kept.Rise 0 records.now }
     ensures { option_copied result ≡ spec.record_of records.now id }
 {
-    let place = place_in(live, records, id);
+    let place = place_in(live, records, recent, id);
     let stream = record_at(records, place)?;
     if stream.id == id { Some(stream) } else { None }
 }
 
+/// The place of the record with this identifier, if it is `recent` or the map has it.
+#[inline(always)]
+fn known_place<A: Allocator>(
+    live: &IndexMap<u32, usize, IdHash, A>,
+    records: &[Stream],
+    recent: usize,
+    id: u32,
+) -> Option<usize>
+    ensures { IfSome result (λ place. IsTrue (kept.passes_at (λ st. st.id == id) records.now place)) }
+{
+    if has_id(records, recent, id) {
+        Some(recent)
+    } else {
+        entered_place(live, records, id)
+    }
+}
+
 /// The place of the record with this identifier, if the map has it.
+#[inline(never)]
 fn entered_place<A: Allocator>(
     live: &IndexMap<u32, usize, IdHash, A>,
     records: &[Stream],
@@ -106,6 +129,7 @@ fn entered_place<A: Allocator>(
 }
 
 /// Whether the record at this place has this identifier.
+#[inline(always)]
 fn has_id(records: &[Stream], place: usize, id: u32) -> bool
     ensures { result ≡ kept.passes_at (λ st. st.id == id) records.now place }
 {

@@ -20,6 +20,7 @@ pub(crate) fn place_of(records: &[Stream], id: u32) -> usize
 }
 
 /// The record at this place.
+#[inline(always)]
 pub(crate) fn record_at(records: &[Stream], place: usize) -> Option<&Stream>
     ensures { option_copied result ≡ slice_get records.now place }
 {
@@ -27,6 +28,7 @@ pub(crate) fn record_at(records: &[Stream], place: usize) -> Option<&Stream>
 }
 
 /// Whether there is a record at this place and its stream is live.
+#[inline(always)]
 pub(crate) fn is_live_at(records: &[Stream], place: usize) -> bool
     ensures { result ≡ kept.passes_at kept.lives records.now place }
 {
@@ -37,6 +39,7 @@ pub(crate) fn is_live_at(records: &[Stream], place: usize) -> bool
 }
 
 /// Writes a record at the place of the one with its identifier, and returns whether that one was live.
+#[inline(always)]
 pub(crate) fn write<A: Allocator>(
     records: &mut Vec<Stream, A>,
     place: usize,

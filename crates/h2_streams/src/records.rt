@@ -4,7 +4,7 @@
 //! Rests on `kinds`, `live` (the map of the live streams), `places` (the search by identifier) and `ids` (rising lists).
 //! Definitions: `h2_spec/specs/Stream.antt`; what the fields keep: `specs/Kept.antt`.
 
-ghost use Rattle.std.specs.Prelude.{◌≡◌, not, take, ◌<◌, ◌≤◌, ◌%◌, ◌==◌, ◌&&◌, ◌||◌, nat_lt, length, IsOk, OnOk, OnErr, IfOk, IfErr, IfSome, IsTrue, is_err, slice_get};
+ghost use Rattle.std.specs.Prelude.{◌≡◌, false, not, take, ◌<◌, ◌≤◌, ◌%◌, ◌==◌, ◌&&◌, ◌||◌, nat_lt, length, IsOk, OnOk, OnErr, IfOk, IfErr, IfSome, IsTrue, is_err, slice_get};
 ghost use Rattle.std.specs.List.{AllByRecursion, filter, list_any};
 ghost use Rattle.std.specs.Option.{option_copied};
 ghost use Rattle.std.specs.Vec.{vec_capacity};
@@ -51,6 +51,8 @@ pub struct Streams<A: Allocator> {
     /// The identifiers of the streams that can send, rising; it has space for all that are in `live`.
     ready: Vec<u32, A>,
     last: u32,
+    /// The place where a record was found or put last. It is looked at first, and may be any number.
+    recent: usize,
 }
 
 impl<A: Allocator> Model for Streams<A> {
@@ -77,6 +79,7 @@ impl<A: Allocator + Copy> Streams<A> {
             ended: 0,
             ready: Vec::new(alloc),
             last: 0,
+            recent: 0,
         }
     }
 
@@ -93,6 +96,7 @@ impl<A: Allocator + Copy> Streams<A> {
             ended: self.ended,
             ready,
             last: self.last,
+            recent: self.recent,
         })
     }
 }
@@ -140,12 +144,14 @@ impl<A: Allocator + Copy> Streams<A> {
             ended: 0,
             ready,
             last,
+            recent: 0,
         })
     }
 }
 
 impl<A: Allocator> Streams<A> {
     /// The last stream that was opened, 0 before the first.
+    #[inline(always)]
     pub fn last(&self) -> u32
         ensures value { result ≡ self.now.last }
         ensures rising { spec.AreRising 0 self.now.last self.now.streams }
@@ -154,10 +160,18 @@ impl<A: Allocator> Streams<A> {
     }
 
     /// The record of the stream, if it has one: by one look-up where it is live, and else by binary search.
+    #[inline(always)]
     pub fn get(&self, id: u32) -> Option<&Stream>
         ensures { option_copied result ≡ spec.record_of self.now.streams id }
     {
-        record_in(&self.live, self.records.as_slice(), id)
+        record_in(&self.live, self.records.as_slice(), self.recent, id)
+    }
+
+    /// Looks the stream's record up, so that the calls that come next find it at once. Nothing changes.
+    pub fn look_up(&mut self, id: u32)
+        ensures { self.new ≡ self.old }
+    {
+        self.recent = place_in(&self.live, self.records.as_slice(), self.recent, id);
     }
 
     /// The i-th record in the order of opening, from 0.
@@ -183,6 +197,7 @@ impl<A: Allocator> Streams<A> {
 
     /// The stream with this identifier: its record, or, where it has none, `Idle` or `Skipped` without numbers.
     #[tactic(auto, unfolding(h2_spec::specs::Stream::stream_at))]
+    #[inline(always)]
     pub fn stream_at(&self, id: u32) -> Stream
         ensures value { result ≡ spec.stream_at self.now.last self.now.streams id }
         ensures id { result.id ≡ id }
@@ -279,6 +294,7 @@ impl<A: Allocator> Streams<A> {
     /// Puts a record: in the place of the one of the same stream, or behind all, of a stream above them.
     /// A live stream may move to any state, one that is closed stays closed (RFC 9113, 5.1).
     /// Only a new record takes memory; `Err` leaves the records as they were.
+    #[inline(always)]
     pub fn put(&mut self, stream: Stream) -> Result<(), AllocError>
         requires { CanPut stream self.old }
         ensures ok { OnOk result (self.new ≡ spec.with_record stream self.old) }
@@ -309,6 +325,7 @@ impl<A: Allocator> Streams<A> {
     }
 
     /// Whether no stream can send: none has both octets to send and a send window above 0 (RFC 9113, 6.9).
+    #[inline(always)]
     pub fn none_ready(&self) -> bool
         ensures { result ≡ not (list_any kept.is_ready self.now.streams) }
     {
@@ -336,9 +353,18 @@ impl<A: Allocator> Streams<A> {
         if overflows_with(self.greatest_send(), delta) {
             return Err(FlowFault::Overflow);
         }
+        self.move_send(delta);
+        Ok(())
+    }
+
+    /// Moves the send windows as `shift_send` does, where none of them would pass 2147483647.
+    pub fn move_send(&mut self, delta: i64)
+        requires can { AllByRecursion (shift.CanShift delta) self.old.streams }
+        requires fits { changes.overflows delta self.old.streams ≡ false }
+        ensures { self.new ≡ record self.old { streams = changes.shifted delta self.old.streams } }
+    {
         move_each(&mut self.records, &self.live, InitialWindow::Peer, delta);
         list_ready(self.records.as_slice(), &self.live, &mut self.ready);
-        Ok(())
     }
 
     /// Moves the receive windows of the live streams by `delta`, as the server's own SETTINGS_INITIAL_WINDOW_SIZE comes
@@ -352,6 +378,7 @@ impl<A: Allocator> Streams<A> {
     }
 
     /// Records a stream above all others.
+    #[inline(never)]
     fn add(&mut self, stream: Stream) -> Result<(), AllocError>
         requires odd { stream.id % 2 ≡ 1 }
         requires above { self.old.last < stream.id }
@@ -368,17 +395,20 @@ impl<A: Allocator> Streams<A> {
         enter(&mut self.live, stream.id, place, live);
         append(&mut self.ready, stream.id, ready);
         self.last = stream.id;
+        self.recent = place;
         Ok(())
     }
 
     /// Puts a record in the place of the one of the same stream.
+    #[inline(always)]
     fn replace(&mut self, stream: Stream)
         requires { IsTrue (can_become (spec.kind_of self.old.last self.old.streams stream.id) stream.kind) }
         ensures { self.new ≡ record self.old { streams = spec.put stream self.old.streams } }
     {
         let live = is_live(stream.kind);
         let ready = is_ready(&stream);
-        let place = place_in(&self.live, self.records.as_slice(), stream.id);
+        let place = place_in(&self.live, self.records.as_slice(), self.recent, stream.id);
+        self.recent = place;
         let was_live = write(&mut self.records, place, stream);
         list(&mut self.ready, stream.id, ready);
         if has_ended(was_live, live) {
@@ -388,6 +418,7 @@ impl<A: Allocator> Streams<A> {
 }
 
 /// Whether a stream has ended, by whether it was live and is.
+#[inline(always)]
 fn has_ended(was_live: bool, live: bool) -> bool
     ensures { result ≡ (was_live && not live) }
 {
@@ -403,6 +434,7 @@ fn first(ids: &[u32]) -> Option<u32>
 
 /// Whether the stream is idle, where the last one that was opened is this: even identifiers are the server's, which
 /// opens none.
+#[inline(always)]
 fn is_idle(last: u32, id: u32) -> bool
     ensures { result ≡ (id % 2 == 0 || nat_lt last id) }
 {

@@ -1,0 +1,23 @@
+use Rattle.std.proofs.Common.{◌≡◌, sym, subst}
+use Rattle.std.specs.Prelude.{IfOk, OnOk}
+use Rattle.h2_spec.specs.declared.reactions.Reaction.{Reaction}
+use Rattle.h2_spec.specs.Effect as rule
+use Rattle.h2_spec.specs.Headers.{makes}
+use Rattle.h2_spec.specs.State.{State}
+use Rattle.h2_spec.specs.Stream.{stream_at}
+use Rattle.h2_conn.specs.Does.{Does, stepped}
+use Rattle.h2_conn.proofs.state.State.take_stream_window.Goals as goal
+
+-- looking the record up changes nothing
+pub returns-clause-ok : goal.returns-clause-ok
+returns-clause-ok g c =
+    let out = c.conclude_in_place.new.out.items in
+    let reaction : State → Reaction = λ s. rule.on_window s.core c.args.increment (stream_at s.core.last s.streams c.args.id) in
+    let P : State → Reaction → Type 0 = λ s r. OnOk c.conclude_in_place.result (Does (stepped (rule.concluded s (makes s r))) c.args.out.now.items c.conclude_in_place.new.self out) in
+    subst (λ (s : State). P s (reaction s)) c.look_up.ensures (subst (λ (r : Reaction). P c.look_up.new.self r) c.on_stream_window-reaction.ensures.rule c.conclude_in_place.ensures.ok)
+
+pub returns-clause-cause : goal.returns-clause-cause
+returns-clause-cause g c =
+    let reaction : State → Reaction = λ s. rule.on_window s.core c.args.increment (stream_at s.core.last s.streams c.args.id) in
+    let P : State → Reaction → Type 0 = λ s r. IfOk c.conclude_in_place.result (λ cause. cause ≡ rule.effect_cause (makes s r)) in
+    subst (λ (s : State). P s (reaction s)) c.look_up.ensures (subst (λ (r : Reaction). P c.look_up.new.self r) c.on_stream_window-reaction.ensures.rule c.conclude_in_place.ensures.cause)
