@@ -11,8 +11,8 @@ use Rattle.h2_spec.proofs.ParseLaws.{parse_all-step}
 use Rattle.h2_spec.proofs.TraceLaws.{event-uses}
 use Rattle.h2_conn.specs.Connection.{Connection, going, is_ended}
 use Rattle.h2_conn.specs.Runs.{Fed, Halts, fed}
-use Rattle.h2_drive.specs.Wires.{Writes}
-use Rattle.h2_drive.specs.Drives.{AreNonempty, Drives, DrivesAs, ReadsAs, HasNoItem, DriveState, drive_state, Exchanges, TakesTurns, FedOrHalted, TurnEndsAs, TakesTurn}
+use Rattle.h2_drive.specs.Wires.{Writes, grown}
+use Rattle.h2_drive.specs.Drives.{AreNonempty, Drives, DrivesAs, ReadsAs, HasNoItem, HasRead, DriveState, drive_state, Exchanges, TakesTurns, FedOrHalted, TurnEndsAs, TakesTurn}
 use Rattle.h2_drive.specs.declared.fault.DriveEnd.{DriveEnd}
 use Rattle.h2_drive.specs.declared.fault.DriveEnd.TheVariants.{Input}
 use Rattle.h2_drive.specs.declared.fault.DriveFault.{DriveFault}
@@ -192,3 +192,18 @@ fault-drives turns at a b c ns Write h l x going one t out ends =
       reads = reads-fault turns at ns t.lengths h l x t.reads.0 t.reads.1;
     })
 fault-drives turns at a b c ns TurnLimit h l x going one t out ends = absurd ends
+
+-- ---- what became of the octets that were read
+
+-- none were read
+pub has_read-none : (P : List ℕ → Type 0) (before after : Option (List ℕ)) → after ≡ before → P [] → HasRead P before after
+has_read-none P before after same p = ([], same ∙ sym (grown-nil before), p)
+
+-- some were read, and then others
+pub has_read-more : (P Q R : List ℕ → Type 0) (a b c : Option (List ℕ)) → HasRead P a b → HasRead Q b c
+    → ((x y : List ℕ) → P x → Q y → R (x ++ y)) → HasRead R a c
+has_read-more P Q R a b c p q join = (
+  p.0 ++ q.0,
+  q.1 ∙ ap (λ (k : Option (List ℕ)). grown k q.0) p.1 ∙ grown-grown a p.0 q.0,
+  join p.0 q.0 p.2 q.2,
+)

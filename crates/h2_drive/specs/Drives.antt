@@ -53,6 +53,10 @@ pub record Exchanges (out_of_memory : Bool) (from to : DriveState) (lengths : Li
   pub lengths_is : to.lengths ≡ grown from.lengths lengths
   pub feeds : FedOrHalted out_of_memory from.conn read from.out to.conn (written ++ to.out)
 
+-- these octets were read, where the wire reports them, and P holds of them
+abbrev pub HasRead : (List ℕ → Type 0) → (before after : Option (List ℕ)) → Type 0
+HasRead P before after = (octets : List ℕ) × (after ≡ grown before octets) × P octets
+
 -- the octets that the connection holds back complete no item
 abbrev pub HasNoItem : Connection → Type 0
 HasNoItem c = Fed c [] [] c []

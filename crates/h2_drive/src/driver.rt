@@ -1,11 +1,12 @@
 //! A connection driven over a wire: what is read is fed to it, and the frames that it sends are written before the
-//! next read. Rests on `wire`, `outgoing` and h2_conn; definitions: `specs/Drives.antt`.
+//! next read. Rests on `driven`, `wire` and `outgoing`; definitions: `specs/Drives.antt`.
 
 ghost use Rattle.std.specs.Prelude.{◌≡◌, ◌<◌, ◌≤◌, [], take, length, false, vec_len, option_map};
 ghost use Rattle.h2_spec.specs.Errors.{code_number};
 ghost use Rattle.h2_spec.specs.State.{ended_code};
-ghost use Rattle.h2_drive.specs.Drives.{Drives, EndsAs, HasNoItem, TakesTurn, TurnEndsAs, drive_state, is_wire_fault};
+ghost use Rattle.h2_drive.specs.Drives.{Drives, EndsAs, HasNoItem, HasRead, TakesTurn, TurnEndsAs, drive_state, is_out_of_memory, is_wire_fault};
 
+use crate::driven::Driven;
 use crate::fault::{DriveEnd, DriveFault};
 use crate::outgoing::write_all;
 use crate::wire::Wire;
@@ -18,22 +19,27 @@ const READ_SIZE: usize = 4096;
 
 /// Reads once, feeds what was read to the connection, and writes the frames that it sends for that. Returns how many
 /// octets were read; 0 is the end of the input.
-fn take_turn<'b, A: Allocator + Copy, S: Wire>(
-    conn: &mut Conn<'b, A>,
+fn take_turn<A: Allocator + Copy, D: Driven<A>, S: Wire>(
+    driven: &mut D,
     out: &mut Vec<u8, A>,
     wire: &mut S,
 ) -> Result<usize, DriveFault>
     requires open { S.has_failed wire.old ≡ false }
     requires empty { out.old.items ≡ [] }
-    requires no_item { HasNoItem conn.old }
+    requires no_item { HasNoItem (D.connection driven.old) }
+    requires ready { D.is_ready driven.old }
+    requires going { (D.connection driven.old).failed ≡ false }
+    ensures ready { D.is_ready driven.new }
     ensures turn { TakesTurn
         (drive_state (S.octets_read wire.old) (S.octets_written wire.old) (S.read_lengths wire.old)
-        out.old.items conn.old)
+        out.old.items (D.connection driven.old))
         (drive_state (S.octets_read wire.new) (S.octets_written wire.new) (S.read_lengths wire.new)
-        out.new.items conn.new)
+        out.new.items (D.connection driven.new))
         result }
-    ensures ends { TurnEndsAs result conn.old conn.new out.new.items }
+    ensures ends { TurnEndsAs result (D.connection driven.old) (D.connection driven.new) out.new.items }
     ensures flag { S.has_failed wire.new ≡ is_wire_fault result }
+    ensures passes { HasRead (λ octets. D.passes (is_out_of_memory result) driven.old octets driven.new)
+        (S.octets_read wire.old) (S.octets_read wire.new) }
 {
     let mut buffer = [0u8; READ_SIZE];
     let count = match wire.read(&mut buffer) {
@@ -43,13 +49,62 @@ fn take_turn<'b, A: Allocator + Copy, S: Wire>(
     if count == 0 {
         return Ok(0);
     }
-    match conn.feed(octets_up_to(&buffer, count), out) {
-        Ok(_) => {}
+    match driven.take_octets(octets_up_to(&buffer, count), out) {
+        Ok(()) => {}
         Err(_) => return Err(DriveFault::NoMemory),
     }
     match write_all(wire, out) {
         Ok(()) => Ok(count),
         Err(_) => Err(DriveFault::Write),
+    }
+}
+
+/// Drives a connection, with what looks at its items, as `drive` does. What else becomes of the octets that were read
+/// is what the connection's type says of them (`Driven`).
+///
+/// # Errors
+///
+/// Those of `drive`.
+pub fn drive_with<A: Allocator + Copy, D: Driven<A>, S: Wire>(
+    driven: &mut D,
+    out: &mut Vec<u8, A>,
+    wire: &mut S,
+    turns: u32,
+) -> Result<DriveEnd, DriveFault>
+    requires open { S.has_failed wire.old ≡ false }
+    requires ready { D.is_ready driven.old }
+    ensures ready { D.is_ready driven.new }
+    ensures drives { Drives turns
+        (drive_state (S.octets_read wire.old) (S.octets_written wire.old) (S.read_lengths wire.old)
+        out.old.items (D.connection driven.old))
+        (drive_state (S.octets_read wire.new) (S.octets_written wire.new) (S.read_lengths wire.new)
+        out.new.items (D.connection driven.new))
+        result }
+    ensures ends { EndsAs result (option_map code_number (ended_code (D.connection driven.new).state.core.phase)) out.new.items }
+    ensures flag { S.has_failed wire.new ≡ is_wire_fault result }
+    ensures passes { HasRead (λ octets. D.passes (is_out_of_memory result) driven.old octets driven.new)
+        (S.octets_read wire.old) (S.octets_read wire.new) }
+{
+    if driven.is_failed() {
+        return Err(DriveFault::Failed);
+    }
+    match write_all(wire, out) {
+        Ok(()) => {}
+        Err(_) => return Err(DriveFault::Write),
+    }
+    for _turn in 0..turns {
+        if let Some(code) = driven.end_code() {
+            return Ok(DriveEnd::Goaway(code));
+        }
+        match take_turn(driven, out, wire) {
+            Ok(0) => return Ok(DriveEnd::Input),
+            Ok(_) => {}
+            Err(fault) => return Err(fault),
+        }
+    }
+    match driven.end_code() {
+        Some(code) => Ok(DriveEnd::Goaway(code)),
+        None => Err(DriveFault::TurnLimit),
     }
 }
 
@@ -85,25 +140,5 @@ pub fn drive<'b, A: Allocator + Copy, S: Wire>(
     ensures ends { EndsAs result (option_map code_number (ended_code conn.new.state.core.phase)) out.new.items }
     ensures flag { S.has_failed wire.new ≡ is_wire_fault result }
 {
-    if conn.failed() {
-        return Err(DriveFault::Failed);
-    }
-    match write_all(wire, out) {
-        Ok(()) => {}
-        Err(_) => return Err(DriveFault::Write),
-    }
-    for _turn in 0..turns {
-        if let Some(code) = conn.ended() {
-            return Ok(DriveEnd::Goaway(code));
-        }
-        match take_turn(conn, out, wire) {
-            Ok(0) => return Ok(DriveEnd::Input),
-            Ok(_) => {}
-            Err(fault) => return Err(fault),
-        }
-    }
-    match conn.ended() {
-        Some(code) => Ok(DriveEnd::Goaway(code)),
-        None => Err(DriveFault::TurnLimit),
-    }
+    drive_with(conn, out, wire, turns)
 }
