@@ -193,8 +193,9 @@ async function inBrowser(chromium) {
     check("a bad line is a fault", (await of("document.getElementById('fault').textContent")).includes("line 3"), await of("document.getElementById('fault').textContent"));
     await of("document.getElementById('script').select()");
     await tell("Input.insertText", { text: readFileSync(join(top, "examples/closed.h2"), "utf8") });
-    await until(`document.getElementById('fault').className === '' && document.getElementById('item-tags').textContent.includes('PROTOCOL')`);
-    check("the fault goes when it is mended", await of("document.getElementById('fault').className") === "" && (await of("document.getElementById('hex').value")).replace(/\s/g, "") === readFileSync(join(top, "examples/closed.hex"), "utf8").trim());
+    await until(`document.getElementById('fault').className === '' && h2.run.octets.length === 43`);
+    await of("h2.select(3)");
+    check("the fault goes when it is mended", await of("document.getElementById('fault').className") === "" && (await of("document.getElementById('hex').value")).replace(/\s/g, "") === run(["asm"], readFileSync(join(top, "examples/closed.h2"), "utf8")).text.trim());
     check("its cause is shown", (await of("document.getElementById('why').textContent")).includes("data-on-idle"));
     check("an error is shown", (await of("document.getElementById('item-tags').textContent")).includes("PROTOCOL_ERROR"));
     // The link.
