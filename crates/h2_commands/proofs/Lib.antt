@@ -1,8 +1,6 @@
-pub mod AnswerTexts
 pub mod Assembled
 pub mod Explained
 pub mod Inputs
-pub mod Places
 pub mod Played
 pub mod RefusedWords
 pub mod Tables

@@ -1,27 +1,30 @@
--- The book of answers: its file, then word after word, and what refuses one.
+-- The book of answers: its file, then word after word.
 use Rattle.std.proofs.Common.{◌≡◌, ◌==◌, ◌<◌, ◌∙◌, ℕ, Bool, true, false, List, [], ◌∷◌, Option, Some, None, Result, Ok, Err, inl, inr, ◌⊎◌, refl, ap, sym, subst, arith, length, eqb-true, true≢false, lit<}
 use Rattle.h2_spec.specs.Answer.{Entry}
-use Rattle.h2_spec.specs.AnswerWords.{entry_of}
-use Rattle.h2_commands.specs.AnswerParts.{refusal_of}
 use Rattle.h2_book.specs.Entries.{Directory, book_of_file}
 use Rattle.h2_words.specs.Grammar.{BookAsked}
-use Rattle.h2_commands.specs.Books.{added_by, book_filed, book_of, book_said, unless_refused, with_answer}
+use Rattle.h2_commands.specs.Books.{book_filed, book_said}
+use Rattle.h2_answers.specs.Books.{book_of, unless_refused}
+use Rattle.h2_answers.specs.Faults as answers
+use Rattle.h2_answers.specs.declared.fault.AnswerFault.{AnswerFault}
+use Rattle.h2_answers.specs.declared.fault.AnswerFault.TheVariants as answer
+use Rattle.h2_commands.specs.Answers.{fault_told}
 use Rattle.h2_commands.specs.CommandEnd.{KnowsFile}
 use Rattle.h2_commands.specs.Faults.{fault_number}
 use Rattle.h2_request.specs.declared.fault.EntryFault.TheVariants.{BadStatus, BadField, BodyNotAllowed, TooLong}
 use Rattle.h2_commands.specs.declared.fault.BenchFault.{BenchFault}
 use Rattle.h2_commands.specs.declared.fault.BenchFault.TheVariants.{NoMemory, BadEntry, BadConfig, Read, BadHex, BadAnswer, BadCommand, Socket}
 
-by_entry : (b : List Entry) (e : Option Entry) (fault : BenchFault) → fault ≡ refusal_of e → (fault ≡ NoMemory) ⊎ (added_by b e ≡ Err (fault_number fault))
-by_entry b None fault h = inr (rw h refl)
-by_entry b (Some e) fault h = inl h
+-- a word that is refused is refused with the fault of the commands
+told-number : (fault : AnswerFault) → fault_number (fault_told fault) ≡ answers.fault_number fault
+told-number answer.NoMemory = refl
+told-number answer.BadAnswer = refl
+told-number (answer.BadEntry fault) = refl
 
--- the word says no entry, or memory was refused
-pub word_refused : (b : List Entry) (word : List ℕ) (fault : BenchFault) → fault ≡ refusal_of (entry_of word) → (fault ≡ NoMemory) ⊎ (with_answer b word ≡ Err (fault_number fault))
-unfolding with_answer
-word_refused b word fault h = by_entry b (entry_of word) fault h
-
--- ---- files
+pub word-told : (r : Result (List Entry) ℕ) (fault : AnswerFault) (as_told : BenchFault) → as_told ≡ fault_told fault → (fault ≡ answer.NoMemory) ⊎ (r ≡ Err (answers.fault_number fault))
+    → (as_told ≡ NoMemory) ⊎ (r ≡ Err (fault_number as_told))
+word-told r fault as_told is (inl memory) = inl (is ∙ ap fault_told memory)
+word-told r fault as_told is (inr refused) = inr (refused ∙ ap (λ (n : ℕ). let e : Result (List Entry) ℕ = Err n in e) (sym (ap fault_number is ∙ told-number fault)))
 
 -- an empty path is no file
 pub no-file : (files : Directory) (path : List ℕ) (book : List Entry) → (length path == 0) ≡ true → book ≡ [] → book_filed files path ≡ Ok book

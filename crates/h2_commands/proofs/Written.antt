@@ -1,14 +1,15 @@
 -- What an output holds after texts were written, and what is reported then.
-use Rattle.std.proofs.Common.{◌≡◌, ◌∙◌, ℕ, suc, List, [], ◌∷◌, ◌++◌, false, Option, Some, None, Result, Ok, Err, IfErr, OnOk, Bool, is_err, take, refl, sym, ap, subst, inl, inr, append_assoc}
+use Rattle.std.proofs.Common.{◌≡◌, ◌∙◌, ℕ, List, [], ◌++◌, false, Option, Some, None, Result, Ok, Err, OnOk, Bool, is_err, take, refl, sym, ap, subst, inl, inr, append_assoc}
 use Rattle.std.specs.List.{concat}
 use Rattle.std.specs.Io.KnownBytes.{Appends}
 use Rattle.std.proofs.lemmas.List.{append-nil}
 use Rattle.h2_commands.specs.Reports.{Gives, seen}
-use Rattle.h2_commands.specs.Each.{Stops, not_written, printed_after}
-use Rattle.h2_commands.specs.Printing.{OrCutShort, Printed, done, failed, failed_after}
+use Rattle.h2_commands.specs.Each.{printed_after}
+use Rattle.h2_commands.specs.Printing.{OrCutShort, Printed, done, failed}
 use Rattle.h2_commands.specs.declared.each.PlacesFault.{PlacesFault}
-use Rattle.h2_commands.specs.declared.each.PlacesFault.TheVariants.{Fault, NotWritten}
+use Rattle.h2_commands.specs.declared.each.PlacesFault.TheVariants.{Fault}
 use Rattle.h2_commands.specs.declared.fault.BenchFault.{BenchFault}
+use Rattle.h2_commands.specs.declared.fault.BenchFault.TheVariants.{NoMemory}
 use Rattle.h2_commands.specs.declared.report.Report.{Report}
 
 pub appended : (now text : List ℕ) (before after : Option (List ℕ)) → before ≡ Some now → Appends before after text → after ≡ Some (now ++ text)
@@ -20,12 +21,6 @@ pub more-written : (held done text later : List ℕ) (before after : Option (Lis
 more-written held done text later before after is a e =
     appended (held ++ done) text before after is a ∙ ap (λ (t : List ℕ). Some t) (append_assoc held done text ∙ ap (λ (t : List ℕ). held ++ t) (sym e))
 
--- places that were cut off lead to such an answer
-pub stopped : (ps : List (List ℕ)) (printed : Printed) (held : List ℕ) (after : Option (List ℕ)) (why : PlacesFault) → not_written (Err why) ≡ false → Stops ps held after why
-    → (text : List ℕ) × (after ≡ Some (held ++ text)) × OrCutShort ps printed (printed_after text (Err why))
-stopped ps printed held after (Fault fault) well x = (concat (take x.1.0 ps), x.1.1, inr (x.1.0, ap (failed_after (concat (take x.1.0 ps))) x.0))
-stopped ps printed held after NotWritten well x = cc
-
 pub unchanged : (held : List ℕ) (after : Option (List ℕ)) → after ≡ Some held → after ≡ Some (held ++ [])
 unchanged held after e = e ∙ ap (λ (t : List ℕ). Some t) (sym (append-nil held))
 
@@ -35,16 +30,14 @@ given (Ok report) t ps x = inl (sym x)
 given (Err fault) t ps (inl memory) = inr (0, ap (λ (f : BenchFault). failed f) memory)
 given (Err fault) t ps (inr x) = inl (sym x)
 
--- the start of a run was written, and then its items, or some first of them
-pub with-start : (start : List ℕ) (items : List (List ℕ)) (held : List ℕ) (before after : Option (List ℕ)) (r : Result (Unit {0}) PlacesFault) → not_written r ≡ false → before ≡ Some (held ++ start)
-    → OnOk r ((now : List ℕ) → before ≡ Some now → after ≡ Some (now ++ concat items)) → IfErr r (λ why. (now : List ℕ) → before ≡ Some now → Stops items now after why)
-    → (text : List ℕ) × (after ≡ Some (held ++ text)) × OrCutShort (start ∷ items) (done (concat (start ∷ items))) (printed_after text r)
-with-start start items held before after (Ok u) well is o e = (concat (start ∷ items), o (held ++ start) is ∙ ap (λ (t : List ℕ). Some t) (append_assoc held start (concat items)), inl refl)
-with-start start items held before after (Err why) well is o e = stopped (start ∷ items) (done (concat (start ∷ items))) held after why well (starts why (e (held ++ start) is))
-  where
-    starts : (why : PlacesFault) → Stops items (held ++ start) after why → Stops (start ∷ items) held after why
-    starts (Fault fault) x = (x.0, (suc x.1.0, x.1.1 ∙ ap (λ (t : List ℕ). Some t) (append_assoc held start (concat (take x.1.0 items)))))
-    starts NotWritten x = tt
+-- the places of a run were written, or some first of them
+pub all-places : (ps : List (List ℕ)) (held : List ℕ) (after : Option (List ℕ)) → after ≡ Some (held ++ concat ps)
+    → (text : List ℕ) × (after ≡ Some (held ++ text)) × OrCutShort ps (done (concat ps)) (printed_after text (Ok tt))
+all-places ps held after e = (concat ps, e, inl refl)
+
+pub some-places : (ps : List (List ℕ)) (held : List ℕ) (after : Option (List ℕ)) → (count : ℕ) × (after ≡ Some (held ++ concat (take count ps)))
+    → (text : List ℕ) × (after ≡ Some (held ++ text)) × OrCutShort ps (done (concat ps)) (printed_after text (Err (Fault NoMemory)))
+some-places ps held after x = (concat (take x.0 ps), x.1, inr (x.0, refl))
 
 -- a text was written whole where no write failed
 pub written-whole : (r : Result (Unit {0}) PlacesFault) (text held : List ℕ) (before after : Option (List ℕ)) (broken : Bool) → broken ≡ is_err r → broken ≡ false → OnOk r (Appends before after text) → before ≡ Some held

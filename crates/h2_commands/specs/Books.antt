@@ -1,38 +1,9 @@
 -- The book of answers of a command: the entries of a file, and behind them those of the words.
-use Rattle.std.specs.Prelude.{ℕ, List, [], ◌∷◌, ◌++◌, Option, Some, None, Result, Ok, Err}
+use Rattle.std.specs.Prelude.{ℕ, List, [], ◌∷◌, Result, Ok}
 use Rattle.h2_spec.specs.Answer.{Entry}
-use Rattle.h2_spec.specs.AnswerWords.{entry_of}
-use Rattle.h2_spec.specs.Book.{entry_fault}
+pub use Rattle.h2_answers.specs.Books.{book_of, unless_refused}
 use Rattle.h2_book.specs.Entries.{Directory, book_of_file}
 use Rattle.h2_words.specs.Grammar.{BatchAsked, BookAsked, play, asm, dis, table}
-use Rattle.h2_commands.specs.Faults.{fault_number}
-use Rattle.h2_commands.specs.declared.fault.BenchFault.TheVariants.{BadAnswer}
-
--- an entry is last, unless the book refuses it
-abbrev pub added : List Entry → Entry → Option ℕ → Result (List Entry) ℕ
-added book entry (Some fault) = Err fault
-added book entry None = Ok (book ++ entry ∷ [])
-
--- the entry that a word says is added
-abbrev pub added_by : List Entry → Option Entry → Result (List Entry) ℕ
-added_by book None = Err (fault_number BadAnswer)
-added_by book (Some entry) = added book entry (entry_fault book entry)
-
--- one word
-unfoldable pub with_answer : List Entry → List ℕ → Result (List Entry) ℕ
-unfolding entry_of entry_fault
-with_answer book word = added_by book (entry_of word)
-
--- unless a word before was refused
-abbrev pub unless_refused : Result (List Entry) ℕ → (List Entry → Result (List Entry) ℕ) → Result (List Entry) ℕ
-unless_refused (Ok book) next = next book
-unless_refused (Err fault) next = Err fault
-
--- word after word from the left; the first one that is refused decides
-unfoldable pub book_of : List Entry → List (List ℕ) → Result (List Entry) ℕ
-unfolding with_answer
-book_of book [] = Ok book
-book_of book (word ∷ words) = unless_refused (with_answer book word) (λ more. book_of more words)
 
 -- the entries of a file; none where its path is empty
 unfoldable pub book_filed : Directory → List ℕ → Result (List Entry) ℕ

@@ -1,36 +1,12 @@
 -- A run that is reported place by place, and written as it is made.
-use Rattle.std.specs.Prelude.{◌≡◌, ℕ, ◌++◌, Bool, true, false, List, [], Option, Some, None, Result, Ok, Err, take}
+use Rattle.std.specs.Prelude.{◌≡◌, ℕ, ◌++◌, Bool, true, false, List, [], Option, Some, Result, Ok, Err}
 use Rattle.std.specs.List.{concat}
-use Rattle.h2_spec.specs.Frame.{frames_octets}
-use Rattle.h2_spec.specs.Parse.{Stop, One}
 use Rattle.h2_spec.specs.State.{State}
-use Rattle.h2_spec.specs.Trace.{Event, next_event}
-use Rattle.h2_conn.specs.Connection.{Connection, going}
 use Rattle.h2_spec.specs.View.{view}
 use Rattle.h2_commands.specs.Printing.{OrCutShort, Printed, done, failed_after}
 use Rattle.h2_commands.specs.Printed.{item_text, places_from, sent_and_state}
-use Rattle.h2_commands.specs.declared.each.Taken.{Taken}
 use Rattle.h2_commands.specs.declared.each.PlacesFault.{PlacesFault}
 use Rattle.h2_commands.specs.declared.each.PlacesFault.TheVariants.{Fault, NotWritten}
-use Rattle.h2_commands.specs.declared.fault.BenchFault.TheVariants.{NoMemory}
-
--- the next item was taken: so many octets, and those that are sent for it
-pub record TakesItem (s : State) (b : List ℕ) (c : Connection) (t : Taken) : Type 0 where
-  pub event : Event
-  pub comes : next_event s b ≡ One event c.state t.used
-  pub state : event.state ≡ c.state
-  pub after : c ≡ going c.state []
-  pub sent : t.sent.items ≡ frames_octets event.sent
-
--- or there is none
-abbrev pub TakesNext : State → List ℕ → Connection → Option Taken → Type 0
-TakesNext s b c None = next_event s b ≡ Stop
-TakesNext s b c (Some t) = TakesItem s b c t
-
--- some first places were written, and then memory was refused; or a write failed
-abbrev pub Stops : List (List ℕ) → List ℕ → Option (List ℕ) → PlacesFault → Type 0
-Stops places held after (Fault fault) = (fault ≡ NoMemory) × ((count : ℕ) × (after ≡ Some (held ++ concat (take count places))))
-Stops places held after NotWritten = Unit {0}
 
 -- whether a write failed
 abbrev pub not_written : Result (Unit {0}) PlacesFault → Bool

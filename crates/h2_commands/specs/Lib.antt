@@ -1,4 +1,4 @@
-pub mod AnswerParts
+pub mod Answers
 pub mod Books
 pub mod CommandEnd
 pub mod Commands

@@ -1,16 +1,15 @@
 -- What the programs report of their input: a text and an exit status.
-use Rattle.std.specs.Prelude.{ℕ, ◌+◌, ◌++◌, Bool, true, false, List, [], ◌∷◌, length, codes, decimal, nat_lt, if◌then◌else◌, Option, Some, None, Result, Ok, Err}
+use Rattle.std.specs.Prelude.{ℕ, ◌++◌, Bool, true, false, List, [], ◌∷◌, length, codes, nat_lt, if◌then◌else◌, Option, Some, None, Result, Ok, Err}
 use Rattle.std.specs.List.{concat}
 use Rattle.hex.specs.Hex.{encode_lower}
 use Rattle.h2_spec.specs.State.{is_allowed}
 use Rattle.h2_spec.specs.declared.connection.Config.{Config}
 use Rattle.h2_spec.specs.Answer.{Entry}
 use Rattle.h2_spec.specs.Opening.{opening_octets}
-use Rattle.h2_spec.specs.State.{State, opening}
-use Rattle.h2_spec.specs.Frame.{frames_octets}
-use Rattle.h2_spec.specs.Trace.{Event, sent_octets, trace}
+use Rattle.h2_spec.specs.State.{opening}
+use Rattle.h2_spec.specs.Trace.{sent_octets, trace}
 use Rattle.h2_spec.specs.View.{View, view}
-use Rattle.h2_spec.specs.Show.{joined, octets_text, show}
+use Rattle.h2_spec.specs.Show.{joined, show}
 use Rattle.h2_commands.specs.Books.{book_in}
 use Rattle.h2_book.specs.Entries.{Directory}
 use Rattle.h2_words.specs.Grammar.{BatchAsked, play, asm, dis, table}
@@ -18,30 +17,13 @@ use Rattle.h2_commands.specs.Input.{most}
 use Rattle.h2_hex.specs.HexText.{octets_spelled}
 use Rattle.h2_commands.specs.ScriptPrograms.{printed_asm, printed_dis}
 use Rattle.h2_commands.specs.TableProgram.{table_parts, table_text}
+pub use Rattle.h2_places.specs.Places.{item_text, item_texts, places_from, places_run}
 pub use Rattle.h2_commands.specs.Printing.{OrCutShort, Printed, cut_short, done, failed, failed_as, refused}
 use Rattle.h2_commands.specs.declared.fault.BenchFault.TheVariants.{BadConfig, Read, BadHex}
 
 -- the line of the octets sent, and the text of the state
 unfoldable pub sent_and_state : List ℕ → View → List ℕ
 sent_and_state sent shown = joined (codes "sent " ∷ encode_lower sent ∷ codes "\n" ∷ []) ++ show shown
-
--- a place in a run: how many items came before it, the octets sent for the last of them, and the text of the state
-unfoldable pub item_text : ℕ → List ℕ → View → List ℕ
-item_text place sent shown = joined (codes "item " ∷ decimal place ∷ codes "\nsent " ∷ octets_text sent ∷ codes "\n" ∷ []) ++ show shown
-
--- the items of a run, from this place on
-unfoldable pub item_texts : ℕ → List Event → List (List ℕ)
-unfolding item_text
-item_texts place [] = []
-item_texts place (e ∷ es) = item_text place (frames_octets e.sent) (view e.state) ∷ item_texts (place + 1) es
-
--- each place of a run over octets: its start, of which this is reported, and then its items
-abbrev pub places_from : List ℕ → State → List ℕ → List (List ℕ)
-places_from start s octets = start ∷ item_texts 1 (trace s octets).events
-
--- the same of a new connection
-abbrev pub places_run : List Entry → Config → List ℕ → List (List ℕ)
-places_run book config octets = places_from (item_text 0 (opening_octets config) (view (opening book config))) (opening book config) octets
 
 -- of the whole run of a connection over octets, or of each place in it
 abbrev pub printed_run : Bool → List Entry → Config → List ℕ → Printed

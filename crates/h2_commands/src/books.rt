@@ -1,50 +1,34 @@
 //! The book of answers that a command is given: the entries of its file, and behind them those of its words.
-//! Rests on `answer`, h2_book and h2_request; definitions: `specs/Books.antt`.
+//! Rests on `answer`, h2_answers, h2_book and h2_request; definitions: `specs/Books.antt`.
 
 ghost use Rattle.std.specs.Prelude.{◌≡◌, ◌⊎◌, ◌<◌, [], Ok, Err, false, map, IfOk, IfErr, OnOk};
-ghost use Rattle.h2_request.specs.Fault as book;
-ghost use Rattle.h2_request.specs.declared.fault.BookFault.TheVariants as books;
 ghost use Rattle.h2_words.specs.Plans.{book_asked};
-ghost use Rattle.h2_commands.specs.Books.{book_filed, book_of, book_said, with_answer};
+ghost use Rattle.h2_answers.specs.Books.{book_of, with_answer};
+ghost use Rattle.h2_commands.specs.Books.{book_filed, book_said};
 ghost use Rattle.h2_commands.specs.CommandEnd.{KnowsFile};
 ghost use Rattle.h2_commands.specs.Faults.{fault_number};
 ghost use Rattle.h2_commands.specs.declared.fault.BenchFault.TheVariants.{NoMemory};
 
-use crate::answer::parse_answer;
+use crate::answer::told;
 use crate::fault::BenchFault;
+use h2_answers::add_answer;
 use h2_book::{BookFileFault, Cause, Files, add_book};
 use h2_device::Output;
 use h2_reasons::{Refusal, Words, say_answer, say_no_answer, say_no_memory};
 use h2_request::book::Book;
-use h2_request::fault::{BookFault, EntryFault};
+use h2_request::fault::EntryFault;
 use h2_words::command::BookWords;
 use std::alloc::{AllocError, Global};
 
-/// What a book refused, as a fault of this crate.
-fn refused_by(fault: BookFault) -> BenchFault
-    ensures number { fault_number result ≡ book.fault_number fault }
-    ensures memory { fault ≡ books.NoMemory → result ≡ NoMemory }
-{
-    match fault {
-        BookFault::NoMemory => BenchFault::NoMemory,
-        BookFault::BadEntry(fault) => BenchFault::BadEntry(fault),
-    }
-}
-
 /// Puts the entry that a word says last in the book.
-#[tactic(auto, unfolding(crate::specs::Books::with_answer))]
-fn add_answer(alloc: Global, book: &mut Book<Global>, word: &str) -> Result<(), BenchFault>
+fn add_word(alloc: Global, book: &mut Book<Global>, word: &str) -> Result<(), BenchFault>
     ensures ok { OnOk result (with_answer book.old word.now ≡ Ok book.new) }
     ensures err { IfErr result (λ fault. (fault ≡ NoMemory)
         ⊎ (with_answer book.old word.now ≡ Err (fault_number fault))) }
 {
-    let entry = match parse_answer(alloc, word) {
-        Ok(entry) => entry,
-        Err(fault) => return Err(fault),
-    };
-    match book.add(entry) {
+    match add_answer(alloc, book, word.as_bytes()) {
         Ok(()) => Ok(()),
-        Err(fault) => Err(refused_by(fault)),
+        Err(fault) => Err(told(fault)),
     }
 }
 
@@ -79,14 +63,14 @@ struct Refused {
 ///
 /// The first word that is refused decides: `BadAnswer` where it says no answer, else what the book refuses it for;
 /// `NoMemory` may come before.
-#[tactic(auto, unfolding(crate::specs::Books::book_of))]
+#[tactic(auto, unfolding(h2_answers::specs::Books::book_of))]
 fn add_answers(alloc: Global, book: &mut Book<Global>, words: &[&str]) -> Result<(), Refused>
     ensures ok { OnOk result (book_of book.old (map (λ s. s.now) words.now) ≡ Ok book.new) }
     ensures err { IfErr result (λ r. (r.fault ≡ NoMemory)
         ⊎ (book_of book.old (map (λ s. s.now) words.now) ≡ Err (fault_number r.fault))) }
 {
     for (before, word) in words.iter().enumerate() {
-        if let Err(fault) = add_answer(alloc, book, word) {
+        if let Err(fault) = add_word(alloc, book, word) {
             let place = before + 1;
             return Err(Refused { place, fault });
         }

@@ -1,7 +1,7 @@
 //! The program `table`: changes a dynamic table by the lines of its input (RFC 7541, 2.3.2 and 4).
-//! Rests on `each`, h2_table, h2_text, h2_device and h2_script's numbers; definitions: `specs/TableProgram.antt`.
+//! Rests on `each`, h2_table, h2_text, h2_device, h2_script's numbers and h2_answers for cutting texts; definitions: `specs/TableProgram.antt`.
 
-ghost use Rattle.std.specs.Prelude.{◌≡◌, ◌==◌, ◌⊎◌, ◌<◌, ◌≤◌, false, length, take, drop, position, option_map, IfOk, IfErr, IfSome, OnOk};
+ghost use Rattle.std.specs.Prelude.{◌≡◌, ◌⊎◌, false, option_map, IfOk, IfErr, OnOk};
 ghost use Rattle.std.specs.List.{concat};
 ghost use Rattle.std.specs.Io.KnownBytes.{Appends};
 ghost use Rattle.h2_commands.specs.Commands.{asked_by};
@@ -17,6 +17,7 @@ ghost use Rattle.h2_commands.specs.declared.fault.BenchFault.TheVariants.{NoMemo
 
 use crate::each::{PlacesFault, write_text};
 use crate::fault::BenchFault;
+use h2_answers::{place_of, text_before, text_from};
 use h2_device::{DeviceFault, Number, Output, Text, texts};
 use h2_script::number_at;
 use h2_table::DynTable;
@@ -30,28 +31,6 @@ pub enum TableCommand<'a> {
     Add(&'a [u8], &'a [u8]),
     /// Gives the table this maximum.
     Max(u32),
-}
-
-/// The place of an octet in a text.
-pub(crate) fn place_of(text: &[u8], octet: u8) -> Option<usize>
-    ensures place { result ≡ position (λ o. o == octet) text.now }
-    ensures within { IfSome result (λ at. at < length text.now) }
-{
-    text.iter().position(|o| *o == octet)
-}
-
-pub(crate) fn text_before(text: &[u8], at: usize) -> &[u8]
-    requires { at ≤ length text.now }
-    ensures { result.now ≡ take at text.now }
-{
-    &text[..at]
-}
-
-pub(crate) fn text_from(text: &[u8], at: usize) -> &[u8]
-    requires { at ≤ length text.now }
-    ensures { result.now ≡ drop at text.now }
-{
-    &text[at..]
 }
 
 /// What a line asks for; `None` where it is no command.

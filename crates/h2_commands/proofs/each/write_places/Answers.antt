@@ -1,12 +1,15 @@
-use Rattle.std.proofs.Common.{◌∙◌, ℕ, List, sym}
-use Rattle.h2_spec.specs.Trace.{trace}
+use Rattle.std.proofs.Common.{ℕ, List}
 use Rattle.h2_spec.specs.View.{view}
-use Rattle.h2_commands.specs.Printed.{item_text, item_texts}
-use Rattle.h2_commands.proofs.Written.{appended, with-start}
+use Rattle.h2_commands.specs.Printed.{item_text, places_from}
+use Rattle.h2_commands.proofs.Written.{all-places, some-places}
 use Rattle.h2_commands.proofs.each.write_places.Goals as goal
 
 pub returns-in-Ok-clause-printed : goal.returns-in-Ok-clause-printed
 returns-in-Ok-clause-printed g c = λ well held is.
-    let start : List ℕ = item_text 0 c.args.sent.now (view c.args.conn.now.state) in
-    with-start start (item_texts 1 (trace c.args.conn.now.state c.args.octets.now).events) held _ _ c.write_items.result (sym c.write_items.ensures.flag ∙ well)
-    (appended held start _ _ is c.in-Ok.ensures.octets) c.write_items.ensures.printed c.write_items.ensures.cut
+    let written = rw (c.all.ensures, c.in-Ok.is) at (c.write_places.ensures.printed held is) in
+    all-places (places_from (item_text 0 c.args.sent.now (view c.args.conn.now.state)) c.args.conn.now.state c.args.octets.now) held _ written
+
+pub returns-in-Err-NoMemory-clause-printed : goal.returns-in-Err-NoMemory-clause-printed
+returns-in-Err-NoMemory-clause-printed g c = λ well held is.
+    let written = rw (c.all.ensures, c.in-Err-NoMemory.is, c.in-Err-NoMemory.field-0-is) at (c.write_places.ensures.printed held is) in
+    some-places (places_from (item_text 0 c.args.sent.now (view c.args.conn.now.state)) c.args.conn.now.state c.args.octets.now) held _ written

@@ -1,0 +1,3 @@
+pub mod AnswerParts
+pub mod Books
+pub mod Faults

@@ -1,0 +1,8 @@
+use Rattle.std.proofs.Common.{◌≡◌, ◌∙◌, subst, ap, sym}
+use Rattle.h2_script.specs.Readings.{Refuses}
+use Rattle.h2_script.specs.declared.fault.ScriptFault.{ScriptFault}
+use Rattle.h2_spec.specs.Assemble.{assembled}
+use Rattle.h2_web.proofs.script.assembled.Goals as goal
+
+pub returns-in_default : goal.returns-in_default
+returns-in_default g c = (c.new.ensures.items, c.in_default.ensures.cases.0)

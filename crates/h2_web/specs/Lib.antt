@@ -1,0 +1,2 @@
+pub mod Web
+pub mod Whys

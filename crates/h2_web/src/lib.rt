@@ -1,0 +1,13 @@
+//! The bench for a page of a browser: a connection over octets, scripts, and the octets of scripts, in memory that the
+//! page gives. It is a static library: the gate proves it for this machine, tools/web.sh builds it as WebAssembly.
+#![tactic(auto)]
+
+mod answers;
+mod fault;
+mod gathered;
+mod items;
+mod run;
+mod script;
+
+pub use run::{places, whys};
+pub use script::{octets_of, script_of};

@@ -1,0 +1,245 @@
+// web.mjs PAGE PROGRAM [--inputs N] [--seconds N] [--chromium FILE] [--picture FILE]: the code in the page against the program, octet for octet; the last line is `N passed, M failed`.
+// node --experimental-wasm-memory64 tests/web.mjs ..: Node 20 to 23 have 64-bit memory after that flag, later ones without it.
+import { spawn, spawnSync } from "node:child_process";
+import { mkdtempSync, readFileSync, readdirSync, rmSync, statSync, writeFileSync } from "node:fs";
+import { tmpdir } from "node:os";
+import { dirname, join, resolve } from "node:path";
+import { fileURLToPath, pathToFileURL } from "node:url";
+import { gunzipSync } from "node:zlib";
+
+const top = dirname(dirname(fileURLToPath(import.meta.url)));
+const [pageFile, programFile, ...words] = process.argv.slice(2);
+const option = (name, other) => words.includes(name) ? words[words.indexOf(name) + 1] : other;
+const program = resolve(programFile), page = readFileSync(pageFile, "utf8");
+const began = Date.now();
+let passed = 0, failed = 0;
+function check(title, holds, found = "") {
+  if (holds) passed++;
+  else { failed++; console.log(`not well: ${title}${found ? `: ${String(found).slice(0, 300)}` : ""}`); }
+}
+function run(args, input) {
+  const { stdout, status, error } = spawnSync(program, args, { input, maxBuffer: 1 << 30 });
+  if (error) throw error;
+  return { text: stdout.toString("latin1"), status };
+}
+
+// The functions of the page that call the code, as they are there.
+const engineSource = page.slice(page.indexOf("function engineOf("), page.indexOf("// ---- what was typed"));
+const engineOf = new Function(`${engineSource}; return engineOf;`)();
+const stock = JSON.parse(gunzipSync(Buffer.from(page.match(/const STOCK = "([^"]*)"/)[1], "base64")));
+const engine = engineOf(await WebAssembly.compile(gunzipSync(Buffer.from(page.match(/const WASM = "([^"]*)"/)[1], "base64"))));
+const config = (more = {}) => ({ streams: 100, credit: 32768, table: 4096, window: 65535, frame: 16384, ...more });
+const limitWords = it => Object.entries(it).flatMap(([name, value]) => [`--${name}`, String(value)]);
+const hexOf = octets => Buffer.from(octets).toString("hex");
+const latin = result => Buffer.from(result.octets).toString("latin1");
+const ALL = 2n ** 63n;
+
+// ---- what the page shows of octets is what the program prints
+function samePlaces(title, octets, limits, answers) {
+  const wanted = run(["play", "--each", ...limitWords(limits), ...answers], hexOf(octets)), found = engine.places(limits, answers.join("\n"), octets, 0, ALL);
+  const fault = wanted.text.match(/^fault (\d+)$/m);
+  check(`${title}: places`, fault ? found.fault === Number(fault[1]) && !found.octets.length : found.fault === 0 && latin(found) === wanted.text, `fault ${found.fault}`);
+  return fault ? [] : wanted.text.split(/^(?=item \d+$)/m);
+}
+// Why each item was an error or was ignored: what `why` of `debug` says at each position.
+function sameWhys(title, octets, limits, answers, count) {
+  const said = run(["debug", ...limitWords(limits), ...answers], `${hexOf(octets)}\n${"step 1\nwhy\n".repeat(count)}`).text, found = engine.whys(limits, answers.join("\n"), octets, 0, ALL);
+  check(`${title}: whys`, found.fault === 0 && latin(found).replace(/^item (\d+)$/gm, "at $1") === said, `fault ${found.fault}`);
+}
+function sameScript(title, octets) {
+  const wanted = run(["dis"], hexOf(octets)), found = engine.scriptOf(octets);
+  check(`${title}: script`, found.fault === 0 && latin(found) === wanted.text);
+}
+function sameOctets(title, script) {
+  const wanted = run(["asm"], script), found = engine.octetsOf(script), bad = wanted.text.match(/^fault 18 (\d+) (\d+)$/m);
+  check(`${title}: octets`, bad ? found.fault === 18 && found.line === Number(bad[1]) && found.kind === Number(bad[2]) : found.fault === 0 && `${hexOf(found.octets)}\n` === wanted.text, `fault ${found.fault}`);
+  return found.fault ? new Uint8Array() : found.octets.slice();
+}
+// Some span of the places is those of the whole.
+function sameSpan(title, octets, limits, answers, places, first, last) {
+  const found = engine.places(limits, answers.join("\n"), octets, first, last);
+  check(`${title}: places ${first} to ${last}`, found.fault === 0 && latin(found) === places.slice(first, last + 1).join(""));
+}
+
+const corpus = [];
+for (const it of stock) {
+  const limits = config(), answers = [];
+  for (let n = 0; n < it.words.length; n++) { if (it.words[n].startsWith("--")) limits[it.words[n].slice(2)] = Number(it.words[++n]); else answers.push(it.words[n]); }
+  const octets = sameOctets(it.name, it.script);
+  if (octets.length) corpus.push({ octets, limits, answers, name: it.name });
+  const places = samePlaces(it.name, octets, limits, answers);
+  if (places.length) sameSpan(it.name, octets, limits, answers, places, places.length >> 1, places.length + 3);
+  if (places.length) sameWhys(it.name, octets, limits, answers, places.length - 1);
+}
+console.log(`${stock.length} examples, scripts of causes and cases`);
+
+// ---- random octets and scripts, from what there is
+let seed = 20260; // the same ones in each run
+const random = most => (seed = Math.imul(seed ^ seed >>> 15, 2246822519) + 3266489917 >>> 0, (seed ^ seed >>> 13) >>> 0) % most;
+const pick = list => list[random(list.length)];
+function mutated() {
+  let octets = Buffer.from(pick(corpus).octets);
+  for (let n = random(5); n > 0; n--) {
+    const place = random(octets.length + 1), other = pick(corpus).octets;
+    switch (random(5)) {
+      case 0: octets[place % octets.length] = random(256); break;
+      case 1: octets = Buffer.concat([octets.subarray(0, place), octets.subarray(place + random(12))]); break;
+      case 2: octets = Buffer.concat([octets, other.subarray(Math.min(24, other.length))]); break;
+      case 3: octets = Buffer.concat([octets.subarray(0, place), Buffer.from([random(256), random(256)]), octets.subarray(place)]); break;
+      default: if (octets.length > 33) octets[24 + random(octets.length - 24)] ^= 1 << random(8);
+    }
+    if (!octets.length) octets = Buffer.from([80]);
+  }
+  return new Uint8Array(octets);
+}
+const someAnswers = [[], ["GET|/|200|6869"], ["GET|/|200|6869", "POST|/upload|200|6f6b|server=x|early"], ["GET|/|2000|"], ["GET|/|200|6869", "GET|/a|204|61"], ["|"], ["GET|/|200||connection=close"]];
+const inputs = Number(option("--inputs", 1000)), until = began + Number(option("--seconds", 3600)) * 1000;
+let done = 0;
+for (; done < inputs && Date.now() < until; done++) {
+  const octets = mutated(), title = `random ${done}`;
+  const limits = config(random(3) ? {} : { streams: random(4), credit: 1 + random(200), table: random(200), window: random(300), frame: 16384 + random(3) });
+  const answers = pick(someAnswers), places = samePlaces(title, octets, limits, answers);
+  if (done % 4 === 3 && places.length) sameWhys(title, octets, limits, answers, places.length - 1);
+  if (done % 4 === 0) sameScript(title, octets);
+  if (done % 4 === 1) { const text = run(["dis"], hexOf(octets)).text.split(""); if (text.length) text[random(text.length)] = pick([" ", "x", "\n", "9", "\"", ",", "\u0001"]); sameOctets(title, text.join("")); }
+  if (done % 4 === 2 && places.length) sameSpan(title, octets, limits, [], samePlaces(title, octets, limits, []), random(places.length + 2), random(places.length + 2));
+}
+console.log(`${done} random inputs${done < inputs ? `; ${inputs - done} were left out, for time` : ""}`);
+
+// ---- too little memory: all of it or a first part, and fault 1; never a trap
+{
+  const it = corpus.find(it => it.name.startsWith("get")), wanted = run(["play", "--each", ...limitWords(it.limits), ...it.answers], hexOf(it.octets)).text, places = wanted.split(/^(?=item \d+$)/m);
+  const parts = new Set(places.map((_, n) => places.slice(0, n).join(""))).add(wanted);
+  const utf8 = text => new TextEncoder().encode(text), script = utf8(it.octets.length ? run(["dis"], hexOf(it.octets)).text : "");
+  let whole = 0;
+  for (let size = 32; size <= 196608; size = size < 4096 ? size + 32 : size + 1024) {
+    let places, octets, text;
+    try {
+      places = engine.call("places", [...engine.numbers(it.limits), 0n, ALL], [utf8(it.answers.join("\n")), it.octets], 65536, size);
+      octets = engine.call("octets_of", [], [script], 65536, size);
+      text = engine.call("script_of", [], [it.octets], 65536, size);
+    } catch (e) { check(`memory of ${size} octets`, false, e); continue; }
+    check(`memory of ${size} octets: places`, places.fault === 0 ? latin(places) === wanted : places.fault === 1 && parts.has(latin(places)), `fault ${places.fault}`);
+    check(`memory of ${size} octets: octets`, octets.fault === 0 ? hexOf(octets.octets) === hexOf(it.octets) : octets.fault === 1 && !octets.octets.length, `fault ${octets.fault}`);
+    check(`memory of ${size} octets: script`, text.fault === 0 ? latin(text) === Buffer.from(script).toString("latin1") : text.fault === 1 && !text.octets.length, `fault ${text.fault}`);
+    if (places.fault === 0) whole++;
+  }
+  check("192 KB suffice for a GET", whole > 0);
+  for (const room of [0, 1, 100, 900]) {
+    const places = engine.call("places", [...engine.numbers(it.limits), 0n, ALL], [utf8(it.answers.join("\n")), it.octets], room, 1 << 20);
+    check(`room of ${room} octets`, places.fault === 2 && !places.octets.length, `fault ${places.fault}`);
+  }
+}
+
+// ---- the page in a browser
+if (option("--chromium")) await inBrowser(option("--chromium"));
+console.log(`${passed} passed, ${failed} failed`);
+process.exitCode = failed ? 1 : 0;
+
+async function inBrowser(chromium) {
+  const folder = mkdtempSync(join(tmpdir(), "web-"));
+  const flags = ["--headless=new", "--no-sandbox", "--disable-gpu", "--hide-scrollbars", "--no-first-run", `--user-data-dir=${folder}`, "--remote-debugging-pipe", "--js-flags=--experimental-wasm-memory64", "about:blank"];
+  const browser = spawn(chromium, flags, { stdio: ["ignore", "ignore", "ignore", "pipe", "pipe"] });
+  const open = new Map();
+  let next = 1, held = "";
+  browser.stdio[4].setEncoding("utf8").on("data", text => {
+    const said = (held + text).split("\0");
+    held = said.pop();
+    for (const it of said.map(it => JSON.parse(it))) if (it.id && open.has(it.id)) { const [well, badly] = open.get(it.id); open.delete(it.id); it.error ? badly(new Error(it.error.message)) : well(it.result); }
+  });
+  const limit = setTimeout(() => browser.kill(), 60_000);
+  const ended = new Promise((_, badly) => browser.on("exit", () => { for (const it of open.values()) it[1](new Error("the browser ended")); badly(new Error("the browser ended")); }));
+  ended.catch(() => {});
+  const ask = (method, params = {}, sessionId = undefined) => new Promise((well, badly) => { open.set(next, [well, badly]); browser.stdio[3].write(JSON.stringify({ id: next++, method, params, sessionId }) + "\0"); });
+  try {
+    const { targetInfos } = await ask("Target.getTargets");
+    const { sessionId } = await ask("Target.attachToTarget", { targetId: targetInfos.find(it => it.type === "page").targetId, flatten: true });
+    const tell = (method, params) => ask(method, params, sessionId);
+    const of = async (expression) => { const it = await tell("Runtime.evaluate", { expression, awaitPromise: true, returnByValue: true }); if (it.exceptionDetails) throw new Error(it.exceptionDetails.exception?.description ?? it.exceptionDetails.text); return it.result.value; };
+    const wait = ms => new Promise(well => setTimeout(well, ms));
+    const until = async expression => { for (let n = 0; n < 60 && !await of(expression); n++) await wait(100); };
+    const visit = async url => {
+      await tell("Page.navigate", { url: "about:blank" });
+      await tell("Page.navigate", { url });
+      for (let n = 0; n < 150; n++) { if (await of("document.body?.dataset.ready === '1' || document.getElementById('fault')?.className === 'on'").catch(() => false)) return; await wait(100); }
+    };
+    const key = async name => { for (const type of ["keyDown", "keyUp"]) await tell("Input.dispatchKeyEvent", { type, key: name, code: name }); };
+    const url = pathToFileURL(resolve(pageFile)).href;
+    await tell("Emulation.setDeviceMetricsOverride", { width: 1300, height: 1500, deviceScaleFactor: 1, mobile: false });
+    await visit(url);
+    check("the page runs", await of("document.body.dataset.ready === '1'"), await of("document.getElementById('fault').textContent"));
+    const get = corpus.find(it => it.name.startsWith("get"));
+    check("it begins with an example", await of("h2.run && h2.countOf(h2.run)") === 3);
+    // Stepping.
+    await of("document.body.focus(); h2.select(3); document.querySelector('[aria-current]').focus()");
+    await key("ArrowLeft");
+    check("the left key steps back", (await of("document.getElementById('where').textContent")).startsWith("2 of"));
+    await key("Home");
+    check("Home goes to the start", (await of("document.getElementById('where').textContent")).startsWith("0 of"));
+    await of("document.querySelector('[data-place=\"1\"]').click()");
+    check("a click takes an item", (await of("document.getElementById('item-title').textContent")).includes("preface"));
+    // Typing, good and bad.
+    await of("document.getElementById('hex').focus(); document.getElementById('hex').select()");
+    await tell("Input.insertText", { text: hexOf(get.octets) });
+    await until(`document.getElementById('script').value.includes('HEADERS 05 1')`);
+    check("hex becomes a script", (await of("document.getElementById('script').value")).includes("HEADERS 05 1"));
+    await tell("Input.insertText", { text: "0g" });
+    await until(`document.getElementById('fault').className === 'on'`);
+    check("a bad character is a fault, and what was typed is kept", (await of("document.getElementById('fault').textContent")).includes("Fault 25") && (await of("document.getElementById('hex').value")).endsWith("0g"));
+    check("its place is marked", (await of("document.querySelector('#hex-mark mark')?.textContent")) === "g");
+    await of("document.getElementById('script').focus(); document.getElementById('script').select()");
+    await tell("Input.insertText", { text: "PREFACE\nSETTINGS 00 0 -\nFOO 00 0 -\n" });
+    await until(`document.getElementById('fault').textContent.includes('line 3')`);
+    check("a bad line is a fault", (await of("document.getElementById('fault').textContent")).includes("line 3"), await of("document.getElementById('fault').textContent"));
+    await of("document.getElementById('script').select()");
+    await tell("Input.insertText", { text: readFileSync(join(top, "examples/closed.h2"), "utf8") });
+    await until(`document.getElementById('fault').className === '' && h2.run.octets.length === 43`);
+    await of("h2.select(3)");
+    check("the fault goes when it is mended", await of("document.getElementById('fault').className") === "" && (await of("document.getElementById('hex').value")).replace(/\s/g, "") === run(["asm"], readFileSync(join(top, "examples/closed.h2"), "utf8")).text.trim());
+    check("its cause is shown", (await of("document.getElementById('why').textContent")).includes("data-on-idle"));
+    check("an error is shown", (await of("document.getElementById('item-tags').textContent")).includes("PROTOCOL_ERROR"));
+    // The link.
+    await of("h2.select(2)");
+    const hash = await of("location.hash");
+    await visit(url + hash);
+    check("a link has the whole state", await of("h2.run.place") === 2 && (await of("document.getElementById('script').value")) === readFileSync(join(top, "examples/closed.h2"), "utf8"));
+    // What is copied.
+    await of(`h2.beginWith(h2.stock.find(it => it.name.startsWith("get")))`);
+    const copies = await of("Object.fromEntries(Object.entries(h2.copies).map(([name, make]) => [name, make()]))");
+    check("copied hex", copies.Hex.trim() === hexOf(get.octets));
+    check("copied script", run(["asm"], copies.Script).text.trim() === hexOf(get.octets));
+    check("copied C array", copies["C array"].match(/0x[0-9a-f]{2}/g).map(it => it.slice(2)).join("") === hexOf(get.octets));
+    writeFileSync(join(folder, "copied.h2"), copies["Case for check"]);
+    const verdict = run(["check", join(folder, "copied.h2")], "");
+    check("a copied case holds", /^ok 1 /m.test(verdict.text) && verdict.status === 0, verdict.text);
+    const command = spawnSync("bash", ["-c", copies["Command line"].replace("./h2_bench", program)]);
+    check("the copied command explains", command.stdout.toString() === run(["explain", ...get.answers], hexOf(get.octets)).text);
+    // Some of the comparison once more, by this browser's own machine.
+    for (const it of corpus.filter((_, n) => n % 6 === 0)) {
+      const found = await of(`(r => ({ text: r.text, fault: r.fault }))(h2.engine.places(${JSON.stringify(it.limits)}, ${JSON.stringify(it.answers.join("\n"))}, h2.readHex("${hexOf(it.octets)}").octets, 0, 1e6))`);
+      const wanted = run(["play", "--each", ...limitWords(it.limits), ...it.answers], hexOf(it.octets)).text, fault = wanted.match(/^fault (\d+)$/m);
+      check(`${it.name}: in the browser`, fault ? found.fault === Number(fault[1]) : found.fault === 0 && found.text === wanted);
+    }
+    // One megabyte.
+    const time = await of(`(() => { const frames = ["505249202a20485454502f322e300d0a0d0a534d0d0a0d0a", "000000040000000000"]; for (let n = 1; n < 36000; n++) frames.push("0000140105" + (2 * n - 1).toString(16).padStart(8, "0") + "828684410f7777772e6578616d706c652e636f6d"); const octets = h2.readHex(frames.join("")).octets; h2.typed.source = "file"; h2.typed.file = octets; h2.typed.place = null; const begun = performance.now(); h2.play(1000); return { time: performance.now() - begun, octets: octets.length, count: h2.countOf(h2.run) }; })()`);
+    console.log(`an input of ${time.octets} octets and ${time.count} items: ${time.time.toFixed(0)} ms until its view is there`);
+    check("a large input is shown within five seconds", time.time < 5000, time.time);
+    // A narrow window.
+    await of(`h2.beginWith(h2.stock.find(it => it.name.startsWith("upload")))`);
+    await tell("Emulation.setDeviceMetricsOverride", { width: 360, height: 900, deviceScaleFactor: 1, mobile: true });
+    check("360 pixels suffice", await of("document.documentElement.scrollWidth") <= 360, await of("document.documentElement.scrollWidth"));
+    await tell("Emulation.setDeviceMetricsOverride", { width: 1300, height: 1500, deviceScaleFactor: 1, mobile: false });
+    // Nothing is fetched: the policy of the page forbids it.
+    check("nothing can be sent", await of("fetch('http://127.0.0.1:9/').then(() => 'sent', () => 'refused')") === "refused");
+    if (option("--picture")) {
+      await of(`h2.beginWith(h2.stock.find(it => it.name.startsWith("get")))`);
+      const { data } = await tell("Page.captureScreenshot", { format: "png" });
+      writeFileSync(option("--picture"), Buffer.from(data, "base64"));
+    }
+  } catch (e) { check("the page in a browser", false, e.stack ?? e); } finally {
+    clearTimeout(limit);
+    browser.kill();
+    await new Promise(well => browser.exitCode === null && browser.signalCode === null ? browser.on("exit", well) : well());
+    rmSync(folder, { recursive: true, force: true, maxRetries: 5 });
+  }
+}
