@@ -7,5 +7,4 @@ pub mod Replies
 pub mod Responses
 pub mod Session
 pub mod Takes
-pub mod Why
 pub mod Words

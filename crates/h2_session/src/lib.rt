@@ -11,6 +11,5 @@ mod obey;
 mod reader;
 mod reply;
 pub mod session;
-mod why;
 
 pub use session::debug_session;
