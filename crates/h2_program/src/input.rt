@@ -9,7 +9,7 @@ use h2_console::{
 };
 use h2_device::Gathered;
 use h2_reasons::Source;
-use h2_words::command::{BookWords, Debug, Devices, Explain, Refusal};
+use h2_words::command::{BookWords, Check, Debug, Devices, Explain, Refusal};
 use std::alloc::AllocError;
 use std::cell::Cell;
 use std::io::{ErrorKind, Stderr, Stdin, Stdout};
@@ -40,8 +40,24 @@ pub fn is_session(asked: &Result<Plan<'_>, Refusal>) -> bool {
     }
 }
 
-/// Why the words of devices are refused, where they are.
+/// Why words of `check` are refused that don't go together, where they don't.
+fn refusal_of_check(check: &Check<'_>) -> Option<&'static str> {
+    if check.in_place && !check.bless {
+        return Some("error: --in-place needs --bless\n");
+    }
+    if check.bless && !check.in_place && check.files.len() > 1 {
+        return Some(
+            "error: --bless writes one file to standard output; --in-place writes each where it is\n",
+        );
+    }
+    None
+}
+
+/// Why words that don't go together are refused, where they don't.
 pub fn refusal_of(asked: &Result<Plan<'_>, Refusal>, devices: Devices<'_>) -> Option<&'static str> {
+    if let Ok(Plan::Check(check)) = asked {
+        return refusal_of_check(check);
+    }
     if !is_session(asked) {
         return None;
     }
