@@ -64,4 +64,6 @@ complete -c h2_bench -n '__fish_seen_subcommand_from check' -l table -x -d 'SETT
 complete -c h2_bench -n '__fish_seen_subcommand_from check' -l window -x -d 'SETTINGS_INITIAL_WINDOW_SIZE of the server, 0 to 2147483647; 65535 where none is given'
 complete -c h2_bench -n '__fish_seen_subcommand_from check' -l frame -x -d 'SETTINGS_MAX_FRAME_SIZE of the server, 16384 to 65536; 16384 where none is given'
 complete -c h2_bench -n '__fish_seen_subcommand_from check' -l book -r -d 'A TOML file of answers, which come before those of the command line'
+complete -c h2_bench -n '__fish_seen_subcommand_from check' -l bless -d 'Writes the file anew, with what is sent and what is an error in place of the lines ;< and ;!'
+complete -c h2_bench -n '__fish_seen_subcommand_from check' -l in-place -d 'With --bless: into the files, instead of to standard output'
 complete -c h2_bench -n '__fish_seen_subcommand_from check' -l quiet -d 'Writes nothing to standard error where something is refused'

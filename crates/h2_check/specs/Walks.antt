@@ -1,5 +1,5 @@
 -- A walk over the lines of a case: how far it has come, and what it has found.
-use Rattle.std.specs.Prelude.{◌≡◌, ℕ, ◌+◌, ◌≤◌, Bool, true, false, ◌&&◌, ◌||◌, not, List, [], length, drop, if◌then◌else◌, Option}
+use Rattle.std.specs.Prelude.{◌≡◌, ℕ, ◌+◌, ◌++◌, ◌≤◌, Bool, true, false, ◌&&◌, ◌||◌, not, List, [], codes, length, drop, if◌then◌else◌, Option}
 use Rattle.h2_conn.specs.Connection.{Connection, going}
 use Rattle.h2_spec.specs.Parse.{parse_all}
 use Rattle.h2_spec.specs.Trace.{next_event}
