@@ -1,12 +1,9 @@
 pub mod AnswerTexts
 pub mod Assembled
-pub mod Blesses
 pub mod Explained
 pub mod Inputs
-pub mod Judging
 pub mod Places
 pub mod Played
 pub mod RefusedWords
 pub mod Tables
-pub mod Verdicts
 pub mod Written

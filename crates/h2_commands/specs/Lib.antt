@@ -1,7 +1,6 @@
 pub mod AnswerParts
 pub mod BlessProgram
 pub mod Books
-pub mod CheckProgram
 pub mod CommandEnd
 pub mod Commands
 pub mod Each

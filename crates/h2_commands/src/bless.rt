@@ -1,10 +1,8 @@
 //! `check --bless`: files of cases are written anew, to the output or in place.
 //! Rests on h2_check, `own` and h2_book; definitions: `specs/BlessProgram.antt`.
 
-ghost use Rattle.std.specs.Prelude.{◌≡◌, ◌==◌, ◌++◌, false, true, Some, flat_map, map, IfOk, OnOk};
-ghost use Rattle.h2_check.specs.Files.{cases_in};
-ghost use Rattle.h2_commands.specs.BlessProgram.{blessed_by, blessed_case, blessed_file, blessed_lines, not_blessed};
-ghost use Rattle.h2_commands.specs.CheckProgram.{Played, ground, own_at, own_said};
+ghost use Rattle.std.specs.Prelude.{◌≡◌, ◌==◌, false};
+ghost use Rattle.h2_commands.specs.BlessProgram.{not_blessed};
 ghost use Rattle.h2_commands.specs.Each.{not_written};
 
 use crate::batch::print_end;
@@ -12,8 +10,7 @@ use crate::books::explain;
 use crate::each::PlacesFault;
 use crate::fault::BenchFault;
 use crate::input::LIMIT;
-use crate::judge::Common;
-use crate::own::{Case, OwnFault, RefusedWords, own_of, words_line};
+use crate::own::{Case, Common, OwnFault, RefusedWords, own_of, words_line};
 use h2_book::{Files, FilesFault};
 use h2_check::{
     CaseFault, add_lines, bless_case, case_length, have_words, lines_in, preamble_length,
@@ -43,10 +40,7 @@ fn add_with(
     config: Config,
     case: Case<'_, '_>,
     text: &mut Vec<u8>,
-) -> Result<Kept, AllocError>
-    ensures { let own : Played = record { config = config; book = book.now } in
-        OnOk result (text.new.items ≡ text.old.items ++ blessed_by (Some own) (map (λ l. l.now) case.entry.lines.now)) }
-{
+) -> Result<Kept, AllocError> {
     match bless_case(alloc, book, config, case.lines) {
         Ok(blessed) => {
             text.extend_from_slice(blessed.as_slice())?;
@@ -66,12 +60,7 @@ fn add_own<F: Files>(
     files: &mut F,
     case: Case<'_, '_>,
     text: &mut Vec<u8>,
-) -> Result<Kept, AllocError>
-    ensures text { F.is_printed files.old ≡ true → let lines = map (λ l. l.now) case.entry.lines.now in
-        OnOk result (text.new.items ≡ text.old.items ++ blessed_by (own_said (F.file files.old) case.entry.file.now lines) lines) }
-    ensures same_printed { F.is_printed files.new ≡ F.is_printed files.old }
-    ensures same_files { F.file files.new ≡ F.file files.old }
-{
+) -> Result<Kept, AllocError> {
     match own_of(alloc, files, case) {
         Ok(own) => add_with(alloc, &own.book, own.config, case, text),
         Err(OwnFault::Refused(refused)) => match add_lines(case.lines, text) {
@@ -89,12 +78,7 @@ fn add_case<F: Files>(
     files: &mut F,
     case: Case<'_, '_>,
     text: &mut Vec<u8>,
-) -> Result<Kept, AllocError>
-    ensures text { F.is_printed files.old ≡ true → let lines = map (λ l. l.now) case.entry.lines.now in
-        OnOk result (text.new.items ≡ text.old.items ++ blessed_case (ground (F.file files.old) common.entry.book.now common.entry.config) case.entry.file.now lines) }
-    ensures same_printed { F.is_printed files.new ≡ F.is_printed files.old }
-    ensures same_files { F.file files.new ≡ F.file files.old }
-{
+) -> Result<Kept, AllocError> {
     if have_words(case.lines) {
         add_own(alloc, files, case, text)
     } else {
@@ -132,12 +116,7 @@ fn add_cases<F: Files>(
     lines: &[&[u8]],
     text: &mut Vec<u8>,
     reasons: &mut Words,
-) -> Result<bool, AllocError>
-    ensures text { F.is_printed files.old ≡ true
-        → OnOk result (text.new.items ≡ text.old.items ++ flat_map (blessed_case (ground (F.file files.old) common.entry.book.now common.entry.config) file.now) (cases_in (map (λ l. l.now) lines.now))) }
-    ensures same_printed { F.is_printed files.new ≡ F.is_printed files.old }
-    ensures same_files { F.file files.new ≡ F.file files.old }
-{
+) -> Result<bool, AllocError> {
     let mut all = true;
     let mut first = preamble_length(lines);
     while first < lines.len() {
@@ -146,7 +125,7 @@ fn add_cases<F: Files>(
         let case = Case {
             file,
             lines: &rest[..length],
-            line: first + 1,
+            number: first + 1,
         };
         match add_case(alloc, common, files, case, text) {
             Ok(kept) => all = note(file, &kept, reasons) && all,
@@ -174,12 +153,7 @@ fn add_file_lines<F: Files>(
     lines: &[&[u8]],
     text: &mut Vec<u8>,
     reasons: &mut Words,
-) -> Result<bool, AllocError>
-    ensures text { F.is_printed files.old ≡ true
-        → OnOk result (text.new.items ≡ text.old.items ++ blessed_lines (ground (F.file files.old) common.entry.book.now common.entry.config) file.now (map (λ l. l.now) lines.now)) }
-    ensures same_printed { F.is_printed files.new ≡ F.is_printed files.old }
-    ensures same_files { F.file files.new ≡ F.file files.old }
-{
+) -> Result<bool, AllocError> {
     match add_lines(&lines[..preamble_length(lines)], text) {
         Ok(()) => add_cases(alloc, common, files, file, lines, text, reasons),
         Err(error) => Err(error),
@@ -194,12 +168,7 @@ fn anew<F: Files>(
     file: &str,
     octets: &[u8],
     reasons: &mut Words,
-) -> Result<Anew, AllocError>
-    ensures text { F.is_printed files.old ≡ true
-        → IfOk result (λ new. new.text.items ≡ blessed_file (ground (F.file files.old) common.entry.book.now common.entry.config) file.now octets.now) }
-    ensures same_printed { F.is_printed files.new ≡ F.is_printed files.old }
-    ensures same_files { F.file files.new ≡ F.file files.old }
-{
+) -> Result<Anew, AllocError> {
     let mut text = Vec::new(alloc);
     let lines = match lines_in(alloc, octets) {
         Ok(lines) => lines,
@@ -236,10 +205,7 @@ fn read_cases<F: Files>(
     files: &mut F,
     file: &str,
     reasons: &mut Words,
-) -> Result<Vec<u8>, BenchFault>
-    ensures same_printed { F.is_printed files.new ≡ F.is_printed files.old }
-    ensures same_files { F.file files.new ≡ F.file files.old }
-{
+) -> Result<Vec<u8>, BenchFault> {
     match files.read(alloc, file, LIMIT) {
         Ok(octets) => {
             if str::from_utf8(octets.as_slice()).is_err() {

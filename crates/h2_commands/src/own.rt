@@ -1,19 +1,10 @@
 //! The limits, the settings and the book of a case that has words of its own.
-//! Rests on h2_check, `books` and h2_words; definitions: `specs/CheckProgram.antt`.
-
-ghost use Rattle.std.specs.Prelude.{◌≡◌, [], None, Some, true, is_err, is_some, map, unwrap_or, IfErr, IfOk, OnOk};
-ghost use Rattle.std.specs.Path.{path_buf_bytes, path_bytes, path_parent};
-ghost use Rattle.h2_check.specs.CaseWords.{have_idle, with_case_words};
-ghost use Rattle.h2_words.specs.Grammar.{asked_of, debug};
-ghost use Rattle.h2_words.specs.Plans.{book_asked};
-ghost use Rattle.h2_commands.specs.Books.{book_said};
-ghost use Rattle.h2_commands.specs.CheckProgram.{Refuses, book_path, first_words, own_asked, own_in, own_said, own_with, own_words};
-ghost use Rattle.h2_commands.specs.declared.fault.BenchFault.TheVariants.{NoMemory};
+//! Rests on h2_check, `books` and h2_words.
 
 use crate::books::book_for_words;
 use crate::fault::BenchFault;
 use h2_book::Files;
-use h2_check::{ShellFault, add_case_words, before_words, idle_place, title_of};
+use h2_check::{ShellFault, add_case_words, before_words, idle_place};
 use h2_device::Gathered;
 use h2_request::book::Book;
 use h2_spec::connection::Config;
@@ -29,10 +20,17 @@ pub struct Case<'c, 't> {
     pub file: &'c str,
     pub lines: &'c [&'t [u8]],
     /// The number of its first line, from 1.
-    pub line: usize,
+    pub number: usize,
 }
 
-/// What a case is played with.
+/// The limits, the settings and the book of cases that have no words of their own.
+#[derive(Clone, Copy)]
+pub struct Common<'c> {
+    pub config: Config,
+    pub book: &'c Book<Global>,
+}
+
+/// What a case with words of its own is played with.
 #[derive(Drop)]
 pub struct Own {
     pub config: Config,
@@ -61,9 +59,9 @@ pub enum OwnFault {
 pub fn words_line(case: Case<'_, '_>) -> usize {
     let before = before_words(case.lines);
     if before < case.lines.len() {
-        case.line.saturating_add(before)
+        case.number.saturating_add(before)
     } else {
-        case.line
+        case.number
     }
 }
 
@@ -97,9 +95,7 @@ fn said_in(gathered: &Gathered) -> &str {
 }
 
 /// The directory of a file; empty where its path names none.
-fn directory_of(file: &str) -> Path<'_>
-    ensures { path_bytes result ≡ unwrap_or (path_parent file.now) [] }
-{
+fn directory_of(file: &str) -> Path<'_> {
     match Path::new(file).parent() {
         Some(directory) => directory,
         None => Path::new(""),
@@ -107,9 +103,7 @@ fn directory_of(file: &str) -> Path<'_>
 }
 
 /// The path of the book that a case's words name; empty where they name none.
-fn book_place(alloc: Global, file: &str, book: &str) -> Result<PathBuf, AllocError>
-    ensures { IfOk result (λ place. path_buf_bytes place ≡ book_path file.now book.now) }
-{
+fn book_place(alloc: Global, file: &str, book: &str) -> Result<PathBuf, AllocError> {
     if book.is_empty() {
         return Ok(PathBuf::new(alloc));
     }
@@ -117,9 +111,7 @@ fn book_place(alloc: Global, file: &str, book: &str) -> Result<PathBuf, AllocErr
 }
 
 /// Why a case is not played whose book has a fault, which these words say.
-fn book_refused(alloc: Global, case: Case<'_, '_>, fault: BenchFault, why: &str) -> OwnFault
-    ensures { fault ≡ NoMemory → result ≡ OwnFault.NoMemory }
-{
+fn book_refused(alloc: Global, case: Case<'_, '_>, fault: BenchFault, why: &str) -> OwnFault {
     match fault {
         BenchFault::NoMemory => OwnFault::NoMemory,
         BenchFault::BadEntry(_)
@@ -140,14 +132,7 @@ fn own_book<F: Files>(
     case: Case<'_, '_>,
     config: Config,
     words: &BookWords<'_>,
-) -> Result<Own, OwnFault>
-    ensures ok { F.is_printed files.old ≡ true
-        → IfOk result (λ own. own_with (book_said (F.file files.old) (book_asked words.now)) config ≡ Some (own_in own)) }
-    ensures err { F.is_printed files.old ≡ true
-        → IfErr result (Refuses (own_with (book_said (F.file files.old) (book_asked words.now)) config)) }
-    ensures same_printed { F.is_printed files.new ≡ F.is_printed files.old }
-    ensures same_files { F.file files.new ≡ F.file files.old }
-{
+) -> Result<Own, OwnFault> {
     let mut why = Gathered::new(alloc);
     match book_for_words(alloc, words, files, &mut why) {
         Ok(book) => Ok(Own { config, book }),
@@ -161,14 +146,7 @@ fn own_plan<F: Files>(
     files: &mut F,
     case: Case<'_, '_>,
     plan: Debug<'_>,
-) -> Result<Own, OwnFault>
-    ensures ok { F.is_printed files.old ≡ true
-        → IfOk result (λ own. own_asked (F.file files.old) case.entry.file.now (Some (debug plan.entry.config (book_asked plan.entry.book))) ≡ Some (own_in own)) }
-    ensures err { F.is_printed files.old ≡ true
-        → IfErr result (Refuses (own_asked (F.file files.old) case.entry.file.now (Some (debug plan.entry.config (book_asked plan.entry.book))))) }
-    ensures same_printed { F.is_printed files.new ≡ F.is_printed files.old }
-    ensures same_files { F.file files.new ≡ F.file files.old }
-{
+) -> Result<Own, OwnFault> {
     match book_place(alloc, case.file, plan.book.file) {
         Ok(place) => {
             let book = BookWords {
@@ -188,14 +166,7 @@ fn own_parsed<F: Files>(
     files: &mut F,
     case: Case<'_, '_>,
     words: &Words,
-) -> Result<Own, OwnFault>
-    ensures ok { F.is_printed files.old ≡ true
-        → IfOk result (λ own. own_asked (F.file files.old) case.entry.file.now (asked_of words.now) ≡ Some (own_in own)) }
-    ensures err { F.is_printed files.old ≡ true
-        → IfErr result (Refuses (own_asked (F.file files.old) case.entry.file.now (asked_of words.now))) }
-    ensures same_printed { F.is_printed files.new ≡ F.is_printed files.old }
-    ensures same_files { F.file files.new ≡ F.file files.old }
-{
+) -> Result<Own, OwnFault> {
     match parse(alloc, words) {
         Ok(Plan::Debug(plan)) => own_plan(alloc, files, case, plan),
         Ok(Plan::Batch(_)) | Ok(Plan::Serve(_)) | Ok(Plan::Explain(_)) | Ok(Plan::Check(_)) => Err(
@@ -207,23 +178,13 @@ fn own_parsed<F: Files>(
 }
 
 /// Puts the words that are before those of a case: the program's name, and a command that plays one connection.
-fn add_first_words(words: &mut Words) -> Result<(), AllocError>
-    requires { words.old ≡ [] }
-    ensures { OnOk result (words.new ≡ first_words) }
-{
+fn add_first_words(words: &mut Words) -> Result<(), AllocError> {
     words.add("h2_bench")?;
     words.add("debug")
 }
 
 /// The limits, the settings and the book that the lines of a case say, none of whose words is idle.
-fn own_worded<F: Files>(alloc: Global, files: &mut F, case: Case<'_, '_>) -> Result<Own, OwnFault>
-    ensures ok { F.is_printed files.old ≡ true
-        → IfOk result (λ own. own_words (F.file files.old) case.entry.file.now (with_case_words first_words (map (λ l. l.now) case.entry.lines.now)) ≡ Some (own_in own)) }
-    ensures err { F.is_printed files.old ≡ true
-        → IfErr result (Refuses (own_words (F.file files.old) case.entry.file.now (with_case_words first_words (map (λ l. l.now) case.entry.lines.now)))) }
-    ensures same_printed { F.is_printed files.new ≡ F.is_printed files.old }
-    ensures same_files { F.file files.new ≡ F.file files.old }
-{
+fn own_worded<F: Files>(alloc: Global, files: &mut F, case: Case<'_, '_>) -> Result<Own, OwnFault> {
     let mut words = Words::new(alloc);
     match add_first_words(&mut words) {
         Ok(()) => {}
@@ -242,18 +203,11 @@ fn own_worded<F: Files>(alloc: Global, files: &mut F, case: Case<'_, '_>) -> Res
 ///
 /// `Refused` where a word has no effect in a case, where the words are none of a command, or where its book is refused;
 /// `NoMemory` may come before.
-pub fn own_of<F: Files>(alloc: Global, files: &mut F, case: Case<'_, '_>) -> Result<Own, OwnFault>
-    ensures ok { F.is_printed files.old ≡ true
-        → IfOk result (λ own. own_said (F.file files.old) case.entry.file.now (map (λ l. l.now) case.entry.lines.now) ≡ Some (own_in own)) }
-    ensures err { F.is_printed files.old ≡ true
-        → IfErr result (Refuses (own_said (F.file files.old) case.entry.file.now (map (λ l. l.now) case.entry.lines.now))) }
-    ensures same_printed { F.is_printed files.new ≡ F.is_printed files.old }
-    ensures same_files { F.file files.new ≡ F.file files.old }
-{
+pub fn own_of<F: Files>(alloc: Global, files: &mut F, case: Case<'_, '_>) -> Result<Own, OwnFault> {
     match idle_place(alloc, case.lines) {
         Ok(None) => own_worded(alloc, files, case),
         Ok(Some(place)) => {
-            let line = case.line.saturating_add(place);
+            let line = case.number.saturating_add(place);
             let why = "--in, --raw, --prompt and --quiet have no effect in a case";
             Err(refused_at(alloc, line, why))
         }

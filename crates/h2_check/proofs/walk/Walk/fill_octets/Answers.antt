@@ -1,7 +1,7 @@
 use Rattle.std.proofs.Common.{◌∙◌, sym}
 use Rattle.std.proofs.lemmas.Result.{on_ok_weaker}
 use Rattle.h2_check.proofs.Blessing.{filled_told}
-use Rattle.h2_check.proofs.bless.Walk.fill_octets.Goals as goal
+use Rattle.h2_check.proofs.walk.Walk.fill_octets.Goals as goal
 
 pub returns-in-Ok-clause-text : goal.returns-in-Ok-clause-text
 returns-in-Ok-clause-text c =

@@ -1,7 +1,7 @@
 use Rattle.std.proofs.Common.{◌∙◌, sym}
 use Rattle.std.proofs.lemmas.Result.{on_ok_weaker}
 use Rattle.h2_check.proofs.Blessing.{let_played}
-use Rattle.h2_check.proofs.bless.Walk.pass_octets.Goals as goal
+use Rattle.h2_check.proofs.walk.Walk.pass_octets.Goals as goal
 
 pub returns-clause-place : goal.returns-clause-place
 returns-clause-place c =

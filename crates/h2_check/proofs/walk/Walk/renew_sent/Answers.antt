@@ -3,7 +3,7 @@ use Rattle.std.proofs.lemmas.Result.{on_ok_weaker}
 use Rattle.h2_check.specs.Blessed.{renewed_sent, renewed_sent_place}
 use Rattle.h2_check.specs.Walks.{Writes, place_of}
 use Rattle.h2_check.proofs.Blessing.{renewed_first, renewed_last}
-use Rattle.h2_check.proofs.bless.Walk.renew_sent.Goals as goal
+use Rattle.h2_check.proofs.walk.Walk.renew_sent.Goals as goal
 
 pub returns-then-more-clause-text : goal.returns-then-more-clause-text
 returns-then-more-clause-text c = λ start seen.
