@@ -42,7 +42,7 @@ pub trait Files {
         ensures same_printed { is_printed self.new ≡ is_printed self.old }
         ensures same_files { file self.new ≡ file self.old };
 
-    /// Puts octets in place of those of the file at a path: all of them, or none.
+    /// Writes octets instead of those of the file at a path: all of them, or none.
     ///
     /// # Errors
     ///

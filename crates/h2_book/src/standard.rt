@@ -77,7 +77,7 @@ fn write_whole<F: Write + OpenFile>(
     file.sync_all()
 }
 
-/// Puts a new file of these octets in place of another; where that fails, the new one is removed.
+/// Replaces a file by a new one of these octets; where that fails, the new one is removed.
 fn put_new<R: rt::Files>(
     runtime: &R,
     path: &str,
@@ -96,7 +96,7 @@ fn put_new<R: rt::Files>(
     written
 }
 
-/// Puts octets in place of those of a file.
+/// Replaces a file by one of these octets.
 fn replace_file<R: rt::Files>(
     runtime: &R,
     alloc: Global,

@@ -127,6 +127,6 @@ pub record Tells (spoke : Bool) (lines : List ℕ) (w w' : Walk) (g g' : Growing
   pub spoken : w'.spoken ≡ length w.seen.sent.items
   pub text : Gains lines g g'
 
--- the walk has come to this place, and this text was written
+-- the walk is at this place, and this text was written
 abbrev pub Writes : List ℕ → Place → Walk → Growing → Growing → Type 0
 Writes text there w g g' = (place_of w ≡ there) × Gains text g g'

@@ -253,7 +253,7 @@ fn blessed_line(alloc: Global, file: &str) -> Result<String, AllocError> {
     format!(in alloc; "blessed {file}\n")
 }
 
-/// Puts a text in place of that of a file, and writes that it was; neither where they are the same.
+/// Replaces the text of a file, and writes that it was; neither where they are the same.
 fn replace<F: Files, O: Output>(
     alloc: Global,
     files: &mut F,
@@ -342,7 +342,7 @@ fn bless_files<F: Files, O: Output>(
     Ok(all)
 }
 
-/// Writes what is left to say of files that were written anew: the line of a fault that ended that. Gives the status: 0
+/// Writes the line of a fault that ended the writing of files, if one did. Gives the status: 0
 /// where each case was, else 1, and after a fault; 3 where the output failed.
 fn print_ended<O: Output>(output: &mut O, ended: Result<bool, PlacesFault>) -> u8
     requires { O.has_failed output.old ≡ not_blessed ended }
