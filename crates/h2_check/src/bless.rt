@@ -360,7 +360,7 @@ impl<'t> Walk<'t> {
         more: bool,
         out: &mut Growing,
     ) -> Result<(), AllocError>
-        ensures same { (self.new.octets ≡ self.old.octets) × ((self.new.at ≡ self.old.at) × (self.new.seen ≡ self.old.seen)) }
+        ensures same { OnOk result ((self.new.octets ≡ self.old.octets) × ((self.new.at ≡ self.old.at) × (self.new.seen ≡ self.old.seen))) }
         ensures text { OnOk result ((start : Start) → seen_by self.old.seen ≡ sight_at start (place_of self.old)
             → Writes (renewed_sent start (place_of self.old) more text.now) (renewed_sent_place start (place_of self.old) more text.now) self.new out.old out.new) }
     {
