@@ -27,7 +27,7 @@ use std::str;
 type Kept = Option<RefusedWords>;
 
 /// Says that a case stays as it is.
-fn kept(alloc: Global, case: Case<'_, '_>, why: &str) -> Result<Kept, AllocError> {
+fn stays_as_it_is(alloc: Global, case: Case<'_, '_>, why: &str) -> Result<Kept, AllocError> {
     let line = words_line(case);
     let why = String::from_str(alloc, why)?;
     Ok(Some(RefusedWords { line, why }))
@@ -48,7 +48,7 @@ fn add_with(
         }
         Err(CaseFault::BadConfig) => {
             add_lines(case.lines, text)?;
-            kept(alloc, case, "a limit or a setting is out of range")
+            stays_as_it_is(alloc, case, "a limit or a setting is out of range")
         }
         Err(CaseFault::NoMemory) => Err(AllocError),
     }
@@ -161,7 +161,7 @@ fn add_file_lines<F: Files>(
 }
 
 /// The text of a file whose lines are written anew. `AllocError` where memory is refused.
-fn anew<F: Files>(
+fn text_anew<F: Files>(
     alloc: Global,
     common: Common<'_>,
     files: &mut F,
@@ -303,7 +303,7 @@ fn bless_file<F: Files, O: Output>(
         Ok(octets) => octets,
         Err(fault) => return Err(PlacesFault::Fault(fault)),
     };
-    let new = match anew(alloc, common, files, file, octets.as_slice(), reasons) {
+    let new = match text_anew(alloc, common, files, file, octets.as_slice(), reasons) {
         Ok(new) => new,
         Err(_) => return Err(PlacesFault::Fault(BenchFault::NoMemory)),
     };
