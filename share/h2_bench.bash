@@ -13,7 +13,7 @@ _h2_bench() {
         debug) words="--streams --credit --table --window --frame --book --why --quiet --in --raw --prompt --help" ;;
         serve) words="--streams --credit --table --window --frame --book --why --quiet --help" ;;
         explain) words="--streams --credit --table --window --frame --json --color --strict --full --book --why --quiet --raw --help" ;;
-        check) words="--streams --credit --table --window --frame --book --quiet --help" ;;
+        check) words="--streams --credit --table --window --frame --book --bless --in-place --quiet --help" ;;
     esac
     if [[ $current == -* ]]; then
         mapfile -t COMPREPLY < <(compgen -W "$words" -- "$current")

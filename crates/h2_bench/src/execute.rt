@@ -12,8 +12,8 @@ ghost use Rattle.h2_commands.specs.Each.{not_written};
 
 use h2_book::{Files, FilesInMemory};
 use h2_commands::{
-    BenchFault, PlacesFault, Tally, book_for_words, check_files, explain_plan, print, print_end,
-    print_fault, respond,
+    BenchFault, PlacesFault, Tally, book_for_words, check_files, explain_plan, print,
+    print_blessed, print_end, print_fault, respond,
 };
 use h2_device::{FromRead, Input, IntoWrite, Output};
 use h2_session::debug_session;
@@ -62,7 +62,7 @@ fn print_checked<O: Output>(output: &mut O, ended: Result<(), PlacesFault>, all_
     }
 }
 
-/// Makes the book of cases that have no words of their own, and checks the cases of the files.
+/// Makes the book of cases that have no words of their own, and checks the cases of the files, or writes them anew.
 fn check<F: Files, O: Output, E: Output>(
     alloc: Global,
     plan: &Check<'_>,
@@ -78,6 +78,9 @@ fn check<F: Files, O: Output, E: Output>(
 {
     match book_for_words(alloc, &plan.book, files, errors) {
         Ok(book) => {
+            if plan.bless {
+                return print_blessed(alloc, plan, &book, files, output, errors);
+            }
             let mut tally = Tally::new();
             let ended = check_files(alloc, plan, &book, files, &mut tally, output);
             print_checked(output, ended, tally.all_hold)

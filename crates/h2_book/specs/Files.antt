@@ -1,4 +1,4 @@
--- What a read of a file reports.
+-- What a read of a file reports, and what a write leaves.
 use Rattle.std.specs.Prelude.{◌≡◌, ℕ, ◌<◌, ◌≤◌, List, [], ◌∷◌, length, bytes_eq, if◌then◌else◌, Option, Some, None, IsSomeAnd, Result, Ok, Err, Vec}
 use Rattle.std.specs.Borrow.{Bor}
 use Rattle.std.specs.declared.alloc.Global.{Global}
@@ -17,3 +17,7 @@ Reads most file (Err NoMemory) = IsSomeAnd file (λ octets. length octets ≤ mo
 abbrev pub file_in : List (Bor (List ℕ) × Bor (List ℕ)) → List ℕ → Option (List ℕ)
 file_in [] path = None
 file_in (f ∷ fs) path = if bytes_eq f.0.now path then Some f.1.now else file_in fs path
+
+-- what is at each path after octets were written to one of them
+abbrev pub Replaces : (List ℕ → Option (List ℕ)) → List ℕ → List ℕ → (List ℕ → Option (List ℕ)) → Type 0
+Replaces files path octets files' = (p : List ℕ) → files' p ≡ (if bytes_eq p path then Some octets else files p)

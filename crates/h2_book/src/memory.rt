@@ -45,4 +45,9 @@ impl Files for FilesInMemory<'_> {
             Err(_) => Err(FilesFault::NoMemory),
         }
     }
+
+    /// They are lent, and so they are not written.
+    fn replace(&mut self, _alloc: Global, _path: &str, _octets: &[u8]) -> Result<(), FilesFault> {
+        Err(FilesFault::Failed)
+    }
 }

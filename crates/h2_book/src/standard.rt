@@ -5,8 +5,9 @@ ghost use Rattle.std.specs.Prelude.{◌≤◌, IfOk, None, false, vec_len};
 
 use crate::files::{Files, FilesFault};
 use std::alloc::Global;
-use std::io::{ErrorKind, Read};
-use std::{fs, rt};
+use std::fs::{OpenFile, OpenOptions, Permissions};
+use std::io::{ErrorKind, Read, Write};
+use std::{fs, io, rt};
 
 /// The system's files, through the runtime that a program is given.
 #[derive_where(Clone, Copy)]
@@ -26,6 +27,15 @@ impl<R: rt::Files> Files for StdFiles<'_, R> {
         }
     }
 
+    /// The octets are written to a new file beside it, which then takes its place, so that the old file is there until the
+    /// new one is whole. A link is followed, and the permissions stay.
+    fn replace(&mut self, alloc: Global, path: &str, octets: &[u8]) -> Result<(), FilesFault> {
+        match replace_file(self.runtime, alloc, path, octets) {
+            Ok(()) => Ok(()),
+            Err(error) => Err(fault_of(error.kind())),
+        }
+    }
+
     /// A directory can be opened, and is no file all the same.
     fn failure(&self, path: &str) -> Option<ErrorKind> {
         match self.runtime.metadata(path) {
@@ -38,6 +48,65 @@ impl<R: rt::Files> Files for StdFiles<'_, R> {
             Err(error) => Some(error.kind()),
         }
     }
+}
+
+/// A fault of the system, as this crate names it.
+fn fault_of(kind: ErrorKind) -> FilesFault {
+    if kind == ErrorKind::OutOfMemory {
+        FilesFault::NoMemory
+    } else {
+        FilesFault::Failed
+    }
+}
+
+/// A new file at a path where there is none.
+fn new_file<R: rt::Files>(runtime: &R, path: &str) -> io::Result<R::File> {
+    let mut how = OpenOptions::new();
+    how.write(true).create_new(true);
+    how.open(runtime, path)
+}
+
+/// Writes all octets to a file, and to the disk.
+fn write_whole<F: Write + OpenFile>(
+    file: &mut F,
+    octets: &[u8],
+    permissions: Permissions,
+) -> io::Result<()> {
+    file.write_all(octets)?;
+    file.set_permissions(permissions)?;
+    file.sync_all()
+}
+
+/// Replaces a file by a new one of these octets; where that fails, the new one is removed.
+fn put_new<R: rt::Files>(
+    runtime: &R,
+    path: &str,
+    beside: &str,
+    octets: &[u8],
+    permissions: Permissions,
+) -> io::Result<()> {
+    let mut file = new_file(runtime, beside)?;
+    let written = match write_whole(&mut file, octets, permissions) {
+        Ok(()) => runtime.rename(beside, path),
+        Err(error) => Err(error),
+    };
+    if written.is_err() {
+        let _ = runtime.remove_file(beside);
+    }
+    written
+}
+
+/// Replaces a file by one of these octets.
+fn replace_file<R: rt::Files>(
+    runtime: &R,
+    alloc: Global,
+    path: &str,
+    octets: &[u8],
+) -> io::Result<()> {
+    let path = runtime.canonicalize(alloc, path)?;
+    let permissions = runtime.metadata(path.as_str())?.permissions();
+    let beside = format!(in alloc; "{}.blessed", path.as_str())?;
+    put_new(runtime, path.as_str(), beside.as_str(), octets, permissions)
 }
 
 /// All that a reader has left, at most `most` octets.

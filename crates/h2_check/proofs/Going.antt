@@ -15,10 +15,10 @@ use Rattle.h2_check.specs.Walks.{Closes, Finds, Goes, Passes, Speaks, Walks, lef
 use Rattle.h2_check.specs.declared.walk.Walk.{Walk}
 
 -- the octets sent are those that a value has
-sent_is : (start : Start) (w : Walk) → seen_by w.seen ≡ sight_at start (place_of w) → w.seen.sent.items ≡ (sight_at start (place_of w)).sent
+pub sent_is : (start : Start) (w : Walk) → seen_by w.seen ≡ sight_at start (place_of w) → w.seen.sent.items ≡ (sight_at start (place_of w)).sent
 sent_is start w e = ap (λ (x : Sight). x.sent) e
 
-left_is : (start : Start) (w : Walk) → seen_by w.seen ≡ sight_at start (place_of w) → left_by w ≡ unspoken start (place_of w)
+pub left_is : (start : Start) (w : Walk) → seen_by w.seen ≡ sight_at start (place_of w) → left_by w ≡ unspoken start (place_of w)
 left_is start w e = ap (λ (t : List ℕ). drop w.spoken t) (sent_is start w e)
 
 -- a walk that has the same octets and has seen the same

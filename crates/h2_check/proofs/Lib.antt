@@ -1,3 +1,4 @@
+pub mod Blessing
 pub mod CaseLists
 pub mod Feeds
 pub mod Gains

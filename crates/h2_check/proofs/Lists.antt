@@ -1,10 +1,17 @@
 -- Tests over texts that are lent, and over the texts themselves.
 use Rattle.std.proofs.Common.{◌≡◌, ◌≤◌, ◌<◌, ◌+◌, ◌||◌, ◌&&◌, ℕ, Bool, true, false, not, cond, ltb, ltb-false, List, [], ◌∷◌, length, map, Option, Some, None, Bor, refl, sym, ap, arith}
 use Rattle.std.specs.List.{list_all, list_any, position_or_len}
+use Rattle.std.specs.String.{string_bytes}
+use Rattle.std.specs.declared.alloc.Global.{Global}
+use Rattle.std.specs.declared.string.String.{String}
 
 pub any_lent : (f : List ℕ → Bool) (xs : List (Bor (List ℕ))) → list_any (λ l. f l.now) xs ≡ list_any f (map (λ l. l.now) xs)
 any_lent f [] = refl
 any_lent f (x ∷ xs) = ap (λ b. f x.now || b) (any_lent f xs)
+
+pub any_text : (f : List ℕ → Bool) (xs : List (String Global)) → list_any (λ w. f (string_bytes w)) xs ≡ list_any f (map string_bytes xs)
+any_text f [] = refl
+any_text f (x ∷ xs) = ap (λ b. f (string_bytes x) || b) (any_text f xs)
 
 pub all_lent : (f : List ℕ → Bool) (xs : List (Bor (List ℕ))) → list_all (λ l. f l.now) xs ≡ list_all f (map (λ l. l.now) xs)
 all_lent f [] = refl

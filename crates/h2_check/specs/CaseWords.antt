@@ -1,9 +1,9 @@
 -- The words of the command line that a case has in its lines.
-use Rattle.std.specs.Prelude.{ℕ, Bool, true, false, List, [], ◌∷◌, Option, Some, None}
+use Rattle.std.specs.Prelude.{ℕ, ◌==◌, ◌||◌, Bool, true, false, List, [], ◌∷◌, codes, Option, Some, None}
 use Rattle.std.specs.List.{list_any}
 use Rattle.std.specs.Option.{option_and_then}
 use Rattle.h2_check.specs.Lines as line
-use Rattle.h2_check.specs.Lines.{Said, line_said}
+use Rattle.h2_check.specs.Lines.{Said, behind, line_said}
 use Rattle.h2_check.specs.Shell.{with_words}
 
 -- whether a line has words of the command line
@@ -21,6 +21,41 @@ says_words (line.Command text) = false
 -- whether lines do
 abbrev pub have_words : List (List ℕ) → Bool
 have_words lines = list_any (λ l. says_words (line_said l)) lines
+
+-- what follows the name of an option
+abbrev pub ends_option : Option (List ℕ) → Bool
+ends_option None = false
+ends_option (Some []) = true
+ends_option (Some (c ∷ cs)) = c == 61
+
+-- a word is this option: alone, or before `=` and a value
+abbrev pub is_option : List ℕ → List ℕ → Bool
+is_option word name = ends_option (behind name word)
+
+-- it has no effect in a case
+abbrev pub is_idle : List ℕ → Bool
+is_idle word = is_option word (codes "--in") || (is_option word (codes "--raw") || (is_option word (codes "--prompt") || is_option word (codes "--quiet")))
+
+-- one of these words has none
+abbrev pub have_idle_word : Option (List (List ℕ)) → Bool
+have_idle_word None = false
+have_idle_word (Some words) = list_any is_idle words
+
+-- whether a line has such a word
+abbrev pub says_idle : Said → Bool
+says_idle (line.Words text) = have_idle_word (with_words [] text)
+says_idle (line.Script text) = false
+says_idle (line.Title text) = false
+says_idle (line.Sent text) = false
+says_idle (line.Shown text) = false
+says_idle (line.Cause text) = false
+says_idle (line.Reason text) = false
+says_idle (line.Explained text) = false
+says_idle (line.Command text) = false
+
+-- whether lines have one
+abbrev pub have_idle : List (List ℕ) → Bool
+have_idle lines = list_any (λ l. says_idle (line_said l)) lines
 
 -- words, and behind them those that a line says, if it says them well
 abbrev pub with_said : List (List ℕ) → Said → Option (List (List ℕ))

@@ -1,3 +1,4 @@
+pub mod Blessed
 pub mod CaseWords
 pub mod Cases
 pub mod Files

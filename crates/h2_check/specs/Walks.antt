@@ -1,13 +1,16 @@
 -- A walk over the lines of a case: how far it has come, and what it has found.
-use Rattle.std.specs.Prelude.{◌≡◌, ℕ, ◌+◌, ◌≤◌, Bool, true, false, ◌&&◌, ◌||◌, not, List, [], length, drop, if◌then◌else◌, Option}
+use Rattle.std.specs.Prelude.{◌≡◌, ℕ, ◌+◌, ◌++◌, ◌≤◌, Bool, true, false, ◌&&◌, ◌||◌, not, List, [], codes, length, drop, if◌then◌else◌, Option}
 use Rattle.h2_conn.specs.Connection.{Connection, going}
 use Rattle.h2_spec.specs.Parse.{parse_all}
 use Rattle.h2_spec.specs.Trace.{next_event}
+use Rattle.h2_check.specs.Blessed.{held_line, held_text, kept_line}
 use Rattle.h2_check.specs.Cases.{Outcome, Place, Start, Skipped, Holds, Fails, behind, holds, sight_at}
 use Rattle.h2_check.specs.Frames.{frame_length, is_next, is_none, sends, spoken_by}
 use Rattle.h2_check.specs.Lines.{Said}
 use Rattle.h2_check.specs.Seen.{seen_by}
 use Rattle.h2_check.specs.declared.walk.Walk.{Walk}
+use Rattle.h2_check.specs.Tap.{Gains}
+use Rattle.h2_check.specs.declared.growing.Growing.{Growing}
 use Rattle.h2_check.specs.declared.verdict.Verdict.{Verdict}
 use Rattle.h2_check.specs.declared.verdict.Verdict.TheVariants as verdict
 
@@ -77,3 +80,53 @@ abbrev pub outcome_by : Verdict → Outcome
 outcome_by verdict.Skipped = Skipped
 outcome_by verdict.Holds = Holds
 outcome_by (verdict.Fails wrongs) = Fails
+
+-- ---- a walk that writes a case anew
+
+-- more octets come: nothing is compared
+pub record Lets (w w' : Walk) : Type 0 where
+  pub octets : w'.octets ≡ w.octets
+  pub at : w'.at ≡ w.at
+  pub seen : w'.seen ≡ w.seen
+  pub speaks : w'.speaks ≡ false
+  pub spoken : w'.spoken ≡ (if not w.speaks && is_none w.octets.items then length w.seen.sent.items else w.spoken)
+
+-- a line that says that a frame is sent stays, where it is the next one; its line is this
+pub record KeepsFrame (line : List ℕ) (wanted : Option (List ℕ)) (w w' : Walk) (g g' : Growing) : Type 0 where
+  pub octets : w'.octets ≡ w.octets
+  pub at : w'.at ≡ w.at
+  pub seen : w'.seen ≡ w.seen
+  pub speaks : w'.speaks ≡ (if is_next wanted (left_by w) then true else w.speaks)
+  pub spoken : w'.spoken ≡ (if is_next wanted (left_by w) then w.spoken + frame_length wanted else w.spoken)
+  pub text : Gains (if is_next wanted (left_by w) then held_line line wanted else []) g g'
+
+-- a line that says that no frame is left stays, where none is
+pub record KeepsNone (line : List ℕ) (w w' : Walk) (g g' : Growing) : Type 0 where
+  pub octets : w'.octets ≡ w.octets
+  pub at : w'.at ≡ w.at
+  pub seen : w'.seen ≡ w.seen
+  pub speaks : w'.speaks ≡ (if is_none (left_by w) then true else w.speaks)
+  pub spoken : w'.spoken ≡ w.spoken
+  pub text : Gains (if is_none (left_by w) then codes ";< " ++ kept_line line else []) g g'
+
+-- a line that says what is sent stays, where it holds
+pub record Keeps (line : List ℕ) (w w' : Walk) (g g' : Growing) : Type 0 where
+  pub octets : w'.octets ≡ w.octets
+  pub at : w'.at ≡ w.at
+  pub seen : w'.seen ≡ w.seen
+  pub speaks : w'.speaks ≡ (if sends line (left_by w) then true else w.speaks)
+  pub spoken : w'.spoken ≡ (if sends line (left_by w) then spoken_by line (length w.seen.sent.items) w.spoken else w.spoken)
+  pub text : Gains (held_text line (left_by w)) g g'
+
+-- all that was sent is spoken of, and this text was written
+pub record Tells (spoke : Bool) (lines : List ℕ) (w w' : Walk) (g g' : Growing) : Type 0 where
+  pub octets : w'.octets ≡ w.octets
+  pub at : w'.at ≡ w.at
+  pub seen : w'.seen ≡ w.seen
+  pub speaks : w'.speaks ≡ spoke
+  pub spoken : w'.spoken ≡ length w.seen.sent.items
+  pub text : Gains lines g g'
+
+-- the walk is at this place, and this text was written
+abbrev pub Writes : List ℕ → Place → Walk → Growing → Growing → Type 0
+Writes text there w g g' = (place_of w ≡ there) × Gains text g g'

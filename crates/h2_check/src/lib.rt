@@ -3,6 +3,7 @@
 //! Definitions: `specs/Lines.antt` (what a line says), `specs/Cases.antt` (what a case is, and when its lines hold).
 #![tactic(auto)]
 
+mod bless;
 mod case_words;
 mod cases;
 mod growing;
@@ -14,7 +15,8 @@ mod tap;
 mod verdict;
 mod walk;
 
-pub use case_words::{add_case_words, before_words, have_words};
+pub use bless::{add_lines, bless_case};
+pub use case_words::{add_case_words, before_words, have_words, idle_place};
 pub use cases::{case_length, lines_in, preamble_length, title_of};
 pub use line::{Line, line_of};
 pub use shell::ShellFault;

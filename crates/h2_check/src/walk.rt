@@ -31,14 +31,14 @@ use std::str;
 /// How far the lines of a case have come.
 pub(crate) struct Walk<'t> {
     /// The octets of the lines of the script.
-    octets: Vec<u8>,
+    pub octets: Vec<u8>,
     /// How many of them were taken as items.
-    at: usize,
-    seen: Seen,
+    pub at: usize,
+    pub seen: Seen,
     /// How many of the octets sent lines have spoken of.
-    spoken: usize,
+    pub spoken: usize,
     /// Whether a line has spoken of them since the last octets, and the number of that line.
-    speaks: bool,
+    pub speaks: bool,
     speaker: usize,
     /// Whether all lines hold.
     holds: bool,
@@ -77,7 +77,7 @@ fn kind_words(kind: SyntaxKind) -> &'static str {
 }
 
 /// The name of a cause, a dash for none.
-fn cause_name(cause: Option<Cause>) -> &'static str
+pub(crate) fn cause_name(cause: Option<Cause>) -> &'static str
     ensures { result.now ≡ cause_text cause }
 {
     match cause {
@@ -223,7 +223,7 @@ impl<'t> Walk<'t> {
     }
 
     /// The octets that were sent and that no line has spoken of.
-    fn unspoken(&self) -> &[u8]
+    pub(crate) fn unspoken(&self) -> &[u8]
         ensures { result.now ≡ drop self.now.spoken self.now.seen.sent.items }
     {
         left_from(self.seen.sent.as_slice(), self.spoken)
@@ -264,7 +264,11 @@ impl<'t> Walk<'t> {
     }
 
     /// More octets of the client: the items that they complete are taken.
-    fn feed(&mut self, conn: &mut Conn<'_, Global>, more: &[u8]) -> Result<(), AllocError>
+    pub(crate) fn feed(
+        &mut self,
+        conn: &mut Conn<'_, Global>,
+        more: &[u8],
+    ) -> Result<(), AllocError>
         requires ready { conn.old ≡ going conn.old.state [] }
         requires within { self.old.at ≤ length self.old.octets.items }
         ensures ready { conn.new ≡ going conn.new.state [] }

@@ -13,7 +13,7 @@ use Rattle.h2_commands.specs.CommandEnd.{KnowsFile}
 use Rattle.h2_commands.specs.Faults.{fault_number}
 use Rattle.h2_request.specs.declared.fault.EntryFault.TheVariants.{BadStatus, BadField, BodyNotAllowed, TooLong}
 use Rattle.h2_commands.specs.declared.fault.BenchFault.{BenchFault}
-use Rattle.h2_commands.specs.declared.fault.BenchFault.TheVariants.{NoMemory, BadEntry, BadConfig, Read, BadHex, BadAnswer, BadCommand, Socket}
+use Rattle.h2_commands.specs.declared.fault.BenchFault.TheVariants.{NoMemory, BadEntry, BadConfig, Read, Write, BadHex, BadAnswer, BadCommand, Socket}
 
 -- a word that is refused is refused with the fault of the commands
 told-number : (fault : AnswerFault) → fault_number (fault_told fault) ≡ answers.fault_number fault
@@ -64,6 +64,7 @@ memory-or-number (BadEntry BodyNotAllowed) = inr (lit< tt)
 memory-or-number (BadEntry TooLong) = inr (lit< tt)
 memory-or-number BadConfig = inr (lit< tt)
 memory-or-number Read = inr (lit< tt)
+memory-or-number Write = inr (lit< tt)
 memory-or-number BadHex = inr (lit< tt)
 memory-or-number BadAnswer = inr (lit< tt)
 memory-or-number BadCommand = inr (lit< tt)

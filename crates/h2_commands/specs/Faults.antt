@@ -3,13 +3,14 @@ use Rattle.std.specs.Prelude.{ℕ, Bool, true, false, List, [], ◌∷◌, codes
 use Rattle.h2_spec.specs.Show.{joined}
 use Rattle.h2_request.specs.Fault.{entry_number}
 use Rattle.h2_commands.specs.declared.fault.BenchFault.{BenchFault}
-use Rattle.h2_commands.specs.declared.fault.BenchFault.TheVariants.{NoMemory, BadEntry, BadConfig, Read, BadHex, BadAnswer, BadCommand, Socket}
+use Rattle.h2_commands.specs.declared.fault.BenchFault.TheVariants.{NoMemory, BadEntry, BadConfig, Read, Write, BadHex, BadAnswer, BadCommand, Socket}
 
 abbrev pub fault_number : BenchFault → ℕ
 fault_number NoMemory = 0
 fault_number (BadEntry fault) = entry_number fault
 fault_number BadConfig = 16
 fault_number Read = 22
+fault_number Write = 23
 fault_number BadHex = 25
 fault_number BadAnswer = 26
 fault_number BadCommand = 27

@@ -1,4 +1,6 @@
 pub mod Answers
+pub mod AnswerParts
+pub mod BlessProgram
 pub mod Books
 pub mod CommandEnd
 pub mod Commands

@@ -100,7 +100,7 @@ fn add_file<F: Files>(
 }
 
 /// Writes a text where it is there and asked for. What can't be written is left out.
-fn explain<E: Output>(errors: &mut E, why: bool, text: Result<String, AllocError>)
+pub(crate) fn explain<E: Output>(errors: &mut E, why: bool, text: Result<String, AllocError>)
     ensures quiet { why ≡ false → errors.new ≡ errors.old }
     ensures name { E.name errors.new ≡ E.name errors.old }
 {

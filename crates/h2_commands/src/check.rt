@@ -1,25 +1,22 @@
 //! The program `check`: the cases of files, each on a connection of its own, and the verdicts on them.
-//! Rests on h2_check, `books` and h2_book; definitions: those of h2_check, specs/Files.antt and specs/Cases.antt.
+//! Rests on h2_check, `own` and h2_book; definitions: those of h2_check, specs/Files.antt and specs/Cases.antt.
 
 ghost use Rattle.std.specs.Prelude.{◌≡◌, ◌≤◌, ◌<◌, [], false, true, length, is_err};
 ghost use Rattle.h2_commands.specs.Each.{not_written};
 
-use crate::books::book_for_words;
 use crate::each::PlacesFault;
 use crate::fault::BenchFault;
 use crate::input::LIMIT;
+use crate::own::{Case, Common, OwnFault, own_of, words_line};
 use h2_book::{Files, FilesFault};
 use h2_check::{
-    CaseFault, ShellFault, Title, Verdict, Wrong, add_case_words, before_words, case_length,
-    check_case, have_words, lines_in, plan_line, preamble_length, title_of, verdict_text,
+    CaseFault, Title, Verdict, Wrong, case_length, check_case, have_words, lines_in, plan_line,
+    preamble_length, title_of, verdict_text,
 };
-use h2_device::{Gathered, Output};
+use h2_device::Output;
 use h2_request::book::Book;
-use h2_spec::connection::Config;
-use h2_words::Words;
-use h2_words::command::{BookWords, Check, Debug, Plan, Refusal, parse};
-use std::alloc::{AllocError, Global};
-use std::path::{Path, PathBuf};
+use h2_words::command::Check;
+use std::alloc::Global;
 use std::str;
 
 /// How many cases have a verdict, and whether none failed.
@@ -39,22 +36,6 @@ impl Tally {
             all_hold: true,
         }
     }
-}
-
-/// The limits, the settings and the book of cases that have no words of their own.
-#[derive(Clone, Copy)]
-struct Common<'c> {
-    config: Config,
-    book: &'c Book<Global>,
-}
-
-/// A case of a file.
-#[derive(Clone, Copy)]
-struct Case<'c, 't> {
-    file: &'c str,
-    lines: &'c [&'t [u8]],
-    /// The number of its first line, from 1.
-    number: usize,
 }
 
 /// What a case is called.
@@ -171,43 +152,11 @@ fn check_on<O: Output>(
 {
     match check_case(alloc, common.book, common.config, case.lines, case.number) {
         Ok(verdict) => report(alloc, title(case), &verdict, tally, output),
-        Err(CaseFault::BadConfig) => refuse_words(
-            alloc,
-            case,
-            "a limit or a setting is out of range",
-            tally,
-            output,
-        ),
+        Err(CaseFault::BadConfig) => {
+            let found = "a limit or a setting is out of range";
+            refuse_words(alloc, case, words_line(case), found, tally, output)
+        }
         Err(CaseFault::NoMemory) => Err(PlacesFault::Fault(BenchFault::NoMemory)),
-    }
-}
-
-/// The number of the first line that has words of the command line, or else of the first line.
-fn words_line(case: Case<'_, '_>) -> usize {
-    if have_words(case.lines) {
-        case.number.saturating_add(before_words(case.lines))
-    } else {
-        case.number
-    }
-}
-
-/// The words that a case stands for: a command with limits, settings, a book and answers.
-fn command_of(alloc: Global, case: Case<'_, '_>, words: &mut Words) -> Result<(), ShellFault> {
-    match words.add("h2_bench") {
-        Ok(()) => {}
-        Err(_) => return Err(ShellFault::NoMemory),
-    }
-    match words.add("debug") {
-        Ok(()) => add_case_words(alloc, case.lines, words),
-        Err(_) => Err(ShellFault::NoMemory),
-    }
-}
-
-/// The first line of a text.
-fn first_line(text: &str) -> &str {
-    match text.split_once('\n') {
-        Some((line, _)) => line,
-        None => text,
     }
 }
 
@@ -223,11 +172,20 @@ fn check_worded<F: Files, O: Output>(
     ensures flag { O.has_failed output.new ≡ not_written result }
     ensures name { O.name output.new ≡ O.name output.old }
 {
-    let mut words = Words::new(alloc);
-    match command_of(alloc, case, &mut words) {
-        Ok(()) => check_words(alloc, files, case, &words, tally, output),
-        Err(ShellFault::NoMemory) => Err(PlacesFault::Fault(BenchFault::NoMemory)),
-        Err(ShellFault::Open) => refuse_words(alloc, case, "a quote is not closed", tally, output),
+    match own_of(alloc, files, case) {
+        Ok(own) => {
+            let config = own.config;
+            let common = Common {
+                config,
+                book: &own.book,
+            };
+            check_on(alloc, common, case, tally, output)
+        }
+        Err(OwnFault::NoMemory) => Err(PlacesFault::Fault(BenchFault::NoMemory)),
+        Err(OwnFault::Refused(refused)) => {
+            let found = refused.why.as_str();
+            refuse_words(alloc, case, refused.line, found, tally, output)
+        }
     }
 }
 
@@ -235,6 +193,7 @@ fn check_worded<F: Files, O: Output>(
 fn refuse_words<O: Output>(
     alloc: Global,
     case: Case<'_, '_>,
+    line: usize,
     found: &str,
     tally: &mut Tally,
     output: &mut O,
@@ -244,96 +203,7 @@ fn refuse_words<O: Output>(
     ensures name { O.name output.new ≡ O.name output.old }
 {
     let wanted = "words of a command line";
-    report_words(
-        alloc,
-        title(case),
-        words_line(case),
-        wanted,
-        found,
-        tally,
-        output,
-    )
-}
-
-/// Checks a case whose command has these words.
-fn check_words<F: Files, O: Output>(
-    alloc: Global,
-    files: &mut F,
-    case: Case<'_, '_>,
-    words: &Words,
-    tally: &mut Tally,
-    output: &mut O,
-) -> Result<(), PlacesFault>
-    requires writer { O.has_failed output.old ≡ false }
-    ensures flag { O.has_failed output.new ≡ not_written result }
-    ensures name { O.name output.new ≡ O.name output.old }
-{
-    match parse(alloc, words) {
-        Ok(Plan::Debug(plan)) => check_plan(alloc, files, case, plan, tally, output),
-        Ok(_) => refuse_words(alloc, case, "other words", tally, output),
-        Err(Refusal::Words(text)) => {
-            refuse_words(alloc, case, first_line(text.as_str()), tally, output)
-        }
-        Err(Refusal::NoMemory) => Err(PlacesFault::Fault(BenchFault::NoMemory)),
-    }
-}
-
-/// The place of a case's book: where its path is relative, it starts from the directory of the case's file.
-fn book_place(alloc: Global, case: Case<'_, '_>, book: &str) -> Result<PathBuf, AllocError> {
-    match Path::new(case.file).parent() {
-        Some(directory) => directory.join(alloc, book),
-        None => Path::new("").join(alloc, book),
-    }
-}
-
-/// The path of a case's book at this place; empty where there is none.
-fn path_of<'p>(book: &str, place: &'p PathBuf) -> &'p str {
-    if book.is_empty() { "" } else { place.as_str() }
-}
-
-/// Checks a case that has this plan.
-fn check_plan<F: Files, O: Output>(
-    alloc: Global,
-    files: &mut F,
-    case: Case<'_, '_>,
-    plan: Debug<'_>,
-    tally: &mut Tally,
-    output: &mut O,
-) -> Result<(), PlacesFault>
-    requires writer { O.has_failed output.old ≡ false }
-    ensures flag { O.has_failed output.new ≡ not_written result }
-    ensures name { O.name output.new ≡ O.name output.old }
-{
-    let place = match book_place(alloc, case, plan.book.file) {
-        Ok(place) => place,
-        Err(_) => return Err(PlacesFault::Fault(BenchFault::NoMemory)),
-    };
-    let book = BookWords {
-        file: path_of(plan.book.file, &place),
-        why: true,
-        answers: plan.book.answers,
-    };
-    let mut why = Gathered::new(alloc);
-    match book_for_words(alloc, &book, files, &mut why) {
-        Ok(book) => {
-            let config = plan.config;
-            let common = Common {
-                config,
-                book: &book,
-            };
-            check_on(alloc, common, case, tally, output)
-        }
-        Err(BenchFault::NoMemory) => Err(PlacesFault::Fault(BenchFault::NoMemory)),
-        Err(_) => refuse_words(alloc, case, said_in(&why), tally, output),
-    }
-}
-
-/// The first line that was written.
-fn said_in(gathered: &Gathered) -> &str {
-    match str::from_utf8(gathered.octets.as_slice()) {
-        Ok(text) => first_line(text),
-        Err(_) => "an answer is refused",
-    }
+    report_words(alloc, title(case), line, wanted, found, tally, output)
 }
 
 /// Checks a case: with its own words where it has some, else with those of the command.

@@ -26,6 +26,9 @@ pub enum BenchFault {
     /// A read of the input failed, an interruption too, or the input has more than 16,777,216 octets.
     #[error("the input can't be read")]
     Read,
+    /// A file can't be written; it is as it was.
+    #[error("the file can't be written")]
+    Write,
     /// The input is no hex text.
     #[error("the input is no hex text")]
     BadHex,
@@ -50,6 +53,7 @@ impl BenchFault {
             BenchFault::BadEntry(fault) => fault.number(),
             BenchFault::BadConfig => 16,
             BenchFault::Read => 22,
+            BenchFault::Write => 23,
             BenchFault::BadHex => 25,
             BenchFault::BadAnswer => 26,
             BenchFault::BadCommand => 27,
@@ -66,6 +70,7 @@ impl BenchFault {
             BenchFault::BadEntry(fault) => entry_line(fault),
             BenchFault::BadConfig => "fault 16\n",
             BenchFault::Read => "fault 22\n",
+            BenchFault::Write => "fault 23\n",
             BenchFault::BadHex => "fault 25\n",
             BenchFault::BadAnswer => "fault 26\n",
             BenchFault::BadCommand => "fault 27\n",

@@ -10,7 +10,7 @@ use h2_console::{
     one_line,
 };
 use h2_reasons::Source;
-use h2_words::command::{Batch, Devices, Refusal};
+use h2_words::command::{Batch, Check, Devices, Refusal};
 use std::alloc::AllocError;
 use std::cell::Cell;
 use std::io::{ErrorKind, Stderr, Stdin, Stdout};
@@ -55,8 +55,27 @@ pub fn is_session(asked: &Result<Plan<'_>, Refusal>) -> bool {
     }
 }
 
-/// Why the words of a session's devices are refused, where they are.
+/// Why words of `check` are refused that don't go together, where they don't.
+fn refusal_of_check(check: &Check<'_>) -> Option<&'static str> {
+    if check.in_place && !check.bless {
+        return Some("error: --in-place needs --bless\n");
+    }
+    if check.in_place && check.files.iter().any(|file| *file == STANDARD_INPUT) {
+        return Some("error: --in-place needs files: standard input can't be written anew\n");
+    }
+    if check.bless && !check.in_place && check.files.len() > 1 {
+        return Some(
+            "error: --bless writes one file to standard output; --in-place writes each where it is\n",
+        );
+    }
+    None
+}
+
+/// Why words that don't go together are refused, where they don't.
 fn refusal_of(asked: &Result<Plan<'_>, Refusal>, devices: Devices<'_>) -> Option<&'static str> {
+    if let Ok(Plan::Check(check)) = asked {
+        return refusal_of_check(check);
+    }
     if !is_session(asked) {
         return None;
     }

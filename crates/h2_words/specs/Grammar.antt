@@ -139,8 +139,15 @@ explain_app = with_rule (with_rule (with_book (with_rule (with_rule (with_rule (
 abbrev pub files_rule : Rule
 files_rule = record (new_rule (codes "FILE")) { required = true; action = Some Append }
 
+-- whether cases are written anew, and whether into their files
+abbrev pub bless_rule : Rule
+bless_rule = record (new_rule (codes "bless")) { long = Some (codes "bless"); action = Some SetTrue }
+
+abbrev pub in_place_rule : Rule
+in_place_rule = record (new_rule (codes "in-place")) { long = Some (codes "in-place"); action = Some SetTrue }
+
 abbrev pub check_app : App
-check_app = with_rule (with_rule (with_rule (with_limits (new_app (codes "check"))) book_rule) quiet_rule) files_rule
+check_app = with_rule (with_rule (with_rule (with_rule (with_rule (with_limits (new_app (codes "check"))) book_rule) bless_rule) in_place_rule) quiet_rule) files_rule
 
 abbrev pub top_app : App
 top_app = record (new_app (codes "h2_bench")) { top = record (new_app (codes "h2_bench")).top { subcommand_required = true } }
@@ -178,7 +185,7 @@ pub data Asked : Type 0 where
   debug : (config : Config) → (book : BookAsked) → Asked
   serve : (config : Config) → (port : ℕ) → (count : ℕ) → (book : BookAsked) → Asked
   explain : (config : Config) → (view : View) → (file : Text) → (book : BookAsked) → Asked
-  check : (config : Config) → (book : BookAsked) → (files : List Text) → Asked
+  check : (config : Config) → (book : BookAsked) → (bless : Bool) → (in_place : Bool) → (files : List Text) → Asked
 
 -- the number that a text spells in decimal digits, if it is below 2 ^ 32
 abbrev pub number_of : Text → Option ℕ
@@ -258,7 +265,7 @@ asked_by name rows =
     else if bytes_eq name (codes "debug") then Some (debug (config_at rows) (book_at rows))
     else (if bytes_eq name (codes "serve") then Some (serve (config_at rows) (number_at (codes "PORT") 0 rows) (number_at (codes "COUNT") 0 rows) (book_at rows))
     else (if bytes_eq name (codes "explain") then Some (explain (config_at rows) (view_at rows) (file_among (texts_at (codes "ANSWER") rows)) (explain_book_at rows))
-    else (if bytes_eq name (codes "check") then Some (check (config_at rows) (file_book_at rows) (texts_at (codes "FILE") rows)) else None)))
+    else (if bytes_eq name (codes "check") then Some (check (config_at rows) (file_book_at rows) (is_set (codes "bless") rows) (is_set (codes "in-place") rows) (texts_at (codes "FILE") rows)) else None)))
 
 -- ---- what words say of devices
 

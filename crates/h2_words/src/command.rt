@@ -4,7 +4,7 @@
 ghost use Rattle.std.specs.Prelude.{◌≡◌, ◌≤◌, length, IfOk, IfErr, IfSome, bytes_eq, Some, None, codes, map, option_map};
 ghost use Rattle.clap.specs.Words.{App, Rule, found_of, kind_of, new_app, rows_of, subcommand_of, subcommand_rows_of, with_rule, with_subcommand};
 ghost use Rattle.clap.specs.declared.error.ErrorKind.TheVariants.{OutOfMemory};
-ghost use Rattle.h2_words.specs.Grammar.{answer_rule, answers_among, asked_at, asked_by, asked_of, asm_app, bench_app, book_at, book_rule, check_app, color_rule, config_at, count_rule, credit_rule, cut_rule, debug_app, devices_at, devices_found, devices_of, dis_app, each_rule, explain_app, file_among, files_among, files_rule, frame_rule, full_rule, in_rule, is_answer, is_set, json_rule, limit_rule, number_at, path_in, play_app, port_rule, prompt_rule, quiet_rule, raw_rule, serve_app, streams_rule, strict_rule, table_app, table_rule, text_at, texts_at, top_app, why_rule, window_rule, with_book, with_limits, with_octets, with_settings, with_text};
+ghost use Rattle.h2_words.specs.Grammar.{answer_rule, answers_among, asked_at, asked_by, asked_of, asm_app, bench_app, bless_rule, book_at, book_rule, check_app, color_rule, config_at, count_rule, credit_rule, cut_rule, debug_app, devices_at, devices_found, devices_of, dis_app, each_rule, explain_app, file_among, files_among, files_rule, frame_rule, full_rule, in_place_rule, in_rule, is_answer, is_set, json_rule, limit_rule, number_at, path_in, play_app, port_rule, prompt_rule, quiet_rule, raw_rule, serve_app, streams_rule, strict_rule, table_app, table_rule, text_at, texts_at, top_app, why_rule, window_rule, with_book, with_limits, with_octets, with_settings, with_text};
 ghost use Rattle.h2_words.specs.Built.{IsArg, IsCommand, flag_rule, number_rule, option_rule, text_rule};
 ghost use Rattle.h2_words.specs.Plans.{book_asked, devices_asked, planned, Refuses};
 
@@ -80,6 +80,10 @@ pub struct Check<'a> {
     pub config: Config,
     /// The book of these cases.
     pub book: BookWords<'a>,
+    /// Whether the cases are written anew, with what is sent for them.
+    pub bless: bool,
+    /// Whether they are written into their files.
+    pub in_place: bool,
     /// The paths of the files that have the cases.
     pub files: Vec<&'a str>,
 }
@@ -341,6 +345,26 @@ fn prompt_option<'a>(alloc: Global) -> Arg<'a>
     )
 }
 
+fn bless_option<'a>(alloc: Global) -> Arg<'a>
+    ensures { IsArg bless_rule result }
+{
+    flag(
+        alloc,
+        "bless",
+        "Writes the file anew, with what is sent and what is an error in place of the lines ;< and ;!",
+    )
+}
+
+fn in_place_option<'a>(alloc: Global) -> Arg<'a>
+    ensures { IsArg in_place_rule result }
+{
+    flag(
+        alloc,
+        "in-place",
+        "With --bless: into the files, instead of to standard output",
+    )
+}
+
 fn answer_words<'a>(alloc: Global) -> Arg<'a>
     ensures { IsArg answer_rule result }
 {
@@ -561,6 +585,8 @@ fn check_command<'a>(alloc: Global) -> Result<Command<'a>, AllocError>
     let about = "Plays the cases of files, and says of each whether what it expects holds";
     let command = with_limits(alloc, Ok(described(alloc, "check", about)));
     let command = with_arg(command, book_option(alloc));
+    let command = with_arg(command, bless_option(alloc));
+    let command = with_arg(command, in_place_option(alloc));
     let command = with_arg(command, quiet_option(alloc));
     with_arg(command, case_files(alloc))
 }
@@ -775,6 +801,8 @@ fn check_from<'a>(alloc: Global, matches: &ArgMatches<'a>) -> Result<Check<'a>, 
             why: !is_set(matches, "quiet"),
             answers,
         },
+        bless: is_set(matches, "bless"),
+        in_place: is_set(matches, "in-place"),
         files,
     })
 }

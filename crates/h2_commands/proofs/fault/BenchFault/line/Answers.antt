@@ -11,6 +11,10 @@ pub returns-in-Read : goal.returns-in-Read
 unfolding fault_line digits
 returns-in-Read c = rw c.in-Read.is refl
 
+pub returns-in-Write : goal.returns-in-Write
+unfolding fault_line digits
+returns-in-Write c = rw c.in-Write.is refl
+
 pub returns-in-BadHex : goal.returns-in-BadHex
 unfolding fault_line digits
 returns-in-BadHex c = rw c.in-BadHex.is refl
