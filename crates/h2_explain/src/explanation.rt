@@ -379,8 +379,8 @@ impl Explanation {
         ensures name { O.name output.new ≡ O.name output.old }
     {
         if has_ended(conn.counts().phase) {
+            self.late += self.held.len() + piece.len();
             self.held.clear();
-            self.late += piece.len();
             return Ok(());
         }
         if self.held.is_empty() {

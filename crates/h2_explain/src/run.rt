@@ -67,6 +67,7 @@ fn explain_all<O: Output>(
     ensures name { O.name output.new ≡ O.name output.old }
 {
     let mut sent = Vec::new(alloc);
+    let mut recorder = NoRecord;
     match explanation.take_piece(alloc, conn, octets, false, &mut sent, output, &mut NoRecord) {
         Ok(()) => explanation.end(alloc, conn, output),
         Err(fault) => Err(fault),

@@ -1,94 +1,53 @@
-use Rattle.std.proofs.Common.{◌∙◌, ◌+◌, ℕ, List, Result, ap, arith, drop, length, refl, subst, sym}
-use Rattle.std.proofs.lemmas.Result.{IfOk-weaker}
-use Rattle.h2_explain.specs.Explains.{Gains, IsItemText, IsWritten, not_written}
-use Rattle.h2_explain.specs.declared.run.ExplainFault.{ExplainFault}
-use Rattle.h2_explain.specs.Explains.{IsSummary}
-use Rattle.h2_explain.specs.declared.run.Summary.{Summary}
-use Rattle.h2_explain.proofs.Steps.{Begins, begins-cut, begins-next, begins-written, count-next, final-next, gains-both, gains-cut, gains-nothing, item-within, run-end, summary-is, tallies-next, tallies-nothing}
-use Rattle.h2_explain.proofs.run.explain_items.Goals as goal
+use Rattle.std.proofs.Common.{◌≡◌, ◌∙◌, ◌+◌, ℕ, List, ap, arith, drop, length, length-drop, refl, subst, sym}
+use Rattle.std.proofs.lemmas.List.{drop-drop}
+use Rattle.h2_conn.proofs.FeedingLaws.{first-takes}
+use Rattle.h2_conn.proofs.Runs.{leads-refl, leads-stop, leads-takes}
+use Rattle.h2_explain.specs.Explaining.{ExplainsOn}
+use Rattle.h2_explain.proofs.Steps.{item-uses, leads-stopped, on-cut-then, on-next, on-start}
+use Rattle.h2_explain.proofs.explanation.Explanation.take_items.Goals as goal
+
+pub loop-used-init : goal.loop-used-init
+loop-used-init g c = record {
+  within = omega arith;
+  ready = c.requires.ready;
+  writer = c.requires.writer;
+  name = refl;
+  on = on-start c.args.self.now c.args.conn.now.state c.args.octets.now _ c.requires.few.0;
+  held = refl;
+  late = refl;
+  leads = λ e. (0, leads-refl c.args.conn.now.state c.args.octets.now c.args.out.now.items);
+}
+
+pub loop-used-preserved : goal.loop-used-preserved
+loop-used-preserved g c =
+    let octets = c.args.octets.now in
+    let at = c.loop-used.at in
+    let i = c.loop-used.invariant in
+    let y = rw (c.octets_from-rest.ensures, c.in-Ok-Some.field-0-is) at c.in-Ok-Some.ensures.ok in
+    let uses = item-uses _ _ _ _ _ y.item y.explains in
+    let past : drop y.item.taken.used (drop at octets) ≡ drop (at + c.in-Ok-Some.used) octets = ap (λ (u : ℕ). drop u (drop at octets)) (sym y.used_is) ∙ drop-drop c.in-Ok-Some.used at octets in
+    record {
+      within = omega (arith, i.within, uses.1, y.used_is, length-drop at octets);
+      ready = c.take_item.ensures.ready;
+      writer = c.take_item.ensures.flag ∙ ap _ c.in-Ok-Some.is;
+      name = c.take_item.ensures.name ∙ i.name;
+      on = subst (λ (d : List ℕ). ExplainsOn _ _ _ _ _ _ d _) past (on-next _ _ _ _ _ _ _ _ _ _ _ _ i.on y);
+      held = y.held_is ∙ i.held;
+      late = y.late_is ∙ i.late;
+      leads = λ e.
+          let one = i.leads e in
+          let first = rw (c.octets_from-rest.ensures, c.in-Ok-Some.field-0-is) at c.in-Ok-Some.ensures.sent e in
+          (one.0 + 1, leads-takes _ _ _ _ _ _ _ _ _ _ one.1 (rw (← drop-drop c.in-Ok-Some.used at octets) (first-takes _ _ _ _ _ _ first)));
+    }
+
+pub loop-used-smaller : goal.loop-used-smaller
+loop-used-smaller g c =
+    let y = rw (c.octets_from-rest.ensures, c.in-Ok-Some.field-0-is) at c.in-Ok-Some.ensures.ok in
+    let uses = item-uses _ _ _ _ _ y.item y.explains in
+    omega (arith, c.loop-used.invariant.within, uses.0, uses.1, y.used_is, length-drop c.loop-used.at c.args.octets.now)
 
 pub overflow_add-at : goal.overflow_add-at
 overflow_add-at g c =
-    let item = rw (c.octets_from-rest.ensures, c.in-Ok-Some.field-0-is) at c.in-Ok-Some.ensures.ok in
-    let within = item-within c.loop-item.conn.state c.args.octets.now c.loop-item.at _ _ c.take_explained.new.conn c.in-Ok-Some.item c.loop-item.invariant.within item in
-    omega (arith, within.1, item.offset_is, c.requires.few)
-
-pub loop-item-init : goal.loop-item-init
-loop-item-init g c = record {
-  within = omega (arith);
-  new = c.requires.new;
-  counted = omega (arith);
-  writer = c.requires.writer;
-  name = refl;
-  summary = omega (arith);
-  run = refl;
-  gains = gains-nothing c.args.form c.args.conn.now.state c.args.octets.now _;
-  tally = tallies-nothing c.args.conn.now.state c.args.octets.now _ c.new-tally.ensures;
-}
-
-pub returns-in-Err-write_item-clause-gains : goal.returns-in-Err-write_item-clause-gains
-returns-in-Err-write_item-clause-gains g c = λ well.
-    let octets = c.args.octets.now in
-    let failed = subst (λ (r : Result (Unit {0}) ExplainFault). Gains (IsWritten (λ (t : List ℕ). IsItemText c.args.form c.in-Ok-Some.item t) r) (g.O.Output.written c.loop-item.output) (g.O.Output.written c.write_item.new.output)) c.in-Err-write_item.is (c.write_item.ensures.gains well) in
-    gains-both (Begins c.args.form c.args.conn.now.state octets c.loop-item.conn.state (drop c.loop-item.at octets) c.loop-item.items c.loop-item.at) _ _
-    (λ t u begins none. begins-cut c.args.form c.args.conn.now.state c.loop-item.conn.state octets (drop c.loop-item.at octets) c.loop-item.items c.loop-item.at t u begins none)
-    _ _ _ c.loop-item.invariant.gains failed
-
-pub returns-in-Err-clause-gains : goal.returns-in-Err-clause-gains
-returns-in-Err-clause-gains g c = λ well.
-    gains-cut c.args.form c.args.conn.now.state c.loop-item.conn.state c.args.octets.now (drop c.loop-item.at c.args.octets.now) c.loop-item.items c.loop-item.at _ _ c.loop-item.invariant.gains
-
-pub loop-item-smaller : goal.loop-item-smaller
-loop-item-smaller g c =
-    let item = rw (c.octets_from-rest.ensures, c.in-Ok-Some.field-0-is) at c.in-Ok-Some.ensures.ok in
-    let within = item-within c.loop-item.conn.state c.args.octets.now c.loop-item.at _ _ c.take_explained.new.conn c.in-Ok-Some.item c.loop-item.invariant.within item in
-    omega (arith, within.0, within.1, item.offset_is)
-
-pub loop-item-preserved : goal.loop-item-preserved
-loop-item-preserved g c =
-    let item = rw (c.octets_from-rest.ensures, c.in-Ok-Some.field-0-is) at c.in-Ok-Some.ensures.ok in
-    let within = item-within c.loop-item.conn.state c.args.octets.now c.loop-item.at _ _ c.take_explained.new.conn c.in-Ok-Some.item c.loop-item.invariant.within item in
-    let next = count-next c.loop-item.conn.state c.args.octets.now c.loop-item.at _ _ c.take_explained.new.conn c.in-Ok-Some.item item in
-    let well = c.write_item.ensures.flag ∙ ap (λ (r : Result (Unit {0}) ExplainFault). not_written r) c.in-Ok.is in
-    record {
-      within = omega (arith, within.1, item.offset_is);
-      new = item.ready;
-      counted = omega (arith, item.number_is, item.offset_is, within.0, c.loop-item.invariant.counted);
-      writer = well;
-      name = c.write_item.ensures.name ∙ c.loop-item.invariant.name;
-      summary = rw (item.number_is, item.offset_is) (omega (arith, c.loop-item.invariant.summary, next));
-      run = rw item.offset_is (c.loop-item.invariant.run ∙ final-next c.loop-item.conn.state c.args.octets.now c.loop-item.at _ _ c.take_explained.new.conn c.in-Ok-Some.item item);
-      gains = rw (item.number_is, item.offset_is) (gains-both
-          (Begins c.args.form c.args.conn.now.state c.args.octets.now c.loop-item.conn.state (drop c.loop-item.at c.args.octets.now) c.loop-item.items c.loop-item.at)
-          (λ (u : List ℕ). IsItemText c.args.form c.in-Ok-Some.item u)
-          _
-          (λ t u begins is. begins-next c.args.form c.args.conn.now.state c.loop-item.conn.state c.args.octets.now c.args.octets.now c.loop-item.at c.loop-item.items c.loop-item.at c.take_explained.new.conn c.in-Ok-Some.item item t u begins is)
-          _ _ _ c.loop-item.invariant.gains
-          (subst (λ (r : Result (Unit {0}) ExplainFault). Gains (IsWritten (λ (t : List ℕ). IsItemText c.args.form c.in-Ok-Some.item t) r) (g.O.Output.written c.loop-item.output) (g.O.Output.written c.write_item.new.output)) c.in-Ok.is (c.write_item.ensures.gains well)));
-      tally = rw (item.number_is, item.offset_is) (tallies-next c.args.conn.now.state c.loop-item.conn.state c.args.octets.now c.args.octets.now c.loop-item.at (c.loop-item.items + 1) c.loop-item.at c.take_explained.new.conn c.in-Ok-Some.item _ _ item c.in-Ok.ensures.tally c.loop-item.invariant.tally);
-    }
-
-pub returns-in-Ok-None-clause-summary : goal.returns-in-Ok-None-clause-summary
-returns-in-Ok-None-clause-summary g c =
-    let none = rw (c.octets_from-rest.ensures, c.in-Ok-None.field-0-is) at c.in-Ok-None.ensures.ok in
-    IfOk-weaker c.summary_if.result _ _
-    (λ t h. subst (λ (r : Summary). IsSummary c.args.conn.now.state c.args.octets.now r) (sym h)
-    (summary-is c.args.conn.now.state c.loop-item.conn.state c.args.octets.now (drop c.loop-item.at c.args.octets.now) c.take_explained.new.conn c.summary_of-summary.result c.loop-item.items _ _ _ _ none c.loop-item.invariant.run c.loop-item.invariant.summary
-    c.summary_of-summary.ensures.items c.summary_of-summary.ensures.ended (ap length c.octets_from-rest.ensures) c.summary_of-summary.ensures.verdict c.loop-item.invariant.tally))
-    c.summary_if.ensures.summary
-
-pub returns-in-Ok-None-clause-run : goal.returns-in-Ok-None-clause-run
-returns-in-Ok-None-clause-run g c =
-    let none = rw (c.octets_from-rest.ensures, c.in-Ok-None.field-0-is) at c.in-Ok-None.ensures.ok in
-    IfOk-weaker c.summary_if.result _ _
-    (λ t h. run-end c.args.conn.now.state c.loop-item.conn.state c.args.octets.now (drop c.loop-item.at c.args.octets.now) c.take_explained.new.conn none c.loop-item.invariant.run)
-    c.summary_if.ensures.summary
-
-pub returns-in-Ok-None-clause-gains : goal.returns-in-Ok-None-clause-gains
-returns-in-Ok-None-clause-gains g c = λ well.
-    let octets = c.args.octets.now in
-    let none = rw (c.octets_from-rest.ensures, c.in-Ok-None.field-0-is) at c.in-Ok-None.ensures.ok in
-    let left = rw c.octets_from-rest.ensures at c.write_end-written.ensures.gains well in
-    rw c.summary_if.ensures.err (gains-both (Begins c.args.form c.args.conn.now.state octets c.loop-item.conn.state (drop c.loop-item.at octets) c.loop-item.items c.loop-item.at) _ _
-    (λ t u begins is. begins-written c.args.form c.args.conn.now.state c.loop-item.conn.state octets (drop c.loop-item.at octets) c.loop-item.items c.loop-item.at none.none c.write_end-written.result t u begins is)
-    _ _ _ c.loop-item.invariant.gains left)
+    let y = rw (c.octets_from-rest.ensures, c.in-Ok-Some.field-0-is) at c.in-Ok-Some.ensures.ok in
+    let uses = item-uses _ _ _ _ _ y.item y.explains in
+    omega (arith, c.loop-used.invariant.within, uses.1, y.used_is, c.requires.few.1, length-drop c.loop-used.at c.args.octets.now)
