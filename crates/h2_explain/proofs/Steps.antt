@@ -16,10 +16,8 @@ use Rattle.h2_conn.specs.Connection.{Connection, going, halted, is_ended}
 use Rattle.h2_conn.specs.First.{TakesFirst, TakesIfAny}
 use Rattle.h2_conn.specs.Reports.{reported}
 use Rattle.h2_conn.specs.declared.report.TakenItem.{TakenItem}
-use Rattle.h2_conn.specs.Runs.{Fed, Feeds, Halted, Halts, Leads, Ran}
-use Rattle.h2_conn.proofs.FeedingLaws.{first-takes}
+use Rattle.h2_conn.specs.Runs.{Fed, Feeds, Halted, Halts, Leads, Ran, Takes}
 use Rattle.h2_conn.proofs.Items.{none-after}
-use Rattle.h2_conn.proofs.Plays.{empty-stop, left-none}
 use Rattle.h2_conn.proofs.Runs.{halted-halts, halts-at-once, leads-refl, leads-stop, leads-takes, left-ended, left-going, ran-feeds, ran-halted, sent-none, trace-stop, whole, whole-one, whole-stop}
 use Rattle.h2_explain.specs.declared.explanation.Explanation.{Explanation}
 use Rattle.h2_explain.specs.declared.item.Explained.{Explained}
@@ -30,9 +28,23 @@ use Rattle.h2_explain.specs.declared.run.ExplainFault.{ExplainFault}
 use Rattle.h2_explain.specs.declared.run.Form.{Form}
 use Rattle.h2_explain.specs.declared.verdict.Verdict.{Verdict}
 use Rattle.h2_explain.specs.Explained.{ExplainsItem, IsAhead, KeepsItem, moment_of, stream_ahead, stream_in}
-use Rattle.h2_explain.specs.Explaining.{Continues, CountsOn, EndsAs, ExplainsAll, ExplainsOn, Handles, HasGained, HasRoom, IsBeginning, IsCutShort, IsExplaining, IsNew, IsSummed, Leaves, SaysOf, SaysSome, StopsAt, TakesItem, TakesNone, total}
+use Rattle.h2_explain.specs.Explaining.{Continues, CountsOn, EndsAs, ExplainsAll, ExplainsOn, Handles, HasGained, HasRoom, IsBeginning, IsCutShort, IsExplaining, IsNew, IsSummed, Leaves, PassesBy, SaysOf, SaysSome, StopsAt, TakesItem, TakesNone, total}
 use Rattle.h2_explain.specs.Explains.{AreExplained, Gains, IsExplanation, IsItemText, IsRestText, IsSummary, IsWritten, not_written, summary_over}
 use Rattle.h2_explain.specs.Verdicts.{AreTallied, IsVerdict, Tallied, TalliesItem, no_tally, verdict_at}
+
+-- of no octets nothing is an item
+none-uses : (x : Front State Event) → Uses [] x → x ≡ Stop
+none-uses Stop h = refl
+none-uses (One e t used) h = absurd (omega (arith, h.0, h.1))
+
+empty-stop : (s : State) → next_event s [] ≡ Stop
+empty-stop s = none-uses (next_event s []) (event-uses s [])
+
+left-none : (p : Phase) → left_by p [] ≡ []
+left-none phase.Preface = refl
+left-none phase.Settings = refl
+left-none phase.Running = refl
+left-none (phase.Ended code) = refl
 
 -- ---- an item with more octets after it
 
@@ -92,6 +104,9 @@ ahead-more b more used ahead a =
 pub item-uses : (s : State) (b : List ℕ) (number offset : ℕ) (c : Connection) (x : Explained) → ExplainsItem s b number offset c x → (0 < x.taken.used) × (x.taken.used ≤ length b)
 item-uses s b number offset c x i = subst (λ (n : Front State Event). Uses b n) i.comes (event-uses s b)
 
+pub first-uses : (s t : State) (b out out' : List ℕ) (used : ℕ) → TakesFirst s b out t out' used → (0 < used) × (used ≤ length b)
+first-uses s t b out out' used x = subst (λ (n : Front State Event). Uses b n) x.comes (event-uses s b)
+
 pub item-more : (s : State) (b more : List ℕ) (number offset : ℕ) (c : Connection) (x : Explained) → ExplainsItem s b number offset c x → ExplainsItem s (b ++ more) number offset c x
 item-more s b more number offset c x i =
     let within = item-uses s b number offset c x i in
@@ -140,6 +155,13 @@ gains-both P Q R join a b c x y = λ held is.
     let one = x held is in
     let two = y (held ++ one.0) one.1 in
     (one.0 ++ two.0, two.1 ∙ ap (λ (t : List ℕ). Some t) (append_assoc held one.0 two.0), join one.0 two.0 one.2 two.2)
+
+-- a text after another, of which it is known what comes before it
+pub gains-then : (P R : List ℕ → Type 0) (a b c : Option (List ℕ)) → Gains P a b → ((t : List ℕ) → P t → Gains (λ (u : List ℕ). R (t ++ u)) b c) → Gains R a c
+gains-then P R a b c x y = λ held is.
+    let one = x held is in
+    let two = y one.0 one.2 (held ++ one.0) one.1 in
+    (one.0 ++ two.0, two.1 ∙ ap (λ (t : List ℕ). Some t) (append_assoc held one.0 two.0), two.2)
 
 -- a text of which more is known
 pub gains-map : (P Q : List ℕ → Type 0) → ((t : List ℕ) → P t → Q t) → (a b : Option (List ℕ)) → Gains P a b → Gains Q a b
@@ -226,6 +248,17 @@ on-cut-then e e1 s s1 b b1 known known1 known2 x y =
 
 -- ---- the connection
 
+event-after : (s t : State) (n : Next) (e : Event) (used : ℕ) → event_on s n ≡ One e t used → e.state ≡ t
+event-after s t NoItem e used h = cc
+event-after s t (Got x u) e used h = cc
+
+comes-after : (s t : State) (b : List ℕ) (e : Event) (used : ℕ) → next_event s b ≡ One e t used → e.state ≡ t
+unfolding next_event
+comes-after s t b e used h = event-after s t (next_item s b) e used h
+
+pub first-takes : (s t : State) (b out out' : List ℕ) (used : ℕ) → TakesFirst s b out t out' used → Takes s b out t (drop used b) out'
+first-takes s t b out out' used x = record { event = x.event; used = used; comes = x.comes; after = comes-after s t b x.event used x.comes; rest = refl; sent = x.sent; short = x.short }
+
 pub leads-halted : (s t : State) (n : ℕ) (b c out out' : List ℕ) → Leads s b out n t c out' → Halted s b out t out'
 leads-halted s t n b c out out' l = record { items = n; within = l.within; after = sym l.after; sent = l.sent }
 
@@ -238,12 +271,14 @@ leads-stopped s t u n b c out out' out'' l (inr one) =
 -- after the end nothing comes
 pub late-feeds : (s : State) (held q out : List ℕ) → is_ended s.core.phase ≡ true → Fed (going s held) q out (going s []) out
 late-feeds s held q out h =
-    let none : trace s (held ++ q) ≡ record { events = []; state = s; rest = left_by s.core.phase (held ++ q) } = trace-stop s (held ++ q) (none-after s (held ++ q) h) in
-    (0, record {
-      items = ap (λ (r : Run). length r.events) (sym none);
-      after = ap (going s) (sym (left-ended s.core.phase (held ++ q) h)) ∙ ap (λ (r : Run). going r.state r.rest) (sym none);
-      sent = sym (ap (λ (r : Run). out ++ sent_octets r.events) none ∙ rw sent-none (append-nil out));
-    })
+    let none : trace s (held ++ q) ≡ record { events = []; state = s; rest = left_by s.core.phase (held ++ q) } = trace-stop s (held ++ q) (none-after s (held ++ q) h) in (
+      0,
+      record {
+        items = ap (λ (r : Run). length r.events) (sym none);
+        after = ap (going s) (sym (left-ended s.core.phase (held ++ q) h)) ∙ ap (λ (r : Run). going r.state r.rest) (sym none);
+        sent = sym (ap (λ (r : Run). out ++ sent_octets r.events) none ∙ rw sent-none (append-nil out));
+      },
+    )
 
 -- ---- what is held
 
@@ -261,6 +296,25 @@ all-same e e1 e2 s s' b rest known known' x form items offset tally =
         state_is = on.state_is;
         rest_is = on.rest_is;
         written = rw (items, offset) on.written;
+        tallied = rw (items, offset, tally) on.tallied;
+      };
+      stops = x.stops;
+    }
+
+-- they were others before
+pub all-from : (e e0 e1 : Explanation) (s s' : State) (b rest : List ℕ) (known known' : Option (List ℕ)) → ExplainsAll e0 s b known e1 s' rest known'
+    → e.form ≡ e0.form → e.items ≡ e0.items → e.offset ≡ e0.offset → e.tally ≡ e0.tally → ExplainsAll e s b known e1 s' rest known'
+all-from e e0 e1 s s' b rest known known' x form items offset tally =
+    let on = x.on in
+    record {
+      on = record {
+        form_is = on.form_is ∙ sym form;
+        items_are = omega (arith, on.items_are, items);
+        offset_is = omega (arith, on.offset_is, offset);
+        counted = on.counted;
+        state_is = on.state_is;
+        rest_is = on.rest_is;
+        written = rw (form, items, offset) on.written;
         tallied = rw (items, offset, tally) on.tallied;
       };
       stops = x.stops;
@@ -322,9 +376,11 @@ texts-on : (form : Form) (s0 : State) (b0 piece : List ℕ) (s s' : State) (r r'
     → Continues form s0 b0 0 0 s r items offset text → Continues form s (r ++ piece) items offset s' r' items' offset' more → Continues form s0 (b0 ++ piece) 0 0 s' r' items' offset' (text ++ more)
 texts-on form s0 b0 piece s s' r r' items offset items' offset' text more x y = λ later cut xs u are.
     let one = y later cut xs u are in
-    let two = x (piece ++ later) cut one.0 (more ++ u) (subst (λ (b : List ℕ). AreExplained form cut s b items offset one.0 (more ++ u)) (append_assoc r piece later) one.1) in
-    (two.0, subst (λ (b : List ℕ). AreExplained form cut s0 b 0 0 two.0 ((text ++ more) ++ u)) (sym (append_assoc b0 piece later))
-    (subst (λ (w : List ℕ). AreExplained form cut s0 (b0 ++ (piece ++ later)) 0 0 two.0 w) (sym (append_assoc text more u)) two.1))
+    let two = x (piece ++ later) cut one.0 (more ++ u) (subst (λ (b : List ℕ). AreExplained form cut s b items offset one.0 (more ++ u)) (append_assoc r piece later) one.1) in (
+      two.0,
+      subst (λ (b : List ℕ). AreExplained form cut s0 b 0 0 two.0 ((text ++ more) ++ u)) (sym (append_assoc b0 piece later))
+          (subst (λ (w : List ℕ). AreExplained form cut s0 (b0 ++ (piece ++ later)) 0 0 two.0 w) (sym (append_assoc text more u)) two.1),
+    )
 
 pub explaining-goes : (s0 : State) (b0 piece : List ℕ) (c c' : Connection) (e e' : Explanation) (known known' : Option (List ℕ)) → c' ≡ going c'.state [] → is_ended c.state.core.phase ≡ false
     → Handles e c.state (e.held.items ++ piece) known e' c'.state known' → IsExplaining s0 b0 c e → IsExplaining s0 (b0 ++ piece) c' e'
@@ -363,16 +419,15 @@ explaining-cut c piece e known known' goes given = λ s0 b0 text x begins.
     let same : c.state ≡ r.state = ap (λ (d : Connection). d.state) x.after in
     gains-map (IsCutShort e c.state (e.held.items ++ piece)) _
     (λ more cut.
-      let one = cut [] in
-      let here = subst (λ (b : List ℕ). AreExplained e.form true c.state b e.items e.offset one.0 more) (append-nil (e.held.items ++ piece) ∙ ap (λ (b : List ℕ). b ++ piece) (left-held s0 b0 c e x goes)) one.1 in
-      begins piece true one.0 more (subst (λ (s : State). AreExplained e.form true s (r.rest ++ piece) e.items e.offset one.0 more) same here))
+    let one = cut [] in
+    let here = subst (λ (b : List ℕ). AreExplained e.form true c.state b e.items e.offset one.0 more) (append-nil (e.held.items ++ piece) ∙ ap (λ (b : List ℕ). b ++ piece) (left-held s0 b0 c e x goes)) one.1 in
+    begins piece true one.0 more (subst (λ (s : State). AreExplained e.form true s (r.rest ++ piece) e.items e.offset one.0 more) same here))
     known known' given
 
 -- ---- after the end of the connection
 
-pub late-goes : (s0 : State) (b0 piece : List ℕ) (c : Connection) (e e' : Explanation) → is_ended c.state.core.phase ≡ true → e'.items ≡ e.items → e'.offset ≡ e.offset → e'.tally ≡ e.tally → e'.held.items ≡ [] → e'.late ≡ e.late + (length e.held.items + length piece)
-    → IsExplaining s0 b0 c e → IsExplaining s0 (b0 ++ piece) c e'
-late-goes s0 b0 piece c e e' over items offset tally held late x =
+pub late-goes : (s0 : State) (b0 piece : List ℕ) (c : Connection) (e e' : Explanation) → is_ended c.state.core.phase ≡ true → PassesBy e (length piece) e' → IsExplaining s0 b0 c e → IsExplaining s0 (b0 ++ piece) c e'
+late-goes s0 b0 piece c e e' over p x =
     let r : Parsed State Event = whole s0 b0 in
     let same : c.state ≡ r.state = ap (λ (d : Connection). d.state) x.after in
     let ended : is_ended r.state.core.phase ≡ true = subst (λ (s : State). is_ended s.core.phase ≡ true) same over in
@@ -385,16 +440,16 @@ late-goes s0 b0 piece c e e' over items offset tally held late x =
     record {
       after = rw st x.after;
       stops = rw (st, rest) stop;
-      items_are = omega (arith, many, items, x.items_are);
-      offset_is = rw rest (omega (arith, offset, x.offset_is, length-append r.rest piece, length-append b0 piece));
-      held_is = rw (st, rest) (held ∙ sym (left-ended r.state.core.phase (r.rest ++ piece) ended));
-      left_is = rw rest (omega (arith, x.left_is, none, ap length held, late, length-append r.rest piece));
-      tallied = rw (st, rest, items, offset, tally) (tallies-on s0 b0 piece r.state r.state r.rest (r.rest ++ piece) e.items e.offset e.items e.offset e.tally e.tally x.tallied (λ later xs v are. (xs, are)));
+      items_are = omega (arith, many, p.items_are, x.items_are);
+      offset_is = rw rest (omega (arith, p.offset_is, x.offset_is, length-append r.rest piece, length-append b0 piece));
+      held_is = rw (st, rest) (p.held_is ∙ sym (left-ended r.state.core.phase (r.rest ++ piece) ended));
+      left_is = rw rest (omega (arith, x.left_is, none, ap length p.held_is, p.late_is, length-append r.rest piece));
+      tallied = rw (st, rest, p.items_are, p.offset_is, p.tally_is) (tallies-on s0 b0 piece r.state r.state r.rest (r.rest ++ piece) e.items e.offset e.items e.offset e.tally e.tally x.tallied (λ later xs v are. (xs, are)));
     }
 
-pub late-says : (c : Connection) (piece : List ℕ) (e e' : Explanation) (known : Option (List ℕ)) → is_ended c.state.core.phase ≡ true → e'.form ≡ e.form → e'.items ≡ e.items → e'.offset ≡ e.offset
+pub late-says : (c : Connection) (piece : List ℕ) (e e' : Explanation) (known : Option (List ℕ)) → is_ended c.state.core.phase ≡ true → PassesBy e (length piece) e'
     → SaysOf c e piece e' known known
-late-says c piece e e' known over form items offset = λ s0 b0 text x begins.
+late-says c piece e e' known over p = λ s0 b0 text x begins.
     let r : Parsed State Event = whole s0 b0 in
     let same : c.state ≡ r.state = ap (λ (d : Connection). d.state) x.after in
     let ended : is_ended r.state.core.phase ≡ true = subst (λ (s : State). is_ended s.core.phase ≡ true) same over in
@@ -402,7 +457,7 @@ late-says c piece e e' known over form items offset = λ s0 b0 text x begins.
     let st : (whole s0 (b0 ++ piece)).state ≡ r.state = ap (λ (p : Parsed State Event). p.state) all in
     let rest : (whole s0 (b0 ++ piece)).rest ≡ r.rest ++ piece = ap (λ (p : Parsed State Event). p.rest) all in
     gains-none (λ (more : List ℕ). IsBeginning s0 (b0 ++ piece) e' (text ++ more))
-    (rw (form, items, offset, st, rest) (texts-on e.form s0 b0 piece r.state r.state r.rest (r.rest ++ piece) e.items e.offset e.items e.offset text [] begins (λ later cut xs more are. (xs, are))))
+    (rw (p.form_is, p.items_are, p.offset_is, st, rest) (texts-on e.form s0 b0 piece r.state r.state r.rest (r.rest ++ piece) e.items e.offset e.items e.offset text [] begins (λ later cut xs more are. (xs, are))))
     known known refl
 
 -- ---- the beginning and the end

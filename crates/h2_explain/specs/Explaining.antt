@@ -83,6 +83,15 @@ pub record Handles (e : Explanation) (s : State) (b : List ℕ) (known : Option 
 abbrev pub IsCutShort : Explanation → State → List ℕ → List ℕ → Type 0
 IsCutShort e s b text = (later : List ℕ) → (xs : List Explained) × AreExplained e.form true s (b ++ later) e.items e.offset xs text
 
+-- octets after the end are counted, and none are held
+pub record PassesBy (e : Explanation) (more : ℕ) (e' : Explanation) : Type 0 where
+  pub form_is : e'.form ≡ e.form
+  pub items_are : e'.items ≡ e.items
+  pub offset_is : e'.offset ≡ e.offset
+  pub tally_is : e'.tally ≡ e.tally
+  pub held_is : e'.held.items ≡ []
+  pub late_is : e'.late ≡ e.late + (length e.held.items + more)
+
 -- ---- one item
 
 -- the next item of the octets was taken, its text was written, and it was counted

@@ -10,7 +10,7 @@ ghost use Rattle.h2_spec.specs.State.{ended_code};
 ghost use Rattle.h2_conn.specs.Connection.{going, halted};
 ghost use Rattle.h2_conn.specs.First.{TakesIfAny};
 ghost use Rattle.h2_conn.specs.Runs.{Fed, Halted, Halts, Ran};
-ghost use Rattle.h2_explain.specs.Explaining.{EndsAs, ExplainsAll, GoesOn, Handles, HasGained, HasRoom, IsCutShort, IsNew, IsSummed, SaysOf, SaysSome, StopsAt, TakesIfThere};
+ghost use Rattle.h2_explain.specs.Explaining.{EndsAs, ExplainsAll, GoesOn, Handles, HasGained, HasRoom, IsCutShort, IsNew, IsSummed, PassesBy, SaysOf, SaysSome, StopsAt, TakesIfThere};
 ghost use Rattle.h2_explain.specs.Explains.{Gains, IsItemText, IsRestText, IsWritten, not_written};
 ghost use Rattle.h2_explain.specs.Verdicts.{TalliesItem, verdict_at};
 ghost use Rattle.h2_explain.specs.declared.run.ExplainFault.TheVariants as faults;
@@ -267,6 +267,15 @@ impl Explanation {
         }
     }
 
+    /// Counts octets that came after the end of the connection.
+    fn pass_by(&mut self, count: usize)
+        requires room { HasRoom self.old count }
+        ensures { PassesBy self.old count self.new }
+    {
+        self.late += self.held.len() + count;
+        self.held.clear();
+    }
+
     /// Takes and explains each item of a piece, where no octets are held.
     fn take_in_hand<O: Output, R: Recorder>(
         &mut self,
@@ -374,13 +383,13 @@ impl Explanation {
         ensures fed { keeps ≡ true → OnOk result (Fed (going conn.old.state self.old.held.items) piece.now out.old.items (going conn.new.state self.new.held.items) out.new.items) }
         ensures halted { keeps ≡ true → OnErr result (Halts (going conn.old.state self.old.held.items) piece.now out.old.items (halted conn.new.state) out.new.items) }
         ensures room { OnOk result (HasGained self.old (length piece.now) self.new) }
+        ensures form { OnOk result (self.new.form ≡ self.old.form) }
         ensures ready { conn.new ≡ going conn.new.state [] }
         ensures flag { O.has_failed output.new ≡ not_written result }
         ensures name { O.name output.new ≡ O.name output.old }
     {
         if has_ended(conn.counts().phase) {
-            self.late += self.held.len() + piece.len();
-            self.held.clear();
+            self.pass_by(piece.len());
             return Ok(());
         }
         if self.held.is_empty() {
@@ -419,6 +428,7 @@ impl Explanation {
         ensures fed { OnOk result (Fed (going conn.old.state self.old.held.items) piece.now out.old.items (going conn.new.state self.new.held.items) out.new.items) }
         ensures halted { OnErr result (Halts (going conn.old.state self.old.held.items) piece.now out.old.items (halted conn.new.state) out.new.items) }
         ensures room { OnOk result (HasGained self.old (length piece.now) self.new) }
+        ensures form { OnOk result (self.new.form ≡ self.old.form) }
         ensures ready { conn.new ≡ going conn.new.state [] }
         ensures flag { O.has_failed output.new ≡ not_written result }
         ensures name { O.name output.new ≡ O.name output.old }
