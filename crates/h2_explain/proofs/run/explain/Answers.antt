@@ -1,0 +1,1 @@
+use Rattle.h2_explain.proofs.run.explain.Goals as goal
