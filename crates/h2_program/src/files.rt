@@ -36,6 +36,15 @@ impl Files for NamedFiles<'_> {
         files.read(alloc, path, most)
     }
 
+    /// Standard input is not written.
+    fn replace(&mut self, alloc: Global, path: &str, octets: &[u8]) -> Result<(), FilesFault> {
+        if path == STANDARD_INPUT {
+            return Err(FilesFault::Failed);
+        }
+        let mut files = StdFiles { runtime: self.rt };
+        files.replace(alloc, path, octets)
+    }
+
     fn failure(&self, path: &str) -> Option<ErrorKind> {
         if path == STANDARD_INPUT {
             return None;
