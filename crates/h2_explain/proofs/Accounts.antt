@@ -114,8 +114,8 @@ pub lists : (x : Explained) (s : State) (begun : ℕ) (note seen : ℕ → Optio
     → ListsChanges x s begun note d
 lists x s begun note seen a b c d same none one two three = record {
   is = rw (three, two, one, none, others) refl;
-  differ = changes_on-differ x.number _ x.after.counts.send (noted_with x begun note) (streams_of _ x.sent.items);
+  differ = changes_on-differ x.number _ x.after.counts.send (noted_with x begun note) (streams_of _ x.sent.now);
 }
   where
     others : changes_of_sent x s seen ≡ changes_of_sent x s (noted_with x begun note)
-    others = changes_on-same x.number _ x.after.counts.send seen (noted_with x begun note) (streams_of _ x.sent.items) same
+    others = changes_on-same x.number _ x.after.counts.send seen (noted_with x begun note) (streams_of _ x.sent.now) same

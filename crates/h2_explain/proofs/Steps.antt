@@ -1,82 +1,153 @@
--- The run of a connection, item by item: how many items there are, and the state after the last one.
-use Rattle.std.proofs.Common.{Bool, true, false, IfErr, None, Result, Ok, Err, is_err, ◌≡◌, ◌∙◌, ◌+◌, ◌<◌, ◌≤◌, ℕ, suc, List, [], ◌∷◌, ◌++◌, Option, Some, length, drop, refl, sym, ap, ap₂, subst, arith, option_map, length-drop, append_assoc}
-use Rattle.std.proofs.lemmas.List.{append-nil, drop-drop}
-use Rattle.h2_spec.specs.Parse.{Front, Stop, One, Parsed, parse_all, parse_first}
+-- An explanation that goes on, item by item and piece by piece.
+use Rattle.std.proofs.Common.{Bool, true, false, IfErr, IfOk, OnOk, OnErr, None, Result, Ok, Err, is_err, ◌≡◌, ◌⊎◌, inl, inr, ◌∙◌, ◌+◌, ◌<◌, ◌≤◌, ℕ, suc, List, [], ◌∷◌, ◌++◌, Option, Some, length, take, drop, refl, sym, ap, ap₂, subst, arith, option_map, length-drop, length-take, length-append, append_assoc, le-ltb, ltb, ltb-false, true≢false}
+use Rattle.std.proofs.lemmas.List.{append-nil, drop-append-le, drop_at, take-append-le, take_all}
+use Rattle.std.specs.Io.KnownBytes.{Appends}
+use Rattle.h2_spec.specs.declared.connection.Phase.{Phase}
+use Rattle.h2_spec.specs.declared.connection.Phase.TheVariants as phase
+use Rattle.h2_spec.specs.Frame.{Item, Next, NoItem, Got, frames_octets, head_at, head_of, next}
+use Rattle.h2_spec.specs.Parse.{Front, Stop, One, Parsed, after_one, parse_all}
 use Rattle.h2_spec.specs.Errors.{code_number}
 use Rattle.h2_spec.specs.State.{State, ended_code}
-use Rattle.h2_spec.specs.Trace.{Event, next_event, trace}
-use Rattle.h2_spec.proofs.ParseLaws.{Uses, parse_all-step}
-use Rattle.h2_spec.proofs.TraceLaws.{event-uses}
-use Rattle.h2_conn.specs.Connection.{Connection, going}
+use Rattle.h2_spec.specs.Trace.{Event, IsKept, Run, event_on, left_by, next_event, next_in, next_item, sent_octets, trace}
+use Rattle.h2_spec.proofs.ParseLaws.{Stays, Uses, joined}
+use Rattle.h2_spec.proofs.TraceLaws.{event-stays, event-uses, events-append, next-stays}
+use Rattle.h2_frame.proofs.MissingLaws.{head_of-append}
+use Rattle.h2_conn.specs.Connection.{Connection, going, halted, is_ended}
+use Rattle.h2_conn.specs.First.{TakesFirst, TakesIfAny}
+use Rattle.h2_conn.specs.Reports.{reported}
+use Rattle.h2_conn.specs.declared.report.TakenItem.{TakenItem}
+use Rattle.h2_conn.specs.Runs.{Fed, Feeds, Halted, Halts, Leads, Ran, Takes}
+use Rattle.h2_conn.proofs.Items.{none-after}
+use Rattle.h2_conn.proofs.Runs.{halted-halts, halts-at-once, leads-refl, leads-stop, leads-takes, left-ended, left-going, ran-feeds, ran-halted, sent-none, trace-stop, whole, whole-one, whole-stop}
+use Rattle.h2_explain.specs.declared.explanation.Explanation.{Explanation}
 use Rattle.h2_explain.specs.declared.item.Explained.{Explained}
+use Rattle.h2_explain.specs.declared.item.Taking.{Taking}
 use Rattle.h2_explain.specs.declared.run.Summary.{Summary}
-use Rattle.h2_explain.specs.Explained.{ExplainsItem, ExplainsNone}
-use Rattle.h2_explain.specs.Explains.{AreExplained, Gains, IsExplanation, IsItemText, IsRestText, IsSummary, IsWritten, not_written, summary_over}
-use Rattle.h2_explain.specs.Verdicts.{AreTallied, IsVerdict, Tallied, TalliesItem, no_tally, verdict_at}
-use Rattle.h2_explain.specs.declared.verdict.Verdict.{Verdict}
-use Rattle.std.specs.Io.KnownBytes.{Appends}
 use Rattle.h2_explain.specs.declared.run.ExplainFault.TheVariants.{NotWritten}
 use Rattle.h2_explain.specs.declared.run.ExplainFault.{ExplainFault}
 use Rattle.h2_explain.specs.declared.run.Form.{Form}
+use Rattle.h2_explain.specs.declared.verdict.Verdict.{Verdict}
+use Rattle.h2_explain.specs.Explained.{ExplainsItem, IsAhead, KeepsItem, moment_of, stream_ahead, stream_in}
+use Rattle.h2_explain.specs.Explaining.{Continues, CountsOn, EndsAs, ExplainsAll, ExplainsOn, Handles, HasGained, HasRoom, IsBeginning, IsCutShort, IsExplaining, IsNew, IsSummed, Leaves, PassesBy, SaysOf, SaysSome, StopsAt, TakesItem, TakesNone, total}
+use Rattle.h2_explain.specs.Explains.{AreExplained, Gains, IsExplanation, IsItemText, IsRestText, IsSummary, IsWritten, not_written, summary_over}
+use Rattle.h2_explain.specs.Verdicts.{AreTallied, IsVerdict, Tallied, TalliesItem, no_tally, verdict_at}
 
--- how many items a run has
-abbrev pub count : State → List ℕ → ℕ
-count s b = length (parse_all next_event s b).elements
+-- of no octets nothing is an item
+none-uses : (x : Front State Event) → Uses [] x → x ≡ Stop
+none-uses Stop h = refl
+none-uses (One e t used) h = absurd (omega (arith, h.0, h.1))
 
--- the state after its last item
-abbrev pub final : State → List ℕ → State
-final s b = (parse_all next_event s b).state
+empty-stop : (s : State) → next_event s [] ≡ Stop
+empty-stop s = none-uses (next_event s []) (event-uses s [])
 
-pub trace-count : (s : State) (b : List ℕ) → length (trace s b).events ≡ count s b
-unfolding trace
-trace-count s b = refl
+left-none : (p : Phase) → left_by p [] ≡ []
+left-none phase.Preface = refl
+left-none phase.Settings = refl
+left-none phase.Running = refl
+left-none (phase.Ended code) = refl
 
-pub trace-final : (s : State) (b : List ℕ) → (trace s b).state ≡ final s b
-unfolding trace
-trace-final s b = refl
+-- ---- an item with more octets after it
 
-front : (s : State) (b : List ℕ) (n : Front State Event) → next_event s b ≡ n → parse_all next_event s b ≡ parse_first s b n (λ t rest. parse_all next_event t rest)
-front s b n e = parse_all-step next_event event-uses s b ∙ ap (λ (x : Front State Event). parse_first s b x (λ t rest. parse_all next_event t rest)) e
+got-none : (x : Item) (u : ℕ) → NoItem ≡ Got x u → ⊥
+got-none x u h = cc
 
-pub count-stop : (s : State) (b : List ℕ) → next_event s b ≡ Stop → count s b ≡ 0
-count-stop s b e = ap (λ (r : Parsed State Event). length r.elements) (front s b Stop e)
+in-stays : (p : Phase) (limit : ℕ) (b c : List ℕ) → IsKept (next_in p limit b) (next_in p limit (b ++ c))
+in-stays phase.Preface limit b c = next-stays true limit b c
+in-stays phase.Settings limit b c = next-stays false limit b c
+in-stays phase.Running limit b c = next-stays false limit b c
+in-stays (phase.Ended code) limit b c = tt
 
-pub final-stop : (s : State) (b : List ℕ) → next_event s b ≡ Stop → final s b ≡ s
-final-stop s b e = ap (λ (r : Parsed State Event). r.state) (front s b Stop e)
+kept-same : (s t : State) (n m : Next) (e : Event) (used : ℕ) → IsKept n m → event_on s n ≡ One e t used → m ≡ n
+kept-same s t NoItem m e used k h = cc
+kept-same s t (Got x u) m e used k h = k
 
--- the next item is one of them, and the run goes on after it
-count-one : (s t : State) (b : List ℕ) (e : Event) (used : ℕ) → next_event s b ≡ One e t used → (parse_all next_event s b).elements ≡ e ∷ (parse_all next_event t (drop used b)).elements
-count-one s t b e used h = ap (λ (r : Parsed State Event). r.elements) (front s b (One e t used) h)
+-- it is the same one
+item-same : (s t : State) (b more : List ℕ) (e : Event) (used : ℕ) → next_event s b ≡ One e t used → next_item s (b ++ more) ≡ next_item s b
+unfolding next_event next_item
+item-same s t b more e used h = kept-same s t (next_in s.core.phase s.core.own.frame b) (next_in s.core.phase s.core.own.frame (b ++ more)) e used (in-stays s.core.phase s.core.own.frame b more) h
 
-pub count-next : (s : State) (octets : List ℕ) (at number offset : ℕ) (c : Connection) (x : Explained) → ExplainsItem s (drop at octets) number offset c x
-    → count s (drop at octets) ≡ suc (count c.state (drop (at + x.taken.used) octets))
-count-next s octets at number offset c x i =
-    ap (λ (es : List Event). length es) (count-one s c.state (drop at octets) i.event x.taken.used i.comes)
-    ∙ ap (λ (r : List ℕ). suc (count c.state r)) (drop-drop x.taken.used at octets)
+-- a frame has the nine octets of its head
+frame-long : (limit : ℕ) (b : List ℕ) (s t : State) (e : Event) (used : ℕ) → event_on s (next false limit b) ≡ One e t used → ltb (length b) 9 ≡ false
+unfolding next
+frame-long limit b s t e used h = at (ltb (length b) 9) refl
+  where
+    stop-one : Stop ≡ One e t used → ⊥
+    stop-one g = cc
 
-pub final-next : (s : State) (octets : List ℕ) (at number offset : ℕ) (c : Connection) (x : Explained) → ExplainsItem s (drop at octets) number offset c x
-    → final s (drop at octets) ≡ final c.state (drop (at + x.taken.used) octets)
-final-next s octets at number offset c x i =
-    ap (λ (r : Parsed State Event). r.state) (front s (drop at octets) (One i.event c.state x.taken.used) i.comes)
-    ∙ ap (λ (r : List ℕ). final c.state r) (drop-drop x.taken.used at octets)
+    at : (x : Bool) → ltb (length b) 9 ≡ x → ltb (length b) 9 ≡ false
+    at false g = g
+    at true g = absurd (stop-one (rw g at h))
 
--- an item takes an octet or more, and no more than there are
-pub item-within : (s : State) (octets : List ℕ) (at number offset : ℕ) (c : Connection) (x : Explained) → at ≤ length octets → ExplainsItem s (drop at octets) number offset c x
-    → (0 < x.taken.used) × (at + x.taken.used ≤ length octets)
-item-within s octets at number offset c x h i =
-    let uses : Uses (drop at octets) (One i.event c.state x.taken.used) = subst (λ (n : Front State Event). Uses (drop at octets) n) i.comes (event-uses s (drop at octets)) in
-    (uses.0, omega (arith, h, uses.1, length-drop at octets))
+head-same : (b more : List ℕ) → ltb (length b) 9 ≡ false → head_at (b ++ more) ≡ head_at b
+unfolding head_at
+head-same b more g =
+    let long : 9 ≤ length b = ltb-false (length b) 9 g in
+    let longer : ltb (length (b ++ more)) 9 ≡ false = le-ltb (length (b ++ more)) 9 (omega (arith, long, length-append b more)) in
+    rw (g, longer, head_of-append b more long) refl
+
+ahead-same : (p : Phase) (limit : ℕ) (s t : State) (b more : List ℕ) (e : Event) (used : ℕ) → event_on s (next_in p limit b) ≡ One e t used → stream_ahead p (b ++ more) ≡ stream_ahead p b
+ahead-same phase.Preface limit s t b more e used h = refl
+ahead-same phase.Settings limit s t b more e used h = ap stream_in (head-same b more (frame-long limit b s t e used h))
+ahead-same phase.Running limit s t b more e used h = ap stream_in (head-same b more (frame-long limit b s t e used h))
+ahead-same (phase.Ended code) limit s t b more e used h = cc
+
+-- the frame at their front is on the same stream
+stream-same : (s t : State) (b more : List ℕ) (e : Event) (used : ℕ) → next_event s b ≡ One e t used → stream_ahead s.core.phase (b ++ more) ≡ stream_ahead s.core.phase b
+unfolding next_event next_item
+stream-same s t b more e used h = ahead-same s.core.phase s.core.own.frame s t b more e used h
+
+ahead-more : (b more : List ℕ) (used : ℕ) (ahead : List ℕ) → IsAhead b used ahead → IsAhead (b ++ more) used ahead
+ahead-more b more used ahead a =
+    let within : length ahead ≤ length b = omega (arith, ap length a.begins, length-take (length ahead) b) in
+    record { whole = a.whole; begins = a.begins ∙ sym (take-append-le (length ahead) b more within) }
+
+pub item-uses : (s : State) (b : List ℕ) (number offset : ℕ) (c : Connection) (x : Explained) → ExplainsItem s b number offset c x → (0 < x.taken.used) × (x.taken.used ≤ length b)
+item-uses s b number offset c x i = subst (λ (n : Front State Event). Uses b n) i.comes (event-uses s b)
+
+pub first-uses : (s t : State) (b out out' : List ℕ) (used : ℕ) → TakesFirst s b out t out' used → (0 < used) × (used ≤ length b)
+first-uses s t b out out' used x = subst (λ (n : Front State Event). Uses b n) x.comes (event-uses s b)
+
+pub item-more : (s : State) (b more : List ℕ) (number offset : ℕ) (c : Connection) (x : Explained) → ExplainsItem s b number offset c x → ExplainsItem s (b ++ more) number offset c x
+item-more s b more number offset c x i =
+    let within = item-uses s b number offset c x i in
+    let stream = sym (stream-same s c.state b more i.event x.taken.used i.comes) in
+    record {
+      event = i.event;
+      comes = subst (λ (n : Front State Event). Stays n (next_event s (b ++ more))) i.comes (event-stays s b more);
+      ready = i.ready;
+      number_is = i.number_is;
+      offset_is = i.offset_is;
+      octets_is = i.octets_is ∙ sym (take-append-le x.taken.used b more within.1);
+      ahead_is = ahead-more b more x.taken.used x.ahead.now i.ahead_is;
+      taken_is = i.taken_is ∙ ap (reported s) (sym (item-same s c.state b more i.event x.taken.used i.comes));
+      sent_is = i.sent_is;
+      before_is = i.before_is ∙ ap (moment_of s) stream;
+      after_is = i.after_is ∙ ap (moment_of c.state) stream;
+    }
+
+-- what is known of an item that was taken, with its octets and those that were sent for it
+pub item-explained : (s : State) (b out out' : List ℕ) (number offset : ℕ) (c : Connection) (k : Taking) (x : Explained) → c ≡ going c.state [] → TakesFirst s b out c.state out' k.taken.used → KeepsItem s b c.state k
+    → x.number ≡ number → x.offset ≡ offset → x.octets.now ≡ take k.taken.used b → x.ahead.now ≡ b → x.taken ≡ k.taken → x.sent.now ≡ drop (length out) out' → x.before ≡ k.before → x.after ≡ k.after
+    → ExplainsItem s b number offset c x
+item-explained s b out out' number offset c k x ready first kept number_is offset_is octets ahead taken sent before after =
+    let same : k.taken.used ≡ x.taken.used = ap (λ (t : TakenItem). t.used) (sym taken) in
+    let comes : next_event s b ≡ One first.event c.state x.taken.used = subst (λ (n : ℕ). next_event s b ≡ One first.event c.state n) same first.comes in
+    let uses : Uses b (One first.event c.state x.taken.used) = subst (λ (n : Front State Event). Uses b n) comes (event-uses s b) in
+    record {
+      event = first.event;
+      comes = comes;
+      ready = ready;
+      number_is = number_is;
+      offset_is = offset_is;
+      octets_is = octets ∙ ap (λ (n : ℕ). take n b) same;
+      ahead_is = subst (λ (a : List ℕ). IsAhead b x.taken.used a) (sym ahead) (record { whole = uses.1; begins = sym (take_all (length b) b (omega arith)) });
+      taken_is = ap (λ (t : TakenItem). Some t) taken ∙ kept.taken_is;
+      sent_is = sent ∙ ap (drop (length out)) first.sent ∙ drop_at out (frames_octets first.event.sent) (length out) refl;
+      before_is = before ∙ kept.before_is;
+      after_is = after ∙ kept.after_is;
+    }
 
 -- ---- what is written
-
--- what is written so far is a beginning: an explanation from here on makes one of the whole run with it
-abbrev pub Begins : Form → State → List ℕ → State → List ℕ → (items offset : ℕ) → List ℕ → Type 0
-Begins form s0 b0 s b items offset text =
-    (cut : Bool) (xs : List Explained) (more : List ℕ) → AreExplained form cut s b items offset xs more → IsExplanation form cut s0 b0 (text ++ more)
-
--- nothing was written yet
-pub gains-nothing : (form : Form) (s0 : State) (b0 : List ℕ) (o : Option (List ℕ)) → Gains (Begins form s0 b0 s0 b0 0 0) o o
-gains-nothing form s0 b0 o = λ held is. ([], is ∙ ap (λ (t : List ℕ). Some t) (sym (append-nil held)), λ cut xs more are. (xs, are))
 
 -- a text after another
 pub gains-both : (P Q R : List ℕ → Type 0) → ((t u : List ℕ) → P t → Q u → R (t ++ u)) → (a b c : Option (List ℕ)) → Gains P a b → Gains Q b c → Gains R a c
@@ -85,29 +156,20 @@ gains-both P Q R join a b c x y = λ held is.
     let two = y (held ++ one.0) one.1 in
     (one.0 ++ two.0, two.1 ∙ ap (λ (t : List ℕ). Some t) (append_assoc held one.0 two.0), join one.0 two.0 one.2 two.2)
 
--- the text of the next item makes a longer beginning
-pub begins-next : (form : Form) (s0 s : State) (b0 octets : List ℕ) (at items offset : ℕ) (c : Connection) (x : Explained)
-    → ExplainsItem s (drop at octets) (items + 1) offset c x → (t u : List ℕ)
-    → Begins form s0 b0 s (drop at octets) items offset t → IsItemText form x u
-    → Begins form s0 b0 c.state (drop (at + x.taken.used) octets) (items + 1) (offset + x.taken.used) (t ++ u)
-begins-next form s0 s b0 octets at items offset c x i t u begins is = λ cut xs more are.
-    let here = subst (λ (b : List ℕ). AreExplained form cut c.state b (items + 1) (offset + x.taken.used) xs more) (sym (drop-drop x.taken.used at octets)) are in
-    subst (λ (y : List ℕ). IsExplanation form cut s0 b0 y) (sym (append_assoc t u more))
-    (begins cut (x ∷ xs) (u ++ more) (c, i, u, more, is, refl, here))
+-- a text after another, of which it is known what comes before it
+pub gains-then : (P R : List ℕ → Type 0) (a b c : Option (List ℕ)) → Gains P a b → ((t : List ℕ) → P t → Gains (λ (u : List ℕ). R (t ++ u)) b c) → Gains R a c
+gains-then P R a b c x y = λ held is.
+    let one = x held is in
+    let two = y one.0 one.2 (held ++ one.0) one.1 in
+    (one.0 ++ two.0, two.1 ∙ ap (λ (t : List ℕ). Some t) (append_assoc held one.0 two.0), two.2)
 
--- the explanation is cut short: nothing more is written
-pub begins-cut : (form : Form) (s0 s : State) (b0 b : List ℕ) (items offset : ℕ) (t u : List ℕ) → Begins form s0 b0 s b items offset t → u ≡ [] → IsExplanation form true s0 b0 (t ++ u)
-begins-cut form s0 s b0 b items offset t u begins none = begins true [] u none
+-- a text of which more is known
+pub gains-map : (P Q : List ℕ → Type 0) → ((t : List ℕ) → P t → Q t) → (a b : Option (List ℕ)) → Gains P a b → Gains Q a b
+gains-map P Q map a b x = λ held is. let one = x held is in (one.0, one.1, map one.0 one.2)
 
--- it ends with what is left after the last item
-pub begins-end : (form : Form) (s0 s : State) (b0 b : List ℕ) (items offset : ℕ) → next_event s b ≡ Stop → (t u : List ℕ) → Begins form s0 b0 s b items offset t → IsRestText form items (length b) u → IsExplanation form false s0 b0 (t ++ u)
-begins-end form s0 s b0 b items offset stop t u begins is = begins false [] u (stop, is)
-
--- what was written of what is left, after a beginning
-pub begins-written : (form : Form) (s0 s : State) (b0 b : List ℕ) (items offset : ℕ) → next_event s b ≡ Stop → (r : Result (Unit {0}) ExplainFault) (t u : List ℕ)
-    → Begins form s0 b0 s b items offset t → IsWritten (λ (x : List ℕ). IsRestText form items (length b) x) r u → IsExplanation form (is_err r) s0 b0 (t ++ u)
-begins-written form s0 s b0 b items offset stop (Ok x) t u begins is = begins-end form s0 s b0 b items offset stop t u begins is
-begins-written form s0 s b0 b items offset stop (Err fault) t u begins none = begins-cut form s0 s b0 b items offset t u begins none
+-- nothing was written
+pub gains-none : (P : List ℕ → Type 0) → P [] → (a b : Option (List ℕ)) → b ≡ a → Gains P a b
+gains-none P p a b same = λ held is. ([], same ∙ is ∙ ap (λ (t : List ℕ). Some t) (sym (append-nil held)), p)
 
 -- a text that was written whole
 pub gains-written : (P : List ℕ → Type 0) (r : Result (Unit {0}) ExplainFault) (a b : Option (List ℕ)) (t : List ℕ)
@@ -116,61 +178,345 @@ gains-written P (Ok x) a (Some known) t calm only appends p = λ held is. (t, ap
 gains-written P (Ok x) a None t calm only appends p = λ held is. let none : ⊥ = subst (λ (o : Option (List ℕ)). Appends o None t) is appends in absurd none
 gains-written P (Err fault) a b t calm only appends p = λ held is. let e : not_written {A = Unit {0}} (Err NotWritten) ≡ false = subst (λ (f : ExplainFault). not_written {A = Unit {0}} (Err f) ≡ false) only calm in cc
 
--- nothing more was written
-pub gains-cut : (form : Form) (s0 s : State) (b0 b : List ℕ) (items offset : ℕ) (x y : Option (List ℕ))
-    → Gains (Begins form s0 b0 s b items offset) x y → Gains (λ (t : List ℕ). IsExplanation form true s0 b0 t) x y
-gains-cut form s0 s b0 b items offset x y gains = λ held is.
-    let one = gains held is in
-    (one.0, one.1, subst (λ (t : List ℕ). IsExplanation form true s0 b0 t) (append-nil one.0) (begins-cut form s0 s b0 b items offset one.0 [] one.2 refl))
+-- ---- from some octets to those after some first items
 
--- nothing was written at all
-pub gains-none : (form : Form) (s : State) (b : List ℕ) (o : Option (List ℕ)) → Gains (λ (t : List ℕ). IsExplanation form true s b t) o o
-gains-none form s b o = λ held is. ([], is ∙ ap (λ (t : List ℕ). Some t) (sym (append-nil held)), ([], refl))
+continues-next : (form : Form) (s0 s : State) (b0 b : List ℕ) (items0 offset0 items offset : ℕ) (c : Connection) (x : Explained) (t u : List ℕ)
+    → ExplainsItem s b (items + 1) offset c x → IsItemText form x u → Continues form s0 b0 items0 offset0 s b items offset t
+    → Continues form s0 b0 items0 offset0 c.state (drop x.taken.used b) (items + 1) (offset + x.taken.used) (t ++ u)
+continues-next form s0 s b0 b items0 offset0 items offset c x t u i is on = λ later cut xs more are.
+    let within = item-uses s b (items + 1) offset c x i in
+    let here = subst (λ (d : List ℕ). AreExplained form cut c.state d (items + 1) (offset + x.taken.used) xs more) (sym (drop-append-le x.taken.used b later within.1)) are in
+    let all = on later cut (x ∷ xs) (u ++ more) (c, item-more s b later (items + 1) offset c x i, u, more, is, refl, here) in
+    (all.0, subst (λ (d : List ℕ). AreExplained form cut s0 (b0 ++ later) items0 offset0 all.0 d) (sym (append_assoc t u more)) all.1)
 
--- ---- the end of the run
+counts-next : (s0 s : State) (b0 b : List ℕ) (items0 offset0 items offset : ℕ) (c : Connection) (x : Explained) (t0 t t' : Tallied)
+    → ExplainsItem s b (items + 1) offset c x → TalliesItem t x t' → CountsOn s0 b0 items0 offset0 t0 s b items offset t
+    → CountsOn s0 b0 items0 offset0 t0 c.state (drop x.taken.used b) (items + 1) (offset + x.taken.used) t'
+counts-next s0 s b0 b items0 offset0 items offset c x t0 t t' i note on = λ later xs v are.
+    let within = item-uses s b (items + 1) offset c x i in
+    let here = subst (λ (d : List ℕ). AreTallied c.state d (items + 1 + 1) (offset + x.taken.used) xs t' v) (sym (drop-append-le x.taken.used b later within.1)) are in
+    on later (x ∷ xs) v (c, item-more s b later (items + 1) offset c x i, t', note, here)
 
-abbrev pub summary_with : Verdict → ℕ → Option ℕ → Summary
+pub on-start : (e : Explanation) (s : State) (b : List ℕ) (known : Option (List ℕ)) → e.items ≤ e.offset → ExplainsOn e s b known e s b known
+on-start e s b known few = record {
+  form_is = refl;
+  items_are = omega arith;
+  offset_is = refl;
+  counted = few;
+  state_is = refl;
+  rest_is = refl;
+  written = λ held is. ([], is ∙ ap (λ (t : List ℕ). Some t) (sym (append-nil held)), λ later cut xs more are. (xs, are));
+  tallied = λ later xs v are. (xs, are);
+}
+
+-- one item more
+pub on-next : (e e1 e2 : Explanation) (s s1 : State) (b b1 : List ℕ) (c : Connection) (known known1 known2 : Option (List ℕ)) (used : ℕ)
+    → ExplainsOn e s b known e1 s1 b1 known1 → (y : TakesItem e1 s1 b1 known1 e2 c known2 used) → ExplainsOn e s b known e2 c.state (drop y.item.taken.used b1) known2
+on-next e e1 e2 s s1 b b1 c known known1 known2 used x y =
+    let i = y.explains in
+    let u : ℕ = y.item.taken.used in
+    let within = item-uses s1 b1 (e1.items + 1) e1.offset c y.item i in
+    let offset : e2.offset ≡ e1.offset + u = y.offset_is ∙ ap (λ (n : ℕ). e1.offset + n) y.used_is in
+    let one : whole s1 b1 ≡ after_one i.event (whole c.state (drop u b1)) = whole-one s1 c.state b1 i.event u i.comes in
+    record {
+      form_is = y.form_is ∙ x.form_is;
+      items_are = omega (arith, x.items_are, y.items_are, ap (λ (r : Parsed State Event). length r.elements) one);
+      offset_is = omega (arith, x.offset_is, offset, within.1, length-drop u b1);
+      counted = omega (arith, x.counted, y.items_are, offset, within.0);
+      state_is = x.state_is ∙ ap (λ (r : Parsed State Event). r.state) one;
+      rest_is = x.rest_is ∙ ap (λ (r : Parsed State Event). r.rest) one;
+      written = rw (y.items_are, offset)
+          (gains-both (Continues e.form s b e.items e.offset s1 b1 e1.items e1.offset) (IsItemText e1.form y.item) _
+          (λ t w on is. continues-next e.form s s1 b b1 e.items e.offset e1.items e1.offset c y.item t w i (subst (λ (f : Form). IsItemText f y.item w) x.form_is is) on)
+          known known1 known2 x.written y.written);
+      tallied = rw (y.items_are, offset) (counts-next s s1 b b1 e.items e.offset e1.items e1.offset c y.item e.tally e1.tally e2.tally i y.tallied x.tallied);
+    }
+
+-- the explanation of some first items is one that is cut short
+pub on-cut : (e e1 : Explanation) (s s1 : State) (b b1 : List ℕ) (known known1 : Option (List ℕ)) → ExplainsOn e s b known e1 s1 b1 known1 → Gains (IsCutShort e s b) known known1
+on-cut e e1 s s1 b b1 known known1 x =
+    gains-map (Continues e.form s b e.items e.offset s1 b1 e1.items e1.offset) (IsCutShort e s b)
+    (λ t on later. let one = on later true [] [] refl in (one.0, subst (λ (d : List ℕ). AreExplained e.form true s (b ++ later) e.items e.offset one.0 d) (append-nil t) one.1))
+    known known1 x.written
+
+-- and nothing more was written after it
+pub on-cut-then : (e e1 : Explanation) (s s1 : State) (b b1 : List ℕ) (known known1 known2 : Option (List ℕ)) → ExplainsOn e s b known e1 s1 b1 known1 → Gains (λ (t : List ℕ). t ≡ []) known1 known2 → Gains (IsCutShort e s b) known known2
+on-cut-then e e1 s s1 b b1 known known1 known2 x y =
+    gains-both (IsCutShort e s b) (λ (t : List ℕ). t ≡ []) (IsCutShort e s b)
+    (λ t u cut none. subst (λ (d : List ℕ). IsCutShort e s b d) (sym (ap (λ (w : List ℕ). t ++ w) none ∙ append-nil t)) cut)
+    known known1 known2 (on-cut e e1 s s1 b b1 known known1 x) y
+
+-- ---- the connection
+
+event-after : (s t : State) (n : Next) (e : Event) (used : ℕ) → event_on s n ≡ One e t used → e.state ≡ t
+event-after s t NoItem e used h = cc
+event-after s t (Got x u) e used h = cc
+
+comes-after : (s t : State) (b : List ℕ) (e : Event) (used : ℕ) → next_event s b ≡ One e t used → e.state ≡ t
+unfolding next_event
+comes-after s t b e used h = event-after s t (next_item s b) e used h
+
+pub first-takes : (s t : State) (b out out' : List ℕ) (used : ℕ) → TakesFirst s b out t out' used → Takes s b out t (drop used b) out'
+first-takes s t b out out' used x = record { event = x.event; used = used; comes = x.comes; after = comes-after s t b x.event used x.comes; rest = refl; sent = x.sent; short = x.short }
+
+pub leads-halted : (s t : State) (n : ℕ) (b c out out' : List ℕ) → Leads s b out n t c out' → Halted s b out t out'
+leads-halted s t n b c out out' l = record { items = n; within = l.within; after = sym l.after; sent = l.sent }
+
+-- an item was taken after some, or none
+pub leads-stopped : (s t u : State) (n : ℕ) (b c out out' out'' : List ℕ) → Leads s b out n t c out' → StopsAt t c out' u out'' → Halted s b out u out''
+leads-stopped s t u n b c out out' out'' l (inl same) = rw (same.0, same.1) (leads-halted s t n b c out out' l)
+leads-stopped s t u n b c out out' out'' l (inr one) =
+    leads-halted s u (n + 1) b (drop one.0 c) out out'' (leads-takes s t u n b c (drop one.0 c) out out' out'' l (first-takes t u c out' out'' one.0 one.1))
+
+-- after the end nothing comes
+pub late-feeds : (s : State) (held q out : List ℕ) → is_ended s.core.phase ≡ true → Fed (going s held) q out (going s []) out
+late-feeds s held q out h =
+    let none : trace s (held ++ q) ≡ record { events = []; state = s; rest = left_by s.core.phase (held ++ q) } = trace-stop s (held ++ q) (none-after s (held ++ q) h) in (
+      0,
+      record {
+        items = ap (λ (r : Run). length r.events) (sym none);
+        after = ap (going s) (sym (left-ended s.core.phase (held ++ q) h)) ∙ ap (λ (r : Run). going r.state r.rest) (sym none);
+        sent = sym (ap (λ (r : Run). out ++ sent_octets r.events) none ∙ rw sent-none (append-nil out));
+      },
+    )
+
+-- ---- what is held
+
+-- the octets and counts of an explanation that were not those of its items are others now
+all-same : (e e1 e2 : Explanation) (s s' : State) (b rest : List ℕ) (known known' : Option (List ℕ)) → ExplainsAll e s b known e1 s' rest known'
+    → e2.form ≡ e1.form → e2.items ≡ e1.items → e2.offset ≡ e1.offset → e2.tally ≡ e1.tally → ExplainsAll e s b known e2 s' rest known'
+all-same e e1 e2 s s' b rest known known' x form items offset tally =
+    let on = x.on in
+    record {
+      on = record {
+        form_is = form ∙ on.form_is;
+        items_are = omega (arith, on.items_are, items);
+        offset_is = omega (arith, on.offset_is, offset);
+        counted = omega (arith, on.counted, items, offset);
+        state_is = on.state_is;
+        rest_is = on.rest_is;
+        written = rw (items, offset) on.written;
+        tallied = rw (items, offset, tally) on.tallied;
+      };
+      stops = x.stops;
+    }
+
+-- they were others before
+pub all-from : (e e0 e1 : Explanation) (s s' : State) (b rest : List ℕ) (known known' : Option (List ℕ)) → ExplainsAll e0 s b known e1 s' rest known'
+    → e.form ≡ e0.form → e.items ≡ e0.items → e.offset ≡ e0.offset → e.tally ≡ e0.tally → ExplainsAll e s b known e1 s' rest known'
+all-from e e0 e1 s s' b rest known known' x form items offset tally =
+    let on = x.on in
+    record {
+      on = record {
+        form_is = on.form_is ∙ sym form;
+        items_are = omega (arith, on.items_are, items);
+        offset_is = omega (arith, on.offset_is, offset);
+        counted = on.counted;
+        state_is = on.state_is;
+        rest_is = on.rest_is;
+        written = rw (form, items, offset) on.written;
+        tallied = rw (items, offset, tally) on.tallied;
+      };
+      stops = x.stops;
+    }
+
+-- the rest is held, or counted
+pub handles : (e e1 e2 : Explanation) (s s' : State) (b rest : List ℕ) (known known' : Option (List ℕ)) → ExplainsAll e s b known e1 s' rest known'
+    → e2.form ≡ e1.form → e2.items ≡ e1.items → e2.offset ≡ e1.offset → e2.tally ≡ e1.tally
+    → e2.held.items ≡ left_by s'.core.phase rest → length e2.held.items + e2.late ≡ e.late + length rest → Handles e s b known e2 s' known'
+handles e e1 e2 s s' b rest known known' x form items offset tally held left =
+    record { rest = rest; all = all-same e e1 e2 s s' b rest known known' x form items offset tally; leaves = record { held_is = held; left_is = left } }
+
+-- all items were taken of the octets that were held and of a piece
+pub fed-all : (s s' : State) (held q out out' rest h : List ℕ) → (n : ℕ) × Ran s (held ++ q) out s' rest out' n → h ≡ left_by s'.core.phase rest → Fed (going s held) q out (going s' h) out'
+fed-all s s' held q out out' rest h x is =
+    (x.0, subst (λ (d : List ℕ). Feeds (going s held) q out (going s' d) out' x.0) (sym is) (ran-feeds s s' held q out rest out' x.0 x.1))
+
+-- how many octets there are now
+pub handles-room : (e e' : Explanation) (s s' : State) (piece : List ℕ) (known known' : Option (List ℕ)) → Handles e s (e.held.items ++ piece) known e' s' known' → HasGained e (length piece) e'
+handles-room e e' s s' piece known known' h =
+    (h.all.on.counted, omega (arith, h.all.on.offset_is, h.leaves.left_is, length-append e.held.items piece))
+
+-- ---- over all octets that came
+
+-- what a piece leads to from the octets that were left
+abbrev After : State → List ℕ → List ℕ → State → List ℕ → Type 0
+After s0 b0 piece s' rest = ((whole s0 (b0 ++ piece)).state ≡ s') × ((whole s0 (b0 ++ piece)).rest ≡ rest)
+
+left-held : (s0 : State) (b0 : List ℕ) (c : Connection) (e : Explanation) → IsExplaining s0 b0 c e → is_ended c.state.core.phase ≡ false → e.held.items ≡ (whole s0 b0).rest
+left-held s0 b0 c e x goes =
+    let same : c.state ≡ (whole s0 b0).state = ap (λ (d : Connection). d.state) x.after in
+    x.held_is ∙ left-going (whole s0 b0).state.core.phase (whole s0 b0).rest (subst (λ (s : State). is_ended s.core.phase ≡ false) same goes)
+
+-- from the octets that were left
+from-left : (s0 : State) (b0 piece : List ℕ) (c c' : Connection) (e e' : Explanation) (known known' : Option (List ℕ)) → IsExplaining s0 b0 c e → is_ended c.state.core.phase ≡ false
+    → Handles e c.state (e.held.items ++ piece) known e' c'.state known'
+    → Handles e (whole s0 b0).state ((whole s0 b0).rest ++ piece) known e' c'.state known'
+from-left s0 b0 piece c c' e e' known known' x goes h =
+    subst (λ (s : State). Handles e s ((whole s0 b0).rest ++ piece) known e' c'.state known') (ap (λ (d : Connection). d.state) x.after)
+    (subst (λ (b : List ℕ). Handles e c.state (b ++ piece) known e' c'.state known') (left-held s0 b0 c e x goes) h)
+
+leads-on : (s0 : State) (b0 piece : List ℕ) (s' : State) (e e' : Explanation) (known known' : Option (List ℕ))
+    → (h : Handles e (whole s0 b0).state ((whole s0 b0).rest ++ piece) known e' s' known') → After s0 b0 piece s' h.rest
+leads-on s0 b0 piece s' e e' known known' h =
+    let all = events-append s0 b0 piece in
+    let stop = whole-stop s' h.rest h.all.stops in (
+      ap (λ (r : Parsed State Event). r.state) all ∙ h.all.on.state_is ∙ ap (λ (r : Parsed State Event). r.state) stop,
+      ap (λ (r : Parsed State Event). r.rest) all ∙ h.all.on.rest_is ∙ ap (λ (r : Parsed State Event). r.rest) stop,
+    )
+
+tallies-on : (s0 : State) (b0 piece : List ℕ) (s s' : State) (r r' : List ℕ) (items offset items' offset' : ℕ) (t t' : Tallied)
+    → CountsOn s0 b0 0 0 no_tally s r items offset t → CountsOn s (r ++ piece) items offset t s' r' items' offset' t' → CountsOn s0 (b0 ++ piece) 0 0 no_tally s' r' items' offset' t'
+tallies-on s0 b0 piece s s' r r' items offset items' offset' t t' x y = λ later xs v are.
+    let one = y later xs v are in
+    let two = x (piece ++ later) one.0 v (subst (λ (b : List ℕ). AreTallied s b (items + 1) offset one.0 t v) (append_assoc r piece later) one.1) in
+    (two.0, subst (λ (b : List ℕ). AreTallied s0 b (0 + 1) 0 two.0 no_tally v) (sym (append_assoc b0 piece later)) two.1)
+
+texts-on : (form : Form) (s0 : State) (b0 piece : List ℕ) (s s' : State) (r r' : List ℕ) (items offset items' offset' : ℕ) (text more : List ℕ)
+    → Continues form s0 b0 0 0 s r items offset text → Continues form s (r ++ piece) items offset s' r' items' offset' more → Continues form s0 (b0 ++ piece) 0 0 s' r' items' offset' (text ++ more)
+texts-on form s0 b0 piece s s' r r' items offset items' offset' text more x y = λ later cut xs u are.
+    let one = y later cut xs u are in
+    let two = x (piece ++ later) cut one.0 (more ++ u) (subst (λ (b : List ℕ). AreExplained form cut s b items offset one.0 (more ++ u)) (append_assoc r piece later) one.1) in (
+      two.0,
+      subst (λ (b : List ℕ). AreExplained form cut s0 b 0 0 two.0 ((text ++ more) ++ u)) (sym (append_assoc b0 piece later))
+          (subst (λ (w : List ℕ). AreExplained form cut s0 (b0 ++ (piece ++ later)) 0 0 two.0 w) (sym (append_assoc text more u)) two.1),
+    )
+
+pub explaining-goes : (s0 : State) (b0 piece : List ℕ) (c c' : Connection) (e e' : Explanation) (known known' : Option (List ℕ)) → c' ≡ going c'.state [] → is_ended c.state.core.phase ≡ false
+    → Handles e c.state (e.held.items ++ piece) known e' c'.state known' → IsExplaining s0 b0 c e → IsExplaining s0 (b0 ++ piece) c' e'
+explaining-goes s0 b0 piece c c' e e' known known' ready goes given x =
+    let h = from-left s0 b0 piece c c' e e' known known' x goes given in
+    let r : Parsed State Event = whole s0 b0 in
+    let on = h.all.on in
+    let after = leads-on s0 b0 piece c'.state e e' known known' h in
+    let stop = whole-stop c'.state h.rest h.all.stops in
+    let many = ap (λ (p : Parsed State Event). length p.elements) (events-append s0 b0 piece) ∙ length-append r.elements (whole r.state (r.rest ++ piece)).elements in
+    let held : length e.held.items ≡ length r.rest = ap length (left-held s0 b0 c e x goes) in
+    record {
+      after = rw after.0 ready;
+      stops = rw (after.0, after.1) h.all.stops;
+      items_are = omega (arith, many, on.items_are, x.items_are, ap (λ (p : Parsed State Event). length p.elements) stop);
+      offset_is = rw after.1 (omega (arith, on.offset_is, x.offset_is, length-append r.rest piece, length-append b0 piece));
+      held_is = rw (after.0, after.1) h.leaves.held_is;
+      left_is = rw after.1 (omega (arith, h.leaves.left_is, x.left_is, held));
+      tallied = rw (after.0, after.1) (tallies-on s0 b0 piece r.state c'.state r.rest h.rest e.items e.offset e'.items e'.offset e.tally e'.tally x.tallied on.tallied);
+    }
+
+pub explaining-says : (c c' : Connection) (piece : List ℕ) (e e' : Explanation) (known known' : Option (List ℕ)) → is_ended c.state.core.phase ≡ false
+    → Handles e c.state (e.held.items ++ piece) known e' c'.state known' → SaysOf c e piece e' known known'
+explaining-says c c' piece e e' known known' goes given = λ s0 b0 text x begins.
+    let h = from-left s0 b0 piece c c' e e' known known' x goes given in
+    let r : Parsed State Event = whole s0 b0 in
+    let after = leads-on s0 b0 piece c'.state e e' known known' h in
+    gains-map (Continues e.form r.state (r.rest ++ piece) e.items e.offset c'.state h.rest e'.items e'.offset) _
+    (λ more on. rw (h.all.on.form_is, after.0, after.1) (texts-on e.form s0 b0 piece r.state c'.state r.rest h.rest e.items e.offset e'.items e'.offset text more begins on))
+    known known' h.all.on.written
+
+pub explaining-cut : (c : Connection) (piece : List ℕ) (e : Explanation) (known known' : Option (List ℕ)) → is_ended c.state.core.phase ≡ false
+    → Gains (IsCutShort e c.state (e.held.items ++ piece)) known known' → SaysSome c e piece known known'
+explaining-cut c piece e known known' goes given = λ s0 b0 text x begins.
+    let r : Parsed State Event = whole s0 b0 in
+    let same : c.state ≡ r.state = ap (λ (d : Connection). d.state) x.after in
+    gains-map (IsCutShort e c.state (e.held.items ++ piece)) _
+    (λ more cut.
+    let one = cut [] in
+    let here = subst (λ (b : List ℕ). AreExplained e.form true c.state b e.items e.offset one.0 more) (append-nil (e.held.items ++ piece) ∙ ap (λ (b : List ℕ). b ++ piece) (left-held s0 b0 c e x goes)) one.1 in
+    begins piece true one.0 more (subst (λ (s : State). AreExplained e.form true s (r.rest ++ piece) e.items e.offset one.0 more) same here))
+    known known' given
+
+-- ---- after the end of the connection
+
+pub late-goes : (s0 : State) (b0 piece : List ℕ) (c : Connection) (e e' : Explanation) → is_ended c.state.core.phase ≡ true → PassesBy e (length piece) e' → IsExplaining s0 b0 c e → IsExplaining s0 (b0 ++ piece) c e'
+late-goes s0 b0 piece c e e' over p x =
+    let r : Parsed State Event = whole s0 b0 in
+    let same : c.state ≡ r.state = ap (λ (d : Connection). d.state) x.after in
+    let ended : is_ended r.state.core.phase ≡ true = subst (λ (s : State). is_ended s.core.phase ≡ true) same over in
+    let stop = none-after r.state (r.rest ++ piece) ended in
+    let all = events-append s0 b0 piece ∙ ap (λ (p : Parsed State Event). record { elements = r.elements ++ p.elements; state = p.state; rest = p.rest }) (whole-stop r.state (r.rest ++ piece) stop) in
+    let st : (whole s0 (b0 ++ piece)).state ≡ r.state = ap (λ (p : Parsed State Event). p.state) all in
+    let rest : (whole s0 (b0 ++ piece)).rest ≡ r.rest ++ piece = ap (λ (p : Parsed State Event). p.rest) all in
+    let many = ap (λ (p : Parsed State Event). length p.elements) all ∙ length-append r.elements [] in
+    let none : length e.held.items ≡ 0 = ap length (x.held_is ∙ left-ended r.state.core.phase r.rest ended) in
+    record {
+      after = rw st x.after;
+      stops = rw (st, rest) stop;
+      items_are = omega (arith, many, p.items_are, x.items_are);
+      offset_is = rw rest (omega (arith, p.offset_is, x.offset_is, length-append r.rest piece, length-append b0 piece));
+      held_is = rw (st, rest) (p.held_is ∙ sym (left-ended r.state.core.phase (r.rest ++ piece) ended));
+      left_is = rw rest (omega (arith, x.left_is, none, ap length p.held_is, p.late_is, length-append r.rest piece));
+      tallied = rw (st, rest, p.items_are, p.offset_is, p.tally_is) (tallies-on s0 b0 piece r.state r.state r.rest (r.rest ++ piece) e.items e.offset e.items e.offset e.tally e.tally x.tallied (λ later xs v are. (xs, are)));
+    }
+
+pub late-says : (c : Connection) (piece : List ℕ) (e e' : Explanation) (known : Option (List ℕ)) → is_ended c.state.core.phase ≡ true → PassesBy e (length piece) e'
+    → SaysOf c e piece e' known known
+late-says c piece e e' known over p = λ s0 b0 text x begins.
+    let r : Parsed State Event = whole s0 b0 in
+    let same : c.state ≡ r.state = ap (λ (d : Connection). d.state) x.after in
+    let ended : is_ended r.state.core.phase ≡ true = subst (λ (s : State). is_ended s.core.phase ≡ true) same over in
+    let all = events-append s0 b0 piece ∙ ap (λ (p : Parsed State Event). record { elements = r.elements ++ p.elements; state = p.state; rest = p.rest }) (whole-stop r.state (r.rest ++ piece) (none-after r.state (r.rest ++ piece) ended)) in
+    let st : (whole s0 (b0 ++ piece)).state ≡ r.state = ap (λ (p : Parsed State Event). p.state) all in
+    let rest : (whole s0 (b0 ++ piece)).rest ≡ r.rest ++ piece = ap (λ (p : Parsed State Event). p.rest) all in
+    gains-none (λ (more : List ℕ). IsBeginning s0 (b0 ++ piece) e' (text ++ more))
+    (rw (p.form_is, p.items_are, p.offset_is, st, rest) (texts-on e.form s0 b0 piece r.state r.state r.rest (r.rest ++ piece) e.items e.offset e.items e.offset text [] begins (λ later cut xs more are. (xs, are))))
+    known known refl
+
+-- ---- the beginning and the end
+
+new-run : (s : State) → whole s [] ≡ record { elements = []; state = s; rest = [] }
+new-run s = whole-stop s [] (empty-stop s)
+
+pub new-explains : (form : Form) (s : State) (e : Explanation) → IsNew form e → IsExplaining s [] (going s []) e
+new-explains form s e n =
+    let run = new-run s in
+    record {
+      after = rw run refl;
+      stops = rw run (empty-stop s);
+      items_are = rw run n.items_are;
+      offset_is = rw (run, n.offset_is) refl;
+      held_is = rw run (n.held_is ∙ sym (left-none s.core.phase));
+      left_is = rw (run, n.held_is, n.late_is) refl;
+      tallied = rw (run, n.items_are, n.offset_is, n.tally_is) (λ later xs v are. (xs, are));
+    }
+
+pub new-begins : (form : Form) (s : State) (e : Explanation) → IsNew form e → IsBeginning s [] e []
+new-begins form s e n = rw (new-run s, n.items_are, n.offset_is) (λ later cut xs more are. (xs, are))
+
+pub end-says : (c : Connection) (e : Explanation) (r : Result (Unit {0}) ExplainFault) (known known' : Option (List ℕ))
+    → Gains (IsWritten (λ (t : List ℕ). IsRestText e.form e.items (length e.held.items + e.late) t) r) known known' → EndsAs (is_err r) c e known known'
+end-says c e r known known' given = λ s0 b0 text x begins. gains-map _ _ (said s0 b0 text x begins r) known known' given
+  where
+    said : (s0 : State) (b0 text : List ℕ) → IsExplaining s0 b0 c e → IsBeginning s0 b0 e text → (q : Result (Unit {0}) ExplainFault) (more : List ℕ)
+        → IsWritten (λ (t : List ℕ). IsRestText e.form e.items (length e.held.items + e.late) t) q more → IsExplanation e.form (is_err q) s0 b0 (text ++ more)
+    said s0 b0 text x begins (Ok u) more is =
+        let rest : List ℕ = (whole s0 b0).rest in
+        let all : rest ++ [] ≡ rest = append-nil rest in
+        let one = begins [] false [] more (rw (all, ← x.left_is) (x.stops, is)) in
+        (one.0, subst (λ (b : List ℕ). AreExplained e.form false s0 b 0 0 one.0 (text ++ more)) (append-nil b0) one.1)
+    said s0 b0 text x begins (Err fault) more none =
+        let one = begins [] true [] more none in
+        (one.0, subst (λ (b : List ℕ). AreExplained e.form true s0 b 0 0 one.0 (text ++ more)) (append-nil b0) one.1)
+
+abbrev summary_with : Verdict → ℕ → Option ℕ → Summary
 summary_with verdict items ended = record { items = items; ended = ended; verdict = verdict }
 
-final-at : (s0 s : State) (octets b : List ℕ) (c : Connection) → ExplainsNone s b c → final s0 octets ≡ final s b → (trace s0 octets).state ≡ c.state
-final-at s0 s octets b c n run = trace-final s0 octets ∙ run ∙ final-stop s b n.none ∙ sym (ap (λ (d : Connection). d.state) n.same)
+summary-run : (s : State) (b : List ℕ) (v : Verdict) → summary_with v (length (whole s b).elements) (option_map code_number (ended_code (whole s b).state.core.phase)) ≡ summary_over s b v
+unfolding trace
+summary-run s b v = refl
 
-pub run-end : (s0 s : State) (octets b : List ℕ) (c : Connection) → ExplainsNone s b c → final s0 octets ≡ final s b → c ≡ going (trace s0 octets).state []
-run-end s0 s octets b c n run = n.same ∙ ap (λ (t : State). going t []) (sym (ap (λ (d : Connection). d.state) n.same) ∙ sym (final-at s0 s octets b c n run))
+pub end-summed : (c : Connection) (e : Explanation) (r : Summary) (left : ℕ) → r.items ≡ e.items → r.ended ≡ option_map code_number (ended_code c.state.core.phase) → left ≡ length e.held.items + e.late
+    → r.verdict ≡ verdict_at e.tally c.state left → IsSummed c e r
+end-summed c e r left items ended long verdict = λ s b x.
+    let run : Parsed State Event = whole s b in
+    let same : c.state ≡ run.state = ap (λ (d : Connection). d.state) x.after in
+    let all : run.rest ++ [] ≡ run.rest = append-nil run.rest in
+    let said : r.verdict ≡ verdict_at e.tally run.state (length (run.rest ++ [])) = verdict ∙ ap₂ (λ (t : State) (n : ℕ). verdict_at e.tally t n) same (long ∙ x.left_is ∙ ap length (sym all)) in
+    let stops : next_event run.state (run.rest ++ []) ≡ Stop = rw all x.stops in
+    let one = x.tallied [] [] r.verdict (stops, said) in (
+      ap₂ (summary_with r.verdict) (items ∙ x.items_are) (ended ∙ ap (λ (t : State). option_map code_number (ended_code t.core.phase)) same) ∙ summary-run s b r.verdict,
+      (one.0, subst (λ (d : List ℕ). AreTallied s d (0 + 1) 0 one.0 no_tally r.verdict) (append-nil b) one.1),
+    )
 
-summary-end : (s0 s : State) (octets b : List ℕ) (c : Connection) (r : Summary) (items : ℕ) → ExplainsNone s b c → final s0 octets ≡ final s b → count s0 octets ≡ items + count s b
-    → r.items ≡ items → r.ended ≡ option_map code_number (ended_code c.state.core.phase) → r ≡ summary_over s0 octets r.verdict
-summary-end s0 s octets b c r items n run counted same is =
-    ap₂ (summary_with r.verdict) (omega (arith, same, counted, count-stop s b n.none, trace-count s0 octets))
-    (is ∙ ap (λ (t : State). option_map code_number (ended_code t.core.phase)) (sym (final-at s0 s octets b c n run)))
-
--- ---- the tally
-
--- what is counted so far: a verdict that the items from here on lead to is that on the whole run
-abbrev pub Tallies : State → List ℕ → State → List ℕ → (number offset : ℕ) → Tallied → Type 0
-Tallies s0 b0 s b number offset t = (xs : List Explained) (v : Verdict) → AreTallied s b number offset xs t v → IsVerdict s0 b0 v
-
--- nothing was counted yet
-pub tallies-nothing : (s0 : State) (b0 : List ℕ) (t : Tallied) → t ≡ no_tally → Tallies s0 b0 s0 b0 1 0 t
-tallies-nothing s0 b0 t is = λ xs v are. (xs, subst (λ (u : Tallied). AreTallied s0 b0 1 0 xs u v) is are)
-
--- the next item is counted
-pub tallies-next : (s0 s : State) (b0 octets : List ℕ) (at number offset : ℕ) (c : Connection) (x : Explained) (t t' : Tallied)
-    → ExplainsItem s (drop at octets) number offset c x → TalliesItem t x t'
-    → Tallies s0 b0 s (drop at octets) number offset t
-    → Tallies s0 b0 c.state (drop (at + x.taken.used) octets) (number + 1) (offset + x.taken.used) t'
-tallies-next s0 s b0 octets at number offset c x t t' i note tallies = λ xs v are.
-    tallies (x ∷ xs) v (c, i, t', note, subst (λ (b : List ℕ). AreTallied c.state b (number + 1) (offset + x.taken.used) xs t' v) (sym (drop-drop x.taken.used at octets)) are)
-
--- what is said of the client once there is no item more
-verdict-end : (s0 s : State) (octets b : List ℕ) (c : Connection) (t : Tallied) (v : Verdict) (number offset left : ℕ) → ExplainsNone s b c → left ≡ length b
-    → v ≡ verdict_at t c.state left → Tallies s0 octets s b number offset t → IsVerdict s0 octets v
-verdict-end s0 s octets b c t v number offset left n long is tallies =
-    tallies [] v (n.none, is ∙ ap₂ (λ (u : State) (k : ℕ). verdict_at t u k) (ap (λ (d : Connection). d.state) n.same) long)
-
--- what is summed up then
-pub summary-is : (s0 s : State) (octets b : List ℕ) (c : Connection) (r : Summary) (items number offset left : ℕ) (t : Tallied) → ExplainsNone s b c → final s0 octets ≡ final s b → count s0 octets ≡ items + count s b
-    → r.items ≡ items → r.ended ≡ option_map code_number (ended_code c.state.core.phase) → left ≡ length b → r.verdict ≡ verdict_at t c.state left
-    → Tallies s0 octets s b number offset t → IsSummary s0 octets r
-summary-is s0 s octets b c r items number offset left t n run counted same is long said tallies =
-    (summary-end s0 s octets b c r items n run counted same is, verdict-end s0 s octets b c t r.verdict number offset left n long said tallies)
+-- a run over all octets at once
+pub all-run : (s : State) (b : List ℕ) (c : Connection) (e : Explanation) → IsExplaining s b c e → c ≡ going (trace s b).state []
+unfolding trace
+all-run s b c e x = x.after

@@ -135,7 +135,7 @@ streams_of (suc most) b = streams_then (streams_of most) (first_frame b)
 
 -- what an item changed on the streams that frames were sent on for it, which are noted as they were before the item
 abbrev pub changes_of_sent : Explained → State → (ℕ → Option StreamNote) → List Change
-changes_of_sent x s note = changes_on x.number (stream_at s.core.last s.streams) x.after.counts.send note (streams_of (length x.sent.items) x.sent.items)
+changes_of_sent x s note = changes_on x.number (stream_at s.core.last s.streams) x.after.counts.send note (streams_of (length x.sent.now) x.sent.now)
 
 -- what is noted once the stream of an item was looked at; the item that began its block is given
 abbrev pub noted_with : Explained → (begun : ℕ) → (ℕ → Option StreamNote) → ℕ → Option StreamNote

@@ -1,5 +1,5 @@
 -- An item that was taken, with what was before it and what is after it.
-use Rattle.std.specs.Prelude.{◌≡◌, ℕ, List, [], length, take, drop, Option, Some, None}
+use Rattle.std.specs.Prelude.{◌≡◌, ℕ, ◌≤◌, List, [], length, take, drop, Option, Some, None, option_map}
 use Rattle.h2_spec.specs.declared.connection.Phase.{Phase}
 use Rattle.h2_spec.specs.declared.connection.Phase.TheVariants.{Preface, Settings, Running, Ended}
 use Rattle.h2_spec.specs.declared.frames.Head.{Head}
@@ -7,7 +7,7 @@ use Rattle.h2_spec.specs.declared.frames.ItemHead.{ItemHead}
 use Rattle.h2_spec.specs.declared.frames.ItemHead.TheVariants as head
 use Rattle.h2_spec.specs.DynamicTable.{total_size}
 use Rattle.h2_spec.specs.Frame.{frames_octets, head_at}
-use Rattle.h2_spec.specs.Parse.{Stop, One}
+use Rattle.h2_spec.specs.Parse.{One}
 use Rattle.h2_spec.specs.State.{State}
 use Rattle.h2_spec.specs.Stream.{stream_at}
 use Rattle.h2_spec.specs.Trace.{Event, next_event, next_item}
@@ -17,6 +17,7 @@ use Rattle.h2_conn.specs.Connection.{Connection, going}
 use Rattle.h2_conn.specs.Reports.{reported}
 use Rattle.h2_explain.specs.declared.item.Explained.{Explained}
 use Rattle.h2_explain.specs.declared.item.Moment.{Moment}
+use Rattle.h2_explain.specs.declared.item.Taking.{Taking}
 
 -- what is looked at of a state, with one of its streams
 abbrev pub moment_of : State → ℕ → Moment
@@ -63,6 +64,11 @@ frame_in (head.Frame h) b = Some (h, payload_in b)
 abbrev pub frame_seen : FrameRef → Head × List ℕ
 frame_seen f = (f.head, f.payload.now)
 
+-- octets that begin with the octets of an item: those that are there when it is taken
+pub record IsAhead (b : List ℕ) (used : ℕ) (ahead : List ℕ) : Type 0 where
+  pub whole : used ≤ length ahead
+  pub begins : ahead ≡ take (length ahead) b
+
 -- the next item of a connection was taken: this is its event, and all that is kept of it is as the definitions have it
 pub record ExplainsItem (s : State) (b : List ℕ) (number offset : ℕ) (c : Connection) (x : Explained) : Type 0 where
   pub event : Event
@@ -71,17 +77,22 @@ pub record ExplainsItem (s : State) (b : List ℕ) (number offset : ℕ) (c : Co
   pub number_is : x.number ≡ number
   pub offset_is : x.offset ≡ offset
   pub octets_is : x.octets.now ≡ take x.taken.used b
-  pub ahead_is : x.ahead.now ≡ b
+  pub ahead_is : IsAhead b x.taken.used x.ahead.now
   pub taken_is : Some x.taken ≡ reported s (next_item s b)
-  pub sent_is : x.sent.items ≡ frames_octets event.sent
+  pub sent_is : x.sent.now ≡ frames_octets event.sent
   pub before_is : x.before ≡ moment_of s (stream_ahead s.core.phase b)
   pub after_is : x.after ≡ moment_of c.state (stream_ahead s.core.phase b)
 
--- or there is none, and nothing changes
-pub record ExplainsNone (s : State) (b : List ℕ) (c : Connection) : Type 0 where
-  pub none : next_event s b ≡ Stop
-  pub same : c ≡ going s []
+-- what is kept of the next item that octets begin with, where there is one
+pub record KeepsItem (s : State) (b : List ℕ) (t : State) (x : Taking) : Type 0 where
+  pub taken_is : Some x.taken ≡ reported s (next_item s b)
+  pub before_is : x.before ≡ moment_of s (stream_ahead s.core.phase b)
+  pub after_is : x.after ≡ moment_of t (stream_ahead s.core.phase b)
 
-abbrev pub ExplainsNext : State → List ℕ → (number offset : ℕ) → Connection → Option Explained → Type 0
-ExplainsNext s b number offset c None = ExplainsNone s b c
-ExplainsNext s b number offset c (Some x) = ExplainsItem s b number offset c x
+abbrev pub Keeps : State → List ℕ → State → Option Taking → Type 0
+Keeps s b t None = Unit {0}
+Keeps s b t (Some x) = KeepsItem s b t x
+
+-- how many octets it takes
+abbrev pub used_of : Option Taking → Option ℕ
+used_of taking = option_map (λ (x : Taking). x.taken.used) taking

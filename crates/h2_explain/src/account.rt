@@ -220,7 +220,7 @@ impl Explainer {
     ) -> Result<(), AllocError>
         ensures { OnOk result (out.new.items ≡ out.old.items ++ changes_of_sent item.now conn.now.state (note_of self.old.notes)) }
     {
-        let mut rest = item.sent.as_slice();
+        let mut rest = item.sent;
         for _frame in 0..item.sent.len() {
             let Some((frame, after)) = next_frame(rest) else {
                 return Ok(());

@@ -4,10 +4,10 @@
 ghost use Rattle.std.specs.Prelude.{◌≡◌, [], IfOk, OnErr, drop, min, length, take};
 ghost use Rattle.std.specs.Option.{option_map};
 ghost use Rattle.h2_conn.specs.Connection.{going};
-ghost use Rattle.h2_explain.specs.Explained.{ExplainsNext, frame_in, frame_seen, head_in, moment_of, payload_in, stream_ahead};
+ghost use Rattle.h2_conn.specs.First.{TakesIfAny};
+ghost use Rattle.h2_explain.specs.Explained.{Keeps, frame_in, frame_seen, head_in, moment_of, payload_in, stream_ahead, used_of};
 
 use h2_conn::{Conn, TakenItem};
-use h2_describe::sent::first_of;
 use h2_frame::{FrameRef, read_head};
 use h2_spec::connection::{BlockView, ConnectionState, Phase};
 use h2_spec::frames::{Head, ItemHead};
@@ -46,7 +46,7 @@ pub fn moment_at(conn: &Conn<'_, Global>, stream: u32) -> Moment
 }
 
 /// An item of a connection that was taken.
-#[derive(Drop)]
+#[derive(Clone, Copy)]
 pub struct Explained<'o> {
     /// Its number: the preface is 1.
     pub number: u64,
@@ -54,12 +54,12 @@ pub struct Explained<'o> {
     pub offset: usize,
     /// Its octets.
     pub octets: &'o [u8],
-    /// Its octets and all behind them that are there.
+    /// Its octets and those after them that are there already.
     pub ahead: &'o [u8],
     /// What it is, why it is an error, and why it is ignored.
     pub taken: TakenItem,
     /// The octets that were sent for it.
-    pub sent: Vec<u8>,
+    pub sent: &'o [u8],
     pub before: Moment,
     pub after: Moment,
 }
@@ -113,35 +113,37 @@ pub(crate) fn stream_ahead(phase: Phase, octets: &[u8]) -> u32
     }
 }
 
-/// Takes the item that octets begin with, and keeps what was before it and what is after it; `None` where there is
-/// none. `number` is its number, and `offset` is how many octets came before these.
+/// What is kept of an item that a connection has taken, beside its octets and those that were sent for it.
+#[derive(Clone, Copy)]
+pub struct Taking {
+    /// What it is, why it is an error, and why it is ignored.
+    pub taken: TakenItem,
+    pub before: Moment,
+    pub after: Moment,
+}
+
+/// Takes the item that octets begin with, if there is one, and keeps what was before it and what is after it. What is
+/// sent for it is appended to `out`.
 ///
-/// `AllocError` where memory is refused.
-pub fn take_explained<'o>(
-    alloc: Global,
+/// `AllocError` where memory is refused: nothing of it is done.
+pub fn take_next(
     conn: &mut Conn<'_, Global>,
-    number: u64,
-    offset: usize,
-    octets: &'o [u8],
-) -> Result<Option<Explained<'o>>, AllocError>
+    octets: &[u8],
+    out: &mut Vec<u8>,
+) -> Result<Option<Taking>, AllocError>
     requires ready { conn.old ≡ going conn.old.state [] }
-    ensures ok { IfOk result (λ x. ExplainsNext conn.old.state octets.now number offset conn.new x) }
+    ensures ok { IfOk result (λ x. TakesIfAny conn.old.state octets.now out.old.items conn.new.state out.new.items (used_of x)) }
+    ensures kept { IfOk result (λ x. Keeps conn.old.state octets.now conn.new.state x) }
     ensures ready { conn.new ≡ going conn.new.state [] }
-    ensures unchanged { OnErr result (conn.new ≡ conn.old) }
+    ensures unchanged { OnErr result ((conn.new ≡ conn.old) × (out.new.items ≡ out.old.items)) }
 {
     let stream = stream_ahead(conn.counts().phase, octets);
     let before = moment_at(conn, stream);
-    let mut sent = Vec::new(alloc);
-    let Some(taken) = conn.take_and_report(octets, &mut sent)? else {
+    let Some(taken) = conn.take_and_report(octets, out)? else {
         return Ok(None);
     };
-    Ok(Some(Explained {
-        number,
-        offset,
-        octets: first_of(octets, taken.used),
-        ahead: octets,
+    Ok(Some(Taking {
         taken,
-        sent,
         before,
         after: moment_at(conn, stream),
     }))

@@ -515,7 +515,7 @@ fn put_item(alloc: Global, item: &Explained<'_>, out: &mut JsonWords) {
     if let Some(frame) = item.frame() {
         put_payload(frame, out);
     }
-    put_sent(alloc, item.sent.as_slice(), out);
+    put_sent(alloc, item.sent, out);
 }
 
 /// The version of the form of the lines.

@@ -297,13 +297,7 @@ fn words_of(
         item: item_words(alloc, item, explainer)?,
         fields: fields_text(alloc, account, explainer, paint)?,
         also: also_text(alloc, account.also.as_slice(), paint)?,
-        sent: sent_text(
-            alloc,
-            account.warnings,
-            item.sent.as_slice(),
-            explainer,
-            paint,
-        )?,
+        sent: sent_text(alloc, account.warnings, item.sent, explainer, paint)?,
         changes: changes_text(alloc, account, explainer, paint)?,
     })
 }

@@ -203,7 +203,7 @@ pub(crate) fn moved_by(
     live: &Live,
 ) -> Result<Vec<Moved>, AllocError> {
     let mut list = Vec::new(alloc);
-    let sent = sent_streams(alloc, item.sent.as_slice())?;
+    let sent = sent_streams(alloc, item.sent)?;
     if item.after.stream.id != 0 {
         let initial = item.after.counts.peer.window;
         put_listed(&item.before.stream, &item.after.stream, initial, &mut list)?;
@@ -255,7 +255,7 @@ pub(crate) fn note_moved(
     if item.after.stream.id != 0 {
         keep_live(&item.after.stream, live)?;
     }
-    let sent = sent_streams(alloc, item.sent.as_slice())?;
+    let sent = sent_streams(alloc, item.sent)?;
     for stream in sent.keys() {
         keep_live(&conn.stream(*stream), live)?;
     }

@@ -7,4 +7,4 @@ use Rattle.h2_explain.proofs.account.Explainer.see_sent.Given as goal
 abbrev pub invariant-loop-frame : goal.invariant-loop-frame
 invariant-loop-frame l =
     l.fn.out.items ++ changes_of_sent l.fn.item l.fn.conn.state (note_of l.fn.self.notes)
-    ≡ l.out.items ++ changes_on l.fn.item.number (stream_at l.fn.conn.state.core.last l.fn.conn.state.streams) l.fn.item.after.counts.send (note_of l.self.notes) (streams_of (length l.fn.item.sent.items - l._frame) l.rest)
+    ≡ l.out.items ++ changes_on l.fn.item.number (stream_at l.fn.conn.state.core.last l.fn.conn.state.streams) l.fn.item.after.counts.send (note_of l.self.notes) (streams_of (length l.fn.item.sent.now - l._frame) l.rest)

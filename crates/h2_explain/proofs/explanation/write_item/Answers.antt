@@ -1,7 +1,7 @@
 use Rattle.std.proofs.Common.{◌∙◌, List, ℕ, sym}
 use Rattle.h2_explain.specs.Explains.{IsItemText}
 use Rattle.h2_explain.proofs.Steps.{gains-written}
-use Rattle.h2_explain.proofs.run.write_item.Goals as goal
+use Rattle.h2_explain.proofs.explanation.write_item.Goals as goal
 
 pub returns-in-Ok-clause-gains : goal.returns-in-Ok-clause-gains
 returns-in-Ok-clause-gains g c = λ well.

@@ -1,0 +1,35 @@
+use Rattle.std.proofs.Common.{◌∙◌, ◌+◌, ℕ, List, Result, ap, ap₂, arith, drop, refl, subst}
+use Rattle.h2_explain.specs.Explains.{Gains, IsItemText, IsWritten, not_written}
+use Rattle.h2_explain.specs.declared.item.Explained.{Explained}
+use Rattle.h2_explain.specs.declared.run.ExplainFault.{ExplainFault}
+use Rattle.h2_explain.proofs.Steps.{first-uses, item-explained}
+use Rattle.h2_explain.proofs.explanation.Explanation.take_item.Goals as goal
+
+pub overflow_add-self-2 : goal.overflow_add-self-2
+overflow_add-self-2 g c =
+    let first = rw c.in-Ok-Some.field-0-is at c.in-Ok-Some.ensures.ok in
+    let uses = first-uses _ _ _ _ _ _ first in
+    omega (arith, uses.1, c.requires.few.1)
+
+pub returns-clause-ok : goal.returns-clause-ok
+returns-clause-ok g c =
+    let e = c.args.self.now in
+    let k = c.in-Ok-Some.taking in
+    let x : Explained = record { number = e.items + 1; offset = e.offset; octets = c.first_of.result; ahead = c.args.octets; taken = k.taken; sent = c.octets_from.result; before = k.before; after = k.after } in
+    let first = rw c.in-Ok-Some.field-0-is at c.in-Ok-Some.ensures.ok in
+    let kept = rw c.in-Ok-Some.field-0-is at c.in-Ok-Some.ensures.kept in
+    let sent = c.octets_from.ensures ∙ ap₂ (λ (n : ℕ) (l : List ℕ). drop n l) c.start_of-start.ensures.end c.as_slice.ensures.value in
+    let well = c.write_item.ensures.flag ∙ ap (λ (r : Result (Unit {0}) ExplainFault). not_written r) c.in-Ok.is in
+    record {
+      item = x;
+      explains = item-explained c.args.conn.now.state c.args.octets.now c.start_of-start.new.out.items c.take_next.new.out.items (e.items + 1) e.offset c.take_next.new.conn k x c.take_next.ensures.ready first kept
+          refl refl c.first_of.ensures refl refl sent refl refl;
+      used_is = refl;
+      written = subst (λ (r : Result (Unit {0}) ExplainFault). Gains (IsWritten (λ (t : List ℕ). IsItemText e.form x t) r) (g.O.Output.written c.args.output.now) (g.O.Output.written c.write_item.new.output)) c.in-Ok.is (c.write_item.ensures.gains well);
+      tallied = c.in-Ok.ensures.tally;
+      form_is = refl;
+      items_are = refl;
+      offset_is = refl;
+      held_is = refl;
+      late_is = refl;
+    }

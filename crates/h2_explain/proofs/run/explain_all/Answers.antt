@@ -1,0 +1,40 @@
+use Rattle.std.proofs.Common.{◌++◌, List, ℕ, [], is_err, subst, sym}
+use Rattle.std.proofs.lemmas.Result.{IfOk-weaker}
+use Rattle.h2_conn.specs.Connection.{Connection}
+use Rattle.h2_explain.specs.Explaining.{IsBeginning, IsExplaining}
+use Rattle.h2_explain.specs.Explains.{Gains, IsExplanation}
+use Rattle.h2_explain.specs.declared.run.Form.{Form}
+use Rattle.h2_explain.proofs.Steps.{all-run, gains-then, new-begins, new-explains}
+use Rattle.h2_explain.proofs.run.explain_all.Goals as goal
+
+pub returns-in-Ok-clause-summary : goal.returns-in-Ok-clause-summary
+returns-in-Ok-clause-summary g c =
+    let s = c.args.conn.now.state in
+    let e = c.args.explanation.now in
+    let start = subst (λ (d : Connection). IsExplaining s [] d e) (sym c.requires.new) (new-explains e.form s e c.requires.fresh) in
+    IfOk-weaker c.end.result _ _ (λ r h. h s c.args.octets.now (c.in-Ok.ensures.goes s [] start)) c.end.ensures.summary
+
+pub returns-in-Ok-clause-run : goal.returns-in-Ok-clause-run
+returns-in-Ok-clause-run g c =
+    let s = c.args.conn.now.state in
+    let e = c.args.explanation.now in
+    let start = subst (λ (d : Connection). IsExplaining s [] d e) (sym c.requires.new) (new-explains e.form s e c.requires.fresh) in
+    IfOk-weaker c.end.result _ _ (λ r h. all-run s c.args.octets.now c.take_piece.new.conn c.take_piece.new.self (c.in-Ok.ensures.goes s [] start)) c.end.ensures.summary
+
+pub returns-in-Ok-clause-gains : goal.returns-in-Ok-clause-gains
+returns-in-Ok-clause-gains g c = λ well.
+    let s = c.args.conn.now.state in
+    let e = c.args.explanation.now in
+    let b = c.args.octets.now in
+    let start = subst (λ (d : Connection). IsExplaining s [] d e) (sym c.requires.new) (new-explains e.form s e c.requires.fresh) in
+    subst (λ (f : Form). Gains (λ (text : List ℕ). IsExplanation f (is_err c.end.result) s b text) (g.O.Output.written c.args.output.now) (g.O.Output.written c.end.new.output)) c.in-Ok.ensures.form
+    (gains-then (λ (text : List ℕ). IsBeginning s b c.take_piece.new.self text) _ (g.O.Output.written c.args.output.now) (g.O.Output.written c.take_piece.new.output) (g.O.Output.written c.end.new.output)
+    (c.in-Ok.ensures.gains s [] [] start (new-begins e.form s e c.requires.fresh))
+    (λ text begins. c.end.ensures.gains well s b text (c.in-Ok.ensures.goes s [] start) begins))
+
+pub returns-clause-gains : goal.returns-clause-gains
+returns-clause-gains g c = λ well.
+    let s = c.args.conn.now.state in
+    let e = c.args.explanation.now in
+    let start = subst (λ (d : Connection). IsExplaining s [] d e) (sym c.requires.new) (new-explains e.form s e c.requires.fresh) in
+    c.in-Err.ensures.cut well s [] [] start (new-begins e.form s e c.requires.fresh)

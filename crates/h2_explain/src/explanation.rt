@@ -1,0 +1,514 @@
+//! A connection that is explained while its octets come: each item is explained as soon as its last octet is there, and
+//! the octets of an item that is not whole are held (RFC 9113, 3.4).
+//! Rests on `item`, `account`, `end` and `text`; definitions: `specs/Explaining.antt`.
+
+ghost use Rattle.std.specs.Prelude.{◌≡◌, ◌<◌, ◌≤◌, ◌+◌, ◌^◌, ◌++◌, ℕ, List, [], true, false, drop, length, option_map, IfErr, IfOk, OnErr, OnOk, is_err};
+ghost use Rattle.std.specs.String.{string_bytes};
+ghost use Rattle.std.specs.Io.KnownBytes.{Appends};
+ghost use Rattle.h2_spec.specs.Errors.{code_number};
+ghost use Rattle.h2_spec.specs.State.{ended_code};
+ghost use Rattle.h2_conn.specs.Connection.{going, halted};
+ghost use Rattle.h2_conn.specs.First.{TakesIfAny};
+ghost use Rattle.h2_conn.specs.Runs.{Fed, Halted, Halts, Ran};
+ghost use Rattle.h2_explain.specs.Explaining.{EndsAs, ExplainsAll, GoesOn, Handles, HasGained, HasRoom, IsCutShort, IsNew, IsSummed, PassesBy, SaysOf, SaysSome, StopsAt, TakesIfThere};
+ghost use Rattle.h2_explain.specs.Explains.{Gains, IsItemText, IsRestText, IsWritten, not_written};
+ghost use Rattle.h2_explain.specs.Verdicts.{TalliesItem, verdict_at};
+ghost use Rattle.h2_explain.specs.declared.run.ExplainFault.TheVariants as faults;
+
+use crate::account::{Explainer, has_ended};
+use crate::end::End;
+use crate::item::{Explained, take_next};
+use crate::json::json_of;
+use crate::lines::lines_of;
+use crate::paint::Paint;
+use crate::recorder::Recorder;
+use crate::rest::rest_of;
+use crate::run::{ExplainFault, Form, Summary};
+use crate::verdict::{Tally, verdict_at};
+use h2_conn::Conn;
+use h2_describe::sent::first_of;
+use h2_device::Output;
+use h2_spec::octets::octets_from;
+use std::alloc::{AllocError, Global};
+use std::mem;
+
+/// Writes octets, or says that they were not written.
+fn write<O: Output>(output: &mut O, octets: &[u8]) -> Result<(), ExplainFault>
+    requires writer { O.has_failed output.old ≡ false }
+    ensures octets { O.has_failed output.new ≡ false → Appends (O.written output.old) (O.written output.new) octets.now }
+    ensures fault { IfErr result (λ fault. fault ≡ faults.NotWritten) }
+    ensures flag { O.has_failed output.new ≡ not_written result }
+    ensures name { O.name output.new ≡ O.name output.old }
+{
+    match output.write(octets) {
+        Ok(()) => Ok(()),
+        Err(_) => Err(ExplainFault::NotWritten),
+    }
+}
+
+/// The text of an item.
+fn item_text(
+    alloc: Global,
+    form: Form,
+    explainer: &mut Explainer,
+    tally: &mut Tally,
+    conn: &Conn<'_, Global>,
+    item: &Explained<'_>,
+) -> Result<String, AllocError>
+    ensures text { IfOk result (λ text. IsItemText form item.now (string_bytes text)) }
+    ensures tally { OnOk result (TalliesItem tally.old item.now tally.new) }
+{
+    let account = explainer.account(alloc, conn, item)?;
+    tally.note(item, account.facts, account.warnings)?;
+    if form.json {
+        json_of(alloc, item, &account, explainer)
+    } else {
+        lines_of(alloc, item, &account, explainer, Paint(form.color))
+    }
+}
+
+/// Writes the text of an item.
+fn write_item<O: Output>(
+    alloc: Global,
+    form: Form,
+    explainer: &mut Explainer,
+    tally: &mut Tally,
+    conn: &Conn<'_, Global>,
+    item: &Explained<'_>,
+    output: &mut O,
+) -> Result<(), ExplainFault>
+    requires writer { O.has_failed output.old ≡ false }
+    ensures gains { O.has_failed output.new ≡ false → Gains (IsWritten (λ text. IsItemText form item.now text) result) (O.written output.old) (O.written output.new) }
+    ensures tally { OnOk result (TalliesItem tally.old item.now tally.new) }
+    ensures flag { O.has_failed output.new ≡ not_written result }
+    ensures name { O.name output.new ≡ O.name output.old }
+{
+    match item_text(alloc, form, explainer, tally, conn, item) {
+        Ok(text) => write(output, text.as_bytes()),
+        Err(_) => Err(ExplainFault::NoMemory),
+    }
+}
+
+/// Where what is sent next begins in `out`: at its end where it is kept, else at its front.
+fn start_of(out: &mut Vec<u8>, keeps: bool) -> usize
+    ensures end { result ≡ length out.new.items }
+    ensures kept { keeps ≡ true → out.new.items ≡ out.old.items }
+{
+    if !keeps {
+        out.clear();
+    }
+    out.len()
+}
+
+/// The octets without this many at their front.
+fn without_front(octets: Vec<u8>, count: usize) -> Vec<u8>
+    requires { count ≤ length octets.items }
+    ensures { result.items ≡ drop count octets.items }
+{
+    let mut octets = octets;
+    let len = octets.len();
+    octets.rotate_left(count);
+    octets.truncate(len - count);
+    octets
+}
+
+/// What is summed up of a connection that had this many items, with this many octets left.
+fn summary_of(conn: &Conn<'_, Global>, tally: &Tally, items: u64, left: usize) -> Summary
+    ensures items { result.items ≡ items }
+    ensures ended { result.ended ≡ option_map code_number (ended_code conn.now.state.core.phase) }
+    ensures verdict { result.verdict ≡ verdict_at tally.now conn.now.state left }
+{
+    Summary {
+        items,
+        ended: conn.ended(),
+        verdict: verdict_at(tally, conn, left),
+    }
+}
+
+/// An explanation of a connection whose octets come piece by piece.
+pub struct Explanation {
+    form: Form,
+    explainer: Explainer,
+    tally: Tally,
+    /// How many items there were.
+    items: u64,
+    /// How many octets they have.
+    offset: usize,
+    /// The octets of the item that is not whole.
+    held: Vec<u8>,
+    /// How many octets came after the end of the connection.
+    late: usize,
+}
+
+/// By hand, so that a function that drops an explanation makes one call.
+impl Drop for Explanation {
+    fn drop(self) {
+        let Self {
+            form: _,
+            explainer: _,
+            tally: _,
+            items: _,
+            offset: _,
+            held: _,
+            late: _,
+        } = self;
+    }
+}
+
+impl Explanation {
+    /// The explanation of a connection before any octets.
+    pub fn new(alloc: Global, form: Form) -> Result<Explanation, AllocError>
+        ensures { IfOk result (λ new. IsNew form new) }
+    {
+        let mut explainer = Explainer::new(alloc)?;
+        explainer.is_full = form.full;
+        Ok(Explanation {
+            form,
+            explainer,
+            tally: Tally::new(alloc),
+            items: 0,
+            offset: 0,
+            held: Vec::new(alloc),
+            late: 0,
+        })
+    }
+
+    /// Takes the item that octets begin with, if there is one, and explains it; says how many of the octets it has. What
+    /// is sent for it is appended to `out`; where that is not kept, `out` is emptied before.
+    fn take_item<O: Output, R: Recorder>(
+        &mut self,
+        alloc: Global,
+        conn: &mut Conn<'_, Global>,
+        octets: &[u8],
+        keeps: bool,
+        out: &mut Vec<u8>,
+        output: &mut O,
+        recorder: &mut R,
+    ) -> Result<Option<usize>, ExplainFault>
+        requires ready { conn.old ≡ going conn.old.state [] }
+        requires few { (self.old.items ≤ self.old.offset) × (self.old.offset + length octets.now < 2 ^ 63) }
+        requires writer { O.has_failed output.old ≡ false }
+        ensures ok { IfOk result (λ used. TakesIfThere self.old conn.old.state octets.now (O.written output.old) self.new conn.new (O.written output.new) used) }
+        ensures sent { keeps ≡ true → IfOk result (λ used. TakesIfAny conn.old.state octets.now out.old.items conn.new.state out.new.items used) }
+        ensures stopped { keeps ≡ true → OnErr result (StopsAt conn.old.state octets.now out.old.items conn.new.state out.new.items) }
+        ensures cut { O.has_failed output.new ≡ false → OnErr result (Gains (λ text. text ≡ []) (O.written output.old) (O.written output.new)) }
+        ensures ready { conn.new ≡ going conn.new.state [] }
+        ensures flag { O.has_failed output.new ≡ not_written result }
+        ensures name { O.name output.new ≡ O.name output.old }
+    {
+        let start = start_of(out, keeps);
+        let taking = match take_next(conn, octets, out) {
+            Ok(Some(taking)) => taking,
+            Ok(None) => return Ok(None),
+            Err(_) => return Err(ExplainFault::NoMemory),
+        };
+        let used = taking.taken.used;
+        let item = Explained {
+            number: self.items + 1,
+            offset: self.offset,
+            octets: first_of(octets, used),
+            ahead: octets,
+            taken: taking.taken,
+            sent: octets_from(out.as_slice(), start),
+            before: taking.before,
+            after: taking.after,
+        };
+        recorder.record(&item);
+        match write_item(
+            alloc,
+            self.form,
+            &mut self.explainer,
+            &mut self.tally,
+            conn,
+            &item,
+            output,
+        ) {
+            Ok(()) => {}
+            Err(fault) => return Err(fault),
+        }
+        self.items += 1;
+        self.offset += used;
+        Ok(Some(used))
+    }
+
+    /// Takes and explains each item that octets begin with; says how many of the octets they have. What is sent for them
+    /// is appended to `out`; where that is not kept, `out` has what was sent for the last.
+    fn take_items<O: Output, R: Recorder>(
+        &mut self,
+        alloc: Global,
+        conn: &mut Conn<'_, Global>,
+        octets: &[u8],
+        keeps: bool,
+        out: &mut Vec<u8>,
+        output: &mut O,
+        recorder: &mut R,
+    ) -> Result<usize, ExplainFault>
+        requires ready { conn.old ≡ going conn.old.state [] }
+        requires few { (self.old.items ≤ self.old.offset) × (self.old.offset + length octets.now < 2 ^ 63) }
+        requires writer { O.has_failed output.old ≡ false }
+        ensures ok { IfOk result (λ used. ExplainsAll self.old conn.old.state octets.now (O.written output.old) self.new conn.new.state (drop used octets.now) (O.written output.new)) }
+        ensures within { IfOk result (λ used. used ≤ length octets.now) }
+        ensures held { OnOk result ((self.new.held ≡ self.old.held) × (self.new.late ≡ self.old.late)) }
+        ensures sent { keeps ≡ true → IfOk result (λ used. (n : ℕ) × Ran conn.old.state octets.now out.old.items conn.new.state (drop used octets.now) out.new.items n) }
+        ensures stopped { keeps ≡ true → OnErr result (Halted conn.old.state octets.now out.old.items conn.new.state out.new.items) }
+        ensures cut { O.has_failed output.new ≡ false → OnErr result (Gains (IsCutShort self.old conn.old.state octets.now) (O.written output.old) (O.written output.new)) }
+        ensures ready { conn.new ≡ going conn.new.state [] }
+        ensures flag { O.has_failed output.new ≡ not_written result }
+        ensures name { O.name output.new ≡ O.name output.old }
+    {
+        let mut at = 0usize;
+        loop {
+            let rest = octets_from(octets, at);
+            match self.take_item(alloc, conn, rest, keeps, out, output, recorder) {
+                Ok(Some(used)) => at += used,
+                Ok(None) => return Ok(at),
+                Err(fault) => return Err(fault),
+            }
+        }
+    }
+
+    /// Counts octets that came after the end of the connection.
+    fn pass_by(&mut self, count: usize)
+        requires room { HasRoom self.old count }
+        ensures { PassesBy self.old count self.new }
+    {
+        self.late += self.held.len() + count;
+        self.held.clear();
+    }
+
+    /// Takes and explains each item of a piece, where no octets are held.
+    fn take_in_hand<O: Output, R: Recorder>(
+        &mut self,
+        alloc: Global,
+        conn: &mut Conn<'_, Global>,
+        piece: &[u8],
+        keeps: bool,
+        out: &mut Vec<u8>,
+        output: &mut O,
+        recorder: &mut R,
+    ) -> Result<(), ExplainFault>
+        requires ready { conn.old ≡ going conn.old.state [] }
+        requires empty { self.old.held.items ≡ [] }
+        requires room { HasRoom self.old (length piece.now) }
+        requires writer { O.has_failed output.old ≡ false }
+        ensures ok { OnOk result (Handles self.old conn.old.state (self.old.held.items ++ piece.now) (O.written output.old) self.new conn.new.state (O.written output.new)) }
+        ensures fed { keeps ≡ true → OnOk result (Fed (going conn.old.state self.old.held.items) piece.now out.old.items (going conn.new.state self.new.held.items) out.new.items) }
+        ensures halted { keeps ≡ true → OnErr result (Halts (going conn.old.state self.old.held.items) piece.now out.old.items (halted conn.new.state) out.new.items) }
+        ensures cut { O.has_failed output.new ≡ false → OnErr result (Gains (IsCutShort self.old conn.old.state (self.old.held.items ++ piece.now)) (O.written output.old) (O.written output.new)) }
+        ensures ready { conn.new ≡ going conn.new.state [] }
+        ensures flag { O.has_failed output.new ≡ not_written result }
+        ensures name { O.name output.new ≡ O.name output.old }
+    {
+        let used = match self.take_items(alloc, conn, piece, keeps, out, output, recorder) {
+            Ok(used) => used,
+            Err(fault) => return Err(fault),
+        };
+        let rest = octets_from(piece, used);
+        if has_ended(conn.counts().phase) {
+            self.late += rest.len();
+            return Ok(());
+        }
+        match self.held.extend_from_slice(rest) {
+            Ok(()) => Ok(()),
+            Err(_) => Err(ExplainFault::NoMemory),
+        }
+    }
+
+    /// Takes and explains each item of the octets that are held and a piece after them.
+    fn complete<O: Output, R: Recorder>(
+        &mut self,
+        alloc: Global,
+        conn: &mut Conn<'_, Global>,
+        piece: &[u8],
+        keeps: bool,
+        out: &mut Vec<u8>,
+        output: &mut O,
+        recorder: &mut R,
+    ) -> Result<(), ExplainFault>
+        requires ready { conn.old ≡ going conn.old.state [] }
+        requires room { HasRoom self.old (length piece.now) }
+        requires writer { O.has_failed output.old ≡ false }
+        ensures ok { OnOk result (Handles self.old conn.old.state (self.old.held.items ++ piece.now) (O.written output.old) self.new conn.new.state (O.written output.new)) }
+        ensures fed { keeps ≡ true → OnOk result (Fed (going conn.old.state self.old.held.items) piece.now out.old.items (going conn.new.state self.new.held.items) out.new.items) }
+        ensures halted { keeps ≡ true → OnErr result (Halts (going conn.old.state self.old.held.items) piece.now out.old.items (halted conn.new.state) out.new.items) }
+        ensures cut { O.has_failed output.new ≡ false → OnErr result (Gains (IsCutShort self.old conn.old.state (self.old.held.items ++ piece.now)) (O.written output.old) (O.written output.new)) }
+        ensures ready { conn.new ≡ going conn.new.state [] }
+        ensures flag { O.has_failed output.new ≡ not_written result }
+        ensures name { O.name output.new ≡ O.name output.old }
+    {
+        let mut octets = mem::replace(&mut self.held, Vec::new(alloc));
+        match octets.extend_from_slice(piece) {
+            Ok(()) => {}
+            Err(_) => return Err(ExplainFault::NoMemory),
+        }
+        let used = match self.take_items(
+            alloc,
+            conn,
+            octets.as_slice(),
+            keeps,
+            out,
+            output,
+            recorder,
+        ) {
+            Ok(used) => used,
+            Err(fault) => return Err(fault),
+        };
+        let rest = without_front(octets, used);
+        if has_ended(conn.counts().phase) {
+            self.late += rest.len();
+        } else {
+            self.held = rest;
+        }
+        Ok(())
+    }
+
+    /// Takes and explains all items that there are with a piece after the octets that are held. Where what is sent is not
+    /// kept, `out` has what was sent for the last item.
+    pub(crate) fn take_piece<O: Output, R: Recorder>(
+        &mut self,
+        alloc: Global,
+        conn: &mut Conn<'_, Global>,
+        piece: &[u8],
+        keeps: bool,
+        out: &mut Vec<u8>,
+        output: &mut O,
+        recorder: &mut R,
+    ) -> Result<(), ExplainFault>
+        requires ready { conn.old ≡ going conn.old.state [] }
+        requires room { HasRoom self.old (length piece.now) }
+        requires writer { O.has_failed output.old ≡ false }
+        ensures goes { OnOk result (GoesOn conn.old self.old piece.now conn.new self.new) }
+        ensures gains { OnOk result (SaysOf conn.old self.old piece.now self.new (O.written output.old) (O.written output.new)) }
+        ensures cut { O.has_failed output.new ≡ false → OnErr result (SaysSome conn.old self.old piece.now (O.written output.old) (O.written output.new)) }
+        ensures fed { keeps ≡ true → OnOk result (Fed (going conn.old.state self.old.held.items) piece.now out.old.items (going conn.new.state self.new.held.items) out.new.items) }
+        ensures halted { keeps ≡ true → OnErr result (Halts (going conn.old.state self.old.held.items) piece.now out.old.items (halted conn.new.state) out.new.items) }
+        ensures room { OnOk result (HasGained self.old (length piece.now) self.new) }
+        ensures form { OnOk result (self.new.form ≡ self.old.form) }
+        ensures ready { conn.new ≡ going conn.new.state [] }
+        ensures flag { O.has_failed output.new ≡ not_written result }
+        ensures name { O.name output.new ≡ O.name output.old }
+    {
+        if has_ended(conn.counts().phase) {
+            self.pass_by(piece.len());
+            return Ok(());
+        }
+        if self.held.is_empty() {
+            self.take_in_hand(alloc, conn, piece, keeps, out, output, recorder)
+        } else {
+            self.complete(alloc, conn, piece, keeps, out, output, recorder)
+        }
+    }
+
+    /// Takes and explains all items that there are with these octets after those that are held. What is sent for them is
+    /// appended to `out`, each item is handed to `recorder` as soon as it is taken, and its text is written before the next
+    /// one is taken. The rest of the octets is held; after the end of the connection all octets are only counted.
+    ///
+    /// The connection holds no octets itself: it does what one that holds those of the explanation does when it is fed.
+    ///
+    /// # Errors
+    ///
+    /// `NoMemory` where memory is refused, `NotWritten` where a write failed: some first items were explained, and the
+    /// connection has taken these or one more, each of them whole; `out` has gained what was sent for those that it has
+    /// taken. The explanation can't go on then.
+    pub fn feed<O: Output, R: Recorder>(
+        &mut self,
+        alloc: Global,
+        conn: &mut Conn<'_, Global>,
+        piece: &[u8],
+        out: &mut Vec<u8>,
+        output: &mut O,
+        recorder: &mut R,
+    ) -> Result<(), ExplainFault>
+        requires ready { conn.old ≡ going conn.old.state [] }
+        requires room { HasRoom self.old (length piece.now) }
+        requires writer { O.has_failed output.old ≡ false }
+        ensures goes { OnOk result (GoesOn conn.old self.old piece.now conn.new self.new) }
+        ensures gains { OnOk result (SaysOf conn.old self.old piece.now self.new (O.written output.old) (O.written output.new)) }
+        ensures cut { O.has_failed output.new ≡ false → OnErr result (SaysSome conn.old self.old piece.now (O.written output.old) (O.written output.new)) }
+        ensures fed { OnOk result (Fed (going conn.old.state self.old.held.items) piece.now out.old.items (going conn.new.state self.new.held.items) out.new.items) }
+        ensures halted { OnErr result (Halts (going conn.old.state self.old.held.items) piece.now out.old.items (halted conn.new.state) out.new.items) }
+        ensures room { OnOk result (HasGained self.old (length piece.now) self.new) }
+        ensures form { OnOk result (self.new.form ≡ self.old.form) }
+        ensures ready { conn.new ≡ going conn.new.state [] }
+        ensures flag { O.has_failed output.new ≡ not_written result }
+        ensures name { O.name output.new ≡ O.name output.old }
+    {
+        self.take_piece(alloc, conn, piece, true, out, output, recorder)
+    }
+
+    /// The text of the octets after the last item, and of the end.
+    fn end_text(&self, alloc: Global, conn: &Conn<'_, Global>) -> Result<String, AllocError>
+        requires room { HasRoom self.now 0 }
+        ensures { IfOk result (λ text. IsRestText self.now.form self.now.items (length self.now.held.items + self.now.late) (string_bytes text)) }
+    {
+        let mut rest = rest_of(conn, self.items, self.offset, self.held.as_slice());
+        rest.octets += self.late;
+        let end = End {
+            form: self.form,
+            conn,
+            explainer: &self.explainer,
+            tally: &self.tally,
+            rest,
+        };
+        end.said(alloc)
+    }
+
+    /// Writes the text of the octets after the last item, and of the end.
+    fn write_end<O: Output>(
+        &self,
+        alloc: Global,
+        conn: &Conn<'_, Global>,
+        output: &mut O,
+    ) -> Result<(), ExplainFault>
+        requires room { HasRoom self.now 0 }
+        requires writer { O.has_failed output.old ≡ false }
+        ensures gains { O.has_failed output.new ≡ false → Gains (IsWritten (λ text. IsRestText self.now.form self.now.items (length self.now.held.items + self.now.late) text) result) (O.written output.old) (O.written output.new) }
+        ensures flag { O.has_failed output.new ≡ not_written result }
+        ensures name { O.name output.new ≡ O.name output.old }
+    {
+        match self.end_text(alloc, conn) {
+            Ok(text) => write(output, text.as_bytes()),
+            Err(_) => Err(ExplainFault::NoMemory),
+        }
+    }
+
+    /// Explains the end: the octets that are left, what each live stream waits for, and, with `--strict`, the verdict on
+    /// the client.
+    ///
+    /// # Errors
+    ///
+    /// `NoMemory` where memory is refused: nothing is written. `NotWritten` where the write failed.
+    pub fn end<O: Output>(
+        &self,
+        alloc: Global,
+        conn: &Conn<'_, Global>,
+        output: &mut O,
+    ) -> Result<Summary, ExplainFault>
+        requires room { HasRoom self.now 0 }
+        requires writer { O.has_failed output.old ≡ false }
+        ensures summary { IfOk result (λ summary. IsSummed conn.now self.now summary) }
+        ensures gains { O.has_failed output.new ≡ false → EndsAs (is_err result) conn.now self.now (O.written output.old) (O.written output.new) }
+        ensures flag { O.has_failed output.new ≡ not_written result }
+        ensures name { O.name output.new ≡ O.name output.old }
+    {
+        let left = self.held.len() + self.late;
+        match self.write_end(alloc, conn, output) {
+            Ok(()) => Ok(summary_of(conn, &self.tally, self.items, left)),
+            Err(fault) => Err(fault),
+        }
+    }
+
+    /// How many items there were.
+    pub fn items(&self) -> u64
+        ensures { result ≡ self.now.items }
+    {
+        self.items
+    }
+
+    /// The octets that are held: those of an item that is not whole.
+    pub fn held(&self) -> &[u8]
+        ensures { result.now ≡ self.now.held.items }
+    {
+        self.held.as_slice()
+    }
+}
