@@ -320,7 +320,7 @@ all-from e e0 e1 s s' b rest known known' x form items offset tally =
       stops = x.stops;
     }
 
--- what is left is held, or counted
+-- the rest is held, or counted
 pub handles : (e e1 e2 : Explanation) (s s' : State) (b rest : List ℕ) (known known' : Option (List ℕ)) → ExplainsAll e s b known e1 s' rest known'
     → e2.form ≡ e1.form → e2.items ≡ e1.items → e2.offset ≡ e1.offset → e2.tally ≡ e1.tally
     → e2.held.items ≡ left_by s'.core.phase rest → length e2.held.items + e2.late ≡ e.late + length rest → Handles e s b known e2 s' known'

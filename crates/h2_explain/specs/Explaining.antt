@@ -1,4 +1,4 @@
--- An explanation of a connection whose octets come piece by piece.
+-- An explanation of a connection whose octets arrive piece by piece.
 use Rattle.std.specs.Prelude.{◌≡◌, ◌⊎◌, ℕ, ◌+◌, ◌<◌, ◌≤◌, ◌^◌, Bool, true, List, [], ◌∷◌, ◌++◌, length, Option, Some, None}
 use Rattle.h2_spec.specs.Parse.{Stop, parse_all}
 use Rattle.h2_spec.specs.State.{State}
@@ -16,19 +16,19 @@ use Rattle.h2_explain.specs.declared.verdict.Verdict.{Verdict}
 
 -- ---- an explanation
 
--- how many octets came to it
+-- how many octets it was fed
 abbrev pub total : Explanation → ℕ
 total e = e.offset + (length e.held.items + e.late)
 
--- so many octets more can be counted
+-- this many octets more can be counted
 abbrev pub HasRoom : Explanation → ℕ → Type 0
 HasRoom e more = (e.items ≤ e.offset) × (total e + more < 2 ^ 63)
 
--- so many octets were counted
+-- this many octets more were counted
 abbrev pub HasGained : Explanation → ℕ → Explanation → Type 0
 HasGained e more e' = (e'.items ≤ e'.offset) × (total e' ≡ total e + more)
 
--- no octets came to it
+-- it was fed no octets
 pub record IsNew (form : Form) (e : Explanation) : Type 0 where
   pub form_is : e.form ≡ form
   pub tally_is : e.tally ≡ no_tally
@@ -135,28 +135,28 @@ pub record IsExplaining (s : State) (b : List ℕ) (c : Connection) (e : Explana
   pub left_is : length e.held.items + e.late ≡ length (parse_all next_event s b).rest
   pub tallied : CountsOn s b 0 0 no_tally (parse_all next_event s b).state (parse_all next_event s b).rest e.items e.offset e.tally
 
--- what it has said so far: whatever octets come later, what it says of them and of the end makes with it an explanation of
--- all
+-- what was written so far: whatever octets come later, what is written for them and for the end makes with it an
+-- explanation of all
 abbrev pub IsBeginning : State → List ℕ → Explanation → List ℕ → Type 0
 IsBeginning s b e text = Continues e.form s b 0 0 (parse_all next_event s b).state (parse_all next_event s b).rest e.items e.offset text
 
--- a piece came to it
+-- it was fed a piece
 abbrev pub GoesOn : Connection → Explanation → List ℕ → Connection → Explanation → Type 0
 GoesOn c e piece c' e' = (s : State) (b : List ℕ) → IsExplaining s b c e → IsExplaining s (b ++ piece) c' e'
 
--- what was said of it
+-- what was written for the piece
 abbrev pub SaysOf : Connection → Explanation → List ℕ → Explanation → Option (List ℕ) → Option (List ℕ) → Type 0
 SaysOf c e piece e' known known' =
     (s : State) (b : List ℕ) (text : List ℕ) → IsExplaining s b c e → IsBeginning s b e text
     → Gains (λ (more : List ℕ). IsBeginning s (b ++ piece) e' (text ++ more)) known known'
 
--- or of some first items of what came with it, where it is cut short
+-- or for some first items, where it is cut short
 abbrev pub SaysSome : Connection → Explanation → List ℕ → Option (List ℕ) → Option (List ℕ) → Type 0
 SaysSome c e piece known known' =
     (s : State) (b : List ℕ) (text : List ℕ) → IsExplaining s b c e → IsBeginning s b e text
     → Gains (λ (more : List ℕ). IsExplanation e.form true s (b ++ piece) (text ++ more)) known known'
 
--- the end of it was said, or not where memory was refused
+-- the end was explained, or not where memory was refused
 abbrev pub EndsAs : (cut : Bool) → Connection → Explanation → Option (List ℕ) → Option (List ℕ) → Type 0
 EndsAs cut c e known known' =
     (s : State) (b : List ℕ) (text : List ℕ) → IsExplaining s b c e → IsBeginning s b e text

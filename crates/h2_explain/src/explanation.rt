@@ -100,7 +100,7 @@ fn start_of(out: &mut Vec<u8>, keeps: bool) -> usize
     out.len()
 }
 
-/// The octets without so many at their front.
+/// The octets without this many at their front.
 fn without_front(octets: Vec<u8>, count: usize) -> Vec<u8>
     requires { count ≤ length octets.items }
     ensures { result.items ≡ drop count octets.items }
@@ -112,7 +112,7 @@ fn without_front(octets: Vec<u8>, count: usize) -> Vec<u8>
     octets
 }
 
-/// What is summed up of a connection that had so many items, with so many octets left.
+/// What is summed up of a connection that had this many items, with this many octets left.
 fn summary_of(conn: &Conn<'_, Global>, tally: &Tally, items: u64, left: usize) -> Summary
     ensures items { result.items ≡ items }
     ensures ended { result.ended ≡ option_map code_number (ended_code conn.now.state.core.phase) }
@@ -156,7 +156,7 @@ impl Drop for Explanation {
 }
 
 impl Explanation {
-    /// The explanation of a connection to which no octets have come.
+    /// The explanation of a connection before any octets.
     pub fn new(alloc: Global, form: Form) -> Result<Explanation, AllocError>
         ensures { IfOk result (λ new. IsNew form new) }
     {
@@ -401,7 +401,7 @@ impl Explanation {
 
     /// Takes and explains all items that there are with these octets after those that are held. What is sent for them is
     /// appended to `out`, each item is handed to `recorder` as soon as it is taken, and its text is written before the next
-    /// one is taken. What is left of the octets is held; after the end of the connection all octets are only counted.
+    /// one is taken. The rest of the octets is held; after the end of the connection all octets are only counted.
     ///
     /// The connection holds no octets itself: it does what one that holds those of the explanation does when it is fed.
     ///
@@ -472,7 +472,7 @@ impl Explanation {
         }
     }
 
-    /// Explains the end: the octets that are left, what each live stream waits for, and, with `--strict`, what is said of
+    /// Explains the end: the octets that are left, what each live stream waits for, and, with `--strict`, the verdict on
     /// the client.
     ///
     /// # Errors
