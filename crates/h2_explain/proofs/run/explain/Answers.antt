@@ -1,1 +1,0 @@
-use Rattle.h2_explain.proofs.run.explain.Goals as goal
