@@ -1,9 +1,9 @@
 #!/usr/bin/env bash
-# Words to avoid, each with a better one, in documents and docstrings. What is between backticks, indented by four spaces in a page, or in the table of rules
-# that is made from sources, is not looked at.
+# Words to avoid, each with a better one, in documents and in the comments of *.rt and *.antt. What is between backticks, indented by four spaces in a page, or
+# in the table of rules that is made from sources, is not looked at.
 #
-#   tools/words.sh              README.md, CONTRIBUTING.md, CHANGELOG.md and docs, but for the pages made from sources
-#   tools/words.sh --since REV  the lines added since a revision, in these and in the comments of *.rt and *.antt
+#   tools/words.sh              README.md, CONTRIBUTING.md, CHANGELOG.md and docs, but for the pages made from sources, and all comments
+#   tools/words.sh --since REV  the lines of these that were added since a revision
 #   tools/words.sh --all        how many there are, by file, in all of these; the status is 0
 #
 # The first two show each place; the status is 1 where there is one. Their last line is `N passed, M failed`, a file each.
@@ -31,6 +31,7 @@ words() {
 \bwhat waits\b|the pending output
 \bwhat is left\b|the rest
 \bhas come\b;\bhave come\b|has arrived
+!.*\brests on\b|drop it: the imports say it
 WORDS
 }
 
@@ -75,7 +76,7 @@ added() {
 case ${1-} in
     --all) { documents; sources; } | xargs grep -nH '' >"$work/lines" ;;
     --since) added "${2:?a revision}" >"$work/lines" ;;
-    '') documents | xargs grep -nH '' >"$work/lines" ;;
+    '') { documents; sources; } | xargs grep -nH '' >"$work/lines" ;;
     *)
         echo "tools/words.sh takes --since REV or --all, not $1" >&2
         exit 2

@@ -11,7 +11,7 @@ use Rattle.h2_answers.specs.AnswerParts.{parts_behind}
 
 -- ---- parts
 
--- the parts of a text: what ends at the first bar, and those behind it
+-- the parts of a text: what ends at the first bar, and those after it
 parts-first : (text : List ℕ) → parts_of text ≡ before_first is_bar text ∷ parts_behind (drop (position_or_len is_bar text) text)
 parts-first [] = refl
 parts-first (c ∷ cs) = step (is_bar c) refl (parts-first cs)

@@ -6,7 +6,7 @@ use Rattle.h2_answers.specs.declared.answer.Parts.{Parts}
 use Rattle.h2_answers.specs.declared.fault.AnswerFault.{AnswerFault}
 use Rattle.h2_answers.specs.declared.fault.AnswerFault.TheVariants.{NoMemory, BadAnswer}
 
--- the parts that follow one, each behind its bar
+-- the parts that follow one, each after its bar
 abbrev pub parts_behind : List ℕ → List (List ℕ)
 parts_behind [] = []
 parts_behind (bar ∷ text) = parts_of text

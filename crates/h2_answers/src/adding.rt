@@ -1,4 +1,4 @@
-//! A book of answers that words say. Rests on `answer` and on h2_request's book; definitions: `specs/Books.antt`.
+//! A book of answers that words say. Definitions: `specs/Books.antt`.
 
 ghost use Rattle.std.specs.Prelude.{◌≡◌, ◌⊎◌, Ok, Err, IfErr, OnOk};
 ghost use Rattle.h2_request.specs.Fault as book;

@@ -1,5 +1,4 @@
 //! The words of an answer: METHOD|PATH|STATUS|BODYHEX, any number of parts |NAME=VALUE, and at most one |early.
-//! Rests on h2_request's entries, on `cut`, and on h2_hex.
 //! Definitions: `h2_spec/specs/AnswerWords.antt` (`entry_of`), and `specs/AnswerParts.antt`.
 
 ghost use Rattle.std.specs.Prelude.{◌≡◌, ◌<◌, ◌≤◌, ◌∷◌, [], Some, None, length, is_some, option_map, IfOk, IfErr, IfNone, IfSome, IsTrue};
@@ -15,7 +14,7 @@ use h2_hex::{is_hex, octets_of};
 use h2_request::book::Entry;
 use std::alloc::{AllocError, Allocator};
 
-/// The first four parts of an answer's words, and the further ones, each behind its bar.
+/// The first four parts of an answer's words, and the further ones, each after its bar.
 #[derive(Clone, Copy)]
 struct Parts<'a> {
     method: &'a [u8],
@@ -102,7 +101,7 @@ fn parts_in(text: &[u8]) -> Option<Parts<'_>>
     })
 }
 
-/// The first part of a text, and the others, each behind its bar.
+/// The first part of a text, and the others, each after its bar.
 fn cut(text: &[u8]) -> (&[u8], &[u8])
     ensures parts { words.parts_of text.now ≡ result.0.now ∷ parts_behind result.1.now }
     ensures within { length result.1.now ≤ length text.now }
@@ -113,7 +112,7 @@ fn cut(text: &[u8]) -> (&[u8], &[u8])
     }
 }
 
-/// The part behind the first bar, and those after it; `None` where there is none.
+/// The part after the first bar, and those after it; `None` where there is none.
 fn next_part(parts: &[u8]) -> Option<(&[u8], &[u8])>
     ensures some { IfSome result (λ p. parts_behind parts.now ≡ p.0.now ∷ parts_behind p.1.now) }
     ensures none { IfNone result (parts_behind parts.now ≡ []) }

@@ -1,4 +1,4 @@
-//! Texts cut at an octet. Rests on nothing.
+//! Texts cut at an octet.
 
 ghost use Rattle.std.specs.Prelude.{◌≡◌, ◌==◌, ◌<◌, ◌≤◌, length, take, drop, position, IfSome};
 

@@ -1,5 +1,4 @@
-//! Why the words of an answer are refused, each cause with its number.
-//! Rests on the faults of an entry of h2_request; definitions: `specs/Faults.antt`.
+//! Why the words of an answer are refused, each cause with its number. Definitions: `specs/Faults.antt`.
 
 ghost use Rattle.std.specs.Prelude.{◌≡◌};
 ghost use Rattle.h2_answers.specs.Faults.{fault_number};

@@ -54,7 +54,7 @@ EndsSession files config book input left input_failed before after status =
 abbrev pub EndsServe : Option (List ℕ) → Option (List ℕ) → ℕ → Type 0
 EndsServe before after status = ((status ≡ 2) × (after ≡ before)) ⊎ PrintsSome (λ t. t ≡ failed NoMemory) before after status
 
--- so many connections were served: the line of the port was printed, and then a line for each of them
+-- that many connections were served: the line of the port was printed, and then a line for each of them
 abbrev pub IsServed : Config → (port count : ℕ) → Option (List ℕ) → Option (List ℕ) → Type 0
 IsServed config port count before after = (is_allowed config ≡ true) × GainsLines (listening_line port) count before after
 

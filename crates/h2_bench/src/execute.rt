@@ -1,5 +1,5 @@
-//! What the words ask for, from an input to its output and the exit status. Rests on h2_commands, h2_session and
-//! h2_device; definitions: `specs/ProgramEnd.antt`, over those of h2_commands.
+//! What the words ask for, from an input to its output and the exit status. Definitions: `specs/ProgramEnd.antt`, over
+//! those of h2_commands.
 
 ghost use Rattle.std.specs.Prelude.{◌≡◌, ◌==◌, ◌⊎◌, ℕ, Bool, List, Some, None, true, false, IfErr};
 ghost use Rattle.h2_spec.specs.declared.connection.Config.{Config};
@@ -49,8 +49,8 @@ fn debug<F: Files, I: Input, O: Output, E: Output>(
     }
 }
 
-/// Writes what is left to say of cases: the line of a fault that ended them. Gives the status: 0 where no case failed, 1
-/// where one did, and after a fault, 3 where the output failed.
+/// Writes what remains to say of cases: the line of a fault that ended them. Gives the status: 0 where no case failed,
+/// 1 where one did, and after a fault, 3 where the output failed.
 fn print_checked<O: Output>(output: &mut O, ended: Result<(), PlacesFault>, all_hold: bool) -> u8
     requires { O.has_failed output.old ≡ not_written ended }
     ensures flag { O.has_failed output.new ≡ (result == 3) }
@@ -185,8 +185,8 @@ pub fn run_on<F: Files, I: Input, O: Output, E: Output>(
 }
 
 /// The same over a reader and a writer of the standard library, which say of no call that it does not fail. There are
-/// no files, so that a book's file is refused, and reasons are not written anywhere. The output had better be
-/// buffered, and flushed afterwards.
+/// no files, so that a book's file is refused, and reasons are not written anywhere. The output should be buffered, and
+/// flushed afterwards.
 pub fn run<R: Read, W: Write>(alloc: Global, words: &Words, input: &mut R, output: &mut W) -> u8
     ensures printed { (asked : BatchAsked) → asked_of words.now ≡ Some (batch asked) → EndsSomehow no_files asked
         (R.remaining input.old) (W.contents output.old) (W.contents output.new) result }

@@ -1,6 +1,6 @@
-//! A command over memory: words, files and an input as octets, and what is printed for them, whole. The program does not
-//! call it, nor `run_on` and `run` of `execute`: `main` calls `carry_out`, which all three do.
-//! Rests on `execute`, h2_book and h2_device; definitions: `specs/Memory.antt`, over `specs/Printed.antt`.
+//! A command over memory: words, files and an input as octets, and what is printed for them, whole. The program does
+//! not call it, nor `run_on` and `run` of `execute`: `main` calls `carry_out`, which all three do. Definitions:
+//! `specs/Memory.antt`, over `specs/Printed.antt`.
 
 ghost use Rattle.std.specs.Prelude.{◌≡◌, ◌⊎◌, ℕ, Bool, List, [], Some, None, true, false, IfOk};
 ghost use Rattle.h2_spec.specs.declared.connection.Config.{Config};

@@ -1,5 +1,5 @@
-//! The program `serve`: connections of a port, one after another.
-//! Rests on h2_commands, h2_words and h2_serve; definitions: `specs/ProgramEnd.antt`, and `Serves` of h2_serve.
+//! The program `serve`: connections of a port, one after another. Definitions: `specs/ProgramEnd.antt`, and `Serves` of
+//! h2_serve.
 
 ghost use Rattle.std.specs.Prelude.{◌≡◌, ◌⊎◌, false, IsOk, OnOk, OnErr};
 ghost use Rattle.h2_words.specs.Plans.{book_asked};

@@ -1,11 +1,11 @@
--- A book of a file is the old book and, behind it, the entry of each answer.
+-- A book of a file is the old book and, after it, the entry of each answer.
 use Rattle.std.proofs.Common.{◌≡◌, ◌∙◌, ℕ, Bool, true, false, List, [], ◌∷◌, ◌++◌, Option, Some, None, Result, Ok, Err, length, nat_lt, if◌then◌else◌, option_and_then, refl, sym, append_assoc, append-nil}
 use Rattle.toml.specs.Data.{Items, no_items, item, Members}
 use Rattle.h2_spec.specs.Answer.{Entry}
 use Rattle.h2_spec.specs.Book.{entry_fault}
 use Rattle.h2_book.specs.Entries.{Directory, Appended, added, answers_of, book_with, book_of_answers, book_of_document, book_of_file, book_of_octets, document_in, entries_of, entry_of, max_book_file, unless_refused, with_entry}
 
--- entries of answers behind a book
+-- entries of answers after a book
 abbrev pub Extends : Directory → List ℕ → List Entry → List Entry → Items → Type 0
 Extends directory path old new ds = (entries : List Entry) × (entries_of directory path ds ≡ Ok entries) × (new ≡ old ++ entries)
 

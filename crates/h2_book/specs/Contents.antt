@@ -8,7 +8,7 @@ use Rattle.h2_spec.specs.Book.{max_body}
 use Rattle.h2_book.specs.declared.body.Contents as declared
 use Rattle.h2_book.specs.declared.body.Contents.TheVariants.{Text, Hex, File, Fill}
 
--- what a body is: octets, a file beside the book, or so many octets of a text repeated
+-- what a body is: octets, a file beside the book, or that many octets of a text repeated
 pub data Contents : Type 0 where
   octets : List ℕ → Contents
   file_at : List ℕ → Contents
@@ -85,7 +85,7 @@ abbrev pub octets_of_file : Option (List ℕ) → Result (List ℕ) ℕ
 octets_of_file None = Err 22
 octets_of_file (Some body) = if nat_lt max_body (length body) then Err 15 else Ok body
 
--- so many octets, the text over and over again
+-- that many octets, the text over and over again
 abbrev pub filled : ℕ → List ℕ → List ℕ
 filled zero text = []
 filled (suc n) text = filled n text ++ slice_index text (n % length text) ∷ []

@@ -65,7 +65,7 @@ abbrev pub book_of_answers : Directory → List ℕ → List Entry → Option It
 book_of_answers directory path book None = Err 26
 book_of_answers directory path book (Some ds) = book_with directory path book ds
 
--- the book with the entries of a document behind its own; a text that is no document is fault 26
+-- the book with the entries of a document after its own; a text that is no document is fault 26
 abbrev pub book_of_document : Directory → List ℕ → List Entry → Option Members → Result (List Entry) ℕ
 book_of_document directory path book None = Err 26
 book_of_document directory path book (Some ms) = book_of_answers directory path book (answers_of ms)
@@ -78,7 +78,7 @@ max_book_file = 16777216
 abbrev pub document_in : List ℕ → Option Members
 document_in octets = if is_utf8 octets then parse_document octets else None
 
--- the book with the entries of a file behind its own; a file that can't be read, or is too long, is fault 22
+-- the book with the entries of a file after its own; a file that can't be read, or is too long, is fault 22
 abbrev pub book_of_octets : Directory → List ℕ → List Entry → Option (List ℕ) → Result (List Entry) ℕ
 book_of_octets directory path book None = Err 22
 book_of_octets directory path book (Some octets) =
@@ -104,7 +104,7 @@ entries_of directory path (item d ds) = before (entry_of directory path d) (entr
 abbrev pub answers_in_octets : Option (List ℕ) → Option Items
 answers_in_octets octets = option_and_then answers_of (option_and_then document_in octets)
 
--- the new book is the old one, and behind it the entry of each answer of the file, in their order
+-- the new book is the old one, and after it the entry of each answer of the file, in their order
 abbrev pub Appended : Directory → List ℕ → List Entry → List Entry → Type 0
 Appended directory path old new =
     (answers : Items) × (entries : List Entry) × (answers_in_octets (directory path) ≡ Some answers) × (entries_of directory path answers ≡ Ok entries) × (new ≡ old ++ entries)

@@ -5,7 +5,7 @@ use Rattle.std.specs.declared.alloc.Global.{Global}
 use Rattle.h2_book.specs.declared.files.FilesFault.{FilesFault}
 use Rattle.h2_book.specs.declared.files.FilesFault.TheVariants.{Failed, TooLong, NoMemory}
 
--- what a read of at most so many octets reports, by what is at the path: the octets, or the one refusal; memory is
+-- what a read of at most that many octets reports, by what is at the path: the octets, or the one refusal; memory is
 -- taken only for a file that is there and not too long
 abbrev pub Reads : ℕ → Option (List ℕ) → Result (Vec ℕ Global) FilesFault → Type 0
 Reads most file (Ok octets) = file ≡ Some octets.items

@@ -1,5 +1,5 @@
-//! One answer of a book's file: what its table says, and the entry that it makes.
-//! Rests on `body` and `header`; definitions: specs/Said.antt and, for the entry, specs/Entries.antt.
+//! One answer of a book's file: what its table says, and the entry that it makes. Definitions: specs/Said.antt and, for
+//! the entry, specs/Entries.antt.
 
 ghost use Rattle.std.specs.Prelude.{◌≡◌, ◌<◌, bytes_eq, true, None, Some, codes, option_map};
 ghost use Rattle.std.specs.Prelude.{option_and_then, IfOk, IfErr, IsTrue, is_some, not, string_bytes};

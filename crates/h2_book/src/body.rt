@@ -1,5 +1,5 @@
-//! The body of an answer: `body`, `body-hex`, `body-file` or `body-fill`, and its octets.
-//! Rests on `files`, on h2_hex and on the crate `toml`; definitions: specs/Contents.antt.
+//! The body of an answer: `body`, `body-hex`, `body-file` or `body-fill`, and its octets. Definitions:
+//! specs/Contents.antt.
 
 ghost use Rattle.std.specs.Prelude.{◌≡◌, ◌+◌, ◌<◌, ◌==◌, ◌&&◌, true, option_map, option_and_then, IfOk};
 ghost use Rattle.std.specs.Prelude.{IfErr, IfNone, IfSome, IsTrue, is_some, length, unwrap_or, None, Some, []};
@@ -32,7 +32,7 @@ pub enum Contents<'v> {
     Hex(&'v str),
     /// The octets of the file at this path, from the book's directory.
     File(&'v str),
-    /// So many octets, the text over and over again.
+    /// That many octets, the text over and over again.
     Fill(usize, &'v str),
 }
 
@@ -265,7 +265,7 @@ fn directory_of(path: &str) -> Path<'_>
     }
 }
 
-/// So many octets of a text, over and over again.
+/// That many octets of a text, over and over again.
 ///
 /// # Errors
 ///

@@ -1,5 +1,5 @@
-//! A book of answers in a TOML file: each `[[answer]]` is an entry, in the order of the file.
-//! Rests on `answer` for one entry, on `files` and on the crate `toml`; definitions: specs/Entries.antt.
+//! A book of answers in a TOML file: each `[[answer]]` is an entry, in the order of the file. Definitions:
+//! specs/Entries.antt.
 
 ghost use Rattle.std.specs.Prelude.{◌≡◌, ◌≤◌, ◌<◌, ◌++◌, ◌∷◌, [], ℕ, List, Ok, Err};
 ghost use Rattle.std.specs.Prelude.{true, Some, None, IfOk, IfErr, OnOk, OnErr, option_map, not, string_bytes};
@@ -26,7 +26,7 @@ use toml::{Table, Value};
 /// The most octets of a book's file.
 pub const MAX_BOOK_FILE: usize = 16_777_216;
 
-/// Puts the entries of the file at `path` behind those of the book, in the order of the file.
+/// Puts the entries of the file at `path` after those of the book, in the order of the file.
 ///
 /// # Errors
 ///
@@ -160,7 +160,7 @@ fn unknown_key(alloc: Global, table: &Table) -> Option<String> {
     copy_of_key(alloc, key.as_str())
 }
 
-/// Puts the entries of answers behind those of the book; says at which answer, counted from 1, one was refused.
+/// Puts the entries of answers after those of the book; says at which answer, counted from 1, one was refused.
 fn add_answers<F: Files>(
     alloc: Global,
     files: &mut F,
@@ -185,7 +185,7 @@ fn add_answers<F: Files>(
     Ok(())
 }
 
-/// Puts the entry of an answer behind those of the book.
+/// Puts the entry of an answer after those of the book.
 fn add_answer<F: Files>(
     alloc: Global,
     files: &mut F,

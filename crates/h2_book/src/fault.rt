@@ -1,5 +1,4 @@
-//! Why a book's file is refused. The sentence that says so is made by `sentence`.
-//! Rests on the faults of `h2_request` and `toml`; definition: specs/Faults.antt.
+//! Why a book's file is refused. The sentence that says so is made by `sentence`. Definition: specs/Faults.antt.
 
 ghost use Rattle.std.specs.Prelude.{◌≡◌};
 ghost use Rattle.h2_book.specs.Faults.{cause_number};

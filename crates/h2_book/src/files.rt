@@ -1,5 +1,4 @@
-//! Files that a program reads and writes whole.
-//! Rests on nothing; what a read reports, and what a write leaves: specs/Files.antt.
+//! Files that a program reads and writes whole. What a read reports, and what a write leaves: specs/Files.antt.
 
 ghost use Rattle.std.specs.Prelude.{◌≡◌, ◌≤◌, ℕ, List, Option, Bool, IfOk, OnErr, OnOk, true, vec_len};
 ghost use Rattle.h2_book.specs.Files.{Reads, Replaces};

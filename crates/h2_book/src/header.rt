@@ -1,5 +1,4 @@
-//! The fields of an answer: `headers`.
-//! Rests on `body` for copies and on the crate `toml`; definitions: specs/Said.antt.
+//! The fields of an answer: `headers`. Definitions: specs/Said.antt.
 
 ghost use Rattle.std.specs.Prelude.{◌≡◌, None, Some, option_map, IfOk, IfSome, IsTrue, is_some};
 ghost use Rattle.std.specs.Option.{option_copied, option_and_then};

@@ -1,6 +1,5 @@
-//! Books of answers in TOML files.
-//! It rests on `h2_request` (the book and its entries) and on the crate `toml`. The definitions are in specs/: `Said`
-//! (one answer), `Contents` (its body), `Entries` (the whole file), `Files` (what a read reports), `Faults` (numbers).
+//! Books of answers in TOML files. The definitions are in specs/: `Said` (one answer), `Contents` (its body), `Entries`
+//! (the whole file), `Files` (what a read reports), `Faults` (numbers).
 #![tactic(auto)]
 
 mod answer;

@@ -1,5 +1,4 @@
-//! Files in memory, for tests: a list of paths and octets.
-//! Rests on `files`; definition: `file_in` of specs/Files.antt.
+//! Files in memory, for tests: a list of paths and octets. Definition: `file_in` of specs/Files.antt.
 
 ghost use Rattle.std.specs.Prelude.{◌≡◌, option_map, true};
 ghost use Rattle.h2_book.specs.Files.{file_in};
@@ -10,6 +9,7 @@ use std::alloc::Global;
 /// Files in memory: each a path and its octets. Where two have one path, the first is the file there.
 #[derive(Clone, Copy)]
 pub struct FilesInMemory<'f> {
+    /// The path and the octets of each file.
     pub files: &'f [(&'f str, &'f [u8])],
 }
 

@@ -1,5 +1,5 @@
-//! The sentence that says why a book's file is refused: the file, the line of the key, the answer, what is wrong. Texts of
-//! the file are cut and escaped as in `explain`. Rests on h2_reasons; no definition speaks of it.
+//! The sentence that says why a book's file is refused: the file, the line of the key, the answer, what is wrong. Texts
+//! of the file are cut and escaped as in `explain`. No definition speaks of it.
 
 use crate::fault::{Cause, Key};
 use crate::line::{line_of_answer, line_of_key};

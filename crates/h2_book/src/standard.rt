@@ -1,5 +1,4 @@
 //! The system's files, of which contracts know nothing.
-//! Rests on `files` and `std::fs`.
 
 ghost use Rattle.std.specs.Prelude.{◌≤◌, IfOk, None, false, vec_len};
 

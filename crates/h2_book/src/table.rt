@@ -1,5 +1,4 @@
-//! The values of a TOML table.
-//! Rests on the crate `toml`; definition: its `get_member`.
+//! The values of a TOML table. Definition: its `get_member`.
 
 ghost use Rattle.std.specs.Prelude.{◌≡◌, option_map};
 ghost use Rattle.toml.specs.Data.{get_member};

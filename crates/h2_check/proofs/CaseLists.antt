@@ -23,7 +23,7 @@ pos-here m ms e = rw e refl
 pos-skip : (m : List ℕ) (ms : List (List ℕ)) → starts m ≡ false → position_or_len starts (m ∷ ms) ≡ suc (position_or_len starts ms)
 pos-skip m ms e = rw e (omega arith)
 
--- the first of the cases, and those behind it
+-- the first of the cases, and those after it
 split : (l : List ℕ) (ls : List (List ℕ)) → cases_from (l ∷ ls) ≡ (l ∷ take (position_or_len starts ls) ls) ∷ cases_from (drop (position_or_len starts ls) ls)
 unfolding cases_from
 split l [] = refl
@@ -50,7 +50,7 @@ cases-none : cases_from [] ≡ []
 unfolding cases_from
 cases-none = refl
 
--- the case at a place among lines that are lent, and those behind it
+-- the case at a place among lines that are lent, and those after it
 pub case-at : (lines : List (Bor (List ℕ))) (first n : ℕ) → first < length lines → n ≡ case_length (map (λ l. l.now) (drop first lines))
     → cases_from (drop first (map (λ l. l.now) lines)) ≡ map (λ l. l.now) (take n (drop first lines)) ∷ cases_from (drop (first + n) (map (λ l. l.now) lines))
 case-at lines first n h is =

@@ -1,4 +1,4 @@
--- More octets behind those of a run: what is seen then.
+-- More octets after those of a run: what is seen then.
 use Rattle.std.proofs.Common.{◌≡◌, ◌∙◌, ◌++◌, ◌+◌, ◌<◌, ◌≤◌, ℕ, zero, suc, List, [], ◌∷◌, length, drop, refl, sym, ap, ap₂, arith, length-drop}
 use Rattle.std.proofs.lemmas.List.{drop-append-le}
 use Rattle.h2_spec.specs.Frame.{Next, NoItem, Got}

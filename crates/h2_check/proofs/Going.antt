@@ -45,7 +45,7 @@ goes_nowhere w = record { found = at w.holds; place = λ e. refl }
     at true = refl
     at false = refl
 
--- a line has spoken of what was sent
+-- a line has spoken about what was sent
 pub goes_sent : (start : Start) (w w' : Walk) (text : List ℕ) → seen_by w.seen ≡ sight_at start (place_of w) → Speaks text w w'
     → Passes start (line.Sent text) w w'
 goes_sent start w w' text seen f = record {
@@ -56,7 +56,7 @@ goes_sent start w w' text seen f = record {
       rw (f.octets, spoken, f.speaks) refl;
 }
 
--- more octets behind a place that closes
+-- more octets after a place that closes
 closes_is : (start : Start) (w : Walk) → seen_by w.seen ≡ sight_at start (place_of w) → (not w.speaks || is_none (left_by w)) ≡ closes start (place_of w)
 closes_is start w e = ap (λ (t : List ℕ). not w.speaks || is_none t) (left_is start w e)
 
@@ -98,7 +98,7 @@ said_lent : (xs : List (Bor (List ℕ))) → map (λ l. line.line_said l.now) xs
 said_lent [] = refl
 said_lent (x ∷ xs) = ap (λ (ls : List line.Said). line.line_said x.now ∷ ls) (said_lent xs)
 
--- behind the last line
+-- after the last line
 pub all_held : (start : Start) (w w' : Walk) (lines : List (Bor (List ℕ))) → w.holds ≡ true → w.octets.items ≡ [] → w.spoken ≡ 0 → w.speaks ≡ false
     → w'.holds ≡ (w.holds && all_hold start (place_of w) (map (λ l. line.line_said l.now) lines))
     → w'.holds ≡ all_hold start first_place (map line.line_said (map (λ l. l.now) lines))

@@ -19,7 +19,7 @@ use Rattle.h2_check.specs.Seen.{Sight, cause_or, with_item, with_items}
 abbrev made : State → Item → Event
 made s item = record { item = item; state = (step s item).state; sent = (step s item).sent }
 
--- what is reported of an item is said of its event
+-- what is reported of an item is said about its event
 pub record IsOf (s : State) (e : Event) (t : State) (taken : TakenItem) : Type 0 where
   pub state : e.state ≡ t
   pub cause : taken.cause ≡ cause_of s e.item
@@ -44,7 +44,7 @@ item_said s b e t used taken comes said = said_of s (next_item s b) e t used tak
 abbrev pub sight_of : List ℕ → Option Cause → Option Cause → Option Ignored → Sight
 sight_of sent first cause ignored = record { sent = sent; first = first; cause = cause; ignored = ignored }
 
--- the sight that a value has behind an item
+-- the sight that a value has after an item
 pub sight_with : (s : State) (seen : Sight) (e : Event) (sent : List ℕ) (first cause : Option Cause) (ignored : Option Ignored)
     → sent ≡ seen.sent ++ frames_octets e.sent → first ≡ cause_or seen.first cause → cause ≡ cause_of s e.item → ignored ≡ ignored_of s e.item
     → sight_of sent first cause ignored ≡ with_item s seen e

@@ -1,4 +1,4 @@
--- A line that is read octet by octet, up to an octet and behind it.
+-- A line that is read octet by octet, up to an octet and after it.
 use Rattle.std.proofs.Common.{◌≡◌, ◌∙◌, ◌+◌, ◌<◌, ◌++◌, ℕ, Bool, true, false, List, [], ◌∷◌, Option, Some, None, length, get_or, drop, refl, sym, ap, drop-cons, add-one}
 use Rattle.std.specs.Option.{option_and_then}
 use Rattle.std.proofs.lemmas.Str.{IsUtf8-from_is_utf8, is_utf8-from_IsUtf8}
@@ -19,7 +19,7 @@ pub read_none : (r : Reading) (line : List ℕ) (i c : ℕ) → i < length line 
 read_none r line i c h is e =
     next r line i h ∙ ap (λ (x : Option Reading). option_and_then (λ t. words_behind t (drop (i + 1) line)) x) (ap (behind_octet r) (sym is) ∙ e)
 
--- a word behind others, where it is UTF-8
+-- a word after others, where it is UTF-8
 pub word_added : (words : List (List ℕ)) (word text : List ℕ) (after : List (List ℕ)) → text ≡ word → IsUtf8 word → after ≡ words ++ text ∷ [] → with_word words word ≡ Some after
 word_added words word text after same well e = rw (is_utf8-from_IsUtf8 word well, e, same) refl
 

@@ -57,7 +57,7 @@ says_idle (line.Command text) = false
 abbrev pub have_idle : List (List ℕ) → Bool
 have_idle lines = list_any (λ l. says_idle (line_said l)) lines
 
--- words, and behind them those that a line says, if it says them well
+-- words, and after them those that a line says, if it says them well
 abbrev pub with_said : List (List ℕ) → Said → Option (List (List ℕ))
 with_said words (line.Words text) = with_words words text
 with_said words (line.Script text) = Some words
@@ -69,7 +69,7 @@ with_said words (line.Reason text) = Some words
 with_said words (line.Explained text) = Some words
 with_said words (line.Command text) = Some words
 
--- words, and behind them those of lines, one line after another
+-- words, and after them those of lines, one line after another
 abbrev pub with_case_words : List (List ℕ) → List (List ℕ) → Option (List (List ℕ))
 with_case_words words [] = Some words
 with_case_words words (l ∷ ls) = option_and_then (λ more. with_case_words more ls) (with_said words (line_said l))

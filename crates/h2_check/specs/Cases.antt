@@ -25,7 +25,7 @@ pub record Start : Type 0 where
   pub state : State
   pub sent : List ℕ
 
--- a place between two lines: the octets of the lines above, how many of the octets sent lines have spoken of, and
+-- a place between two lines: the octets of the lines above, how many of the octets sent lines have spoken about, and
 -- whether a line has since the last octets
 pub record Place : Type 0 where
   pub above : List ℕ
@@ -40,17 +40,17 @@ sight_at start here = sight start.state start.sent here.above
 abbrev pub text_at : Start → Place → List ℕ
 text_at start here = show (view (trace start.state here.above).state)
 
--- the octets sent that no line has spoken of
+-- the octets sent that no line has spoken about
 abbrev pub unspoken : Start → Place → List ℕ
 unspoken start here = drop here.spoken (sight_at start here).sent
 
 -- ---- more octets
 
--- where a line has spoken of what was sent since the last octets, nothing of it is left
+-- where a line has spoken about what was sent since the last octets, nothing of it is left
 abbrev pub closes : Start → Place → Bool
 closes start here = not here.speaks || is_none (unspoken start here)
 
--- what was sent before the first octets counts only where a line has spoken of it
+-- what was sent before the first octets counts only where a line has spoken about it
 abbrev pub passed : Start → Place → ℕ
 passed start here = if not here.speaks && is_none here.above then length (sight_at start here).sent else here.spoken
 
@@ -65,7 +65,7 @@ played start here None = here
 played start here (Some []) = here
 played start here (Some (octet ∷ octets)) = record { above = here.above ++ octet ∷ octets; spoken = passed start here; speaks = false }
 
--- ---- what is said of the items
+-- ---- what is said about the items
 
 -- the name of a cause, a dash for none
 abbrev pub cause_text : Option Cause → List ℕ
@@ -99,7 +99,7 @@ holds start here (line.Reason text) = ignores (sight_at start here) text
 holds start here (line.Explained text) = false
 holds start here (line.Command text) = false
 
--- the place behind a line that holds
+-- the place after a line that holds
 abbrev pub behind : Start → Place → Said → Place
 behind start here (line.Script text) = played start here (octets_at text)
 behind start here (line.Title text) = here

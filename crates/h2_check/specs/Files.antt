@@ -59,7 +59,7 @@ is_preamble lines n = nat_lt n (length lines) && (not (is_some (title_in lines))
 abbrev pub preamble_length : List (List ℕ) → ℕ
 preamble_length lines = if is_preamble lines (case_length lines) then case_length lines else 0
 
--- a line in front of the cases behind it: it begins one of its own where the next line begins one, else it is the first
+-- a line in front of the cases after it: it begins one of its own where the next line begins one, else it is the first
 -- line of the next
 abbrev pub in_front : List ℕ → List (List (List ℕ)) → List (List (List ℕ))
 in_front l [] = (l ∷ []) ∷ []

@@ -37,7 +37,8 @@ abbrev pub frame_length : Option (List ℕ) → ℕ
 frame_length None = 0
 frame_length (Some octets) = length octets
 
--- how many octets lines have spoken of behind a line, if it holds, where there are so many, and so many were spoken of
+-- how many octets lines have spoken about after a line, if it holds, where there are that many, and that many were
+-- spoken about
 abbrev pub spoken_by : List ℕ → (all spoken : ℕ) → ℕ
 spoken_by text all spoken =
     if bytes_eq text (codes "...") then all

@@ -49,7 +49,7 @@ sight s sent octets = with_items s (no_item sent) (trace s octets).events
 abbrev pub seen_by : Seen → Sight
 seen_by seen = record { sent = seen.sent.items; first = seen.first; cause = seen.cause; ignored = seen.ignored }
 
--- the next item of the octets was taken: it has so many of them
+-- the next item of the octets was taken: it has that many of them
 pub record TakesItem (s : State) (b : List ℕ) (seen : Sight) (t : State) (seen' : Sight) (used : ℕ) : Type 0 where
   pub event : Event
   pub comes : next_event s b ≡ One event t used

@@ -18,7 +18,7 @@ is_single c = c == 39
 abbrev pub is_double : ℕ → Bool
 is_double c = c == 34
 
--- where the next octet is, behind this one outside quotes
+-- where the next octet is, after this one outside quotes
 abbrev pub outside : ℕ → Place
 outside c =
     if is_blank c then place.Between
@@ -26,7 +26,7 @@ outside c =
     else if is_single c then place.Single
     else if is_double c then place.Double else place.Plain
 
--- where the next octet is, behind this one
+-- where the next octet is, after this one
 abbrev pub next_place : Place → ℕ → Place
 next_place place.Between c = outside c
 next_place place.Plain c = outside c
@@ -81,13 +81,13 @@ between (Some words) = Some (record { place = place.Between; word = []; words = 
 abbrev pub gained : Place → ℕ → List ℕ
 gained p c = (if keeps_backslash p c then 92 ∷ [] else []) ++ (if is_part p c then c ∷ [] else [])
 
--- the reading behind one more octet
+-- the reading after one more octet
 abbrev pub behind_octet : Reading → ℕ → Option Reading
 behind_octet r c =
     if not (is_between r.place) && is_between (next_place r.place c) then between (with_word r.words r.word)
     else Some (record { place = next_place r.place c; word = r.word ++ gained r.place c; words = r.words })
 
--- the words at the end of a line; none where a quote is open or nothing is behind a backslash
+-- the words at the end of a line; none where a quote is open or nothing is after a backslash
 abbrev pub words_ended : Place → (word : List ℕ) → (words : List (List ℕ)) → Option (List (List ℕ))
 words_ended place.Between word words = Some words
 words_ended place.Plain word words = with_word words word
@@ -96,7 +96,7 @@ words_ended place.Single word words = None
 words_ended place.Double word words = None
 words_ended place.DoubleEscaped word words = None
 
--- the words behind the rest of a line
+-- the words after the rest of a line
 abbrev pub words_behind : Reading → List ℕ → Option (List (List ℕ))
 words_behind r [] = words_ended r.place r.word r.words
 words_behind r (c ∷ cs) = option_and_then (λ next. words_behind next cs) (behind_octet r c)
@@ -105,6 +105,6 @@ words_behind r (c ∷ cs) = option_and_then (λ next. words_behind next cs) (beh
 abbrev pub line_begins : List (List ℕ) → Reading
 line_begins words = record { place = place.Between; word = []; words = words }
 
--- words, and behind them those of a line, if it has words
+-- words, and after them those of a line, if it has words
 abbrev pub with_words : List (List ℕ) → List ℕ → Option (List (List ℕ))
 with_words words line = words_behind (line_begins words) line

@@ -9,20 +9,20 @@ result_words Skipped = codes "ok "
 result_words Holds = codes "ok "
 result_words Fails = codes "not ok "
 
--- the words behind the name of a result
+-- the words after the name of a result
 abbrev pub directive : Outcome → List ℕ
 directive Skipped = codes " # SKIP it expects nothing\n"
 directive Holds = codes "\n"
 directive Fails = codes "\n"
 
--- an octet, behind a backslash where it is a backslash or this other one
+-- an octet, after a backslash where it is a backslash or this other one
 abbrev pub escaped_octet : ℕ → ℕ → List ℕ
 escaped_octet other octet = if octet == 92 || octet == other then 92 ∷ octet ∷ [] else octet ∷ []
 
 abbrev pub escaped : ℕ → List ℕ → List ℕ
 escaped other octets = flat_map (escaped_octet other) octets
 
--- the title of a case behind its file
+-- the title of a case after its file
 abbrev pub title_text : Option (List ℕ) → List ℕ
 title_text None = []
 title_text (Some title) = codes ": " ++ escaped 35 title

@@ -1,4 +1,4 @@
--- A walk over the lines of a case: how far it has come, and what it has found.
+-- A walk over the lines of a case: how far it has got, and what it has found.
 use Rattle.std.specs.Prelude.{◌≡◌, ℕ, ◌+◌, ◌++◌, ◌≤◌, Bool, true, false, ◌&&◌, ◌||◌, not, List, [], codes, length, drop, if◌then◌else◌, Option}
 use Rattle.h2_conn.specs.Connection.{Connection, going}
 use Rattle.h2_spec.specs.Parse.{parse_all}
@@ -18,7 +18,7 @@ use Rattle.h2_check.specs.declared.verdict.Verdict.TheVariants as verdict
 abbrev pub place_of : Walk → Place
 place_of w = record { above = w.octets.items; spoken = w.spoken; speaks = w.speaks }
 
--- the walk and its connection have come as far as the octets of its lines lead
+-- the walk and its connection have got as far as the octets of its lines lead
 pub record Walks (start : Start) (w : Walk) (c : Connection) : Type 0 where
   pub within : w.at ≤ length w.octets.items
   pub ready : c ≡ going c.state []
@@ -35,7 +35,7 @@ pub record Finds (b : Bool) (w w' : Walk) : Type 0 where
   pub speaks : w'.speaks ≡ w.speaks
   pub spoken : b ≡ true → w'.spoken ≡ w.spoken
 
--- the octets that were sent and that no line has spoken of
+-- the octets that were sent and that no line has spoken about
 abbrev pub left_by : Walk → List ℕ
 left_by w = drop w.spoken w.seen.sent.items
 
@@ -57,7 +57,7 @@ pub record Compares (wanted : Option (List ℕ)) (w w' : Walk) : Type 0 where
   pub speaks : w'.speaks ≡ w.speaks
   pub spoken : is_next wanted (left_by w) ≡ true → w'.spoken ≡ w.spoken + frame_length wanted
 
--- a line has spoken of what was sent
+-- a line has spoken about what was sent
 pub record Speaks (text : List ℕ) (w w' : Walk) : Type 0 where
   pub found : w'.holds ≡ (w.holds && sends text (left_by w))
   pub octets : w'.octets ≡ w.octets
@@ -118,7 +118,7 @@ pub record Keeps (line : List ℕ) (w w' : Walk) (g g' : Growing) : Type 0 where
   pub spoken : w'.spoken ≡ (if sends line (left_by w) then spoken_by line (length w.seen.sent.items) w.spoken else w.spoken)
   pub text : Gains (held_text line (left_by w)) g g'
 
--- all that was sent is spoken of, and this text was written
+-- all that was sent is spoken about, and this text was written
 pub record Tells (spoke : Bool) (lines : List ℕ) (w w' : Walk) (g g' : Growing) : Type 0 where
   pub octets : w'.octets ≡ w.octets
   pub at : w'.at ≡ w.at

@@ -1,5 +1,5 @@
-//! A case written anew: what its lines say of frames that are sent, and of errors, is replaced by what the run of its octets
-//! has. All other lines stay. Rests on `walk` and `growing`; definition: `specs/Blessed.antt`.
+//! A case written anew: what its lines say of frames that are sent, and of errors, is replaced by what the run of its
+//! octets has. All other lines stay. Definition: `specs/Blessed.antt`.
 
 ghost use Rattle.std.specs.Prelude.{◌≡◌, ◌≤◌, ◌+◌, ◌⊎◌, [], ◌++◌, true, false, Some, codes, drop, flat_map, if◌then◌else◌, length, map, nat_lt, IfOk, IfErr, OnOk};
 ghost use Rattle.h2_conn.specs.Connection.{going};

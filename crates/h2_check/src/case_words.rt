@@ -1,5 +1,4 @@
-//! The words of the command line that a case has in its lines.
-//! Rests on `line` and `shell`; definitions: `specs/CaseWords.antt`.
+//! The words of the command line that a case has in its lines. Definitions: `specs/CaseWords.antt`.
 
 ghost use Rattle.std.specs.Prelude.{◌≡◌, ◌⊎◌, [], Some, None, is_some, map, string_bytes, IfErr, IfOk, OnOk};
 ghost use Rattle.std.specs.List.{list_any};
@@ -118,7 +117,7 @@ pub fn idle_place(alloc: Global, lines: &[&[u8]]) -> Result<Option<usize>, Alloc
     Ok(None)
 }
 
-/// Puts the words of a line behind others, where it has some.
+/// Puts the words of a line after others, where it has some.
 fn add_line_words(alloc: Global, line: &[u8], words: &mut Words) -> Result<(), ShellFault>
     ensures ok { OnOk result (with_said words.old (line_said line.now) ≡ Some words.new) }
     ensures err { IfErr result (λ fault. (fault ≡ NoMemory) ⊎ (with_said words.old (line_said line.now) ≡ None)) }
@@ -136,7 +135,7 @@ fn add_line_words(alloc: Global, line: &[u8], words: &mut Words) -> Result<(), S
     }
 }
 
-/// Puts the words of the command line that lines have behind others.
+/// Puts the words of the command line that lines have after others.
 ///
 /// # Errors
 ///

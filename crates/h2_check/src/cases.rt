@@ -1,5 +1,4 @@
-//! The lines of a case file, and the cases among them.
-//! Rests on `line`; definitions: `specs/Lines.antt`, `specs/Files.antt`.
+//! The lines of a case file, and the cases among them. Definitions: `specs/Lines.antt`, `specs/Files.antt`.
 
 ghost use Rattle.std.specs.Prelude.{◌≡◌, ◌<◌, ◌≤◌, length, map, take, drop, is_some, IfOk};
 ghost use Rattle.std.specs.List.{list_all, list_any, position_or_len};

@@ -1,5 +1,4 @@
-//! A text that is put together part by part, as octets.
-//! Rests on the crate `itoa`; definitions: `specs/Tap.antt`.
+//! A text that is put together part by part, as octets. Definitions: `specs/Tap.antt`.
 
 ghost use Rattle.std.specs.Prelude.{◌≡◌, ◌∷◌, [], codes, decimal, false, IfOk};
 ghost use Rattle.h2_check.specs.Tap.{Gains, GainsSome, escaped, escaped_octet};
@@ -65,7 +64,7 @@ impl Growing {
         self.put(buffer.format(number).as_bytes());
     }
 
-    /// Puts an octet last, behind a backslash where it is a backslash or this other one.
+    /// Puts an octet last, after a backslash where it is a backslash or this other one.
     fn octet(&mut self, octet: u8, other: u8)
         ensures { Gains (escaped_octet other octet) self.old self.new }
     {

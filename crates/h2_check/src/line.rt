@@ -1,5 +1,5 @@
-//! A line of a case file: one of the script, or one that says something of the case in a comment.
-//! Rests on nothing; definitions: `specs/Lines.antt`.
+//! A line of a case file: one of the script, or one that says something of the case in a comment. Definitions:
+//! `specs/Lines.antt`.
 
 ghost use Rattle.std.specs.Prelude.{◌≡◌};
 ghost use Rattle.h2_check.specs.Lines.{expectation_said, line_said, said_by};

@@ -1,5 +1,4 @@
-//! Lines of a text that are expected, and how a line differs from what was expected.
-//! Rests on nothing; definitions: `specs/Texts.antt`.
+//! Lines of a text that are expected, and how a line differs from what was expected. Definitions: `specs/Texts.antt`.
 
 ghost use Rattle.std.specs.Prelude.{◌≡◌, ◌<◌, ◌≤◌, length};
 ghost use Rattle.h2_check.specs.Texts.{fits, has_line, shows};
@@ -24,7 +23,7 @@ fn has_line(text: &[u8], expected: &[u8]) -> bool
         .any(|line| fits(expected, line))
 }
 
-/// Whether a text has the line that is expected, or has not the line behind `! `.
+/// Whether a text has the line that is expected, or has not the line after `! `.
 pub(crate) fn shows(text: &[u8], expected: &[u8]) -> bool
     ensures { result ≡ shows text.now expected.now }
 {

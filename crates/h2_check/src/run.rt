@@ -1,5 +1,4 @@
-//! The items of a case's octets, taken one after another, and what is seen of them.
-//! Rests on h2_conn; definitions: `specs/Seen.antt`.
+//! The items of a case's octets, taken one after another, and what is seen of them. Definitions: `specs/Seen.antt`.
 
 ghost use Rattle.std.specs.Prelude.{◌≡◌, ◌≤◌, ◌<◌, ◌^◌, [], drop, length, IfOk};
 ghost use Rattle.h2_conn.specs.Connection.{going};
@@ -60,7 +59,7 @@ fn take_item(
     }
 }
 
-/// Takes the items that octets have from a place on, and gives the place behind them.
+/// Takes the items that octets have from a place on, and gives the place after them.
 ///
 /// `AllocError` where memory is refused.
 pub(crate) fn take_items(

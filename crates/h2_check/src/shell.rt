@@ -1,5 +1,4 @@
-//! The words of a line, by a shell's rules of blanks and quotes.
-//! Rests on h2_words; definition: `specs/Shell.antt`.
+//! The words of a line, by a shell's rules of blanks and quotes. Definition: `specs/Shell.antt`.
 
 ghost use Rattle.std.specs.Prelude.{◌≡◌, ◌⊎◌, ◌++◌, ◌∷◌, [], Some, None, IfOk, IfErr, OnOk};
 ghost use Rattle.h2_check.specs.Shell.{Reading, behind_octet, gained, is_between, is_part, keeps_backslash, next_place, outside, with_word, with_words, words_ended};
@@ -25,17 +24,17 @@ pub(crate) enum Place {
     Between,
     /// In a word, outside quotes.
     Plain,
-    /// Behind a backslash, outside quotes.
+    /// After a backslash, outside quotes.
     Escaped,
     /// Between single quotes.
     Single,
     /// Between double quotes.
     Double,
-    /// Behind a backslash between double quotes.
+    /// After a backslash between double quotes.
     DoubleEscaped,
 }
 
-/// Where the next octet is, behind this one outside quotes; a blank ends a word.
+/// Where the next octet is, after this one outside quotes; a blank ends a word.
 fn outside(octet: u8) -> Place
     ensures { result ≡ outside octet }
 {
@@ -52,7 +51,7 @@ fn outside(octet: u8) -> Place
     }
 }
 
-/// Where the next octet is, behind this one between double quotes.
+/// Where the next octet is, after this one between double quotes.
 fn between_doubles(octet: u8) -> Place
     ensures { result ≡ next_place Place.Double octet }
 {
@@ -65,7 +64,7 @@ fn between_doubles(octet: u8) -> Place
     }
 }
 
-/// Where the next octet is, behind this one.
+/// Where the next octet is, after this one.
 fn next_place(place: Place, octet: u8) -> Place
     ensures { result ≡ next_place place octet }
 {
@@ -134,7 +133,7 @@ fn add_octet(word: &mut Vec<u8>, place: Place, octet: u8) -> Result<(), AllocErr
     Ok(())
 }
 
-/// Puts a word behind others.
+/// Puts a word after others.
 fn add_word(words: &mut Words, word: &[u8]) -> Result<(), ShellFault>
     ensures ok { OnOk result (with_word words.old word.now ≡ Some words.new) }
     ensures err { IfErr result (λ fault. (fault ≡ NoMemory) ⊎ (with_word words.old word.now ≡ None)) }
@@ -176,7 +175,7 @@ fn take_octet(
     }
 }
 
-/// Puts the last word of a line behind the others, where the line ends in one.
+/// Puts the last word of a line after the others, where the line ends in one.
 fn add_last(words: &mut Words, place: Place, word: &[u8]) -> Result<(), ShellFault>
     ensures ok { OnOk result (words_ended place word.now words.old ≡ Some words.new) }
     ensures err { IfErr result (λ fault. (fault ≡ NoMemory) ⊎ (words_ended place word.now words.old ≡ None)) }
@@ -190,7 +189,7 @@ fn add_last(words: &mut Words, place: Place, word: &[u8]) -> Result<(), ShellFau
     }
 }
 
-/// Puts the words of a line behind others.
+/// Puts the words of a line after others.
 ///
 /// Blanks and tabs separate words. Between single quotes each octet is itself. Between double quotes a backslash before
 /// `\`, `"`, `$` or a backquote is dropped; outside quotes it makes the next octet itself.

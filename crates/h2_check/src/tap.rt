@@ -1,5 +1,4 @@
-//! The text of a verdict, by version 14 of the Test Anything Protocol.
-//! Rests on `growing` and `verdict`; definitions: `specs/Tap.antt`.
+//! The text of a verdict, by version 14 of the Test Anything Protocol. Definitions: `specs/Tap.antt`.
 
 ghost use Rattle.std.specs.Prelude.{◌≡◌, ◌++◌, codes, decimal, IfOk};
 ghost use Rattle.std.specs.Option.{option_map};
@@ -14,7 +13,9 @@ use std::alloc::{AllocError, Global};
 /// What a case is called: its file, and its title if it has one.
 #[derive(Clone, Copy)]
 pub struct Title<'t> {
+    /// The path of the file, as the command line or a folder has it.
     pub file: &'t str,
+    /// The text of its first comment line, none where it has none.
     pub title: Option<&'t [u8]>,
 }
 
@@ -28,7 +29,7 @@ fn result_words(verdict: &Verdict<'_>) -> &'static str
     }
 }
 
-/// The words behind the name of a result.
+/// The words after the name of a result.
 fn directive(verdict: &Verdict<'_>) -> &'static str
     ensures { result.now ≡ directive (outcome_by verdict.now) }
 {
@@ -38,7 +39,7 @@ fn directive(verdict: &Verdict<'_>) -> &'static str
     }
 }
 
-/// The title of a case behind its file.
+/// The title of a case after its file.
 fn put_title(title: Option<&[u8]>, out: &mut Growing)
     ensures { Gains (title_text (option_map (λ t. t.now) title.entry)) out.old out.new }
 {
@@ -60,7 +61,7 @@ fn put_result(number: u64, title: Title<'_>, verdict: &Verdict<'_>, out: &mut Gr
     out.text(directive(verdict));
 }
 
-/// A text behind a name, as a block, so that nothing in it needs a quote.
+/// A text after a name, as a block, so that nothing in it needs a quote.
 fn put_block(name: &str, text: &[u8], out: &mut Growing)
     ensures { GainsSome out.old out.new }
 {
@@ -68,7 +69,7 @@ fn put_block(name: &str, text: &[u8], out: &mut Growing)
     out.put(text);
 }
 
-/// What was found in place of what a line expects.
+/// What was found instead of what a line expects.
 fn put_wrong(file: &str, wrong: &Wrong<'_>, out: &mut Growing)
     ensures { GainsSome out.old out.new }
 {
@@ -84,7 +85,7 @@ fn put_wrong(file: &str, wrong: &Wrong<'_>, out: &mut Growing)
     out.text("^\n");
 }
 
-/// What was found in place of what some lines expect.
+/// What was found instead of what some lines expect.
 fn put_wrongs(file: &str, wrongs: &[Wrong<'_>], out: &mut Growing)
     ensures { GainsSome out.old out.new }
 {

@@ -1,5 +1,4 @@
-//! The verdict on a case.
-//! Rests on `walk` and h2_conn; definitions: `specs/Cases.antt`.
+//! The verdict on a case. Definitions: `specs/Cases.antt`.
 
 ghost use Rattle.std.specs.Prelude.{◌≡◌, ◌⊎◌, [], map, IfOk, IfErr, OnOk, false, true};
 ghost use Rattle.h2_conn.specs.Connection.{going};

@@ -1,6 +1,5 @@
 //! The lines of a case, one after another: those of the script are played, and the others are compared with what is
-//! seen of the run so far.
-//! Rests on `line`, `run` and `pattern`; definitions: `specs/Cases.antt`, `specs/Walks.antt`.
+//! seen of the run so far. Definitions: `specs/Cases.antt`, `specs/Walks.antt`.
 
 ghost use Rattle.std.specs.Prelude.{◌≡◌, ◌≤◌, ◌<◌, ◌^◌, ◌++◌, ◌&&◌, Bool, true, false, List, [], ℕ, length, drop, map, OnOk, IfOk};
 ghost use Rattle.h2_conn.specs.Connection.{going};
@@ -28,16 +27,16 @@ use h2_spec::ignored::Ignored;
 use std::alloc::{AllocError, Global};
 use std::str;
 
-/// How far the lines of a case have come.
+/// How far the lines of a case have got.
 pub(crate) struct Walk<'t> {
     /// The octets of the lines of the script.
     pub octets: Vec<u8>,
     /// How many of them were taken as items.
     pub at: usize,
     pub seen: Seen,
-    /// How many of the octets sent lines have spoken of.
+    /// How many of the octets sent lines have spoken about.
     pub spoken: usize,
-    /// Whether a line has spoken of them since the last octets, and the number of that line.
+    /// Whether a line has spoken about them since the last octets, and the number of that line.
     pub speaks: bool,
     speaker: usize,
     /// Whether all lines hold.
@@ -222,7 +221,7 @@ impl<'t> Walk<'t> {
         self.refuse(line, wanted, String::from_str(alloc, words))
     }
 
-    /// The octets that were sent and that no line has spoken of.
+    /// The octets that were sent and that no line has spoken about.
     pub(crate) fn unspoken(&self) -> &[u8]
         ensures { result.now ≡ drop self.now.spoken self.now.seen.sent.items }
     {
@@ -248,8 +247,8 @@ impl<'t> Walk<'t> {
 }
 
 impl<'t> Walk<'t> {
-    /// More octets come, or the case ends. Where a line has spoken of what was sent since the last octets, nothing else
-    /// may have been sent; what was sent before the first octets counts only where a line has spoken of it.
+    /// More octets come, or the case ends. Where a line has spoken about what was sent since the last octets, nothing
+    /// else may have been sent; what was sent before the first octets counts only where a line has spoken about it.
     fn close(&mut self, alloc: Global) -> Result<(), AllocError>
         ensures { OnOk result (Closes self.old self.new) }
     {

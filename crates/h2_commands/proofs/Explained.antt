@@ -48,7 +48,7 @@ status-is : (strict ended : Bool) (s : State) (octets : List ℕ) (v : Verdict) 
 status-is true ended s octets v said is = (v, said, ap (λ (b : Bool). strict_status v b) (is ∙ over-at (trace s octets).state.core.phase))
 status-is false ended s octets v said is = ap plain_status is ∙ status-at (trace s octets).state.core.phase
 
--- it is that of the phase in which its run ends, or that of what is said of the client
+-- it is that of the phase in which its run ends, or that of what is said about the client
 pub status-of : (form : Form) (s : State) (octets text : List ℕ) (summary : Summary) (b : Bool) → IsExplanation form false s octets text → IsSummary s octets summary → b ≡ is_some summary.ended
     → ReportsRun form s octets (explained_after form.json text (Ok (outcome form.strict b summary.verdict)))
 status-of form s octets text summary b explains is same =

@@ -79,7 +79,7 @@ file-refused files book n fault number refused = elim (memory-or-number fault) [
       ∙ ap (λ (m : ℕ). let r : Result (List Entry) ℕ = Err m in r) (sym number))
 ]
 
--- the words come behind the file
+-- the words come after the file
 pub file-taken : (files : Directory) (book : BookAsked) (entries : List Entry) (r : Result (List Entry) ℕ) → book_filed files book.file ≡ Ok entries → book_of entries book.answers ≡ r
     → book_said files book ≡ r
 file-taken files book entries r filed words = rw filed words

@@ -91,7 +91,7 @@ wrote-line all t u text line more held before after some l m o a w =
       left = rw o (append_assoc w.parts (part ∷ []) (printed_parts (obeyed t (command_of line)) (lines_of more)) ∙ ap (λ (x : List (List ℕ)). w.parts ++ x) (sym next) ∙ w.left);
     }
 
--- the entries behind all lines
+-- the entries after all lines
 pub wrote-all : (all : List (List ℕ)) (t : LimitedTable) (text held : List ℕ) (before after : Option (List ℕ)) → length text ≤ 0 → Appends before after (entry_lines 62 t.table.entries)
     → Wrote all t text held before → after ≡ Some (held ++ concat all)
 wrote-all all t text held before after none a w =
@@ -100,7 +100,7 @@ wrote-all all t text held before after none a w =
     let row : concat all ≡ concat w.parts ++ entries = ap concat (sym last) ∙ concat-append w.parts (entries ∷ []) ∙ ap (λ (x : List ℕ). concat w.parts ++ x) (append-nil entries) in
     more-written held (concat w.parts) entries (concat all) before after w.written a row
 
--- memory was refused behind some parts
+-- memory was refused after some parts
 pub wrote-some : (all : List (List ℕ)) (printed : Printed) (t : LimitedTable) (text held : List ℕ) (before after : Option (List ℕ)) (why : PlacesFault) → not_written (Err why) ≡ false
     → (why ≡ NotWritten) ⊎ ((why ≡ Fault NoMemory) × (after ≡ before)) → Wrote all t text held before
     → (x : List ℕ) × (after ≡ Some (held ++ x)) × OrCutShort all printed (printed_after x (Err why))

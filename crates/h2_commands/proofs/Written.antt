@@ -16,7 +16,7 @@ pub appended : (now text : List ℕ) (before after : Option (List ℕ)) → befo
 appended now text before (Some later) e x = ap (λ (t : List ℕ). Some t) (subst (λ (b : Option (List ℕ)). Appends b (Some later) text) e x)
 appended now text before None e x = absurd (subst (λ (b : Option (List ℕ)). Appends b None text) e x)
 
--- a text more is written behind those that were
+-- a text more is written after those that were
 pub more-written : (held done text later : List ℕ) (before after : Option (List ℕ)) → before ≡ Some (held ++ done) → Appends before after text → later ≡ done ++ text → after ≡ Some (held ++ later)
 more-written held done text later before after is a e =
     appended (held ++ done) text before after is a ∙ ap (λ (t : List ℕ). Some t) (append_assoc held done text ∙ ap (λ (t : List ℕ). held ++ t) (sym e))

@@ -1,4 +1,4 @@
--- The book of answers of a command: the entries of a file, and behind them those of the words.
+-- The book of answers of a command: the entries of a file, and after them those of the words.
 use Rattle.std.specs.Prelude.{ℕ, List, [], ◌∷◌, Result, Ok}
 use Rattle.h2_spec.specs.Answer.{Entry}
 pub use Rattle.h2_answers.specs.Books.{book_of, unless_refused}

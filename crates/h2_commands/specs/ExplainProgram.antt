@@ -44,7 +44,7 @@ is_over Settings = false
 is_over Running = false
 is_over (Ended code) = true
 
--- the status of a run over the octets: with `--strict` that of what is said of the client
+-- the status of a run over the octets: with `--strict` that of what is said about the client
 abbrev pub IsStatus : (strict : Bool) → State → List ℕ → ℕ → Type 0
 IsStatus false s octets status = status ≡ run_status (trace s octets).state.core.phase
 IsStatus true s octets status = (v : Verdict) × IsVerdict s octets v × (status ≡ strict_status v (is_over (trace s octets).state.core.phase))

@@ -19,7 +19,7 @@ refused fault = record { text = fault_line fault; status = 1 }
 abbrev pub failed : BenchFault → Printed
 failed fault = refused (fault_number fault)
 
--- a text, and behind it the line of a fault
+-- a text, and after it the line of a fault
 abbrev pub failed_after : List ℕ → BenchFault → Printed
 failed_after text fault = record { text = text ++ fault_line (fault_number fault); status = 1 }
 
@@ -33,7 +33,7 @@ failed_as json fault = refused_as json (fault_number fault)
 abbrev pub failed_after_as : (json : Bool) → List ℕ → BenchFault → Printed
 failed_after_as json text fault = record { text = text ++ fault_text json (fault_number fault); status = 1 }
 
--- so many first places of those that are reported, each whole, and then memory was refused
+-- that many first places of those that are reported, each whole, and then memory was refused
 abbrev pub cut_short : ℕ → List (List ℕ) → Printed
 cut_short count places = failed_after (concat (take count places)) NoMemory
 

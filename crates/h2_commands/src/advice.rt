@@ -1,5 +1,4 @@
-//! Advice about the words of a command, on standard error.
-//! Rests on h2_device; no definition speaks of its text.
+//! Advice about the words of a command, on standard error. No definition speaks of its text.
 
 ghost use Rattle.std.specs.Prelude.{◌≡◌, false};
 ghost use Rattle.h2_words.specs.Plans.{batch_asked};

@@ -1,5 +1,5 @@
-//! The answers of the command line, with the faults of its commands. Rests on h2_answers; definitions:
-//! `h2_spec/specs/AnswerWords.antt` (`entry_of`), and `specs/Answers.antt`.
+//! The answers of the command line, with the faults of its commands. Definitions: `h2_spec/specs/AnswerWords.antt`
+//! (`entry_of`), and `specs/Answers.antt`.
 
 ghost use Rattle.std.specs.Prelude.{◌≡◌, Some, IfOk, IfErr};
 ghost use Rattle.h2_spec.specs.AnswerWords as words;

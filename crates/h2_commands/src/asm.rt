@@ -1,5 +1,4 @@
-//! The program `asm`: the octets of a script.
-//! Rests on h2_script; definitions: `specs/ScriptPrograms.antt`.
+//! The program `asm`: the octets of a script. Definitions: `specs/ScriptPrograms.antt`.
 
 ghost use Rattle.h2_commands.specs.Reports.{Gives};
 ghost use Rattle.h2_commands.specs.ScriptPrograms.{printed_asm};

@@ -1,6 +1,5 @@
-//! A command that reads its whole input, from what the words ask for to its output and the exit status. Rests on `books`,
-//! `input`, `play`, `asm`, `dis`, `table`, `explain` and h2_device; definitions: `specs/Printed.antt`,
-//! `specs/CommandEnd.antt`, `specs/ExplainProgram.antt`.
+//! A command that reads its whole input, from what the words ask for to its output and the exit status. Definitions:
+//! `specs/Printed.antt`, `specs/CommandEnd.antt`, `specs/ExplainProgram.antt`.
 
 ghost use Rattle.std.specs.Prelude.{◌≡◌, ◌==◌, ◌≤◌, length, ◌<◌, ◌⊎◌, ◌++◌, ℕ, List, Some, Ok, Err, true, false, IfOk, IfErr, OnOk};
 ghost use Rattle.h2_words.specs.Plans.{batch_asked, book_asked, view_asked};
@@ -107,7 +106,7 @@ fn print_answer<O: Output>(output: &mut O, answer: Result<Report, BenchFault>) -
     }
 }
 
-/// Writes what is left to say of places that were written: the line of a fault that ended them. Gives the status.
+/// Writes what remains to say of places that were written: the line of a fault that ended them. Gives the status.
 pub fn print_end<O: Output>(output: &mut O, ended: Result<(), PlacesFault>) -> u8
     requires { O.has_failed output.old ≡ not_written ended }
     ensures printed { O.has_failed output.new ≡ false → (held text : List ℕ) → O.written output.old ≡ Some (held ++ text)
@@ -212,7 +211,7 @@ pub fn respond<F: Files, I: Input, O: Output, E: Output>(
     }
 }
 
-/// Writes what is left to say of an explanation: the fault that ended it. Gives the status: that of how the explanation
+/// Writes what remains to say of an explanation: the fault that ended it. Gives the status: that of how the explanation
 /// ended, 1 after a fault, 3 where the output failed.
 fn print_explained<O: Output>(output: &mut O, json: bool, ended: Result<Outcome, ExplainEnd>) -> u8
     requires { O.has_failed output.old ≡ cut_off ended }

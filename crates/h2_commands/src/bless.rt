@@ -1,5 +1,4 @@
-//! `check --bless`: files of cases are written anew, to the output or in place.
-//! Rests on h2_check, `own` and h2_book; definitions: `specs/BlessProgram.antt`.
+//! `check --bless`: files of cases are written anew, to the output or in place. Definitions: `specs/BlessProgram.antt`.
 
 ghost use Rattle.std.specs.Prelude.{◌≡◌, ◌==◌, false};
 ghost use Rattle.h2_commands.specs.BlessProgram.{not_blessed};

@@ -1,5 +1,5 @@
-//! The book of answers that a command is given: the entries of its file, and behind them those of its words.
-//! Rests on `answer`, h2_answers, h2_book and h2_request; definitions: `specs/Books.antt`.
+//! The book of answers that a command is given: the entries of its file, and after them those of its words.
+//! Definitions: `specs/Books.antt`.
 
 ghost use Rattle.std.specs.Prelude.{◌≡◌, ◌⊎◌, ◌<◌, [], Ok, Err, false, map, IfOk, IfErr, OnOk};
 ghost use Rattle.h2_words.specs.Plans.{book_asked};
@@ -139,7 +139,7 @@ fn answer_sentence(alloc: Global, refused: Refused, words: &[&str]) -> Result<St
     out.finish()
 }
 
-/// The book with the entries of the file that the words name, and behind them the answers that they say.
+/// The book with the entries of the file that the words name, and after them the answers that they say.
 ///
 /// Where an entry is refused and the words ask for the reason, a sentence is written to `errors`; otherwise nothing is.
 ///

@@ -1,5 +1,5 @@
-//! The program `check`: the cases of files, each on a connection of its own, and the verdicts on them.
-//! Rests on h2_check, `own` and h2_book; definitions: those of h2_check, specs/Files.antt and specs/Cases.antt.
+//! The program `check`: the cases of files, each on a connection of its own, and the verdicts on them. Definitions:
+//! those of h2_check, specs/Files.antt and specs/Cases.antt.
 
 ghost use Rattle.std.specs.Prelude.{◌≡◌, ◌≤◌, ◌<◌, [], false, true, length, is_err};
 ghost use Rattle.h2_commands.specs.Each.{not_written};
@@ -22,7 +22,9 @@ use std::str;
 /// How many cases have a verdict, and whether none failed.
 #[derive(Clone, Copy)]
 pub struct Tally {
+    /// How many cases have a verdict.
     pub count: u64,
+    /// Whether none of them failed.
     pub all_hold: bool,
 }
 

@@ -1,5 +1,4 @@
-//! The program `dis`: the script of the octets that hex text spells.
-//! Rests on h2_script and `input`; definitions: `specs/ScriptPrograms.antt`.
+//! The program `dis`: the script of the octets that hex text spells. Definitions: `specs/ScriptPrograms.antt`.
 
 ghost use Rattle.h2_commands.specs.Reports.{Meets};
 ghost use Rattle.h2_hex.specs.HexText.{octets_spelled};

@@ -1,5 +1,5 @@
-//! A connection that is reported place by place: the start, and then each item.
-//! Rests on h2_device and h2_places; definitions: `specs/Printed.antt`, `specs/Each.antt`.
+//! A connection that is reported place by place: the start, and then each item. Definitions: `specs/Printed.antt`,
+//! `specs/Each.antt`.
 
 ghost use Rattle.std.specs.Prelude.{◌≡◌, ◌<◌, ◌^◌, [], false, length, IfErr, OnOk, is_err};
 ghost use Rattle.std.specs.Io.KnownBytes.{Appends};

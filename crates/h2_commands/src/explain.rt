@@ -1,5 +1,5 @@
-//! The program `explain`: a connection over the octets that hex text spells, explained item by item.
-//! Rests on h2_explain and h2_conn; definitions: `specs/ExplainProgram.antt`.
+//! The program `explain`: a connection over the octets that hex text spells, explained item by item. Definitions:
+//! `specs/ExplainProgram.antt`.
 
 ghost use Rattle.std.specs.Prelude.{◌≡◌, ◌==◌, [], ◌≤◌, ◌<◌, ◌^◌, ◌++◌, ◌⊎◌, ℕ, List, Some, Ok, true, false, length, option_map, is_some, IfErr, IfOk};
 ghost use Rattle.std.specs.Vec.{vec_len};
@@ -40,9 +40,9 @@ pub enum ExplainEnd {
 pub struct Outcome {
     /// Whether a connection error ended the connection (RFC 9113, 5.4.1).
     pub ended: bool,
-    /// Whether the status says what is said of the client.
+    /// Whether the status says what is said about the client.
     pub strict: bool,
-    /// What is said of the client.
+    /// What is said about the client.
     pub verdict: Verdict,
 }
 

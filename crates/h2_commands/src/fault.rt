@@ -1,5 +1,5 @@
-//! Why a program is refused, each cause with its number, and the line that reports it.
-//! It uses the faults of an entry of h2_request; definitions: `specs/Faults.antt`.
+//! Why a program is refused, each cause with its number, and the line that reports it. Definitions:
+//! `specs/Faults.antt`.
 
 ghost use Rattle.std.specs.Prelude.{◌≡◌};
 ghost use Rattle.h2_commands.specs.Faults.{fault_line, fault_number, fault_object, fault_text};
@@ -108,7 +108,9 @@ impl Text for FaultObject {
 /// What reports a fault: the line `fault N`, or its object where JSON is written.
 #[derive(Clone, Copy)]
 pub struct FaultText {
+    /// Whether it is written as an object of JSON.
     pub json: bool,
+    /// The fault that is reported.
     pub fault: BenchFault,
 }
 

@@ -1,5 +1,5 @@
-//! The whole input of a program, and the octets that hex text spells.
-//! Rests on h2_device and h2_hex; definitions: `specs/Input.antt`, and h2_hex's `specs/HexText.antt`.
+//! The whole input of a program, and the octets that hex text spells. Definitions: `specs/Input.antt`, and h2_hex's
+//! `specs/HexText.antt`.
 
 ghost use Rattle.std.specs.Prelude.{◌≡◌, ◌≤◌, ◌+◌, ℕ, List, Some, false, length, IfOk, IfErr, OnOk};
 ghost use Rattle.h2_commands.specs.Input.{IsNoHex, IsUnread};

@@ -1,5 +1,4 @@
 //! The limits, the settings and the book of a case that has words of its own.
-//! Rests on h2_check, `books` and h2_words.
 
 use crate::books::book_for_words;
 use crate::fault::BenchFault;

@@ -1,5 +1,4 @@
-//! The program `play`: a connection over the octets that hex text spells.
-//! Rests on `each` and h2_conn; definitions: `specs/Printed.antt`.
+//! The program `play`: a connection over the octets that hex text spells. Definitions: `specs/Printed.antt`.
 
 ghost use Rattle.std.specs.Prelude.{◌≡◌, ◌⊎◌, ◌<◌, ◌^◌, [], Ok, Err, Some, true, false, length, map, is_some, IfErr, IfOk, OnOk};
 ghost use Rattle.h2_spec.specs.View.{view};
@@ -175,9 +174,9 @@ pub(crate) fn refused_limits(input: &[u8]) -> BenchFault
 /// Writes what `play` prints of its input, however the octets are cut: the octets sent, and the state after all of
 /// them; or the same of each place.
 ///
-/// `BadHex` where the input is no hex text, then `BadConfig` where a limit or a setting is out of range; nothing is written then,
-/// and no memory is needed. `NoMemory`
-/// where memory is refused: nothing was written, or some first places. `NotWritten` where a write failed.
+/// `BadHex` where the input is no hex text, then `BadConfig` where a limit or a setting is out of range; nothing is
+/// written then, and no memory is needed. `NoMemory` where memory is refused: nothing was written, or some first
+/// places. `NotWritten` where a write failed.
 pub fn write_play<O: Output>(
     alloc: Global,
     play: &Play<'_>,

@@ -1,5 +1,4 @@
-//! What a program results in: a text and an exit status.
-//! Rests on h2_device and h2_script; what a report says: `specs/Reports.antt`.
+//! What a program results in: a text and an exit status. What a report says: `specs/Reports.antt`.
 
 ghost use Rattle.std.specs.Prelude.{◌≡◌, ◌<◌};
 ghost use Rattle.h2_commands.specs.Reports.{Gives, Meets, printed_by};

@@ -1,5 +1,5 @@
-//! The program `table`: changes a dynamic table by the lines of its input (RFC 7541, 2.3.2 and 4).
-//! Rests on `each`, h2_table, h2_text, h2_device, h2_script's numbers and h2_answers for cutting texts; definitions: `specs/TableProgram.antt`.
+//! The program `table`: changes a dynamic table by the lines of its input (RFC 7541, 2.3.2 and 4). Definitions:
+//! `specs/TableProgram.antt`.
 
 ghost use Rattle.std.specs.Prelude.{◌≡◌, ◌⊎◌, false, option_map, IfOk, IfErr, OnOk};
 ghost use Rattle.std.specs.List.{concat};
@@ -90,7 +90,7 @@ pub enum TableReply {
 #[derive(Clone, Copy)]
 struct ReplyText<'t> {
     reply: TableReply,
-    /// The table behind the line.
+    /// The table after the line.
     table: &'t DynTable<Global>,
 }
 

@@ -295,7 +295,7 @@ next_streams after low last window (x ∷ xs) st r e = at (λ g. next_streams af
         let other : eqb x.id (after_sending (allowance window st) st).id ≡ false = let i = id-after_sending (allowance window st) st in grind (arith, nat_tests, behind, i) in
         rw (idle after window x w, other, under, same_stream x, less_nothing window, less_nothing (window - allowance window st)) (ap (λ sts. x ∷ sts) (more e))
 
--- a record that is not above it does not matter for what is left
+-- a record that is not above it does not matter for the rest
 put_left : (after window : ℕ) (ss : List Stream) (x : Stream) → nat_lt after x.id ≡ false → left_above after window (put x ss) ≡ left_above after window ss
 put_left after window [] x under = rw (under, less_nothing window) refl
 put_left after window (y ∷ ys) x under = at (put_left after (window - allowance_above after window y) ys x under) (eqb y.id x.id) (eqb-true y.id x.id)
@@ -406,7 +406,7 @@ pub on_ok : {A E : Type 0} (r : Result A E) (P : Type 0) → IsOk r → OnOk r P
 on_ok (Ok x) P h o = o
 on_ok (Err e) P h o = absurd (false≢true h)
 
--- ---- what is left of the window
+-- ---- the rest of the window
 
 pub allowance_within : (window : ℕ) (st : Stream) → allowance window st ≤ window
 unfolding allowance

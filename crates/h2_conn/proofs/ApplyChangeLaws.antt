@@ -62,7 +62,7 @@ sound-bodies : (book : List Entry) (f : InForce) (ss : List Stream) → AreSound
 sound-bodies book f [] s = tt
 sound-bodies book f (x ∷ xs) s = (s.0.1, sound-bodies book f xs s.1)
 
--- a sound change of the records can be made and undone, and what waits after it can be sent
+-- a sound change of the records can be made and undone, and the pending output after it can be sent
 pub can-send : (book : List Entry) (core : ConnectionState) (r : Records) (c : Change) → IsSoundState book core r → IsSoundChange book r (in_force core) c → CanSend book r c.record_update
 can-send book core r c state sound =
     let after = changed-sound book core r c state sound in
@@ -72,7 +72,7 @@ can-send book core r c state sound =
       bodies = subst (AllByRecursion (HasBody book)) (updated-streams c.record_update r) (sound-bodies book (in_force c.core) (updated_records c.record_update r).streams after.records);
     }
 
--- the server's settings can come into force and be taken back, and what waits then can be sent
+-- the server's settings can come into force and be taken back, and the pending output can then be sent
 pub can-come : (book : List Entry) (core : ConnectionState) (own : LocalSettings) (r : Records) → AreInRange own → IsSoundState book core r → CanSend book r (Receive core.own.window own.window)
 can-come book core own r range state =
     let most = state.counts.4.0 in
@@ -97,7 +97,7 @@ no-count n = omega arith
 not-less : (z : ℤ) → z -ℤ pos 0 ≡ z
 not-less z = grind arith
 
--- a change, and then what waits is sent, by the parts of the state
+-- a change, and then the pending output is sent, by the parts of the state
 pub made-then : (s : State) (c : Change) → then_sent c.core.phase (made s c) ≡
     record { state = record s { core = core_after c.core (updated_streams c.record_update s.streams); streams = streams_after c.core (updated_streams c.record_update s.streams) }; sent = all_frames s.book c s.streams }
 unfolding send_pending
@@ -128,7 +128,7 @@ made-then s c = at c.core.phase
         ∙ ap (λ (ss : List Stream). parts (counted (0 - window_left 0 now)) ss []) (sym (after-none 0 now (none-spent now)))
         ∙ ap (λ (fs : List Frame). parts (counted (0 - window_left 0 now)) (all_after_sending 0 now) fs) (sym (sent-none s.book c.core.peer.frame 0 now (none-spent now)))
 
--- the counts with so many octets taken
+-- the counts with that many octets taken
 pub counts-sent : (core : ConnectionState) (streams : List Stream) (n : ℕ) (now : ConnectionState) → n ≡ sent_count core streams → now ≡ record core { send = core.send -ℤ pos n } → now ≡ core_after core streams
 counts-sent core streams n now count is = is ∙ ap (λ (k : ℕ). let x : ConnectionState = record core { send = core.send -ℤ pos k } in x) count
 

@@ -1,4 +1,4 @@
--- A piece of octets: what is held, what it lacks, and what comes behind the item that it becomes.
+-- A piece of octets: what is held, what it lacks, and what comes after the item that it becomes.
 use Rattle.std.proofs.Common.{◌≡◌, ◌∙◌, ℕ, suc, ◌+◌, ◌-◌, ◌<◌, ◌≤◌, Bool, true, false, List, [], ◌∷◌, ◌++◌, None, length, take, drop, refl, sym, ap, subst, arith, length-take, append_assoc, true≢false}
 use Rattle.std.proofs.Math.Seq.{drop-append-add, take-add}
 use Rattle.std.proofs.lemmas.List.{append-nil, take-append-drop}
@@ -108,7 +108,7 @@ pub ready-held : (failed : Bool) (s t u : State) (octets b out out' : List ℕ) 
 ready-held false s t u octets b out out' used h x = none-held s u octets (comes-goes s t b x.event used x.comes) h
 ready-held true s t u octets b out out' used h x = absurd (true≢false (ap (λ (c : Connection). c.failed) h))
 
--- behind an item that was taken in hand a splitter rests that holds nothing
+-- after an item that was taken in hand a splitter rests that holds nothing
 pub rests-past : (failed : Bool) (s t u : State) (r : Rest) (b out out' : List ℕ) (used : ℕ) → IsAtRest failed s r → connection failed s r.octets ≡ going u [] → TakesFirst s b out t out' used
     → IsAtRest failed t (record r { expects_preface = false })
 rests-past false s t u r b out out' used h e x = (
@@ -154,7 +154,7 @@ offered-taken s t r octets q c out out' used count missing fits goes held some m
     (offered-none s r octets q used count missing fits goes held some most fewer)
     (subst (λ (b : List ℕ). Takes s b out t c out') (held-offered octets q r.octets used count held) x)
 
--- ---- one item, and then those behind it
+-- ---- one item, and then those after it
 
 abbrev behind_one : Event → Run → Run
 behind_one e r = record { events = e ∷ r.events; state = r.state; rest = r.rest }
@@ -163,7 +163,7 @@ run-one : (s t : State) (b : List ℕ) (e : Event) (used : ℕ) → next_event s
 unfolding trace
 run-one s t b e used h = rw (whole-one s t b e used h) refl
 
--- the octets behind an item of which the first were held
+-- the octets after an item of which the first were held
 cut-at : (rest q : List ℕ) (taken used : ℕ) → length rest < taken → used ≡ taken - length rest → drop taken (rest ++ q) ≡ drop used q
 cut-at rest q taken used late is =
     let sum : taken ≡ length rest + used = omega (arith, late, is) in
@@ -211,7 +211,7 @@ waits-feeds c c' q out out' used x =
       sent = x.sent ∙ sym (ap (λ (r : Run). out ++ sent_octets r.events) none ∙ rw sent-none (append-nil out));
     }
 
--- behind an item of which octets were held, and that took all of them
+-- after an item of which octets were held, and that took all of them
 abbrev behind : State → List ℕ → Connection
 behind t c = going t (left_by t.core.phase c)
 

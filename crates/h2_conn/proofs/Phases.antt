@@ -40,7 +40,7 @@ use Rattle.h2_spec.specs.Window.{given_back, is_above_max}
 use Rattle.h2_spec.specs.WindowUpdate.{connection_window}
 use Rattle.h2_conn.specs.Connection.{awaits_preface, is_ended}
 
--- the preface has come, after a reaction and after a frame
+-- the preface has arrived, after a reaction and after a frame
 abbrev Past : Phase → Type 0
 Past p = awaits_preface p ≡ false
 

@@ -1,4 +1,4 @@
--- The counts stay within their limits where what waits is sent.
+-- The counts stay within their limits where the pending output is sent.
 use Rattle.std.proofs.Common.{ℕ, ◌-◌, eqb, ◌≤◌, List, [], ◌∷◌, length, Bool, true, false, cond, refl, ◌∙◌, arith, ℤ, pos, negsuc, ◌+ℤ◌, ◌-ℤ◌, ◌≤ℤ◌}
 use Rattle.h2_spec.specs.declared.connection.ConnectionState.{ConnectionState}
 use Rattle.h2_spec.specs.declared.streams.Stream.{Stream}

@@ -1,4 +1,4 @@
--- Sending from the streams above an identifier alone: how far sending in the order of the identifiers has come.
+-- Sending from the streams above an identifier alone: how far sending in the order of the identifiers has got.
 use Rattle.std.specs.Prelude.{◌≡◌, ◌≤◌, ◌%◌, true, ℕ, ◌-◌, List, [], ◌∷◌, ◌++◌, nat_lt, if◌then◌else◌}
 use Rattle.h2_spec.specs.declared.streams.Stream.{Stream}
 use Rattle.h2_spec.specs.Stream.{is_live, stream_at}
@@ -20,7 +20,7 @@ abbrev pub streams_above : ℕ → ℕ → List Stream → List Stream
 streams_above after window [] = []
 streams_above after window (st ∷ sts) = after_sending (allowance_above after window st) st ∷ streams_above after (window - allowance_above after window st) sts
 
--- what is left of the connection's window
+-- the rest of the connection's window
 abbrev pub left_above : ℕ → ℕ → List Stream → ℕ
 left_above after window [] = window
 left_above after window (st ∷ sts) = left_above after (window - allowance_above after window st) sts

@@ -13,7 +13,7 @@ IsShortFrame f = length f.payload < 2 ^ 24
 abbrev pub AreShort : List Frame → Type 0
 AreShort fs = AllByRecursion IsShortFrame fs
 
--- the state after a step, and its frames behind what was sent before
+-- the state after a step, and its frames after what was sent before
 pub record Does (step : Step) (out : List ℕ) (now : State) (out' : List ℕ) : Type 0 where
   pub state : now ≡ step.state
   pub sent : out' ≡ out ++ frames_octets step.sent
@@ -30,6 +30,6 @@ IsShort BadPreface = Unit {0}
 IsShort (WholeFrame h p) = length p < 2 ^ 24
 IsShort (Oversize h) = Unit {0}
 
--- an effect, and then what waits is sent, unless it ended the connection
+-- an effect, and then the pending output is sent, unless it ended the connection
 abbrev pub stepped : Step → Step
 stepped e = then_sent e.state.core.phase e

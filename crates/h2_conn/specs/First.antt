@@ -6,7 +6,7 @@ use Rattle.h2_spec.specs.State.{State}
 use Rattle.h2_spec.specs.Trace.{Event, next_event}
 use Rattle.h2_conn.specs.Does.{AreShort}
 
--- the first item of the octets leads to the other state and takes so many of them, and what is sent goes to the end
+-- the first item of the octets leads to the other state and takes that many of them, and what is sent goes to the end
 -- of out
 pub record TakesFirst (s : State) (b out : List ℕ) (t : State) (out' : List ℕ) (used : ℕ) : Type 0 where
   pub event : Event

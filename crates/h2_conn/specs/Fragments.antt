@@ -26,7 +26,7 @@ after_of d t = record d { rest = t.after }
 abbrev pub IsSized : Decoding → Tentative → Type 0
 IsSized d t = t.mark.size ≡ list_size (take t.mark.count d.fields)
 
--- how far the block has come before it
+-- how far the block has got before it
 abbrev pub before_fragment : Table → Decoding → Progress
 before_fragment table d = record { fields = d.fields; table = table; due = d.due }
 

@@ -8,7 +8,7 @@ use Rattle.h2_spec.specs.SendPending.{piece}
 abbrev pub on_stream : ℕ → List ℕ → List ℕ
 on_stream id frame = take 5 frame ++ big_endian 4 id ++ drop 9 frame
 
--- the payload in the octets of a frame, behind the nine of its head
+-- the payload in the octets of a frame, after the nine of its head
 abbrev pub content : List ℕ → List ℕ
 content frame = drop 9 frame
 

@@ -17,7 +17,7 @@ use Rattle.h2_conn.specs.Does.{AreShort}
 abbrev pub fed : Connection → List ℕ → Run
 fed c more = trace c.state (c.rest ++ more)
 
--- all items were taken: so many, and what is sent for them goes to the end of out
+-- all items were taken: that many, and what is sent for them goes to the end of out
 pub record Feeds (c : Connection) (more out : List ℕ) (c' : Connection) (out' : List ℕ) (n : ℕ) : Type 0 where
   pub items : n ≡ length (fed c more).events
   pub after : c' ≡ going (fed c more).state (fed c more).rest
@@ -30,7 +30,7 @@ pub record Halts (c : Connection) (more out : List ℕ) (c' : Connection) (out' 
   pub after : c' ≡ halted (state_at c.state (fed c more).events items)
   pub sent : out' ≡ out ++ sent_octets (take items (fed c more).events)
 
--- the next item was taken, and with it so many of the octets
+-- the next item was taken, and with it that many of the octets
 pub record TakesOne (c : Connection) (more out : List ℕ) (c' : Connection) (out' : List ℕ) (used : ℕ) : Type 0 where
   pub event : Event
   pub next : State
@@ -73,7 +73,7 @@ abbrev pub Advances : State → List ℕ → List ℕ → State → List ℕ →
 Advances s b out t c out' true = Takes s b out t c out'
 Advances s b out t c out' false = (next_event s b ≡ Stop) × (t ≡ s) × (c ≡ b) × (out' ≡ out)
 
--- so many of the items lead to the other state and octets, from where all others are to come
+-- that many of the items lead to the other state and octets, from where all others are to come
 pub record Leads (s : State) (b out : List ℕ) (n : ℕ) (t : State) (c out' : List ℕ) : Type 0 where
   pub within : n ≤ length (parse_all next_event s b).elements
   pub later : drop n (parse_all next_event s b).elements ≡ (parse_all next_event t c).elements

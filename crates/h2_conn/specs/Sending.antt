@@ -1,4 +1,4 @@
--- What a change and the sending behind it result in.
+-- What a change and the sending after it result in.
 use Rattle.std.specs.Prelude.{◌≡◌, ℕ, false, List, ◌++◌, ◌-◌, pos, ◌-ℤ◌}
 use Rattle.std.specs.List.{AllByRecursion}
 use Rattle.h2_spec.specs.declared.connection.ConnectionState.{ConnectionState}
@@ -29,7 +29,7 @@ open_window_as (phase.Ended code) core = 0
 abbrev pub open_window : ConnectionState → ℕ
 open_window core = open_window_as core.phase core
 
--- what waits on records is sent with these counts
+-- the pending output of records is sent with these counts
 abbrev pub waiting_frames : List Entry → ConnectionState → List Stream → List Frame
 waiting_frames book core streams = sent_frames book core.peer.frame (open_window core) streams
 
@@ -45,7 +45,7 @@ sent_count core streams = open_window core - window_left (open_window core) stre
 abbrev pub core_after : ConnectionState → List Stream → ConnectionState
 core_after core streams = record core { send = core.send -ℤ pos (sent_count core streams) }
 
--- all that is sent for a change, and behind it
+-- all that is sent for a change, and after it
 abbrev pub all_frames : List Entry → Change → List Stream → List Frame
 all_frames book c streams = frames_of book c ++ waiting_frames book c.core (updated_streams c.record_update streams)
 
@@ -53,7 +53,7 @@ all_frames book c streams = frames_of book c ++ waiting_frames book c.core (upda
 abbrev pub records : State → Records
 records s = record { streams = s.streams; last = s.core.last }
 
--- the records after what waits on them is sent with this much of the connection's window
+-- the records after their pending output is sent with this much of the connection's window
 abbrev pub sent_records : ℕ → Records → Records
 sent_records window r = record r { streams = all_after_sending window r.streams }
 
@@ -78,8 +78,8 @@ CanUndo r (Put st) = Unit {0}
 CanUndo r (Shift from to) = CanApply (record r { streams = shifted (moved_by from to) r.streams }) (Shift to from)
 CanUndo r (Receive from to) = CanApply (record r { streams = received (moved_by from to) r.streams }) (Receive to from)
 
--- what becomes of records can be done and undone, and what waits on them then can be sent: each stream has its body in
--- the book
+-- what becomes of records can be done and undone, and their pending output can then be sent: each stream has its body
+-- in the book
 pub record CanSend (book : List Entry) (r : Records) (record_update : RecordUpdate) : Type 0 where
   pub made : CanApply r record_update
   pub undone : CanUndo r record_update

@@ -1,7 +1,6 @@
-//! A change is made: the frames of the change behind a mark in `out`, what becomes of the records, and what is sent from
-//! them then; where memory is refused, nothing (RFC 9113, 5.4).
-//! Rests on `write` and `send_update`; definitions: h2_spec's `specs/Change.antt`, `specs/SendPending.antt`, and
-//! `specs/Sending.antt` here.
+//! A change is made: the frames of the change after a mark in `out`, what becomes of the records, and what is sent from
+//! them then; where memory is refused, nothing (RFC 9113, 5.4). Definitions: h2_spec's `specs/Change.antt`,
+//! `specs/SendPending.antt`, and `specs/Sending.antt` here.
 
 ghost use Rattle.std.specs.Prelude.{◌≡◌, ◌<◌, ◌≤◌, ◌^◌, ◌++◌, length, slice_index, pos, ◌-ℤ◌, Some, IfOk, OnOk, OnErr, take, vec_len};
 ghost use Rattle.h2_spec.specs.Change as changes;
@@ -52,7 +51,7 @@ fn write_answer<A: Allocator>(
     }
 }
 
-/// Writes the HEADERS of an answer, or nothing: those that the book has ready, or their field block behind a table size
+/// Writes the HEADERS of an answer, or nothing: those that the book has ready, or their field block after a table size
 /// update to 0 (RFC 7541, 4.2 and 6.3).
 fn write_headers<A: Allocator>(
     book: &Book<A>,
@@ -132,7 +131,7 @@ fn write_and_update<A: Allocator + Copy>(
     update_and_send(book, streams, change.record_update, size, window, out)
 }
 
-/// The same whole, or nothing.
+/// Writes all frames and updates the records, or changes nothing.
 #[inline(always)]
 pub fn send_and_update<A: Allocator + Copy>(
     book: &Book<A>,
@@ -203,7 +202,8 @@ fn ended_by(code: ErrorCode, core: ConnectionState) -> ConnectionState
 }
 
 impl<'b, A: Allocator + Copy> State<'b, A> {
-    /// Makes a change, and sends its frames and then what waits; or does nothing. Answers the cause of a stream error.
+    /// Makes a change, and sends its frames and then the pending output; or does nothing. Answers the cause of a stream
+    /// error.
     #[inline(always)]
     pub fn apply_change(
         &mut self,
@@ -227,8 +227,8 @@ impl<'b, A: Allocator + Copy> State<'b, A> {
 }
 
 impl<'b, A: Allocator + Copy> State<'b, A> {
-    /// Makes a change that leaves the phase, the settings and the last stream as they are, and sends its frames and then
-    /// what waits; or does nothing. The counts change in place. Answers the cause of a stream error.
+    /// Makes a change that leaves the phase, the settings and the last stream as they are, and sends its frames and
+    /// then the pending output; or does nothing. The counts change in place. Answers the cause of a stream error.
     #[inline(always)]
     pub fn apply_in_place(
         &mut self,

@@ -1,5 +1,5 @@
-//! Fragments of field blocks, from HEADERS and CONTINUATION (RFC 9113, 4.3, 6.2 and 6.10).
-//! Rests on `state`, `tentative` and h2_rules; definition: `fragment` of h2_spec's `specs/Headers.antt`.
+//! Fragments of field blocks, from HEADERS and CONTINUATION (RFC 9113, 4.3, 6.2 and 6.10). Definition: `fragment` of
+//! h2_spec's `specs/Headers.antt`.
 
 ghost use Rattle.std.specs.Prelude.{◌≡◌, ◌≢◌, ◌==◌, ℕ, List, IfOk, OnOk, length};
 ghost use Rattle.h2_spec.specs.Answer.{Entry};

@@ -1,7 +1,6 @@
-//! A connection over octets: items off their front, each whole or not at all (RFC 9113, 3.4).
-//! Rests on h2_frame's splitter, on `feeding`, `first`, `opening` and `view`.
-//! Definitions: h2_spec's `specs/Trace.antt`; `specs/Connection.antt` for what a connection represents,
-//! `specs/Runs.antt` for what feeding it results in.
+//! A connection over octets: items off their front, each all or nothing (RFC 9113, 3.4). Definitions: h2_spec's
+//! `specs/Trace.antt`; `specs/Connection.antt` for what a connection represents, `specs/Runs.antt` for what feeding it
+//! results in.
 
 ghost use Rattle.std.specs.Prelude.{◌≡◌, ◌++◌, ◌∷◌, ◌<◌, ◌^◌, [], true, false, IfOk, IfErr, IsOk, OnOk, OnErr, Some, option_map};
 ghost use Rattle.std.specs.String.{string_bytes};
@@ -101,7 +100,7 @@ impl<'b, A: Allocator> Drop for Conn<'b, A> {
 }
 
 impl<'b, A: Allocator + Copy> Conn<'b, A> {
-    /// A connection of which nothing has come, with a book of answers and these limits. The opening SETTINGS is
+    /// A connection of which nothing has arrived, with a book of answers and these limits. The opening SETTINGS is
     /// appended to `out`.
     ///
     /// # Errors
@@ -128,9 +127,8 @@ impl<'b, A: Allocator + Copy> Conn<'b, A> {
         })
     }
 
-    /// Takes all items that there are with these octets behind those that wait, and says how many. What is sent for
-    /// them is appended to `out`.
-    /// After the end of the connection all octets are dropped.
+    /// Takes all items that there are with these octets after those that wait, and says how many. What is sent for them
+    /// is appended to `out`. After the end of the connection all octets are dropped.
     ///
     /// # Errors
     ///
@@ -153,9 +151,8 @@ impl<'b, A: Allocator + Copy> Conn<'b, A> {
         }
     }
 
-    /// Takes the next item with these octets behind those that wait, if there is one, and none of the octets behind
-    /// it. What is sent for it is appended to `out`.
-    /// After the end of the connection all octets are dropped.
+    /// Takes the next item with these octets after those that wait, if there is one, and none of the octets after it.
+    /// What is sent for it is appended to `out`. After the end of the connection all octets are dropped.
     ///
     /// # Errors
     ///
@@ -203,8 +200,8 @@ impl<'b, A: Allocator + Copy> Conn<'b, A> {
         Ok(taken)
     }
 
-    /// The same connection once more, in memory of its own; the book is lent to both, and where one was refused
-    /// memory, the copy was too.
+    /// A copy of the connection, in memory of its own; the book is lent to both, and where one was refused memory, the
+    /// copy was too.
     ///
     /// `AllocError` where the memory was refused; `self` is as it was.
     pub fn try_clone(&self) -> Result<Self, AllocError>

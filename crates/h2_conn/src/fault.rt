@@ -1,5 +1,4 @@
-//! Why a connection is refused, numbered as the faults of all crates are.
-//! Rests on nothing; definitions: `specs/Faults.antt`.
+//! Why a connection is refused, numbered as the faults of all crates are. Definitions: `specs/Faults.antt`.
 
 ghost use Rattle.std.specs.Prelude.{◌≡◌};
 ghost use Rattle.h2_conn.specs.Faults.{fault_number};

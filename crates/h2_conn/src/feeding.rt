@@ -1,6 +1,5 @@
-//! A piece of a connection's octets: the item that is held is completed, the items in the piece are taken from the piece
-//! itself, and what makes no whole item is held (RFC 9113, 3.4).
-//! Rests on h2_frame's splitter, on `first` and `item`; definitions: `specs/Runs.antt`.
+//! A piece of a connection's octets: the item that is held is completed, the items in the piece are taken from the
+//! piece itself, and what makes no whole item is held (RFC 9113, 3.4). Definitions: `specs/Runs.antt`.
 
 ghost use Rattle.std.specs.Prelude.{◌≡◌, ◌++◌, ◌≤◌, [], false, true, length, IfOk, IsOk, OnOk, OnErr};
 ghost use Rattle.h2_spec.specs.Trace.{left_by};
@@ -38,7 +37,7 @@ fn advance<'b, A: Allocator + Copy>(
     }
 }
 
-/// Takes the item that octets complete behind those held, if they do, and says whether.
+/// Takes the item that octets complete after those held, if they do, and says whether.
 fn offer<'b, A: Allocator + Copy>(
     splitter: &mut Splitter<A>,
     state: &mut State<'b, A>,
@@ -54,7 +53,7 @@ fn offer<'b, A: Allocator + Copy>(
     advance(splitter, state, out)
 }
 
-/// Takes the item that is held with the octets that it lacks, and no octets behind it; where these are not all there,
+/// Takes the item that is held with the octets that it lacks, and no octets after it; where these are not all there,
 /// all octets are held. Where memory is refused nothing of the item is done.
 fn complete<'b, A: Allocator + Copy>(
     splitter: &mut Splitter<A>,
@@ -89,7 +88,7 @@ fn complete<'b, A: Allocator + Copy>(
     }
 }
 
-/// Takes the item that a piece begins with, where no octets are held, and no octets behind it; where there is none, all
+/// Takes the item that a piece begins with, where no octets are held, and no octets after it; where there is none, all
 /// octets are held. Where memory is refused nothing of the item is done.
 fn take_in_hand<'b, A: Allocator + Copy>(
     splitter: &mut Splitter<A>,
@@ -120,8 +119,8 @@ fn take_in_hand<'b, A: Allocator + Copy>(
     }
 }
 
-/// Takes the next item with more octets, if there is one, and no octets behind it; none after the end. Where memory
-/// is refused nothing of it is done.
+/// Takes the next item with more octets, if there is one, and no octets after it; none after the end. Where memory is
+/// refused nothing of it is done.
 pub(crate) fn take_one<'b, A: Allocator + Copy>(
     splitter: &mut Splitter<A>,
     state: &mut State<'b, A>,
@@ -147,8 +146,8 @@ pub(crate) fn take_one<'b, A: Allocator + Copy>(
     complete(splitter, state, piece, out)
 }
 
-/// Takes all items of octets, where none are held, and says how many; what is left of the octets is held. Where memory
-/// is refused, the items before it are taken.
+/// Takes all items of octets, where none are held, and says how many; the rest of the octets is held. Where memory is
+/// refused, the items before it are taken.
 fn take_rest<'b, A: Allocator + Copy>(
     splitter: &mut Splitter<A>,
     state: &mut State<'b, A>,

@@ -1,5 +1,5 @@
-//! Items of octets in hand, of which none is held or copied (RFC 9113, 3.4).
-//! Rests on h2_frame and on `item`; definitions: `specs/First.antt`, `specs/Runs.antt`.
+//! Items of octets in hand, of which none is held or copied (RFC 9113, 3.4). Definitions: `specs/First.antt`,
+//! `specs/Runs.antt`.
 
 ghost use Rattle.std.specs.Prelude.{◌≡◌, ◌≤◌, [], IfOk, OnErr, OnOk, drop, length};
 ghost use Rattle.h2_conn.specs.Connection.{Fits, awaits_preface, is_ended};

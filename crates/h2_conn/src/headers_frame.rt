@@ -1,7 +1,5 @@
 //! HEADERS and CONTINUATION on a connection: a block is opened or goes on, and what it results in is made (RFC 9113,
-//! 6.2 and 6.10).
-//! Rests on `block` and on `apply_change`; definitions: `on_headers` of h2_spec's `specs/Effect.antt`, `continuation`
-//! of `specs/Headers.antt`.
+//! 6.2 and 6.10). Definitions: `on_headers` of h2_spec's `specs/Effect.antt`, `continuation` of `specs/Headers.antt`.
 
 ghost use Rattle.std.specs.Prelude.{◌≡◌, ◌<◌, ◌^◌, length, Some, IfNone, IfOk, IfSome, OnOk, OnErr};
 ghost use Rattle.h2_frame.specs.Parts.{headers_seen};
@@ -157,7 +155,7 @@ impl<'b, A: Allocator + Copy> State<'b, A> {
         self.table.due()
     }
 
-    /// The decoding of a block of which nothing has come, in the memory that is kept for it.
+    /// The decoding of a block of which nothing has arrived, in the memory that is kept for it.
     fn begin_decoding(&mut self, alloc: A, purpose: Purpose) -> Decoding<A>
         ensures same { self.new ≡ self.old }
         ensures fresh { result ≡ headers.fresh_decoding self.old purpose }

@@ -1,6 +1,5 @@
-//! What one item does: the checks, the rule of its frame's type, and then what waits is sent (RFC 9113, 5 and 6).
-//! Rests on the rules and on `apply_change`; definitions: `effect` of h2_spec's `specs/Effect.antt`, `step` of
-//! `specs/Trace.antt`.
+//! What one item does: the checks, the rule of its frame's type, and then the pending output is sent (RFC 9113, 5 and
+//! 6). Definitions: `effect` of h2_spec's `specs/Effect.antt`, `step` of `specs/Trace.antt`.
 
 ghost use Rattle.std.specs.Prelude.{◌≡◌, ◌<◌, ◌^◌, ◌==◌, [], length, None, Some, Ok, IfOk, OnOk, OnErr, if◌then◌else◌};
 ghost use Rattle.h2_frame.specs.Items.{item_of};
@@ -471,7 +470,7 @@ impl<'b, A: Allocator + Copy> State<'b, A> {
         }
     }
 
-    /// The client's preface has come: SETTINGS is awaited (RFC 9113, 3.4).
+    /// The client's preface has arrived: SETTINGS is awaited (RFC 9113, 3.4).
     fn on_preface(&mut self, out: &mut Vec<u8, A>) -> Result<Option<Cause>, AllocError>
         ensures ok { OnOk result (Does (stepped (changes.made self.old (changes.only_counts (record self.old.core { phase = phase.Settings })))) out.old.items self.new out.new.items) }
         ensures cause { IfOk result (λ cause. cause ≡ None) }
@@ -484,7 +483,7 @@ impl<'b, A: Allocator + Copy> State<'b, A> {
         self.apply_change(change, out)
     }
 
-    /// One item: what it does, and then what waits is sent; whole, or not at all. Answers the cause of the connection
+    /// One item: what it does, and then the pending output is sent; all or nothing. Answers the cause of the connection
     /// error or stream error that it results in, if it does.
     ///
     /// # Errors

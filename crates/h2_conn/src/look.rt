@@ -1,5 +1,5 @@
-//! What can be asked of a connection without a copy of all that is shown of it.
-//! Rests on `state`; definitions: h2_spec's `specs/State.antt` and `specs/View.antt`.
+//! What can be asked of a connection without a copy of all that is shown of it. Definitions: h2_spec's
+//! `specs/State.antt` and `specs/View.antt`.
 
 ghost use Rattle.std.specs.Prelude.{◌≡◌, length};
 ghost use Rattle.h2_spec.specs.DynamicTable.{total_size};

@@ -1,6 +1,6 @@
-//! Marks of a connection: what is kept of it where records of streams are only appended, and few of them change.
-//! A connection is made again from its mark and the records of the same connection later on.
-//! Rests on `conn` and `state`; definitions: `specs/Mark.antt`, over `specs/Marks.antt`.
+//! Marks of a connection: what is kept of it where records of streams are only appended, and few of them change. A
+//! connection is made again from its mark and the records of the same connection later on. Definitions:
+//! `specs/Mark.antt`, over `specs/Marks.antt`.
 
 ghost use Rattle.std.specs.Prelude.{◌≡◌, ℕ, [], IfOk};
 ghost use Rattle.h2_spec.specs.State as states;

@@ -1,5 +1,4 @@
-//! What taking at most one item results in.
-//! Rests on nothing; definition: `FeedsOne` of `specs/Runs.antt`.
+//! What taking at most one item results in. Definition: `FeedsOne` of `specs/Runs.antt`.
 
 /// How far one call went.
 #[derive(Clone, Copy)]

@@ -1,5 +1,5 @@
 //! What is sent before anything is read: SETTINGS with the server's limits and settings (RFC 9113, 3.4 and 6.5.2).
-//! Rests on h2_frame; definition: h2_spec's `specs/Opening.antt`.
+//! Definition: h2_spec's `specs/Opening.antt`.
 
 ghost use Rattle.std.specs.Prelude.{◌≡◌, ◌++◌, IfOk, OnOk, OnErr};
 ghost use Rattle.h2_spec.specs.Opening.{opening_octets, opening_payload, setting, setting_unless};

@@ -1,5 +1,4 @@
-//! A share of an answer's body, as DATA (RFC 9113, 6.1).
-//! Rests on h2_frame; definition: h2_spec's `specs/SendPending.antt`, `data_frames`.
+//! A share of an answer's body, as DATA (RFC 9113, 6.1). Definition: h2_spec's `specs/SendPending.antt`, `data_frames`.
 
 ghost use Rattle.std.specs.Prelude.{◌≡◌, ◌+◌, ◌-◌, ◌<◌, ◌≤◌, ◌++◌, ◌==◌, length, IfOk, OnOk, take, drop, vec_len, ◌^◌};
 ghost use Rattle.h2_spec.specs.Change as changes;

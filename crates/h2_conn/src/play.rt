@@ -1,7 +1,6 @@
-//! A whole run: a new connection, and octets in pieces of any lengths (RFC 9113, 3.4). The program does not call `play`,
-//! which is for users of the library: `open_and_feed` does the same and returns the connection, whose text is written
-//! without a view.
-//! Rests on `conn`; definitions: h2_spec's `specs/Trace.antt`, `specs/Runs.antt`.
+//! A whole run: a new connection, and octets in pieces of any lengths (RFC 9113, 3.4). The program does not call
+//! `play`, which is for users of the library: `open_and_feed` does the same and returns the connection, whose text is
+//! written without a view. Definitions: h2_spec's `specs/Trace.antt`, `specs/Runs.antt`.
 
 ghost use Rattle.std.specs.Prelude.{◌≡◌, true, ◌+◌, ◌≤◌, [], length, take, IfErr, IfOk, OnOk, OnErr};
 ghost use Rattle.h2_spec.specs.State.{opening};
@@ -73,8 +72,8 @@ fn feed_or_cut<'b, A: Allocator + Copy>(
     }
 }
 
-/// Opens a connection and feeds it the octets, cut into pieces of these lengths and what remains; a length above what
-/// is left takes what is left.
+/// Opens a connection and feeds it the octets, cut into pieces of these lengths and what remains; a length above the
+/// rest takes the rest.
 ///
 /// `out` gains the opening SETTINGS and all frames sent. The connection is the same however the octets are cut.
 ///
@@ -122,8 +121,8 @@ fn view_or_cut<A: Allocator + Copy>(
     }
 }
 
-/// Plays a connection over the octets, cut into pieces of these lengths and what remains; a length above what is left
-/// takes what is left.
+/// Plays a connection over the octets, cut into pieces of these lengths and what remains; a length above the rest takes
+/// the rest.
 ///
 /// `out` gains the opening SETTINGS and all frames sent, and the answer is what is shown of the last state, however
 /// the octets are cut.

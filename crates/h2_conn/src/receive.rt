@@ -1,5 +1,5 @@
-//! The acknowledgement of the server's settings, with which they come into force (RFC 9113, 6.5.3).
-//! Rests on `apply_change`; definition: `acknowledged` of h2_spec's `specs/SettingsFrame.antt`.
+//! The acknowledgement of the server's settings, with which they come into force (RFC 9113, 6.5.3). Definition:
+//! `acknowledged` of h2_spec's `specs/SettingsFrame.antt`.
 
 ghost use Rattle.std.specs.Prelude.{◌≡◌, ◌<◌, ◌^◌, length, None, IfOk, OnOk, OnErr};
 ghost use Rattle.h2_spec.specs.Change as changes;

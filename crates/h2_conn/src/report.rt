@@ -1,6 +1,6 @@
 //! What is reported of an item that is taken: what it is, the cause of the error that it results in, or why it is
-//! ignored (RFC 9113, 5.4).
-//! Rests on `item`; definitions: `cause_of` and `ignored_of` of h2_spec, together `reported` of `specs/Reports.antt`.
+//! ignored (RFC 9113, 5.4). Definitions: `cause_of` and `ignored_of` of h2_spec, together `reported` of
+//! `specs/Reports.antt`.
 
 ghost use Rattle.std.specs.Prelude.{◌≡◌, ◌==◌, None, IfOk, OnErr, OnOk, if◌then◌else◌};
 ghost use Rattle.h2_frame.specs.Items.{item_of};

@@ -1,7 +1,6 @@
-//! Sending what waits, as far as the windows go (RFC 9113, 5.2 and 6.9).
-//! Only streams that can send are looked at. First the frames are written, and then the shares are taken, which takes
-//! no memory.
-//! Rests on `pieces` and h2_streams; definition: h2_spec's `specs/SendPending.antt`.
+//! Sending pending output, as far as the windows go (RFC 9113, 5.2 and 6.9). Only streams that can send are looked at.
+//! First the frames are written, and then the shares are taken, which takes no memory. Definition: h2_spec's
+//! `specs/SendPending.antt`.
 
 ghost use Rattle.std.specs.Prelude.{◌≡◌, ◌-◌, ◌<◌, ◌≤◌, ◌++◌, find, IfOk, IfSome, IsTrue, OnErr, OnOk, take, vec_len, ◌^◌, pos, ◌-ℤ◌, ◌≤ℤ◌};
 ghost use Rattle.std.specs.List.{AllByRecursion};
@@ -94,8 +93,7 @@ fn next_stream<A: Allocator>(streams: &Streams<A>, after: u32) -> Option<Stream>
     Some(streams.stream_at(id))
 }
 
-/// Writes the frames of one stream's share of what is left of the connection's window, whole or in part; answers the
-/// share.
+/// Writes the frames of one stream's share of the rest of the connection's window, whole or in part; answers the share.
 #[inline(always)]
 pub fn write_next<A: Allocator>(
     book: &Book<A>,
@@ -128,7 +126,7 @@ pub fn without(window: Window, count: u64) -> Window
     window.minus(count as u32)
 }
 
-/// Each stream's share is taken from it, in the order of the identifiers; answers what is left of the window.
+/// Each stream's share is taken from it, in the order of the identifiers; answers the rest of the window.
 fn take_allowances<A: Allocator>(window: u64, streams: &mut Streams<A>) -> u64
     ensures left { (result ≡ rule.window_left window streams.old.streams) × (result ≤ window) }
     ensures sent { streams.new ≡ record streams.old { streams = rule.all_after_sending window streams.old.streams } }

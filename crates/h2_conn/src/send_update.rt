@@ -1,6 +1,5 @@
-//! What becomes of the records, and what is sent from them then (RFC 9113, 5.2 and 6.9): each whole, or else the records
-//! are as they were.
-//! Rests on `send_pending`; definitions: `specs/Sending.antt`, over h2_spec's `specs/Change.antt`.
+//! What becomes of the records, and what is sent from them then (RFC 9113, 5.2 and 6.9): each whole, or else the
+//! records are as they were. Definitions: `specs/Sending.antt`, over h2_spec's `specs/Change.antt`.
 
 ghost use Rattle.std.specs.Prelude.{◌≡◌, ◌-◌, ◌<◌, ◌≤◌, ◌^◌, ◌++◌, IfOk, OnErr, OnOk, take, vec_len};
 ghost use Rattle.std.specs.List.{AllByRecursion};
@@ -20,7 +19,7 @@ use h2_spec::streams::Stream;
 use h2_streams::Streams;
 use std::alloc::{AllocError, Allocator};
 
-/// The records change, and what waits on them then is sent, as far as this much of the connection's window goes: the
+/// The records change, and their pending output is then sent, as far as this much of the connection's window goes: the
 /// frames are written whole, or in part and then the records stay. Answers how many octets are sent.
 #[inline(always)]
 pub fn update_and_send<A: Allocator + Copy>(
@@ -52,7 +51,7 @@ pub fn update_and_send<A: Allocator + Copy>(
     }
 }
 
-/// A record is put, and what waits then is sent.
+/// A record is put, and the pending output is then sent.
 #[inline(always)]
 fn put_and_send<A: Allocator + Copy>(
     book: &Book<A>,
@@ -105,7 +104,7 @@ fn put_alone<A: Allocator>(
     Ok(allowance)
 }
 
-/// A record is put where other streams can send too. No item leads here: behind each, no stream can send or the
+/// A record is put where other streams can send too. No item leads here: after each, no stream can send or the
 /// connection's window is used up, and no rule both puts a record and opens that window. So the records may be copied.
 #[inline(never)]
 fn put_among<A: Allocator + Copy>(
@@ -133,8 +132,8 @@ fn put_among<A: Allocator + Copy>(
     Ok(count)
 }
 
-/// The send windows move, as the initial one goes from one value to another, and what waits then is sent; where memory
-/// is refused they move back (RFC 9113, 6.9.2).
+/// The send windows move, as the initial one goes from one value to another, and the pending output is then sent; where
+/// memory is refused they move back (RFC 9113, 6.9.2).
 #[inline(never)]
 fn shift_and_send<A: Allocator>(
     book: &Book<A>,
@@ -166,8 +165,8 @@ fn shift_and_send<A: Allocator>(
     }
 }
 
-/// The receive windows move, as the server's initial one goes from one value to another, and what waits then is sent;
-/// where memory is refused they move back (RFC 9113, 6.5.3 and 6.9.2).
+/// The receive windows move, as the server's initial one goes from one value to another, and the pending output is then
+/// sent; where memory is refused they move back (RFC 9113, 6.5.3 and 6.9.2).
 #[inline(never)]
 fn receive_and_send<A: Allocator>(
     book: &Book<A>,

@@ -1,5 +1,5 @@
-//! The state of a connection: all that an item can change (RFC 9113, 5, 6.5 and 6.9).
-//! Rests on h2_request, h2_fields and h2_streams; definition: h2_spec's `specs/State.antt`.
+//! The state of a connection: all that an item can change (RFC 9113, 5, 6.5 and 6.9). Definition: h2_spec's
+//! `specs/State.antt`.
 
 ghost use Rattle.std.specs.Prelude.{◌≡◌, [], IfOk};
 ghost use Rattle.h2_rules.specs.Sound.{AreInRange};
@@ -19,8 +19,11 @@ use std::marker::Model;
 /// How far a field block is decoded, and what it is for: its fields, whether it still has to begin with a size update,
 /// and the octets that begin an instruction and do not end it.
 pub struct Decoding<A: Allocator> {
+    /// What the fields are for.
     pub purpose: Purpose,
+    /// The fields so far, and whether a table size update is still due (RFC 7541, 4.2).
     pub collected: Collected<A>,
+    /// The octets of the fragments so far that begin an instruction and do not end it.
     pub rest: Rest<A>,
 }
 
@@ -46,7 +49,9 @@ impl<A: Allocator> Drop for Decoding<A> {
 /// A field block that has begun; after the end of the connection it is shown, and decoded no more.
 #[derive(Drop)]
 pub struct OpenBlock<A: Allocator> {
+    /// The block as the state shows it.
     pub shown: BlockView,
+    /// How far it is decoded; none after the end of the connection.
     pub decoding: Option<Decoding<A>>,
 }
 
@@ -97,7 +102,7 @@ impl<A: Allocator + Copy> Decoding<A> {
         self.collected.list_size()
     }
 
-    /// The same once more, in memory of its own.
+    /// A copy, in memory of its own.
     fn try_clone(&self) -> Result<Decoding<A>, AllocError>
         ensures { IfOk result (λ copy. copy ≡ self.now) }
     {
@@ -112,7 +117,7 @@ impl<A: Allocator + Copy> Decoding<A> {
 }
 
 impl<A: Allocator + Copy> OpenBlock<A> {
-    /// The same block once more, in memory of its own.
+    /// A copy of the block, in memory of its own.
     fn try_clone(&self) -> Result<OpenBlock<A>, AllocError>
         ensures { IfOk result (λ copy. copy ≡ self.now) }
     {
@@ -127,7 +132,7 @@ impl<A: Allocator + Copy> OpenBlock<A> {
     }
 }
 
-/// The same open block once more, if there is one.
+/// A copy of the open block, if there is one.
 pub(crate) fn copy_of<A: Allocator + Copy>(
     block: &Option<OpenBlock<A>>,
 ) -> Result<Option<OpenBlock<A>>, AllocError>
@@ -152,13 +157,21 @@ impl<A: Allocator> OpenBlock<A> {
 /// again for each fragment, and `spare` memory that is used again for each field block, while none is open; between
 /// two items they mean nothing.
 pub struct State<'b, A: Allocator> {
+    /// The answers.
     pub book: &'b Book<A>,
+    /// The limits and the settings that the server was given.
     pub config: Config,
+    /// The counts of the connection: its phase, windows and settings.
     pub core: ConnectionState,
+    /// The open field block, if one is open (RFC 9113, 4.3).
     pub block: Option<OpenBlock<A>>,
+    /// The dynamic table of the client's field blocks (RFC 7541, 2.3.2).
     pub table: DynTable<A>,
+    /// Memory for the edit of the next fragment.
     pub edit: Option<Edit<A>>,
+    /// Memory for the decoding of the next field block, while none is open.
     pub spare: Option<Decoding<A>>,
+    /// The records of all streams that were opened (RFC 9113, 5.1).
     pub streams: Streams<A>,
 }
 
@@ -230,7 +243,7 @@ impl<'b, A: Allocator + Copy> State<'b, A> {
         })
     }
 
-    /// The same state once more, in memory of its own; the book is lent to both.
+    /// A copy of the state, in memory of its own; the book is lent to both.
     ///
     /// `AllocError` where the memory was refused; `self` is as it was.
     pub fn try_clone(&self) -> Result<Self, AllocError>

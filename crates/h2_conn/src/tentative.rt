@@ -1,7 +1,6 @@
 //! A fragment of a field block that is decoded but not taken over: the block can still go back to how far it was
-//! before.
-//! Rests on h2_fields and h2_table; definitions: `decoded` of h2_spec's `specs/Block.antt`, and `specs/Blocks.antt` and
-//! `specs/Fragments.antt` here.
+//! before. Definitions: `decoded` of h2_spec's `specs/Block.antt`, and `specs/Blocks.antt` and `specs/Fragments.antt`
+//! here.
 
 ghost use Rattle.std.specs.Prelude.{◌≡◌, ◌≢◌, ◌++◌, length, IfErr, OnOk};
 ghost use Rattle.h2_spec.specs.Block as block;

@@ -1,5 +1,4 @@
-//! What is shown of a connection's state.
-//! Rests on `state` and on h2_text; definition: h2_spec's `specs/View.antt`.
+//! What is shown of a connection's state. Definition: h2_spec's `specs/View.antt`.
 
 ghost use Rattle.std.specs.Prelude.{◌≡◌};
 ghost use Rattle.h2_spec.specs.View.{shown_block, view};

@@ -1,5 +1,5 @@
-//! The frames that are sent, as octets behind `out` (RFC 9113, 4.1 and 6).
-//! Rests on h2_frame; definitions: h2_spec's `specs/Change.antt` for what is sent, `specs/Frame.antt` for its octets.
+//! The frames that are sent, as octets after `out` (RFC 9113, 4.1 and 6). Definitions: h2_spec's `specs/Change.antt`
+//! for what is sent, `specs/Frame.antt` for its octets.
 
 ghost use Rattle.std.specs.Prelude.{◌≡◌, ◌+◌, ◌<◌, ◌≤◌, ◌^◌, ◌++◌, ◌∷◌, [], length, take, drop, vec_len, OnOk, OnErr};
 ghost use Rattle.h2_spec.specs.Change as changes;

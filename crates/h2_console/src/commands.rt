@@ -1,4 +1,4 @@
-//! What a person writes to a session, and the command that it means. Rests on h2_reasons for the names of frames.
+//! What a person writes to a session, and the command that it means.
 
 use h2_reasons::type_number;
 

@@ -1,5 +1,5 @@
 //! A person, or a program, at a session: lines are read one at a time, each is given to the session as the command that
-//! it means, and what is no command of the session is answered here. Rests on `commands` and `items`, and on an
+//! it means, and what is no command of the session is answered here. It uses `commands` and `items`, and an
 //! `Explainer`, which the program gives.
 
 ghost use Rattle.std.specs.Prelude.{◌≤◌, length, IfOk};
@@ -46,7 +46,9 @@ pub struct Console<'c, R, O, E, X> {
 /// How a console is set up.
 #[derive(Drop)]
 pub struct Manner<X> {
+    /// Whether a prompt is written before each command.
     pub has_prompt: bool,
+    /// Whether the prompt is also written while a command is not complete.
     pub has_dots: bool,
     /// Whether the first line has the octets; else they are those of a file.
     pub has_first: bool,

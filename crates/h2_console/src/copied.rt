@@ -1,4 +1,4 @@
-//! Octets that are given a part at a time. Rests on nothing.
+//! Octets that are given a part at a time.
 
 ghost use Rattle.std.specs.Prelude.{◌≤◌, length};
 

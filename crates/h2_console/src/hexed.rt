@@ -1,4 +1,4 @@
-//! Octets as they are, read as their hex. Rests on nothing.
+//! Octets as they are, read as their hex.
 
 ghost use Rattle.std.specs.Prelude.{◌≤◌, length};
 

@@ -1,4 +1,4 @@
-//! The items of an explanation, as lines of its text: `#N @OCTET ..` and the lines below it. Rests on nothing.
+//! The items of an explanation, as lines of its text: `#N @OCTET ..` and the lines below it.
 
 use std::io;
 use std::io::Write;

@@ -1,5 +1,5 @@
-//! What to say of a command that ended: a second look at its words and its input finds what was refused. The order is that
-//! of the faults. Rests on h2_reasons and h2_script.
+//! What to say of a command that ended: a second look at its words and its input finds what was refused. The order is
+//! that of the faults.
 
 use h2_reasons::{
     Source, Words, digit_count, has_offsets, is_hex, range_of, say_bad_line, say_limits,

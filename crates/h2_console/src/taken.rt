@@ -1,5 +1,5 @@
-//! The input of a command: the text of a file, or what a reader gives. What was given is kept for a second look, since a
-//! reader can't be read again. Rests on nothing.
+//! The input of a command: the text of a file, or what a reader gives. What was given is kept for a second look, since
+//! a reader can't be read again.
 
 ghost use Rattle.std.specs.Prelude.{◌≤◌, length, IfOk};
 

@@ -1,5 +1,5 @@
 //! Standard input and standard output that wait where they were left non-blocking: the same pipe or terminal is opened
-//! once more, without that flag, and read or written there. Rests on the runtime's files.
+//! once more, without that flag, and read or written there.
 
 use std::fs::OpenOptions;
 use std::io::{ErrorKind, Read, Write};

@@ -1,5 +1,5 @@
-//! Outputs that are looked at on their way: whether a sentence was written, and what the answers of a session begin with.
-//! Rests on h2_device and h2_reasons.
+//! Outputs that are looked at on their way: whether a sentence was written, and what the answers of a session begin
+//! with.
 
 ghost use Rattle.std.specs.Prelude.{◌≡◌, None, false};
 

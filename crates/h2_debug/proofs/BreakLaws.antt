@@ -216,7 +216,7 @@ stop-goes breaks es p within goes = go (ltb p (length es)) refl
 
 -- ---- in the words of breakpoints
 
--- the item behind those that are dropped
+-- the item after those that are dropped
 slice-behind : (es more : List Event) (e : Event) (p : ℕ) → drop p es ≡ e ∷ more → slice_get es p ≡ Some e
 slice-behind [] more e zero h = cc
 slice-behind [] more e (suc p) h = cc
@@ -226,7 +226,7 @@ slice-behind (x ∷ xs) more e (suc p) h = slice-behind xs more e p h
 event-behind : (es more : List Event) (e : Event) (p : ℕ) → drop p es ≡ e ∷ more → event_to es (p + 1) ≡ Some e
 event-behind es more e p h = let next : p + 1 ≡ suc p = omega arith in ap (event_to es) next ∙ slice-behind es more e p h
 
--- behind an item that does not match, a stop is one of the run from before it
+-- after an item that does not match, a stop is one of the run from before it
 stop-passes : (breaks : List Break) (es : List Event) (p q : ℕ) (e : Event) → event_to es (p + 1) ≡ Some e → list_any (matches (p + 1) e) breaks ≡ false → IsStop breaks es (p + 1) q → IsStop breaks es p q
 stop-passes breaks es p q e item other x = record {
   later = omega (arith, x.later);

@@ -100,7 +100,7 @@ near-kept r now far kept reached replayed target k apart = go (cases_lt (min tar
         let b : nat_le (min target reached / 64 * 64) now.position ≡ true = le-leb (min target reached / 64 * 64) now.position (omega (arith, low, same, k.below)) in
         absurd (true≢false (sym (both-true a b) ∙ apart))
 
--- the debugger arrives at a place that a move has led to, behind what was kept of the one that it leaves
+-- the debugger arrives at a place that a move has led to, after what was kept of the one that it leaves
 pub kept-arrived : (r : Source) (now far p far' : Placed) (ks ks' : List Kept) (reached replayed : ℕ) → IsKept r now far ks reached replayed → IsReached r p ks' → now.position < length ks' * 64 → length ks ≤ length ks'
     → (reached ≤ p.position → far' ≡ p) → (p.position < reached → far' ≡ far) → IsKept r p far' ks' (max p.position reached) replayed
 kept-arrived r now far p far' ks ks' reached replayed k x left more ahead behind = by (cases_lt p.position reached)
@@ -225,7 +225,7 @@ replay-counted p d =
     let all : reached_among d.reached s (p - s) ≡ min (s + (p - s)) d.reached - s = among-all d.reached s (p - s) in
     omega (arith, all)
 
--- of the items that a move to a position ran, all but those behind the greatest one that was reached were run again
+-- of the items that a move to a position ran, all but those after the greatest one that was reached were run again
 pub few-again : (target : ℕ) (d : Debugging) (ran : ℕ) → ran ≡ target - replay_start target d → ran - (target - d.reached) ≤ 63
 few-again target d ran is = let few : min target d.reached - replay_start target d ≤ 63 = replay-few target d in omega (arith, few, is)
 

@@ -14,7 +14,7 @@ pub record Debugging : Type 0 where
   pub ran : ℕ
   pub replayed : ℕ
 
--- at another position, to which so many items were run
+-- at another position, to which that many items were run
 abbrev pub moved_by : ℕ → ℕ → Debugging → Debugging
 moved_by ran p d = record d { position = p; reached = max p d.reached; ran = ran }
 
@@ -30,7 +30,7 @@ nearest_kept p d = min p d.reached / 64 * 64
 abbrev pub replay_start : ℕ → Debugging → ℕ
 replay_start p d = if nat_le d.position p && nat_le (nearest_kept p d) d.position then d.position else nearest_kept p d
 
--- of so many positions behind this one, how many had been reached
+-- of that many positions after this one, how many had been reached
 abbrev pub reached_among : (reached s n : ℕ) → ℕ
 reached_among reached s zero = 0
 reached_among reached s (suc n) = reached_among reached s n + (if nat_le (s + suc n) reached then 1 else 0)

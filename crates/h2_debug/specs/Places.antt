@@ -63,7 +63,7 @@ pub record Placed : Type 0 where
   pub reasons : Reasons
   pub sent : List ℕ
 
--- a place of a run: all items to come are those of the run from its state over the octets behind it
+-- a place of a run: all items to come are those of the run from its state over the octets after it
 pub record IsAt (r : Source) (p : Placed) : Type 0 where
   pub within : p.position ≤ end r
   pub counted : p.position ≤ p.used

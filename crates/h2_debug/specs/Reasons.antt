@@ -19,7 +19,7 @@ reasons_of s item = record { cause = cause_of s item; ignored = ignored_of s ite
 abbrev pub reasons_by : TakenItem → Reasons
 reasons_by taken = record { cause = taken.cause; ignored = taken.ignored }
 
--- of the item at a place in a list, which begins in this state; none at 0 and behind the list
+-- of the item at a place in a list, which begins in this state; none at 0 and after the list
 abbrev pub reasons_in : State → List Event → ℕ → Reasons
 reasons_in s events zero = no_reasons
 reasons_in s [] (suc p) = no_reasons

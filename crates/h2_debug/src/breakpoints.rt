@@ -1,5 +1,5 @@
-//! Breakpoints: a position, or the type of an item, its stream, or the type of a frame sent for it.
-//! Rests on h2_frame; definition: `matches` of h2_spec's `specs/Debug.antt`.
+//! Breakpoints: a position, or the type of an item, its stream, or the type of a frame sent for it. Definition:
+//! `matches` of h2_spec's `specs/Debug.antt`.
 
 ghost use Rattle.std.specs.Prelude.{◌≡◌, ℕ, ◌<◌, ◌++◌, ◌==◌, [], List, length, map, if◌then◌else◌, IfSome, IsSomeAnd};
 ghost use Rattle.std.specs.List.{list_any};

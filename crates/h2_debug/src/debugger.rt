@@ -1,9 +1,8 @@
 //! A debugger: a position in the run of a new connection over octets, moved forward and back. The program does not call
-//! `view`, `show` and `replayed`, which are for users of the library: it writes the text of `conn`.
-//! A mark of the place at each multiple of 64 is kept from when it is first left, so that no move runs more than 63
-//! items again. A place is made again from its mark and the records of the farthest place that was reached.
-//! Rests on `forward`; definitions: h2_spec's `specs/Debug.antt` for positions and breakpoints,
-//! `specs/Debugging.antt` for what a debugger represents.
+//! `view`, `show` and `replayed`, which are for users of the library: it writes the text of `conn`. A mark of the place
+//! at each multiple of 64 is kept from when it is first left, so that no move runs more than 63 items again. A place is
+//! made again from its mark and the records of the farthest place that was reached. Definitions: h2_spec's
+//! `specs/Debug.antt` for positions and breakpoints, `specs/Debugging.antt` for what a debugger represents.
 
 ghost use Rattle.std.specs.Prelude.{◌≡◌, ◌⊎◌, ◌+◌, ◌-◌, ◌<◌, ◌≤◌, ◌==◌, [], ◌∷◌, nat_lt, ◌++◌, IfErr, IfOk, IfSome, OnErr, OnOk, length, min, slice_get, nat_le, ◌&&◌, false, true, None, Some, if◌then◌else◌};
 ghost use Rattle.h2_spec.specs.Debug.{AtPosition, OnSent, OnStream, OnType, stop};

@@ -1,5 +1,4 @@
-//! Why a debugger refuses a call, numbered as the faults of all crates are.
-//! Rests on nothing; definitions: `specs/Faults.antt`.
+//! Why a debugger refuses a call, numbered as the faults of all crates are. Definitions: `specs/Faults.antt`.
 
 ghost use Rattle.std.specs.Prelude.{◌≡◌};
 ghost use Rattle.h2_debug.specs.Faults.{fault_number};

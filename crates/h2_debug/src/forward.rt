@@ -1,7 +1,5 @@
 //! Moves forward through a run: items taken one after another, where something is kept of each place at a multiple of
-//! 64 that is left for the first time.
-//! Rests on `place`, `kept` and `breakpoints`; definitions: `specs/Places.antt`, and `stop` of h2_spec's
-//! `specs/Debug.antt`.
+//! 64 that is left for the first time. Definitions: `specs/Places.antt`, and `stop` of h2_spec's `specs/Debug.antt`.
 
 ghost use Rattle.std.specs.Prelude.{◌≡◌, ◌+◌, ◌-◌, ◌*◌, ◌<◌, ◌≤◌, [], ◌∷◌, ◌++◌, IfOk, OnErr, OnOk, length, min, map};
 ghost use Rattle.h2_spec.specs.Debug.{stop};
@@ -18,7 +16,7 @@ use std::alloc::{AllocError, Allocator};
 /// How many items there are from one place of which something is kept to the next.
 pub const SPACING: usize = 64;
 
-/// Keeps a mark of a place behind those that are kept, with which it shares what it can.
+/// Keeps a mark of a place after those that are kept, with which it shares what it can.
 #[inline(never)]
 fn keep<'b, A: Allocator + Copy>(
     place: &Place<'b, A>,

@@ -1,6 +1,5 @@
 //! What a debugger keeps of places, so that later moves can start from them: a mark of the connection, which is made
-//! again from the records of the farthest place.
-//! Rests on `place` and on h2_conn's marks; definitions: `specs/Places.antt`.
+//! again from the records of the farthest place. Definitions: `specs/Places.antt`.
 
 ghost use Rattle.std.specs.Prelude.{◌≡◌, [], IfOk};
 ghost use Rattle.h2_conn.specs.Connection.{going};

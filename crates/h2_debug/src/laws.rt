@@ -15,7 +15,7 @@ pub fn runs_stop_at_the_first_match()
     ensures only { (breaks : List Break) (events : List Event) (p q : ℕ) → p < length events → IsStop breaks events p q → q ≡ stop breaks events p }
 {}
 
-/// How many items a move runs again: of the positions behind its start, up to the one that it leads to, as many as had
+/// How many items a move runs again: of the positions after its start, up to the one that it leads to, as many as had
 /// been reached before; they are at most 63.
 pub fn few_items_are_run_again()
     ensures is { (p : ℕ) (d : Debugging) → replay_count p d ≡ reached_among d.reached (replay_start p d) (p - replay_start p d) }

@@ -1,8 +1,6 @@
-//! A debugger of connections: any position in the run of a new connection over octets, forward and back (RFC 9113,
-//! 3.4 to 6).
-//! Rests on h2_conn, and on h2_frame for heads.
-//! Definitions: h2_spec's `specs/Debug.antt` for positions and breakpoints, and `specs/` here for what a debugger
-//! represents.
+//! A debugger of connections: any position in the run of a new connection over octets, forward and back (RFC 9113, 3.4
+//! to 6). Definitions: h2_spec's `specs/Debug.antt` for positions and breakpoints, and `specs/` here for what a
+//! debugger represents.
 #![tactic(auto)]
 
 mod breakpoints;

@@ -1,6 +1,6 @@
 //! A place in a run: a connection, how many items came before it, how many octets it was fed, why the last item was an
-//! error or was ignored, what was sent for it, and how many items the connection took itself.
-//! Rests on h2_conn; definitions: `specs/Places.antt`.
+//! error or was ignored, what was sent for it, and how many items the connection took itself. Definitions:
+//! `specs/Places.antt`.
 
 ghost use Rattle.std.specs.Prelude.{◌≡◌, true, IfErr, IfOk, OnErr, OnOk, nat_lt};
 ghost use Rattle.h2_spec.specs.Show.{show};
@@ -88,8 +88,8 @@ impl<'b, A: Allocator + Copy> Place<'b, A> {
         })
     }
 
-    /// The place of a connection at a position, which was fed so many octets and took no item itself; with the reasons
-    /// of its last item, and what was sent for it.
+    /// The place of a connection at a position, which was fed that many octets and took no item itself; with the
+    /// reasons of its last item, and what was sent for it.
     pub fn of(
         conn: Conn<'b, A>,
         position: usize,
@@ -111,7 +111,7 @@ impl<'b, A: Allocator + Copy> Place<'b, A> {
         }
     }
 
-    /// The same place once more, in memory of its own.
+    /// A copy of the place, in memory of its own.
     pub fn try_clone(&self) -> Result<Self, AllocError>
         ensures same { IfOk result (λ copy. copy ≡ self.now) }
     {
@@ -222,7 +222,7 @@ impl<'b, A: Allocator + Copy> Place<'b, A> {
     }
 }
 
-/// The same octets.
+/// A copy of the octets.
 pub(crate) fn copy_of<A: Allocator + Copy>(octets: &Vec<u8, A>) -> Result<Vec<u8, A>, AllocError>
     ensures { IfOk result (λ copy. copy.items ≡ octets.now.items) }
 {

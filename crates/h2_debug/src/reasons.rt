@@ -1,5 +1,4 @@
-//! Why an item was an error, or was ignored (RFC 9113, 5.4).
-//! Rests on h2_conn; definitions: `specs/Reasons.antt`.
+//! Why an item was an error, or was ignored (RFC 9113, 5.4). Definitions: `specs/Reasons.antt`.
 
 ghost use Rattle.std.specs.Prelude.{◌≡◌};
 ghost use Rattle.h2_debug.specs.Reasons.{no_reasons, reasons_by};

@@ -1,5 +1,5 @@
-//! The input of a run: the book and the limits of a new connection, and the octets that it is fed.
-//! Rests on h2_request; definition: `specs/Places.antt`.
+//! The input of a run: the book and the limits of a new connection, and the octets that it is fed. Definition:
+//! `specs/Places.antt`.
 
 ghost use Rattle.std.specs.Prelude.{◌≡◌, ◌<◌, ◌≤◌, ◌^◌, drop, length};
 
@@ -11,8 +11,11 @@ use std::marker::Model;
 /// The input of a run.
 #[derive(Drop)]
 pub struct Source<'s, 'b, A: Allocator> {
+    /// The answers of the connection.
     pub book: &'b Book<A>,
+    /// The limits and the settings that the server is given.
     pub config: Config,
+    /// All octets that the connection is fed, from its first on.
     pub octets: &'s [u8],
 }
 

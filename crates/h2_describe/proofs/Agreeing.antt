@@ -73,7 +73,7 @@ kept fields all s h most =
 
 -- ---- both decoders
 
--- both have come as far
+-- both have got as far
 record Same (r : Reading) (p : Progress) : Type 0 where
   table : r.table.table ≡ p.table
   begun : has_fields (fields_of r.fields) ≡ has_fields p.fields
@@ -123,7 +123,7 @@ stop-refused r p b i used fault s e = record { table = s.table; outcome = rw e r
 
 -- ---- all octets
 
--- what is left after an instruction is read so
+-- the rest after an instruction is read so
 abbrev Goes : List ℕ → Type 0
 Goes b = (r : Reading) (p : Progress) (used : ℕ) → 0 < used → used ≤ length b → Same r p → Agrees (decoded r.table.limit p (drop used b)) (held (read_to r (drop used b)))
 

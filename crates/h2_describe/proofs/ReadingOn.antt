@@ -26,7 +26,7 @@ next-uses : (r : Reading) (b : List ℕ) → laws.Uses b (next_read r b)
 unfolding next_read
 next-uses r b = read-uses r b (instr_at b) (instr-within b) (instr-takes b)
 
--- where reading has come, without the instructions
+-- where reading has got, without the instructions
 reached : Parsed Reading Shape → ReadTo
 reached t = record { reading = t.state; rest = t.rest }
 

@@ -53,7 +53,7 @@ keep fields s = if nat_lt 65536 (total_size (fields_of fields)) then fields else
 
 -- ---- one instruction
 
--- how far a block has come: the table, the fields that are kept, and the size updates in their order
+-- how far a block has got: the table, the fields that are kept, and the size updates in their order
 pub record Reading : Type 0 where
   pub table : LimitedTable
   pub fields : List Spelled
@@ -106,7 +106,7 @@ unfoldable pub next_read : Reading → List ℕ → Front Reading Shape
 unfolding instr_at stepped
 next_read r b = taken r (instr_at b)
 
--- how far a block has come, and the octets after the instructions that were carried out
+-- how far a block has got, and the octets after the instructions that were carried out
 pub record ReadTo : Type 0 where
   pub reading : Reading
   pub rest : List ℕ
@@ -139,7 +139,7 @@ stop_at TooLong = Some stop.Other
 
 -- ---- a block in fragments
 
--- what the decoder holds of a block: how far it has come, the octets after that, and what it stopped at, if it did
+-- what the decoder holds of a block: how far it has got, the octets after that, and what it stopped at, if it did
 pub record BlockRead : Type 0 where
   pub reading : Reading
   pub rest : List ℕ
@@ -160,7 +160,7 @@ read_more b fragment = elim b.stopped [ None ↦ held (read_to b.reading (b.rest
 
 -- ---- against the decoder of the connection
 
--- how far the block has come, for the decoder of the connection
+-- how far the block has got, for the decoder of the connection
 abbrev pub progress_of : Reading → Progress
 progress_of r = record { fields = fields_of r.fields; table = r.table.table; due = false }
 

@@ -1,5 +1,4 @@
-//! A frame in words: its type, its stream, its flags by name, and what its payload has.
-//! Rests on h2_frame and `names`; no definition speaks of them.
+//! A frame in words: its type, its stream, its flags by name, and what its payload has. No definition speaks of them.
 
 use crate::names::{Code, registered_setting, say_flags, say_registered, setting_name};
 use crate::say::{Cut, Hex, Octets, Words};

@@ -1,5 +1,5 @@
-//! Frame types, flags, settings, error codes and states of streams by name (RFC 9113, 5.1, 6 and 7).
-//! Rests on `say`; the names are defined in specs/Names.antt, and a live stream in `h2_spec`, specs/Stream.antt.
+//! Frame types, flags, settings, error codes and states of streams by name (RFC 9113, 5.1, 6 and 7). The names are
+//! defined in specs/Names.antt, and a live stream in `h2_spec`, specs/Stream.antt.
 
 ghost use Rattle.std.specs.Prelude.{◌≡◌, ℕ, List, map, option_map};
 ghost use Rattle.std.specs.Borrow.{Bor};
@@ -140,7 +140,7 @@ pub fn error_name(code: ErrorCode) -> &'static str
     }
 }
 
-/// An error of the connection, which has ended, or of a stream, with a blank behind it (RFC 9113, 5.4).
+/// An error of the connection, which has ended, or of a stream, with a blank after it (RFC 9113, 5.4).
 pub fn scope_word(has_ended: bool) -> &'static str
     ensures { result.now ≡ spec.scope_word has_ended }
 {

@@ -1,6 +1,5 @@
 //! The instructions of field blocks, carried out one after another over a dynamic table, and the fields that they give,
-//! each with how it was spelled (RFC 7541, 3 and 6).
-//! Rests on h2_fields for instructions and on h2_table; the definitions are in specs/Spelled.antt.
+//! each with how it was spelled (RFC 7541, 3 and 6). The definitions are in specs/Spelled.antt.
 
 ghost use Rattle.std.specs.Prelude.{◌≡◌, ◌≤◌, [], ◌++◌, ◌∷◌, length, drop, nat_lt, option_map, true, Some, IfOk, OnOk, OnErr};
 ghost use Rattle.h2_spec.specs.Block.{has_fields, list_size};
@@ -23,7 +22,7 @@ use std::marker::Model;
 /// of the connection's decoder (RFC 9113, 10.5.1).
 const MOST: usize = 65536;
 
-/// How far a block has come: the dynamic table, the fields that are kept, and the table size updates.
+/// How far a block has got: the dynamic table, the fields that are kept, and the table size updates.
 #[derive(Drop)]
 pub(crate) struct Reading {
     table: DynTable<Global>,
@@ -48,7 +47,7 @@ impl Model for Reading {
 /// What became of the instruction at the front of octets.
 #[derive(Clone, Copy)]
 pub(crate) enum Step {
-    /// It was carried out, and has so many octets.
+    /// It was carried out, and has that many octets.
     Done(usize),
     /// It was not: it is not whole, or this is what reading stopped at.
     Stop(Option<Stopped>),

@@ -1,5 +1,4 @@
-//! Texts that are put together part by part.
-//! Rests on `sent` and the crates `itoa` and `hex`; no definition speaks of them.
+//! Texts that are put together part by part. No definition speaks of them.
 
 use crate::sent::first_of;
 use itoa::Buffer;
@@ -197,7 +196,7 @@ impl Say for HexOctet {
 #[derive(Clone, Copy)]
 pub struct Text<'a>(pub &'a [u8]);
 
-/// Whether an octet stands for itself in a text.
+/// Whether an octet is written as it is in a text.
 fn is_plain(octet: u8) -> bool {
     (32..=126).contains(&octet) && octet != b'"' && octet != b'\\'
 }
@@ -233,7 +232,7 @@ impl Say for Cut<'_> {
 #[derive(Clone, Copy)]
 pub struct Ordinal(pub usize);
 
-/// What is written behind a number in its order.
+/// What is written after a number in its order.
 fn ordinal_end(number: usize) -> &'static str {
     match (number % 10, number % 100) {
         (1, end) if end != 11 => "st",
@@ -250,7 +249,7 @@ impl Say for Ordinal {
     }
 }
 
-/// So many fields: `1 field`, `2 fields`.
+/// A number of fields: `1 field`, `2 fields`.
 #[derive(Clone, Copy)]
 pub struct Fields(pub usize);
 
@@ -261,7 +260,7 @@ impl Say for Fields {
     }
 }
 
-/// So many octets: `1 octet`, `2 octets`.
+/// A number of octets: `1 octet`, `2 octets`.
 #[derive(Clone, Copy)]
 pub struct Octets(pub u64);
 

@@ -1,5 +1,4 @@
-//! Frames in octets, one after another.
-//! Rests on h2_frame; the definition is `first_frame` of specs/Sent.antt.
+//! Frames in octets, one after another. The definition is `first_frame` of specs/Sent.antt.
 
 ghost use Rattle.std.specs.Prelude.{◌≡◌, take, drop, option_map};
 ghost use Rattle.h2_describe.specs.Sent.{first_frame, first_seen};

@@ -1,6 +1,5 @@
 //! The fields of field blocks, each with how it was spelled: a second decoder, with a header table of its own, that is
-//! given each fragment (RFC 7541, 3 and 6).
-//! Rests on `reading` for the instructions; the definitions are in specs/Spelled.antt, on those of `h2_spec`,
+//! given each fragment (RFC 7541, 3 and 6). The definitions are in specs/Spelled.antt, on those of `h2_spec`,
 //! specs/Block.antt.
 
 ghost use Rattle.std.specs.Prelude.{◌≡◌, ◌+◌, ◌^◌, ◌-◌, [], ◌++◌, length, min, option_map, None, IfOk, OnOk, OnErr};
@@ -27,8 +26,11 @@ pub enum Spelling {
 /// A field as it came: the octets of its name and value, and how it was spelled.
 #[derive(Drop)]
 pub struct SpelledField {
+    /// The octets of the name, decoded.
     pub name: Vec<u8>,
+    /// The octets of the value, decoded.
     pub value: Vec<u8>,
+    /// Its instruction (RFC 7541, 6).
     pub spelling: Spelling,
 }
 
@@ -106,8 +108,8 @@ impl BlockReader {
         self.stopped = None;
     }
 
-    /// Reads one fragment more: the instructions in what is left of those before it and in its own octets, up to the
-    /// first that is not whole or is refused (RFC 7541, 3.2). Once stopped, it does nothing.
+    /// Reads one fragment more: the instructions in the rest of those before it and in its own octets, up to the first
+    /// that is not whole or is refused (RFC 7541, 3.2). Once stopped, it does nothing.
     ///
     /// The fields are kept until they count more than 65,536 octets together, 32 each beside their own; the table is
     /// always that of the whole block. All of it takes time in proportion to the octets of the fragments and to what

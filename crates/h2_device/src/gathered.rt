@@ -1,5 +1,4 @@
 //! What is written, gathered in memory. It fails only where a growth is refused.
-//! Rests on `output` and `text`.
 
 ghost use Rattle.std.specs.Prelude.{◌≡◌, [], Some, false, IfOk};
 ghost use Rattle.std.specs.String.{string_bytes};
@@ -12,6 +11,7 @@ use std::str;
 /// What was written, in memory.
 #[derive(Drop)]
 pub struct Gathered {
+    /// The octets written so far.
     pub octets: Vec<u8>,
     /// Whether the growth for the last write was refused.
     pub failed: bool,

@@ -1,5 +1,4 @@
 //! Octets as text: two hex digits each, in lower case.
-//! Rests on `text` and on the crate `hex`.
 
 ghost use Rattle.std.specs.Prelude.{◌≡◌, ◌*◌, length};
 ghost use Rattle.hex.specs.Hex.{encode_lower};

@@ -1,5 +1,4 @@
-//! What a program reads from.
-//! Rests on nothing; what a read consumes: the standard library's `KnownBytes`.
+//! What a program reads from. What a read consumes: the standard library's `KnownBytes`.
 
 ghost use Rattle.std.specs.Prelude.{◌≡◌, ◌<◌, ◌≤◌, ℕ, List, Option, Bool, IfOk, OnErr, is_err, length, take};
 ghost use Rattle.std.specs.Io.KnownBytes.{Consumes, IsAtEnd, Keeps};

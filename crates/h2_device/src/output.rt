@@ -1,5 +1,4 @@
-//! What a program writes to.
-//! Rests on nothing; what a write appends: the standard library's `KnownBytes`.
+//! What a program writes to. What a write appends: the standard library's `KnownBytes`.
 
 ghost use Rattle.std.specs.Prelude.{◌≡◌, ℕ, List, Option, Bool, OnOk, is_err};
 ghost use Rattle.std.specs.Io.KnownBytes.{Appends, Keeps};

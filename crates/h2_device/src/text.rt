@@ -1,5 +1,5 @@
-//! Texts that are written to an output. A text fails only where the output does, and takes no memory.
-//! Rests on `output` and on the crate `itoa`; what a write appends: the standard library's `KnownBytes`.
+//! Texts that are written to an output. A text fails only where the output does, and takes no memory. What a write
+//! appends: the standard library's `KnownBytes`.
 
 ghost use Rattle.std.specs.Prelude.{◌≡◌, ◌++◌, ℕ, List, false, decimal, OnOk, is_err};
 ghost use Rattle.std.specs.Fmt.{signed_decimal};
@@ -45,7 +45,7 @@ impl Text for Number {
     }
 }
 
-/// A number in decimal digits, behind a `-` where it is negative.
+/// A number in decimal digits, after a `-` where it is negative.
 #[derive(Clone, Copy, Debug, PartialEq, Eq)]
 pub struct SignedNumber(pub i32);
 
@@ -58,7 +58,7 @@ impl Text for SignedNumber {
     }
 }
 
-/// One text behind another.
+/// One text after another.
 #[tactic(auto, using(crate::proofs::Appending::both))]
 impl<A: Text, B: Text> Text for (A, B) {
     ghost text = { λ p. A.text p.0 ++ B.text p.1 };

@@ -1,5 +1,4 @@
 //! The standard library's readers and writers as devices: each sets its flag exactly where the call below failed.
-//! Rests on `input` and `output`.
 
 ghost use Rattle.std.specs.Prelude.{◌≡◌, false};
 

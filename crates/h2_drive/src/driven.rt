@@ -1,5 +1,5 @@
-//! What is driven over a wire: a connection, by itself or with something that looks at each of its items.
-//! Rests on h2_conn; definitions: h2_conn's `specs/Runs.antt`, and `specs/Drives.antt`.
+//! What is driven over a wire: a connection, by itself or with something that looks at each of its items. Definitions:
+//! h2_conn's `specs/Runs.antt`, and `specs/Drives.antt`.
 
 ghost use Rattle.std.specs.Prelude.{◌≡◌, ⊤, ℕ, List, [], ◌++◌, Bool, true, false, OnOk, OnErr, is_err, option_map};
 ghost use Rattle.h2_spec.specs.Errors.{code_number};

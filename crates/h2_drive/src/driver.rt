@@ -1,5 +1,5 @@
-//! A connection driven over a wire: what is read is fed to it, and the frames that it sends are written before the
-//! next read. Rests on `driven`, `wire` and `outgoing`; definitions: `specs/Drives.antt`.
+//! A connection driven over a wire: what is read is fed to it, and the frames that it sends are written before the next
+//! read. Definitions: `specs/Drives.antt`.
 
 ghost use Rattle.std.specs.Prelude.{◌≡◌, ◌<◌, ◌≤◌, [], take, length, false, vec_len, option_map};
 ghost use Rattle.h2_spec.specs.Errors.{code_number};

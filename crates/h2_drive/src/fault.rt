@@ -1,5 +1,4 @@
-//! How the driving of a connection ends.
-//! Rests on nothing; definitions: `specs/Drives.antt`.
+//! How the driving of a connection ends. Definitions: `specs/Drives.antt`.
 
 ghost use Rattle.std.specs.Prelude.{◌≡◌};
 ghost use Rattle.h2_drive.specs.Drives.{fault_number};

@@ -1,5 +1,4 @@
-//! The pending output of a connection.
-//! Rests on `wire`; definitions: `specs/Wires.antt`.
+//! The pending output of a connection. Definitions: `specs/Wires.antt`.
 
 ghost use Rattle.std.specs.Prelude.{◌≡◌, ◌<◌, ◌≤◌, [], length, drop, false, OnOk, OnErr, vec_len, is_err};
 ghost use Rattle.h2_drive.specs.Wires.{Writes};

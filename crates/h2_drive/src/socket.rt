@@ -1,5 +1,4 @@
 //! A TCP connection as a wire. No contract can say which octets a socket reads or writes, so it reports none of them.
-//! Rests on `wire`.
 
 ghost use Rattle.std.specs.Prelude.{◌≡◌, Bool, None, false};
 

@@ -1,5 +1,5 @@
 //! The octets in both directions that a connection is driven over. A contract sees of them what the wire reports.
-//! Rests on nothing; definitions: `specs/Wires.antt`.
+//! Definitions: `specs/Wires.antt`.
 
 ghost use Rattle.std.specs.Prelude.{◌≡◌, ℕ, ◌<◌, ◌≤◌, List, [], ◌∷◌, length, take, Option, Bool, IfOk, OnErr, is_err};
 ghost use Rattle.h2_drive.specs.Wires.{grown};

@@ -124,7 +124,7 @@ changes_on number now connection note [] = []
 changes_on number now connection note (id ∷ ids) =
     changes_since (note id) (now id) connection ++ changes_on number now connection (with_later_note (note id) number (now id) note) ids
 
--- the streams of the frames in octets, in order, of so many frames at most (4.1)
+-- the streams of the frames in octets, in order, of that many frames at most (4.1)
 abbrev pub streams_then : (List ℕ → List ℕ) → Option FirstFrame → List ℕ
 streams_then more None = []
 streams_then more (Some frame) = frame.head.stream ∷ more frame.rest

@@ -158,7 +158,7 @@ stream_table before after =
     state_row before after
     ++ (if is_live before.kind && is_live after.kind then numbers_table after.id before.numbers after.numbers else [])
 
--- where the body of an answer stops: so many octets of it remain
+-- where the body of an answer stops: that many octets of it remain
 abbrev pub stops_with : ℕ → ℤ → ℤ → Option ℕ → List Change
 stops_with id own connection None = []
 stops_with id own connection (Some remaining) = Stops id remaining own connection ∷ []

@@ -15,7 +15,8 @@ use Rattle.h2_explain.specs.declared.run.ExplainFault.TheVariants.{NoMemory, Not
 use Rattle.h2_explain.specs.declared.run.Form.{Form}
 use Rattle.h2_explain.specs.declared.run.Summary.{Summary}
 
--- how many items a run had, the code of the connection error that ended it, if one did, and what is said of the client
+-- how many items a run had, the code of the connection error that ended it, if one did, and what is said about the
+-- client
 abbrev pub summary_of : Run → Verdict → Summary
 summary_of run verdict = record { items = length run.events; ended = option_map code_number (ended_code run.state.core.phase); verdict = verdict }
 
@@ -60,12 +61,13 @@ EndsLineIf true color t = EndsLine color t
 abbrev pub EndsLineOrNone : (color : Bool) → List ℕ → Type 0
 EndsLineOrNone color t = (t ≡ []) ⊎ EndsLine color t
 
--- whether something is said after so many items where so many octets are left: of these, or that no octets came at all
+-- whether something is said after that many items where that many octets are left: of these, or that no octets came at
+-- all
 abbrev pub is_said : (items left : ℕ) → Bool
 is_said items left = nat_lt 0 left || items == 0
 
--- the text after so many items: lines where octets are left or none came, and the lines of warnings, of live streams and
--- of `--strict`, where there are any; in JSON always a line
+-- the text after that many items: lines where octets are left or none came, and the lines of warnings, of live streams
+-- and of `--strict`, where there are any; in JSON always a line
 abbrev pub IsRestOf : (json color : Bool) → (items left : ℕ) → List ℕ → Type 0
 IsRestOf true color items left t = EndsLine false t
 IsRestOf false color items left t = (rest lines : List ℕ) × (t ≡ rest ++ lines) × EndsLineIf (is_said items left) color rest × EndsLineOrNone color lines
@@ -73,14 +75,14 @@ IsRestOf false color items left t = (rest lines : List ℕ) × (t ≡ rest ++ li
 abbrev pub IsRestText : Form → (items left : ℕ) → List ℕ → Type 0
 IsRestText form items left t = IsRestOf form.json form.color items left t
 
--- how an explanation ends after so many items where these octets are left: it is cut short, as memory was refused; or
+-- how an explanation ends after that many items where these octets are left: it is cut short, as memory was refused; or
 -- there is no item more
 abbrev pub Ends : Form → (cut : Bool) → State → List ℕ → (items : ℕ) → List ℕ → Type 0
 Ends form true s b items t = t ≡ []
 Ends form false s b items t = (next_event s b ≡ Stop) × IsRestText form items (length b) t
 
--- the texts of these items, one after another, each of which the connection takes after the others; so many items came
--- before them, and so many octets
+-- the texts of these items, one after another, each of which the connection takes after the others; that many items
+-- came before them, and that many octets
 abbrev pub AreExplained : Form → (cut : Bool) → State → List ℕ → (items offset : ℕ) → List Explained → List ℕ → Type 0
 AreExplained form cut s b items offset [] t = Ends form cut s b items t
 AreExplained form cut s b items offset (x ∷ xs) t =
@@ -88,11 +90,11 @@ AreExplained form cut s b items offset (x ∷ xs) t =
     × (first : List ℕ) × (rest : List ℕ) × IsItemText form x first × (t ≡ first ++ rest)
     × AreExplained form cut c.state (drop x.taken.used b) (items + 1) (offset + x.taken.used) xs rest
 
--- the explanation of a connection over octets: of each of its items and of what is left, or of some first items
+-- the explanation of a connection over octets: of each of its items and of the rest, or of some first items
 abbrev pub IsExplanation : Form → (cut : Bool) → State → List ℕ → List ℕ → Type 0
 IsExplanation form cut s b t = (xs : List Explained) × AreExplained form cut s b 0 0 xs t
 
--- what was written of an item, or of what is left: nothing where memory was refused
+-- what was written of an item, or of the rest: nothing where memory was refused
 abbrev pub IsWritten : {A : Type 0} → (List ℕ → Type 0) → Result A ExplainFault → List ℕ → Type 0
 IsWritten P (Ok x) t = P t
 IsWritten P (Err fault) t = t ≡ []

@@ -91,8 +91,9 @@ abbrev pub reason_lines : Bool → Option Ignored → Option SpecialCase → Lis
 reason_lines color None case = []
 reason_lines color (Some reason) case = ignored_lines color reason (rule_of_reason reason case)
 
--- what is said of an item besides: the lines of what the server sent before it, the item in words, the lines of its fields, what decides whether its rule is a special
--- case, the sentence of its error, the line of other causes, the lines of what was sent and of what changed
+-- what is said about an item besides: the lines of what the server sent before it, the item in words, the lines of its
+-- fields, what decides whether its rule is a special case, the sentence of its error, the line of other causes, the
+-- lines of what was sent and of what changed
 pub record Words : Type 0 where
   pub opening : List ℕ
   pub item : List ℕ
@@ -114,7 +115,7 @@ lines_with color x w error_case ignored_case =
 abbrev pub lines : Bool → Explained → Words → List ℕ
 lines color x w = lines_with color x w (case_of_error x w.facts) (case_of_reason x w.facts)
 
--- whether nothing is said of an item itself: the preface
+-- whether nothing is said about an item itself: the preface
 abbrev pub is_silent : ItemHead → Bool
 is_silent item.Preface = true
 is_silent item.BadPreface = false

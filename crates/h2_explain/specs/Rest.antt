@@ -10,7 +10,7 @@ use Rattle.h2_explain.specs.declared.rest.Awaited.TheVariants as awaited
 use Rattle.h2_explain.specs.declared.rest.Missing.{Missing}
 use Rattle.h2_explain.specs.declared.rest.Rest.{Rest}
 
--- what so many octets of a preface lack: it has 24 (3.4)
+-- what that many octets of a preface lack: it has 24 (3.4)
 abbrev pub missing_of_preface : ℕ → Missing
 missing_of_preface count = record { what = awaited.Preface; needs = 24 - count; at_least = false; head = None }
 
@@ -32,7 +32,7 @@ missing_of Settings b = missing_of_frame (head_at b) b
 missing_of Running b = missing_of_frame (head_at b) b
 missing_of (Ended code) b = missing_of_frame (head_at b) b
 
--- what is after the last item of a connection that had so many
+-- what is after the last item of a connection that had that many
 abbrev pub rest_of : State → (items offset : ℕ) → List ℕ → Rest
 rest_of s items offset b = record {
   items = items;

@@ -53,7 +53,7 @@ tally_with t x f w = record {
 abbrev pub TalliesItem : Tallied → Explained → Tallied → Type 0
 TalliesItem t x t' = (f : CaseFacts) × (ws : Warnings) × AreWarnings x f ws × (t' ≡ tally_with t x f ws)
 
--- what is said of a client where the run ends in this state, and so many octets are left
+-- what is said about a client where the run ends in this state, and that many octets are left
 abbrev pub verdict_at : Tallied → State → ℕ → Verdict
 verdict_at t s left = record {
   broken = t.broken || is_unacknowledged s.core;

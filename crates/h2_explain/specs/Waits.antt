@@ -32,7 +32,7 @@ request_wait true n core = Some (record {
   missing = option_map (λ declared. declared - n.content_received) n.declared;
 })
 
--- what is left of an answer's body, with the send windows of the stream and of the connection (6.9)
+-- the rest of an answer's body, with the send windows of the stream and of the connection (6.9)
 abbrev pub answer_wait : Option ℕ → Numbers → ConnectionState → Option AnswerWait
 answer_wait None n core = None
 answer_wait (Some remaining) n core = Some (record { remaining = remaining; window = n.send; connection_window = core.send })

@@ -1,5 +1,5 @@
-//! What there is to show of an item: values of which the text and the JSON are views.
-//! Rests on `item`, `notes`, `changes` and `sentence`; definitions: `specs/Account.antt`.
+//! What there is to show of an item: values of which the text and the JSON are views. Definitions:
+//! `specs/Account.antt`.
 
 ghost use Rattle.std.specs.Prelude.{◌≡◌, ◌++◌, IfOk, OnOk};
 ghost use Rattle.std.specs.BTreeMap.{IsEmpty};
@@ -39,7 +39,9 @@ use std::collections::BTreeMap;
 /// What is known of a connection while it is explained.
 #[derive(Drop)]
 pub struct Explainer {
+    /// What was noted of the connection and its streams.
     pub notes: Notes,
+    /// The second decoder of the client's field blocks.
     pub reader: BlockReader,
     /// The streams that are live.
     pub live: BTreeMap<u32, ()>,
@@ -64,6 +66,7 @@ pub struct Account {
     pub warnings: Warnings,
     /// Whether the fields of its block are shown with it: the block ends here, or is refused here.
     pub shows_fields: bool,
+    /// What it changed on the connection and on its stream.
     pub changes: Changes,
     /// What it changed on streams besides.
     pub moved: Vec<Moved>,

@@ -1,5 +1,4 @@
-//! What an item changes of the state of a connection.
-//! Rests on `count` and `item`; definitions: `specs/Changes.antt`.
+//! What an item changes of the state of a connection. Definitions: `specs/Changes.antt`.
 
 ghost use Rattle.std.specs.Prelude.{◌≡◌, ◌++◌, ◌↔◌, nat_eq, pos, IsTrue, OnOk};
 ghost use Rattle.std.specs.Option.{option_eq, option_map};

@@ -1,5 +1,5 @@
-//! The numbers of a connection and of its streams that an item can change, by name.
-//! Rests on h2_spec's `rules`; definition: `specs/Counts.antt`, the names are in docs/FORMATS.md.
+//! The numbers of a connection and of its streams that an item can change, by name. Definition: `specs/Counts.antt`,
+//! the names are in docs/FORMATS.md.
 
 ghost use Rattle.std.specs.Prelude.{◌≡◌, map, slice_get, Some};
 ghost use Rattle.h2_spec.specs.Rules.{text_of};

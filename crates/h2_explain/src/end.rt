@@ -1,6 +1,5 @@
-//! The end of an explanation: the octets that are left, the warnings of the end, what each live stream waits for, and what
-//! `--strict` says of the client.
-//! Rests on `rest`, `waits`, `verdict` and `warning`; definitions: `specs/Explains.antt`, the form: docs/EXPLAIN.md.
+//! The end of an explanation: the octets that are left, the warnings of the end, what each live stream waits for, and
+//! what `--strict` says of the client. Definitions: `specs/Explains.antt`, the form: docs/EXPLAIN.md.
 
 ghost use Rattle.std.specs.Prelude.{◌≡◌, false, IfOk};
 ghost use Rattle.std.specs.String.{string_bytes};
@@ -27,10 +26,15 @@ use std::alloc::{AllocError, Global};
 /// What the end of an explanation is made from.
 #[derive(Clone, Copy)]
 pub(crate) struct End<'e, 'b> {
+    /// Whether it is written as text or as JSON.
     pub(crate) form: Form,
+    /// The connection after its last item.
     pub(crate) conn: &'e Conn<'b, Global>,
+    /// What was known after the last item.
     pub(crate) explainer: &'e Explainer,
+    /// The errors and warnings of the items.
     pub(crate) tally: &'e Tally,
+    /// What is after the last item.
     pub(crate) rest: Rest,
 }
 
@@ -52,7 +56,7 @@ impl End<'_, '_> {
         tally.warnings.saturating_add(self.warnings().count())
     }
 
-    /// Begins a line, behind the one before.
+    /// Begins a line, after the one before.
     fn begin(&self, out: &mut Words) {
         let paint = Paint(self.form.color);
         if out.len() > 0 {
@@ -97,7 +101,7 @@ impl End<'_, '_> {
         }
     }
 
-    /// The lines behind that of the octets that are left, without the end of the last.
+    /// The lines after that of the octets that are left, without the end of the last.
     fn words(&self, alloc: Global) -> Result<String, AllocError> {
         let mut words = Words::new(alloc);
         self.say_warnings(&mut words);
@@ -106,7 +110,7 @@ impl End<'_, '_> {
         words.finish()
     }
 
-    /// The lines behind that of the octets that are left.
+    /// The lines after that of the octets that are left.
     fn lines(&self, alloc: Global) -> Result<String, AllocError>
         ensures { IfOk result (λ text. EndsLineOrNone self.now.form.color (string_bytes text)) }
     {
@@ -141,7 +145,7 @@ impl End<'_, '_> {
         out.close_list();
     }
 
-    /// Puts what is said of the client.
+    /// Puts what is said about the client.
     fn put_verdict(&self, out: &mut JsonWords) {
         if self.form.strict {
             let verdict = verdict_at(self.tally, self.conn, self.rest.octets);

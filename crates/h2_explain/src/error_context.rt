@@ -1,5 +1,4 @@
-//! What a sentence about an error can draw its values from.
-//! Rests on `item`, `notes` and h2_describe's `spelled`; definitions: `specs/ErrorContext.antt`.
+//! What a sentence about an error can draw its values from. Definitions: `specs/ErrorContext.antt`.
 
 ghost use Rattle.std.specs.Prelude.{◌≡◌};
 ghost use Rattle.std.specs.Option.{option_map};
@@ -19,11 +18,15 @@ use h2_spec::frames::{END_STREAM, FrameType, PADDED, WITH_PRIORITY};
 /// An item, what was noted before it, its block as a second decoder has it, and the limits of the server.
 #[derive(Clone, Copy)]
 pub(crate) struct ErrorContext<'f, 'o> {
+    /// The item that is an error.
     pub(crate) item: &'f Explained<'o>,
+    /// What was noted before it.
     pub(crate) notes: &'f Notes,
+    /// The second decoder, after the item's block.
     pub(crate) reader: &'f BlockReader,
     /// The client's header table.
     pub(crate) table: &'f Followed,
+    /// The limits and the settings of the server.
     pub(crate) config: Config,
     /// The open or half-closed (remote) stream with the greatest send window, and that window; looked up for
     /// `InitialWindowSizeOverflow` alone.
@@ -61,7 +64,7 @@ impl ErrorContext<'_, '_> {
         }
     }
 
-    /// The octets of the frame's payload, none where only its head has come.
+    /// The octets of the frame's payload, none where only its head has arrived.
     pub(crate) fn payload(&self) -> &[u8]
         ensures { result.now ≡ payload_in self.now.item.now.octets.now }
     {

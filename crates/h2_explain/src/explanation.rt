@@ -1,6 +1,5 @@
 //! A connection that is explained while its octets come: each item is explained as soon as its last octet is there, and
-//! the octets of an item that is not whole are held (RFC 9113, 3.4).
-//! Rests on `item`, `account`, `end` and `text`; definitions: `specs/Explaining.antt`.
+//! the octets of an item that is not whole are held (RFC 9113, 3.4). Definitions: `specs/Explaining.antt`.
 
 ghost use Rattle.std.specs.Prelude.{◌≡◌, ◌<◌, ◌≤◌, ◌+◌, ◌^◌, ◌++◌, ℕ, List, [], true, false, drop, length, option_map, IfErr, IfOk, OnErr, OnOk, is_err};
 ghost use Rattle.std.specs.String.{string_bytes};

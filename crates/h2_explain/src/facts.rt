@@ -1,6 +1,5 @@
-//! What an error or an ignored frame is besides its cause: the facts that decide its special case, and the other faults of
-//! its block.
-//! Rests on `error_context`, `fields` and `special`; no definition speaks of them.
+//! What an error or an ignored frame is besides its cause: the facts that decide its special case, and the other faults
+//! of its block. No definition speaks of them.
 
 use crate::error_context::ErrorContext;
 use crate::fields::{

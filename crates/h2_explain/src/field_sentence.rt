@@ -1,5 +1,5 @@
-//! The sentences of malformed requests and trailers, with the field that is at fault (RFC 9113, 8.1 to 8.5).
-//! Rests on `context` and `fields`; the causes: h2_spec's `specs/CauseWords.antt`.
+//! The sentences of malformed requests and trailers, with the field that is at fault (RFC 9113, 8.1 to 8.5). The
+//! causes: h2_spec's `specs/CauseWords.antt`.
 
 use crate::error_context::ErrorContext;
 use crate::fields::{
@@ -30,7 +30,7 @@ fn say_octet(octet: u8, out: &mut Words) {
     }
 }
 
-/// Puts last what would have been right in place of an octet of a name, where one thing would.
+/// Puts last what would have been right instead of an octet of a name, where one thing would.
 fn say_repair(octet: u8, out: &mut Words) {
     if (b'A'..=b'Z').contains(&octet) {
         say_all!(out; "; names are in lower case");

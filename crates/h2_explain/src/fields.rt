@@ -1,6 +1,6 @@
-//! What is wrong with the fields of a block, looked up in the fields themselves (RFC 9113, 8.1 to 8.5): the first field at
-//! fault for a sentence, the facts that decide special cases, and all the faults of a block.
-//! Rests on h2_describe's `spelled`; the rules: h2_spec's `specs/Request.antt`.
+//! What is wrong with the fields of a block, looked up in the fields themselves (RFC 9113, 8.1 to 8.5): the first field
+//! at fault for a sentence, the facts that decide special cases, and all the faults of a block. The rules: h2_spec's
+//! `specs/Request.antt`.
 
 use h2_describe::spelled::SpelledField;
 use h2_spec::causes::Cause;
@@ -360,10 +360,11 @@ pub(crate) static OF_TRAILERS: [Cause; 7] = [
 /// A block, as far as its faults depend on more than its fields.
 #[derive(Clone, Copy)]
 pub(crate) struct Block<'s> {
+    /// Its fields in their order.
     pub(crate) fields: &'s [SpelledField],
     /// Whether its HEADERS had END_STREAM.
     pub(crate) ends: bool,
-    /// Whether less content has come than was declared.
+    /// Whether less content has arrived than was declared.
     pub(crate) is_short: bool,
 }
 

@@ -1,6 +1,6 @@
-//! The client's header table as text: which entries an item enters, and which it evicts (RFC 7541, 2.3.2 and 4).
-//! Rests on h2_describe's `spelled`: what is entered are the fields that were spelled with indexing. No definition speaks
-//! of it; where the table is not followed to its end, nothing more is told of it.
+//! The client's header table as text: which entries an item enters, and which it evicts (RFC 7541, 2.3.2 and 4). What
+//! is entered are the fields that were spelled with indexing. No definition speaks of it; where the table is not
+//! followed to its end, nothing more is reported of it.
 
 use crate::item::Explained;
 use h2_describe::spelled::{BlockReader, SpelledField, Spelling};
@@ -12,12 +12,14 @@ use std::collections::VecDeque;
 /// An entry of the table.
 #[derive(Drop)]
 pub struct Entry {
+    /// The octets of its name.
     pub name: Vec<u8>,
+    /// The octets of its value.
     pub value: Vec<u8>,
 }
 
 impl Entry {
-    /// The same entry once more.
+    /// A copy of the entry.
     fn copy(&self, alloc: Global) -> Result<Entry, AllocError> {
         Ok(Entry {
             name: Vec::from_slice(alloc, self.name.as_slice())?,
@@ -37,13 +39,16 @@ impl Entry {
 /// An entry that was entered, which is then at index 62, or evicted.
 #[derive(Drop)]
 pub struct EntryChange {
+    /// Whether it was entered; else it was evicted.
     pub is_entered: bool,
+    /// The entry.
     pub entry: Entry,
 }
 
 /// An entry that was evicted.
 #[derive(Drop)]
 pub(crate) struct Gone {
+    /// The entry.
     pub(crate) entry: Entry,
     /// The number of the item that evicted it.
     pub(crate) item: u64,
@@ -156,7 +161,7 @@ impl Followed {
         Ok(())
     }
 
-    /// Evicts the oldest entries until so many octets more have space.
+    /// Evicts the oldest entries until that many octets more have space.
     fn evict(
         &mut self,
         alloc: Global,

@@ -1,5 +1,4 @@
-//! An item that is taken, with what was before it and what is after it.
-//! Rests on h2_conn; definitions: `specs/Explained.antt`.
+//! An item that is taken, with what was before it and what is after it. Definitions: `specs/Explained.antt`.
 
 ghost use Rattle.std.specs.Prelude.{◌≡◌, [], IfOk, OnErr, drop, min, length, take};
 ghost use Rattle.std.specs.Option.{option_map};
@@ -18,6 +17,7 @@ use std::alloc::{AllocError, Global};
 /// What is looked at of a connection at one moment: nothing of it needs a step over all streams.
 #[derive(Clone, Copy)]
 pub struct Moment {
+    /// The counts of the connection: its phase, windows and settings.
     pub counts: ConnectionState,
     /// The open field block.
     pub block: Option<BlockView>,
@@ -60,7 +60,9 @@ pub struct Explained<'o> {
     pub taken: TakenItem,
     /// The octets that were sent for it.
     pub sent: &'o [u8],
+    /// The connection before it.
     pub before: Moment,
+    /// The connection after it.
     pub after: Moment,
 }
 
@@ -76,7 +78,7 @@ impl Explained<'_> {
         }
     }
 
-    /// The octets after the nine of a frame's head: none of a frame of which only the head has come (RFC 9113, 4.1).
+    /// The octets after the nine of a frame's head: none of a frame of which only the head has arrived (RFC 9113, 4.1).
     pub(crate) fn payload(&self) -> &[u8]
         ensures { result.now ≡ payload_in self.now.octets.now }
     {

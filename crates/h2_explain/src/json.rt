@@ -1,6 +1,6 @@
 //! An item as a JSON object: the same values as its text, numbers as numbers, octets as text where they are UTF-8 and
-//! always as hex. The members of each object stand in the order of their names.
-//! Rests on `json_words` and `account`; the members are described in docs/FORMATS.md.
+//! always as hex. The members of each object are in the order of their names. The members are described in
+//! docs/FORMATS.md.
 
 ghost use Rattle.std.specs.Prelude.{◌≡◌, false, IfOk};
 ghost use Rattle.std.specs.String.{string_bytes};

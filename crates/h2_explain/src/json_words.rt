@@ -1,5 +1,4 @@
-//! JSON that is put together member by member.
-//! Rests on h2_describe's `say`; what it writes is tested, no definition speaks of it.
+//! JSON that is put together member by member. What it writes is tested, no definition speaks of it.
 
 use h2_describe::say::{Say, Words};
 use h2_describe::say_all;
@@ -10,16 +9,16 @@ use std::alloc::{AllocError, Global};
 #[derive(Drop)]
 pub(crate) struct JsonWords {
     words: Words,
-    /// Whether a member or an element stands before the next one.
+    /// Whether a member or an element is before the next one.
     is_behind: bool,
 }
 
-/// Whether a character stands for itself in a string (RFC 8259, 7).
+/// Whether a character is written as it is in a string (RFC 8259, 7).
 fn is_plain(character: char) -> bool {
     character >= ' ' && character != '"' && character != '\\'
 }
 
-/// Whether all characters stand for themselves: those of other than ASCII do, and their octets are above it.
+/// Whether all characters are written as they are: those of other than ASCII are, and their octets are above it.
 fn is_all_plain(text: &str) -> bool {
     text.as_bytes().iter().all(|octet| *octet >= b' ' && *octet != b'"' && *octet != b'\\')
 }
@@ -32,7 +31,7 @@ static ESCAPES: [&str; 32] = [
     "\\u001b", "\\u001c", "\\u001d", "\\u001e", "\\u001f",
 ];
 
-/// The escape of a character that does not stand for itself.
+/// The escape of a character that is not written as it is.
 fn escape_of(character: char) -> &'static str {
     match character {
         '"' => "\\\"",

@@ -1,6 +1,6 @@
-//! The text of an item: a line with its number, its offset and the item in words, and below it the lines of its fields, of
-//! its error or of why it is ignored, of the frames that were sent, and of what changed.
-//! Rests on h2_device's `Text` and on `text`; definitions: `specs/Lines.antt`, the format: docs/FORMATS.md.
+//! The text of an item: a line with its number, its offset and the item in words, and below it the lines of its fields,
+//! of its error or of why it is ignored, of the frames that were sent, and of what changed. Definitions:
+//! `specs/Lines.antt`, the format: docs/FORMATS.md.
 
 ghost use Rattle.std.specs.Prelude.{◌≡◌, IfOk};
 ghost use Rattle.std.specs.String.{string_bytes};
@@ -341,7 +341,7 @@ fn lines_with(
     )
 }
 
-/// Whether nothing is said of an item: the preface, as it has to be.
+/// Whether nothing is said about an item: the preface, as it has to be.
 fn is_silent(item: ItemHead) -> bool
     ensures { result ≡ is_silent item }
 {

@@ -1,7 +1,6 @@
 //! What an item changes on streams beside what `changes` lists: the numbers that a stream begins with, the windows of
-//! other streams that settings move, bodies that are sent to their end, and the open field block. With these every state can be made again
-//! from the changes alone.
-//! Rests on `changes` and `notes`; no definition speaks of it.
+//! other streams that settings move, bodies that are sent to their end, and the open field block. With these every
+//! state can be made again from the changes alone. No definition speaks of it.
 
 use crate::count::Count;
 use crate::item::Explained;
@@ -180,7 +179,7 @@ fn extent_of(block: Option<BlockView>) -> Option<(u32, u64)> {
     }
 }
 
-/// Appends how far the open block has come, or that it is not open any more: only a frame of the block changes it.
+/// Appends how far the open block has got, or that it is not open any more: only a frame of the block changes it.
 fn put_block(item: &Explained<'_>, out: &mut Vec<Moved>) -> Result<(), AllocError> {
     if extent_of(item.before.block) == extent_of(item.after.block) {
         return Ok(());

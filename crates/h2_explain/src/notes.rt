@@ -1,6 +1,5 @@
-//! What is noted of the streams and of the open field block while a connection is explained: at which items they
-//! began and ended.
-//! Rests on h2_spec; definitions: `specs/Notes.antt`.
+//! What is noted of the streams and of the open field block while a connection is explained: at which items they began
+//! and ended. Definitions: `specs/Notes.antt`.
 
 ghost use Rattle.std.specs.Prelude.{◌≡◌, false, true, OnErr, OnOk};
 ghost use Rattle.std.specs.BTreeMap.{IsEmpty, IsUnchanged};

@@ -1,5 +1,4 @@
-//! The lines of a text, and their colours by what they say.
-//! Rests on `say`; definitions: `specs/Lines.antt`.
+//! The lines of a text, and their colours by what they say. Definitions: `specs/Lines.antt`.
 
 ghost use Rattle.std.specs.Prelude.{◌≡◌};
 ghost use Rattle.h2_explain.specs.Lines.{colour, ended, started};

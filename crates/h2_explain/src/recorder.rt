@@ -1,5 +1,4 @@
 //! What takes note of each item that is explained, beside the text.
-//! Rests on `item`.
 
 use crate::item::Explained;
 

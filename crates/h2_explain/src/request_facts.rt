@@ -1,6 +1,5 @@
-//! What is wrong with a request that this server answers all the same, looked up in its fields (RFC 9113, 8.3.1; RFC 9110,
-//! 5.3 and 9.1).
-//! Rests on h2_describe's `spelled`; no definition speaks of which fields they are found in.
+//! What is wrong with a request that this server answers all the same, looked up in its fields (RFC 9113, 8.3.1; RFC
+//! 9110, 5.3 and 9.1). No definition speaks of which fields they are found in.
 
 ghost use Rattle.std.specs.Prelude.{◌≡◌};
 ghost use Rattle.h2_explain.specs.Warnings.{no_request_facts};
@@ -56,7 +55,7 @@ fn is_token(octets: &[u8]) -> bool {
     !octets.is_empty()
 }
 
-/// Whether an octet may be in a scheme, behind its first (RFC 3986, 3.1).
+/// Whether an octet may be in a scheme, after its first (RFC 3986, 3.1).
 fn is_of_scheme(octet: u8) -> bool {
     octet.is_ascii_alphanumeric() || b"+-.".contains(&octet)
 }

@@ -1,6 +1,5 @@
 //! The octets after the last item: those that make no whole item yet, and those that are not read after the end.
-//! Rests on `say` and `json`; definitions: `specs/Rest.antt` and `specs/Explains.antt`; the format is in
-//! docs/FORMATS.md.
+//! Definitions: `specs/Rest.antt` and `specs/Explains.antt`; the format is in docs/FORMATS.md.
 
 ghost use Rattle.std.specs.Prelude.{◌≡◌, false, IfOk};
 ghost use Rattle.std.specs.String.{string_bytes};
@@ -33,6 +32,7 @@ pub enum Awaited {
 /// What octets lack to be the next item.
 #[derive(Clone, Copy)]
 pub struct Missing {
+    /// What is awaited.
     pub what: Awaited,
     /// How many octets it needs more.
     pub needs: usize,
@@ -102,7 +102,7 @@ fn missing_of_front(octets: &[u8]) -> Missing
     }
 }
 
-/// What is after the last item of a connection that had so many items; `offset` is how many octets came before these.
+/// What is after the last item of a connection that had that many items; `offset` is how many octets came before these.
 pub(crate) fn rest_of(conn: &Conn<'_, Global>, items: u64, offset: usize, octets: &[u8]) -> Rest
     ensures { result ≡ rest_of conn.now.state items offset octets.now }
 {
@@ -135,7 +135,7 @@ pub(crate) fn say_place(offset: usize, paint: Paint, out: &mut Words) {
     say_blanks(used, out);
 }
 
-/// Whether something is said after so many items: of octets that are left, or that none came at all.
+/// Whether something is said after that many items: of octets that are left, or that none came at all.
 fn is_said(items: u64, octets: usize) -> bool
     ensures { result ≡ is_said items octets }
 {

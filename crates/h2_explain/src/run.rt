@@ -1,5 +1,5 @@
-//! A connection over octets, explained item by item. The text of each item is written as it is made.
-//! Rests on `explanation`; definitions: `specs/Explains.antt`.
+//! A connection over octets, explained item by item. The text of each item is written as it is made. Definitions:
+//! `specs/Explains.antt`.
 
 ghost use Rattle.std.specs.Prelude.{◌≡◌, ◌<◌, ◌^◌, [], false, length, is_err, IfOk, OnOk};
 ghost use Rattle.h2_spec.specs.Trace.{trace};
@@ -43,7 +43,7 @@ pub struct Summary {
     pub items: u64,
     /// The code of the connection error that ended it, if one did (RFC 9113, 5.4.1).
     pub ended: Option<u32>,
-    /// What is said of the client.
+    /// What is said about the client.
     pub verdict: Verdict,
 }
 

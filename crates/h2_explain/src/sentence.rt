@@ -1,5 +1,4 @@
-//! The sentence of each error with the values at hand, by its cause.
-//! Rests on `context` and `field_sentence`; the causes: h2_spec's `specs/CauseWords.antt`.
+//! The sentence of each error with the values at hand, by its cause. The causes: h2_spec's `specs/CauseWords.antt`.
 
 use crate::error_context::ErrorContext;
 use crate::field_sentence::say_field;
@@ -102,7 +101,7 @@ fn other_of(octets: &[u8]) -> Other {
     }
 }
 
-/// What the octets are that should be the preface, where that can be told, or the first that is not the preface's.
+/// What the octets are that should be the preface, where that is known, or the first that is not the preface's.
 fn say_preface(context: ErrorContext<'_, '_>, out: &mut Words) {
     let ahead = context.item.ahead;
     match other_of(ahead) {
@@ -166,7 +165,7 @@ fn say_length(cause: Cause, context: ErrorContext<'_, '_>, out: &mut Words) -> b
     true
 }
 
-/// Padding that is longer than what is left for it (RFC 9113, 6.1 and 6.2).
+/// Padding that is longer than the octets left for it (RFC 9113, 6.1 and 6.2).
 fn say_padding(cause: Cause, context: ErrorContext<'_, '_>, out: &mut Words) -> bool {
     let length = context.length();
     match cause {
@@ -463,7 +462,7 @@ fn say_update(cause: Cause, context: ErrorContext<'_, '_>, out: &mut Words) -> b
     true
 }
 
-/// How many octets of content a request has once DATA has come: those before it, and those of its payload without
+/// How many octets of content a request has once DATA has arrived: those before it, and those of its payload without
 /// padding.
 fn received(context: ErrorContext<'_, '_>) -> u64 {
     let before = context.item.before.stream.numbers.content_received;

@@ -1,5 +1,5 @@
-//! Which special case an error or an ignored frame is, and what of its rule is printed.
-//! Rests on h2_spec's `causes`, `ignored` and `special_cases`; definitions: `specs/Special.antt`.
+//! Which special case an error or an ignored frame is, and what of its rule is printed. Definitions:
+//! `specs/Special.antt`.
 
 ghost use Rattle.std.specs.Prelude.{◌≡◌, ◌%◌, ◌==◌};
 ghost use Rattle.h2_explain.specs.Explained.{head_in};
@@ -17,7 +17,7 @@ use h2_spec::streams::Kind;
 /// What decides, beside the item itself, whether a rule is a special case.
 #[derive(Clone, Copy)]
 pub struct CaseFacts {
-    /// Whether a CONTINUATION has come in the open field block.
+    /// Whether a CONTINUATION has arrived in the open field block.
     pub continued: bool,
     /// Whether the first name that is refused is empty.
     pub empty_name: bool,

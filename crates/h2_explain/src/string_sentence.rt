@@ -1,5 +1,5 @@
-//! The sentences of Huffman strings that are refused: which string, and what is wrong with it (RFC 7541, 5.2).
-//! Rests on the strings and integers of h2_prim: the refused literal is what the second decoder has left.
+//! The sentences of Huffman strings that are refused: which string, and what is wrong with it (RFC 7541, 5.2). The
+//! refused literal is what the second decoder has left.
 
 ghost use Rattle.std.specs.Prelude.{◌≤◌};
 
@@ -17,9 +17,9 @@ use std::alloc::{AllocError, Global};
 enum Flaw {
     /// The code of EOS is in them; it ends in the octet of this place, from 1.
     Eos(usize),
-    /// They end with ones, 8 or more behind the last code.
+    /// They end with ones, 8 or more after the last code.
     Long,
-    /// Behind the last code there is a 0.
+    /// After the last code there is a 0.
     NotOnes,
 }
 
@@ -68,8 +68,8 @@ fn end_of_eos(alloc: Global, octets: &[u8]) -> usize {
     with
 }
 
-/// Whether octets whose padding is refused end with ones behind the last code. Three octets of ones more make the code of
-/// EOS, which has 30, whole only then: a code that a 0 has begun takes some of them, and less than 30 are left.
+/// Whether octets whose padding is refused end with ones after the last code. Three octets of ones more make the code
+/// of EOS, which has 30, whole only then: a code that a 0 has begun takes some of them, and less than 30 are left.
 fn ends_with_ones(alloc: Global, octets: &[u8]) -> Result<bool, AllocError> {
     let mut longer = Vec::from_slice(alloc, octets)?;
     longer.extend_from_slice(&[255, 255, 255])?;

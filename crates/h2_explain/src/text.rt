@@ -1,5 +1,5 @@
-//! The words of an item: the item itself, and the lines of its fields, of the frames that were sent, and of what changed.
-//! Rests on `account` and `frame_words`; no definition speaks of them, the format is in docs/FORMATS.md.
+//! The words of an item: the item itself, and the lines of its fields, of the frames that were sent, and of what
+//! changed. No definition speaks of them, the format is in docs/FORMATS.md.
 
 use crate::account::has_ended;
 use crate::changes::Change;

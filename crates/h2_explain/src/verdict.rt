@@ -1,6 +1,5 @@
 //! What a run says of a client: the errors and the warnings of its items are counted, and the exit status of `--strict`
-//! comes of them.
-//! Rests on `warning`; definitions: `specs/Verdicts.antt`.
+//! comes of them. Definitions: `specs/Verdicts.antt`.
 
 ghost use Rattle.std.specs.Prelude.{◌≡◌, ◌==◌, false, OnOk};
 ghost use Rattle.h2_explain.specs.Verdicts.{is_limit, no_tally, strict_status, tally_with, verdict_at, breaks_rule};
@@ -89,7 +88,7 @@ impl Tally {
     }
 }
 
-/// What is said of a client at the end of its octets.
+/// What is said about a client at the end of its octets.
 #[derive(Clone, Copy)]
 pub struct Verdict {
     /// Whether it broke a rule: with an error or an ignored frame whose rule it broke, or with a warning.
@@ -123,7 +122,7 @@ impl Verdict {
     }
 }
 
-/// What is said of a client whose items were counted, where so many octets are left after the last.
+/// What is said about a client whose items were counted, where that many octets are left after the last.
 pub(crate) fn verdict_at(tally: &Tally, conn: &Conn<'_, Global>, left: usize) -> Verdict
     ensures { result ≡ verdict_at tally.now conn.now.state left }
 {

@@ -1,6 +1,5 @@
-//! What `--strict` says at the end, as a line of text and as JSON: how many items there were, the errors by cause, and how
-//! many warnings.
-//! Rests on `verdict` and `json_words`; the form: docs/EXPLAIN.md.
+//! What `--strict` says at the end, as a line of text and as JSON: how many items there were, the errors by cause, and
+//! how many warnings. The form: docs/EXPLAIN.md.
 
 use crate::json_words::JsonWords;
 use crate::verdict::{Tally, Verdict};
@@ -90,7 +89,7 @@ fn put_errors(errors: &[Cause], out: &mut JsonWords) {
     out.close_list();
 }
 
-/// Puts what is said of the client.
+/// Puts what is said about the client.
 pub(crate) fn put_verdict(tally: &Tally, verdict: Verdict, warnings: u64, out: &mut JsonWords) {
     out.open("verdict");
     out.flag("broken", verdict.broken);

@@ -1,5 +1,5 @@
-//! Why a connection waits at the end of its input: what each live stream waits for, and whose turn it is.
-//! Rests on h2_describe's `say` and on `json_words`; definitions: `specs/Waits.antt`, the words are in docs/EXPLAIN.md.
+//! Why a connection waits at the end of its input: what each live stream waits for, and whose turn it is. Definitions:
+//! `specs/Waits.antt`, the words are in docs/EXPLAIN.md.
 
 ghost use Rattle.std.specs.Prelude.{◌≡◌, ◌-◌};
 ghost use Rattle.std.specs.Option.{option_map};
@@ -38,6 +38,7 @@ pub struct AnswerWait {
 /// What a live stream waits for.
 #[derive(Clone, Copy)]
 pub struct Wait {
+    /// The stream's identifier.
     pub stream: u32,
     /// What the client may still send, unless it has ended its side.
     pub request: Option<RequestWait>,

@@ -1,6 +1,5 @@
-//! Warnings: what a client may not do and this server lets pass, and which of them an item gets. They change no frame and
-//! no state.
-//! Rests on `item`, `special`, `request_facts` and h2_spec's `rules`; definitions: `specs/Warnings.antt`.
+//! Warnings: what a client may not do and this server lets pass, and which of them an item gets. They change no frame
+//! and no state. Definitions: `specs/Warnings.antt`.
 
 ghost use Rattle.std.specs.Prelude.{◌≡◌, ◌≤◌, map, slice_get, Some};
 ghost use Rattle.h2_spec.specs.Rules.{text_of};

@@ -1,5 +1,4 @@
-//! Warnings as lines of text and as JSON.
-//! Rests on `warning`, `paint` and `json_words`; the form: docs/EXPLAIN.md.
+//! Warnings as lines of text and as JSON. The form: docs/EXPLAIN.md.
 
 use crate::json_words::JsonWords;
 use crate::paint::{Paint, Role};

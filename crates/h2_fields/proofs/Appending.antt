@@ -1,4 +1,4 @@
--- What is where things are appended one behind another, and what is kept of the octets before them.
+-- What is where things are appended one after another, and what is kept of the octets before them.
 use Rattle.std.proofs.Common.{◌≡◌, List, [], ℕ, ◌++◌, take, drop, Vec, Result, Ok, Err, if◌then◌else◌, ap, ◌∙◌, sym, append_assoc}
 use Rattle.std.specs.Result.{OnOk, OnErr, is_ok}
 use Rattle.std.specs.Vec.{vec_len}
@@ -10,7 +10,7 @@ use Rattle.std.proofs.lemmas.Result.{on_ok_weaker}
 before-more : {Z : Type 0} (old : Vec ℕ Z) (a new : List ℕ) → new ≡ old.items ++ a → take (vec_len old) new ≡ old.items
 before-more old a new e = ap (take (vec_len old)) e ∙ ap (λ n. take n (old.items ++ a)) old.ok.0 ∙ take-append_seam old.items a
 
--- and where what is behind keeps these two
+-- and where what is after keeps these two
 pub before-two : {Z : Type 0} (old mid : Vec ℕ Z) (a new : List ℕ) → mid.items ≡ old.items ++ a → take (vec_len mid) new ≡ mid.items → take (vec_len old) new ≡ old.items
 before-two old mid a new e kept =
     let rest = drop (vec_len mid) new in
@@ -21,7 +21,7 @@ pub before-call : {X E Z : Type 0} (r : Result X E) (old : Vec ℕ Z) (a new : L
 before-call (Ok x) old a new ok err = before-more old a new ok
 before-call (Err x) old a new ok err = before-more old [] new (err ∙ sym (append-nil old.items))
 
--- a call appends behind what was appended
+-- a call appends after what was appended
 pub both : {X E : Type 0} (r : Result X E) (old a b mid new : List ℕ) → mid ≡ old ++ a → OnOk r (new ≡ mid ++ b) → OnOk r (new ≡ old ++ (a ++ b))
 both r old a b mid new e = on_ok_weaker r (λ ok. ok ∙ ap (λ (x : List ℕ). x ++ b) e ∙ append_assoc old a b)
 

@@ -61,7 +61,7 @@ refusal-is r fault f e k = ap refusal e ∙ ap Some k
 pub size-added : (fields : List Field) (f : Field) (old add : ℕ) → old ≡ list_size fields → add ≡ min (size f) (2 ^ 64 - 1) → min (old + add) (2 ^ 64 - 1) ≡ list_size (fields ++ f ∷ [])
 size-added fields f old add e k = let sum = total_size-append fields (f ∷ []) in omega (arith, e, k, sum)
 
--- the same of fields behind others
+-- the same of fields after others
 pub size-behind : (before fields now : List Field) (f : Field) (old add : ℕ) → old ≡ list_size (before ++ fields) → add ≡ min (size f) (2 ^ 64 - 1) → now ≡ fields ++ f ∷ [] → min (old + add) (2 ^ 64 - 1) ≡ list_size (before ++ now)
 size-behind before fields now f old add e k n = size-added (before ++ fields) f old add e k ∙ ap list_size (append_assoc before fields (f ∷ []) ∙ ap (λ fs. before ++ fs) (sym n))
 
@@ -72,14 +72,14 @@ marks-added marks fields now f mark e k n = rw (e, k, n) (sym (map-append mark_o
 
 -- ---- a literal
 
--- the octets behind the fields once a value was put there, and once a name and a value were
+-- the octets after the fields once a value was put there, and once a name and a value were
 pub put-next : (l0 l1 l2 : Listed) (n : List ℕ) → l1 ≡ record l0 { next = [] } → l2 ≡ record l1 { next = l1.next ++ n } → l2.next ≡ n
 put-next l0 l1 l2 n h1 h2 = ap (λ (l : Listed). l.next) h2 ∙ ap (λ (l : Listed). l.next ++ n) h1
 
 pub both-next : (l0 l1 l2 l3 : Listed) (n v : List ℕ) → l1 ≡ record l0 { next = [] } → l2 ≡ record l1 { next = l1.next ++ n } → l3 ≡ record l2 { next = l2.next ++ v } → l3.next ≡ n ++ v
 both-next l0 l1 l2 l3 n v h1 h2 h3 = ap (λ (l : Listed). l.next) h3 ∙ ap (λ (m : List ℕ). m ++ v) (put-next l0 l1 l2 n h1 h2)
 
--- the fields once a name and a value were put behind them and closed
+-- the fields once a name and a value were put after them and closed
 pub spelled : (l0 l1 l2 l3 l4 : Listed) (n v : List ℕ) (split : ℕ) → l1 ≡ record l0 { next = [] } → l2 ≡ record l1 { next = l1.next ++ n } → l3 ≡ record l2 { next = l2.next ++ v } → split ≡ length l2.next →
     l4 ≡ record { fields = l3.fields ++ field (take split l3.next) (drop split l3.next) ∷ []; next = [] } → l4.fields ≡ l0.fields ++ field n v ∷ []
 spelled l0 l1 l2 l3 l4 n v split h1 h2 h3 hs h4 =
@@ -93,7 +93,7 @@ spelled l0 l1 l2 l3 l4 n v split h1 h2 h3 hs h4 =
 pub parts : (octets n v : List ℕ) (split : ℕ) → octets ≡ n ++ v → split ≡ length n → field (take split octets) (drop split octets) ≡ field n v
 parts octets n v split e k = rw (e, k, take-append_seam n v, drop-append_seam n v) refl
 
--- and once a value was put behind them and closed with a name
+-- and once a value was put after them and closed with a name
 pub named : (l0 l1 l2 l3 : Listed) (n v : List ℕ) → l1 ≡ record l0 { next = [] } → l2 ≡ record l1 { next = l1.next ++ v } → l3 ≡ record { fields = l2.fields ++ field n l2.next ∷ []; next = [] } → l3.fields ≡ l0.fields ++ field n v ∷ []
 named l0 l1 l2 l3 n v h1 h2 h3 =
     let value : l2.next ≡ v = put-next l0 l1 l2 v h1 h2 in

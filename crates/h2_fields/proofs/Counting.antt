@@ -15,7 +15,7 @@ pub counts-rest : (before passed at left all old now new : ℕ) → IsCounted be
 counts-rest before passed at left all old now new c h a e =
     (λ below. let least = c.0 (omega (arith, e, below)) in omega (arith, e, below, least, h, a), omega (arith, c.1, e, h, a))
 
--- a fragment of `piece` octets behind `before` that were left
+-- a fragment of `piece` octets after `before` that were left
 pub ticked : (passed before piece used after ticks : ℕ) → IsCounted passed (before + piece) used 0 ticks → passed ≤ before → before ≤ passed + 5 → used + after ≡ before + piece → IsTicked before piece after ticks
 ticked passed before piece used after ticks c h k e =
     (λ below. let least = c.0 below in omega (arith, least, h), omega (arith, c.1, k, e), omega (arith, e))

@@ -1,4 +1,4 @@
--- How far the loop over the instructions has come.
+-- How far the loop over the instructions has got.
 use Rattle.std.proofs.Common.{◌≡◌, ◌≢◌, ℕ, List, [], ◌++◌, length, take, drop, Some, ap, ◌∙◌, sym}
 use Rattle.std.proofs.lemmas.List.{append-nil, append_assoc}
 use Rattle.std.proofs.Math.Seq.{take-append_seam}

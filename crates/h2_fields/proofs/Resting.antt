@@ -1,4 +1,4 @@
--- A point of octets is a point with more octets behind them; what is read from it is the instruction at their front.
+-- A point of octets is a point with more octets after them; what is read from it is the instruction at their front.
 use Rattle.std.proofs.Common.{◌≡◌, ℕ, ◌+◌, ◌≤◌, List, [], ◌++◌, length, take, drop, Result, Ok, Err, refl, ap, sym, ◌∙◌, subst, arith, append_assoc, length-append, length-drop}
 use Rattle.std.proofs.lemmas.List.{drop-append-le, take-append-le}
 use Rattle.h2_spec.specs.Instruction as spec
@@ -15,7 +15,7 @@ use Rattle.h2_fields.specs.declared.shape.ShapeFault.{ShapeFault}
 use Rattle.h2_fields.specs.declared.shape.ShapeFault.TheVariants as cut
 use Rattle.h2_fields.proofs.Resuming.{goes-on, past-zero, same-start}
 
--- ---- more octets behind
+-- ---- more octets after
 
 name-stays : (b c : List ℕ) (at : ℕ) (name : KnownName) → IsNameBefore at name → at ≤ length b → name_at (b ++ c) name ≡ name_at b name
 name-stays b c at (name.Ref i) h k = refl

@@ -1,4 +1,4 @@
--- Reading an instruction on from what is known of it: one integer or one string further, whatever comes behind.
+-- Reading an instruction on from what is known of it: one integer or one string further, whatever comes after.
 use Rattle.std.proofs.Common.{◌≡◌, ℕ, zero, suc, ◌+◌, ◌<◌, ◌≤◌, Bool, List, [], ◌∷◌, ◌++◌, length, take, drop, Result, Ok, Err, refl, ap, sym, ◌∙◌, subst, arith, le-leb, length-append, length-drop}
 use Rattle.std.proofs.lemmas.List.{append-nil, drop-append-le, drop-drop, take-append-le}
 use Rattle.h2_spec.specs.Integer.{int_at, IsReadOf, IsUnfinished}
@@ -19,7 +19,7 @@ use Rattle.h2_fields.specs.declared.shape.Shape.{Shape}
 use Rattle.h2_fields.specs.declared.shape.ShapeFault.{ShapeFault}
 use Rattle.h2_fields.specs.declared.shape.ShapeFault.TheVariants as cut
 
--- ---- one thing behind another
+-- ---- one thing after another
 
 pub past-zero : {A : Type 0} (r : Read A) → read_past 0 r ≡ r
 past-zero (Whole a k) = let e : 0 + k ≡ k = omega arith in ap (Whole a) e
@@ -82,7 +82,7 @@ string-more xs e = flagged xs ∙ ap (λ r. read_then xs r (octets_at (huffman_f
 string-too_long : (xs : List ℕ) → TooLong ≡ int_at 7 xs → string_at xs ≡ TooLong
 string-too_long xs e = flagged xs ∙ ap (λ r. read_then xs r (octets_at (huffman_flag xs))) (sym e)
 
--- ---- one step further, whatever comes behind
+-- ---- one step further, whatever comes after
 
 pub same-start : (b : List ℕ) (k : Begun) (at : ℕ) → SameOn b k at k at
 same-start b k at c = refl
@@ -90,7 +90,7 @@ same-start b k at c = refl
 same-here : (b : List ℕ) (k l : Begun) (at to : ℕ) → SameOn b k at l to → resumed l to b ≡ resumed k at b
 same-here b k l at to s = subst (λ xs. resumed l to xs ≡ resumed k at xs) (append-nil b) (s [])
 
--- a step behind so many octets is a step of all
+-- a step after that many octets is a step of all
 behind : (b : List ℕ) (at : ℕ) (k l : Begun) (used : ℕ) → at ≤ length b → ((c : List ℕ) → read_on k (drop at b ++ c) ≡ resumed l used (drop at b ++ c)) → SameOn b k at l (at + used)
 behind b at k l used h f c =
     let cut : drop at (b ++ c) ≡ drop at b ++ c = drop-append-le at b c h in

@@ -1,4 +1,4 @@
--- Fields in batches, one behind another.
+-- Fields in batches, one after another.
 use Rattle.std.specs.Prelude.{◌≡◌, ℕ, suc, ◌+◌, List, [], ◌∷◌, ◌++◌, length, nat_lt, if◌then◌else◌}
 use Rattle.h2_spec.specs.Field.{Field}
 

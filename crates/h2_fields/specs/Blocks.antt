@@ -28,7 +28,7 @@ unfinished (Some (Unfinished rest)) = rest
 unfinished (Some (Faulty f)) = []
 unfinished None = []
 
--- a decoder of which nothing has come, and whether the block has to begin with a size update
+-- a decoder of which nothing has arrived, and whether the block has to begin with a size update
 abbrev pub fresh : Bool → BlockSoFar
 fresh due = record { fields = []; due = due; outcome = Some (Unfinished []); ticks = 0 }
 
@@ -44,11 +44,11 @@ abbrev pub ArePushed : BlockSoFar → List (List ℕ) → BlockSoFar → Type 0
 ArePushed old [] new = old ≡ new
 ArePushed old (piece ∷ pieces) new = (mid : BlockSoFar) × TicksRise old piece mid × ArePushed mid pieces new
 
--- how far a block has come
+-- how far a block has got
 abbrev pub progress_so_far : Table → BlockSoFar → Progress
 progress_so_far table s = record { fields = s.fields; table = table; due = s.due }
 
--- the fault of a block that has one, and how far the block has come before it
+-- the fault of a block that has one, and how far the block has got before it
 abbrev pub faulted : Outcome → Option BlockFault
 faulted (Unfinished rest) = None
 faulted (Faulty f) = Some (fault_of f)
@@ -68,7 +68,7 @@ outcome_of rest (Some fault.LargeUpdate) = Some (Faulty LargeUpdate)
 outcome_of rest (Some fault.MissingUpdate) = Some (Faulty MissingUpdate)
 outcome_of rest (Some fault.Truncated) = Some (Unfinished rest)
 
--- what is left begins an instruction and does not end it; the end of a block is no fault of its octets
+-- the rest begins an instruction and does not end it; the end of a block is no fault of its octets
 abbrev pub CanRemain : List ℕ → Option BlockFault → Type 0
 CanRemain rest None = instr_at rest ≡ More
 CanRemain rest (Some f) = f ≢ fault.Truncated

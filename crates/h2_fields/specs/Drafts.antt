@@ -9,7 +9,7 @@ use Rattle.h2_spec.specs.Field.{Field}
 use Rattle.h2_spec.specs.Instruction.{Shape}
 use Rattle.h2_table.specs.Edits.{Drafted}
 
--- how far a block has come over a draft
+-- how far a block has got over a draft
 abbrev pub progress_in : FieldsSoFar → Drafted → Progress
 progress_in s d = progress_with d.table s
 
@@ -18,7 +18,7 @@ abbrev pub IsApplied : ℕ → Progress → Shape → Progress → Result (Unit 
 IsApplied limit before shape now (Ok u) = applied limit before shape ≡ Ok now
 IsApplied limit before shape now (Err f) = f ≢ fault.NoMemory → (now ≡ before) × (refusal (applied limit before shape) ≡ Some f)
 
--- the fields are still there, and others may be behind them
+-- the fields are still there, and others may be after them
 abbrev pub Grows : FieldsSoFar → FieldsSoFar → Type 0
 Grows old new = (more : List Field) × (new.fields ≡ old.fields ++ more)
 
@@ -31,7 +31,7 @@ abbrev pub first_refusal : Result (List ℕ) Fault → Result (List ℕ) Fault �
 first_refusal (Ok name) value = refusal value
 first_refusal (Err fault) value = Some (fault_of fault)
 
--- the field of this name and value was added, or is refused; where memory was refused nothing is said of why
+-- the field of this name and value was added, or is refused; where memory was refused nothing is said about why
 abbrev pub IsReadAs : Result (List ℕ) Fault → Result (List ℕ) Fault → FieldsSoFar → FieldsSoFar → Result (Unit {0}) BlockFault → Type 0
 IsReadAs name value old new (Ok u) = (f : Field) × (name ≡ Ok f.name) × (value ≡ Ok f.value) × (new ≡ record old { fields = old.fields ++ f ∷ [] })
 IsReadAs name value old new (Err f) = (new ≡ old) × (f ≢ fault.NoMemory → first_refusal name value ≡ Some f)

@@ -1,4 +1,4 @@
--- What is left of a field block before a fragment and after it, and how its decoding is counted.
+-- The rest of a field block before a fragment and after it, and how its decoding is counted.
 use Rattle.std.specs.Prelude.{ℕ, ◌+◌, ◌*◌, ◌-◌, ◌^◌, ◌≤◌, ◌<◌, List}
 
 -- the octets that begin an instruction and do not end it, before a fragment and after it, and the ticks of the fragment
@@ -11,7 +11,7 @@ pub record RestChange : Type 0 where
 abbrev pub most_ticks : ℕ
 most_ticks = 2 ^ 64 - 1
 
--- `all` octets are decoded up to `used`, and `passed` of them were passed before: each octet behind those is passed
+-- `all` octets are decoded up to `used`, and `passed` of them were passed before: each octet after those is passed
 -- once, and what is done besides counts no more than the whole instructions have octets
 abbrev pub IsCounted : ℕ → ℕ → ℕ → ℕ → ℕ → Type 0
 IsCounted passed all used old new = (new < most_ticks → old + all ≤ passed + new) × (passed + new ≤ old + all + used)

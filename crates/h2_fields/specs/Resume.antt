@@ -29,7 +29,7 @@ pub data Begun : Type 0 where
   -- the same with the length of the value; its octets come next
   ValueOctets : spec.Mode → spec.NameRef Str → Bool → ℕ → Begun
 
--- the instruction, from the octets behind those that are known
+-- the instruction, from the octets after those that are known
 abbrev pub read_on : Begun → List ℕ → Read spec.Shape
 read_on Nothing xs = instr_at xs
 read_on (NameLength mode) xs = read_then xs (read_map spec.Named (string_at xs)) (value_at mode)
@@ -37,11 +37,11 @@ read_on (NameOctets mode huffman n) xs = read_then xs (read_map spec.Named (octe
 read_on (ValueLength mode name) xs = value_at mode name xs
 read_on (ValueOctets mode name huffman n) xs = read_map (spec.Literal mode name) (octets_at huffman n xs)
 
--- the instruction, from all its octets, where so many of them are known
+-- the instruction, from all its octets, where that many of them are known
 abbrev pub resumed : Begun → ℕ → List ℕ → Read spec.Shape
 resumed k at xs = read_past at (read_on k (drop at xs))
 
--- whatever comes behind b, both read the same instruction
+-- whatever comes after b, both read the same instruction
 abbrev pub SameOn : List ℕ → Begun → ℕ → Begun → ℕ → Type 0
 SameOn b k at k' at' = (c : List ℕ) → resumed k' at' (b ++ c) ≡ resumed k at (b ++ c)
 
@@ -69,7 +69,7 @@ begun_of b (known.NameOctets mode huffman n) = NameOctets (mode_of mode) huffman
 begun_of b (known.ValueLength mode name) = ValueLength (mode_of mode) (name_at b name)
 begun_of b (known.ValueOctets mode name huffman n) = ValueOctets (mode_of mode) (name_at b name) huffman n
 
--- the name is behind the first octet, and before a place
+-- the name is after the first octet, and before a place
 abbrev pub IsNameBefore : ℕ → KnownName → Type 0
 IsNameBefore at (name.Ref i) = 1 ≤ at
 IsNameBefore at (name.Named huffman start count) = (1 ≤ start) × (start + count ≤ at)
@@ -83,7 +83,7 @@ IsKnownBefore at passed (known.NameOctets mode huffman n) = (1 ≤ at) × (at �
 IsKnownBefore at passed (known.ValueLength mode name) = IsNameBefore at name × (passed ≡ at)
 IsKnownBefore at passed (known.ValueOctets mode name huffman n) = IsNameBefore at name × (at ≤ passed) × (passed ≤ at + n)
 
--- from this point, reading goes on with the instruction at the front of the octets, whatever comes behind them
+-- from this point, reading goes on with the instruction at the front of the octets, whatever comes after them
 pub record IsPoint (b : List ℕ) (p : Point) : Type 0 where
   pub within : p.at ≤ length b
   pub known : IsKnownBefore p.at p.passed p.known
@@ -97,7 +97,7 @@ pub record IsRest (b : List ℕ) (p : Point) : Type 0 where
 
 -- ---- what is read
 
--- where an integer ends that begins at a place of so many octets; one that is not whole has five octets at most
+-- where an integer ends that begins at a place of that many octets; one that is not whole has five octets at most
 abbrev pub IsIntegerAt : ℕ → ℕ → IntRead → Type 0
 IsIntegerAt at all (int.Whole value used) = (0 < used) × (at + used ≤ all)
 IsIntegerAt at all int.More = all ≤ at + 5

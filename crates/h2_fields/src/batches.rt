@@ -1,6 +1,5 @@
 //! Fields of a field block in batches, which do not change any more and are shared by the copies of the block.
-//! It uses `FieldList` of h2_list and the marks of h2_mark; contracts see the fields alone, one batch behind another.
-//! Definitions: `specs/Batches.antt`.
+//! Contracts see the fields alone, one batch after another. Definitions: `specs/Batches.antt`.
 
 ghost use Rattle.std.specs.Prelude.{◌≡◌, ◌-◌, ◌≤◌, [], ◌++◌, length, map, take, slice_get, option_map, IfErr, IfOk, IfSome, OnErr, OnOk};
 ghost use Rattle.h2_mark.specs.Mark.{mark_of};
@@ -20,7 +19,9 @@ const MAX_FIELDS: usize = 4_294_967_295;
 /// Fields, and what each can be malformed for by itself.
 #[derive(Drop)]
 pub(crate) struct Batch<A: Allocator> {
+    /// The fields.
     pub(crate) list: FieldList<A>,
+    /// The mark of each field, in the same order.
     pub(crate) marks: Vec<FieldMark, A>,
 }
 
@@ -120,7 +121,7 @@ impl<A: Allocator> Shared<A> {
     }
 }
 
-/// Batches of fields, one behind another.
+/// Batches of fields, one after another.
 #[derive(Drop)]
 pub(crate) struct Batches<A: Allocator> {
     batches: Vec<Shared<A>, A>,
@@ -205,7 +206,7 @@ fn batches_before<A: Allocator>(batches: &[Shared<A>], bound: usize) -> usize
 }
 
 impl<A: Allocator + Copy> Batches<A> {
-    /// Puts a batch behind the others.
+    /// Puts a batch after the others.
     ///
     /// # Errors
     ///
@@ -236,7 +237,7 @@ impl<A: Allocator + Copy> Batches<A> {
         }
     }
 
-    /// The same batches once more; their fields are not copied.
+    /// A copy of the batches; their fields are not copied.
     ///
     /// # Errors
     ///

@@ -1,8 +1,8 @@
-//! For users of the library; the program does not call it: a connection decodes by `decode_piece` of `fragment`.
-//! The decoder of a field block, which comes in fragments (RFC 7541, 3; RFC 9113, 4.3), with fields that own their
-//! memory. It uses `fragment`, and commits what a fragment changes of the table only once no memory is needed any more.
-//! The definitions are `decoded` and `carried_on` of `h2_spec`, specs/Block.antt; contracts see a decoder as
-//! `BlockSoFar` of specs/Blocks.antt.
+//! For users of the library; the program does not call it: a connection decodes by `decode_piece` of `fragment`. The
+//! decoder of a field block, which comes in fragments (RFC 7541, 3; RFC 9113, 4.3), with fields that own their memory.
+//! It commits what a fragment changes of the table only once no memory is needed any more. The definitions are
+//! `decoded` and `carried_on` of `h2_spec`, specs/Block.antt; contracts see a decoder as `BlockSoFar` of
+//! specs/Blocks.antt.
 
 ghost use Rattle.std.specs.Prelude.{◌≡◌, ◌≢◌, ◌≤◌, ◌<◌, ◌+◌, ◌*◌, [], ◌++◌, true, false, take, length, Some, None, option_map, IfOk, IfErr, IsErr, IsErrOf, OnOk};
 ghost use Rattle.h2_spec.specs.Block as block;
@@ -59,8 +59,8 @@ impl<A: Allocator> Drop for BlockDecoder<A> {
 }
 
 impl<A: Allocator + Copy> BlockDecoder<A> {
-    /// A decoder of a block of which nothing has come; `due` says whether the block has to begin with a size update of
-    /// the table (RFC 7541, 4.2), as `DynTable::due` has it. No memory is taken.
+    /// A decoder of a block of which nothing has arrived; `due` says whether the block has to begin with a size update
+    /// of the table (RFC 7541, 4.2), as `DynTable::due` has it. No memory is taken.
     pub fn start(alloc: A, due: bool) -> Self
         ensures { result ≡ record { fields = []; due = due; outcome = Some (Unfinished []); ticks = 0 } }
     {
@@ -80,11 +80,11 @@ impl<A: Allocator + Copy> BlockDecoder<A> {
     ///
     /// # Errors
     ///
-    /// `ZeroIndex`, `Index`, `Integer`, `Huffman`, `LateUpdate` and `LargeUpdate` as RFC 7541 has them, once the instruction is whole, an integer
-    /// already at its fifth octet behind the prefix; the fields and the table are those after the instructions before
-    /// it. `MissingUpdate` where an update is due and the first instruction is none; it is decided before `Index` and
-    /// `Huffman`. `NoMemory` where memory was refused; the fields and the table are as they were. After an error each
-    /// further call answers the same one and changes nothing.
+    /// `ZeroIndex`, `Index`, `Integer`, `Huffman`, `LateUpdate` and `LargeUpdate` as RFC 7541 has them, once the
+    /// instruction is whole, an integer already at its fifth octet after the prefix; the fields and the table are those
+    /// after the instructions before it. `MissingUpdate` where an update is due and the first instruction is none; it
+    /// is decided before `Index` and `Huffman`. `NoMemory` where memory was refused; the fields and the table are as
+    /// they were. After an error each further call answers the same one and changes nothing.
     pub fn push(&mut self, table: &mut DynTable<A>, piece: &[u8]) -> Result<(), BlockFault>
         ensures answer { result ≡ answer_of self.new.outcome }
         ensures carried { self.new.outcome ≢ None → decoded_with table.new.table self.new ≡ option_map (λ before. carried_on table.old.limit before piece.now) (decoded_with table.old.table self.old) }
@@ -159,7 +159,7 @@ impl<A: Allocator + Copy> BlockDecoder<A> {
         self.ticks
     }
 
-    /// The same decoder once more, in memory of its own.
+    /// A copy of the decoder, in memory of its own.
     ///
     /// # Errors
     ///
@@ -179,7 +179,7 @@ impl<A: Allocator + Copy> BlockDecoder<A> {
     }
 }
 
-/// Decodes what was left and a piece behind it, copies the new fields, commits the changes of the table, and counts the
+/// Decodes what was left and a piece after it, copies the new fields, commits the changes of the table, and counts the
 /// ticks; all or none of it where memory was refused.
 fn advance<A: Allocator + Copy>(
     collected: &mut Collected<A>,
@@ -217,7 +217,7 @@ fn advance<A: Allocator + Copy>(
     answer
 }
 
-/// What is left of a fragment that was decoded, or what was left before it.
+/// The rest of a fragment that was decoded, or what was left before it.
 fn left_of<A: Allocator + Copy>(change: RestChange<A>, is_decoded: bool) -> Rest<A>
     ensures decoded { is_decoded ≡ true → result ≡ change.after }
     ensures refused { is_decoded ≡ false → result ≡ change.before }
@@ -229,7 +229,7 @@ fn left_of<A: Allocator + Copy>(change: RestChange<A>, is_decoded: bool) -> Rest
     }
 }
 
-/// Copies the fields behind those that are copied already; false where memory was refused, and then the copies are as
+/// Copies the fields after those that are copied already; false where memory was refused, and then the copies are as
 /// they were.
 fn has_copied<A: Allocator + Copy>(fields: &mut Vec<Field<A>, A>, collected: &Collected<A>) -> bool
     requires begins { take (length fields.old.items) collected.now.fields ≡ fields.old.items }
@@ -244,7 +244,7 @@ fn has_copied<A: Allocator + Copy>(fields: &mut Vec<Field<A>, A>, collected: &Co
     false
 }
 
-/// Copies the fields behind those that are copied already; where memory was refused, some of them.
+/// Copies the fields after those that are copied already; where memory was refused, some of them.
 fn copy_rest<A: Allocator + Copy>(
     fields: &mut Vec<Field<A>, A>,
     collected: &Collected<A>,

@@ -1,7 +1,6 @@
 //! The fields that a field block has given so far, with the mark of each, in lists whose memory is kept from block to
-//! block. Of a long block all but the last fields are in batches, which its copies share.
-//! It uses `batches`, `FieldList` of h2_list and the marks of h2_mark; contracts see it as the record `FieldsSoFar` of
-//! `h2_spec`, specs/Block.antt.
+//! block. Of a long block all but the last fields are in batches, which its copies share. Contracts see it as the
+//! record `FieldsSoFar` of `h2_spec`, specs/Block.antt.
 
 ghost use Rattle.std.specs.Prelude.{◌≡◌, ◌≢◌, ◌≤◌, ◌-◌, ◌^◌, ℕ, List, [], ◌∷◌, ◌++◌, false, not, min, length, take, drop, slice_get, option_map, Some, Ok, IfOk, IfErr, IfSome, OnOk, OnErr};
 ghost use Rattle.h2_spec.specs.Block.{has_fields, list_size, text_result};
@@ -40,7 +39,7 @@ const MAX_KEPT_MARKS: usize = 512;
 pub struct Collected<A: Allocator> {
     /// The first fields.
     shared: Batches<A>,
-    /// The fields behind them.
+    /// The fields after them.
     list: FieldList<A>,
     /// The marks of those.
     marks: Vec<FieldMark, A>,
@@ -189,7 +188,7 @@ impl<A: Allocator> Collected<A> {
         self.due = false;
     }
 
-    /// The place behind the fields so far.
+    /// The place after the fields so far.
     pub fn mark(&self) -> Mark
         ensures { result ≡ record { count = length self.now.fields; size = list_size self.now.fields; due = self.now.due } }
     {
@@ -200,7 +199,7 @@ impl<A: Allocator> Collected<A> {
         }
     }
 
-    /// Removes the fields behind a mark that was taken of the fields before them. Takes no memory.
+    /// Removes the fields after a mark that was taken of the fields before them. Takes no memory.
     pub fn restore(&mut self, mark: Mark)
         requires size { mark.size ≡ list_size (take mark.count self.old.fields) }
         ensures { self.new ≡ record { fields = take mark.count self.old.fields; due = mark.due } }
@@ -213,7 +212,7 @@ impl<A: Allocator> Collected<A> {
         self.due = mark.due;
     }
 
-    /// Adds a field behind the others.
+    /// Adds a field after the others.
     ///
     /// # Errors
     ///
@@ -232,7 +231,7 @@ impl<A: Allocator> Collected<A> {
         Ok(())
     }
 
-    /// Adds the field of an index of the tables behind the others, `limit` being the most octets of the dynamic table.
+    /// Adds the field of an index of the tables after the others, `limit` being the most octets of the dynamic table.
     /// Where the index was added before, the octets of its name and value are shared, unless they are at most 32.
     ///
     /// # Errors
@@ -263,7 +262,7 @@ impl<A: Allocator> Collected<A> {
         Ok(())
     }
 
-    /// Adds the field of a name and a value that are both spelled behind the others.
+    /// Adds the field of a name and a value that are both spelled after the others.
     ///
     /// # Errors
     ///
@@ -289,9 +288,9 @@ impl<A: Allocator> Collected<A> {
         Ok(())
     }
 
-    /// Adds the field of a name that is that of an entry of the tables, and a value that is spelled, behind the others;
-    /// `index` is the index of the entry, `limit` the most octets of the dynamic table. Where a field with the name of the index was added before, the
-    /// octets of the name are shared, unless the field has at most 32.
+    /// Adds the field of a name that is that of an entry of the tables, and a value that is spelled, after the others;
+    /// `index` is the index of the entry, `limit` the most octets of the dynamic table. Where a field with the name of
+    /// the index was added before, the octets of the name are shared, unless the field has at most 32.
     ///
     /// # Errors
     ///
@@ -361,7 +360,7 @@ impl<A: Allocator + Copy> Collected<A> {
         }
     }
 
-    /// The same fields once more: batches are shared, the others copied.
+    /// A copy of the fields: batches are shared, the others copied.
     ///
     /// # Errors
     ///
@@ -424,7 +423,7 @@ fn has_name<A: Allocator>(list: &FieldList<A>, place: usize, name: &[u8]) -> boo
     }
 }
 
-/// Puts the octets that a string means behind those of the next field.
+/// Puts the octets that a string means after those of the next field.
 fn put_text<A: Allocator>(list: &mut FieldList<A>, string: RawString<'_>) -> Result<(), BlockFault>
     ensures text { OnOk result ((text : List ℕ) × (text_of (string_of string.entry) ≡ Text text) × (list.new ≡ record list.old { next = list.old.next ++ text })) }
     ensures unchanged { OnErr result (list.new ≡ list.old) }

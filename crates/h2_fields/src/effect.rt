@@ -1,6 +1,5 @@
-//! What one instruction does to a field block: its field, and the table after it (RFC 7541, 3.2 and 6). It uses the
-//! drafts of h2_table and `Collected`. The definition is `applied` of `h2_spec`, specs/Block.antt: a size update is
-//! decided first, then an index, then a Huffman string.
+//! What one instruction does to a field block: its field, and the table after it (RFC 7541, 3.2 and 6). The definition
+//! is `applied` of `h2_spec`, specs/Block.antt: a size update is decided first, then an index, then a Huffman string.
 
 ghost use Rattle.std.specs.Prelude.{◌≡◌, List, [], ◌∷◌, ◌++◌, OnOk, IfSome, option_map};
 ghost use Rattle.h2_spec.specs.Block as block;
@@ -22,7 +21,7 @@ use h2_table::{Draft, LentField, static_entry};
 use std::alloc::{AllocError, Allocator};
 
 /// Does what an instruction says, or refuses it. A refusal leaves the fields and the draft as they were, except where
-/// memory was refused: then the fields before it stay, others may be behind them, and the draft may have changed.
+/// memory was refused: then the fields before it stay, others may be after them, and the draft may have changed.
 pub fn apply<A: Allocator + Copy>(
     collected: &mut Collected<A>,
     draft: &mut Draft<'_, A>,

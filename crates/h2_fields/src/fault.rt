@@ -1,5 +1,5 @@
-//! Why a field block or an instruction is refused, numbered as the faults of all crates are.
-//! It rests on the faults of `h2_prim`; what each fault means is `Fault` of `h2_spec`, specs/Block.antt.
+//! Why a field block or an instruction is refused, numbered as the faults of all crates are. What each fault means is
+//! `Fault` of `h2_spec`, specs/Block.antt.
 
 ghost use Rattle.std.specs.Prelude.{◌≡◌};
 ghost use Rattle.h2_fields.specs.Faults.{number_of};
@@ -20,13 +20,13 @@ pub enum BlockFault {
     /// An index beyond both tables (RFC 7541, 2.3.3).
     #[error("an index is of neither header table")]
     Index,
-    /// An integer that goes on after its fifth octet behind the prefix (RFC 7541, 5.1).
+    /// An integer that goes on after its fifth octet after the prefix (RFC 7541, 5.1).
     #[error("an integer is too long")]
     Integer,
     /// A string that is no Huffman string (RFC 7541, 5.2).
     #[error("a string is no Huffman string")]
     Huffman,
-    /// A table size update behind a field (RFC 7541, 4.2).
+    /// A table size update after a field (RFC 7541, 4.2).
     #[error("a table size update is behind a field")]
     LateUpdate,
     /// A table size update above the limit (RFC 7541, 6.3).

@@ -1,5 +1,5 @@
-//! Header fields: a name and a value, each a list of octets (RFC 7541, 1.3).
-//! It rests on `octets`; contracts see a field as the record `Field` of the definitions (`h2_spec`, specs/Field.antt).
+//! Header fields: a name and a value, each a list of octets (RFC 7541, 1.3). Contracts see a field as the record
+//! `Field` of the definitions (`h2_spec`, specs/Field.antt).
 
 ghost use Rattle.std.specs.Prelude.{◌≡◌, IfOk};
 
@@ -50,7 +50,7 @@ impl<A: Allocator + Copy> Field<A> {
         Ok(Field::new(name, value))
     }
 
-    /// The same field once more, in memory of its own.
+    /// A copy of the field, in memory of its own.
     ///
     /// # Errors
     ///

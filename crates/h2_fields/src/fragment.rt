@@ -1,6 +1,5 @@
-//! Decoding the octets of a field block (RFC 7541, 3; RFC 9113, 4.3): its whole instructions, one after another.
-//! It uses `shape` to read an instruction and `effect` for what each does. The definition is `decoded` of `h2_spec`,
-//! specs/Block.antt.
+//! Decoding the octets of a field block (RFC 7541, 3; RFC 9113, 4.3): its whole instructions, one after another. The
+//! definition is `decoded` of `h2_spec`, specs/Block.antt.
 
 ghost use Rattle.std.specs.Prelude.{◌≡◌, ◌≤◌, ◌+◌, [], ◌++◌, length, drop, min, IfOk, IfErr, IsErrOf, OnOk};
 ghost use Rattle.h2_spec.specs.Block as block;
@@ -24,7 +23,7 @@ use h2_table::{Draft, DynTable, Edit};
 use std::alloc::{AllocError, Allocator};
 
 /// Does what the whole instructions at the front of the octets say; reading goes on from a point of the first one.
-/// Returns how many octets they take, and the point where reading goes on behind them, and counts the steps.
+/// Returns how many octets they take, and the point where reading goes on after them, and counts the steps.
 fn decode<A: Allocator + Copy>(
     collected: &mut Collected<A>,
     draft: &mut Draft<'_, A>,
@@ -75,16 +74,16 @@ fn with_instruction(ticks: u64, passed: usize, shape: Shape<'_>) -> u64
 
 /// Decodes the whole instructions at the front of the octets; reading goes on from a point of the first one. Adds their
 /// fields, and returns an edit with their changes of the table, for `DynTable::commit`, how many octets they take, and
-/// the point where reading goes on behind them; the table itself does not change. What is behind them begins an
+/// the point where reading goes on after them; the table itself does not change. What is after them begins an
 /// instruction and does not end it, or is empty. `edit` may be of any table: its memory is used again. `ticks` counts
 /// the steps.
 ///
 /// # Errors
 ///
-/// `ZeroIndex`, `Index`, `Integer`, `Huffman`, `LateUpdate` and `LargeUpdate` as RFC 7541 has them, for the first instruction that is refused: the
-/// fields and the edit are those of the instructions before it. `NoMemory` where memory was refused: the fields are as
-/// they were, and the edit should not be committed. The edit is returned in each case, so that its memory can be used
-/// again.
+/// `ZeroIndex`, `Index`, `Integer`, `Huffman`, `LateUpdate` and `LargeUpdate` as RFC 7541 has them, for the first
+/// instruction that is refused: the fields and the edit are those of the instructions before it. `NoMemory` where
+/// memory was refused: the fields are as they were, and the edit should not be committed. The edit is returned in each
+/// case, so that its memory can be used again.
 fn attempt<A: Allocator + Copy>(
     collected: &mut Collected<A>,
     table: &DynTable<A>,
@@ -117,17 +116,17 @@ fn attempt<A: Allocator + Copy>(
 }
 
 /// Decodes a fragment of a block: the octets in `rest`, which the fragments before it left, from the point where
-/// reading stopped in them, and those of `piece` behind them. Adds the fields of the whole instructions, and returns
-/// an edit with their changes of the table, for `DynTable::commit`, and what is left before and after: after it is what
-/// begins an instruction and does not end it. The table does not change here. `edit` may be of any table: its memory is
-/// used again.
+/// reading stopped in them, and those of `piece` after them. Adds the fields of the whole instructions, and returns an
+/// edit with their changes of the table, for `DynTable::commit`, and the rest before and after: after it is what begins
+/// an instruction and does not end it. The table does not change here. `edit` may be of any table: its memory is used
+/// again.
 ///
 /// # Errors
 ///
-/// `ZeroIndex`, `Index`, `Integer`, `Huffman`, `LateUpdate` and `LargeUpdate` as RFC 7541 has them, for the first instruction that is refused: the
-/// fields and the edit are those of the instructions before it. `NoMemory` where memory was refused: the fields are as
-/// they were, and the edit should not be committed. The edit is returned in each case, so that its memory can be used
-/// again.
+/// `ZeroIndex`, `Index`, `Integer`, `Huffman`, `LateUpdate` and `LargeUpdate` as RFC 7541 has them, for the first
+/// instruction that is refused: the fields and the edit are those of the instructions before it. `NoMemory` where
+/// memory was refused: the fields are as they were, and the edit should not be committed. The edit is returned in each
+/// case, so that its memory can be used again.
 pub fn decode_piece<A: Allocator + Copy>(
     collected: &mut Collected<A>,
     table: &DynTable<A>,
@@ -151,7 +150,7 @@ pub fn decode_piece<A: Allocator + Copy>(
     }
 }
 
-/// Decodes a fragment behind the octets that are left of those before it.
+/// Decodes a fragment after the octets that are left of those before it.
 fn decode_behind<A: Allocator + Copy>(
     collected: &mut Collected<A>,
     table: &DynTable<A>,

@@ -1,5 +1,5 @@
-//! Where fields of the tables are in a list of fields: guesses, for what `FieldList` shares.
-//! It uses nothing. No contract says what a guess is: a wrong one costs memory and changes no field.
+//! Where fields of the tables are in a list of fields: guesses, for what `FieldList` shares. No contract says what a
+//! guess is: a wrong one costs memory and changes no field.
 
 ghost use Rattle.std.specs.Prelude.{◌≤◌};
 

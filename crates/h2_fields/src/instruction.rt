@@ -1,6 +1,5 @@
-//! Instructions of a field block with the texts of their strings: reading one, and writing one (RFC 7541, 6).
-//! It uses `shape` for what is at the front of octets, and the integers and Huffman strings of `h2_prim`.
-//! The definitions are `instruction_at`, `shape_of` and `spell` of `h2_spec`, specs/Instruction.antt.
+//! Instructions of a field block with the texts of their strings: reading one, and writing one (RFC 7541, 6). The
+//! definitions are `instruction_at`, `shape_of` and `spell` of `h2_spec`, specs/Instruction.antt.
 
 ghost use Rattle.std.specs.Prelude.{◌≡◌, ◌≢◌, ◌≤◌, ◌++◌, true, false, length, Some, None, IfOk, IfErr, IsErrOf, IsSome, OnOk, OnErr, take};
 ghost use Rattle.std.specs.Vec.{vec_len};
@@ -113,9 +112,9 @@ impl Mode {
 ///
 /// # Errors
 ///
-/// `Integer` where an integer of it is too long, as soon as its fifth octet behind the prefix is there; `Huffman`
-/// where it is whole and a string of it is no Huffman string; `NoMemory` where it is a whole literal, each of its
-/// strings has a text, and memory was refused. An indexed field and a size update take no memory.
+/// `Integer` where an integer of it is too long, as soon as its fifth octet after the prefix is there; `Huffman` where
+/// it is whole and a string of it is no Huffman string; `NoMemory` where it is a whole literal, each of its strings has
+/// a text, and memory was refused. An indexed field and a size update take no memory.
 pub fn read_instr<A: Allocator + Copy>(alloc: A, octets: &[u8]) -> Result<InstrRead<A>, BlockFault>
     ensures read { IfOk result (λ read. read_text read ≡ spec.instruction_at octets.now) }
     ensures fault { IfErr result (λ fault. fault ≢ faults.NoMemory → fault_at (spec.instruction_at octets.now) ≡ Some fault) }
@@ -257,7 +256,7 @@ fn write_parts<A: Allocator, B: Allocator>(
     }
 }
 
-/// Appends the name of a literal behind the literal's mark.
+/// Appends the name of a literal after the literal's mark.
 fn write_name<A: Allocator, B: Allocator>(
     mode: Mode,
     name: &Name<B>,

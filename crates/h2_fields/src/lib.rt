@@ -1,6 +1,5 @@
 //! Field blocks of HPACK (RFC 7541): header fields, the instructions that represent them, and the decoder of blocks.
-//! It rests on `h2_prim` (integers and strings), `h2_table` (the tables), and the definitions of `h2_spec`: Field,
-//! Instruction and Block.
+//! The definitions are Field, Instruction and Block of `h2_spec`.
 #![tactic(auto)]
 
 mod batches;

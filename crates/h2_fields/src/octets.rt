@@ -1,6 +1,5 @@
-//! Octets that own their memory: a small type over a list that contracts see as the list itself.
-//! It rests on `Vec` alone; what fields and strings mean by their octets is in the definitions (`h2_spec`, Field and
-//! Instruction).
+//! Octets that own their memory: a small type over a list that contracts see as the list itself. What fields and
+//! strings mean by their octets is in the definitions (`h2_spec`, Field and Instruction).
 
 ghost use Rattle.std.specs.Prelude.{◌≡◌, IfOk};
 
@@ -45,7 +44,7 @@ impl<A: Allocator> Octets<A> {
 }
 
 impl<A: Allocator + Copy> Octets<A> {
-    /// The same octets once more, in memory of their own.
+    /// A copy of the octets, in memory of their own.
     ///
     /// # Errors
     ///

@@ -1,5 +1,4 @@
 //! The field block of a response: its status and its fields, none of which enters the dynamic table (RFC 9113, 8.3.2).
-//! It rests on the integers of `h2_prim` and on the plain strings of `instruction`.
 //! The definition is `response_block` of `h2_spec`, specs/Answer.antt.
 
 ghost use Rattle.std.specs.Prelude.{◌≡◌, ◌≤◌, ◌++◌, ◌==◌, false, IfOk, OnOk, flat_map, map, position};

@@ -1,6 +1,6 @@
 //! The octets at the end of a fragment of a field block that begin an instruction and do not end it, with the point
-//! where reading goes on in them (RFC 7541, 3; RFC 9113, 4.3).
-//! It rests on the points of `shape`. What a point is, is in `specs/Resume.antt`; contracts see the octets alone.
+//! where reading goes on in them (RFC 7541, 3; RFC 9113, 4.3). What a point is, is in `specs/Resume.antt`; contracts
+//! see the octets alone.
 
 ghost use Rattle.std.specs.Prelude.{◌≡◌, ◌==◌, [], length, IfOk};
 
@@ -15,6 +15,7 @@ const MAX_KEPT_OCTETS: usize = 16_384;
 /// The octets that begin an instruction and do not end it; none where the last instruction is whole.
 #[derive(Drop)]
 pub struct Rest<A: Allocator> {
+    /// The octets; fewer than one instruction has.
     pub(crate) octets: Vec<u8, A>,
     /// Where reading goes on in them.
     pub(crate) point: Point,
@@ -31,10 +32,11 @@ impl<A: Allocator> Model for Rest<A> {
     ghost invariant = { λ r. IsRest r.octets.items r.point };
 }
 
-/// What is left of a block before a fragment and after it: either of them can be kept. It counts the steps of the
+/// The rest of a block before a fragment and after it: either of them can be kept. It counts the steps of the
 /// fragment's decoding too.
 #[derive(Drop)]
 pub struct RestChange<A: Allocator> {
+    /// The octets left before the fragment, then those of the fragment.
     pub(crate) octets: Vec<u8, A>,
     /// How many octets there were before the fragment.
     pub(crate) kept: usize,
@@ -42,8 +44,9 @@ pub struct RestChange<A: Allocator> {
     pub(crate) point: Point,
     /// How many octets at the front are decoded.
     pub(crate) used: usize,
-    /// Where reading goes on in the octets behind them.
+    /// Where reading goes on in the octets after them.
     pub(crate) next: Point,
+    /// The steps of the fragment's decoding.
     pub(crate) ticks: u64,
 }
 
@@ -90,7 +93,7 @@ impl<A: Allocator> Rest<A> {
 }
 
 impl<A: Allocator + Copy> Rest<A> {
-    /// The same octets in memory of their own.
+    /// A copy of the octets, in memory of their own.
     ///
     /// # Errors
     ///
@@ -138,7 +141,7 @@ impl<A: Allocator> RestChange<A> {
         Rest { octets, point }
     }
 
-    /// What is left after the fragment.
+    /// The rest after the fragment.
     pub fn take_over(self) -> Rest<A>
         ensures { result ≡ self.after }
     {

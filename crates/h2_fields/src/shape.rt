@@ -1,8 +1,6 @@
 //! Reading one instruction at the front of octets, its strings lent as they are (RFC 7541, 5.2 and 6), and reading it
-//! on from where its octets stopped.
-//! It rests on the integers of `h2_prim` and takes no memory.
-//! The definition is `instr_at` of `h2_spec`, specs/Instruction.antt; what is known of an instruction that is cut is in
-//! `specs/Resume.antt`.
+//! on from where its octets stopped. It takes no memory. The definition is `instr_at` of `h2_spec`,
+//! specs/Instruction.antt; what is known of an instruction that is cut is in `specs/Resume.antt`.
 
 ghost use Rattle.std.specs.Prelude.{◌≡◌, ◌≤◌, ◌+◌, ◌-◌, ◌^◌, ℕ, List, ◌++◌, length, drop, min, IfOk};
 ghost use Rattle.h2_prim.specs.Readings.{int_read};
@@ -57,14 +55,16 @@ pub struct Point {
     pub known: Known,
     /// How many of its octets that took.
     pub at: usize,
-    /// How many of its octets are not passed again: `at`, or all that have come of a string.
+    /// How many of its octets are not passed again: `at`, or all that have arrived of a string.
     pub passed: usize,
 }
 
 /// A string as it is: whether its octets are a Huffman string, and its octets.
 #[derive(Clone, Copy)]
 pub struct RawString<'a> {
+    /// Whether the octets are a Huffman string (RFC 7541, 5.2).
     pub huffman: bool,
+    /// The octets as they were sent.
     pub octets: &'a [u8],
 }
 
@@ -167,7 +167,7 @@ fn update(octets: &[u8]) -> Result<(Shape<'_>, usize), ShapeFault>
     }
 }
 
-/// A literal, from the index of its name: 0 means that the name is the string behind it (RFC 7541, 6.2).
+/// A literal, from the index of its name: 0 means that the name is the string after it (RFC 7541, 6.2).
 fn literal(mode: Mode, octets: &[u8]) -> Result<(Shape<'_>, usize), ShapeFault>
     requires announced { BeginsLiteral octets.now (mode_of mode) }
     ensures { IsReadOn octets.now Nothing 0 0 result }

@@ -1,6 +1,5 @@
-//! For users of the library; the program does not call it: a rule answers the cause, whose code is sent.
-//! The error code of a setting that is refused (RFC 9113, 6.5.2).
-//! Rests on `h2_spec`; definitions: `specs/SettingCode.antt`.
+//! For users of the library; the program does not call it: a rule answers the cause, whose code is sent. The error code
+//! of a setting that is refused (RFC 9113, 6.5.2). Definitions: `specs/SettingCode.antt`.
 
 ghost use Rattle.std.specs.Prelude.{◌≡◌};
 ghost use Rattle.h2_flow.specs.SettingCode.{setting_code};

@@ -2,7 +2,7 @@
 use Rattle.std.proofs.Common.{◌≡◌, ℕ, zero, suc, ◌≤◌, Bool, List, [], ◌∷◌, length, drop, min, refl, arith}
 use Rattle.std.specs.List.{common_prefix_len}
 
--- behind the shorter list nothing agrees
+-- after the shorter list nothing agrees
 pub common_prefix_len-drop_min : {X : Type 0} (e : X → X → Bool) (n : ℕ) (xs ys : List X) → min (length xs) (length ys) ≤ n → common_prefix_len e (drop n xs) (drop n ys) ≡ 0
 common_prefix_len-drop_min e zero [] ys h = refl
 common_prefix_len-drop_min e zero (x ∷ xs) [] h = refl

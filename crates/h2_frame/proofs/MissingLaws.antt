@@ -8,7 +8,7 @@ use Rattle.h2_spec.specs.Frame.{Item, WholeFrame, Oversize, Next, NoItem, Got, n
 use Rattle.h2_frame.specs.Items.{item_in, missing, missing_in, missing_of_frame, missing_of_preface, next_in, with_more}
 use Rattle.h2_frame.specs.Rest.{Rest}
 
--- octets behind a head leave it as it is
+-- octets after a head leave it as it is
 pub head_of-append : (b c : List ℕ) → 9 ≤ length b → head_of (b ++ c) ≡ head_of b
 unfolding head_of
 head_of-append b c h =
@@ -18,7 +18,7 @@ head_of-append b c h =
 got-none : (x : Item) (used : ℕ) → Got x used ≡ NoItem → ⊥
 got-none x used h = cc
 
--- a head with no whole payload behind it is not above the limit, and its payload lacks octets
+-- a head with no whole payload after it is not above the limit, and its payload lacks octets
 head-lacks : (limit : ℕ) (h : Head) (b : List ℕ) → frame_item limit h b ≡ NoItem → (ltb limit h.length ≡ false) × (length b < 9 + h.length)
 head-lacks limit h b none = at (ltb limit h.length) refl
   where

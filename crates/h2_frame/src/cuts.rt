@@ -1,5 +1,4 @@
-//! Parts of octets, and the numbers that they write (RFC 9113, 4.1).
-//! Rests on nothing; definitions: `h2_spec/specs/Octets.antt`.
+//! Parts of octets, and the numbers that they write (RFC 9113, 4.1). Definitions: `h2_spec/specs/Octets.antt`.
 
 ghost use Rattle.std.specs.Prelude.{◌≡◌, ◌+◌, ◌≤◌, length, take, drop};
 ghost use Rattle.h2_spec.specs.Octets.{two_octets, four_octets, low_31_bits};

@@ -1,6 +1,6 @@
-//! For users of the library; the program does not call it: readers of payloads answer a `Cause`, which says more.
-//! Why a payload is refused, by what is wrong with it: its length, or its padding (RFC 9113, 4.2, 6.1 and 6.2).
-//! Rests on `h2_spec`; definition: `specs/PayloadFaults.antt`.
+//! For users of the library; the program does not call it: readers of payloads answer a `Cause`, which says more. Why a
+//! payload is refused, by what is wrong with it: its length, or its padding (RFC 9113, 4.2, 6.1 and 6.2). Definition:
+//! `specs/PayloadFaults.antt`.
 
 ghost use Rattle.std.specs.Prelude.{◌≡◌};
 ghost use Rattle.h2_spec.specs.Cause.{code_of};

@@ -1,6 +1,6 @@
-//! Heads of frames: reading them, and writing whole frames (RFC 9113, 4.1). The program does not call `write_frame`, which
-//! is for users of the library: `append_frame` does the same for a payload in two parts.
-//! Rests on `h2_spec`; definitions: `h2_spec/specs/Frame.antt`.
+//! Heads of frames: reading them, and writing whole frames (RFC 9113, 4.1). The program does not call `write_frame`,
+//! which is for users of the library: `append_frame` does the same for a payload in two parts. Definitions:
+//! `h2_spec/specs/Frame.antt`.
 
 ghost use Rattle.std.specs.Prelude.{◌≡◌, ℕ, ◌+◌, ◌<◌, ◌≤◌, ◌^◌, ◌∷◌, ◌++◌, List, drop, length, false, Some, OnOk, OnErr};
 ghost use Rattle.h2_spec.specs.Frame.{head_at, head_of, frame, frame_octets, frame_of};
@@ -13,6 +13,7 @@ use std::alloc::{AllocError, Allocator};
 /// A whole frame: its head, and its payload where it lies.
 #[derive(Clone, Copy)]
 pub struct FrameRef<'a> {
+    /// The head.
     pub head: Head,
     /// As many octets as the head's length says.
     pub payload: &'a [u8],
@@ -65,7 +66,7 @@ pub fn write_frame<A: Allocator>(
     append_frame(head.kind, head.flags, head.stream, &[], payload, out)
 }
 
-/// Appends a frame whose payload is in two parts, as a response's header block behind a table size update.
+/// Appends a frame whose payload is in two parts, as a response's header block after a table size update.
 ///
 /// The last four octets of its head write `stream`: an identifier, or 2^31 more where the reserved bit is to be set.
 /// `AllocError` where `out` could not grow; then `out` is as before.

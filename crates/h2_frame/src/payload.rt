@@ -1,5 +1,5 @@
-//! What the payload of a frame holds, by its type, borrowed from it (RFC 9113, 6).
-//! Rests on `head`; definitions: `h2_spec/specs/Payload.antt`.
+//! What the payload of a frame holds, by its type, borrowed from it (RFC 9113, 6). Definitions:
+//! `h2_spec/specs/Payload.antt`.
 
 ghost use Rattle.std.specs.Prelude.{◌≡◌, ℕ, ◌+◌, ◌-◌, ◌*◌, ◌%◌, ◌≤◌, ◌<◌, List, length, slice_get, ◌==◌, if◌then◌else◌, Some, Ok, Err};
 ghost use Rattle.h2_spec.specs.FrameType.{DATA, HEADERS, RST_STREAM, SETTINGS, GOAWAY, WINDOW_UPDATE, ACK, PADDED, has};
@@ -21,7 +21,9 @@ use h2_spec::octets::{octets_from, octets_up_to};
 pub struct DataPart<'a> {
     /// The length of the padding, if the frame is padded.
     pub pad: Option<u8>,
+    /// The octets of the body, without Pad Length and padding.
     pub content: &'a [u8],
+    /// The octets of the padding; empty in a frame without PADDED.
     pub padding: &'a [u8],
 }
 
@@ -34,6 +36,7 @@ pub struct HeadersPart<'a> {
     pub priority: Option<(u32, u8)>,
     /// A fragment of a field block.
     pub fragment: &'a [u8],
+    /// The octets of the padding; empty in a frame without PADDED.
     pub padding: &'a [u8],
 }
 

@@ -1,7 +1,5 @@
 //! The splitter: octets come in pieces of any length, and items are taken from their front (RFC 9113, 3.4, 4.1 and
-//! 4.2).
-//! Rests on `head`; definitions: `next` of `h2_spec/specs/Frame.antt`, and `specs/Items.antt` for what a splitter
-//! holds.
+//! 4.2). Definitions: `next` of `h2_spec/specs/Frame.antt`, and `specs/Items.antt` for what a splitter holds.
 
 ghost use Rattle.std.specs.Prelude.{◌≡◌, ℕ, ◌+◌, ◌-◌, ◌≤◌, ◌<◌, ◌++◌, List, [], length, true, false, nat_eq, IfOk, IfSome, OnOk, OnErr, None};
 ghost use Rattle.std.specs.List.{common_prefix_len};
@@ -77,7 +75,7 @@ impl<A: Allocator> Splitter<A> {
         self.expects_preface = expected;
     }
 
-    /// Adds the octets behind those that are held.
+    /// Adds the octets after those that are held.
     ///
     /// `AllocError` where the list could not grow; then what is held is as before.
     pub fn push(&mut self, octets: &[u8]) -> Result<(), AllocError>
@@ -100,7 +98,7 @@ impl<A: Allocator> Splitter<A> {
     /// How many octets the first item lacks, at the least; 0 where it is whole, or none follows.
     ///
     /// Of the preface that is 1, since any octet may be the one that differs; of a frame it is what the nine octets of
-    /// its head lack, and behind the head what the payload lacks. With fewer octets more there is no item.
+    /// its head lack, and after the head what the payload lacks. With fewer octets more there is no item.
     pub fn missing(&self, limit: u32) -> usize
         ensures value { result ≡ missing_in limit self.now }
         ensures fewer { (more : List ℕ) → length more < result → next_in limit (with_more self.now more) ≡ None }
@@ -147,7 +145,7 @@ impl<A: Allocator> Splitter<A> {
 }
 
 impl<A: Allocator + Copy> Splitter<A> {
-    /// The same splitter once more, in memory of its own; octets that were taken are not copied.
+    /// A copy of the splitter, in memory of its own; octets that were taken are not copied.
     ///
     /// `AllocError` where the memory was refused; `self` is as it was.
     pub fn try_clone(&self) -> Result<Splitter<A>, AllocError>

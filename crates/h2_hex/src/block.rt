@@ -1,5 +1,5 @@
-//! Digits decoded by the crate `hex`, a block at a time, into memory of a fixed size.
-//! Rests on `hex`; definition: `body_of` of h2_spec's specs/AnswerWords.antt.
+//! Digits decoded by the crate `hex`, a block at a time, into memory of a fixed size. Definition: `body_of` of
+//! h2_spec's specs/AnswerWords.antt.
 
 ghost use Rattle.std.specs.Prelude.{◌≡◌, ◌*◌, ◌≤◌, Some, None, length, take, IfNone, IfSome};
 ghost use Rattle.h2_spec.specs.AnswerWords.{body_of};

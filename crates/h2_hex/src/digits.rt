@@ -1,6 +1,5 @@
-//! Digits with nothing between them: whether they are pairs of hex digits, and the octets that they write.
-//! Rests on `block` and on the crate `hex`; definitions: `body_of` of h2_spec's specs/AnswerWords.antt, `octet_at` of its
-//! specs/Assemble.antt.
+//! Digits with nothing between them: whether they are pairs of hex digits, and the octets that they write. Definitions:
+//! `body_of` of h2_spec's specs/AnswerWords.antt, `octet_at` of its specs/Assemble.antt.
 
 ghost use Rattle.std.specs.Prelude.{◌≡◌, is_some, option_map, true, IfOk, OnErr};
 ghost use Rattle.h2_spec.specs.AnswerWords.{body_of};

@@ -1,6 +1,5 @@
-//! White space passed over and dropped: the text after it, the digits before it, and the digits at the front of a text, as
-//! many as a block takes.
-//! Rests on arrayvec; definition: `is_digit` of `specs/HexText.antt`.
+//! White space passed over and dropped: the text after it, the digits before it, and the digits at the front of a text,
+//! as many as a block takes. Definition: `is_digit` of `specs/HexText.antt`.
 
 ghost use Rattle.std.specs.Prelude.{◌≡◌, ◌<◌, ◌≤◌, ◌∷◌, ◌++◌, [], filter, length, not, take};
 ghost use Rattle.std.specs.List.{list_all};

@@ -1,8 +1,8 @@
 //! Hex text: pairs of hex digits, with white space (space, tab, carriage return, line feed) anywhere between digits.
-//! Each line of text is decoded as it is, and a text without lines block by block; only where that fails, white space is
-//! dropped into a block of its own first. How many digits are tried is what the line before had, so that lines of the same
-//! length, as other programs write them, cost what one long line does.
-//! Rests on `block` and `spaced`; definition: `octets_spelled` of `specs/HexText.antt`.
+//! Each line of text is decoded as it is, and a text without lines block by block; only where that fails, white space
+//! is dropped into a block of its own first. How many digits are tried is what the line before had, so that lines of
+//! the same length, as other programs write them, cost what one long line does. Definition: `octets_spelled` of
+//! `specs/HexText.antt`.
 
 ghost use Rattle.std.specs.Prelude.{◌≡◌, ◌<◌, ◌≤◌, [], Some, None, drop, false, is_some, length, option_map, take, true, IfNone, IfOk, IfSome, OnErr};
 ghost use Rattle.h2_hex.specs.HexText.{all_in_front, most_digits, most_octets, octets_spelled};

@@ -19,7 +19,7 @@ pub record CanEnd {A : Type 0} (p : List ℕ → Read A) (b : List ℕ) : Type 0
 abbrev IsEndable : {A : Type 0} → (List ℕ → Read A) → Type 0
 IsEndable p = (b : List ℕ) → p b ≡ More → CanEnd p b
 
--- ---- one thing behind another
+-- ---- one thing after another
 
 map-more : {A B : Type 0} (f : A → B) (r : Read A) → read_map f r ≡ More → r ≡ More
 map-more f (Whole a used) e = absurd cc

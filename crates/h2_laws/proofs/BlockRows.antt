@@ -13,18 +13,18 @@ table entries = record { entries = entries; max = 4096 }
 abbrev pair : String → String → Field
 pair name value = field (codes name) (codes value)
 
--- what is said of a block: how it ends so far after each of its fragments, and then its fields, whether it still has
+-- what is said about a block: how it ends so far after each of its fragments, and then its fields, whether it still has
 -- to begin with a size update, and the entries of the table
 abbrev Told : Type 0
 Told = List Outcome × List Field × Bool × List Field
 
--- behind these outcomes, the latest first
+-- after these outcomes, the latest first
 in_pieces : ℕ → Decoded → List Outcome → List String → Told
 unfolding carried_on
 in_pieces limit d before [] = (before, d.progress.fields, d.progress.due, d.progress.table.entries)
 in_pieces limit d before (piece ∷ pieces) = let e = carried_on limit d (hex (codes piece)) in in_pieces limit e (e.outcome ∷ before) pieces
 
--- a block in fragments, on a table of this limit; the outcomes are told the latest first
+-- a block in fragments, on a table of this limit; the outcomes are listed, the latest first
 block : ℕ → Bool → List Field → List String → Told
 unfolding in_pieces decoded
 block limit due entries pieces = in_pieces limit (decoded limit (start (table entries) due) []) [] pieces
@@ -46,7 +46,7 @@ Row = List String × List Outcome × List Field × List Field
 
 abbrev refused : List Row
 refused =
-    -- a size update above the limit (RFC 7541, 6.3), and one behind a field (4.2), which is decided before its size
+    -- a size update above the limit (RFC 7541, 6.3), and one after a field (4.2), which is decided before its size
     ("3fe2" ∷ "1f" ∷ [], Faulty LargeUpdate ∷ cut "3fe2" ∷ [], [], []) ∷
     ("8220" ∷ [], Faulty LateUpdate ∷ [], get, []) ∷
     ("823fe21f" ∷ [], Faulty LateUpdate ∷ [], get, []) ∷
@@ -63,7 +63,7 @@ refused =
     ("418100" ∷ [], Faulty Huffman ∷ [], [], []) ∷
     -- a name that is no Huffman string is refused once its value is whole
     ("40016101624082ffff" ∷ "01" ∷ "62" ∷ [], Faulty Huffman ∷ cut "4082ffff01" ∷ cut "4082ffff" ∷ [], ab, ab) ∷
-    -- an index and a length that go on after the fifth octet behind the prefix (5.1)
+    -- an index and a length that go on after the fifth octet after the prefix (5.1)
     ("ff80808080" ∷ "80" ∷ [], Faulty Integer ∷ cut "ff80808080" ∷ [], [], []) ∷
     ("82417f80808080" ∷ "80" ∷ [], Faulty Integer ∷ cut "417f80808080" ∷ [], get, []) ∷
     -- blocks that end inside an integer, and before a value

@@ -27,12 +27,12 @@ use Rattle.h2_spec.specs.Effect.{cause_of, stream_cause, effect_cause, item_effe
 use Rattle.h2_spec.specs.Trace.{step, then_sent}
 use Rattle.h2_laws.specs.ErrorCodes.{error_code_in, error_codes_in, error_codes_of}
 
--- of frames behind others
+-- of frames after others
 of-both : (a b : List Frame) → error_codes_in (a ++ b) ≡ error_codes_in a ++ error_codes_in b
 of-both [] b = refl
 of-both (f ∷ fs) b = ap (λ codes. error_code_in f ++ codes) (of-both fs b) ∙ sym (append_assoc (error_code_in f) (error_codes_in fs) (error_codes_in b))
 
--- frames without a code behind others
+-- frames without a code after others
 of-first-part : (a b : List Frame) → error_codes_in b ≡ [] → error_codes_in (a ++ b) ≡ error_codes_in a
 of-first-part a b h = of-both a b ∙ ap (λ codes. error_codes_in a ++ codes) h ∙ append-nil (error_codes_in a)
 

@@ -1,4 +1,4 @@
--- Causes of errors, computed: octets that come behind the preface and the first SETTINGS, what is sent for them, and
+-- Causes of errors, computed: octets that come after the preface and the first SETTINGS, what is sent for them, and
 -- why. Many causes are answered with the same octets.
 use Rattle.std.specs.Prelude.{◌≡◌, ℕ, zero, suc, List, [], ◌∷◌, ◌++◌, length, drop, map, option_to_list, refl, codes, replicate}
 use Prim.Native.String.{String}
@@ -28,12 +28,12 @@ causes_from : State → List ℕ → List Cause
 unfolding causes_upto
 causes_from s b = causes_upto (length b) s b
 
--- those behind the beginning
+-- those after the beginning
 caused : List Entry → Config → String → List Cause
 unfolding causes_from ready
 caused book config octets = causes_from (ready book config) (hex (codes octets))
 
--- what is sent for octets behind the beginning, and the causes
+-- what is sent for octets after the beginning, and the causes
 answered : String → List ℕ × List Cause
 unfolding replies caused
 answered octets = (replies [] default octets, caused [] default octets)

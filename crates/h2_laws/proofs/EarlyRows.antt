@@ -1,4 +1,4 @@
--- Answers that begin before their requests have ended, computed: octets that come behind the preface and the first
+-- Answers that begin before their requests have ended, computed: octets that come after the preface and the first
 -- SETTINGS, what is sent for them, and what is shown then.
 use Rattle.std.specs.Prelude.{◌≡◌, ℕ, List, [], ◌∷◌, true, refl, codes}
 use Prim.Native.String.{String}

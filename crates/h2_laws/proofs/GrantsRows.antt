@@ -293,7 +293,7 @@ past_the_connection_window : List Event → List Event
 unfolding data_frames
 past_the_connection_window es = edited 2 (headers_on 1 ∷ data_frames 1 true 16384 (replicate 70000 120)) es
 
--- what is left of the first, and on the second as much as if it were alone
+-- the rest of the first, and on the second as much as if it were alone
 connection_window_given_twice : List Event → List Event
 unfolding data_frames
 connection_window_given_twice es = edited 4 (data_frames 1 true 16384 (replicate 4465 120) ++ data_frames 3 false 16384 (replicate 5000 120)) es

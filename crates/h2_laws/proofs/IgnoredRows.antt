@@ -1,4 +1,4 @@
--- Frames that are ignored, computed: octets that come behind the preface and the first SETTINGS, and for which reasons
+-- Frames that are ignored, computed: octets that come after the preface and the first SETTINGS, and for which reasons
 -- frames among them are ignored.
 use Rattle.std.specs.Prelude.{◌≡◌, ℕ, zero, suc, List, [], ◌∷◌, ◌++◌, length, drop, map, option_to_list, refl, codes}
 use Prim.Native.String.{String}
@@ -21,7 +21,7 @@ unfolding ignored_of next_item step
 ignored_upto zero s b = []
 ignored_upto (suc n) s b = ignored_with s b (λ t rest. ignored_upto n t rest) (next_item s b)
 
--- of all items behind the beginning
+-- of all items after the beginning
 ignored_in : String → List Ignored
 unfolding ignored_upto ready
 ignored_in octets = ignored_upto (length (hex (codes octets))) (ready [] default) (hex (codes octets))

@@ -28,7 +28,7 @@ spellings =
     ("418cf1e3c2e5f23a6ba0ab90f4ff", Literal IncrementalIndexing (Ref 1) (coded "www.example.com"), "418cf1e3c2e5f23a6ba0ab90f4ff") ∷
     ("408825a849e95ba97d7f8925a849e95bb8e8b4bf", Literal IncrementalIndexing (Named (coded "custom-key")) (coded "custom-value"), "408825a849e95ba97d7f8925a849e95bb8e8b4bf") ∷ []
 
--- each with an octet behind it
+-- each with an octet after it
 instructions_are_read : map (λ (row : String × Instruction × String). instruction_at (hex (codes row.0) ++ 0x82 ∷ [])) spellings ≡ map (λ (row : String × Instruction × String). Whole (Some row.1) (length (hex (codes row.0)))) spellings
 unfolding instruction_at
 instructions_are_read = refl

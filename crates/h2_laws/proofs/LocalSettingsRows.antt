@@ -1,4 +1,4 @@
--- The server's own settings, computed: octets that come behind the preface and the first SETTINGS, what is sent for
+-- The server's own settings, computed: octets that come after the preface and the first SETTINGS, what is sent for
 -- them, and what is shown then. The peer's acknowledgement is the frame 000000040100000000 (RFC 9113, 6.5.3).
 use Rattle.std.specs.Prelude.{◌≡◌, ℕ, [], ◌∷◌, ◌++◌, map, true, false, refl, codes, replicate}
 use Rattle.h2_spec.specs.declared.connection.Config.{Config}

@@ -1,4 +1,4 @@
--- Whole runs with long bodies, computed: how what waits is sent.
+-- Whole runs with long bodies, computed: how the pending output is sent.
 use Rattle.std.specs.Prelude.{◌≡◌, ℕ, ◌++◌, List, [], ◌∷◌, refl, codes, replicate, Option, Some, None, ℤ, pos, negsuc, map}
 use Prim.Native.String.{String}
 use Rattle.h2_spec.specs.declared.connection.Config.{Config}

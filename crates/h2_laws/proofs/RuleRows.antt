@@ -42,7 +42,7 @@ error_of (Continues change) = None
 
 -- ---- DATA (6.1 and 6.9)
 
--- DATA with so many octets, so many of them content, on stream 1, where credit is given back from a threshold on
+-- DATA with that many octets, that many of them content, on stream 1, where credit is given back from a threshold on
 data_on : ℕ → ℕ → ℕ → Kind → Reaction
 unfolding on_data
 data_on threshold octets content kind = on_data (limits 100 threshold) running 0 (record { octets = octets; content = content; ends = false }) (stream kind)
@@ -202,7 +202,7 @@ unfolding request_outcome
 requests_at_their_limits = refl
 
 -- the length of the answer's body, whether the answer is early, whether the request has ended; and the stream's state,
--- what is left of the body, and whether the answer begins
+-- the rest of the body, and whether the answer begins
 abbrev beginnings : List (ℕ × Bool × Bool × Kind × Option ℕ × Bool)
 beginnings =
     -- half-closed (local) where END_STREAM is sent first (5.1)

@@ -1,5 +1,5 @@
--- Whole runs, computed: what is sent for octets that come behind the preface and the first SETTINGS, and what is
--- shown then.
+-- Whole runs, computed: what is sent for octets that come after the preface and the first SETTINGS, and what is shown
+-- then.
 use Rattle.std.specs.Prelude.{◌≡◌, ℕ, ◌++◌, List, [], ◌∷◌, refl, codes, replicate}
 use Rattle.std.specs.Fmt.{digits}
 use Rattle.hex.specs.Hex.{encode_with}
@@ -33,12 +33,12 @@ sent : List Entry → Config → List ℕ → List ℕ
 unfolding trace sent_octets
 sent book config octets = sent_octets (trace (opening book config) octets).events
 
--- the state behind the beginning
+-- the state after the beginning
 unfoldable pub ready : List Entry → Config → State
 unfolding trace
 ready book config = (trace (opening book config) beginning).state
 
--- what is sent for octets behind the beginning
+-- what is sent for octets after the beginning
 unfoldable pub replies_to : List Entry → Config → List ℕ → List ℕ
 unfolding ready sent_octets
 replies_to book config octets = sent_octets (trace (ready book config) octets).events

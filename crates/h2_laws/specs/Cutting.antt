@@ -1,4 +1,4 @@
--- How a stream's share is cut into DATA (RFC 9113, 4.2, 6.1 and 6.9), said of the frames by their places.
+-- How a stream's share is cut into DATA (RFC 9113, 4.2, 6.1 and 6.9), stated of the frames by their places.
 use Rattle.std.specs.Prelude.{◌≡◌, ℕ, ◌+◌, ◌<◌, ◌≤◌, Bool, List, ◌++◌, length, flat_map, slice_get, ◌==◌, Some}
 use Rattle.h2_spec.specs.declared.streams.Stream.{Stream}
 use Rattle.h2_spec.specs.FrameType.{DATA, END_STREAM}
@@ -19,7 +19,7 @@ pub record IsCut (id size : ℕ) (ends : Bool) (octets : List ℕ) (frames : Lis
   -- their payloads joined are the octets
   pub joined : flat_map (λ (f : Frame). f.payload) frames ≡ octets
 
--- octets are the next n of a body of which some wait: those behind them wait on
+-- octets are the next n of a body of which some wait: those after them wait on
 pub record IsNext (body : List ℕ) (waiting n : ℕ) (octets : List ℕ) : Type 0 where
   pub before : List ℕ
   pub behind : List ℕ

@@ -47,7 +47,7 @@ pub record Tally : Type 0 where
   pub sent : ℕ
   pub mark : Mark
 
--- nothing of the stream has come or gone
+-- nothing of the stream has been received or sent
 abbrev pub blank : Mark
 blank = record { granted = 0; promised = None; headers = 0; content = []; ended = false; reset = false }
 
@@ -191,7 +191,7 @@ IsWithinStream t = length t.mark.content ≤ t.window + t.mark.granted
 abbrev pub IsWithinFrameSize : Tally → Frame → Type 0
 IsWithinFrameSize t f = When (f.kind == DATA) (length f.payload ≤ t.frame)
 
--- HEADERS is the first on the stream, and DATA comes behind it
+-- HEADERS is the first on the stream, and DATA comes after it
 abbrev pub IsInOrder : ℕ → Tally → Frame → Type 0
 IsInOrder id t f = When (is_headers_on id f) (t.mark.headers ≡ 0) × When (is_data_on id f) (t.mark.headers ≡ 1)
 
@@ -233,7 +233,7 @@ pub record Meets (id : ℕ) (ends : Bool) (t : Tally) (sent : List Frame) : Type
   pub answers_once : AtEach (IsInOrder id) id t sent × IsOfBody (sent_all id t sent).mark
   -- no HEADERS or DATA after END_STREAM, and no frame on the stream after RST_STREAM either way
   pub silent_after_end : AtEach (IsBeforeEnd id) id t sent
-  -- unless the item ended the connection: what is left of an answer waits for the peer to grant more
+  -- unless the item ended the connection: the rest of an answer waits for the peer to grant more
   pub nothing_held_back : When (not ends && is_unfinished (sent_all id t sent).mark) (IsUsedUp (sent_all id t sent))
 
 -- ---- a run

@@ -38,7 +38,7 @@ is_within_stream t = nat_le (length t.mark.content) (t.window + t.mark.granted)
 abbrev pub is_within_frame_size : Tally → Frame → Bool
 is_within_frame_size t f = when (f.kind == DATA) (nat_le (length f.payload) t.frame)
 
--- HEADERS once, and DATA behind it
+-- HEADERS once, and DATA after it
 abbrev pub is_in_order : ℕ → Tally → Frame → Bool
 is_in_order id t f = when (is_headers_on id f) (t.mark.headers == 0) && when (is_data_on id f) (t.mark.headers == 1)
 

@@ -1,7 +1,6 @@
 //! Flow control as the peer sees it, over whole runs: what is sent keeps to what was granted, and is held back no
-//! further (RFC 9113, 5.2, 6.9 and 8.1).
-//! Rests on the definitions alone: each function's contract is a law of them, and its body is empty.
-//! Definitions: `specs/Grants.antt`, `specs/Order.antt`, `specs/Allowances.antt`, `specs/Cutting.antt`.
+//! further (RFC 9113, 5.2, 6.9 and 8.1). Each function's contract is a law of them, and its body is empty. Definitions:
+//! `specs/Grants.antt`, `specs/Order.antt`, `specs/Allowances.antt`, `specs/Cutting.antt`.
 
 ghost use Rattle.std.specs.Prelude.{◌≡◌, ◌≤◌, ℕ, List, [], length};
 ghost use Rattle.h2_spec.specs.declared.connection.Config.{Config};
@@ -27,7 +26,7 @@ pub fn records_are_in_order()
     ensures { (book : List Entry) (config : Config) (octets : List ℕ) → KeepsOrder book config octets }
 {}
 
-/// Each stream sends the least of three: what waits on it, its own window, and the connection's window less what the
+/// Each stream sends the least of three: its pending output, its own window, and the connection's window less what the
 /// streams before it send.
 pub fn allowances_are_least()
     ensures { (window : ℕ) (before : List Stream) (stream : Stream) (behind : List Stream) → AllowanceIsLeast window before stream behind }
@@ -39,8 +38,8 @@ pub fn allowances_are_sent()
 {}
 
 /// A stream's share is the next octets of its answer's body. It is cut into DATA of the peer's frame size and a last
-/// one, which has an octet or more and at most that size, and END_STREAM exactly where nothing of the body waits
-/// behind it; there is one way to do so. A share of 0 is no frame (RFC 9113, 4.2, 6.1 and 6.9).
+/// one, which has an octet or more and at most that size, and END_STREAM exactly where nothing of the body waits after
+/// it; there is one way to do so. A share of 0 is no frame (RFC 9113, 4.2, 6.1 and 6.9).
 pub fn allowances_are_cut_into_data()
     ensures cut { (book : List Entry) (size n : ℕ) (stream : Stream) → 1 ≤ size → n ≤ octets_waiting stream → octets_waiting stream ≤ length (picked book stream.pick).body → CutsAllowance book size n stream }
     ensures none { (book : List Entry) (size : ℕ) (stream : Stream) → allowance_frames book size 0 stream ≡ [] }

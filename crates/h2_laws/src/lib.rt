@@ -1,8 +1,7 @@
 //! The laws of the definitions: each is the contract of a public function with an empty body. No code calls them; a
-//! contract of h2_conn cites one, the law of grants.
-//! It uses h2_spec, which has the definitions and those lemmas that proofs of code need too, and the definitions of
-//! `hex`. It also has worked examples, computed from the definitions (`proofs/Runs.antt`, `proofs/LongBodies.antt`,
-//! `proofs/..Rows.antt`).
+//! contract of h2_conn cites one, the law of grants. h2_spec has the definitions, and those lemmas that proofs of code
+//! need too. This crate also has worked examples, computed from the definitions (`proofs/Runs.antt`,
+//! `proofs/LongBodies.antt`, `proofs/..Rows.antt`).
 #![tactic(auto)]
 
 pub mod block_laws;

@@ -10,8 +10,8 @@ ghost use Rattle.h2_spec.specs.State.{State};
 ghost use Rattle.h2_spec.specs.Trace.{trace, carried_on, IsKept, IsWithin};
 ghost use Rattle.h2_laws.specs.LocalSettings.{KeepsLocalSettings};
 
-/// An item takes at least one octet and no more than there are, and more octets behind it leave it as it is (RFC
-/// 9113, 3.4 and 4.1).
+/// An item takes at least one octet and no more than there are, and more octets after it leave it as it is (RFC 9113,
+/// 3.4 and 4.1).
 pub fn items_are_cut_anywhere()
     ensures within { (preface : Bool) (limit : ℕ) (b : List ℕ) → IsWithin b (next preface limit b) }
     ensures kept { (preface : Bool) (limit : ℕ) (b c : List ℕ) → IsKept (next preface limit b) (next preface limit (b ++ c)) }

@@ -57,7 +57,7 @@ fields-cut start (s ∷ spans) end cut octets h k w =
     ap (λ f. f ∷ map (field_in (take cut octets)) spans) (field-cut s cut octets h.1.0 (omega (arith, more)) w)
     ∙ ap (λ fs. field_in octets s ∷ fs) (fields-cut s.end spans end cut octets h.1.1 k w)
 
--- ---- octets behind those of the fields, and one span more
+-- ---- octets after those of the fields, and one span more
 
 -- a span whose parts are there is ordered
 pub span-ordered : (s : Span) (octets name value : List ℕ) → s.start ≤ s.end → s.end ≡ length octets → IsPart s.name octets name → IsPart s.value octets value → IsOrdered s
@@ -69,7 +69,7 @@ pub record Begins (start : ℕ) (octets now : List ℕ) : Type 0 where
   pub within : start ≤ length now
   pub same : take start now ≡ take start octets
 
--- the first octets alone, and then with more behind
+-- the first octets alone, and then with more after
 pub begins : (start : ℕ) (octets : List ℕ) → start ≤ length octets → Begins start octets (take start octets)
 begins start octets w = record { held = w; within = omega (arith, length-take-le start octets w); same = take_all start (take start octets) (omega (arith, length-take-le start octets w)) }
 
@@ -115,7 +115,7 @@ adds octets now spans s start name value b h e n v =
       next = drop_of_length-le now (omega (arith, e));
     }
 
--- the octets behind the fields are two parts
+-- the octets after the fields are two parts
 pub front-part : (part : Part) (octets : List ℕ) (start name : ℕ) → start ≤ length octets → part.start ≡ start → part.end ≡ start + name → name ≤ length (drop start octets) → IsPart part octets (take name (drop start octets))
 front-part part octets start name w a b n =
     let count : part.end - part.start ≡ name = omega (arith, a, b) in

@@ -1,5 +1,5 @@
-//! A list of header fields in one list of octets, whose memory is used again for the next field block.
-//! It uses the definition `Field` of `h2_spec`; a field is a span of the octets, as `specs/Spans.antt` has it.
+//! A list of header fields in one list of octets, whose memory is used again for the next field block. A field is a
+//! span of the octets, as `specs/Spans.antt` has it.
 #![tactic(auto)]
 
 ghost use Rattle.std.specs.Prelude.{◌≡◌, ◌↔◌, ℕ, ◌≤◌, List, [], ◌∷◌, ◌++◌, take, drop, length, slice_get, option_map, IfOk, IsErrOf, OnOk, OnErr};
@@ -47,7 +47,7 @@ const NOTHING: Span = Span {
     end: 0,
 };
 
-/// A list of header fields, and behind them the octets of a next field that is not complete yet. Fields can share
+/// A list of header fields, and after them the octets of a next field that is not complete yet. Fields can share
 /// octets: `append_like` and `close_named` do not add those of a name or a value that an earlier field has.
 #[derive(Drop)]
 pub struct FieldList<A: Allocator> {
@@ -220,7 +220,7 @@ impl<A: Allocator> FieldList<A> {
         Ok(())
     }
 
-    /// Adds a field behind the others, in place of octets of a next field. `like` is the place of a field that may have
+    /// Adds a field after the others, instead of octets of a next field. `like` is the place of a field that may have
     /// the same name or the same value: then their octets are shared; any number is allowed.
     ///
     /// # Errors
@@ -245,7 +245,7 @@ impl<A: Allocator> FieldList<A> {
         Ok(())
     }
 
-    /// Adds a field behind the others, in place of octets of a next field.
+    /// Adds a field after the others, instead of octets of a next field.
     ///
     /// # Errors
     ///
@@ -281,7 +281,7 @@ impl<A: Allocator + Copy> FieldList<A> {
         *self.octets.allocator()
     }
 
-    /// The same list in memory of its own.
+    /// A copy of the list, in memory of its own.
     ///
     /// # Errors
     ///

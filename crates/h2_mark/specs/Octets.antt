@@ -2,7 +2,7 @@
 use Rattle.std.specs.Prelude.{ℕ, Bool, ◌||◌, nat_le}
 use Rattle.h2_spec.specs.Request.{is_outside_names, is_colon}
 
--- no name has it behind its first octet (RFC 9113, 8.2.1)
+-- no name has it after its first octet (RFC 9113, 8.2.1)
 abbrev pub is_outside_rest : ℕ → Bool
 is_outside_rest c = is_outside_names c || is_colon c
 

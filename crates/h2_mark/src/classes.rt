@@ -1,13 +1,12 @@
-//! Which octets names and values can't have (RFC 9113, 8.2.1), by tables: one look-up an octet.
-//! It uses nothing; each table is tied to the test of `h2_spec`, specs/Request.antt, by a proof that computes over the
-//! whole table.
+//! Which octets names and values can't have (RFC 9113, 8.2.1), by tables: one look-up an octet. Each table is tied to
+//! the test of `h2_spec`, specs/Request.antt, by a proof that computes over the whole table.
 
 ghost use Rattle.std.specs.Prelude.{◌≡◌, ◌&&◌};
 ghost use Rattle.std.specs.List.{list_any};
 ghost use Rattle.h2_spec.specs.Request.{is_outside_values};
 ghost use Rattle.h2_mark.specs.Octets.{is_low, is_outside_rest};
 
-/// For each octet whether no name has it behind its first octet: a control, a space, a capital letter, a colon, or one
+/// For each octet whether no name has it after its first octet: a control, a space, a capital letter, a colon, or one
 /// from 7f on.
 static OUTSIDE_REST: [bool; 256] = [
     true, true, true, true, true, true, true, true, true, true, true, true, true, true, true, true,
@@ -53,7 +52,7 @@ static OUTSIDE_VALUES: [bool; 256] = [
     false, false, false, false, false, false, false, false,
 ];
 
-/// Whether no name has this octet behind its first one.
+/// Whether no name has this octet after its first one.
 fn is_outside_of_rest(octet: u8) -> bool
     ensures { result ≡ is_outside_rest octet }
 {
@@ -67,7 +66,7 @@ fn is_outside_of_values(octet: u8) -> bool
     OUTSIDE_VALUES[usize::from(octet)]
 }
 
-/// Whether one of the octets behind the first of a name is none of a name's.
+/// Whether one of the octets after the first of a name is none of a name's.
 pub fn has_outside_of_rest(octets: &[u8]) -> bool
     ensures { result ≡ list_any is_outside_rest octets.now }
 {

@@ -1,7 +1,7 @@
 //! What a field can be malformed for by itself, and which of the names that the rules of a request are about it has
-//! (RFC 9113, 8.1.1, 8.2 and 8.3).
-//! It uses `octets`; the definition is `mark_of` of specs/Mark.antt, over the tests of `h2_spec`, specs/Request.antt. A
-//! name is compared with the known names of its length alone: proofs/KnownNames.antt proves that this finds the same.
+//! (RFC 9113, 8.1.1, 8.2 and 8.3). The definition is `mark_of` of specs/Mark.antt, over the tests of `h2_spec`,
+//! specs/Request.antt. A name is compared with the known names of its length alone: proofs/KnownNames.antt proves that
+//! this finds the same.
 
 ghost use Rattle.std.specs.Prelude.{◌≡◌, ◌&&◌, not, [], bytes_eq, codes, map};
 ghost use Rattle.std.specs.Char.{to_ascii_lowercase};

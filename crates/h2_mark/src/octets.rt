@@ -1,5 +1,5 @@
-//! Tests of one field's name or value (RFC 9113, 8.1.1, 8.2 and 8.3).
-//! It uses the tables of `classes`; each is the test of its name in `h2_spec`, specs/Request.antt.
+//! Tests of one field's name or value (RFC 9113, 8.1.1, 8.2 and 8.3). Each is the test of its name in `h2_spec`,
+//! specs/Request.antt.
 
 ghost use Rattle.std.specs.Prelude.{◌≡◌, ◌≤◌, ◌==◌, ◌||◌, not, drop, length, codes, bytes_eq, map, if◌then◌else◌};
 ghost use Rattle.std.specs.Char.{to_ascii_lowercase};

@@ -33,7 +33,7 @@ places_from start s octets = start ∷ item_texts 1 (trace s octets).events
 abbrev pub places_run : List Entry → Config → List ℕ → List (List ℕ)
 places_run book config octets = places_from (item_text 0 (opening_octets config) (view (opening book config))) (opening book config) octets
 
--- the next item was taken: so many octets, and those that are sent for it
+-- the next item was taken: that many octets, and those that are sent for it
 pub record TakesItem (s : State) (b : List ℕ) (c : Connection) (sent : List ℕ) (used : ℕ) : Type 0 where
   pub event : Event
   pub comes : next_event s b ≡ One event c.state used
@@ -64,7 +64,7 @@ before_last (Some last) place = nat_lt place last
 abbrev pub goes_on : Shown → ℕ → Bool
 goes_on shown place = before_last shown.last place
 
--- so many of a list; all of it where no number is given
+-- that many of a list; all of it where no number is given
 abbrev pub up_to : Option ℕ → List (List ℕ) → List (List ℕ)
 up_to None texts = texts
 up_to (Some count) texts = take count texts

@@ -1,4 +1,4 @@
-//! The places of a run, and which of them are written. Rests on h2_device and h2_conn; definitions: `specs/Places.antt`.
+//! The places of a run, and which of them are written. Definitions: `specs/Places.antt`.
 
 ghost use Rattle.std.specs.Prelude.{◌≡◌, ◌<◌, ◌^◌, ◌++◌, ℕ, List, [], Some, false, length, IfOk, IfErr, OnOk, is_err};
 ghost use Rattle.std.specs.Io.KnownBytes.{Appends};

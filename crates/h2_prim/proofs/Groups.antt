@@ -8,7 +8,7 @@ use Rattle.h2_spec.specs.Read.{Read, Whole, More, TooLong}
 use Rattle.h2_spec.specs.Integer.{IsReadOf, groups_at, groups_of, int_at, scaled, spell_int}
 use Rattle.h2_spec.proofs.IntegerLaws.{int_read}
 
--- a group before the number behind it
+-- a group before the number after it
 pub scaled-scaled : (a w i d : ℕ) (r : Read ℕ) → scaled a w i (scaled d 128 1 r) ≡ scaled (a + d * w) (w * 128) (i + 1) r
 scaled-scaled a w i d (Whole v more) =
     let value : a + w * (d + 128 * v) ≡ a + d * w + w * 128 * v = omega arith in
@@ -77,7 +77,7 @@ int_at-full n o v full xs cs r front e g h groups =
 
 -- ---- writing
 
--- what is left to write of a number: at most as many groups as there is space for
+-- what remains to write of a number: at most as many groups as there is space for
 pub record Left (out all : List ℕ) (len capacity v : ℕ) : Type 0 where
   pub enough : ℕ
   pub small : v < 128 ^ suc enough

@@ -1,4 +1,4 @@
--- Reading: what is behind the codes so far, four bits later; and what a string's end says of it.
+-- Reading: what is after the codes so far, four bits later; and what a string's end says of it.
 use Rattle.std.proofs.Common.{◌≡◌, ℕ, zero, suc, ◌+◌, ◌*◌, ◌/◌, ◌%◌, ◌<◌, ◌≤◌, ◌↔◌, Bool, List, [], ◌∷◌, ◌++◌, length, take, set, get_or, refl, ap, sym, subst, ◌∙◌, arith, length-append, append_assoc, ltb, ltb-false, Err, Ok, Option, Some, None, true, false, cond}
 use Rattle.std.proofs.Math.Seq.{take-append-add, take-append_seam}
 use Rattle.std.proofs.lemmas.List.{append-nil, take_all, take_more_set, take-set, length-take-le, get_or_default}
@@ -93,7 +93,7 @@ stay true before end items zeros now e n h =
     rw (e, whole, n) (take-append_seam items zeros)
 stay false before end items zeros now e n h = rw e (take_all before items (omega arith))
 
--- what a text leaves behind the octets before it, once it is cut to its length
+-- what a text leaves after the octets before it, once it is cut to its length
 pub appended : (before len size : ℕ) (front new rest items : List ℕ) → front ≡ items → before ≡ length items → len ≤ length new → before + len ≤ size → take (before + len) (take size ((front ++ new) ++ rest)) ≡ items ++ take len new
 appended before len size front new rest items same count h k =
     let size_of : length (front ++ new) ≡ length front + length new = length-append front new in

@@ -5,7 +5,7 @@ use Rattle.h2_prim.specs.declared.fault.HuffFault.TheVariants as fault
 use Rattle.h2_spec.specs.HuffmanCode.{code}
 use Rattle.h2_spec.specs.Huffman.{HuffRead, Text, Eos, Padding, IsText, codes}
 
--- where each state is: within the code of a symbol, behind so many bits of it; first the states of no ones to seven
+-- where each state is: within the code of a symbol, after that many bits of it; first the states of no ones to seven
 -- ones, and last that of the whole code of the end of a string
 unfoldable pub places : List (ℕ × ℕ)
 places =

@@ -3,7 +3,7 @@ use Rattle.std.specs.Prelude.{◌≡◌, ℕ, Bool, List, ◌++◌}
 use Rattle.h2_spec.specs.HuffmanCode.{bits_of}
 use Rattle.h2_spec.specs.Huffman.{bits, IsText}
 
--- the octets begin with those before, and what was added to them and a number of so many bits are these bits
+-- the octets begin with those before, and what was added to them and a number of that many bits are these bits
 pub record Written (before out : List ℕ) (count number : ℕ) (bs : List Bool) : Type 0 where
   pub added : List ℕ
   pub octets : IsText added

@@ -1,5 +1,5 @@
-//! What the reader of strings refuses, numbered as the faults of all crates are.
-//! It rests on nothing; what each fault means is `HasEos` and `IsPadding` of `h2_spec`, specs/Huffman.antt.
+//! What the reader of strings refuses, numbered as the faults of all crates are. What each fault means is `HasEos` and
+//! `IsPadding` of `h2_spec`, specs/Huffman.antt.
 
 ghost use Rattle.std.specs.Prelude.{◌≡◌};
 ghost use Rattle.h2_prim.specs.Readings.{number_of};
@@ -16,7 +16,7 @@ pub enum HuffFault {
     /// The whole code of the end of a string is in the octets.
     #[error("the end-of-string code is inside a Huffman string")]
     Eos,
-    /// What is left behind the last whole code is longer than seven bits, or has a zero in it.
+    /// The rest after the last whole code is longer than seven bits, or has a zero in it.
     #[error("a Huffman string ends in what is neither a code nor padding")]
     Padding,
 }

@@ -1,7 +1,6 @@
-//! Huffman strings (RFC 7541, 5.2 and Appendix B): how long one is, writing one, and reading one. It rests on the
-//! arrays of `tables`, which proofs tie to the code of `h2_spec`; its definitions are `spell_huffman` and
-//! `huffman_text` of `h2_spec`, specs/Huffman.antt, and the law that these are what the RFC says is
-//! `h2_laws::huffman_laws`.
+//! Huffman strings (RFC 7541, 5.2 and Appendix B): how long one is, writing one, and reading one. Proofs tie the arrays
+//! of `tables` to the code of `h2_spec`; its definitions are `spell_huffman` and `huffman_text` of `h2_spec`,
+//! specs/Huffman.antt, and the law that these are what the RFC says is `h2_laws::huffman_laws`.
 
 ghost use Rattle.std.specs.Prelude.{◌≡◌, ℕ, ◌+◌, ◌*◌, ◌/◌, ◌^◌, ◌<◌, ◌≤◌, ◌↔◌, ◌++◌, Bool, List, length, take, IfOk, OnOk, OnErr, IsErrOf};
 ghost use Rattle.std.specs.Vec.{vec_len, vec_capacity};
@@ -122,7 +121,7 @@ fn move_at(row: usize, nibble: u8) -> (usize, u16)
     ((found / 65536) as usize, (found % 65536) as u16)
 }
 
-/// Takes four bits: writes the octet that they may make whole at `len`, and returns the text's length and the row behind
+/// Takes four bits: writes the octet that they may make whole at `len`, and returns the text's length and the row after
 /// them.
 fn step(text: &mut [u8], len: usize, row: usize, nibble: u8) -> (usize, usize)
     requires enough { len < length text.now }
@@ -150,7 +149,7 @@ fn take_octet(text: &mut [u8], len: usize, row: usize, octet: u8) -> (usize, usi
     step(text, half.0, half.1, octet % 16)
 }
 
-/// Decodes the octets to the front of `text`; returns how many octets that is, and the state behind them. Two octets are
+/// Decodes the octets to the front of `text`; returns how many octets that is, and the state after them. Two octets are
 /// taken at a turn, and the last of an odd number by itself.
 fn decode(octets: &[u8], text: &mut [u8]) -> (usize, usize)
     requires { 8 * length octets.now ≤ 5 * length text.now }
@@ -172,7 +171,7 @@ fn decode(octets: &[u8], text: &mut [u8]) -> (usize, usize)
     (last.0, last.1 / 16)
 }
 
-/// The state behind the octets, with no text written.
+/// The state after the octets, with no text written.
 fn state_after(octets: &[u8]) -> usize
     ensures read { (text : List ℕ) × Represents (bits octets.now) text result }
     ensures small { result ≤ 256 }
@@ -229,8 +228,8 @@ fn power(bits: u8) -> u64
     1 << bits
 }
 
-/// Appends the whole octets of a number of `count` bits, for which there is space; returns what is left, and how many
-/// bits it has.
+/// Appends the whole octets of a number of `count` bits, for which there is space; returns the rest, and how many bits
+/// it has.
 fn flush<A: Allocator>(out: &mut Vec<u8, A>, number: u64, count: u8) -> (u64, u8)
     requires few { count ≤ 40 }
     requires small { number < 2 ^ count }

@@ -1,6 +1,5 @@
-//! Integers with a prefix of some bits of an octet (RFC 7541, 5.1).
-//! It rests on nothing; its definitions are `int_at` and `spell_int` of `h2_spec`, specs/Integer.antt, and the law that
-//! these are what the RFC says is `h2_laws::integer_laws`.
+//! Integers with a prefix of some bits of an octet (RFC 7541, 5.1). Its definitions are `int_at` and `spell_int` of
+//! `h2_spec`, specs/Integer.antt, and the law that these are what the RFC says is `h2_laws::integer_laws`.
 
 ghost use Rattle.std.specs.Prelude.{◌≡◌, ◌+◌, ◌-◌, ◌%◌, ◌^◌, ◌<◌, ◌≤◌, ◌++◌, OnOk, OnErr};
 ghost use Rattle.std.specs.Vec.{vec_len, vec_capacity};
@@ -16,13 +15,12 @@ pub enum IntRead {
     Whole(u64, usize),
     /// The beginning of an integer: it goes on in octets that are not there.
     More,
-    /// A fifth octet behind the prefix announces another one.
+    /// A fifth octet after the prefix announces another one.
     TooLong,
 }
 
 /// The integer with a prefix of `prefix` bits, 1 to 8, at the front of the octets, whatever the bits above the prefix
-/// are.
-/// Spellings longer than the shortest are accepted up to five octets behind the prefix. Takes no memory.
+/// are. Spellings longer than the shortest are accepted up to five octets after the prefix. Takes no memory.
 pub fn read_int(prefix: u8, octets: &[u8]) -> IntRead
     requires { (1 ≤ prefix) × (prefix ≤ 8) }
     ensures value { int_read result ≡ int_at prefix octets.now }

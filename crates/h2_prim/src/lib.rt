@@ -1,6 +1,6 @@
-//! The primitive types of HPACK (RFC 7541, 5): integers with a prefix, and strings with their Huffman code.
-//! It rests on the definitions of `h2_spec` alone: Integer, Huffman and HuffmanCode, and strings of Instruction.
-//! How an answer of this crate is one of the definitions' is in `specs/Readings.antt`.
+//! The primitive types of HPACK (RFC 7541, 5): integers with a prefix, and strings with their Huffman code. The
+//! definitions are Integer, Huffman, HuffmanCode and, for strings, Instruction of `h2_spec`. How an answer of this
+//! crate is one of the definitions' is in `specs/Readings.antt`.
 #![tactic(auto)]
 
 pub mod fault;

@@ -1,7 +1,6 @@
-//! Strings of HPACK (RFC 7541, 5.2): a flag, a length, and octets that are the text or its Huffman string. The program does
-//! not call `read_str`, which is for users of the library: `find_str` lends the string, and its reader decodes it.
-//! It rests on `integer` and `huffman`; its definitions are `string_at` and `text_of` of `h2_spec`,
-//! specs/Instruction.antt.
+//! Strings of HPACK (RFC 7541, 5.2): a flag, a length, and octets that are the text or its Huffman string. The program
+//! does not call `read_str`, which is for users of the library: `find_str` lends the string, and its reader decodes it.
+//! Its definitions are `string_at` and `text_of` of `h2_spec`, specs/Instruction.antt.
 
 ghost use Rattle.std.specs.Prelude.{◌≡◌, ◌↔◌, ◌≤◌, ◌<◌, length, take, drop, Some, Ok, IfOk, IfSome, IsSome, IsErrOf};
 ghost use Rattle.h2_spec.specs.Huffman.{Text, Eos, Padding};

@@ -1,6 +1,6 @@
 //! The Huffman code as the program has it (RFC 7541, Appendix B): arrays by symbol for writing, and by state for
-//! reading. Rests on nothing; each array is tied to the table of `h2_spec`, specs/HuffmanCode.antt, by a proof that
-//! computes over the whole array (proofs/HuffmanTable.antt). Where a state is in the code is in specs/States.antt.
+//! reading. Each array is tied to the table of `h2_spec`, specs/HuffmanCode.antt, by a proof that computes over the
+//! whole array (proofs/HuffmanTable.antt). Where a state is in the code is in specs/States.antt.
 
 /// How many bits the code of each octet has.
 pub static LENGTHS: [u8; 256] = [

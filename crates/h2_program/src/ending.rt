@@ -1,4 +1,4 @@
-//! What is said on standard error once a command has ended. Rests on h2_console's second look.
+//! What is said on standard error once a command has ended.
 
 use crate::files::failure_of;
 use crate::input::{Given, LIMIT, read_file};
@@ -13,6 +13,7 @@ use std::rt::Files;
 /// How a command ended.
 #[derive(Clone, Copy)]
 pub struct Ending {
+    /// The exit status.
     pub status: u8,
     /// Whether a sentence was written already, for the book.
     pub is_said: bool,

@@ -1,5 +1,4 @@
 //! What `explain` prints of the octets of a session, for the lines `explain` and `list` of a person or a program.
-//! Rests on h2_bench.
 
 use crate::files::NamedFiles;
 use h2_bench::{Plan, carry_out};

@@ -1,4 +1,4 @@
-//! The files that words name: `-` is standard input, each other path a file of the system. Rests on h2_book and h2_console.
+//! The files that words name: `-` is standard input, each other path a file of the system.
 
 ghost use Rattle.std.specs.Prelude.{◌≤◌, IfOk, None, false, vec_len};
 

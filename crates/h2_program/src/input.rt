@@ -1,5 +1,5 @@
-//! Which device is the input of a command: standard input, a file that the words name, or the lines of a console; and the
-//! octets themselves or their hex. Rests on h2_console.
+//! Which device is the input of a command: standard input, a file that the words name, or the lines of a console; and
+//! the octets themselves or their hex.
 
 use crate::explained::Explained;
 use crate::files::STANDARD_INPUT;
@@ -30,7 +30,9 @@ type Lines<'r, 'c> = Behind<'c, StandardInput<'r>, Stdout, Stderr, Explained<'r,
 /// The input of a command, and what is known of it.
 #[derive(Drop)]
 pub struct Given<'r, 'c> {
+    /// The input itself.
     pub taken: Taken<'r, 'c>,
+    /// What it is called where a sentence names it.
     pub source: Source<'c>,
     /// The position of a session.
     pub position: &'c Cell<usize>,
@@ -184,7 +186,7 @@ fn behind<'r, 'c>(
 /// The most octets of an input's text.
 pub const LIMIT: usize = 16777216;
 
-/// The octets of a file, at most so many as an input may have; `OutOfMemory` only where memory was refused.
+/// The octets of a file, at most that many as an input may have; `OutOfMemory` only where memory was refused.
 pub fn read_file(rt: &HostRuntime, path: &str, most: usize) -> Result<Vec<u8>, ErrorKind> {
     let mut files = StdFiles { runtime: rt };
     match files.read(rt.alloc(), path, most) {

@@ -1,6 +1,6 @@
 //! The program: the words of its command line, its files, its standard input, output and error, as h2_bench runs them.
-//! Rests on h2_bench, h2_console and h2_device; what it prints for its input is defined in `h2_bench/specs/Printed.antt`.
-//! Which device is the input is decided here, by `input`; what is said about a fault, by `ending`.
+//! What it prints for its input is defined in `h2_bench/specs/Printed.antt`. Which device is the input is decided here,
+//! by `input`; what is said about a fault, by `ending`.
 #![tactic(auto)]
 
 mod ending;

@@ -1,4 +1,4 @@
-//! What `--version` prints. Rests on nothing.
+//! What `--version` prints.
 
 use h2_bench::Words;
 use std::io::Write;

@@ -7,9 +7,13 @@ use h2_spec::connection::Config;
 /// The range of an option, and what it is.
 #[derive(Clone, Copy)]
 pub struct Range {
+    /// The option, as the command line has it.
     pub option: &'static str,
+    /// The least number that is allowed.
     pub least: u64,
+    /// The greatest number that is allowed.
     pub most: u64,
+    /// What the number limits, in words.
     pub what: &'static str,
 }
 

@@ -23,8 +23,11 @@ impl Say for Source<'_> {
 /// A place in a text: its line, the octet of the line and the octet of the text, each counted from 1.
 #[derive(Clone, Copy)]
 pub struct Place {
+    /// The line.
     pub line: usize,
+    /// The octet of the line.
     pub column: usize,
+    /// The octet of the text.
     pub octet: usize,
 }
 

@@ -1,6 +1,6 @@
-//! The allocator: it counts allocations behind a `&`, and passes all but one on.
-//! No clause can name what a cell holds. So the contracts about the count are those of `Countdown`; that it is kept
-//! from call to call is tested in `h2_refusing_examples`.
+//! The allocator: it counts allocations after a `&`, and passes all but one on. No clause can name what a cell holds.
+//! So the contracts about the count are those of `Countdown`; that it is kept from call to call is tested in
+//! `h2_refusing_examples`.
 
 use crate::countdown::Countdown;
 use std::alloc::{AllocError, Allocator};

@@ -79,7 +79,7 @@ fields_len-all fields i f h e =
     let same : length (field_octets (get_or fields i f)) ≡ field_len f = ap (λ x. length (field_octets x)) (sym e) ∙ field_len-is f in
     omega (arith, all, same)
 
--- ---- a walk over the fields, with what is left of the limit
+-- ---- a walk over the fields, with the rest of the limit
 
 pub too-long : (status left i : ℕ) (fields : List Field) (f : Field) → i < length fields → f ≡ get_or fields i f → left + status_len status + fields_len (take i fields) ≡ 16383 → left < field_len f → true ≡ nat_lt max_response_block (length (response_block false status fields))
 too-long status left i fields f within is so_far above = sym (lt-ltb max_response_block (length (response_block false status fields)) (omega (arith, response-len status fields, fields_len-all fields i f within is)))

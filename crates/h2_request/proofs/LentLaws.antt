@@ -1,4 +1,4 @@
--- The frames that a book has ready: the field block and the body are behind the nine octets of their heads.
+-- The frames that a book has ready: the field block and the body are after the nine octets of their heads.
 use Rattle.std.proofs.Common.{◌≡◌, ◌≤◌, ◌∙◌, ℕ, Bool, true, List, length, drop, refl, sym, ap, subst, arith}
 use Rattle.h2_spec.specs.Answer.{Answer}
 use Rattle.h2_spec.specs.Field.{Field}

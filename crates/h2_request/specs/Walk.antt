@@ -20,8 +20,8 @@ marked m f = record {
 
 -- ---- pseudo-fields
 
--- whether there was a regular field, a pseudo-field behind one, one that is none of a request's, one of these twice;
--- and their first values
+-- whether there was a regular field, a pseudo-field after one, one that is none of a request's, one of these twice; and
+-- their first values
 pub record Pseudo : Type 0 where
   pub regular : Bool
   pub late : Bool

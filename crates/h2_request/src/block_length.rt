@@ -1,5 +1,5 @@
-//! Whether the field block of a response is within its limit, found without writing it. It rests on nothing; the block
-//! is `response_block` of `h2_spec`, specs/Answer.antt, and the lengths of its parts are in specs/BlockLength.antt.
+//! Whether the field block of a response is within its limit, found without writing it. The block is `response_block`
+//! of `h2_spec`, specs/Answer.antt, and the lengths of its parts are in specs/BlockLength.antt.
 
 ghost use Rattle.std.specs.Prelude.{◌≡◌, ◌+◌, ◌<◌, ◌≤◌, ◌==◌, length, false, is_some, nat_lt, position, MatchOption};
 ghost use Rattle.h2_spec.specs.Answer.{indexed_statuses, response_block};
@@ -47,7 +47,7 @@ fn is_indexed(status: u16) -> bool
         || status == 500
 }
 
-/// What is left of these octets behind a field; none where it does not fit.
+/// The rest of these octets after a field; none where it does not fit.
 fn after_field<A: Allocator>(left: usize, field: &Field<A>) -> Option<usize>
     requires { left ≤ 16383 }
     ensures { MatchOption result (left < field_len field.now) (λ rest. rest + field_len field.now ≡ left) }
@@ -57,7 +57,7 @@ fn after_field<A: Allocator>(left: usize, field: &Field<A>) -> Option<usize>
     after_string(behind_name, field.value.as_slice())
 }
 
-/// What is left of these octets behind a string without a Huffman code; none where it does not fit.
+/// The rest of these octets after a string without a Huffman code; none where it does not fit.
 fn after_string(left: usize, octets: &[u8]) -> Option<usize>
     requires { left ≤ 16383 }
     ensures { MatchOption result (left < string_len (length octets.now)) (λ rest. rest + string_len (length octets.now) ≡ left) }

@@ -1,6 +1,5 @@
-//! The book of answers: its entries in order, what it refuses, and the answer that a request picks. It rests on
-//! `h2_fields` and the tests of `h2_mark`; the definitions are `entry_fault` of `h2_spec`, specs/Book.antt, and `pick_of` and
-//! `picked` of specs/Answer.antt.
+//! The book of answers: its entries in order, what it refuses, and the answer that a request picks. The definitions are
+//! `entry_fault` of `h2_spec`, specs/Book.antt, and `pick_of` and `picked` of specs/Answer.antt.
 
 ghost use Rattle.std.specs.Prelude.{None, ◌≡◌, ◌+◌, ◌≤◌, ◌==◌, ◌&&◌, ◌||◌, [], ◌∷◌, ◌++◌, OnOk, OnErr, IfOk, IfErr, option_map, codes, length, nat_lt, position, bytes_eq, take};
 ghost use Rattle.std.specs.List.{list_any};
@@ -130,7 +129,7 @@ impl<A: Allocator + Copy> Book<A> {
         }
     }
 
-    /// Puts an entry behind those of the book.
+    /// Puts an entry after those of the book.
     ///
     /// # Errors
     ///
@@ -487,7 +486,7 @@ fn has_bad_field<A: Allocator>(fields: &[Field<A>]) -> bool
     fields.iter().any(|field| is_bad_field(field))
 }
 
-/// Whether no answer has a body of so many octets.
+/// Whether no answer has a body of that many octets.
 fn is_body_too_long(body: &[u8]) -> bool
     ensures { result ≡ nat_lt spec.max_body (length body.now) }
 {

@@ -1,5 +1,5 @@
-//! Why a book refuses an entry, numbered as the faults of all crates are.
-//! It uses nothing; which entries are refused is in `h2_spec`, specs/Book.antt.
+//! Why a book refuses an entry, numbered as the faults of all crates are. Which entries are refused is in `h2_spec`,
+//! specs/Book.antt.
 
 ghost use Rattle.std.specs.Prelude.{◌≡◌};
 ghost use Rattle.h2_request.specs.Fault.{entry_number, fault_number};

@@ -1,5 +1,5 @@
-//! A list of fields, as a request or trailers are checked over it.
-//! It rests on `h2_fields` and the marks of `h2_mark`; what a list contains is `fields_in` of specs/Fields.antt.
+//! A list of fields, as a request or trailers are checked over it. What a list contains is `fields_in` of
+//! specs/Fields.antt.
 
 ghost use Rattle.std.specs.Prelude.{◌≡◌, length, slice_get, IfSome};
 ghost use Rattle.std.specs.Option.{option_map};

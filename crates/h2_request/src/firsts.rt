@@ -1,6 +1,6 @@
-//! The first entry of a book with a method and a path: its place, found by one hash of their octets.
-//! Rests on `indexmap` and on the octets of `h2_fields`; definitions: `specs/Firsts.antt`.
-//! A book is written by the user, so the hasher is a fixed one: only the book's own author could crowd the map.
+//! The first entry of a book with a method and a path: its place, found by one hash of their octets. Definitions:
+//! `specs/Firsts.antt`. A book is written by the user, so the hasher is a fixed one: only the book's own author could
+//! crowd the map.
 
 ghost use Rattle.std.specs.Prelude.{◌≡◌, [], nat_lt, fold, IfOk, OnOk, OnErr};
 ghost use Rattle.std.specs.Cmp.{on_equiv, on_per, partial_equiv_from_equiv};
@@ -165,7 +165,7 @@ impl<A: Allocator + Copy> Firsts<A> {
         }
     }
 
-    /// Notes that an entry with this method and this path is at this place, behind the others: nothing changes where
+    /// Notes that an entry with this method and this path is at this place, after the others: nothing changes where
     /// there is one before it.
     ///
     /// `AllocError` where memory is refused, and then nothing changes.

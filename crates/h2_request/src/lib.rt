@@ -1,7 +1,5 @@
 //! Requests and the book of answers: which fields make a request or trailers (RFC 9113, 8.1 to 8.5), and what is
-//! answered.
-//! It rests on `h2_fields` (fields, response blocks), the marks of `h2_mark`, and the definitions of `h2_spec`: Request, Answer, Book and
-//! AnswerWords.
+//! answered. The definitions are Request, Answer, Book and AnswerWords of `h2_spec`.
 #![tactic(auto)]
 
 mod block_length;

@@ -1,5 +1,5 @@
-//! Why fields make no request or no trailers (RFC 9113, 8.1.1, 8.2, 8.3 and 8.5).
-//! It rests on nothing; the reasons and their numbers are in `h2_spec`, specs/Request.antt and specs/Reasons.antt.
+//! Why fields make no request or no trailers (RFC 9113, 8.1.1, 8.2, 8.3 and 8.5). The reasons and their numbers are in
+//! `h2_spec`, specs/Request.antt and specs/Reasons.antt.
 
 ghost use Rattle.std.specs.Prelude.{◌≡◌};
 ghost use Rattle.h2_request.specs.ReasonNumber.{reason_number};

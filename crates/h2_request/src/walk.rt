@@ -1,7 +1,7 @@
-//! What one walk over a list of fields notes: marks of fields alone, the pseudo-fields, and the content-length.
-//! It uses the marks of `h2_mark`; how a field more changes each is `marked`, `noted` and `measured` of specs/Walk.antt,
-//! and by the field's mark `marked_by`, `noted_by` and `measured_by` of specs/Marked.antt. That they then say what the definitions
-//! test of the whole list is proved in proofs/Seen.antt.
+//! What one walk over a list of fields notes: marks of fields alone, the pseudo-fields, and the content-length. How a
+//! field more changes each is `marked`, `noted` and `measured` of specs/Walk.antt, and by the field's mark `marked_by`,
+//! `noted_by` and `measured_by` of specs/Marked.antt. That they then say what the definitions test of the whole list is
+//! proved in proofs/Seen.antt.
 
 ghost use Rattle.std.specs.Prelude.{◌≡◌, ◌||◌, false, Some, is_some, unwrap_or};
 ghost use Rattle.std.specs.Option.{option_copied};
@@ -17,10 +17,15 @@ use std::alloc::Allocator;
 /// Which tests of a field alone some field has passed.
 #[derive(Clone, Copy)]
 pub struct Marks {
+    /// A name is empty, has an octet that no name has, or a misplaced colon (RFC 9113, 8.2.1).
     pub bad_name: bool,
+    /// A value has an octet that no value has, or begins or ends with a blank (8.2.1).
     pub bad_value: bool,
+    /// A name begins with a colon (8.3).
     pub pseudo: bool,
+    /// A field is one of an HTTP/1.1 connection (8.2.2).
     pub of_connection: bool,
+    /// A `te` field is not `trailers` (8.2.2).
     pub bad_te: bool,
 }
 
@@ -55,13 +60,21 @@ impl Marks {
 /// The pseudo-fields of a request: the first value of each, and the reason against them.
 #[derive(Clone, Copy)]
 pub struct PseudoFields<'a> {
+    /// Whether a field was no pseudo-field.
     pub regular: bool,
+    /// Whether a pseudo-field came after such a field (RFC 9113, 8.3).
     pub late: bool,
+    /// Whether a pseudo-field is none of the four of a request (8.3.1).
     pub unknown: bool,
+    /// Whether one of the four is there twice.
     pub double: bool,
+    /// The first value of `:method`.
     pub method: Option<&'a [u8]>,
+    /// The first value of `:scheme`.
     pub scheme: Option<&'a [u8]>,
+    /// The first value of `:path`.
     pub path: Option<&'a [u8]>,
+    /// The first value of `:authority`.
     pub authority: Option<&'a [u8]>,
 }
 
@@ -116,7 +129,9 @@ fn is_again<'a>(double: bool, first: &mut Option<&'a [u8]>, value: &'a [u8]) -> 
 /// The content-length of a request: its number, and whether one is no number or another number.
 #[derive(Clone, Copy)]
 pub struct ContentLength {
+    /// The octets of content that the first one that is a number declares.
     pub declared: Option<u64>,
+    /// Whether one is no number, or another number than the first (RFC 9113, 8.1.1).
     pub bad: bool,
 }
 
@@ -165,8 +180,11 @@ impl ContentLength {
 /// All that is seen of a list of fields.
 #[derive(Clone, Copy)]
 pub struct Seen<'a> {
+    /// The marks of all fields together.
     pub marks: Marks,
+    /// The pseudo-fields.
     pub pseudo: PseudoFields<'a>,
+    /// The content-length.
     pub length: ContentLength,
 }
 

@@ -1,8 +1,8 @@
 //! Whether fields make a request or trailers, and what a request asks for (RFC 9113, 8.1 to 8.5). The program does not
-//! call `check` and `check_trailers`, which are for users of the library: `check_fields` and `check_trailer_fields` do the
-//! same over the fields of a block, which share their octets.
-//! It rests on `walk`; the definitions are `malformed`, `malformed_trailers` and `request_of` of `h2_spec`,
-//! specs/Request.antt, and its specs/Reasons.antt, which states the reasons by the places of fields in their list.
+//! call `check` and `check_trailers`, which are for users of the library: `check_fields` and `check_trailer_fields` do
+//! the same over the fields of a block, which share their octets. The definitions are `malformed`, `malformed_trailers`
+//! and `request_of` of `h2_spec`, specs/Request.antt, and its specs/Reasons.antt, which states the reasons by the
+//! places of fields in their list.
 
 ghost use Rattle.std.specs.Prelude.{◌≡◌, ◌==◌, [], length, unwrap_or, IfOk, IfErr, OnOk};
 ghost use Rattle.std.specs.Option.{option_map, option_copied};

@@ -56,7 +56,7 @@ applied-err streams from now code id value ps e = at (with_setting now id value)
     at (Err c) h = h
     at (Ok t) h = moved t (overflows (moved_by from.window t.window) streams) h
 
--- what is at a place, and then what is behind it
+-- what is at a place, and then what is after it
 pub drop-at : (n : ℕ) (ps : List (ℕ × ℕ)) (p : ℕ × ℕ) → slice_get ps n ≡ Some p → drop n ps ≡ p ∷ drop (n + 1) ps
 drop-at n ps p e = drop_more ps n (0, 0) (slice_get_within ps n p e) ∙ ap (λ q. q ∷ drop (n + 1) ps) (get_or_from_slice_get ps n p (0, 0) e)
 

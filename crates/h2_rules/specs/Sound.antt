@@ -50,7 +50,7 @@ abbrev pub IsSoundStream : InForce → Stream → Type 0
 IsSoundStream f st =
     (is_live st.kind ≡ true → MakesUp f.own.window st.numbers) × (st.numbers.send ≤ℤ pos 2147483647) × (follows_initial_window st.kind ≡ true → pos f.window ≤ℤ (st.numbers.send +ℤ pos 2147483647))
 
--- the pick is one of the book, and what waits is part of the body of the stream's answer
+-- the pick is one of the book, and the pending output is part of the body of the stream's answer
 abbrev pub HasBody : List Entry → Stream → Type 0
 HasBody book st = IsPickOf book st.pick × (octets_waiting st ≤ length (picked book st.pick).body)
 

@@ -1,5 +1,5 @@
-//! What a field block results in at its end (RFC 9113, 4.3, 5.1 and 8.1).
-//! Rests on `headers` and on h2_request; definition: `block_ends` of h2_spec's `specs/Headers.antt`.
+//! What a field block results in at its end (RFC 9113, 4.3, 5.1 and 8.1). Definition: `block_ends` of h2_spec's
+//! `specs/Headers.antt`.
 
 ghost use Rattle.std.specs.Prelude.{◌≡◌, true, false, length, nat_lt, Option, None, Some};
 ghost use Rattle.h2_spec.specs.declared.connection.Config.{Config};

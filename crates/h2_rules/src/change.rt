@@ -1,5 +1,4 @@
-//! Changes, and what a rule of one stream adds to them (RFC 9113, 5.4).
-//! Rests on h2_spec's types; definition: `specs/Change.antt` there.
+//! Changes, and what a rule of one stream adds to them (RFC 9113, 5.4). Definition: `specs/Change.antt` there.
 
 ghost use Rattle.std.specs.Prelude.{◌≡◌, ℕ, true, List, max};
 ghost use Rattle.h2_spec.specs.Change as changes;

@@ -1,5 +1,5 @@
-//! The checks of a frame before it is looked at by its type (RFC 9113, 3.4, 6 and 6.10).
-//! Rests on h2_spec's types; definition: `specs/Checks.antt` there.
+//! The checks of a frame before it is looked at by its type (RFC 9113, 3.4, 6 and 6.10). Definition:
+//! `specs/Checks.antt` there.
 
 ghost use Rattle.std.specs.Prelude.{◌≡◌, ◌<◌};
 ghost use Rattle.h2_spec.specs.FrameType as frame;

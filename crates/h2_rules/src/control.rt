@@ -1,5 +1,5 @@
-//! The rules for PING and GOAWAY, and for frames that change nothing (RFC 9113, 6.3, 6.7 and 6.8).
-//! Rests on `change`; definition: `frame_effect` of h2_spec's `specs/Effect.antt`.
+//! The rules for PING and GOAWAY, and for frames that change nothing (RFC 9113, 6.3, 6.7 and 6.8). Definition:
+//! `frame_effect` of h2_spec's `specs/Effect.antt`.
 
 ghost use Rattle.std.specs.Prelude.{◌≡◌, List, Some, if◌then◌else◌};
 ghost use Rattle.h2_spec.specs.Answer.{Entry};

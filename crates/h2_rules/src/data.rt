@@ -1,5 +1,5 @@
-//! The rule for DATA (RFC 9113, 6.1 and 6.9).
-//! Rests on `change` and `ends`; definitions: h2_spec's `specs/Data.antt`, and `on_data` of `specs/Effect.antt`.
+//! The rule for DATA (RFC 9113, 6.1 and 6.9). Definitions: h2_spec's `specs/Data.antt`, and `on_data` of
+//! `specs/Effect.antt`.
 
 ghost use Rattle.std.specs.Prelude.{◌≡◌, ℕ, ◌<◌, ◌≤◌, true, List, length, pos, ◌≤ℤ◌, ◌&&◌, nat_lt, int_lt};
 ghost use Rattle.h2_spec.specs.Answer.{Entry, picked};

@@ -1,5 +1,5 @@
-//! How the sides of a stream end, and how its answer begins (RFC 9113, 5.1 and 8.1).
-//! Rests on `change`; definition: h2_spec's `specs/StreamEnds.antt`.
+//! How the sides of a stream end, and how its answer begins (RFC 9113, 5.1 and 8.1). Definition: h2_spec's
+//! `specs/StreamEnds.antt`.
 
 ghost use Rattle.std.specs.Prelude.{◌≡◌, ℕ, ◌≤◌, true, List, length};
 ghost use Rattle.h2_spec.specs.StreamEnds as rule;

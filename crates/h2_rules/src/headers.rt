@@ -1,5 +1,5 @@
-//! Field blocks: HEADERS and CONTINUATION, and the end of a block (RFC 9113, 4.3, 6.2, 6.10 and 8.1).
-//! Rests on `change` and `ends`; definition: h2_spec's `specs/Headers.antt`.
+//! Field blocks: HEADERS and CONTINUATION, and the end of a block (RFC 9113, 4.3, 6.2, 6.10 and 8.1). Definition:
+//! h2_spec's `specs/Headers.antt`.
 
 ghost use Rattle.std.specs.Prelude.{◌≡◌, ℕ, ◌≤◌, true, ◌&&◌, ◌||◌, List, length, nat_le, nat_lt};
 ghost use Rattle.h2_spec.specs.Headers as rule;
@@ -157,8 +157,9 @@ pub fn request_outcome(
     }
 }
 
-/// What trailers do to their stream (RFC 9113, 8.1): they end the peer's side, and the request is answered. `size` is the
-/// size of their list in octets, `malformed` why their fields are malformed, if they are, `body` the length of the answer's body.
+/// What trailers do to their stream (RFC 9113, 8.1): they end the peer's side, and the request is answered. `size` is
+/// the size of their list in octets, `malformed` why their fields are malformed, if they are, `body` the length of the
+/// answer's body.
 ///
 /// # Errors
 ///

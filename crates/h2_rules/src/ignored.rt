@@ -1,5 +1,5 @@
 //! Why a frame that is no error is ignored, by its stream's state or its block's purpose (RFC 9113, 4.3 and 5.1).
-//! Rests on h2_spec's types; definition: `specs/Ignored.antt` there.
+//! Definition: `specs/Ignored.antt` there.
 
 ghost use Rattle.std.specs.Prelude.{◌≡◌, Some};
 ghost use Rattle.h2_spec.specs.Ignored as rule;

@@ -1,8 +1,5 @@
 //! The rules of a connection: what a frame changes and what is sent for it, each a function of values (RFC 9113, 5 to
-//! 8).
-//! It rests on `h2_streams` for records, on `h2_request` for requests and the book, on `h2_frame` and `h2_fields` for
-//! what frames hold.
-//! The definitions are in `h2_spec`, in the file of the rule's name; what holds of every connection is in
+//! 8). The definitions are in `h2_spec`, in the file of the rule's name; what holds of every connection is in
 //! specs/Sound.antt here.
 #![tactic(auto)]
 

@@ -1,5 +1,4 @@
-//! The rule for RST_STREAM (RFC 9113, 6.4).
-//! Rests on `change`; definition: `on_reset` of h2_spec's `specs/Effect.antt`.
+//! The rule for RST_STREAM (RFC 9113, 6.4). Definition: `on_reset` of h2_spec's `specs/Effect.antt`.
 
 ghost use Rattle.std.specs.Prelude.{◌≡◌, List};
 ghost use Rattle.h2_spec.specs.Effect as rule;

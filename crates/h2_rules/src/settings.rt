@@ -1,5 +1,5 @@
-//! The rule for SETTINGS (RFC 9113, 6.5 and 6.9.2).
-//! Rests on `change`; definitions: h2_spec's `specs/SettingsFrame.antt`, `specs/Settings.antt`.
+//! The rule for SETTINGS (RFC 9113, 6.5 and 6.9.2). Definitions: h2_spec's `specs/SettingsFrame.antt`,
+//! `specs/Settings.antt`.
 
 ghost use Rattle.std.specs.Prelude.{◌≡◌, List, Ok, Err};
 ghost use Rattle.h2_frame.specs.Parts.{settings_in};

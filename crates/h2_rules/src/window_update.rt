@@ -1,5 +1,5 @@
-//! The rule for WINDOW_UPDATE (RFC 9113, 6.9 and 6.9.1).
-//! Rests on `change`; definitions: h2_spec's `specs/WindowUpdate.antt`, and `on_window` of `specs/Effect.antt`.
+//! The rule for WINDOW_UPDATE (RFC 9113, 6.9 and 6.9.1). Definitions: h2_spec's `specs/WindowUpdate.antt`, and
+//! `on_window` of `specs/Effect.antt`.
 
 ghost use Rattle.std.specs.Prelude.{◌≡◌, ℕ, ◌≤◌, true, List};
 ghost use Rattle.h2_spec.specs.WindowUpdate as rule;

@@ -125,7 +125,7 @@ adds_more old mid new i some a b (x ∷ xs) is =
 
 -- ---- one instruction after another
 
--- these instructions were read, their texts and octets written, and what is left is read behind them
+-- these instructions were read, their texts and octets written, and the rest is read after them
 pub record Reaches (p text octets rest : List ℕ) : Type 0 where
   pub is : List Instruction
   pub most : ℕ
@@ -209,7 +209,7 @@ reaches_end {Z} t r p octets rest h none e = go (bytes_eq octets p) refl e
     go true same is = subst (λ (x : Option (String Z)). IsBlockText x (block_said p) p) (sym is) (h.is, reaches_same p (string_bytes t) octets rest h none same, h.written)
     go false same is = subst (λ (x : Option (String Z)). IsBlockText x (block_said p) p) (sym is) (reaches_other p (string_bytes t) octets rest h none same)
 
--- an instruction was written behind others, if it was written
+-- an instruction was written after others, if it was written
 pub adds_on : {T E : Type 0} (r : Result T E) (old mid new : List ℕ) (i : Instruction) → (new ≡ mid ++ instruction_text i → AddsText old new i) → OnOk r (new ≡ mid ++ instruction_text i) → OnOk r (AddsText old new i)
 adds_on (Ok t) old mid new i f e = f e
 adds_on (Err x) old mid new i f e = tt

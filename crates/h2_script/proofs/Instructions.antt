@@ -14,7 +14,7 @@ abbrev pub Reaches : Bool → List ℕ → ℕ → List ℕ → List ℕ → Typ
 Reaches long items most rest text =
     (o : List ℕ) × WrittenOut long items o × (behind_each instruction_at instruction_octets o most rest ≡ option_map (flat_map instruction_octets) (all_at instruction_at text))
 
--- an instruction was written behind the octets so far
+-- an instruction was written after the octets so far
 abbrev pub Writes : Bool → List ℕ → Bool → List ℕ → Instruction → Type 0
 Writes long items long' items' i = (o : List ℕ) → WrittenOut long items o → WrittenOut long' items' (o ++ instruction_octets i)
 

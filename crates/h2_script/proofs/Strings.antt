@@ -6,7 +6,7 @@ use Rattle.h2_spec.specs.Assemble.{octet_at, unescaped, with_octet}
 use Rattle.h2_spec.specs.Script.{is_plain}
 use Rattle.h2_script.specs.Characters.{character_at, escaped_at}
 
--- the octets behind those that were written
+-- the octets after those that were written
 abbrev pub Follows : List ℕ → List ℕ → Option (List ℕ) → Type 0
 Follows written text all = option_map (λ cs. written ++ cs) (unescaped text) ≡ all
 
@@ -29,7 +29,7 @@ escape_step (a ∷ b ∷ cs) octet used e = go (octet_at (a ∷ b ∷ [])) e
     go None k = absurd (cc)
     go (Some c) k = let same = same_both octet used c 3 k in rw (same.0, same.1) refl
 
--- the first octet, and those behind it
+-- the first octet, and those after it
 one_character : (text : List ℕ) (octet used : ℕ) → Some (octet, used) ≡ character_at text → unescaped text ≡ option_map (λ ds. octet ∷ ds) (unescaped (drop used text))
 one_character [] octet used e = absurd (cc)
 one_character (c ∷ cs) octet used e = go (is_plain c) refl e
@@ -89,7 +89,7 @@ follows_end written text i all past h =
 pub drop-twice : (i n : ℕ) (text : List ℕ) → drop (i + n) text ≡ drop n (drop i text)
 drop-twice i n text = sym (drop-drop n i text)
 
--- two digits behind a text
+-- two digits after a text
 pub two_digits : (old mid new : List ℕ) (high low octet : ℕ) → mid ≡ old ++ high ∷ [] → new ≡ mid ++ low ∷ [] → high ≡ slice_index lower_digits (octet / 16) → low ≡ slice_index lower_digits (octet % 16)
     → new ≡ old ++ encode_lower (octet ∷ [])
 unfolding encode_with

@@ -40,7 +40,7 @@ pairs_last (a ∷ b ∷ c ∷ d ∷ []) six = absurd (omega arith)
 pairs_last (a ∷ b ∷ c ∷ d ∷ e ∷ []) six = absurd (omega arith)
 pairs_last (a ∷ b ∷ c ∷ d ∷ e ∷ f ∷ g ∷ more) six = absurd (omega arith)
 
--- a text and a comma behind it
+-- a text and a comma after it
 pub comma : (old mid new more text : List ℕ) → mid ≡ old ++ text → new ≡ mid ++ 44 ∷ [] → new ++ more ≡ old ++ (text ++ 44 ∷ more)
 comma old mid new more text a b =
     ap (λ (x : List ℕ). x ++ more) (b ∙ ap (λ (x : List ℕ). x ++ 44 ∷ []) a ∙ append_assoc old text (44 ∷ [])) ∙ append_assoc old (text ++ 44 ∷ []) more ∙ ap (λ (x : List ℕ). old ++ x) (append_assoc text (44 ∷ []) more)

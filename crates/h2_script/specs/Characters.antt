@@ -3,7 +3,7 @@ use Rattle.std.specs.Prelude.{ℕ, ◌==◌, List, [], ◌∷◌, Option, Some, 
 use Rattle.h2_spec.specs.Assemble.{octet_at}
 use Rattle.h2_spec.specs.Script.{is_plain}
 
--- an octet of two hex digits behind a backslash
+-- an octet of two hex digits after a backslash
 abbrev pub escaped_at : List ℕ → Option (ℕ × ℕ)
 escaped_at [] = None
 escaped_at (a ∷ []) = None

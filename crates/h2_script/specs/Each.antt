@@ -1,4 +1,4 @@
--- What is said one after another, with commas between, behind octets that were written.
+-- What is said one after another, with commas between, after octets that were written.
 use Rattle.std.specs.Prelude.{ℕ, List, ◌++◌, Option, option_map, flat_map}
 use Rattle.h2_spec.specs.Assemble.{each_at}
 

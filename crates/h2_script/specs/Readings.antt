@@ -20,12 +20,12 @@ IsBuilt (Some built.Long) read = (p : Payload) × (read ≡ Some p) × (2 ^ 24 �
 abbrev pub WrittenOut : Bool → List ℕ → List ℕ → Type 0
 WrittenOut long items octets = (long ≡ false → items ≡ octets) × (long ≡ true → 2 ^ 24 ≤ length octets)
 
--- the instruction at the front was added, and this is left behind it, or there is none
+-- the instruction at the front was added, and this is left after it, or there is none
 abbrev pub AddsFirst : Bool → List ℕ → Bool → List ℕ → Option (List ℕ) → Option (Instruction × List ℕ) → Type 0
 AddsFirst long old long' new None read = None ≡ read
 AddsFirst long old long' new (Some left) read = (i : Instruction) × (Some (i, left) ≡ read) × ((o : List ℕ) → WrittenOut long old o → WrittenOut long' new (o ++ instruction_octets i))
 
--- the octets of a statement behind others
+-- the octets of a statement after others
 abbrev pub with_octets : List ℕ → Result Statement SyntaxKind → Result (List ℕ) SyntaxKind
 with_octets old (Ok s) = Ok (old ++ octets_of s)
 with_octets old (Err kind) = Err kind

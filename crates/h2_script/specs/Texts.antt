@@ -13,7 +13,7 @@ use Rattle.h2_spec.specs.Script.{Payload, Octets, Instructions, Statement, instr
 use Rattle.h2_spec.specs.Written.{each_text, first_said, instruction_text, is_writable, line_text, next_said, rest_text, stream_text, type_text}
 use Rattle.h2_spec.specs.declared.frames.Head.{Head}
 
--- the lines of at most this many statements, and of what is left
+-- the lines of at most this many statements, and of the rest
 abbrev pub said_text : ℕ → Bool → List ℕ → List ℕ
 said_text most first b = let t = parse_upto next_said most first b in flat_map line_text t.elements ++ rest_text t.rest
 
@@ -43,7 +43,7 @@ abbrev pub IsFirstSaid : {A : Type 0} → Option (Instr A × ℕ) → Read (Opti
 IsFirstSaid None read = (more : ℕ → Option (List Instruction)) → first_said read more ≡ None
 IsFirstSaid (Some r) read = (read ≡ Whole (Some (instr_of r.0)) r.1) × (is_writable (instr_of r.0) ≡ true)
 
--- an instruction was written behind others
+-- an instruction was written after others
 abbrev pub AddsText : List ℕ → List ℕ → Instruction → Type 0
 AddsText old new i = (is : List Instruction) → old ≡ each_text instruction_text is → new ≡ each_text instruction_text (is ++ i ∷ [])
 

@@ -1,5 +1,5 @@
-//! Assembling a script, line by line. It rests on `line`; the definitions are `Script` and `Bad` of `h2_spec`,
-//! specs/Script.antt, and `assembled`, specs/Assemble.antt, which computes them.
+//! Assembling a script, line by line. The definitions are `Script` and `Bad` of `h2_spec`, specs/Script.antt, and
+//! `assembled`, specs/Assemble.antt, which computes them.
 
 ghost use Rattle.std.specs.Prelude.{◌+◌, ◌<◌, IfErr, IfOk};
 ghost use Rattle.h2_spec.specs.Assemble.{assembled, lines_at, statement_at};

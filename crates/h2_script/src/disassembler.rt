@@ -1,6 +1,5 @@
-//! Disassembling octets, frame by frame. It rests on `said` for payloads and on `h2_frame` for heads; the definition is
-//! `written` of `h2_spec`, specs/Written.antt, and the law that this is a script of the octets is
-//! `h2_laws::script_laws::what_is_written_assembles_to_its_octets`.
+//! Disassembling octets, frame by frame. The definition is `written` of `h2_spec`, specs/Written.antt, and the law that
+//! this is a script of the octets is `h2_laws::script_laws::what_is_written_assembles_to_its_octets`.
 
 ghost use Rattle.std.specs.Prelude.{◌≡◌, ◌<◌, ◌≤◌, ◌^◌, ◌++◌, ◌&&◌, true, nat_eq, length, option_map, IfOk, IfSome, OnOk};
 ghost use Rattle.std.specs.List.{starts_with};
@@ -111,7 +110,7 @@ fn push_frame<A: Allocator + Copy>(
     out.push_str("\n")
 }
 
-/// Appends the type, the flags and the stream of a frame, a space behind each.
+/// Appends the type, the flags and the stream of a frame, a space after each.
 fn push_head<A: Allocator>(head: &Head, out: &mut String<A>) -> Result<(), AllocError>
     ensures { OnOk result (string_bytes out.new ≡ string_bytes out.old ++ head_text head.now) }
 {
@@ -124,7 +123,7 @@ fn push_head<A: Allocator>(head: &Head, out: &mut String<A>) -> Result<(), Alloc
     Ok(())
 }
 
-/// Appends the line of what is left behind the last whole frame, if anything is.
+/// Appends the line of the rest after the last whole frame, if anything is.
 fn push_rest<A: Allocator + Copy>(
     alloc: A,
     octets: &[u8],

@@ -1,5 +1,5 @@
-//! Why a text is no script, numbered as the faults of all crates are.
-//! It rests on the kinds of `h2_spec`; what each means is `HasFault` of `h2_spec`, specs/Script.antt.
+//! Why a text is no script, numbered as the faults of all crates are. What each means is `HasFault` of `h2_spec`,
+//! specs/Script.antt.
 
 ghost use Rattle.std.specs.Prelude.{◌≡◌};
 ghost use Rattle.h2_spec.specs.Script.{kind_number};

@@ -1,6 +1,5 @@
-//! A fragment of a field block as text: its instructions, or hex where a script would spell them in other octets.
-//! It rests on `h2_fields` for reading and writing instructions, and on `text`; the definitions are `block_said` and
-//! `instruction_text` of `h2_spec`, specs/Written.antt.
+//! A fragment of a field block as text: its instructions, or hex where a script would spell them in other octets. The
+//! definitions are `block_said` and `instruction_text` of `h2_spec`, specs/Written.antt.
 
 ghost use Rattle.std.specs.Prelude.{◌≡◌, ◌<◌, ◌^◌, ◌++◌, ◌∷◌, [], length, IfOk, OnOk, true, bytes_eq, if◌then◌else◌, Some, None};
 ghost use Rattle.std.specs.String.{string_bytes};

@@ -1,6 +1,4 @@
-//! Instructions of a field block in a script.
-//! It rests on `words`, and on `h2_fields` for their octets; the definition is `instruction_at` of `h2_spec`,
-//! specs/Assemble.antt.
+//! Instructions of a field block in a script. The definition is `instruction_at` of `h2_spec`, specs/Assemble.antt.
 
 ghost use Rattle.std.specs.Prelude.{◌≡◌, ◌≤◌, ◌^◌, ◌++◌, ℕ, List, length, nat_le, slice_index, option_map, option_and_then, IfOk, OnOk, true, false, Some};
 ghost use Rattle.h2_fields.specs.Instructions.{instr_of, name_text_of, IsWritable, IsWritableName, IsWritableText};

@@ -1,7 +1,5 @@
-//! Scripts of frames: the octets that a text represents, and the text that is written for octets.
-//! It rests on `h2_fields` for instructions, on `h2_frame` for heads, on h2_hex for reading hex, and on `hex` for writing
-//! it.
-//! The definitions are Script, Assemble and Written of `h2_spec`; their laws are in `h2_laws::script_laws`.
+//! Scripts of frames: the octets that a text represents, and the text that is written for octets. The definitions are
+//! Script, Assemble and Written of `h2_spec`; their laws are in `h2_laws::script_laws`.
 #![tactic(auto)]
 
 mod assembler;

@@ -1,5 +1,4 @@
-//! One line of a script: what it says, as octets.
-//! It rests on `words` and `payload`; the definition is `statement_at` of `h2_spec`, specs/Assemble.antt.
+//! One line of a script: what it says, as octets. The definition is `statement_at` of `h2_spec`, specs/Assemble.antt.
 
 ghost use Rattle.std.specs.Prelude.{◌≡◌, ◌⊎◌, ◌+◌, ◌^◌, ◌<◌, ◌≤◌, ◌++◌, ◌∷◌, if◌then◌else◌, ℕ, List, Some, None, length, OnOk, IfErr, IfSome};
 ghost use Rattle.h2_spec.specs.Assemble.{frame_at, frame_of, octet_at, raw_at, statement_at, stream_at, type_at, words_at};
@@ -91,7 +90,7 @@ fn add_raw<A: Allocator>(alloc: A, digits: &[u8], out: &mut Vec<u8, A>) -> Resul
     }
 }
 
-/// Appends the frame of a name and the parts behind it; the faults of the parts are found in the order of their kinds.
+/// Appends the frame of a name and the parts after it; the faults of the parts are found in the order of their kinds.
 fn add_frame<A: Allocator + Copy>(
     alloc: A,
     name: &[u8],

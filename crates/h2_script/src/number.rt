@@ -1,5 +1,4 @@
-//! Numbers in scripts and commands.
-//! It rests on nothing; the definitions are in `h2_spec`, specs/Assemble.antt, under the same names.
+//! Numbers in scripts and commands. The definitions are in `h2_spec`, specs/Assemble.antt, under the same names.
 
 ghost use Rattle.std.specs.Prelude.{◌≡◌, ◌≤◌, ◌&&◌, nat_le, nat_lt, length, IfSome};
 ghost use Rattle.h2_spec.specs.Assemble.{number_at, scanned};

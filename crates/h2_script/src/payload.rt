@@ -1,6 +1,4 @@
-//! The forms of a payload in a script.
-//! It rests on `words`, and on `instruction` for field blocks; the definition is `payload_at` of `h2_spec`,
-//! specs/Assemble.antt.
+//! The forms of a payload in a script. The definition is `payload_at` of `h2_spec`, specs/Assemble.antt.
 
 ghost use Rattle.std.specs.Prelude.{◌≡◌, ◌++◌, ◌==◌, if◌then◌else◌, length, option_map, flat_map, IfOk, OnOk, Option, Some, None};
 ghost use Rattle.h2_spec.specs.Assemble.{all_at, number_at, payload_at, setting_at};

@@ -1,5 +1,5 @@
-//! The payload of a frame as text, in the form that its type and flags ask for. It rests on `text`, and on `fragment`
-//! for field blocks; the definitions are `payload_said` and `payload_text` of `h2_spec`, specs/Written.antt.
+//! The payload of a frame as text, in the form that its type and flags ask for. The definitions are `payload_said` and
+//! `payload_text` of `h2_spec`, specs/Written.antt.
 
 ghost use Rattle.std.specs.Prelude.{◌≡◌, ◌<◌, ◌≤◌, ◌^◌, ◌++◌, ◌%◌, length, OnOk};
 ghost use Rattle.std.specs.Fmt.{decimal};

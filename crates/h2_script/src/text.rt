@@ -1,5 +1,5 @@
-//! The words of a script as text: octets in hex, numbers, strings, types, streams.
-//! It rests on `hex`; the definitions are in `h2_spec`, specs/Written.antt, as `.._text`.
+//! The words of a script as text: octets in hex, numbers, strings, types, streams. The definitions are in `h2_spec`,
+//! specs/Written.antt, as `.._text`.
 
 ghost use Rattle.std.specs.Prelude.{◌≡◌, ◌++◌, ◌∷◌, ◌<◌, [], OnOk, flat_map, slice_index};
 ghost use Rattle.std.specs.Fmt.{decimal};
@@ -123,7 +123,7 @@ pub(crate) fn push_type<A: Allocator>(kind: u8, out: &mut String<A>) -> Result<(
     }
 }
 
-/// Appends a stream's identifier, and an `R` behind it where the reserved bit is set.
+/// Appends a stream's identifier, and an `R` after it where the reserved bit is set.
 pub(crate) fn push_stream<A: Allocator>(
     stream: u32,
     reserved: bool,

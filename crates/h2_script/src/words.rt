@@ -1,5 +1,5 @@
-//! The words of a line: parts between octets, octets in hex, the text of a string.
-//! It rests on h2_hex; the definitions are in `h2_spec`, specs/Assemble.antt, under the same names.
+//! The words of a line: parts between octets, octets in hex, the text of a string. The definitions are in `h2_spec`,
+//! specs/Assemble.antt, under the same names.
 
 ghost use Rattle.std.specs.Prelude.{◌≡◌, ◌≤◌, ◌==◌, ◌<◌, ◌+◌, length, bytes_eq, drop, take, option_map, position, IfOk, IfSome};
 ghost use Rattle.std.specs.List.{position_or_len};

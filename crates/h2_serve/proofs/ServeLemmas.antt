@@ -40,7 +40,7 @@ lines-more text count number before now after next lines line = (
       ∙ sym (end_lines-append 1 lines.0 line.0)))),
 )
 
--- lines behind a text that is printed first
+-- lines after a text that is printed first
 pub lines-behind : (text : List ℕ) (count : ℕ) (before now after : Option (List ℕ)) → Gains before now text
     → GainsLines [] count now after → GainsLines text count before after
 lines-behind text count before now after first lines = (

@@ -19,7 +19,7 @@ Gains before after text = (held : List ℕ) → before ≡ Some held → after �
 abbrev pub GainsLine : ℕ → Option (List ℕ) → Option (List ℕ) → Type 0
 GainsLine number before after = (end : Result DriveEnd DriveFault) × Gains before after (end_line number end)
 
--- behind some text the output gained the lines of so many connections, numbered from 1
+-- after some text the output gained the lines of that many connections, numbered from 1
 abbrev pub GainsLines : List ℕ → ℕ → Option (List ℕ) → Option (List ℕ) → Type 0
 GainsLines text count before after = (ends : List (Result DriveEnd DriveFault)) × (length ends ≡ count)
     × Gains before after (text ++ end_lines 1 ends)
@@ -41,7 +41,7 @@ ServesAs count before after (Err BadConfig) = after ≡ before
 ServesAs count before after (Err Write) = 0 < count
 ServesAs count before after (Err Socket) = (served : ℕ) × (served < count) × GainsLines [] served before after
 
--- the same behind the line of the port; where that can't be listened on nothing is printed
+-- the same after the line of the port; where that can't be listened on nothing is printed
 abbrev pub ListensAs : (allowed : Bool) → (port count : ℕ) → Option (List ℕ) → Option (List ℕ)
     → Result (Unit {0}) ServeFault → Type 0
 ListensAs allowed port count before after (Ok u) = (allowed ≡ true)

@@ -1,5 +1,4 @@
-//! Why a server stops, numbered as the faults of all crates are.
-//! Rests on nothing; definitions: `specs/Serves.antt`.
+//! Why a server stops, numbered as the faults of all crates are. Definitions: `specs/Serves.antt`.
 
 ghost use Rattle.std.specs.Prelude.{◌≡◌};
 ghost use Rattle.h2_serve.specs.Faults.{fault_number};

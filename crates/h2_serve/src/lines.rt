@@ -1,5 +1,4 @@
-//! The lines that a server prints.
-//! Rests on h2_drive; definitions: `specs/Lines.antt`.
+//! The lines that a server prints. Definitions: `specs/Lines.antt`.
 
 ghost use Rattle.std.specs.Prelude.{Some};
 ghost use Rattle.h2_serve.specs.Lines.{end_line, listening_line};
@@ -26,6 +25,7 @@ impl fmt::Display for ListeningLine {
 pub struct EndLine {
     /// The first connection is 1.
     pub number: u32,
+    /// How it ended.
     pub end: Result<DriveEnd, DriveFault>,
 }
 

@@ -1,5 +1,4 @@
-//! Connections of a TCP listener, one after another.
-//! Rests on `lines` and h2_drive; definitions: `specs/Lines.antt` and `specs/Serves.antt`.
+//! Connections of a TCP listener, one after another. Definitions: `specs/Lines.antt` and `specs/Serves.antt`.
 
 ghost use Rattle.std.specs.Prelude.{◌≡◌, true, false, Ok, Err, IfErr, IfSome, OnOk, OnErr};
 ghost use Rattle.h2_spec.specs.State.{is_allowed};

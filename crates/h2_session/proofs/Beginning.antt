@@ -46,7 +46,7 @@ session-line book config octets digits more input_failed first last before after
     let all = line-given before after first last line octets more input_failed rest lines whole e f takes le given in
     inr (line ∷ lines, whole, rw zero at all, subst (λ (s : Option (List ℕ)). IsLoaded book config s lines whole t) (spelled-digits line digits is) loads)
 
--- what is ahead behind a first line
+-- what is ahead after a first line
 pub line-known : (octets digits : List ℕ) (first last : ℕ) (before after : Option (List ℕ)) → before ≡ Some octets → TakesFirst before after first last digits LineFeed
     → (more : List ℕ) × (after ≡ Some more)
 line-known octets digits first last before after e (line, takes, is) =
@@ -98,7 +98,7 @@ session-followed book config octets digits more input_failed first last before a
     session-line book config octets digits more input_failed first last before after rest lines whole t e f zero le takes given
     (answered-loads book config (body_of digits) d lines whole t loads answered)
 
--- the session behind its first line
+-- the session after its first line
 pub session-responded : (book : List Entry) (config : Config) (octets held digits : List ℕ) (loaded : Result Debugging SessionFault) (end : End) (first last : ℕ) (before middle rest : Option (List ℕ)) (input_failed : Bool)
     (written : Option (List ℕ)) (status : ℕ) → before ≡ Some octets → first ≡ 0 → last ≤ most → TakesFirst before middle first last digits end
     → IfOk loaded (Loads book config (body_of digits)) → IfErr loaded (λ fault. fault ≡ load_fault (body_of digits) (is_allowed config))

@@ -11,7 +11,7 @@ use Rattle.h2_session.specs.declared.line.End.{End}
 use Rattle.h2_session.specs.declared.line.End.TheVariants.{Input, LineFeed}
 use Rattle.h2_session.proofs.Giving.{cut-given, end-given, last-given, line-given}
 
--- a text, and behind it what is reported
+-- a text, and after it what is reported
 abbrev pub behind : List ℕ → Printed → Printed
 behind text t = record { text = text ++ t.text; status = t.status }
 
@@ -19,7 +19,7 @@ closed-behind : (text more : List ℕ) (whole : Bool) → behind text (closed wh
 closed-behind text more true = refl
 closed-behind text more false = ap (λ (x : List ℕ). let t : Printed = record { text = x; status = 1 } in t) (sym (append_assoc text more _))
 
--- what follows from a later state of the session follows, behind the text printed so far, from an earlier one
+-- what follows from a later state of the session follows, after the text printed so far, from an earlier one
 abbrev pub Continues : Debugging → ℕ → List ℕ → Debugging → ℕ → List ℕ → List ℕ → Type 0
 Continues d limit octets e left more text = (failed : Bool) (rest : Option (List ℕ)) (t : Printed) → IsFollowed e left more failed rest t → IsFollowed d limit octets failed rest (behind text t)
 

@@ -8,7 +8,7 @@ use Rattle.h2_session.specs.Reading.{IsCut, IsPlain, TakesLast, TakesLine, most}
 use Rattle.h2_session.specs.Session.{IsGiven}
 use Rattle.h2_session.proofs.Lines.{ended-first, ended-none, lines-first, lines-last}
 
--- what is known before is known behind
+-- what is known before is known after
 pub known : (before after : Option (List ℕ)) (octets xs : List ℕ) → before ≡ Some octets → Consumes before after xs → (more : List ℕ) × (after ≡ Some more) × (octets ≡ xs ++ more)
 known None after octets xs e c = absurd (cc e)
 known (Some a) None octets xs e c = absurd c

@@ -1,4 +1,4 @@
--- No command has so many octets as are kept of a line.
+-- No command has as many octets as are kept of a line.
 use Rattle.std.proofs.Common.{◌≡◌, ◌∙◌, ◌<◌, ◌≤◌, ℕ, Bool, true, false, List, Option, Some, None, cond, length, take, drop, nat_le, nat_lt, leb-true, leb-false, codes, refl, ap, sym, arith, option_map}
 use Rattle.std.specs.Str.{bytes_eq}
 use Rattle.std.proofs.lemmas.List.{take_all, length-take-le, length-drop}
@@ -14,7 +14,7 @@ number-long make most text long =
     let few : nat_le (length text) 10 ≡ false = grind (arith, long) in
     rw (some, few) refl
 
--- a text that is none behind a word, and none otherwise
+-- a text that is none after a word, and none otherwise
 read-none : {R : Type 0} (word text : List ℕ) (read : List ℕ → Option R) (other : Option R) → read (drop (length word) text) ≡ None → other ≡ None
     → read_behind (behind word text) read other ≡ None
 read-none word text read other r o = go (bytes_eq (take (length word) text) word)

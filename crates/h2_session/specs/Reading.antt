@@ -42,7 +42,7 @@ pub record TakesLast (before after : Option (List ℕ)) (first last : ℕ) (line
   pub taken : IsTaken before after first last line
   pub whole : IsAtEnd after
 
--- part of a line was taken, and nothing can be taken behind it
+-- part of a line was taken, and nothing can be taken after it
 pub record CutsLine (before after : Option (List ℕ)) (first : ℕ) (failed : Bool) (part : List ℕ) (mid : Option (List ℕ)) : Type 0 where
   pub plain : IsPlain part
   pub taken : Consumes before mid part

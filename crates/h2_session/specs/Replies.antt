@@ -37,7 +37,7 @@ shown_text d = place_text d.position (sent_octets_at d.run d.position) (show (vi
 abbrev pub why_text : Debugging → List ℕ
 why_text d = why_lines (is_some (ended_code (at d.run d.position).core.phase)) (cause_at d.run d.position) (ignored_at d.run d.position)
 
--- a text, and the debugger behind it
+-- a text, and the debugger after it
 pub record Answer : Type 0 where
   pub text : List ℕ
   pub after : Debugging

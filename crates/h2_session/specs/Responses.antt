@@ -1,4 +1,4 @@
--- What is printed behind the first line of a session.
+-- What is printed after the first line of a session.
 use Rattle.std.specs.Prelude.{◌≡◌, ℕ, Bool, true, false, List, [], Option, Some}
 use Rattle.h2_debug.specs.Debugging.{Debugging}
 use Rattle.h2_session.specs.Faults.{fault_number}
@@ -7,7 +7,8 @@ use Rattle.h2_session.specs.declared.fault.SessionFault.{SessionFault}
 use Rattle.h2_session.specs.declared.line.End.{End}
 use Rattle.h2_session.specs.declared.line.End.TheVariants.{Input, LineFeed}
 
--- nothing more behind a line that ends with the input, else the answers to the lines that are ahead, at most so many octets
+-- nothing more after a line that ends with the input, else the answers to the lines that are ahead, at most that many
+-- octets
 abbrev pub IsResponse : Debugging → End → ℕ → Option (List ℕ) → Bool → Option (List ℕ) → Bool → Option (List ℕ) → Option (List ℕ) → ℕ → Type 0
 IsResponse d Input limit octets input_failed rest output_failed before after status = output_failed ≡ false → (held : List ℕ) → before ≡ Some held → Prints (closed true []) held after status
 IsResponse d LineFeed limit ahead input_failed rest output_failed before after status = output_failed ≡ false → (octets held : List ℕ) → ahead ≡ Some octets → before ≡ Some held

@@ -53,9 +53,8 @@ IsBegun book config [] true printed = IsLoaded book config (octets_spelled []) [
 IsBegun book config [] false printed = printed ≡ failed 22
 IsBegun book config (line ∷ lines) whole printed = IsLoaded book config (octets_spelled line) lines whole printed
 
--- the lines that are handled, and whether they are all: those of the input where it has at most so many octets, else
--- those that end within them;
--- where a read failed, those that end within what was read
+-- the lines that are handled, and whether they are all: those of the input where it has at most that many octets, else
+-- those that end within them; where a read failed, those that end within what was read
 abbrev pub IsGiven : ℕ → List ℕ → Bool → Option (List ℕ) → List (List ℕ) → Bool → Type 0
 IsGiven limit octets false rest lines whole =
     (whole ≡ nat_le (length octets) limit) × (lines ≡ (if nat_le (length octets) limit then lines_of octets else ended_lines (take limit octets)))
@@ -66,9 +65,8 @@ IsGiven limit octets true rest lines whole =
 abbrev pub IsFollowed : Debugging → ℕ → List ℕ → Bool → Option (List ℕ) → Printed → Type 0
 IsFollowed d limit octets failed rest printed = (lines : List (List ℕ)) × (whole : Bool) × IsGiven limit octets failed rest lines whole × IsAnswered d lines whole printed
 
--- a session over an input; `failed` and `rest` are of the input behind it: whether its last read failed, and what it
--- has left.
--- Where memory for the first line is refused, that fault ends it; so where a read failed, no session ends so.
+-- a session over an input; `failed` and `rest` are of the input after it: whether its last read failed, and what it has
+-- left. Where memory for the first line is refused, that fault ends it; so where a read failed, no session ends so.
 abbrev pub IsSession : List Entry → Config → List ℕ → Bool → Option (List ℕ) → Printed → Type 0
 IsSession book config octets input_failed rest printed = ((printed ≡ failed 0) × (input_failed ≡ false))
     ⊎ ((lines : List (List ℕ)) × (whole : Bool) × IsGiven most octets input_failed rest lines whole × IsBegun book config lines whole printed)

@@ -1,5 +1,5 @@
-//! The commands of `debug`, and the lines that spell them: exactly one space between words.
-//! Rests on h2_script's numbers; definitions: `specs/Commands.antt`, `specs/Words.antt`.
+//! The commands of `debug`, and the lines that spell them: exactly one space between words. Definitions:
+//! `specs/Commands.antt`, `specs/Words.antt`.
 
 ghost use Rattle.std.specs.Prelude.{◌≡◌, option_map};
 ghost use Rattle.h2_session.specs.Commands.{break_of, command_of, word_of};
@@ -12,11 +12,11 @@ use h2_script::number_at;
 pub enum Stop {
     /// At this position.
     At(u32),
-    /// Behind an item of this frame type (RFC 9113, 4.1).
+    /// After an item of this frame type (RFC 9113, 4.1).
     Type(u8),
-    /// Behind an item on this stream.
+    /// After an item on this stream.
     Stream(u32),
-    /// Behind an item for which a frame of this type was sent.
+    /// After an item for which a frame of this type was sent.
     Sent(u8),
 }
 

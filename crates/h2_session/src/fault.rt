@@ -1,5 +1,5 @@
-//! Why a session is refused, each cause with its number (one numbering over all crates).
-//! Rests on nothing; the numbers: `specs/Faults.antt`.
+//! Why a session is refused, each cause with its number (one numbering over all crates). The numbers:
+//! `specs/Faults.antt`.
 
 ghost use Rattle.std.specs.Prelude.{◌≡◌};
 ghost use Rattle.h2_session.specs.Faults.{fault_number};

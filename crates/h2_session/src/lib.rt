@@ -1,7 +1,6 @@
 //! The program `debug`: octets in hex, and then commands to a debugger of a connection that is fed them, line by line.
 //! Each answer is written and flushed before the next command is read, so that a person or a program can work with it
-//! over a pipe.
-//! It rests on h2_debug and h2_device; definitions: `specs/Session.antt`.
+//! over a pipe. Definitions: `specs/Session.antt`.
 #![tactic(auto)]
 
 mod command;

@@ -1,6 +1,5 @@
 //! Lines that are taken from an input: the first one as the octets that it spells in hex, each other one as far as a
-//! command goes.
-//! Rests on `reader`, on h2_hex and on the crate arrayvec; definitions: `specs/Lines.antt`, `specs/Reading.antt`.
+//! command goes. Definitions: `specs/Lines.antt`, `specs/Reading.antt`.
 
 ghost use Rattle.std.specs.Prelude.{◌≡◌, ◌⊎◌, ◌<◌, ◌≤◌, false, [], ◌∷◌, ◌++◌, Some, None, filter, length, not, take, IfOk, IfErr, IfSome, OnOk, OnErr};
 ghost use Rattle.h2_session.specs.Commands.{longest};
@@ -39,7 +38,7 @@ fn is_space(octet: u8) -> bool
     octet == b' ' || octet == b'\t' || octet == b'\r'
 }
 
-/// Puts an octet behind the others, unless it is a space, a tab or a carriage return.
+/// Puts an octet after the others, unless it is a space, a tab or a carriage return.
 fn keep_digit(digits: &mut Vec<u8>, octet: u8) -> Result<(), AllocError>
     ensures { OnOk result (digits.new.items ≡ digits.old.items ++ filter is_digit (octet ∷ [])) }
 {
@@ -50,7 +49,7 @@ fn keep_digit(digits: &mut Vec<u8>, octet: u8) -> Result<(), AllocError>
     Ok(())
 }
 
-/// Takes a line, and puts it behind what is in `digits`, without its spaces, tabs and carriage returns. Says how it
+/// Takes a line, and puts it after what is in `digits`, without its spaces, tabs and carriage returns. Says how it
 /// ends; where the input has ended it is empty.
 ///
 /// `Read` where nothing more can be taken, `NoMemory`.
@@ -95,7 +94,7 @@ pub fn spelled(alloc: Global, digits: &[u8]) -> Result<Vec<u8>, SessionFault>
     }
 }
 
-/// Puts an octet behind the others, where there is space.
+/// Puts an octet after the others, where there is space.
 #[tactic(auto, using(crate::proofs::Taking::takes_short))]
 fn keep(line: &mut Line, octet: u8)
     ensures { line.new.items ≡ take longest (line.old.items ++ octet ∷ []) }

@@ -1,5 +1,4 @@
-//! What a command does to a debugger, and the reply to it.
-//! Rests on `command`, `reply` and h2_debug; definition: `specs/Replies.antt`.
+//! What a command does to a debugger, and the reply to it. Definition: `specs/Replies.antt`.
 
 ghost use Rattle.std.specs.Prelude.{◌≡◌, option_map, Some};
 ghost use Rattle.h2_session.specs.Commands.{Back, BreakOn, Run, Step};

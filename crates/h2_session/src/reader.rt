@@ -1,5 +1,5 @@
 //! An input that is taken octet by octet. It is read only where no octet is held, as many octets as come, so that a
-//! line is handled as soon as its line feed is there. Rests on h2_device; definition: `specs/Reading.antt`.
+//! line is handled as soon as its line feed is there. Definition: `specs/Reading.antt`.
 
 ghost use Rattle.std.specs.Prelude.{◌≡◌, ◌+◌, ◌-◌, ◌<◌, ◌≤◌, ◌∷◌, true, false, [], take, length, nat_lt, IfOk, OnOk, OnErr, None};
 ghost use Rattle.std.specs.Bool.{OnFalse, OnTrue};

@@ -1,6 +1,5 @@
 //! Replies to commands, and how they are written: whole, and then flushed, before the next command is read. No memory
-//! is taken for them.
-//! Rests on h2_debug, h2_text and h2_device; definitions: `specs/Replies.antt`.
+//! is taken for them. Definitions: `specs/Replies.antt`.
 
 ghost use Rattle.std.specs.Prelude.{◌≡◌, ℕ, List, OnOk, false, is_err};
 ghost use Rattle.std.specs.Io.KnownBytes.{Appends};
@@ -88,8 +87,9 @@ fn why_of(debugger: &Debugger<'_, Global>) -> WhyText
 /// A reply of a debugger.
 #[derive(Clone, Copy)]
 pub struct ReplyText<'d, 'b> {
+    /// What is replied to the command.
     pub reply: Reply,
-    /// The debugger behind the command.
+    /// The debugger after the command.
     pub debugger: &'d Debugger<'b, Global>,
 }
 

@@ -1,5 +1,5 @@
 //! A session with a debugger: the octets of a peer in hex, and then commands, each answered before the next is read.
-//! Rests on `line`, `obey` and `reply`; definition: `specs/Session.antt`.
+//! Definition: `specs/Session.antt`.
 
 ghost use Rattle.std.specs.Prelude.{◌≡◌, ◌==◌, ◌-◌, ◌≤◌, ℕ, List, Some, false, IfErr, IfOk, OnErr, OnOk, is_err};
 ghost use Rattle.h2_spec.specs.State.{is_allowed};
@@ -92,7 +92,7 @@ fn follow<I: Input, O: Output>(
     }
 }
 
-/// Responds to the lines behind a first line that ends so, and gives the exit status.
+/// Responds to the lines after a first line that ends so, and gives the exit status.
 fn follow_behind<I: Input, O: Output>(
     debugger: &mut Debugger<'_, Global>,
     end: End,

@@ -67,7 +67,7 @@ pub octets_from : (xs : List ℕ) → ((i d : ℕ) → i < length xs → get_or 
 octets_from [] h = tt
 octets_from (x ∷ xs) h = (h 0 0 (omega arith), octets_from xs (λ i d l. h (suc i) d (omega arith)))
 
--- the first octet of some bits, and what is left
+-- the first octet of some bits, and the rest
 pub record Cuts (n v : ℕ) : Type 0 where
   pub octet : v / 2 ^ n < 256
   pub left : v % 2 ^ n < 2 ^ n
@@ -93,7 +93,7 @@ flushed os new old all n v h e f =
     let c = cuts n v h in
     ap (λ x. bits x ++ bits_of n (v % 2 ^ n)) f ∙ ap (λ b. b ++ bits_of n (v % 2 ^ n)) (bits-push os (v / 2 ^ n)) ∙ append_assoc (bits os) (bits_of 8 (v / 2 ^ n)) (bits_of n (v % 2 ^ n)) ∙ ap (λ b. bits os ++ b) (sym c.same) ∙ e
 
--- bits put behind others are below their power
+-- bits put after others are below their power
 pub join-small : (n k a c : ℕ) → a < 2 ^ n → c < 2 ^ k → a * 2 ^ k + c < 2 ^ (n + k)
 join-small n k a c h l =
     let e : 2 ^ (n + k) ≡ 2 ^ n * 2 ^ k = pow-add 2 n k in

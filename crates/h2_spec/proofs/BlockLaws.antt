@@ -49,7 +49,7 @@ given-append [] ys = refl
 given-append (None ∷ xs) ys = given-append xs ys
 given-append (Some f ∷ xs) ys = ap (λ fs. f ∷ fs) (given-append xs ys)
 
--- a field has come, before or with this instruction
+-- a field was read, before or with this instruction
 abbrev begun_with : Bool → Option Field → Bool
 begun_with begun None = begun
 begun_with begun (Some f) = true
@@ -156,7 +156,7 @@ decoded-refused limit p b i used fault e k =
 carried-to : (limit : ℕ) (d e : Decoded) (c : List ℕ) → d ≡ e → carried_on limit e c ≡ carried_on limit d c
 carried-to limit d e c same = ap (λ x. carried_on limit x c) (sym same)
 
--- the rest behind an instruction of so many octets may be cut off from what follows
+-- the rest after an instruction of that many octets may be cut off from what follows
 abbrev Follows : ℕ → List ℕ → List ℕ → Type 0
 Follows limit b c = (p : Progress) (used : ℕ) → 0 < used → used ≤ length b → decoded limit p (drop used b ++ c) ≡ carried_on limit (decoded limit p (drop used b)) c
 
@@ -247,7 +247,7 @@ applied-value_refused limit p mode name value n fault e h k = rw (e, h, k) refl
 
 -- ---- a loop over the instructions of a block
 
--- the first octets, so many, are whole instructions that lead to q, and the block goes on from there
+-- that many first octets are whole instructions that lead to q, and the block goes on from there
 pub record LeadsTo (limit : ℕ) (p : Progress) (b : List ℕ) (at : ℕ) (q : Progress) : Type 0 where
   pub within : at ≤ length b
   pub front : decoded limit p (take at b) ≡ record { progress = q; outcome = Unfinished [] }

@@ -1,4 +1,4 @@
--- What is at the front of octets stays there with more octets behind it: strings, and instructions.
+-- What is at the front of octets stays there with more octets after it: strings, and instructions.
 use Rattle.std.proofs.Common.{◌≡◌, ℕ, zero, suc, ◌+◌, ◌-◌, ◌<◌, ◌≤◌, Bool, true, false, cond, List, [], ◌∷◌, ◌++◌, length, take, drop, refl, ap, sym, ◌∙◌, subst, arith, leb, leb-true, le-leb, length-append, length-drop}
 use Rattle.std.proofs.lemmas.List.{append-nil, take-append-le, drop-append-le, drop-take, length-take-le, take_all}
 use Rattle.std.proofs.Math.Seq.{take-add}
@@ -7,7 +7,7 @@ use Rattle.h2_spec.specs.Read.{Read, Whole, More, TooLong, read_map}
 use Rattle.h2_spec.specs.Instruction.{Str, Shape, Mode, IncrementalIndexing, WithoutIndexing, NeverIndexed, NameRef, Ref, Literal, Indexed, Update, Named, mode_prefix, read_past, read_then, octets_at, string_at, name_by, value_at, literal_at, instr_by, instr_at}
 use Rattle.h2_spec.proofs.IntegerLaws as integers
 
--- what is read to its end is read so with more octets behind it
+-- what is read to its end is read so with more octets after it
 abbrev pub Stays : {A : Type 0} → Read A → Read A → Type 0
 Stays (Whole a used) y = y ≡ Whole a used
 Stays More y = Unit {0}
@@ -30,7 +30,7 @@ pub record IsReader {A : Type 0} (p : List ℕ → Read A) : Type 0 where
   pub within : (b : List ℕ) → Within (length b) (p b)
   pub exact : (b : List ℕ) (a : A) (used : ℕ) → p b ≡ Whole a used → p (take used b) ≡ Whole a used
 
--- ---- one thing behind another
+-- ---- one thing after another
 
 map-stays : {A B : Type 0} (f : A → B) (x y : Read A) → Stays x y → Stays (read_map f x) (read_map f y)
 map-stays f (Whole a used) y h = ap (read_map f) h
@@ -87,7 +87,7 @@ past-whole used (Whole a m) x n e =
 past-whole used More x n e = absurd cc
 past-whole used TooLong x n e = absurd cc
 
--- what two things, one behind the other, took
+-- what two things, one after the other, took
 pub record Both {A B : Type 0} (b : List ℕ) (r : Read A) (f : A → List ℕ → Read B) (x : B) (n : ℕ) : Type 0 where
   pub one : A
   pub used : ℕ

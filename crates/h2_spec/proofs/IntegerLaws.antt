@@ -7,7 +7,7 @@ use Rattle.std.specs.List.{AllByRecursion}
 use Rattle.h2_spec.specs.Read.{Read, Whole, More, TooLong}
 use Rattle.h2_spec.specs.Integer.{groups, IsContinuation, IsInt, IsUnfinished, IsTooLong, IsShortest, IsReadOf, scaled, groups_at, int_at, groups_of, spell_int}
 
--- the same of the groups behind the prefix
+-- the same of the groups after the prefix
 abbrev GroupsRead : ℕ → List ℕ → Read ℕ → Type 0
 GroupsRead most cs (Whole v used) = (used ≤ length cs) × (used ≤ most) × IsContinuation (take used cs) × (v ≡ groups (take used cs))
 GroupsRead most cs More = AllByRecursion (λ c. 128 ≤ c) cs × (length cs < most)
@@ -56,7 +56,7 @@ int_read n (o ∷ cs) = at (ltb (o % 2 ^ n) (2 ^ n - 1)) refl
     at true e = (omega arith, (refl, ltb-true (o % 2 ^ n) (2 ^ n - 1) e))
     at false e = spelled n o cs (groups_at 5 cs) (full_prefix n o (ltb-false (o % 2 ^ n) (2 ^ n - 1) e)) (groups_read 5 cs)
 
--- what is read to its end is read so with more octets behind it
+-- what is read to its end is read so with more octets after it
 abbrev pub Stays : Read ℕ → Read ℕ → Type 0
 Stays (Whole v used) y = y ≡ Whole v used
 Stays More y = Unit {0}
@@ -184,7 +184,7 @@ low_bits m high v e h =
     let none : (0 + v) % m ≡ v = let zero_first : 0 + v ≡ v = omega arith in ap (λ n. n % m) zero_first ∙ mod-eq_of_lt h in
     sym (mod-add-mod high m v) ∙ ap (λ r. (r + v) % m) e ∙ none
 
--- a full prefix and shortest groups behind it
+-- a full prefix and shortest groups after it
 prefixed : (n o v : ℕ) (cs : List ℕ) → o % 2 ^ n ≡ 2 ^ n - 1 → 2 ^ n - 1 ≤ v → AreShortest 5 (v - (2 ^ n - 1)) cs → IsShortest n v (o ∷ cs)
 prefixed n o v [] e h r = absurd r.continued
 prefixed n o v (c ∷ cs) e h r = record { spelled = (e, r.continued, omega (arith, r.within), omega (arith, r.value)); shortest = some }

@@ -8,7 +8,7 @@ abbrev pub Uses : {S E : Type 0} → List ℕ → Front S E → Type 0
 Uses b Stop = Unit {0}
 Uses b (One e t used) = (0 < used) × (used ≤ length b)
 
--- a thing that is there is there with more octets behind it
+-- a thing that is there is there with more octets after it
 abbrev pub Stays : {S E : Type 0} → Front S E → Front S E → Type 0
 Stays Stop y = Unit {0}
 Stays (One e t used) y = y ≡ One e t used
@@ -36,7 +36,7 @@ module _ {S E : Type 0} (next : S → List ℕ → Front S E) (uses : (s : S) (b
           let shorter = length-drop used b in
           ap (after_one e) (more t (drop used b) (omega arith) (omega arith))
 
-  -- all elements are the first, if there is one, and then all of what is left
+  -- all elements are the first, if there is one, and then all of the rest
   pub parse_all-step : (s : S) (b : List ℕ) → parse_all next s b ≡ parse_first s b (next s b) (λ t rest. parse_all next t rest)
   unfolding parse_all
   parse_all-step s b = go (length b) refl

@@ -1,4 +1,4 @@
--- The items of a connection's octets: how many octets each takes, and that more octets behind it change nothing.
+-- The items of a connection's octets: how many octets each takes, and that more octets after it change nothing.
 use Rattle.std.proofs.Common.{◌≡◌, ℕ, suc, ◌+◌, ◌-◌, ◌<◌, ◌≤◌, ◌⊎◌, inl, inr, Bool, true, false, cond, List, [], ◌∷◌, ◌++◌, length, drop, get_or, refl, sym, ap, subst, arith, length-drop, length-append, ltb, ltb-true, ltb-false, le-ltb, lt-ltb, eqb, eqb-true, nat_eq}
 use Rattle.std.proofs.lemmas.Bool.{cond_both}
 use Rattle.std.proofs.lemmas.List.{take-append-le, drop-append-le}
@@ -157,7 +157,7 @@ ended-run : (s : State) (b : List ℕ) (code : ErrorCode) → s.core.phase ≡ p
 unfolding next_event
 ended-run s b code e = rw (laws.parse_all-step next_event event-uses s b, e) refl
 
--- the run of these elements behind others
+-- the run of these elements after others
 abbrev run_of : List Event → Parsed State Event → Run
 run_of before t = record { events = before ++ t.elements; state = t.state; rest = left_by t.state.core.phase t.rest }
 

@@ -110,7 +110,7 @@ huffman_bytes o = go (huffman_text o) (text_read o)
     go Eos h = tt
     go Padding h = tt
 
--- ---- what is said of whole instructions can be said
+-- ---- what is said about whole instructions can be said
 
 string_sayable : (s : Str) (t : TextStr) → IsBytes s.octets → text_str s ≡ Some t → IsBytes t.text
 string_sayable s t h e = go s.huffman (text_of s) (text_bytes s.huffman) e

@@ -54,7 +54,7 @@ octet_at text = option_map (λ xs. slice_index xs 0) (decoded (decode_sized text
 abbrev pub octets_at : List ℕ → Option (List ℕ)
 octets_at text = if length text == 0 then None else decoded (decode_of text)
 
--- the number that decimal digits write behind those of n
+-- the number that decimal digits write after those of n
 unfoldable pub scanned : ℕ → List ℕ → Option ℕ
 scanned n [] = Some n
 scanned n (c ∷ cs) = if nat_le 48 c && nat_le c 57 then scanned (n * 10 + (c - 48)) cs else None
@@ -82,11 +82,11 @@ unescaped (c ∷ a ∷ b ∷ cs) =
     else if c == 92 then with_octet (octet_at (a ∷ b ∷ [])) (unescaped cs)
     else None
 
--- a string of these octets, and the text behind it
+-- a string of these octets, and the text after it
 abbrev pub string_of : Bool → List ℕ × List ℕ → Option (TextStr × List ℕ)
 string_of huffman p = option_map (λ octets. (record { huffman = huffman; text = octets }, p.1)) (unescaped p.0)
 
--- the string at the front of a text, and the text behind it
+-- the string at the front of a text, and the text after it
 abbrev pub string_at : List ℕ → Option (TextStr × List ℕ)
 string_at [] = None
 string_at (q ∷ xs) =
@@ -94,7 +94,7 @@ string_at (q ∷ xs) =
     else if q == 39 then option_and_then (string_of true) (cut_at 39 xs)
     else None
 
--- ---- instructions and settings, each with the text behind it
+-- ---- instructions and settings, each with the text after it
 
 -- the sign that begins a string
 abbrev pub is_quote : ℕ → Bool
@@ -110,7 +110,7 @@ name_at text =
     if is_quote (slice_index text 0) then option_map (λ p. (Named p.0, p.1)) (string_at text)
     else option_map (λ name. (name, onwards 61 text)) (option_and_then index_of (number_at max_u32 (before 61 text)))
 
--- the value of a literal behind its name
+-- the value of a literal after its name
 abbrev pub value_at : Mode → NameRef TextStr → List ℕ → Option (Instruction × List ℕ)
 value_at mode name text = option_map (λ p. (Literal mode name p.0, p.1)) (option_and_then string_at (behind 61 text))
 
@@ -149,7 +149,7 @@ unfoldable pub setting_at : List ℕ → Option ((ℕ × ℕ) × List ℕ)
 unfolding scanned
 setting_at text = option_map (λ p. (p, onwards 44 text)) (option_and_then setting_of (cut_at 61 (before 44 text)))
 
--- one, and then behind a comma the others
+-- one, and then after a comma the others
 abbrev pub one_and : {A : Type 0} → (List ℕ → Option (List A)) → A × List ℕ → Option (List A)
 one_and more (x, []) = Some (x ∷ [])
 one_and more (x, c ∷ rest) = if c == 44 then option_map (λ xs. x ∷ xs) (more rest) else None
@@ -207,7 +207,7 @@ frame_of name flags stream payload = do
   content ← wanted kind.Payload (payload_at payload) >>= fitting
   Ok (AFrame type flag id.0 id.1 content)
 
--- the frame of a first word and the text behind it
+-- the frame of a first word and the text after it
 abbrev pub frame_at : List ℕ → List ℕ → Result Statement SyntaxKind
 frame_at name rest = do
   b ← wanted kind.Parts (cut_at 32 rest)
@@ -220,7 +220,7 @@ frame_at name rest = do
 abbrev pub raw_at : List ℕ → Result Statement SyntaxKind
 raw_at digits = if length digits == 0 then Err kind.Parts else wanted kind.Payload (option_map Raw (octets_at digits))
 
--- a line of one word, or a first word and the text behind it
+-- a line of one word, or a first word and the text after it
 abbrev pub words_at : List ℕ → Option (List ℕ × List ℕ) → Result Statement SyntaxKind
 words_at line None = if bytes_eq line (codes "PREFACE") then Ok Preface else Err kind.Parts
 words_at line (Some p) =
@@ -241,7 +241,7 @@ abbrev pub with_front : List ℕ → Result (List ℕ) (ℕ × SyntaxKind) → R
 with_front front (Ok octets) = Ok (front ++ octets)
 with_front front (Err e) = Err e
 
--- a line, and then those behind it
+-- a line, and then those after it
 abbrev pub line_then : ℕ → Result Statement SyntaxKind → Result (List ℕ) (ℕ × SyntaxKind) → Result (List ℕ) (ℕ × SyntaxKind)
 line_then n (Err kind) more = Err (n, kind)
 line_then n (Ok s) more = with_front (octets_of s) more

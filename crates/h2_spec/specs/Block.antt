@@ -26,8 +26,8 @@ pub data Fault : Type 0 where
 
 -- ---- one instruction
 
--- what the next instruction of a block depends on: the table, whether a field has come, and whether the block still
--- has to begin with a size update
+-- what the next instruction of a block depends on: the table, whether a field was read, and whether the block still has
+-- to begin with a size update
 pub record DecoderState : Type 0 where
   pub table : Table
   pub begun : Bool
@@ -142,7 +142,7 @@ fields_given (Some f ∷ given) = f ∷ fields_given given
 
 -- ---- a block
 
--- how far a block has come: its fields, the table, and whether it still has to begin with a size update
+-- how far a block has got: its fields, the table, and whether it still has to begin with a size update
 pub record Progress : Type 0 where
   pub fields : List Field
   pub table : Table
@@ -157,20 +157,20 @@ pub record Decoded : Type 0 where
 abbrev pub start : Table → Bool → Progress
 start table due = record { fields = []; table = table; due = due }
 
--- whether a field has come
+-- whether a field was read
 abbrev pub has_fields : List Field → Bool
 has_fields [] = false
 has_fields (f ∷ fs) = true
 
--- how far decoding has come, apart from the fields
+-- how far decoding has got, apart from the fields
 abbrev pub decoding : Progress → DecoderState
 decoding p = record { table = p.table; begun = has_fields p.fields; due = p.due }
 
--- how far a block has come after an instruction
+-- how far a block has got after an instruction
 abbrev pub progress_after : Progress → Given → Progress
 progress_after p g = record { fields = p.fields ++ option_to_list g.field; table = g.after.table; due = g.after.due }
 
--- how far a block has come after an instruction, or why that is refused
+-- how far a block has got after an instruction, or why that is refused
 abbrev pub progress_by : Progress → Result Given Fault → Result Progress Fault
 progress_by p (Ok g) = Ok (progress_after p g)
 progress_by p (Err fault) = Err fault
@@ -205,7 +205,7 @@ pub record FieldsSoFar : Type 0 where
   pub fields : List Field
   pub due : Bool
 
--- with the table, how far a block has come
+-- with the table, how far a block has got
 abbrev pub progress_with : Table → FieldsSoFar → Progress
 progress_with table s = record { fields = s.fields; table = table; due = s.due }
 

@@ -18,7 +18,7 @@ sent_at sent es zero = sent
 sent_at sent [] (suc p) = sent
 sent_at sent (e ∷ es) (suc p) = sent_at e.sent es p
 
--- where a run stops: at a position, or behind an item by its type, its stream, or the type of a frame sent for it
+-- where a run stops: at a position, or after an item by its type, its stream, or the type of a frame sent for it
 pub data Break : Type 0 where
   AtPosition : ℕ → Break
   OnType : ℕ → Break

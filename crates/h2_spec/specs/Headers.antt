@@ -146,7 +146,7 @@ fragment_decoded s b purpose end_headers d = elim d.outcome [
   | Faulty fault ↦ Breaks (fault_cause fault)
 ]
 
--- what the octets of a fragment do, behind those of the block that are not decoded yet
+-- what the octets of a fragment do, after those of the block that are not decoded yet
 abbrev pub decoded_with : State → Decoding → List ℕ → Decoded
 decoded_with s d octets = decoded s.core.own.table (record { fields = d.fields; table = s.table; due = d.due }) (d.rest ++ octets)
 
@@ -156,7 +156,7 @@ fragment s b d octets end_headers =
     if nat_lt max_block (b.octets + length octets) then Breaks BlockTooLarge
     else fragment_decoded s (record b { octets = b.octets + length octets }) d.purpose end_headers (decoded_with s d octets)
 
--- a block of which nothing has come yet
+-- a block of which nothing has arrived yet
 abbrev pub fresh_block : Head → BlockView
 fresh_block h = record { stream = h.stream; octets = 0; list_size = 0; ends = has h.flags END_STREAM }
 

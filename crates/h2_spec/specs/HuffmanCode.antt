@@ -83,7 +83,7 @@ are_rising (s ∷ []) = true
 are_rising (s ∷ t ∷ ss) = nat_lt s t && are_rising (t ∷ ss)
 
 -- the canonical rule for the rows from this length and code on: codes rise by one with the symbol, the first code of a
--- longer length is the next number with zeros behind it, and after the last code no number of its length is left
+-- longer length is the next number with zeros after it, and after the last code no number of its length is left
 abbrev pub are_canonical : ℕ → ℕ → List CodeRow → Bool
 are_canonical bits next [] = nat_eq next (2 ^ bits)
 are_canonical bits next (r ∷ rs) =

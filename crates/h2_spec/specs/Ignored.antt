@@ -93,7 +93,7 @@ block_ignored (Some b) = decoding_ignored b.decoding
 abbrev pub kind_at : State → Head → Kind
 kind_at s h = (stream_at s.core.last s.streams h.stream).kind
 
--- SETTINGS, by whether it is an acknowledgement and whether one has come before (6.5.3)
+-- SETTINGS, by whether it is an acknowledgement and whether one has arrived before (6.5.3)
 abbrev pub settings_ignored : Bool → Bool → Option Ignored
 settings_ignored true acked = reason_if acked SecondAcknowledgement
 settings_ignored false acked = None

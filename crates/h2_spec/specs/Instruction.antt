@@ -44,13 +44,13 @@ Instruction = Instr TextStr
 
 -- ---- what is at the front of octets
 
--- what was read behind this many octets
+-- what was read after this many octets
 abbrev pub read_past : {A : Type 0} → ℕ → Read A → Read A
 read_past used (Whole a more) = Whole a (used + more)
 read_past used More = More
 read_past used TooLong = TooLong
 
--- one thing, and then what is read behind it
+-- one thing, and then what is read after it
 abbrev pub read_then : {A B : Type 0} → List ℕ → Read A → (A → List ℕ → Read B) → Read B
 read_then xs (Whole a used) behind = read_past used (behind a (drop used xs))
 read_then xs More behind = More
@@ -66,7 +66,7 @@ unfolding int_at
 string_at [] = More
 string_at (o ∷ xs) = read_then (o ∷ xs) (int_at 7 (o ∷ xs)) (octets_at (nat_le 128 o))
 
--- the bits of an index behind each literal's mark, and the mark (6.2)
+-- the bits of an index after each literal's mark, and the mark (6.2)
 abbrev pub mode_prefix : Mode → ℕ
 mode_prefix IncrementalIndexing = 6
 mode_prefix WithoutIndexing = 4
@@ -78,12 +78,12 @@ mode_high IncrementalIndexing = 64
 mode_high WithoutIndexing = 0
 mode_high NeverIndexed = 16
 
--- index 0 means that the name is the string behind it
+-- index 0 means that the name is the string after it
 abbrev pub name_by : ℕ → List ℕ → Read (NameRef Str)
 name_by zero xs = read_map Named (string_at xs)
 name_by (suc i) xs = Whole (Ref (suc i)) 0
 
--- the value behind a name
+-- the value after a name
 abbrev pub value_at : Mode → NameRef Str → List ℕ → Read Shape
 value_at mode name xs = read_map (Literal mode name) (string_at xs)
 
@@ -217,7 +217,7 @@ spell (Indexed i) = spell_int 7 128 i
 spell (Update n) = spell_int 5 32 n
 spell (Literal mode name value) = spell_name mode name ++ spell_string value.huffman value.octets
 
--- an index above 0, and numbers and lengths that five octets behind a prefix can spell
+-- an index above 0, and numbers and lengths that five octets after a prefix can spell
 abbrev pub IsSpellableName : NameRef Str → Type 0
 IsSpellableName (Ref i) = (0 < i) × (i < 2 ^ 35)
 IsSpellableName (Named s) = length s.octets < 2 ^ 35

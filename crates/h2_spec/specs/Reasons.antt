@@ -1,6 +1,5 @@
--- Why fields make no request or no trailers, each reason said of the places of fields in their list (RFC 9113, 8.1.1,
--- 8.2, 8.3 and 8.5).
--- `malformed` and `malformed_trailers` of Request compute the least of them: a law of `h2_laws`.
+-- Why fields make no request or no trailers, each reason stated of the places of fields in their list (RFC 9113, 8.1.1,
+-- 8.2, 8.3 and 8.5). `malformed` and `malformed_trailers` of Request compute the least of them: a law of `h2_laws`.
 use Rattle.std.specs.Prelude.{◌≡◌, ◌≢◌, ℕ, ◌<◌, ◌≤◌, List, [], codes, slice_get, Option, Some, None, IsTrue, IsFalse, IsSome}
 use Rattle.h2_spec.specs.Field.{Field}
 use Rattle.h2_spec.specs.Request.{is_pseudo, has_bad_name, has_bad_value, is_unknown_pseudo, is_of_connection, has_bad_te, is_content_length, is_digits, decimal_value, value_named, is_connect}

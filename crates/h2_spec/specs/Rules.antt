@@ -1,4 +1,4 @@
--- The table of rules: what is said of each cause of an error, of each reason to ignore a frame, and of their special
+-- The table of rules: what is said about each cause of an error, of each reason to ignore a frame, and of their special
 -- cases. The rows are in CauseWords, IgnoredWords and SpecialCases.
 use Rattle.std.specs.Prelude.{ℕ, Bool, true, false, List, codes}
 use Rattle.std.specs.Borrow.{Bor}

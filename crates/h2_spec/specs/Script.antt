@@ -152,12 +152,12 @@ SaysPayload text (Instructions instructions) = (each : List ℕ) × (text ≡ 10
 abbrev pub SaysType : List ℕ → ℕ → Type 0
 SaysType text kind = (slice_get type_names kind ≡ Some text) ⊎ ((digits : List ℕ) × (text ≡ 84 ∷ digits) × SaysOctet digits kind)
 
--- a stream's identifier, and an R behind it where the reserved bit is set
+-- a stream's identifier, and an R after it where the reserved bit is set
 abbrev pub SaysStream : List ℕ → ℕ → Bool → Type 0
 SaysStream text stream false = SaysNumber max_stream text stream
 SaysStream text stream true = (digits : List ℕ) × (text ≡ digits ++ codes "R") × SaysNumber max_stream digits stream
 
--- the line says the statement; a frame's four parts have one space between, and its payload is everything behind the
+-- the line says the statement; a frame's four parts have one space between, and its payload is everything after the
 -- third
 abbrev pub Says : List ℕ → Statement → Type 0
 Says text Nothing = (text ≡ []) ⊎ (slice_get text 0 ≡ Some 59)
@@ -172,7 +172,7 @@ Line text octets = (s : Statement) × Says text s × (octets ≡ octets_of s)
 
 -- ---- bad lines
 
--- the text before the first such octet, and the text behind it
+-- the text before the first such octet, and the text after it
 abbrev pub cut_at : ℕ → List ℕ → Option (List ℕ × List ℕ)
 cut_at c xs = option_map (λ i. (take i xs, drop (i + 1) xs)) (position (λ b. b == c) xs)
 
@@ -214,7 +214,7 @@ IsFrameLine line = (first_word line ≢ codes "PREFACE") × (first_word line ≢
 abbrev pub HasParts : (FourParts → Type 0) → List ℕ → Type 0
 HasParts P line = IsFrameLine line × ((p : FourParts) × (parts_of line ≡ Some p) × P p)
 
--- the first word is PREFACE with a space behind it, or RAW without digits, or neither and there are fewer than three
+-- the first word is PREFACE with a space after it, or RAW without digits, or neither and there are fewer than three
 -- spaces
 abbrev pub HasBadParts : List ℕ → Type 0
 HasBadParts line =
@@ -250,7 +250,7 @@ IsLeastFault kind line = HasFault kind line × ((other : SyntaxKind) → kind_nu
 
 -- ---- scripts
 
--- the texts between line feeds; behind the last one there may be an empty line, which is no octets
+-- the texts between line feeds; after the last one there may be an empty line, which is no octets
 abbrev pub lines_of : List ℕ → List (List ℕ)
 lines_of text = slice_split (λ b. b == 10) text
 

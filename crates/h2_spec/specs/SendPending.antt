@@ -1,6 +1,6 @@
--- Sending what waits, as far as the windows go (RFC 9113, 5.2 and 6.9): each stream in turn sends the least of what
--- waits on it, its own window and what is left of the connection's,
--- in DATA of the peer's frame size and one last, shorter or equal, which has END_STREAM where nothing waits any more.
+-- Sending pending output, as far as the windows go (RFC 9113, 5.2 and 6.9): each stream in turn sends the least of its
+-- pending output, its own window and the rest of the connection's, in DATA of the peer's frame size and one last,
+-- shorter or equal, which has END_STREAM where nothing waits any more.
 use Rattle.std.specs.Prelude.{ℕ, zero, suc, ◌-◌, Bool, false, List, [], ◌∷◌, ◌++◌, length, min, take, drop, nat_le, ◌==◌, if◌then◌else◌, pos, ◌-ℤ◌}
 use Rattle.h2_spec.specs.declared.streams.Stream.{Stream}
 use Rattle.h2_spec.specs.FrameType.{DATA, END_STREAM}
@@ -64,7 +64,7 @@ unfolding allowance after_sending
 all_after_sending window [] = []
 all_after_sending window (st ∷ sts) = after_sending (allowance window st) st ∷ all_after_sending (window - allowance window st) sts
 
--- what is left of the connection's window
+-- the rest of the connection's window
 unfoldable pub window_left : ℕ → List Stream → ℕ
 unfolding allowance
 window_left window [] = window

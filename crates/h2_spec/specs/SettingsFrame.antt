@@ -17,7 +17,7 @@ use Rattle.h2_spec.specs.Settings.{with_setting}
 use Rattle.h2_spec.specs.State.{configured}
 use Rattle.h2_spec.specs.Change.{only_counts, overflows, moved_by}
 
--- the settings in order behind one of them, unless that is refused or takes a stream's window too far
+-- the settings in order after one of them, unless that is refused or takes a stream's window too far
 abbrev pub setting_next : List Stream → Settings → Result Settings Cause → (Settings → Result Settings Cause) → Result Settings Cause
 setting_next streams from (Err cause) follow = Err cause
 setting_next streams from (Ok now) follow = if overflows (moved_by from.window now.window) streams then Err InitialWindowSizeOverflow else follow now

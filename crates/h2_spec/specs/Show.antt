@@ -37,7 +37,7 @@ unfoldable pub octets_text : List ℕ → List ℕ
 octets_text [] = codes "-"
 octets_text (x ∷ xs) = encode_lower (x ∷ xs)
 
--- how far the connection has come
+-- how far the connection has got
 unfoldable pub phase_text : Phase → List ℕ
 phase_text phase.Preface = codes "preface"
 phase_text phase.Settings = codes "settings"

@@ -55,7 +55,7 @@ kind_of last streams id = (stream_at last streams id).kind
 abbrev pub live_count : List Stream → ℕ
 live_count streams = count_by (λ st. is_live st.kind) streams
 
--- a record in the place of the one with its identifier, or behind all
+-- a record in the place of the one with its identifier, or after all
 abbrev pub put : Stream → List Stream → List Stream
 put st [] = st ∷ []
 put st (x ∷ xs) = if x.id == st.id then st ∷ xs else x ∷ put st xs

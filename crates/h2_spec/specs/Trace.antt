@@ -21,11 +21,11 @@ pub record Run : Type 0 where
   pub state : State
   pub rest : List ℕ
 
--- what the connection does with one item: its effect, and then what waits is sent
+-- what the connection does with one item: its effect, and then the pending output is sent
 abbrev pub behind : Step → Step → Step
 behind e p = record { state = p.state; sent = e.sent ++ p.sent }
 
--- what waits is sent behind an item, unless it ended the connection
+-- the pending output is sent after an item, unless it ended the connection
 abbrev pub then_sent : Phase → Step → Step
 then_sent (Ended code) e = e
 then_sent Preface e = behind e (send_pending e.state)
@@ -76,7 +76,7 @@ unfoldable pub sent_octets : List Event → List ℕ
 unfolding frame_octets
 sent_octets es = flat_map (λ e. frames_octets e.sent) es
 
--- a run, carried on with more octets behind those that were left
+-- a run, carried on with more octets after those that were left
 unfoldable pub carried_on : Run → List ℕ → Run
 carried_on r more = let t = trace r.state (r.rest ++ more) in record { events = r.events ++ t.events; state = t.state; rest = t.rest }
 

@@ -15,7 +15,7 @@ use Rattle.h2_spec.specs.FrameType.{type_names}
 use Rattle.h2_spec.specs.Script.{Payload, Empty, Octets, Pairs, Increment, Code, Instructions, Statement, Nothing, Preface, Raw, AFrame, instruction_octets, is_plain, mode_letter, quote_of}
 use Rattle.h2_spec.specs.declared.frames.Head.{Head}
 
--- ---- what is said of octets
+-- ---- what is said about octets
 
 -- a script can write its numbers
 abbrev pub is_writable : Instruction → Bool
@@ -24,7 +24,7 @@ is_writable (Update n) = nat_lt n (2 ^ 32)
 is_writable (Literal mode (Ref i) value) = nat_lt 0 i && nat_lt i (2 ^ 32)
 is_writable (Literal mode (Named name) value) = true
 
--- the first instruction, if a script can say it, and those behind it
+-- the first instruction, if a script can say it, and those after it
 abbrev pub first_said : Read (Option Instruction) → (ℕ → Option (List Instruction)) → Option (List Instruction)
 first_said (Whole (Some i) used) more = if is_writable i then option_map (λ is. i ∷ is) (more used) else None
 first_said (Whole None used) more = None
@@ -62,7 +62,7 @@ payload_said kind flags p =
     else if is_fragment kind flags then block_said p
     else Octets p
 
--- what is said of a frame
+-- what is said about a frame
 abbrev pub frame_said : Head → List ℕ → Statement
 frame_said h p = AFrame h.kind h.flags h.stream h.reserved (payload_said h.kind h.flags p)
 
@@ -137,7 +137,7 @@ statement_text (AFrame kind flags stream reserved payload) =
 abbrev pub line_text : Statement → List ℕ
 line_text s = statement_text s ++ 10 ∷ []
 
--- what is left behind the last whole frame
+-- the rest after the last whole frame
 abbrev pub rest_text : List ℕ → List ℕ
 rest_text [] = []
 rest_text (x ∷ xs) = line_text (Raw (x ∷ xs))

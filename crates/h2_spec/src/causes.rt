@@ -1,6 +1,5 @@
 //! Why this server answers with a connection error or a stream error (RFC 9113, 5.4): a cause for each place of the
-//! written table where one arises.
-//! Rests on `errors` and `rules`; definitions: `specs/Cause.antt`, `specs/CauseWords.antt`.
+//! written table where one arises. Definitions: `specs/Cause.antt`, `specs/CauseWords.antt`.
 
 ghost use Rattle.std.specs.Prelude.{◌≡◌, map, slice_get, Some};
 ghost use Rattle.h2_spec.specs.Cause.{code_of};
@@ -16,9 +15,9 @@ use std::fmt;
 pub enum Cause {
     /// An octet is not that of the connection preface.
     BadPreface,
-    /// The first frame behind the preface is no SETTINGS.
+    /// The first frame after the preface is no SETTINGS.
     FirstNotSettings,
-    /// The first frame behind the preface is a SETTINGS with ACK.
+    /// The first frame after the preface is a SETTINGS with ACK.
     FirstIsSettingsAck,
     /// HEADERS, PUSH_PROMISE, CONTINUATION, SETTINGS, PING or GOAWAY, or a frame on stream 0, is longer than frames may
     /// be.
@@ -61,7 +60,7 @@ pub enum Cause {
     GoawayLength,
     /// WINDOW_UPDATE of another length than 4.
     WindowUpdateLength,
-    /// The Pad Length of DATA is above the octets behind it.
+    /// The Pad Length of DATA is above the octets after it.
     DataPadding,
     /// The Pad Length of HEADERS is above the octets that remain for the fragment.
     HeadersPadding,
@@ -113,7 +112,7 @@ pub enum Cause {
     BlockTooLarge,
     /// The block ends inside an instruction.
     BlockTruncated,
-    /// An integer goes on behind its fifth continuation octet.
+    /// An integer goes on after its fifth continuation octet.
     IntegerTooLong,
     /// An indexed field of index 0.
     IndexZero,
@@ -121,7 +120,7 @@ pub enum Cause {
     IndexOutOfTables,
     /// A Huffman string with the whole code of EOS in it, with more than 7 bits of padding, or with a 0 in its padding.
     HuffmanString,
-    /// A table size update behind a field of its block.
+    /// A table size update after a field of its block.
     SizeUpdateLate,
     /// A table size update above the limit.
     SizeUpdateTooLarge,
@@ -135,7 +134,7 @@ pub enum Cause {
     BadName,
     /// A value of a request has an octet that no value has, or a blank at an end.
     BadValue,
-    /// A pseudo-field behind a regular field.
+    /// A pseudo-field after a regular field.
     LatePseudoField,
     /// A pseudo-field that requests do not have.
     UnknownPseudoField,

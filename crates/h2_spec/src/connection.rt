@@ -1,5 +1,5 @@
-//! What a connection counts and knows, besides its streams and its header table (RFC 9113, 3.4 and 5.4).
-//! Rests on `errors` and `flow`; definitions: `specs/State.antt`.
+//! What a connection counts and knows, besides its streams and its header table (RFC 9113, 3.4 and 5.4). Definitions:
+//! `specs/State.antt`.
 
 ghost use Rattle.std.specs.Prelude.{◌≡◌};
 ghost use Rattle.h2_spec.specs.State.{configured, is_allowed, limits};
@@ -7,7 +7,7 @@ ghost use Rattle.h2_spec.specs.State.{configured, is_allowed, limits};
 use crate::errors::ErrorCode;
 use crate::flow::{Credit, LocalSettings, Settings, Window};
 
-/// How far a connection has come (RFC 9113, 3.4 and 5.4.1).
+/// How far a connection has got (RFC 9113, 3.4 and 5.4.1).
 #[derive(Clone, Copy)]
 pub enum Phase {
     /// The client's preface is awaited.
@@ -77,6 +77,7 @@ impl Config {
 /// What a connection counts and knows, besides its streams, table and open block.
 #[derive(Clone, Copy)]
 pub struct ConnectionState {
+    /// How far the connection has got.
     pub phase: Phase,
     /// The highest client stream whose request block has ended, 0 at first.
     pub last: u32,
@@ -112,6 +113,7 @@ pub enum Purpose {
 /// A field block that is open, as it is shown (RFC 9113, 4.3).
 #[derive(Clone, Copy)]
 pub struct BlockView {
+    /// The identifier of its stream.
     pub stream: u32,
     /// The octets of its fragments so far.
     pub octets: u32,

@@ -1,5 +1,4 @@
-//! Error codes, and what the small types of this crate refuse (RFC 9113, 7).
-//! Rests on `causes`; definitions: `specs/Errors.antt`.
+//! Error codes, and what the small types of this crate refuse (RFC 9113, 7). Definitions: `specs/Errors.antt`.
 
 ghost use Rattle.std.specs.Prelude.{◌≡◌};
 ghost use Rattle.h2_spec.specs.Errors.{code_number, fault_number};

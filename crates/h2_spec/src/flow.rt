@@ -1,5 +1,5 @@
 //! Windows, credit and settings: the small values that flow control counts with (RFC 9113, 5.2, 6.5.2 and 6.9).
-//! Rests on `errors`; definitions: `specs/Window.antt`, `specs/Settings.antt`.
+//! Definitions: `specs/Window.antt`, `specs/Settings.antt`.
 
 ghost use Rattle.std.specs.Prelude.{◌≡◌, ℕ, ℤ, pos, negsuc, ◌+◌, ◌<◌, ◌≤◌, ◌^◌, ◌-ℤ◌, ◌+ℤ◌, ◌≤ℤ◌, ◌↔◌, ◌&&◌, nat_le, int_lt, IsOk, OnOk, IfErr};
 ghost use Rattle.h2_spec.specs.Window.{max_window, given_back, still_owed};

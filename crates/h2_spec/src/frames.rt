@@ -1,5 +1,5 @@
-//! Heads of frames, frame types and flags (RFC 9113, 4.1 and 6).
-//! Rests on nothing; definitions: `specs/FrameType.antt`, `specs/Frame.antt`.
+//! Heads of frames, frame types and flags (RFC 9113, 4.1 and 6). Definitions: `specs/FrameType.antt`,
+//! `specs/Frame.antt`.
 
 ghost use Rattle.std.specs.Prelude.{◌≡◌, ◌<◌, option_map, slice_get};
 ghost use Rattle.h2_spec.specs.FrameType.{frame_type, type_names, type_number, has};
@@ -160,6 +160,7 @@ pub struct Head {
     pub length: u32,
     /// The number of the frame's type.
     pub kind: u8,
+    /// The flags, one a bit; those that are undefined for the type are ignored (RFC 9113, 4.1).
     pub flags: u8,
     /// The reserved bit, which is ignored on receipt.
     pub reserved: bool,
@@ -191,7 +192,7 @@ pub enum ItemHead {
     Preface,
     /// Octets that are not the connection preface.
     BadPreface,
-    /// A frame that is longer than frames may be; only its head has come.
+    /// A frame that is longer than frames may be; only its head has arrived.
     Oversize(Head),
     /// A whole frame.
     Frame(Head),

@@ -1,5 +1,5 @@
-//! Why a frame is ignored, where it is no error (RFC 9113, 4.1, 5.1 and 6).
-//! Rests on `rules`; definitions: `specs/Ignored.antt`, `specs/IgnoredWords.antt`.
+//! Why a frame is ignored, where it is no error (RFC 9113, 4.1, 5.1 and 6). Definitions: `specs/Ignored.antt`,
+//! `specs/IgnoredWords.antt`.
 
 ghost use Rattle.std.specs.Prelude.{◌≡◌, map, slice_get, Some};
 ghost use Rattle.h2_spec.specs.IgnoredWords.{all_reasons, ignored_client_duty, ignored_client_section, ignored_name, ignored_section, ignored_sentence, ignored_server_duty, is_demanded};

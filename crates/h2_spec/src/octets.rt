@@ -1,5 +1,4 @@
 //! Parts of a list of octets.
-//! Rests on nothing.
 
 ghost use Rattle.std.specs.Prelude.{◌≡◌, ◌≤◌, length, take, drop};
 ghost use Rattle.std.specs.Vec.{vec_len};
@@ -22,7 +21,7 @@ pub fn octets_up_to(octets: &[u8], end: usize) -> &[u8]
     &octets[..end]
 }
 
-/// Takes out the first octets, this many; those behind them are moved to the front once. Where they are none, nothing
+/// Takes out the first octets, this many; those after them are moved to the front once. Where they are none, nothing
 /// moves.
 pub fn drop_front<A: Allocator>(octets: &mut Vec<u8, A>, count: usize)
     requires { count ≤ vec_len octets.old }

@@ -1,6 +1,5 @@
 //! What a rule answers: a connection error, or a small change with at most one frame of each place in the order of
-//! sending.
-//! Rests on `causes`, `streams` and `connection`; definitions: `specs/Change.antt`.
+//! sending. Definitions: `specs/Change.antt`.
 
 use crate::causes::Cause;
 use crate::connection::ConnectionState;
@@ -43,7 +42,9 @@ pub enum StreamFrame {
 /// An answer that begins: HEADERS is sent.
 #[derive(Clone, Copy)]
 pub struct Answering {
+    /// The stream's identifier.
     pub id: u32,
+    /// The answer.
     pub pick: Pick,
     /// Whether the block begins with a table size update to 0.
     pub size_update_pending: bool,
@@ -53,19 +54,28 @@ pub struct Answering {
 /// sent.
 #[derive(Clone, Copy)]
 pub struct StreamOutcome {
+    /// The record after it.
     pub stream: Stream,
+    /// The frame that is sent on the stream, before an answer.
     pub frame: StreamFrame,
+    /// The answer that begins, if one does.
     pub answer: Option<Answering>,
+    /// Whether the next response's field block has to begin with a table size update (RFC 7541, 4.2).
     pub size_update_pending: bool,
 }
 
 /// What an item changes, and what is sent for it.
 #[derive(Clone, Copy)]
 pub struct Change {
+    /// The counts of the connection after it.
     pub core: ConnectionState,
+    /// What becomes of the records of streams.
     pub record_update: RecordUpdate,
+    /// The frame that is sent on the connection, before all others.
     pub first: ConnectionFrame,
+    /// The frame that is sent on a stream, after that.
     pub second: StreamFrame,
+    /// The answer whose HEADERS are sent after both, if one begins.
     pub answer: Option<Answering>,
 }
 
@@ -79,8 +89,11 @@ pub enum Reaction {
 /// DATA that comes: its octets, those of its content, and whether it ends the peer's side.
 #[derive(Clone, Copy)]
 pub struct ReceivedData {
+    /// The octets of the payload, Pad Length and padding included: those that windows count (RFC 9113, 6.9.1).
     pub octets: u32,
+    /// The octets of the body among them: those that content-length counts (8.1.1).
     pub content: u32,
+    /// Whether the frame has END_STREAM.
     pub ends: bool,
 }
 
@@ -88,8 +101,12 @@ pub struct ReceivedData {
 /// the answer that is picked.
 #[derive(Clone, Copy)]
 pub struct BlockSummary {
+    /// The size of its fields in octets, 32 more for each (RFC 9113, 6.5.2); stays at 2^64 - 1 once there.
     pub size: u64,
+    /// Why they make no request (8.1.1), if they don't.
     pub malformed: Option<Cause>,
+    /// The octets of content that content-length declares, if there is one.
     pub declared: Option<u64>,
+    /// The answer that the request picks.
     pub pick: Pick,
 }

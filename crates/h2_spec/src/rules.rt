@@ -1,5 +1,5 @@
 //! What the RFC asks of both sides where a rule is broken, or a frame is ignored: the words of the table of rules.
-//! Rests on nothing; definitions: `specs/Rules.antt`.
+//! Definitions: `specs/Rules.antt`.
 
 ghost use Rattle.std.specs.Prelude.{◌≡◌, ℕ, List, map, slice_get, Some};
 ghost use Rattle.h2_spec.specs.declared.rules.ClientDuty.{ClientDuty};

@@ -1,16 +1,15 @@
-//! Why a line of a script is refused.
-//! Rests on nothing; definitions: `specs/Script.antt`, `specs/Assemble.antt`.
+//! Why a line of a script is refused. Definitions: `specs/Script.antt`, `specs/Assemble.antt`.
 
 /// What is wrong with a line of a script; where several are, the least is reported.
 #[derive(Clone, Copy, Debug)]
 pub enum SyntaxKind {
-    /// The parts of a line: fewer than four, `PREFACE` with a space behind it, or `RAW` without digits.
+    /// The parts of a line: fewer than four, `PREFACE` with a space after it, or `RAW` without digits.
     Parts,
     /// The name of a frame type: none of the ten, and no `T` with two hex digits.
     Name,
     /// The flags: other than two hex digits.
     Flags,
-    /// The stream: other than 0 to 2147483647 in 1 to 10 digits, with an `R` behind it or not.
+    /// The stream: other than 0 to 2147483647 in 1 to 10 digits, with an `R` after it or not.
     Stream,
     /// The payload, or the digits of `RAW`: of no form.
     Payload,

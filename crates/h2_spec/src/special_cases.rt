@@ -1,6 +1,6 @@
 //! Cases of a cause, or of a reason to ignore a frame, for which the RFC says something else than for its other cases.
-//! Which case an item is depends on its values and on what came before; `explain` has them.
-//! Rests on `rules`; definitions: `specs/SpecialCases.antt`.
+//! Which case an item is depends on its values and on what came before; `explain` has them. Definitions:
+//! `specs/SpecialCases.antt`.
 
 ghost use Rattle.std.specs.Prelude.{◌≡◌, map, slice_get, Some};
 ghost use Rattle.h2_spec.specs.Rules.{text_of};
@@ -13,7 +13,7 @@ use crate::rules::{ClientDuty, ServerDuty, client_duty_at, server_duty_at, text_
 pub enum SpecialCase {
     /// `too-many-streams` before the peer has acknowledged the server's SETTINGS.
     LimitNotAcknowledged,
-    /// `block-interrupted` where a CONTINUATION has come in the block.
+    /// `block-interrupted` where a CONTINUATION has arrived in the block.
     BehindContinuation,
     /// `block-interrupted` by a frame of a type that is not known.
     UnknownTypeInBlock,

@@ -1,5 +1,4 @@
-//! Streams: their states, what is counted on them, and their records (RFC 9113, 5.1).
-//! Rests on `flow`; definitions: `specs/Stream.antt`.
+//! Streams: their states, what is counted on them, and their records (RFC 9113, 5.1). Definitions: `specs/Stream.antt`.
 
 use crate::flow::{Credit, Window};
 
@@ -54,8 +53,11 @@ pub enum Pick {
 /// The record of a stream.
 #[derive(Clone, Copy)]
 pub struct Stream {
+    /// The stream's identifier: odd, since clients open all streams (RFC 9113, 5.1.1).
     pub id: u32,
+    /// Its state (5.1).
     pub kind: Kind,
+    /// Its counts; all 0 and none where it is not live.
     pub numbers: Numbers,
     /// The answer that its request picked.
     pub pick: Pick,
@@ -64,7 +66,10 @@ pub struct Stream {
 /// A stream as it is shown: its record without the answer.
 #[derive(Clone, Copy)]
 pub struct StreamView {
+    /// The stream's identifier.
     pub id: u32,
+    /// Its state (RFC 9113, 5.1).
     pub kind: Kind,
+    /// Its counts; all 0 and none where it is not live.
     pub numbers: Numbers,
 }

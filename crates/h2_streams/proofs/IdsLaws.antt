@@ -53,7 +53,7 @@ listed-below : (b : Bool) (id low : ℕ) (ids : List ℕ) → id < low → IdsRi
 listed-below true id low ids le h = placed-below id low ids le h
 listed-below false id low ids le h = without-below id low ids le h
 
--- what is above an identifier is listed behind it
+-- what is above an identifier is listed after it
 listed-behind : (b : Bool) (id x : ℕ) (xs : List ℕ) → x < id → listed b id (x ∷ xs) ≡ x ∷ listed b id xs
 listed-behind true id x xs l =
     let under : nat_lt id x ≡ false = grind (arith, nat_tests, l) in

@@ -118,7 +118,7 @@ as_in-put low st cs (x ∷ xs) h r known = at (eqb x.id st.id) refl (as_in-put x
         rw (own, here) (ap (λ ys. st ∷ ys) (sym (as_in-below st cs x.id xs (omega (arith, same)) h.1)))
     at false e more k = rw (as_in-other st cs x (flip x.id st.id e), more k) refl
 
--- what has been written, and what is left to write
+-- what has been written, and what remains to write
 pub record Writes (changed base : List Stream) (rest records : List Stream) (entries : List (ℕ × ℕ)) : Type 0 where
   pub rising : Rise 0 records
   pub order : Rise 0 rest
@@ -127,7 +127,7 @@ pub record Writes (changed base : List Stream) (rest records : List Stream) (ent
   pub live_is : entries ++ live_entries rest records ≡ live_entries changed base
   pub behind : AllByRecursion (λ (id : ℕ). Rise id rest) (keys_of entries)
 
--- those that are behind others are behind them without the first
+-- those that are after others are after them without the first
 behind-less : (st : Stream) (rest : List Stream) (ids : List ℕ) → AllByRecursion (λ (id : ℕ). Rise id (st ∷ rest)) ids → AllByRecursion (λ (id : ℕ). Rise id rest) ids
 behind-less st rest [] h = tt
 behind-less st rest (id ∷ ids) h = (let over = h.0.0 in rise-from id st.id rest (omega (arith, over)) h.0.1, behind-less st rest ids h.1)
@@ -166,7 +166,7 @@ entries-behind x rs (c ∷ cs) h =
     by true = refl
     by false = refl
 
--- of those above one, all that have a record have it behind that one
+-- of those above one, all that have a record have it after that one
 known-behind : (x : Stream) (rs cs : List Stream) → Rise x.id cs → AreKnown (x ∷ rs) cs → AreKnown rs cs
 known-behind x rs [] h k = tt
 known-behind x rs (c ∷ cs) h k =

@@ -92,7 +92,7 @@ entries_of test (st ∷ sts) = if test st then (st.id, 0) ∷ map next_entry (en
 abbrev pub is_entered : (ℕ → Bool) → Stream → Bool
 is_entered left st = lives st || left st.id
 
--- whether so many streams that ended are in the map that they are taken out
+-- whether that many streams that ended are in the map that they are taken out
 abbrev pub are_dropped : ℕ → List (ℕ × ℕ) → Bool
 are_dropped ended entries = nat_lt (length entries + 32) (2 * ended)
 

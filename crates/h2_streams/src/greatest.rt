@@ -1,6 +1,5 @@
-//! The greatest of the send windows that settings move (RFC 9113, 6.9.2).
-//! Rests on `indexmap`, `places`, `shift` and the windows of `h2_spec`.
-//! Definitions: `specs/Greatest.antt`, over `h2_spec/specs/Change.antt`.
+//! The greatest of the send windows that settings move (RFC 9113, 6.9.2). Definitions: `specs/Greatest.antt`, over
+//! `h2_spec/specs/Change.antt`.
 
 ghost use Rattle.std.specs.Prelude.{◌≡◌, ◌||◌, ℤ, ◌+ℤ◌};
 ghost use Rattle.std.specs.List.{list_any};

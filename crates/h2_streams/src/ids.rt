@@ -45,7 +45,7 @@ fn place<A: Allocator>(ids: &mut Vec<u32, A>, id: u32)
     }
 }
 
-/// Puts an identifier behind the others, if it is to be listed. There is space for it.
+/// Puts an identifier after the others, if it is to be listed. There is space for it.
 pub(crate) fn append<A: Allocator>(ids: &mut Vec<u32, A>, id: u32, is_in: bool)
     requires { vec_len ids.old < vec_capacity ids.old }
     ensures items { ids.new.items ≡ ids.old.items ++ (if is_in then id ∷ [] else []) }

@@ -1,5 +1,5 @@
-//! What the kind of a stream says (RFC 9113, 5.1).
-//! Rests on the types of `h2_spec`; definitions: its `specs/Stream.antt`, and `is_ready` of `specs/Kept.antt`.
+//! What the kind of a stream says (RFC 9113, 5.1). Definitions: its `specs/Stream.antt`, and `is_ready` of
+//! `specs/Kept.antt`.
 
 ghost use Rattle.std.specs.Prelude.{◌≡◌};
 ghost use Rattle.h2_spec.specs.Stream as spec;

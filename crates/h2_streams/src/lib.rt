@@ -1,7 +1,6 @@
-//! The records of a connection's streams, in the order of their opening (RFC 9113, 5.1).
-//! Rests on `h2_spec` (the types and the definitions) and on `indexmap`. Live streams are found by a map, the others by
-//! binary search, since identifiers rise.
-//! What each call does to the list of records is said in `h2_spec/specs/Stream.antt`.
+//! The records of a connection's streams, in the order of their opening (RFC 9113, 5.1). Live streams are found by a
+//! map, the others by binary search, since identifiers rise. What each call does to the list of records is said in
+//! `h2_spec/specs/Stream.antt`.
 #![tactic(auto)]
 
 mod greatest;

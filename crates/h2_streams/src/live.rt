@@ -1,7 +1,6 @@
-//! The live streams by identifier: the place of each one's record, in the order of opening.
-//! Rests on `indexmap`, `hash` and `kinds`; definitions: `specs/Kept.antt`.
-//! A stream that ends is left in the map until such streams are more than the live ones, and all are then taken out at
-//! once: what the end of a stream costs does not depend on how many are live.
+//! The live streams by identifier: the place of each one's record, in the order of opening. Definitions:
+//! `specs/Kept.antt`. A stream that ends is left in the map until such streams are more than the live ones, and all are
+//! then taken out at once: what the end of a stream costs does not depend on how many are live.
 
 ghost use Rattle.std.specs.Prelude.{◌≡◌, ◌+◌, ◌<◌, ◌≤◌, ◌++◌, ◌∷◌, [], ◌==◌, None, length, nat_eq, if◌then◌else◌, IfSome, IsTrue};
 ghost use Rattle.std.specs.Option.{option_copied};
@@ -18,7 +17,7 @@ use std::alloc::Allocator;
 /// How many streams that ended may be in the map beyond the number of live ones.
 const SPARE_ENTRIES: usize = 32;
 
-/// Puts a stream behind the others, if it is to be there. There is space for it.
+/// Puts a stream after the others, if it is to be there. There is space for it.
 pub(crate) fn enter<A: Allocator>(
     live: &mut IndexMap<u32, usize, IdHash, A>,
     id: u32,

@@ -1,5 +1,4 @@
-//! Records by their identifiers, which rise: a binary search.
-//! Rests on `kinds`; definitions: `specs/Kept.antt`.
+//! Records by their identifiers, which rise: a binary search. Definitions: `specs/Kept.antt`.
 
 ghost use Rattle.std.specs.Prelude.{◌≡◌, ◌<◌, ◌≤◌, false, length, IsTrue, slice_get};
 ghost use Rattle.std.specs.Option.{option_copied, option_map_or, is_some};

@@ -1,5 +1,5 @@
-//! The records at an earlier time, made again from those of a later one: the few that can change are kept.
-//! Rests on `indexmap`, `kinds`, `live` and `places`; definitions: `specs/Rebuilt.antt`.
+//! The records at an earlier time, made again from those of a later one: the few that can change are kept. Definitions:
+//! `specs/Rebuilt.antt`.
 
 ghost use Rattle.std.specs.Prelude.{◌≡◌, ◌+◌, ◌≤◌, ◌++◌, [], IfOk, OnOk, length, map, take, if◌then◌else◌};
 ghost use Rattle.std.specs.List.{insert};
@@ -21,7 +21,7 @@ use std::alloc::{AllocError, Allocator};
 /// How many more records there is space for at first.
 const SPARE_RECORDS: usize = 64;
 
-/// The first records, so many, once more.
+/// A copy of that many first records.
 pub(crate) fn front_of<A: Allocator + Copy>(
     records: &Vec<Stream, A>,
     count: usize,
@@ -57,7 +57,7 @@ pub(crate) fn write_each<A: Allocator>(
     }
 }
 
-/// Puts the record behind the others, if there is one and it is live. There is space for it.
+/// Puts the record after the others, if there is one and it is live. There is space for it.
 fn append_live<A: Allocator>(list: &mut Vec<Stream, A>, stream: Option<&Stream>)
     requires { length list.old.items + 1 ≤ vec_capacity list.old }
     ensures items { list.new.items ≡ list.old.items ++ spec.if_live (option_copied stream.entry) }

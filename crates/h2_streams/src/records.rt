@@ -1,7 +1,6 @@
 //! The records: what opens, changes and ends a stream. The program does not call `open_stream`, `open_reset`, `set`,
-//! `end_remote`, `end_local`, `reset` and `next_waiting`, which are for users of the library: its rules return the whole
-//! record after a frame, which `put` puts in place, and `next_ready` finds the next stream that can send.
-//! Rests on `kinds`, `live` (the map of the live streams), `places` (the search by identifier) and `ids` (rising lists).
+//! `end_remote`, `end_local`, `reset` and `next_waiting`, which are for users of the library: its rules return the
+//! whole record after a frame, which `put` puts in place, and `next_ready` finds the next stream that can send.
 //! Definitions: `h2_spec/specs/Stream.antt`; what the fields keep: `specs/Kept.antt`.
 
 ghost use Rattle.std.specs.Prelude.{◌≡◌, false, not, take, ◌<◌, ◌≤◌, ◌%◌, ◌==◌, ◌&&◌, ◌||◌, nat_lt, length, IsOk, OnOk, OnErr, IfOk, IfErr, IfSome, IsTrue, is_err, slice_get};
@@ -83,7 +82,7 @@ impl<A: Allocator + Copy> Streams<A> {
         }
     }
 
-    /// The same records again.
+    /// A copy of the records.
     pub fn try_clone(&self) -> Result<Self, AllocError>
         ensures { IfOk result (λ copy. copy ≡ self.now) }
     {
@@ -120,8 +119,8 @@ impl<A: Allocator + Copy> Streams<A> {
         Ok(list)
     }
 
-    /// The first records, so many, where those that have changed since are as in `changed`: the records at an earlier
-    /// time, when `last` was the last stream that was opened. The records are copied at once.
+    /// That many first records where those that have changed since are as in `changed`: the records at an earlier time,
+    /// when `last` was the last stream that was opened. The records are copied at once.
     ///
     /// `AllocError` where memory for them is refused.
     pub fn rebuilt(&self, count: usize, last: u32, changed: &[Stream]) -> Result<Self, AllocError>
@@ -291,9 +290,9 @@ impl<A: Allocator> Streams<A> {
         self.replace(not_live(id, reset_kind(by_peer)));
     }
 
-    /// Puts a record: in the place of the one of the same stream, or behind all, of a stream above them.
-    /// A live stream may move to any state, one that is closed stays closed (RFC 9113, 5.1).
-    /// Only a new record takes memory; `Err` leaves the records as they were.
+    /// Puts a record: in the place of the one of the same stream, or after all, of a stream above them. A live stream
+    /// may move to any state, one that is closed stays closed (RFC 9113, 5.1). Only a new record takes memory; `Err`
+    /// leaves the records as they were.
     #[inline(always)]
     pub fn put(&mut self, stream: Stream) -> Result<(), AllocError>
         requires { CanPut stream self.old }
@@ -441,7 +440,7 @@ fn is_idle(last: u32, id: u32) -> bool
     id % 2 == 0 || last < id
 }
 
-/// The same records again.
+/// A copy of the records.
 fn copy_of<A: Allocator + Copy>(records: &Vec<Stream, A>) -> Result<Vec<Stream, A>, AllocError>
     ensures { IfOk result (λ copy. copy.items ≡ records.now.items) }
 {
@@ -450,7 +449,7 @@ fn copy_of<A: Allocator + Copy>(records: &Vec<Stream, A>) -> Result<Vec<Stream, 
     Ok(copy)
 }
 
-/// The same identifiers again, with space for so many.
+/// A copy of the identifiers, with space for that many.
 fn copy_with_capacity<A: Allocator + Copy>(
     ids: &Vec<u32, A>,
     count: usize,

@@ -1,7 +1,5 @@
 //! What a change of an initial window does to the windows of streams: the peer's moves the send windows, the server's
-//! own the receive windows (RFC 9113, 6.9.2).
-//! Rests on `indexmap` and the windows of `h2_spec`.
-//! Definitions: `specs/Shift.antt`, over `h2_spec/specs/Change.antt`.
+//! own the receive windows (RFC 9113, 6.9.2). Definitions: `specs/Shift.antt`, over `h2_spec/specs/Change.antt`.
 
 ghost use Rattle.std.specs.Prelude.{◌≡◌};
 ghost use Rattle.indexmap.specs.IndexMap.{values};

@@ -1,5 +1,4 @@
-//! What is looked for among the live streams, one after another.
-//! Rests on `indexmap`, `ids`, `kinds` and `places`; definitions: `specs/Kept.antt`.
+//! What is looked for among the live streams, one after another. Definitions: `specs/Kept.antt`.
 
 ghost use Rattle.std.specs.Prelude.{◌≡◌, ◌+◌, ◌<◌, ◌≤◌, ◌++◌, length, slice_get};
 ghost use Rattle.std.specs.Option.{option_copied};
@@ -16,7 +15,7 @@ use h2_spec::streams::Stream;
 use indexmap::IndexMap;
 use std::alloc::Allocator;
 
-/// Puts the stream behind the others, if there is one and it can send. There is space for it.
+/// Puts the stream after the others, if there is one and it can send. There is space for it.
 fn append_ready<A: Allocator>(ready: &mut Vec<u32, A>, stream: Option<&Stream>)
     requires { vec_len ready.old < vec_capacity ready.old }
     ensures items { ready.new.items ≡ ready.old.items ++ kept.id_if kept.is_ready (option_copied stream.entry) }

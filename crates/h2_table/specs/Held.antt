@@ -7,7 +7,7 @@ use Rattle.h2_spec.specs.DynamicTable.{total_size}
 abbrev pub places_for : ℕ → ℕ
 places_for limit = max (limit / 32) 1
 
--- the entries are in so many places, count so much, and are within the maximum; there are places for the larger of
+-- the entries are in that many places, count that much, and are within the maximum; there are places for the larger of
 -- maximum and limit
 pub record IsHeld (entries : List Field) (places size most limit : ℕ) : Type 0 where
   pub counted : size ≡ total_size entries

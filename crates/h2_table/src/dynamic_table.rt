@@ -24,9 +24,13 @@ use std::marker::Model;
 /// An entry counts the octets of its name and value and 32 more (RFC 7541, 4.1).
 #[derive(Drop)]
 pub struct DynTable<A: Allocator> {
+    /// The entries, the newest at the front.
     pub(crate) ring: HeapCircularBuffer<TableEntry<A>, A>,
+    /// What the entries count together, in octets (RFC 7541, 4.1).
     pub(crate) size: usize,
+    /// The most that they may count, at most `limit` unless an update is due (4.2).
     pub(crate) max: u32,
+    /// The greatest maximum that an update may set (4.2, 6.3).
     pub(crate) limit: u32,
     /// How many entries were ever added, round and round: it says only where to look for an entry that was kept.
     pub(crate) added: usize,
@@ -193,7 +197,7 @@ impl<A: Allocator + Copy> DynTable<A> {
         Ok(())
     }
 
-    /// The same table once more, in memory of its own.
+    /// A copy of the table, in memory of its own.
     ///
     /// # Errors
     ///
@@ -224,14 +228,14 @@ pub(crate) fn lend<A: Allocator>(entry: &TableEntry<A>) -> LentField<'_>
     }
 }
 
-/// The places of a ring for entries that count so many octets together: each counts 32 or more.
+/// The places of a ring for entries that count that many octets together: each counts 32 or more.
 pub(crate) fn places_for(most: u32) -> usize
     ensures { result ≡ places_for most }
 {
     (most / 32).max(1) as usize
 }
 
-/// Gives a ring so many places, if it has fewer.
+/// Gives a ring that many places, if it has fewer.
 fn make_places<A: Allocator + Copy>(
     ring: &mut HeapCircularBuffer<TableEntry<A>, A>,
     places: usize,
@@ -248,7 +252,7 @@ fn make_places<A: Allocator + Copy>(
     ring.resize(places)
 }
 
-/// Takes out the oldest entries until those left, which count `size` together, count at most `available`; what is left
+/// Takes out the oldest entries until those left, which count `size` together, count at most `available`; the rest
 /// counts the answer.
 fn evict<A: Allocator>(
     ring: &mut HeapCircularBuffer<TableEntry<A>, A>,
@@ -293,7 +297,7 @@ pub(crate) fn put_oldest<A: Allocator>(
     let _ = ring.try_push_back(entry);
 }
 
-/// The same entries in as many places.
+/// A copy of the entries in as many places.
 fn copy_of<A: Allocator + Copy>(
     ring: &HeapCircularBuffer<TableEntry<A>, A>,
 ) -> Result<HeapCircularBuffer<TableEntry<A>, A>, AllocError>

@@ -35,10 +35,15 @@ const SPARE_OCTETS: usize = 128;
 /// evicted.
 #[derive(Drop)]
 pub struct Edit<A: Allocator> {
+    /// The entries that are added, the newest first.
     pub(crate) added: VecDeque<TableEntry<A>, A>,
+    /// Evicted entries whose memory is used again.
     pub(crate) spare: Vec<TableEntry<A>, A>,
+    /// How many of the table's own entries remain, the newest.
     pub(crate) kept: usize,
+    /// What these entries count together, in octets (RFC 7541, 4.1).
     pub(crate) size: usize,
+    /// The most that they may count.
     pub(crate) max: u32,
 }
 
@@ -343,7 +348,7 @@ impl<A: Allocator> DynTable<A> {
     }
 }
 
-/// Evicts the entries behind the newest `kept` ones.
+/// Evicts the entries after the newest `kept` ones.
 fn evict_from<A: Allocator>(
     ring: &mut HeapCircularBuffer<TableEntry<A>, A>,
     spare: &mut Vec<TableEntry<A>, A>,

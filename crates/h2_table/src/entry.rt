@@ -109,7 +109,7 @@ impl<A: Allocator + Copy> TableEntry<A> {
         })
     }
 
-    /// The same entry once more, in memory of its own.
+    /// A copy of the entry, in memory of its own.
     ///
     /// # Errors
     ///

@@ -1,7 +1,6 @@
 //! A dynamic table as it is at one time, kept to be made again later (RFC 7541, 2.3.2). Tables that are kept one after
 //! another share the entries that they have in common, by counted pointers, so an entry is in memory once however often
-//! the table is kept.
-//! It rests on `dynamic_table`; contracts see the table that was kept, and nothing of what is shared.
+//! the table is kept. Contracts see the table that was kept, and nothing of what is shared.
 
 ghost use Rattle.std.specs.Prelude.{◌≡◌, ◌↔◌, ◌≤◌, IfOk, length, true};
 ghost use Rattle.circular_buffer.specs.Buffer.{buffer};
@@ -39,7 +38,7 @@ impl<A: Allocator + Copy> SharedEntry<A> {
         }
     }
 
-    /// The same entry, shared.
+    /// A copy of the entry, shared.
     fn share(&self) -> Result<Self, AllocError>
         ensures { IfOk result (λ shared. shared ≡ self.now) }
     {
@@ -121,7 +120,7 @@ impl<A: Allocator + Copy> KeptTable<A> {
     }
 }
 
-/// The entry of an earlier table that is at this place now, when so many have been added; none if there is none.
+/// The entry of an earlier table that is at this place now, when that many have been added; none if there is none.
 fn earlier_at<A: Allocator>(
     earlier: Option<&KeptTable<A>>,
     place: usize,
@@ -151,7 +150,8 @@ fn share_or_copy<A: Allocator + Copy>(
     SharedEntry::of(entry, alloc)
 }
 
-/// The entries of the ring of a table to which so many were added, shared with those of the same table as it was before.
+/// The entries of the ring of a table to which that many were added, shared with those of the same table as it was
+/// before.
 fn shared_entries<A: Allocator + Copy>(
     ring: &HeapCircularBuffer<TableEntry<A>, A>,
     added: usize,
@@ -170,7 +170,7 @@ fn shared_entries<A: Allocator + Copy>(
     Ok(list)
 }
 
-/// A ring of so many places with copies of these entries.
+/// A ring of that many places with copies of these entries.
 fn ring_of<A: Allocator + Copy>(
     entries: &[SharedEntry<A>],
     places: usize,

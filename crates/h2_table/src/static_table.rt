@@ -1,6 +1,6 @@
-//! The static table (RFC 7541, 2.3.1 and Appendix A): 61 fields that every decoder knows.
-//! It rests on its own constant tables; the definition is `static_field` of `h2_spec`, specs/StaticTable.antt, and the
-//! marks of the entries are those that `mark_of` of `h2_mark`, specs/Mark.antt, computes.
+//! The static table (RFC 7541, 2.3.1 and Appendix A): 61 fields that every decoder knows. The definition is
+//! `static_field` of `h2_spec`, specs/StaticTable.antt, and the marks of the entries are those that `mark_of` of
+//! `h2_mark`, specs/Mark.antt, computes.
 
 ghost use Rattle.std.specs.Prelude.{◌≡◌, option_map, map, slice_get, Some, IfSome};
 ghost use Rattle.h2_spec.specs.Field.{Field};

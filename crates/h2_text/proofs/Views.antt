@@ -26,7 +26,7 @@ taken-next xs ys zs x e h i =
     let more : length zs ≡ suc (length ys) = omega (arith, ap length e, length-append ys (x ∷ [])) in
     rw more (rw (take-next (length ys) xs x h, ← i) e)
 
--- what is left to copy becomes less
+-- what remains to copy becomes less
 pub fewer-left : {X Y : Type 0} (xs : List X) (ys zs : List Y) (y : Y) (x : X) → zs ≡ ys ++ y ∷ [] → slice_get xs (length ys) ≡ Some x → length xs - length zs < length xs - length ys
 fewer-left xs ys zs y x e h = omega (arith, ap length e, length-append ys (y ∷ []), slice_get_within xs (length ys) x h)
 

@@ -1,5 +1,4 @@
-//! Octets as text, a dash where there are none.
-//! Rests on h2_device's texts; definition: h2_spec's `specs/Show.antt`.
+//! Octets as text, a dash where there are none. Definition: h2_spec's `specs/Show.antt`.
 
 ghost use Rattle.std.specs.Prelude.{◌≡◌};
 ghost use Rattle.h2_spec.specs.Show.{octets_text};

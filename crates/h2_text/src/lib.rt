@@ -1,6 +1,4 @@
-//! What is shown of a connection's state, and its text, line by line.
-//! It rests on `h2_spec` (the definitions: View and Show), on the header table and the records of streams, and on
-//! `hex`.
+//! What is shown of a connection's state, and its text, line by line. The definitions are View and Show of `h2_spec`.
 #![tactic(auto)]
 
 pub mod hex_text;

@@ -1,5 +1,5 @@
-//! The lines of the text of a connection's state, as values that write themselves.
-//! Rests on `hex_text`; definition: h2_spec's `specs/Show.antt`.
+//! The lines of the text of a connection's state, as values that write themselves. Definition: h2_spec's
+//! `specs/Show.antt`.
 
 ghost use Rattle.std.specs.Prelude.{◌≡◌, true};
 ghost use Rattle.h2_spec.specs.Field.{field};
@@ -99,7 +99,7 @@ impl Text for PhaseLine<'_> {
     }
 }
 
-/// What is left of a window (RFC 9113, 6.9).
+/// The octets that a window still holds (RFC 9113, 6.9).
 fn window_number(window: Window) -> SignedNumber
     ensures { result.0 ≡ window }
 {
@@ -178,7 +178,9 @@ impl Text for AckedLine<'_> {
 /// 6.5.3; RFC 7541, 4.2).
 #[derive(Drop)]
 pub struct OwnLine {
+    /// The server's settings in force.
     pub own: LocalSettings,
+    /// Whether a size update is due.
     pub due: bool,
 }
 
@@ -240,8 +242,11 @@ impl Text for BlockLine {
 /// How many entries the header table has, what they count, and its maximum.
 #[derive(Drop)]
 pub struct TableLine {
+    /// How many entries there are.
     pub count: usize,
+    /// What they count together, in octets.
     pub size: usize,
+    /// The most that they may count, in octets.
     pub max: u32,
 }
 
@@ -260,8 +265,11 @@ impl Text for TableLine {
 /// An entry of the dynamic table, by its index in both tables: 62 is the newest (RFC 7541, 2.3.3).
 #[derive(Drop)]
 pub struct EntryLine<'t> {
+    /// The index, 62 or more.
     pub index: usize,
+    /// The octets of the name.
     pub name: &'t [u8],
+    /// The octets of the value.
     pub value: &'t [u8],
 }
 

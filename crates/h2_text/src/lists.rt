@@ -1,5 +1,4 @@
 //! The lists that a view owns: small types over a list that contracts see as the list itself.
-//! Rests on `Vec` and, for the entries of the header table, on h2_fields.
 
 ghost use Rattle.std.specs.Prelude.{◌≡◌};
 

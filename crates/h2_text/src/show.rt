@@ -1,5 +1,5 @@
-//! The text of what is shown of a state, as values that write themselves: no memory is taken for it.
-//! Rests on `lines` and `view`; definition: h2_spec's `specs/Show.antt`.
+//! The text of what is shown of a state, as values that write themselves: no memory is taken for it. Definition:
+//! h2_spec's `specs/Show.antt`.
 
 ghost use Rattle.std.specs.Prelude.{◌≡◌, ◌+◌, ◌<◌, ◌^◌, map};
 ghost use Rattle.h2_spec.specs.Show.{entry_lines, show, stream_lines};

@@ -1,7 +1,5 @@
-//! What is shown of a connection's state. The program does not make a `View`, which is for users of the library: it writes
-//! the text of what is lent (`Shown`, in `show`).
-//! Rests on h2_table, h2_streams and, for the fields of the header table, on h2_fields; definition: h2_spec's
-//! `specs/View.antt`.
+//! What is shown of a connection's state. The program does not make a `View`, which is for users of the library: it
+//! writes the text of what is lent (`Shown`, in `show`). Definition: h2_spec's `specs/View.antt`.
 
 ghost use Rattle.std.specs.Prelude.{◌≡◌, ◌<◌, ◌^◌, IfOk, length, map, nat_lt, option_map, slice_get};
 ghost use Rattle.h2_spec.specs.Field.{field};
@@ -21,6 +19,7 @@ use std::marker::Model;
 /// What is shown of a connection's state.
 #[derive(Drop)]
 pub struct View<A: Allocator> {
+    /// How far the connection has got (RFC 9113, 3.4 and 5.4.1).
     pub phase: Phase,
     /// The highest client stream whose request block has ended, 0 at first.
     pub last: u32,
@@ -157,10 +156,13 @@ pub(crate) fn is_due<A: Allocator>(core: &ConnectionState, table: &DynTable<A>) 
 /// What is shown of a connection's state, lent from it: the parts that a view is made of.
 #[derive(Drop)]
 pub struct Shown<'s, A: Allocator> {
+    /// The counts of the connection.
     pub core: ConnectionState,
     /// The open field block.
     pub block: Option<BlockView>,
+    /// The dynamic table of the client's field blocks.
     pub table: &'s DynTable<A>,
+    /// The records of all streams that were opened.
     pub streams: &'s Streams<A>,
 }
 

@@ -33,7 +33,7 @@ fn fits_in(heap: &LocalHeap, call: &Call<'_>) -> bool {
     }
 }
 
-/// Whether a connection takes octets with so much memory; the third number of the line.
+/// Whether a connection takes octets with that much memory; the third number of the line.
 pub fn fits(alloc: Global, call: &Call<'_>) -> Result<Answer, AllocError> {
     let heap = LocalHeap::new(alloc, call.size(2))?;
     Ok(Answer {
@@ -58,7 +58,7 @@ fn takes(splitter: &mut Splitter<&LocalHeap>, octets: &[u8]) -> bool {
     push(splitter, octets) && next(splitter).is_some()
 }
 
-/// Whether a splitter takes the first piece, and then so many times the second.
+/// Whether a splitter takes the first piece, and then that many times the second.
 fn takes_items(splitter: &mut Splitter<&LocalHeap>, call: &Call<'_>) -> bool {
     let mut takes_all = takes(splitter, call.piece(0));
     for _ in 0..call.number(1) {
@@ -67,8 +67,8 @@ fn takes_items(splitter: &mut Splitter<&LocalHeap>, call: &Call<'_>) -> bool {
     takes_all
 }
 
-/// A splitter that has so many octets of memory and no more takes the first piece, and then so many times the second,
-/// with an item in each.
+/// A splitter that has that many octets of memory and no more takes the first piece, and then that many times the
+/// second, with an item in each.
 pub fn room(alloc: Global, call: &Call<'_>) -> Result<Answer, AllocError> {
     let heap = LocalHeap::new(alloc, call.size(0))?;
     let mut splitter = Splitter::new(&heap);

@@ -1,6 +1,6 @@
-//! Commands over memory: words, a file and an input, and all that is printed for them. The words are behind ` : `.
-//! Where a line has a word `file=NAME`, the text is what that file holds, and the input is the first piece in hex;
-//! elsewhere the input is that of `programs`.
+//! Commands over memory: words, a file and an input, and all that is printed for them. The words are after ` : `. Where
+//! a line has a word `file=NAME`, the text is what that file holds, and the input is the first piece in hex; elsewhere
+//! the input is that of `programs`.
 
 use crate::line::Call;
 use crate::programs::{input_of, words_of};

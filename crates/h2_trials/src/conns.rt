@@ -10,7 +10,7 @@ use h2_request::fault::BookFault;
 use h2_spec::connection::Config;
 use std::alloc::{AllocError, Allocator, Global};
 
-/// The limits of a call: at most so many streams are open, and the header table has at most so many octets.
+/// The limits of a call: at most that many streams are open, and the header table has at most that many octets.
 pub fn config_of(call: &Call<'_>) -> Config {
     Config {
         table: call.short(1),

@@ -7,8 +7,8 @@ use h2_device::{DeviceFault, Input, Output};
 use std::alloc::Global;
 use std::cell::Cell;
 
-/// An input that gives at most so many octets a read. The read with the number in `reads` fails, counted from 1, and so
-/// does each where the output holds something back.
+/// An input that gives at most that many octets a read. The read with the number in `reads` fails, counted from 1, and
+/// so does each where the output holds something back.
 #[derive(Drop)]
 pub struct Pieces<'o> {
     pub octets: &'o [u8],
@@ -39,8 +39,8 @@ impl Input for Pieces<'_> {
     }
 }
 
-/// An output in memory. The call with the number in `calls` fails, counted from 1. It says whether something was written since
-/// the last flush.
+/// An output in memory. The call with the number in `calls` fails, counted from 1. It says whether something was
+/// written since the last flush.
 #[derive(Drop)]
 pub struct Limited<'o> {
     pub octets: Vec<u8>,

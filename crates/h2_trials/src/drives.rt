@@ -113,7 +113,7 @@ fn amount(pending: &[u8], written: usize, writable: usize) -> &'static str {
     }
 }
 
-/// How driving ended, what was written with the pending output behind it, and the lengths of the reads.
+/// How driving ended, what was written with the pending output after it, and the lengths of the reads.
 fn told(
     alloc: Global,
     end: Result<DriveEnd, DriveFault>,

@@ -20,7 +20,7 @@ pub enum Way {
     Feed,
     /// Feeds it each piece, and shows what is sent for it.
     Items,
-    /// Feeds it the first pieces, so many, with nothing refused.
+    /// Feeds it that many first pieces with nothing refused.
     Place(usize),
     /// Copies it inside the last item.
     Copy,
@@ -52,7 +52,7 @@ fn is_at(
 /// A PING.
 const PING: &[u8] = b"\x00\x00\x08\x06\x00\x00\x00\x00\x00debugger";
 
-/// What a feed was refused with, what a PING behind it is answered, and whether that changes nothing.
+/// What a feed was refused with, what a PING after it is answered, and whether that changes nothing.
 fn later<'h>(
     alloc: Global,
     conn: &mut Conn<'_, &'h Heap>,
@@ -274,7 +274,7 @@ fn over_octets(alloc: Global, call: &Call<'_>, way: (&[u8], Way, u64)) -> Result
     over_book(alloc, &heap, &book, call, way)
 }
 
-/// All pieces one behind another, or the first ones, so many.
+/// All pieces one after another, or that many first ones.
 fn joined(alloc: Global, call: &Call<'_>, count: usize) -> Result<Vec<u8>, AllocError> {
     let mut octets = Vec::new(alloc);
     for piece in call.pieces().iter().take(count) {
@@ -283,7 +283,7 @@ fn joined(alloc: Global, call: &Call<'_>, count: usize) -> Result<Vec<u8>, Alloc
     Ok(octets)
 }
 
-/// What is left of a new connection where this is done with it.
+/// The rest of a new connection where this is done with it.
 pub fn left_by(alloc: Global, call: &Call<'_>, way: Way, turn: u64) -> Result<Left, AllocError> {
     let count = match way {
         Way::Place(count) => count,
@@ -293,7 +293,7 @@ pub fn left_by(alloc: Global, call: &Call<'_>, way: Way, turn: u64) -> Result<Le
     over_octets(alloc, call, (octets.as_slice(), way, turn))
 }
 
-/// Whether a place is that after the first items, so many.
+/// Whether a place is that after that many first items.
 fn is_after(alloc: Global, call: &Call<'_>, place: &str, count: usize) -> Result<bool, AllocError> {
     let left = left_by(alloc, call, Way::Place(count), 0)?;
     Ok(left.place.as_str() == place)

@@ -7,7 +7,7 @@ use std::alloc::{AllocError, Global};
 /// An allocator over `Global` that refuses one allocation; collections take a `&` to it.
 pub type Heap = Refusing<Global>;
 
-/// Whether memory for so many octets is granted.
+/// Whether memory for that many octets is granted.
 fn is_granted(heap: &Heap, count: usize) -> bool {
     Vec::<u8, &Heap>::with_capacity(heap, count).is_ok()
 }

@@ -1,11 +1,11 @@
-//! What a line of the input calls for: a word that says what is tried, numbers, octets, moves of a debugger, and
-//! behind `:` the words of a program, behind `< ` a text.
-//! Octets are a name (`preface`), hex behind an `x`, or either of them behind a number and a `*`, which repeats them.
-//! Those in a row are one piece; a `,` begins the next one. In a text `|` is a line feed.
+//! What a line of the input calls for: a word that says what is tried, numbers, octets, moves of a debugger, and after
+//! `:` the words of a program, after `< ` a text. Octets are a name (`preface`), hex after an `x`, or either of them
+//! after a number and a `*`, which repeats them. Those in a row are one piece; a `,` begins the next one. In a text `|`
+//! is a line feed.
 
 use std::alloc::{AllocError, Global};
 
-/// What a line calls for, behind its first word.
+/// What a line calls for, after its first word.
 pub struct Call<'l> {
     numbers: Vec<u64>,
     pieces: Vec<Vec<u8>>,
@@ -27,7 +27,7 @@ impl Drop for Call<'_> {
     }
 }
 
-/// The parts of a text before and behind a mark; nothing is behind it where there is none.
+/// The parts of a text before and after a mark; nothing is after it where there is none.
 fn parts<'l>(text: &'l str, mark: &str) -> (&'l str, &'l str) {
     match text.split_once(mark) {
         Some(parts) => parts,

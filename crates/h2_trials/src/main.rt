@@ -1,7 +1,6 @@
 //! Trials of what neither computed rows nor runs of the program show: devices that fail, wires with a script, memory
 //! that is refused, and bounds of memory. A line of the input is a trial, and its answer is printed below it; a line
-//! that begins with `;` says what the trials behind it show.
-//! The words of a line: `line`; what they do: `trials`.
+//! that begins with `;` says what the trials after it show. The words of a line: `line`; what they do: `trials`.
 #![tactic(auto)]
 
 mod ask;

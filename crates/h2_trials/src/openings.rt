@@ -21,7 +21,7 @@ fn opening_fault<'h>(
     opened_conn(book, config_of(call), out).err()
 }
 
-/// Opens a connection behind an octet with an allocation refused, and once more where it was.
+/// Opens a connection after an octet with an allocation refused, and once more where it was.
 fn opened_twice<'h>(
     alloc: Global,
     heap: &'h Heap,

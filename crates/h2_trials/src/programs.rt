@@ -1,8 +1,7 @@
-//! Runs of the program over readers and writers that fail or take one octet at a time. The words are behind ` : `; the
-//! input is the text, or the first piece in hex where there is none.
-//! The numbers of a line are how many octets a read gives and a write takes at most, and how many octets the writer
-//! takes in all.
-//! Runs over memory, where nothing can fail but an allocation: `commands`.
+//! Runs of the program over readers and writers that fail or take one octet at a time. The words are after ` : `; the
+//! input is the text, or the first piece in hex where there is none. The numbers of a line are how many octets a read
+//! gives and a write takes at most, and how many octets the writer takes in all. Runs over memory, where nothing can
+//! fail but an allocation: `commands`.
 
 use crate::commands;
 use crate::line::Call;
@@ -12,7 +11,8 @@ use std::alloc::{AllocError, Global};
 use std::io::{ErrorKind, Read, Write};
 use std::{io, str};
 
-/// A reader that gives at most so many octets at each call. The call with the number in `calls` fails, counted from 1.
+/// A reader that gives at most that many octets at each call. The call with the number in `calls` fails, counted from
+/// 1.
 #[derive(Drop)]
 struct Reader<'t> {
     octets: &'t [u8],
@@ -36,7 +36,7 @@ impl Read for Reader<'_> {
     }
 }
 
-/// A writer that takes at most so many octets at each call, and `limit` in all; each further call fails.
+/// A writer that takes at most that many octets at each call, and `limit` in all; each further call fails.
 #[derive(Drop)]
 struct Writer {
     taken: Vec<u8>,
@@ -152,7 +152,7 @@ const WHOLE: Limits = Limits {
     written: usize::MAX,
 };
 
-/// Devices of so many octets at a time that do not fail.
+/// Devices of that many octets at a time that do not fail.
 fn in_pieces(size: usize) -> Limits {
     Limits { size, ..WHOLE }
 }

@@ -1,4 +1,4 @@
--- A run of which each item is told why it was an error, or was ignored.
+-- A run of which each item is reported why it was an error, or was ignored.
 use Rattle.std.proofs.Common.{◌≡◌, ◌∙◌, ◌+◌, ◌<◌, ◌≤◌, ℕ, List, [], ◌∷◌, Bool, Option, Some, None, is_some, option_map, length, drop, refl, sym, ap, ap₂, subst, arith, length-drop}
 use Rattle.std.proofs.lemmas.List.{drop-drop}
 use Rattle.h2_spec.specs.Effect.{cause_of}

@@ -41,7 +41,7 @@ end_of (Err (BadAnswer line fault)) = record { fault = numbers.fault_number faul
 end_of (Err NoText) = record { fault = 22; kind = 0; line = 0 }
 end_of (Err (Syntax line kind)) = record { fault = 18; kind = kind_number kind; line = line }
 
--- what was put at the front of a place, and the end that was reported: the text, or nothing where it has no room
+-- what was put at the front of a place, and the end that was reported: the text, or nothing where it has no space
 abbrev pub Puts : List ℕ → Result (Unit {0}) WebFault → List ℕ → End → Type 0
 Puts text ended put end = ((put ≡ text) × (end ≡ end_of ended)) ⊎ ((put ≡ []) × (end ≡ end_of (Err NoRoom)))
 
@@ -120,7 +120,7 @@ RunText asked book octets text (Err run.NoMemory) = SomeShown asked book octets 
 RunText asked book octets text (Err run.BadConfig) = (is_allowed asked.config ≡ false) × (text ≡ [])
 RunText asked book octets text (Err run.NotWritten) = ⊥
 
--- how a run ended, as the page is told
+-- how a run ended, as the page is reported
 abbrev pub told : Result (Unit {0}) RunFault → Result (Unit {0}) WebFault
 told (Ok u) = Ok u
 told (Err run.BadConfig) = Err BadConfig

@@ -25,7 +25,7 @@ unfoldable pub why_texts : ℕ → State → List Event → List (List ℕ)
 why_texts place s [] = []
 why_texts place s (e ∷ es) = event_why place s e ∷ why_texts (place + 1) e.state es
 
--- the next item was taken: so many octets, and why it was an error or was ignored
+-- the next item was taken: that many octets, and why it was an error or was ignored
 pub record TakesWhy (s : State) (b : List ℕ) (c : Connection) (t : TakenWhy) : Type 0 where
   pub event : Event
   pub comes : next_event s b ≡ One event c.state t.used

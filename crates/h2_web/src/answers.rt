@@ -1,4 +1,4 @@
-//! The book of a page: a line for each answer. Rests on h2_answers; definitions: `specs/Web.antt`.
+//! The book of a page: a line for each answer. Definitions: `specs/Web.antt`.
 
 ghost use Rattle.std.specs.Prelude.{◌≡◌, ◌⊎◌, [], Ok, Err, map, IfOk, IfErr, OnOk};
 ghost use Rattle.h2_answers.specs.Books.{book_of};

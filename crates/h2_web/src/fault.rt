@@ -11,7 +11,7 @@ use h2_script::{SyntaxKind, kind_number};
 pub enum WebFault {
     /// The memory that was given did not suffice.
     NoMemory,
-    /// The place for what is given has no room for it.
+    /// The place for what is given has no space for it.
     NoRoom,
     /// A limit or a setting is outside its range.
     BadConfig,
@@ -27,7 +27,8 @@ pub enum WebFault {
 #[repr(C)]
 #[derive(Clone, Copy)]
 pub struct End {
-    /// 0 where all was given; 1 where memory did not suffice; 2 where there was no room; else the number of the program.
+    /// 0 where all was given; 1 where memory did not suffice; 2 where there was no space; else the number of the
+    /// program.
     pub fault: u8,
     /// The kind of fault in a line of a script, else 0.
     pub kind: u8,

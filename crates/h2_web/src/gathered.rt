@@ -1,4 +1,4 @@
-//! What is written, gathered in memory, and put where the page reads it. Rests on h2_device and `fault`.
+//! What is written, gathered in memory, and put where the page reads it.
 
 ghost use Rattle.std.specs.Prelude.{◌≡◌, ◌≤◌, [], Some, false, length, take};
 ghost use Rattle.h2_web.specs.Web.{Puts};
@@ -17,7 +17,7 @@ fn put(out: &mut [u8], octets: &[u8])
     front.copy_from_slice(octets);
 }
 
-/// Puts a text where the page reads it, and how the call ended; nothing where it has no room. Returns how many octets
+/// Puts a text where the page reads it, and how the call ended; nothing where it has no space. Returns how many octets
 /// were put.
 pub(crate) fn put_text(
     text: &[u8],

@@ -1,5 +1,4 @@
-//! Why each item of a run was an error, or was ignored. Rests on h2_places, h2_why and h2_conn; definitions:
-//! `specs/Whys.antt`.
+//! Why each item of a run was an error, or was ignored. Definitions: `specs/Whys.antt`.
 
 ghost use Rattle.std.specs.Prelude.{◌≡◌, ◌<◌, ◌^◌, ◌++◌, ℕ, List, [], Some, false, length, IfOk, IfErr, OnOk};
 ghost use Rattle.std.specs.Io.KnownBytes.{Appends};

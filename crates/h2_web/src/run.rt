@@ -1,5 +1,4 @@
-//! The run of a connection, place by place. Rests on `answers`, `gathered`, h2_arena and h2_places; definitions:
-//! `specs/Web.antt`.
+//! The run of a connection, place by place. Definitions: `specs/Web.antt`.
 
 ghost use Rattle.std.specs.Prelude.{◌≡◌, ◌≤◌, ◌<◌, ◌^◌, ℕ, List, [], Some, false, length, take};
 ghost use Rattle.h2_conn.specs.Connection.{going};
@@ -121,7 +120,7 @@ fn text_of_run<A: Allocator + Copy>(
     }
 }
 
-/// How a run ended, as the page is told.
+/// How a run ended, as the page is reported.
 fn told(ended: Result<(), RunFault>) -> Result<(), WebFault>
     ensures { result ≡ told ended }
 {
@@ -194,10 +193,10 @@ fn asked_for(what: What, config: Config, first: usize, last: usize) -> Asked
 }
 
 /// The text of `play --each`: plays a new connection over the octets with the book of the answers, a line for each. The
-/// front of `out` gains the texts of the places from FIRST to LAST, and the number of its octets is returned. `end` says
-/// how it ended: with 1 the memory did not suffice, and the places of some first part of the run are shown; with 2 `out`
-/// has no room, with 16 a limit or a setting is out of range, with 12 to 15 or 26 a line of the answers is refused, and
-/// nothing is shown.
+/// front of `out` gains the texts of the places from FIRST to LAST, and the number of its octets is returned. `end`
+/// says how it ended: with 1 the memory did not suffice, and the places of some first part of the run are shown; with 2
+/// `out` has no space, with 16 a limit or a setting is out of range, with 12 to 15 or 26 a line of the answers is
+/// refused, and nothing is shown.
 ///
 /// All that it needs is taken from `memory`, which is not given back.
 #[unsafe(no_mangle)]

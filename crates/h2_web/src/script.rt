@@ -1,4 +1,4 @@
-//! Scripts and their octets. Rests on h2_script, `gathered` and h2_arena; definitions: `specs/Web.antt`.
+//! Scripts and their octets. Definitions: `specs/Web.antt`.
 
 ghost use Rattle.std.specs.Prelude.{◌≡◌, ◌≤◌, length, take};
 ghost use Rattle.h2_web.specs.Web.{AssemblesTo, Gives, SaysScript};
@@ -38,7 +38,7 @@ fn put_octets<A: Allocator + Copy>(alloc: A, text: &[u8], out: &mut [u8], end: &
 
 /// The octets of a script, as `asm` gives them in hex. The front of `out` gains them, and their number is returned.
 /// `end` says how it ended: with 18 a line is bad, the first such line and the least kind of fault in it; with 22 the
-/// text is not UTF-8; with 1 the memory did not suffice; with 2 `out` has no room. `out` gains nothing then.
+/// text is not UTF-8; with 1 the memory did not suffice; with 2 `out` has no space. `out` gains nothing then.
 ///
 /// All that it needs is taken from `memory`, which is not given back.
 #[unsafe(no_mangle)]
@@ -62,7 +62,7 @@ fn put_script<A: Allocator + Copy>(alloc: A, octets: &[u8], out: &mut [u8], end:
 }
 
 /// The script of octets, as `dis` prints it. The front of `out` gains it, and the number of its octets is returned.
-/// `end` says how it ended: with 1 the memory did not suffice; with 2 `out` has no room. `out` gains nothing then.
+/// `end` says how it ended: with 1 the memory did not suffice; with 2 `out` has no space. `out` gains nothing then.
 ///
 /// All that it needs is taken from `memory`, which is not given back.
 #[unsafe(no_mangle)]

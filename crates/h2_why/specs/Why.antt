@@ -22,7 +22,7 @@ abbrev pub reason_lines : Option Ignored → List ℕ
 reason_lines (Some reason) = ignored_lines reason
 reason_lines None = codes "no error\n"
 
--- why an item was an error, by whether the connection has ended behind it, or was ignored
+-- why an item was an error, by whether the connection has ended after it, or was ignored
 abbrev pub why_lines : Bool → Option Cause → Option Ignored → List ℕ
 why_lines ended (Some cause) ignored = error_lines ended cause
 why_lines ended None ignored = reason_lines ignored

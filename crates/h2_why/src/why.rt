@@ -1,6 +1,5 @@
 //! Why the item at a position was an error, or was ignored, as `why` prints it: in the words of `explain`, without the
-//! values of the item.
-//! Rests on h2_spec's causes and h2_describe; definitions: `specs/Why.antt`.
+//! values of the item. Definitions: `specs/Why.antt`.
 
 ghost use Rattle.std.specs.Prelude.{◌≡◌};
 ghost use Rattle.h2_why.specs.Why.{error_lines, ignored_lines, why_lines};
@@ -76,7 +75,7 @@ impl Text for IgnoredLines {
 /// Why an item was an error or was ignored.
 #[derive(Clone, Copy)]
 pub struct WhyText {
-    /// Whether the connection has ended behind the item.
+    /// Whether the connection has ended after the item.
     pub has_ended: bool,
     pub cause: Option<Cause>,
     pub ignored: Option<Ignored>,

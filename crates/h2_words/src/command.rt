@@ -1,5 +1,5 @@
-//! What the words of a command line ask for.
-//! Rests on `words` and on clap, whose definition of a command says which words are taken: `specs/Grammar.antt`.
+//! What the words of a command line ask for. A command of the crate `clap` defines which words are taken:
+//! `specs/Grammar.antt`.
 
 ghost use Rattle.std.specs.Prelude.{◌≡◌, ◌≤◌, length, IfOk, IfErr, IfSome, bytes_eq, Some, None, codes, map, option_map};
 ghost use Rattle.clap.specs.Words.{App, Rule, found_of, kind_of, new_app, rows_of, subcommand_of, subcommand_rows_of, with_rule, with_subcommand};
@@ -30,24 +30,29 @@ pub struct BookWords<'a> {
 /// How a connection is played.
 #[derive(Drop)]
 pub struct Play<'a> {
+    /// The limits and the settings of the server.
     pub config: Config,
     /// How many octets a piece has, 0 to 65536; 0 for 65536.
     pub cut: u32,
     /// Whether the state is printed after each item.
     pub each: bool,
+    /// The answers.
     pub book: BookWords<'a>,
 }
 
 /// How a connection is debugged.
 #[derive(Drop)]
 pub struct Debug<'a> {
+    /// The limits and the settings of the server.
     pub config: Config,
+    /// The answers.
     pub book: BookWords<'a>,
 }
 
 /// How a connection is explained.
 #[derive(Drop)]
 pub struct Explain<'a> {
+    /// The limits and the settings of the server.
     pub config: Config,
     /// Whether it is explained as JSON, an object a line.
     pub json: bool,
@@ -59,17 +64,20 @@ pub struct Explain<'a> {
     pub full: bool,
     /// The path of the file that has the octets; empty where standard input has them.
     pub file: &'a str,
+    /// The answers.
     pub book: BookWords<'a>,
 }
 
 /// How connections are served.
 #[derive(Drop)]
 pub struct Serve<'a> {
+    /// The limits and the settings of the server.
     pub config: Config,
     /// The port of 127.0.0.1, 1 to 65535.
     pub port: u32,
     /// How many connections are served.
     pub count: u32,
+    /// The answers.
     pub book: BookWords<'a>,
 }
 

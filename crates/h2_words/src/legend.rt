@@ -1,4 +1,4 @@
-//! What the help of the program says of its output. Rests on nothing; the pages that it names have all of it.
+//! What the help of the program says of its output. The pages that it names have all of it.
 
 /// What the lines of the output mean, and on which page of docs they are explained.
 pub(crate) const LEGEND: &str = "What play and debug print (docs/FORMATS.md):

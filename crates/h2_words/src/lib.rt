@@ -1,5 +1,4 @@
-//! The words of a command line, and what they ask for.
-//! It rests on the crate `clap`, whose definition of a command says which words are taken.
+//! The words of a command line, and what they ask for. A command of the crate `clap` defines which words are taken.
 #![tactic(auto)]
 
 pub mod command;

@@ -1,5 +1,4 @@
-//! The words of a command line.
-//! Rests on nothing; its Model is the list of the words' octets.
+//! The words of a command line. Its Model is the list of the words' octets.
 
 ghost use Rattle.std.specs.Prelude.{◌≡◌, ◌∷◌, ◌++◌, ℕ, List, [], map, string_bytes, OnOk, OnErr};
 

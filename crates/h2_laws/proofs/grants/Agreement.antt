@@ -16,7 +16,7 @@ use Rattle.h2_laws.specs.Order.{Rise}
 
 -- ---- a record and its mark
 
--- what waits: nothing before the answer begins, then the body less what was sent
+-- the pending output: nothing before the answer begins, then the body less what was sent
 abbrev pub Waits : List ℕ → Option ℕ → Mark → Type 0
 Waits body None m = (m.headers ≡ 0) × (m.content ≡ [])
 Waits body (Some n) m = (m.headers ≡ 1) × (1 ≤ n) × (n ≤ length body) × (m.content ++ drop (length body - n) body ≡ body)
@@ -89,7 +89,7 @@ IsRecorded Ended = Unit {0}
 IsRecorded PeerReset = Unit {0}
 IsRecorded WeReset = Unit {0}
 
--- what waits on a stream is no more than its answer's body, and its state is one of a record
+-- the pending output of a stream is no more than its answer's body, and its state is one of a record
 abbrev pub HasBody : List Entry → Stream → Type 0
 HasBody book st = (octets_waiting st ≤ length (picked book st.pick).body) × IsRecorded st.kind
 

@@ -1,4 +1,4 @@
--- Sending what waits keeps the tests, and holds back nothing that could be sent.
+-- Sending pending output keeps the tests, and holds back nothing that could be sent.
 use Rattle.std.proofs.Common.{◌≡◌, ◌≢◌, ℕ, zero, suc, ◌+◌, ◌-◌, ◌<◌, ◌≤◌, ◌⊎◌, inl, inr, min, Bool, true, false, cond, ◌||◌, List, [], ◌∷◌, ◌++◌, length, take, drop, refl, sym, ap, subst, ◌∙◌, arith, eqb, append_assoc, length-append, length-drop, Option, Some, None}
 use Rattle.std.proofs.lemmas.List.{take-append-drop, length-take, drop-drop, drop_all, append-nil}
 use Rattle.std.proofs.lemmas.Bool.{eqb-true, eqb-false, ne_eqb, cases_lt, both_ways}

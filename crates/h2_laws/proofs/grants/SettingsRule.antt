@@ -32,7 +32,7 @@ use Rattle.h2_laws.proofs.grants.Rules.{Kept, either-kept, not_zero, stays}
 abbrev with_peer : Tally → Settings → Tally
 with_peer t peer = record t { window = peer.window; frame = peer.frame }
 
--- a tally has taken the settings that came to these, unless they are refused
+-- a tally has taken the settings that resulted in these, unless they are refused
 abbrev Takes : Tally → Tally → Result Settings Cause → Type 0
 Takes t u (Err cause) = Unit {0}
 Takes t u (Ok peer) = (u ≡ with_peer t peer) × (1 ≤ peer.frame)

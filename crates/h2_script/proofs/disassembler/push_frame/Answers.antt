@@ -6,12 +6,12 @@ use Rattle.h2_script.specs.Texts.{head_text}
 use Rattle.h2_script.proofs.Written.{step}
 use Rattle.h2_script.proofs.disassembler.push_frame.Goals as goal
 
--- the last text behind others, if it was written
+-- the last text after others, if it was written
 last : {T E : Type 0} (r : Result T E) (old mid new text more : List ℕ) → mid ≡ old ++ text → new ≡ cond (is_ok r) (mid ++ more) mid → OnOk r (new ≡ old ++ (text ++ more))
 last (Ok t) old mid new text more a b = step old mid new text more a b
 last (Err e) old mid new text more a b = tt
 
--- a payload behind a head
+-- a payload after a head
 behind_head : (kind flags stream payload : List ℕ) → (kind ++ 32 ∷ (flags ++ 32 ∷ (stream ++ 32 ∷ []))) ++ payload ≡ kind ++ 32 ∷ (flags ++ 32 ∷ (stream ++ 32 ∷ payload))
 behind_head kind flags stream payload = simp append_assoc
 

@@ -84,7 +84,7 @@ module _ (Z : Al) {M : Type 1} {𝓤 : Ura M} (𝓛 : Logic 𝓤) (at_mem : Memo
     abbrev Said : Type 0
     Said = (capped (size τ) ≡ n) × (capped (align τ) ≡ a)
 
-    -- what is left when the locals are freed: the block where there is one, and the two tokens
+    -- what remains when the locals are freed: the block where there is one, and the two tokens
     leaves : (granted : Bool) (b o : ℕ) → ent 𝓤 (⋆ 𝓛 (‵ (got (token Z r.now.inner) τ granted b o) ∷ ‵ (flft κ q) ∷ (‵ (flft ρ s) ⊛ ‵ ftrue) ∷ [])) (Post (answer_val granted b o))
     leaves true b o =
         qed 𝓛 (‵ (got (token Z r.now.inner) τ true b o) ∷ ‵ (flft κ q) ∷ (‵ (flft ρ s) ⊛ ‵ ftrue) ∷ []) ∵
