@@ -1,5 +1,4 @@
 pub mod Answers
-pub mod AnswerParts
 pub mod BlessProgram
 pub mod Books
 pub mod CommandEnd
