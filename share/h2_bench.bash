@@ -11,7 +11,7 @@ _h2_bench() {
         dis) words="--in --raw --quiet --help" ;;
         table) words="--in --quiet --help" ;;
         debug) words="--streams --credit --table --window --frame --book --why --quiet --in --raw --prompt --help" ;;
-        serve) words="--streams --credit --table --window --frame --book --why --quiet --help" ;;
+        serve) words="--streams --credit --table --window --frame --explain --times --record --json --color --strict --full --book --why --quiet --help" ;;
         explain) words="--streams --credit --table --window --frame --json --color --strict --full --book --why --quiet --raw --help" ;;
         check) words="--streams --credit --table --window --frame --book --bless --in-place --quiet --help" ;;
     esac

@@ -1,5 +1,5 @@
 #!/usr/bin/env bash
-# Checks the cases of cases/, all in one run: the TAP of `check`, and behind it `N passed, M failed`. The status is 1 where a case failed.
+# Checks the cases of cases/ and examples/causes/, all in one run: the TAP of `check`, and behind it `N passed, M failed`. The status is 1 where a case failed.
 #
 #   cases.sh               through the proved program
 #   cases.sh --unproved    through the program built without proof
@@ -11,7 +11,7 @@ case ${1-} in
     *) run=("$(realpath -- "$1")") ;;
 esac
 cd "$(dirname "$(readlink -f "${BASH_SOURCE[0]}")")/.."
-mapfile -t files < <(find cases -name '*.h2' | LC_ALL=C sort)
+mapfile -t files < <(find cases examples/causes -name '*.h2' | LC_ALL=C sort)
 "${run[@]}" check "${files[@]}" | awk '
     { print }
     /^ok / { passed++ }

@@ -5,6 +5,9 @@
 #   tests/clients.sh            all clients
 #   tests/clients.sh curl go    these alone: curl, nghttp, h2load, python, go, node, rude, speed
 #
+# WATCH=1 has each connection explained and recorded: then the case that was recorded has to hold, and what `explain`
+# says of it has to be what `serve --explain` printed.
+#
 # Debian's packages: curl nghttp2-client nghttp2-server python3-h2 golang-go golang-golang-x-net-dev nodejs.
 # H2_BENCH is the program (default: the repository's h2_bench), PORT the first port that is used (default 18480).
 set -u
@@ -43,7 +46,12 @@ serve() {
     port=$((port + 1))
     local count=$1
     shift
-    "$bench" serve "$port" "$count" "$@" >"$work/server" 2>"$work/errors" &
+    local watch=()
+    if [ -n "${WATCH-}" ]; then
+        mkdir "$work/$port"
+        watch=(--explain --record "$work/$port")
+    fi
+    "$bench" serve "${watch[@]}" "$port" "$count" "$@" >"$work/server" 2>"$work/errors" &
     server=$!
     for _ in $(seq 600); do
         if grep -qs "^listening $port$" "$work/server"; then return 0; fi
@@ -71,8 +79,27 @@ served() {
     wait "$server"
     local status=$?
     server=
-    check "$name: what the server prints" "$(printf '%s\n' "listening $port" "$@")" "$(cat "$work/server")"
+    check "$name: what the server prints" "$(printf '%s\n' "listening $port" "$@")" "$(lines_of_connections)"
     check "$name: the server's status" 0 "$status"
+    if [ -n "${WATCH-}" ]; then recorded "$name"; fi
+}
+
+# The lines of the server that it prints without --explain too.
+lines_of_connections() {
+    sed '/^[0-9]*: /d; /^connection [0-9]* open$/d' "$work/server"
+}
+
+# recorded NAME: what was recorded of each connection holds, and is explained as it was while it was served.
+recorded() {
+    local name=$1 record number
+    for record in "$work/$port"/connection-*.h2; do
+        number=${record##*-}
+        number=${number%.h2}
+        "$bench" check "$record" >"$work/verdicts"
+        check "$name: the record of connection $number holds" 0 $?
+        check "$name: connection $number is explained alike" \
+            "$("$bench" explain "$record" | cksum)" "$(sed -n "s/^$number: //p" "$work/server" | cksum)"
+    done
 }
 
 # wants NAME COMMAND: whether a client is to be used.
@@ -214,8 +241,9 @@ test_rude() {
         if ! kill -0 "$server" 2>/dev/null; then break; fi
         sleep 0.1
     done
-    check "rude: a line for each connection" "12" "$(grep -c '^connection ' "$work/server")"
+    check "rude: a line for each connection" "12" "$(lines_of_connections | grep -c '^connection ')"
     check "rude: each second one ends well" "6" "$(grep -cE '^connection (2|4|6|8|10|12) end input$' "$work/server")"
+    if [ -n "${WATCH-}" ]; then recorded rude; fi
     stop
 }
 

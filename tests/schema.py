@@ -14,6 +14,7 @@ import json
 import os
 import random
 import re
+import shlex
 import subprocess
 import sys
 import tempfile
@@ -91,12 +92,10 @@ def inputs(program):
         with open(path, encoding="ascii") as file:
             yield path, file.read(), []
     for path in sorted(glob.glob(f"{TOP}/examples/*.h2") + glob.glob(f"{TOP}/examples/causes/*.h2")):
-        words = []
-        if os.path.exists(f"{path[:-3]}.args"):
-            with open(f"{path[:-3]}.args", encoding="utf-8") as file:
-                words = file.read().splitlines()
-        with open(path, "rb") as file:
-            yield path, subprocess.run([program, "asm"], stdin=file, stdout=subprocess.PIPE, check=True).stdout.decode(), words
+        with open(path, encoding="utf-8") as file:
+            script = file.read()
+        words = [word for said in re.findall("^;@ (.*)", script, re.M) for word in shlex.split(said)]
+        yield path, subprocess.run([program, "asm"], input=script, stdout=subprocess.PIPE, check=True, encoding="utf-8").stdout, words
     for number in range(100):
         octets, words = rebuild.session(random.Random(f"schema {number}"))
         yield f"random session {number}", octets.hex() + "\n", words + ["--strict"] * (number % 2)

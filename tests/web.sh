@@ -2,7 +2,7 @@
 # The page against the program, octet for octet: all examples, scripts of causes and cases, random inputs, memory that does not suffice; and the page in a browser.
 #
 #   web.sh [PROGRAM]            the page that tools/web.sh has built; PROGRAM is the launcher unless it is named
-#   web.sh --build [PROGRAM]    builds the page first, in 45 seconds at most, else says so and compares nothing; random inputs end after 30 seconds more
+#   web.sh --build [PROGRAM]    builds the page first, in 2 minutes at most, else says so and compares nothing; random inputs end after 30 seconds more
 #
 # It needs Node 20 or later, and looks at the page in Chromium where that is installed. Without Node it says so and does nothing. The last line is `N passed, M failed`.
 set -u -o pipefail
@@ -29,7 +29,7 @@ trap 'rm -rf "$work"' EXIT
 page=web/h2_bench.html
 if [ -n "$build" ]; then
     page=$work/page.html
-    timeout 45 tools/web.sh "$page" >"$work/said" 2>&1 || left_out "it was not built in 45 seconds; tools/web.sh says why"
+    timeout 120 tools/web.sh "$page" >"$work/said" 2>&1 || left_out "it was not built in 2 minutes; tools/web.sh says why"
 fi
 [ -f "$page" ] || left_out "tools/web.sh has not built it"
 browser=()

@@ -1,6 +1,7 @@
 #!/usr/bin/env bash
 # The examples of causes. First that examples/causes has one script for each cause of h2_spec, and that the text of
-# docs/TABLE.md names each cause once and no other (its table of rules at the end is checked by tools/duties.py); then that `explain` prints of each script what its .txt says. The last line is
+# docs/TABLE.md names each cause once and no other (its table of rules at the end is checked by tools/duties.py); then that `explain` prints of each script what its
+# lines `;>` say, in their order and nothing else, and at the end what the comments after `; The end:` say (that each line `;>` is where it has to be is checked by tests/cases.sh). The last line is
 # `N passed, M failed`, a list of names or a script each.
 #
 #   causes.sh [--program FILE]   the scripts too; FILE is the proved program of this repository unless it is named
@@ -38,14 +39,14 @@ fi
 # One script, explained and compared: the cause's name has to be in it, and the status is 4 where the connection ended.
 run_one() {
     local name=$1 words=() status=0 wanted=0
-    if [ -f "$folder/$name.args" ]; then
-        mapfile -t words <"$folder/$name.args"
-    fi
+    eval "words=($(sed -n 's/^;@ //p' "$folder/$name.h2"))"
+    sed -n 's/^;> //p; 1,/^; The end:$/!{s/^; //; s/^        //; p}' "$folder/$name.h2" >"$work/expected"
     "$program" asm <"$folder/$name.h2" >"$work/hex" || return 1
-    "$program" explain "$work/hex" "${words[@]}" >"$work/text" || status=$?
-    diff "$folder/$name.txt" "$work/text" || return 1
-    grep -q " error [A-Z_]*: $name, RFC " "$work/text" || return 1
-    if grep -q '^        connection error ' "$work/text"; then
+    "$program" explain "$work/hex" "${words[@]}" >"$work/said" || status=$?
+    sed 's/^        //' "$work/said" >"$work/text"
+    diff "$work/expected" "$work/text" || return 1
+    grep -q "^[a-z]* error [A-Z_]*: $name, RFC " "$work/text" || return 1
+    if grep -q '^connection error ' "$work/text"; then
         wanted=4
     fi
     [ "$status" = "$wanted" ]

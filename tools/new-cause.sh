@@ -50,7 +50,7 @@ sed -i "s/^row_of $before = \(.*\) name = codes \"[^\"]*\";\(.*\) sentence = cod
 sed -i "/^all_causes =\$/,/\[\]/s/\b$before ∷/& $variant ∷/" "$words"
 sed -i "s/\b$before ↦ refl/& | $variant ↦ refl/" "$places"
 
-printf '; %s: say in a sentence what the client does (RFC 9113, 0).\nPREFACE\nSETTINGS 00 0 -\n' "$name" >"$example"
+printf ';# %s: say in a sentence what the client does (RFC 9113, 0)\nPREFACE\nSETTINGS 00 0 -\n' "$name" >"$example"
 
 cat <<TEXT
 Written: $code, $words, $codes, $places, $example.
@@ -59,8 +59,8 @@ Then, in this order:
   the definition that answers cause.$variant, by this name (crates/h2_spec/specs), and its laws in crates/h2_laws
   the function that answers Cause::$variant (crates/h2_rules, or crates/h2_frame for a payload)
   a row of CauseRows.antt (crates/h2_laws/proofs): the frame, and $variant
-  a sentence with values, if there is one (crates/h2_explain/src/sentence.rt)
-  the end of $example, and what explain prints: ./h2_bench asm < $example > /tmp/hex; ./h2_bench explain /tmp/hex > ${example%.h2}.txt (read each line of it)
+  a sentence with values, if there is one (crates/h2_sentence/src/sentence.rt)
+  the end of $example, and below each line of it as lines ;> what explain prints, at the end as comments: ./h2_bench asm < $example | ./h2_bench explain (read each line of it)
   its place in the text of docs/TABLE.md, as \`$name\`, a case with the line ;! $name (cases), and a line in CHANGELOG.md
   where its code is another one: $codes, and its place in code() of $code
   rt fmt in crates/h2_spec; tools/duties.py and tools/rules.py write docs/TABLE.md's last table and docs/RULES.md again; tools/causes.sh --names, tools/calls.py, tests/all --quick

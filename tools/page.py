@@ -49,8 +49,7 @@ def stock(top=TOP):
         name = os.path.basename(path)[:-3]
         found.append({"group": "Examples", **example(path, said.get(name, words))})
     for path in sorted(glob.glob(f"{top}/examples/causes/*.h2")):
-        given = f"{path[:-3]}.args"
-        found.append({"group": "Errors, by cause", **example(path, [word for word in read(given).split("\n") if word] if os.path.exists(given) else [])})
+        found += [{**case, "group": "Errors, by cause", "name": f"{os.path.basename(path)[:-3]}: {case['name']}"} for case in cases(path)]
     for path in sorted(glob.glob(f"{top}/cases/**/*.h2", recursive=True)):
         group = "Cases: " + os.path.relpath(path, f"{top}/cases")[:-3].replace("/", ", ")
         found += [{"group": group, **case} for case in cases(path)]

@@ -6,7 +6,7 @@ An example begins with `$ `, in a block that is indented by four spaces; or it i
     | `printf 0 \\| ./h2_bench play`: `fault 25`, status 1 |
 
 A line that ends in ` ..` is compared up to there, and ends its example. A command with no output shown is run and not compared. `serve` runs beside the commands
-behind it, at a port that is free, and its lines are those that begin with `connection`; where curl is not installed, it and what follows it in its example are left
+behind it, at a port that is free, and its lines are those that begin with `connection` or a number and a colon; where curl is not installed, it and what follows it in its example are left
 out. An output that differs is shown; the last line is `N passed, M failed`, an example each.
 
     tools/run-examples.py [--program FILE] [--unproved]     FILE is the proved program of this repository unless it is named; --unproved leaves out the examples
@@ -27,6 +27,8 @@ import tempfile
 MARK = "@@ next @@"
 CELL = re.compile(r"`([^`]*\./h2_bench[^`]*)`: `([^`]*)`(?:, status (\d+))?")
 PORT = "8080"
+# A line that `serve` prints of a connection.
+SERVER_LINE = re.compile(r"connection |\d+: ")
 
 
 def examples(path):
@@ -82,7 +84,7 @@ def served(block):
         for command, shown in at_port[1:]:
             ran = subprocess.run(["bash", "-c", command], capture_output=True, text=True, timeout=60)
             own = ran.stdout.rstrip("\n").split("\n") if ran.stdout.rstrip("\n") else []
-            lines = sum(line.startswith("connection ") for line in shown)
+            lines = sum(bool(SERVER_LINE.match(line)) for line in shown)
             outputs.append(own + [server.stdout.readline().rstrip("\n") for _ in range(lines)])
     finally:
         server.kill()

@@ -1,2 +1,3 @@
 mod InMemory
 mod Parsed
+mod Shown

@@ -1,12 +1,16 @@
 -- How a run of the program ends, whatever the words ask for.
-use Rattle.std.specs.Prelude.{◌≡◌, ◌⊎◌, ◌++◌, ℕ, Bool, true, false, List, [], Option, Some, None, Result, Ok, Err}
+use Rattle.std.specs.Prelude.{◌≡◌, ◌⊎◌, ℕ, Bool, true, false, if◌then◌else◌, List, Option, Some, None, Result, Ok, Err}
 use Rattle.std.specs.String.{string_bytes}
 use Rattle.h2_spec.specs.Answer.{Entry}
 use Rattle.h2_spec.specs.declared.connection.Config.{Config}
 use Rattle.h2_book.specs.Entries.{Directory}
-use Rattle.h2_spec.specs.State.{is_allowed}
+use Rattle.h2_explain.specs.Verdicts.{strict_status}
+use Rattle.h2_explain.specs.declared.run.Form.{Form}
+use Rattle.h2_spec.specs.State.{is_allowed, opening}
 use Rattle.h2_serve.specs.Lines.{listening_line}
 use Rattle.h2_serve.specs.Serves.{GainsLines}
+use Rattle.h2_serve.specs.Shown.{GainsAllShown}
+use Rattle.h2_serve.specs.declared.explained.Clients.{Clients}
 use Rattle.h2_session.specs.Session as session
 use Rattle.h2_words.specs.Grammar.{Asked, BatchAsked, BookAsked, batch, debug, serve, explain, check}
 use Rattle.h2_words.specs.declared.command.Refusal.{Refusal}
@@ -58,12 +62,24 @@ EndsServe before after status = ((status ≡ 2) × (after ≡ before)) ⊎ Print
 abbrev pub IsServed : Config → (port count : ℕ) → Option (List ℕ) → Option (List ℕ) → Type 0
 IsServed config port count before after = (is_allowed config ≡ true) × GainsLines (listening_line port) count before after
 
+-- that many connections were served and explained: the line of the port was printed, and then what is printed of each of
+-- them; the status is 0, or with `--strict` that of the verdict on all clients
+abbrev pub IsShown : Form → List Entry → Config → (port count : ℕ) → Option (List ℕ) → Option (List ℕ) → ℕ → Type 0
+IsShown form book config port count before after status =
+    (clients : Clients) × (is_allowed config ≡ true) × GainsAllShown form (opening book config) (listening_line port) count clients before after
+    × (status ≡ (if form.strict then strict_status clients.verdict clients.ended else 0))
+
+-- with such a book; or a fault ended it, or the output failed
+abbrev pub EndsShown : (List Entry → Type 0) → Form → Config → (port count : ℕ) → Option (List ℕ) → Option (List ℕ) → ℕ → Type 0
+EndsShown IsBook form config port count before after status =
+    (status ≡ 1) ⊎ ((status ≡ 3) ⊎ ((book : List Entry) × IsBook book × IsShown form book config port count before after status))
+
 -- whether words ask for connections to be served
 abbrev pub is_serve : Option Asked → Bool
 is_serve None = false
 is_serve (Some (batch b)) = false
 is_serve (Some (debug config book)) = false
-is_serve (Some (serve config port count book)) = true
+is_serve (Some (serve config port count watched book)) = true
 is_serve (Some (explain config view file book)) = false
 is_serve (Some (check config book bless in_place names)) = false
 
@@ -72,7 +88,7 @@ abbrev pub is_reader : Option Asked → Bool
 is_reader None = false
 is_reader (Some (batch b)) = true
 is_reader (Some (debug config book)) = true
-is_reader (Some (serve config port count book)) = false
+is_reader (Some (serve config port count watched book)) = false
 is_reader (Some (explain config view file book)) = true
 is_reader (Some (check config book bless in_place names)) = false
 
@@ -80,6 +96,6 @@ abbrev pub asks_why : Option Asked → Bool
 asks_why None = false
 asks_why (Some (batch b)) = asks_why_batch b
 asks_why (Some (debug config book)) = book.why
-asks_why (Some (serve config port count book)) = book.why
+asks_why (Some (serve config port count watched book)) = book.why
 asks_why (Some (explain config view file book)) = book.why
 asks_why (Some (check config book bless in_place names)) = book.why

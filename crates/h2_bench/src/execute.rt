@@ -3,22 +3,21 @@
 
 ghost use Rattle.std.specs.Prelude.{◌≡◌, ◌==◌, ◌⊎◌, ℕ, Bool, List, Some, None, true, false, IfErr};
 ghost use Rattle.h2_spec.specs.declared.connection.Config.{Config};
-ghost use Rattle.h2_words.specs.Grammar.{BatchAsked, BookAsked, View, asked_of, batch, debug, explain};
+ghost use Rattle.h2_words.specs.Grammar.{BatchAsked, BookAsked, View, asked_of, batch, check, debug, explain};
 ghost use Rattle.h2_words.specs.Plans.{asked_in, book_asked};
+ghost use Rattle.h2_commands.specs.CheckProgram.{EndsCheck};
 ghost use Rattle.h2_commands.specs.CommandEnd.{EndsBatch, KnowsFile, PrintsSome, file_of, no_files};
 ghost use Rattle.h2_commands.specs.ExplainProgram.{EndsExplain, form_of};
 ghost use Rattle.h2_bench.specs.ProgramEnd.{EndsServe, EndsSession, EndsSomehow, PrintsRefusal, asks_why, is_reader, is_serve, printed_for};
-ghost use Rattle.h2_commands.specs.Each.{not_written};
 
 use h2_book::{Files, FilesInMemory};
 use h2_commands::{
-    BenchFault, PlacesFault, Tally, book_for_words, check_files, explain_plan, print,
-    print_blessed, print_end, print_fault, respond,
+    BenchFault, book_for_words, check_plan, explain_plan, print, print_fault, respond,
 };
 use h2_device::{FromRead, Input, IntoWrite, Output};
 use h2_session::debug_session;
 use h2_words::Words;
-use h2_words::command::{Check, Debug, Plan, Refusal, parse};
+use h2_words::command::{Debug, Plan, Refusal, parse};
 use std::alloc::Global;
 use std::io;
 use std::io::{Read, Write};
@@ -45,46 +44,6 @@ fn debug<F: Files, I: Input, O: Output, E: Output>(
 {
     match book_for_words(alloc, &debug.book, files, errors) {
         Ok(book) => debug_session(alloc, &book, debug.config, input, output),
-        Err(fault) => print_fault(output, fault),
-    }
-}
-
-/// Writes what remains to say of cases: the line of a fault that ended them. Gives the status: 0 where no case failed,
-/// 1 where one did, and after a fault, 3 where the output failed.
-fn print_checked<O: Output>(output: &mut O, ended: Result<(), PlacesFault>, all_hold: bool) -> u8
-    requires { O.has_failed output.old ≡ not_written ended }
-    ensures flag { O.has_failed output.new ≡ (result == 3) }
-    ensures name { O.name output.new ≡ O.name output.old }
-{
-    match ended {
-        Ok(()) => { if all_hold { 0 } else { 1 } }
-        Err(fault) => print_end(output, Err(fault)),
-    }
-}
-
-/// Makes the book of cases that have no words of their own, and checks the cases of the files, or writes them anew.
-fn check<F: Files, O: Output, E: Output>(
-    alloc: Global,
-    plan: &Check<'_>,
-    files: &mut F,
-    output: &mut O,
-    errors: &mut E,
-) -> u8
-    requires writer { O.has_failed output.old ≡ false }
-    ensures flag { O.has_failed output.new ≡ (result == 3) }
-    ensures name { O.name output.new ≡ O.name output.old }
-    ensures quiet { plan.now.book.why ≡ false → errors.new ≡ errors.old }
-    ensures errors { E.name errors.new ≡ E.name errors.old }
-{
-    match book_for_words(alloc, &plan.book, files, errors) {
-        Ok(book) => {
-            if plan.bless {
-                return print_blessed(alloc, plan, &book, files, output, errors);
-            }
-            let mut tally = Tally::new();
-            let ended = check_files(alloc, plan, &book, files, &mut tally, output);
-            print_checked(output, ended, tally.all_hold)
-        }
         Err(fault) => print_fault(output, fault),
     }
 }
@@ -121,6 +80,10 @@ pub fn carry_out<F: Files, I: Input, O: Output, E: Output>(
         → KnowsFile book.file (F.is_printed files.old) → KnowsFile file (F.is_printed files.old) → O.has_failed output.new ≡ false
         → EndsExplain (form_of view) (F.file files.old) config file book (I.remaining input.old) (I.has_failed input.new)
         (O.written output.old) (O.written output.new) result }
+    ensures checks { (config : Config) → (book : BookAsked) → (in_place : Bool) → (names : List (List ℕ))
+        → asked_in asked.now ≡ Some (check config book false in_place names)
+        → F.is_printed files.old ≡ true → O.has_failed output.new ≡ false
+        → EndsCheck (F.file files.old) config book names (O.written output.old) (O.written output.new) result }
     ensures serves { is_serve (asked_in asked.now) ≡ true → (result ≡ 2) × (O.written output.new ≡ O.written output.old) }
     ensures refused { IfErr asked.now (λ refusal. O.has_failed output.new ≡ false
         → PrintsSome (λ t. t ≡ printed_for refusal) (O.written output.old) (O.written output.new) result) }
@@ -137,7 +100,7 @@ pub fn carry_out<F: Files, I: Input, O: Output, E: Output>(
         Ok(Plan::Debug(plan)) => debug(alloc, plan, files, input, output, errors),
         Ok(Plan::Serve(_)) => 2,
         Ok(Plan::Explain(plan)) => explain_plan(alloc, plan, files, input, output, errors),
-        Ok(Plan::Check(plan)) => check(alloc, plan, files, output, errors),
+        Ok(Plan::Check(plan)) => check_plan(alloc, plan, files, output, errors),
         Err(Refusal::Words(text)) => print(output, &text.as_str(), 2),
         Err(Refusal::NoMemory) => print_fault(output, BenchFault::NoMemory),
     }
@@ -168,6 +131,10 @@ pub fn run_on<F: Files, I: Input, O: Output, E: Output>(
         → KnowsFile book.file (F.is_printed files.old) → KnowsFile file (F.is_printed files.old) → O.has_failed output.new ≡ false
         → EndsExplain (form_of view) (F.file files.old) config file book (I.remaining input.old) (I.has_failed input.new)
         (O.written output.old) (O.written output.new) result }
+    ensures checks { (config : Config) → (book : BookAsked) → (in_place : Bool) → (names : List (List ℕ))
+        → asked_of words.now ≡ Some (check config book false in_place names)
+        → F.is_printed files.old ≡ true → O.has_failed output.new ≡ false
+        → EndsCheck (F.file files.old) config book names (O.written output.old) (O.written output.new) result }
     ensures serves { is_serve (asked_of words.now) ≡ true → O.has_failed output.new ≡ false
         → EndsServe (O.written output.old) (O.written output.new) result }
     ensures refused { asked_of words.now ≡ None → O.has_failed output.new ≡ false

@@ -9,7 +9,7 @@ mod server;
 pub use execute::{carry_out, run, run_on};
 pub use h2_commands::{BenchFault, parse_answer};
 pub use h2_drive::{DriveEnd, DriveFault, Socket, Wire, WireFault, drive};
-pub use h2_serve::{ServeFault, serve_on};
+pub use h2_serve::{Keeper, NoKeeper, ServeFault, serve_on};
 pub use h2_words::Words;
 pub use h2_words::command::{Plan, parse};
 pub use memory::{Ran, run_in_memory};

@@ -5,7 +5,8 @@
 ghost use Rattle.std.specs.Prelude.{◌≡◌, ◌⊎◌, ℕ, Bool, List, [], Some, None, true, false, IfOk};
 ghost use Rattle.h2_spec.specs.declared.connection.Config.{Config};
 ghost use Rattle.h2_book.specs.Files.{file_in};
-ghost use Rattle.h2_words.specs.Grammar.{BatchAsked, BookAsked, View, asked_of, batch, debug, explain};
+ghost use Rattle.h2_words.specs.Grammar.{BatchAsked, BookAsked, View, asked_of, batch, check, debug, explain};
+ghost use Rattle.h2_commands.specs.CheckProgram.{IsCheck};
 ghost use Rattle.h2_commands.specs.ExplainProgram.{IsExplained, form_of};
 ghost use Rattle.h2_bench.specs.Memory.{IsDebugged, printed_in, unserved};
 ghost use Rattle.h2_commands.specs.Printed.{OrCutShort, failed, places_within, printed_within};
@@ -52,6 +53,9 @@ pub fn run_in_memory(
     ensures explains { (config : Config) → (view : View) → (file : List ℕ) → (book : BookAsked)
         → asked_of words.now ≡ Some (explain config view file book)
         → IfOk result (λ ran. IsExplained (form_of view) (file_in files.now) config file book (Some input.now) false (printed_in ran)) }
+    ensures checks { (config : Config) → (book : BookAsked) → (in_place : Bool) → (names : List (List ℕ))
+        → asked_of words.now ≡ Some (check config book false in_place names)
+        → IfOk result (λ ran. IsCheck (file_in files.now) config book names (printed_in ran)) }
     ensures serves { is_serve (asked_of words.now) ≡ true
         → IfOk result (λ ran. (printed_in ran ≡ unserved) ⊎ (printed_in ran ≡ failed NoMemory)) }
     ensures refused { asked_of words.now ≡ None → IfOk result (λ ran. IsRefusal (printed_in ran)) }

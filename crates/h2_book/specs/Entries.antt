@@ -9,7 +9,7 @@ use Rattle.h2_spec.specs.Book.{entry_fault}
 use Rattle.h2_book.specs.Contents.{octets_of}
 use Rattle.h2_book.specs.Said.{Said, said_of, has_other_key}
 use Rattle.h2_book.specs.Faults.{cause_number}
-use Rattle.h2_book.specs.declared.fault.Cause.{Cause}
+use Rattle.h2_book.specs.declared.fault.BookRefusal.{BookRefusal}
 
 -- the files of a directory: the octets at each path, or none where there is no file that can be read
 abbrev pub Directory : Type 0
@@ -112,6 +112,6 @@ Appended directory path old new =
 -- ---- what a function reports
 
 -- it is what the definition says; out of memory, fault 0, may come before
-abbrev pub Agrees : {X S : Type 0} → (X → S) → Result X Cause → Result S ℕ → Type 0
+abbrev pub Agrees : {X S : Type 0} → (X → S) → Result X BookRefusal → Result S ℕ → Type 0
 Agrees view (Ok x) said = said ≡ Ok (view x)
 Agrees view (Err cause) said = 0 < cause_number cause → said ≡ Err (cause_number cause)

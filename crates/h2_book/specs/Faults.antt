@@ -1,11 +1,11 @@
 -- The numbers of what makes a book's file refused.
 use Rattle.std.specs.Prelude.{ℕ}
 use Rattle.h2_request.specs.Fault.{entry_number}
-use Rattle.h2_book.specs.declared.fault.Cause.{Cause}
-use Rattle.h2_book.specs.declared.fault.Cause.TheVariants.{NoMemory, Unread, NoText, NoToml, UnknownTop, NoTable, UnknownKey, Missing, Malformed, ManyBodies, FileUnread, FileTooLong, FillTooLong, BadEntry}
+use Rattle.h2_book.specs.declared.fault.BookRefusal.{BookRefusal}
+use Rattle.h2_book.specs.declared.fault.BookRefusal.TheVariants.{NoMemory, Unread, NoText, NoToml, UnknownTop, NoTable, UnknownKey, Missing, Malformed, ManyBodies, FileUnread, FileTooLong, FillTooLong, BadEntry}
 
 -- the number of a cause
-abbrev pub cause_number : Cause → ℕ
+abbrev pub cause_number : BookRefusal → ℕ
 cause_number NoMemory = 0
 cause_number (Unread why) = 22
 cause_number NoText = 26

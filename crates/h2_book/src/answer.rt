@@ -14,7 +14,7 @@ ghost use Rattle.h2_book.specs.Faults.{cause_number};
 ghost use Rattle.h2_book.specs.Said as spec;
 
 use crate::body::{Contents, contents_in, copy_of, read_contents};
-use crate::fault::{Cause, Key, copy_of_key};
+use crate::fault::{BookRefusal, Key, copy_of_key};
 use crate::files::Files;
 use crate::header::{headers_in, read_headers};
 use crate::table::value_at;
@@ -45,14 +45,14 @@ pub fn entry_in<F: Files>(
     files: &mut F,
     path: &str,
     value: &Value,
-) -> Result<Entry<Global>, Cause>
+) -> Result<Entry<Global>, BookRefusal>
     ensures printed { F.is_printed files.old ≡ true →
         Agrees (λ e. e) result (entry_of (F.file files.old) path.now (view value.now)) }
     ensures same_printed { F.is_printed files.new ≡ F.is_printed files.old }
     ensures same_files { F.file files.new ≡ F.file files.old }
 {
     let Some(table) = value.as_table() else {
-        return Err(Cause::NoTable);
+        return Err(BookRefusal::NoTable);
     };
     let said = said_in(alloc, table)?;
     entry_from(alloc, files, path, said)
@@ -64,7 +64,7 @@ fn entry_from<F: Files>(
     files: &mut F,
     path: &str,
     said: Said<'_>,
-) -> Result<Entry<Global>, Cause>
+) -> Result<Entry<Global>, BookRefusal>
     requires headers { IsTrue (is_some (spec.headers_in (items_view said.headers.now))) }
     requires body { IsTrue (is_some (contents_seen said.body)) }
     ensures printed { F.is_printed files.old ≡ true →
@@ -88,7 +88,7 @@ fn entry_from<F: Files>(
 /// # Errors
 ///
 /// 26: an unknown key, a key that lacks, or a value of another form than its key asks for.
-fn said_in(alloc: Global, table: &Table) -> Result<Said<'_>, Cause>
+fn said_in(alloc: Global, table: &Table) -> Result<Said<'_>, BookRefusal>
     ensures said { IfOk result (λ s. spec.said_of (table_view table.now) ≡ spec.seen s) }
     ensures headers { IfOk result (λ s. IsTrue (is_some (spec.headers_in (items_view s.headers.now)))) }
     ensures body { IfOk result (λ s. IsTrue (is_some (contents_seen s.body))) }
@@ -96,13 +96,13 @@ fn said_in(alloc: Global, table: &Table) -> Result<Said<'_>, Cause>
         (cause_number cause ≡ 26) × (spec.said_of (table_view table.now) ≡ None)) }
 {
     if has_unknown_key(table) {
-        return Err(Cause::UnknownKey(unknown_key(alloc, table)));
+        return Err(BookRefusal::UnknownKey(unknown_key(alloc, table)));
     }
     let method = text_in(value_at(table, "method"), Key::Method)?;
     let path = text_in(value_at(table, "path"), Key::Path)?;
     let status = status_in(value_at(table, "status"))?;
     let Some(headers) = headers_in(value_at(table, "headers")) else {
-        return Err(Cause::Malformed(Key::Headers));
+        return Err(BookRefusal::Malformed(Key::Headers));
     };
     let body = contents_in(table)?;
     let early = early_in(value_at(table, "early"))?;
@@ -152,7 +152,7 @@ fn is_key_of_answer(key: &str) -> bool
 }
 
 /// Whether the answer is early; without the key it is not.
-fn early_in(value: Option<&Value>) -> Result<bool, Cause>
+fn early_in(value: Option<&Value>) -> Result<bool, BookRefusal>
     ensures said { IfOk result (λ early. spec.early_said (data_at value.entry) ≡ Some early) }
     ensures refused { IfErr result (λ cause.
         (cause_number cause ≡ 26) × (spec.early_said (data_at value.entry) ≡ None)) }
@@ -162,37 +162,37 @@ fn early_in(value: Option<&Value>) -> Result<bool, Cause>
     };
     match value.as_bool() {
         Some(early) => Ok(early),
-        None => Err(Cause::Malformed(Key::Early)),
+        None => Err(BookRefusal::Malformed(Key::Early)),
     }
 }
 
 /// The string of a key that has to be there.
-fn text_in(value: Option<&Value>, key: Key) -> Result<&str, Cause>
+fn text_in(value: Option<&Value>, key: Key) -> Result<&str, BookRefusal>
     ensures said { IfOk result (λ text. option_and_then as_str (data_at value.entry) ≡ Some text.now) }
     ensures refused { IfErr result (λ cause.
         (cause_number cause ≡ 26) × (option_and_then as_str (data_at value.entry) ≡ None)) }
 {
     let Some(value) = value else {
-        return Err(Cause::Missing(key));
+        return Err(BookRefusal::Missing(key));
     };
     match value.as_str() {
         Some(text) => Ok(text),
-        None => Err(Cause::Malformed(key)),
+        None => Err(BookRefusal::Malformed(key)),
     }
 }
 
 /// The status, which has to be there; 0 for an integer that no status is.
-fn status_in(value: Option<&Value>) -> Result<u16, Cause>
+fn status_in(value: Option<&Value>) -> Result<u16, BookRefusal>
     ensures said { IfOk result (λ status. option_and_then spec.status_said (data_at value.entry) ≡ Some status) }
     ensures refused { IfErr result (λ cause.
         (cause_number cause ≡ 26) × (option_and_then spec.status_said (data_at value.entry) ≡ None)) }
 {
     let Some(value) = value else {
-        return Err(Cause::Missing(Key::Status));
+        return Err(BookRefusal::Missing(Key::Status));
     };
     match value.as_integer() {
         Some(status) => Ok(status_number(status)),
-        None => Err(Cause::Malformed(Key::Status)),
+        None => Err(BookRefusal::Malformed(Key::Status)),
     }
 }
 

@@ -13,7 +13,7 @@ ghost use Rattle.h2_book.specs.Contents as spec;
 ghost use Rattle.h2_book.specs.Entries.{Agrees};
 ghost use Rattle.h2_book.specs.Faults.{cause_number};
 
-use crate::fault::{Cause, Key};
+use crate::fault::{BookRefusal, Key};
 use crate::files::{Files, FilesFault};
 use crate::table::value_at;
 use h2_fields::octets::Octets;
@@ -41,7 +41,7 @@ pub enum Contents<'v> {
 /// # Errors
 ///
 /// Fault 26: there are two bodies, or the one there is has another form than its key asks for.
-pub fn contents_in(table: &Table) -> Result<Contents<'_>, Cause>
+pub fn contents_in(table: &Table) -> Result<Contents<'_>, BookRefusal>
     ensures said { IfOk result (λ c. spec.contents_of (table_view table.now) ≡ spec.contents_seen c) }
     ensures whole { IfOk result (λ c. IsTrue (is_some (spec.contents_seen c))) }
     ensures refused { IfErr result (λ cause.
@@ -61,7 +61,7 @@ fn contents_of_values<'v>(
     hex: Option<&'v Value>,
     file: Option<&'v Value>,
     fill: Option<&'v Value>,
-) -> Result<Contents<'v>, Cause>
+) -> Result<Contents<'v>, BookRefusal>
     ensures said { IfOk result (λ c.
         spec.contents_of_values (data_at text.entry) (data_at hex.entry) (data_at file.entry) (data_at fill.entry)
         ≡ spec.contents_seen c) }
@@ -71,7 +71,7 @@ fn contents_of_values<'v>(
         × (spec.contents_of_values (data_at text.entry) (data_at hex.entry) (data_at file.entry) (data_at fill.entry) ≡ None)) }
 {
     if count_of(text) + count_of(hex) + count_of(file) + count_of(fill) > 1 {
-        return Err(Cause::ManyBodies);
+        return Err(BookRefusal::ManyBodies);
     }
     first_said(text, hex, file, fill)
 }
@@ -82,7 +82,7 @@ fn first_said<'v>(
     hex: Option<&'v Value>,
     file: Option<&'v Value>,
     fill: Option<&'v Value>,
-) -> Result<Contents<'v>, Cause>
+) -> Result<Contents<'v>, BookRefusal>
     ensures said { IfOk result (λ c.
         spec.first_said (data_at text.entry) (data_at hex.entry) (data_at file.entry) (data_at fill.entry)
         ≡ spec.contents_seen c) }
@@ -101,13 +101,13 @@ fn first_said<'v>(
 }
 
 /// What the value of a key says, or that the key's value is malformed.
-fn formed(said: Option<Contents<'_>>, key: Key) -> Result<Contents<'_>, Cause>
+fn formed(said: Option<Contents<'_>>, key: Key) -> Result<Contents<'_>, BookRefusal>
     ensures ok { IfOk result (λ c. said.entry ≡ Some c) }
     ensures err { IfErr result (λ cause. (cause_number cause ≡ 26) × (said.entry ≡ None)) }
 {
     match said {
         Some(contents) => Ok(contents),
-        None => Err(Cause::Malformed(key)),
+        None => Err(BookRefusal::Malformed(key)),
     }
 }
 
@@ -201,7 +201,7 @@ pub fn read_contents<F: Files>(
     files: &mut F,
     path: &str,
     contents: Contents<'_>,
-) -> Result<Octets<Global>, Cause>
+) -> Result<Octets<Global>, BookRefusal>
     requires { IsTrue (is_some (spec.contents_seen contents)) }
     ensures printed { F.is_printed files.old ≡ true →
         Agrees (λ o. o) result (spec.octets_said (F.file files.old) path.now (spec.contents_seen contents.entry)) }
@@ -240,7 +240,7 @@ fn read_file<F: Files>(
     files: &mut F,
     path: &str,
     name: &str,
-) -> Result<Octets<Global>, Cause>
+) -> Result<Octets<Global>, BookRefusal>
     ensures printed { F.is_printed files.old ≡ true →
         Agrees (λ o. o) result (spec.octets_of_file (F.file files.old (spec.beside path.now name.now))) }
     ensures same_printed { F.is_printed files.new ≡ F.is_printed files.old }
@@ -249,9 +249,9 @@ fn read_file<F: Files>(
     let place = directory_of(path).join(alloc, name)?;
     match files.read(alloc, place.as_str(), MAX_BODY) {
         Ok(octets) => Ok(Octets::new(octets)),
-        Err(FilesFault::Failed) => Err(Cause::FileUnread(files.failure(place.as_str()))),
-        Err(FilesFault::TooLong) => Err(Cause::FileTooLong),
-        Err(FilesFault::NoMemory) => Err(Cause::NoMemory),
+        Err(FilesFault::Failed) => Err(BookRefusal::FileUnread(files.failure(place.as_str()))),
+        Err(FilesFault::TooLong) => Err(BookRefusal::FileTooLong),
+        Err(FilesFault::NoMemory) => Err(BookRefusal::NoMemory),
     }
 }
 
@@ -270,12 +270,12 @@ fn directory_of(path: &str) -> Path<'_>
 /// # Errors
 ///
 /// 15: the count is above 1,048,576; no memory is taken. 0: out of memory.
-fn fill(alloc: Global, count: usize, text: &[u8]) -> Result<Octets<Global>, Cause>
+fn fill(alloc: Global, count: usize, text: &[u8]) -> Result<Octets<Global>, BookRefusal>
     requires { 0 < length text.now }
     ensures { Agrees (λ o. o) result (spec.octets_of_fill count text.now) }
 {
     if count > MAX_BODY {
-        return Err(Cause::FillTooLong);
+        return Err(BookRefusal::FillTooLong);
     }
     Ok(Octets::new(repeat(alloc, count, text)?))
 }

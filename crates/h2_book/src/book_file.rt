@@ -13,7 +13,7 @@ ghost use Rattle.h2_book.specs.Entries as spec;
 ghost use Rattle.h2_book.specs.Faults.{cause_number};
 
 use crate::answer::entry_in;
-use crate::fault::{BookFileFault, Cause, Key, copy_of_key};
+use crate::fault::{BookFileFault, BookRefusal, Key, copy_of_key};
 use crate::files::{Files, FilesFault};
 use crate::line::line_at;
 use crate::sentence::Where;
@@ -54,15 +54,15 @@ pub fn add_book<F: Files>(
         Err(FilesFault::NoMemory) => return Err(BookFileFault::of_file(
             alloc,
             path,
-            Cause::NoMemory,
+            BookRefusal::NoMemory,
         )),
         Err(_) => {
             let why = files.failure(path);
-            return Err(BookFileFault::of_file(alloc, path, Cause::Unread(why)));
+            return Err(BookFileFault::of_file(alloc, path, BookRefusal::Unread(why)));
         }
     };
     let Ok(text) = std::str::from_utf8(octets.as_slice()) else {
-        return Err(BookFileFault::of_file(alloc, path, Cause::NoText));
+        return Err(BookFileFault::of_file(alloc, path, BookRefusal::NoText));
     };
     add_text(alloc, files, path, text, book)
 }
@@ -87,11 +87,11 @@ fn add_text<F: Files>(
     let table = match toml::table_from_str(alloc, text) {
         Ok(table) => table,
         Err(error) if error.is_memory() => {
-            return Err(BookFileFault::of_file(alloc, path, Cause::NoMemory));
+            return Err(BookFileFault::of_file(alloc, path, BookRefusal::NoMemory));
         }
         Err(error) => {
             let place = Where::of_line(path, text, line_of_error(text, &error));
-            return Err(BookFileFault::new(alloc, place, Cause::NoToml(error)));
+            return Err(BookFileFault::new(alloc, place, BookRefusal::NoToml(error)));
         }
     };
     let answers = match answers_in(alloc, &table) {
@@ -121,19 +121,19 @@ fn line_of_error(text: &str, error: &toml::de::Error) -> usize {
 }
 
 /// The answers of a document.
-fn answers_in(alloc: Global, table: &Table) -> Result<&[Value], Cause>
+fn answers_in(alloc: Global, table: &Table) -> Result<&[Value], BookRefusal>
     ensures said { IfOk result (λ answers. spec.answers_of (table_view table.now) ≡ Some (items_view answers.now)) }
     ensures refused { IfErr result (λ cause.
         (cause_number cause ≡ 26) × (spec.answers_of (table_view table.now) ≡ None)) }
 {
     if has_unknown_key(table) {
-        return Err(Cause::UnknownTop(unknown_key(alloc, table)));
+        return Err(BookRefusal::UnknownTop(unknown_key(alloc, table)));
     }
     array_in(value_at(table, "answer"))
 }
 
 /// The items of the value of `answer`; without it there are none.
-fn array_in(value: Option<&Value>) -> Result<&[Value], Cause>
+fn array_in(value: Option<&Value>) -> Result<&[Value], BookRefusal>
     ensures said { IfOk result (λ answers. spec.array_said (data_at value.entry) ≡ Some (items_view answers.now)) }
     ensures refused { IfErr result (λ cause.
         (cause_number cause ≡ 26) × (spec.array_said (data_at value.entry) ≡ None)) }
@@ -143,7 +143,7 @@ fn array_in(value: Option<&Value>) -> Result<&[Value], Cause>
     };
     match value.as_array() {
         Some(answers) => Ok(answers.as_slice()),
-        None => Err(Cause::Malformed(Key::Answer)),
+        None => Err(BookRefusal::Malformed(Key::Answer)),
     }
 }
 
@@ -167,7 +167,7 @@ fn add_answers<F: Files>(
     path: &str,
     answers: &[Value],
     book: &mut Book<Global>,
-) -> Result<(), (usize, Cause)>
+) -> Result<(), (usize, BookRefusal)>
     ensures added { OnOk result (F.is_printed files.old ≡ true →
         spec.book_with (F.file files.old) path.now book.old (items_view answers.now) ≡ Ok book.new) }
     ensures refused { IfErr result (λ r.
@@ -192,7 +192,7 @@ fn add_answer<F: Files>(
     path: &str,
     answer: &Value,
     book: &mut Book<Global>,
-) -> Result<(), Cause>
+) -> Result<(), BookRefusal>
     ensures added { F.is_printed files.old ≡ true →
         spec.Agrees (λ _. book.new) result
         (spec.with_entry book.old (spec.entry_of (F.file files.old) path.now (view answer.now))) }
@@ -204,7 +204,7 @@ fn add_answer<F: Files>(
     let entry = entry_in(alloc, files, path, answer)?;
     match book.add(entry) {
         Ok(()) => Ok(()),
-        Err(BookFault::NoMemory) => Err(Cause::NoMemory),
-        Err(BookFault::BadEntry(fault)) => Err(Cause::BadEntry(fault)),
+        Err(BookFault::NoMemory) => Err(BookRefusal::NoMemory),
+        Err(BookFault::BadEntry(fault)) => Err(BookRefusal::BadEntry(fault)),
     }
 }

@@ -3,7 +3,7 @@
 ghost use Rattle.std.specs.Prelude.{◌≡◌};
 ghost use Rattle.h2_book.specs.Faults.{cause_number};
 ghost use Rattle.h2_book.specs.Said.{key_name};
-ghost use Rattle.h2_book.specs.declared.fault.Cause.TheVariants.{NoMemory};
+ghost use Rattle.h2_book.specs.declared.fault.BookRefusal.TheVariants.{NoMemory};
 
 use crate::sentence::{Where, sentence_of};
 use h2_request::fault::EntryFault;
@@ -65,7 +65,7 @@ impl Key {
 
 /// Why a book's file is refused.
 #[derive(Drop)]
-pub enum Cause {
+pub enum BookRefusal {
     /// Memory was refused.
     NoMemory,
     /// The book can't be read, for this reason where the device knows one; or is too long.
@@ -96,33 +96,33 @@ pub enum Cause {
     BadEntry(EntryFault),
 }
 
-impl Cause {
+impl BookRefusal {
     /// The number of the fault.
     pub fn number(&self) -> u8
         ensures { result ≡ cause_number self.now }
     {
         match self {
-            Cause::NoMemory => 0,
-            Cause::Unread(_) | Cause::FileUnread(_) => 22,
-            Cause::FileTooLong | Cause::FillTooLong => 15,
-            Cause::BadEntry(fault) => fault.number(),
-            Cause::NoText
-            | Cause::NoToml(_)
-            | Cause::UnknownTop(_)
-            | Cause::NoTable
-            | Cause::UnknownKey(_)
-            | Cause::Missing(_)
-            | Cause::Malformed(_)
-            | Cause::ManyBodies => 26,
+            BookRefusal::NoMemory => 0,
+            BookRefusal::Unread(_) | BookRefusal::FileUnread(_) => 22,
+            BookRefusal::FileTooLong | BookRefusal::FillTooLong => 15,
+            BookRefusal::BadEntry(fault) => fault.number(),
+            BookRefusal::NoText
+            | BookRefusal::NoToml(_)
+            | BookRefusal::UnknownTop(_)
+            | BookRefusal::NoTable
+            | BookRefusal::UnknownKey(_)
+            | BookRefusal::Missing(_)
+            | BookRefusal::Malformed(_)
+            | BookRefusal::ManyBodies => 26,
         }
     }
 }
 
-impl From<AllocError> for Cause {
+impl From<AllocError> for BookRefusal {
     ghost from_gives = { λ _ cause. cause ≡ NoMemory };
 
-    fn from(_refused: AllocError) -> Cause {
-        Cause::NoMemory
+    fn from(_refused: AllocError) -> BookRefusal {
+        BookRefusal::NoMemory
     }
 }
 
@@ -137,7 +137,7 @@ pub fn copy_of_key(alloc: Global, key: &str) -> Option<String> {
 pub struct BookFileFault {
     /// The sentence; none where memory for it was refused.
     sentence: Option<String>,
-    cause: Cause,
+    cause: BookRefusal,
 }
 
 impl Model for BookFileFault {
@@ -151,7 +151,7 @@ impl Model for BookFileFault {
 
 impl BookFileFault {
     /// A fault of a book.
-    pub(crate) fn new(alloc: Global, place: Where<'_>, cause: Cause) -> BookFileFault
+    pub(crate) fn new(alloc: Global, place: Where<'_>, cause: BookRefusal) -> BookFileFault
         ensures { result ≡ cause_number cause }
     {
         BookFileFault {
@@ -161,14 +161,14 @@ impl BookFileFault {
     }
 
     /// A fault of the whole file.
-    pub fn of_file(alloc: Global, path: &str, cause: Cause) -> BookFileFault
+    pub fn of_file(alloc: Global, path: &str, cause: BookRefusal) -> BookFileFault
         ensures { result ≡ cause_number cause }
     {
         BookFileFault::new(alloc, Where::of_file(path), cause)
     }
 
     /// Why the book is refused.
-    pub fn cause(&self) -> &Cause
+    pub fn cause(&self) -> &BookRefusal
         ensures { cause_number result.now ≡ self.now }
     {
         &self.cause

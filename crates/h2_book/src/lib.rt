@@ -15,7 +15,7 @@ mod standard;
 mod table;
 
 pub use book_file::{MAX_BOOK_FILE, add_book};
-pub use fault::{BookFileFault, Cause, Key};
+pub use fault::{BookFileFault, BookRefusal, Key};
 pub use files::{Files, FilesFault};
 pub use memory::FilesInMemory;
 pub use standard::{StdFiles, read_whole};

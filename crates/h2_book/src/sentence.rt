@@ -1,12 +1,12 @@
 //! The sentence that says why a book's file is refused: the file, the line of the key, the answer, what is wrong. Texts
 //! of the file are cut and escaped as in `explain`. No definition speaks of it.
 
-use crate::fault::{Cause, Key};
+use crate::fault::{BookRefusal, Key};
 use crate::line::{line_of_answer, line_of_key};
 use h2_describe::say_all;
-use h2_reasons::{Cut, Say, Words, field_reason, file_reason};
+use h2_reasons::{Cut, Say, TextBuilder, field_reason, file_reason};
 use h2_request::fault::EntryFault;
-use std::alloc::{AllocError, Global};
+use std::alloc::{AllocError, Allocator, Global};
 use toml::{Table, Value};
 
 /// Where in a book's file something is wrong, and what is there.
@@ -94,13 +94,13 @@ impl<'w> Where<'w> {
     }
 
     /// The line of what is wrong: that of the key where it has one of its own, else that of the answer.
-    fn line(self, cause: &Cause) -> usize {
+    fn line(self, cause: &BookRefusal) -> usize {
         if self.line > 0 {
             return self.line;
         }
         if self.answer == 0 {
             return match cause {
-                Cause::UnknownTop(Some(key)) => line_of_key(self.text, 1, key.as_str()),
+                BookRefusal::UnknownTop(Some(key)) => line_of_key(self.text, 1, key.as_str()),
                 _ => 0,
             };
         }
@@ -124,30 +124,30 @@ fn body_key(place: Where<'_>) -> &'static str {
 }
 
 /// The key that is at fault; empty where none is.
-fn key_of<'c>(cause: &'c Cause, place: Where<'_>) -> &'c str {
+fn key_of<'c>(cause: &'c BookRefusal, place: Where<'_>) -> &'c str {
     match cause {
-        Cause::UnknownKey(Some(key)) => key.as_str(),
-        Cause::Malformed(key) => key.name(),
-        Cause::FileUnread(_) | Cause::FileTooLong => Key::BodyFile.name(),
-        Cause::FillTooLong => Key::BodyFill.name(),
-        Cause::BadEntry(EntryFault::BadStatus) => Key::Status.name(),
-        Cause::BadEntry(EntryFault::BadField) => Key::Headers.name(),
-        Cause::BadEntry(EntryFault::BodyNotAllowed) => body_key(place),
+        BookRefusal::UnknownKey(Some(key)) => key.as_str(),
+        BookRefusal::Malformed(key) => key.name(),
+        BookRefusal::FileUnread(_) | BookRefusal::FileTooLong => Key::BodyFile.name(),
+        BookRefusal::FillTooLong => Key::BodyFill.name(),
+        BookRefusal::BadEntry(EntryFault::BadStatus) => Key::Status.name(),
+        BookRefusal::BadEntry(EntryFault::BadField) => Key::Headers.name(),
+        BookRefusal::BadEntry(EntryFault::BodyNotAllowed) => body_key(place),
         _ => "",
     }
 }
 
 /// A key between backquotes.
 #[derive(Clone, Copy)]
-struct Quoted<'q>(&'q str);
+struct QuotedKey<'q>(&'q str);
 
-impl Say for Quoted<'_> {
-    fn say(self, out: &mut Words) {
+impl Say for QuotedKey<'_> {
+    fn say<A: Allocator>(self, out: &mut TextBuilder<A>) {
         say_all!(out; '`', Cut(self.0.as_bytes()), '`');
     }
 }
 
-fn say_place(place: Where<'_>, line: usize, out: &mut Words) {
+fn say_place(place: Where<'_>, line: usize, out: &mut TextBuilder) {
     say_all!(out; Cut(place.path.as_bytes()));
     if line > 0 {
         say_all!(out; ", line ", line);
@@ -158,15 +158,15 @@ fn say_place(place: Where<'_>, line: usize, out: &mut Words) {
     ": ".say(out);
 }
 
-fn say_unknown(key: &Option<String>, out: &mut Words) {
+fn say_unknown(key: &Option<String>, out: &mut TextBuilder) {
     match key {
-        Some(key) => say_all!(out; "the key ", Quoted(key.as_str()), " is unknown"),
+        Some(key) => say_all!(out; "the key ", QuotedKey(key.as_str()), " is unknown"),
         None => "a key is unknown".say(out),
     }
 }
 
 /// Says what is wrong with a text that is no TOML. A number that is too long has several messages of the reader.
-fn say_no_toml(place: Where<'_>, message: &str, out: &mut Words) {
+fn say_no_toml(place: Where<'_>, message: &str, out: &mut TextBuilder) {
     let line = match place.text.lines().nth(place.line.saturating_sub(1)) {
         Some(line) => line,
         None => "",
@@ -226,12 +226,12 @@ fn pair_in(pair: &Value) -> Option<(&str, &str)> {
     }
 }
 
-fn say_entry(place: Where<'_>, fault: EntryFault, out: &mut Words) {
+fn say_entry(place: Where<'_>, fault: EntryFault, out: &mut TextBuilder) {
     match fault {
         EntryFault::BadStatus =>
             say_all!(out; "the status is ", place.status(), "; it has to be 200 to 599"),
         EntryFault::BadField => match bad_header(place) {
-            Some((name, reason)) => say_all!(out; "the field ", Quoted(name), " ", reason),
+            Some((name, reason)) => say_all!(out; "the field ", QuotedKey(name), " ", reason),
             None => "a field is not allowed in an answer".say(out),
         },
         EntryFault::BodyNotAllowed if place.text_at("method") == "HEAD" => {
@@ -248,33 +248,36 @@ fn say_entry(place: Where<'_>, fault: EntryFault, out: &mut Words) {
     }
 }
 
-fn say_cause(place: Where<'_>, cause: &Cause, out: &mut Words) {
+fn say_cause(place: Where<'_>, cause: &BookRefusal, out: &mut TextBuilder) {
     match cause {
-        Cause::NoMemory => "out of memory".say(out),
-        Cause::Unread(None) => "the file can't be read, or has more than 16777216 octets".say(out),
-        Cause::Unread(Some(kind)) => file_reason(*kind).say(out),
-        Cause::NoText => "the file is not UTF-8".say(out),
-        Cause::NoTable => "an answer has to be a table".say(out),
-        Cause::ManyBodies => "there are two bodies or more".say(out),
-        Cause::FillTooLong => "the count of `body-fill` is above 1048576".say(out),
-        Cause::NoToml(error) => say_no_toml(place, error.message(), out),
-        Cause::UnknownTop(key) => {
+        BookRefusal::NoMemory => "out of memory".say(out),
+        BookRefusal::Unread(None) => "the file can't be read, or has more than 16777216 octets".say(
+            out,
+        ),
+        BookRefusal::Unread(Some(kind)) => file_reason(*kind).say(out),
+        BookRefusal::NoText => "the file is not UTF-8".say(out),
+        BookRefusal::NoTable => "an answer has to be a table".say(out),
+        BookRefusal::ManyBodies => "there are two bodies or more".say(out),
+        BookRefusal::FillTooLong => "the count of `body-fill` is above 1048576".say(out),
+        BookRefusal::NoToml(error) => say_no_toml(place, error.message(), out),
+        BookRefusal::UnknownTop(key) => {
             say_unknown(key, out);
             ", a book has nothing but [[answer]]".say(out);
         }
-        Cause::UnknownKey(key) => say_unknown(key, out),
-        Cause::Missing(key) => say_all!(out; "the key ", Quoted(key.name()), " is missing"),
-        Cause::Malformed(key) =>
-            say_all!(out; "the key ", Quoted(key.name()), " has to be ", key.wanted()),
-        Cause::FileTooLong =>
-            say_all!(out; "the file of `body-file`, ", Quoted(place.text_at("body-file")), ", has more than 1048576 octets"),
-        Cause::FileUnread(kind) => {
-            say_all!(out; "the file of `body-file`, ", Quoted(place.text_at("body-file")), ", can't be read");
+        BookRefusal::UnknownKey(key) => say_unknown(key, out),
+        BookRefusal::Missing(key) =>
+            say_all!(out; "the key ", QuotedKey(key.name()), " is missing"),
+        BookRefusal::Malformed(key) =>
+            say_all!(out; "the key ", QuotedKey(key.name()), " has to be ", key.wanted()),
+        BookRefusal::FileTooLong =>
+            say_all!(out; "the file of `body-file`, ", QuotedKey(place.text_at("body-file")), ", has more than 1048576 octets"),
+        BookRefusal::FileUnread(kind) => {
+            say_all!(out; "the file of `body-file`, ", QuotedKey(place.text_at("body-file")), ", can't be read");
             if let Some(kind) = kind {
                 say_all!(out; ": ", file_reason(*kind));
             }
         }
-        Cause::BadEntry(fault) => say_entry(place, *fault, out),
+        BookRefusal::BadEntry(fault) => say_entry(place, *fault, out),
     }
 }
 
@@ -282,9 +285,9 @@ fn say_cause(place: Where<'_>, cause: &Cause, out: &mut Words) {
 pub(crate) fn sentence_of(
     alloc: Global,
     place: Where<'_>,
-    cause: &Cause,
+    cause: &BookRefusal,
 ) -> Result<String, AllocError> {
-    let mut out = Words::new(alloc);
+    let mut out = TextBuilder::new(alloc);
     say_place(place, place.line(cause), &mut out);
     say_cause(place, cause, &mut out);
     ".".say(&mut out);

@@ -86,7 +86,7 @@ cause_renewed start w g g' seen x = subst (λ (s : Sight). Gains (renewed_cause 
 -- ---- a line of the script in a case that has no such lines
 
 pub taken_is : (start : Start) (w : Walk) (c : Connection) → Walks start w c → taken_at start (place_of w) ≡ w.at
-taken_is start w c is = omega (arith, length-drop w.at w.octets.items, is.within, ap (λ (r : List ℕ). length r) is.rest)
+taken_is start w c is = omega (arith, length-drop w.at w.octets.items, is.within.1, ap (λ (r : List ℕ). length r) is.rest)
 
 outcome_told : (start : Start) (w one two : Walk) (c d : Connection) (g k : Growing) → Walks start w c → Walks start one d
     → Tells one.speaks (sent_lines (left_by one) ++ error_text (nat_lt w.at one.at) one.seen.cause) one two g k

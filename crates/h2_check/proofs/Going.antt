@@ -8,9 +8,10 @@ use Rattle.h2_spec.specs.Trace.{Event, next_event, trace}
 use Rattle.h2_spec.specs.View.{view}
 use Rattle.h2_check.specs.Cases.{Place, Start, all_hold, behind, closes, first_place, holds, passed, played, plays, sight_at, text_at, unspoken}
 use Rattle.h2_check.specs.Frames.{is_none, sends, spoken_by}
+use Rattle.h2_check.specs.ItemTexts.{text_before}
 use Rattle.h2_check.specs.Lines as line
 use Rattle.h2_check.specs.Seen.{Sight, no_item, seen_by, sight}
-use Rattle.h2_check.specs.Texts.{shows}
+use Rattle.h2_check.specs.Texts.{explains, shows}
 use Rattle.h2_check.specs.Walks.{Closes, Finds, Goes, Passes, Speaks, Walks, left_by, place_of}
 use Rattle.h2_check.specs.declared.walk.Walk.{Walk}
 
@@ -24,7 +25,7 @@ left_is start w e = ap (λ (t : List ℕ). drop w.spoken t) (sent_is start w e)
 -- a walk that has the same octets and has seen the same
 pub walks_same : (start : Start) (w w' : Walk) (c : Connection) → w'.octets ≡ w.octets → w'.at ≡ w.at → w'.seen ≡ w.seen → Walks start w c → Walks start w' c
 walks_same start w w' c octets at seen is = record {
-  within = rw (octets, at) is.within;
+  within = rw (octets, at, seen) is.within;
   ready = is.ready;
   state = rw octets is.state;
   rest = rw (octets, at) is.rest;
@@ -83,11 +84,19 @@ pub goes_shown : (start : Start) (w w' : Walk) (c : Connection) (text : List ℕ
 unfolding trace
 goes_shown start w w' c text is f = subst (λ (s : State). Goes (shows (show (view s)) text) (place_of w) w w') (sym is.state) (goes_found _ w w' f)
 
+-- a line of `explain` was looked for
+pub goes_explained : (start : Start) (w w' : Walk) (texts : List (List ℕ)) (text : List ℕ) → start.texts ≡ texts → seen_by w.seen ≡ sight_at start (place_of w)
+    → Finds (explains (text_before texts w.seen.items) text) w w' → Passes start (line.Explained text) w w'
+goes_explained start w w' texts text are seen f =
+    let items : w.seen.items ≡ (sight_at start (place_of w)).items = ap (λ (x : Sight). x.items) seen in
+    subst (λ (t : List ℕ). Goes (explains t text) (place_of w) w w')
+    (ap₂ (λ (ts : List (List ℕ)) (n : ℕ). text_before ts n) (sym are) items) (goes_found _ w w' f)
+
 -- before the first line
 pub begun : (start : Start) (w : Walk) (c : Connection) → w.octets.items ≡ [] → w.at ≡ 0 → seen_by w.seen ≡ no_item start.sent → c ≡ going start.state [] → Walks start w c
 unfolding sight trace parse_all
 begun start w c octets at seen is = record {
-  within = omega (arith, at);
+  within = let none : w.seen.items ≡ 0 = ap (λ (x : Sight). x.items) seen in (omega (arith, at, none), omega (arith, at));
   ready = rw is refl;
   state = rw (octets, is) refl;
   rest = rw (octets, at) refl;

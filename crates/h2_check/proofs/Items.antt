@@ -41,14 +41,14 @@ pub item_said : (s : State) (b : List ℕ) (e : Event) (t : State) (used : ℕ) 
 unfolding next_event
 item_said s b e t used taken comes said = said_of s (next_item s b) e t used taken comes said
 
-abbrev pub sight_of : List ℕ → Option Cause → Option Cause → Option Ignored → Sight
-sight_of sent first cause ignored = record { sent = sent; first = first; cause = cause; ignored = ignored }
+abbrev pub sight_of : ℕ → List ℕ → Option Cause → Option Cause → Option Ignored → Sight
+sight_of items sent first cause ignored = record { items = items; sent = sent; first = first; cause = cause; ignored = ignored }
 
 -- the sight that a value has after an item
-pub sight_with : (s : State) (seen : Sight) (e : Event) (sent : List ℕ) (first cause : Option Cause) (ignored : Option Ignored)
-    → sent ≡ seen.sent ++ frames_octets e.sent → first ≡ cause_or seen.first cause → cause ≡ cause_of s e.item → ignored ≡ ignored_of s e.item
-    → sight_of sent first cause ignored ≡ with_item s seen e
-sight_with s seen e sent first cause ignored p f q r = rw (p, f, q, r) refl
+pub sight_with : (s : State) (seen : Sight) (e : Event) (items : ℕ) (sent : List ℕ) (first cause : Option Cause) (ignored : Option Ignored)
+    → items ≡ seen.items + 1 → sent ≡ seen.sent ++ frames_octets e.sent → first ≡ cause_or seen.first cause → cause ≡ cause_of s e.item → ignored ≡ ignored_of s e.item
+    → sight_of items sent first cause ignored ≡ with_item s seen e
+sight_with s seen e items sent first cause ignored n p f q r = rw (n, p, f, q, r) refl
 
 -- ---- the run from the next item on
 

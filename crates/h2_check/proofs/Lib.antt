@@ -6,3 +6,4 @@ pub mod Going
 pub mod Items
 pub mod Lists
 pub mod Readings
+pub mod Texts

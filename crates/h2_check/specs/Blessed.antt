@@ -225,4 +225,4 @@ blessed_at start here lines = if have_renewed lines then renewed start here line
 
 -- the lines of a case with this book, these limits and these settings
 unfoldable pub blessed : List Entry → Config → List (List ℕ) → List ℕ
-blessed book config lines = blessed_at (start_of book config) first_place lines
+blessed book config lines = blessed_at (start_of book config []) first_place lines

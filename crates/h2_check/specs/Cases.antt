@@ -1,6 +1,6 @@
 -- A case: a connection of its own, and lines. The octets of the lines of the script are played on it. Each other line
 -- says something of the run of the octets above it; the case holds where all of them do.
-use Rattle.std.specs.Prelude.{ℕ, Bool, true, false, ◌&&◌, ◌||◌, not, List, [], ◌∷◌, ◌++◌, length, drop, map, codes, if◌then◌else◌, Option, Some, None}
+use Rattle.std.specs.Prelude.{◌≡◌, ℕ, Bool, true, false, ◌&&◌, ◌||◌, not, List, [], ◌∷◌, ◌++◌, length, drop, map, codes, if◌then◌else◌, Option, Some, None}
 use Rattle.std.specs.Str.{bytes_eq}
 use Rattle.h2_spec.specs.Answer.{Entry}
 use Rattle.h2_spec.specs.CauseWords.{cause_name}
@@ -14,16 +14,18 @@ use Rattle.h2_spec.specs.declared.causes.Cause.{Cause}
 use Rattle.h2_spec.specs.declared.connection.Config.{Config}
 use Rattle.h2_spec.specs.declared.ignored.Ignored.{Ignored}
 use Rattle.h2_check.specs.Frames.{is_none, octets_at, sends, spoken_by}
+use Rattle.h2_check.specs.ItemTexts.{AreTextsOf, text_before}
 use Rattle.h2_check.specs.Lines as line
 use Rattle.h2_check.specs.Files.{expect_something}
 use Rattle.h2_check.specs.Lines.{Said, line_said}
 use Rattle.h2_check.specs.Seen.{Sight, sight}
-use Rattle.h2_check.specs.Texts.{shows}
+use Rattle.h2_check.specs.Texts.{explains, shows}
 
--- the state that a case begins in, and the octets that were sent before anything came
+-- the state that a case begins in, the octets that were sent before anything came, and the texts of its items
 pub record Start : Type 0 where
   pub state : State
   pub sent : List ℕ
+  pub texts : List (List ℕ)
 
 -- a place between two lines: the octets of the lines above, how many of the octets sent lines have spoken about, and
 -- whether a line has since the last octets
@@ -39,6 +41,10 @@ sight_at start here = sight start.state start.sent here.above
 -- the text of the state at a place
 abbrev pub text_at : Start → Place → List ℕ
 text_at start here = show (view (trace start.state here.above).state)
+
+-- the text of `explain` for the item before a place
+abbrev pub explained_at : Start → Place → List ℕ
+explained_at start here = text_before start.texts (sight_at start here).items
 
 -- the octets sent that no line has spoken about
 abbrev pub unspoken : Start → Place → List ℕ
@@ -96,7 +102,7 @@ holds start here (line.Sent text) = sends text (unspoken start here)
 holds start here (line.Shown text) = shows (text_at start here) text
 holds start here (line.Cause text) = errs (sight_at start here) text
 holds start here (line.Reason text) = ignores (sight_at start here) text
-holds start here (line.Explained text) = false
+holds start here (line.Explained text) = explains (explained_at start here) text
 holds start here (line.Command text) = false
 
 -- the place after a line that holds
@@ -122,13 +128,13 @@ all_hold start here (said ∷ more) = holds start here said && all_hold start (b
 abbrev pub first_place : Place
 first_place = record { above = []; spoken = 0; speaks = false }
 
--- the start of a case with this book, these limits and these settings
-abbrev pub start_of : List Entry → Config → Start
-start_of book config = record { state = opening book config; sent = opening_octets config }
+-- the start of a case with this book, these limits and these settings, and of whose items these are the texts
+abbrev pub start_of : List Entry → Config → List (List ℕ) → Start
+start_of book config texts = record { state = opening book config; sent = opening_octets config; texts = texts }
 
 -- the run of the octets of these lines, with this book, these limits and these settings, meets what they expect
-unfoldable pub case_holds : List Entry → Config → List (List ℕ) → Bool
-case_holds book config lines = all_hold (start_of book config) first_place (map line_said lines)
+unfoldable pub case_holds : List Entry → Config → (texts lines : List (List ℕ)) → Bool
+case_holds book config texts lines = all_hold (start_of book config texts) first_place (map line_said lines)
 
 -- ---- the verdict
 
@@ -143,6 +149,10 @@ outcome true true = Holds
 outcome true false = Skipped
 outcome false expects = Fails
 
+-- the verdict on a case of whose items these are the texts
+abbrev pub outcome_of : List Entry → Config → (texts lines : List (List ℕ)) → Outcome
+outcome_of book config texts lines = outcome (case_holds book config texts lines) (expect_something lines)
+
 -- the verdict on a case
-abbrev pub outcome_of : List Entry → Config → List (List ℕ) → Outcome
-outcome_of book config lines = outcome (case_holds book config lines) (expect_something lines)
+abbrev pub IsOutcome : List Entry → Config → List (List ℕ) → Outcome → Type 0
+IsOutcome book config lines o = (texts : List (List ℕ)) × AreTextsOf book config lines texts × (o ≡ outcome_of book config texts lines)

@@ -3,6 +3,7 @@ pub mod CaseWords
 pub mod Cases
 pub mod Files
 pub mod Frames
+pub mod ItemTexts
 pub mod Lines
 pub mod Seen
 pub mod Shell

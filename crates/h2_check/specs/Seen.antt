@@ -1,5 +1,5 @@
 -- What is seen of the items of a run: what was sent, and why items were errors or were ignored (RFC 9113, 5.4).
-use Rattle.std.specs.Prelude.{◌≡◌, ℕ, ◌++◌, List, [], ◌∷◌, Option, Some, None}
+use Rattle.std.specs.Prelude.{◌≡◌, ℕ, ◌+◌, ◌++◌, List, [], ◌∷◌, Option, Some, None}
 use Rattle.h2_spec.specs.Effect.{cause_of}
 use Rattle.h2_spec.specs.Frame.{frames_octets}
 use Rattle.h2_spec.specs.Ignored.{ignored_of}
@@ -10,8 +10,10 @@ use Rattle.h2_spec.specs.declared.causes.Cause.{Cause}
 use Rattle.h2_spec.specs.declared.ignored.Ignored.{Ignored}
 use Rattle.h2_check.specs.declared.run.Seen.{Seen}
 
--- the octets that were sent, why the first error was one, and why the last item is an error or is ignored
+-- how many items there were, the octets that were sent, why the first error was one, and why the last item is an error or
+-- is ignored
 pub record Sight : Type 0 where
+  pub items : ℕ
   pub sent : List ℕ
   pub first : Option Cause
   pub cause : Option Cause
@@ -25,6 +27,7 @@ cause_or None other = other
 -- the sight with one more item, which is taken in this state
 abbrev pub with_item : State → Sight → Event → Sight
 with_item s seen e = record {
+  items = seen.items + 1;
   sent = seen.sent ++ frames_octets e.sent;
   first = cause_or seen.first (cause_of s e.item);
   cause = cause_of s e.item;
@@ -38,7 +41,7 @@ with_items s seen (e ∷ es) = with_items e.state (with_item s seen e) es
 
 -- no item yet, and these octets were sent
 abbrev pub no_item : List ℕ → Sight
-no_item sent = record { sent = sent; first = None; cause = None; ignored = None }
+no_item sent = record { items = 0; sent = sent; first = None; cause = None; ignored = None }
 
 -- what is seen of the run over octets of a connection in this state, for which these octets were sent first
 unfoldable pub sight : State → List ℕ → List ℕ → Sight
@@ -47,7 +50,7 @@ sight s sent octets = with_items s (no_item sent) (trace s octets).events
 
 -- the sight that a value has
 abbrev pub seen_by : Seen → Sight
-seen_by seen = record { sent = seen.sent.items; first = seen.first; cause = seen.cause; ignored = seen.ignored }
+seen_by seen = record { items = seen.items; sent = seen.sent.items; first = seen.first; cause = seen.cause; ignored = seen.ignored }
 
 -- the next item of the octets was taken: it has that many of them
 pub record TakesItem (s : State) (b : List ℕ) (seen : Sight) (t : State) (seen' : Sight) (used : ℕ) : Type 0 where

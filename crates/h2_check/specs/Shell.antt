@@ -2,8 +2,8 @@
 use Rattle.std.specs.Prelude.{ℕ, ◌==◌, ◌&&◌, ◌||◌, not, Bool, true, false, List, [], ◌∷◌, ◌++◌, if◌then◌else◌, Option, Some, None}
 use Rattle.std.specs.Option.{option_and_then}
 use Rattle.std.specs.Str.{is_utf8}
-use Rattle.h2_check.specs.declared.shell.Place.{Place}
-use Rattle.h2_check.specs.declared.shell.Place.TheVariants as place
+use Rattle.h2_check.specs.declared.shell.WordPlace.{WordPlace}
+use Rattle.h2_check.specs.declared.shell.WordPlace.TheVariants as place
 
 -- a blank or a tab, which separates words; a backslash, a single quote, a double quote
 abbrev pub is_blank : ℕ → Bool
@@ -19,7 +19,7 @@ abbrev pub is_double : ℕ → Bool
 is_double c = c == 34
 
 -- where the next octet is, after this one outside quotes
-abbrev pub outside : ℕ → Place
+abbrev pub outside : ℕ → WordPlace
 outside c =
     if is_blank c then place.Between
     else if is_backslash c then place.Escaped
@@ -27,7 +27,7 @@ outside c =
     else if is_double c then place.Double else place.Plain
 
 -- where the next octet is, after this one
-abbrev pub next_place : Place → ℕ → Place
+abbrev pub next_place : WordPlace → ℕ → WordPlace
 next_place place.Between c = outside c
 next_place place.Plain c = outside c
 next_place place.Escaped c = place.Plain
@@ -36,7 +36,7 @@ next_place place.Double c = if is_backslash c then place.DoubleEscaped else if i
 next_place place.DoubleEscaped c = place.Double
 
 -- whether an octet is part of the word, at its place
-abbrev pub is_part : Place → ℕ → Bool
+abbrev pub is_part : WordPlace → ℕ → Bool
 is_part place.Between c = not (is_blank c || is_backslash c || is_single c || is_double c)
 is_part place.Plain c = not (is_blank c || is_backslash c || is_single c || is_double c)
 is_part place.Escaped c = true
@@ -46,7 +46,7 @@ is_part place.DoubleEscaped c = true
 
 -- whether the backslash before it is: between double quotes, before any octet but a backslash, a double quote, `$` and a
 -- backquote
-abbrev pub keeps_backslash : Place → ℕ → Bool
+abbrev pub keeps_backslash : WordPlace → ℕ → Bool
 keeps_backslash place.Between c = false
 keeps_backslash place.Plain c = false
 keeps_backslash place.Escaped c = false
@@ -55,7 +55,7 @@ keeps_backslash place.Double c = false
 keeps_backslash place.DoubleEscaped c = not (is_backslash c || is_double c || c == 36 || c == 96)
 
 -- a word is done where its next place is between two words
-abbrev pub is_between : Place → Bool
+abbrev pub is_between : WordPlace → Bool
 is_between place.Between = true
 is_between place.Plain = false
 is_between place.Escaped = false
@@ -65,7 +65,7 @@ is_between place.DoubleEscaped = false
 
 -- how far a line was read: where its next octet is, what its last word has so far, the words before it
 pub record Reading : Type 0 where
-  pub place : Place
+  pub place : WordPlace
   pub word : List ℕ
   pub words : List (List ℕ)
 
@@ -78,7 +78,7 @@ between None = None
 between (Some words) = Some (record { place = place.Between; word = []; words = words })
 
 -- what an octet adds to the word
-abbrev pub gained : Place → ℕ → List ℕ
+abbrev pub gained : WordPlace → ℕ → List ℕ
 gained p c = (if keeps_backslash p c then 92 ∷ [] else []) ++ (if is_part p c then c ∷ [] else [])
 
 -- the reading after one more octet
@@ -88,7 +88,7 @@ behind_octet r c =
     else Some (record { place = next_place r.place c; word = r.word ++ gained r.place c; words = r.words })
 
 -- the words at the end of a line; none where a quote is open or nothing is after a backslash
-abbrev pub words_ended : Place → (word : List ℕ) → (words : List (List ℕ)) → Option (List (List ℕ))
+abbrev pub words_ended : WordPlace → (word : List ℕ) → (words : List (List ℕ)) → Option (List (List ℕ))
 words_ended place.Between word words = Some words
 words_ended place.Plain word words = with_word words word
 words_ended place.Escaped word words = None

@@ -18,9 +18,13 @@ use Rattle.h2_check.specs.declared.verdict.Verdict.TheVariants as verdict
 abbrev pub place_of : Walk → Place
 place_of w = record { above = w.octets.items; spoken = w.spoken; speaks = w.speaks }
 
+-- each item has an octet at least, and those taken are among the octets
+abbrev pub IsWithin : Walk → Type 0
+IsWithin w = (w.seen.items ≤ w.at) × (w.at ≤ length w.octets.items)
+
 -- the walk and its connection have got as far as the octets of its lines lead
 pub record Walks (start : Start) (w : Walk) (c : Connection) : Type 0 where
-  pub within : w.at ≤ length w.octets.items
+  pub within : IsWithin w
   pub ready : c ≡ going c.state []
   pub state : (parse_all next_event start.state w.octets.items).state ≡ c.state
   pub rest : (parse_all next_event start.state w.octets.items).rest ≡ drop w.at w.octets.items

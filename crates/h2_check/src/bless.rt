@@ -10,7 +10,7 @@ ghost use Rattle.h2_check.specs.Frames.{octets_at};
 ghost use Rattle.h2_check.specs.Lines.{line_said};
 ghost use Rattle.h2_check.specs.Seen.{seen_by};
 ghost use Rattle.h2_check.specs.Tap.{Gains};
-ghost use Rattle.h2_check.specs.Walks.{Keeps, KeepsFrame, KeepsNone, Lets, Tells, Walks, Writes, left_by, place_of};
+ghost use Rattle.h2_check.specs.Walks.{IsWithin, Keeps, KeepsFrame, KeepsNone, Lets, Tells, Walks, Writes, left_by, place_of};
 ghost use Rattle.h2_check.specs.declared.verdict.CaseFault.TheVariants.{BadConfig, NoMemory};
 
 use crate::cases::lines_in;
@@ -201,9 +201,9 @@ impl<'t> Walk<'t> {
     /// The octets of a line of the script, in a case that is written anew.
     fn pass_octets(&mut self, conn: &mut Conn<'_, Global>, more: &[u8]) -> Result<(), AllocError>
         requires ready { conn.old ≡ going conn.old.state [] }
-        requires within { self.old.at ≤ length self.old.octets.items }
+        requires within { IsWithin self.old }
         ensures ready { conn.new ≡ going conn.new.state [] }
-        ensures within { OnOk result (self.new.at ≤ length self.new.octets.items) }
+        ensures within { OnOk result (IsWithin self.new) }
         ensures walks { OnOk result ((start : Start) → Walks start self.old conn.old → Walks start self.new conn.new) }
         ensures place { OnOk result ((start : Start) → Walks start self.old conn.old
             → place_of self.new ≡ played start (place_of self.old) (Some more.now)) }
@@ -223,9 +223,9 @@ impl<'t> Walk<'t> {
         text: &[u8],
     ) -> Result<(), AllocError>
         requires ready { conn.old ≡ going conn.old.state [] }
-        requires within { self.old.at ≤ length self.old.octets.items }
+        requires within { IsWithin self.old }
         ensures ready { conn.new ≡ going conn.new.state [] }
-        ensures within { OnOk result (self.new.at ≤ length self.new.octets.items) }
+        ensures within { OnOk result (IsWithin self.new) }
         ensures walks { OnOk result ((start : Start) → Walks start self.old conn.old → Walks start self.new conn.new) }
         ensures place { OnOk result ((start : Start) → Walks start self.old conn.old
             → place_of self.new ≡ played start (place_of self.old) (octets_at text.now)) }
@@ -383,9 +383,9 @@ impl<'t> Walk<'t> {
         out: &mut Growing,
     ) -> Result<(), AllocError>
         requires ready { conn.old ≡ going conn.old.state [] }
-        requires within { self.old.at ≤ length self.old.octets.items }
+        requires within { IsWithin self.old }
         ensures ready { conn.new ≡ going conn.new.state [] }
-        ensures within { OnOk result (self.new.at ≤ length self.new.octets.items) }
+        ensures within { OnOk result (IsWithin self.new) }
         ensures walks { OnOk result ((start : Start) → Walks start self.old conn.old → Walks start self.new conn.new) }
         ensures text { OnOk result ((start : Start) → Walks start self.old conn.old
             → Writes (kept_line text.now) (played start (place_of self.old) (octets_at text.now)) self.new out.old out.new) }
@@ -404,9 +404,9 @@ impl<'t> Walk<'t> {
         out: &mut Growing,
     ) -> Result<(), AllocError>
         requires ready { conn.old ≡ going conn.old.state [] }
-        requires within { self.old.at ≤ length self.old.octets.items }
+        requires within { IsWithin self.old }
         ensures ready { conn.new ≡ going conn.new.state [] }
-        ensures within { OnOk result (self.new.at ≤ length self.new.octets.items) }
+        ensures within { OnOk result (IsWithin self.new) }
         ensures walks { OnOk result ((start : Start) → Walks start self.old conn.old → Walks start self.new conn.new) }
         ensures text { OnOk result ((start : Start) → Walks start self.old conn.old
             → Writes (renewed_line start (place_of self.old) more line.now (line_said line.now)) (renewed_place start (place_of self.old) more (line_said line.now)) self.new out.old out.new) }
@@ -440,7 +440,7 @@ fn renew(
     out: &mut Growing,
 ) -> Result<(), AllocError>
     requires ready { conn.old ≡ going conn.old.state [] }
-    requires within { walk.old.at ≤ length walk.old.octets.items }
+    requires within { IsWithin walk.old }
     ensures { OnOk result ((start : Start) → Walks start walk.old conn.old
         → Gains (renewed start (place_of walk.old) (map (λ l. l.now) lines.now)) out.old out.new) }
 {
@@ -478,9 +478,9 @@ impl<'t> Walk<'t> {
         out: &mut Growing,
     ) -> Result<(), AllocError>
         requires ready { conn.old ≡ going conn.old.state [] }
-        requires within { self.old.at ≤ length self.old.octets.items }
+        requires within { IsWithin self.old }
         ensures ready { conn.new ≡ going conn.new.state [] }
-        ensures within { OnOk result (self.new.at ≤ length self.new.octets.items) }
+        ensures within { OnOk result (IsWithin self.new) }
         ensures walks { OnOk result ((start : Start) → Walks start self.old conn.old → Walks start self.new conn.new) }
         ensures text { OnOk result ((start : Start) → Walks start self.old conn.old
             → Writes (filled_script start (place_of self.old) (Some more.now)) (filled_place_script start (place_of self.old) (Some more.now)) self.new out.old out.new) }
@@ -504,9 +504,9 @@ impl<'t> Walk<'t> {
         out: &mut Growing,
     ) -> Result<(), AllocError>
         requires ready { conn.old ≡ going conn.old.state [] }
-        requires within { self.old.at ≤ length self.old.octets.items }
+        requires within { IsWithin self.old }
         ensures ready { conn.new ≡ going conn.new.state [] }
-        ensures within { OnOk result (self.new.at ≤ length self.new.octets.items) }
+        ensures within { OnOk result (IsWithin self.new) }
         ensures walks { OnOk result ((start : Start) → Walks start self.old conn.old → Walks start self.new conn.new) }
         ensures text { OnOk result ((start : Start) → Walks start self.old conn.old
             → Writes (filled_script start (place_of self.old) (octets_at text.now)) (filled_place_script start (place_of self.old) (octets_at text.now)) self.new out.old out.new) }
@@ -528,9 +528,9 @@ impl<'t> Walk<'t> {
         out: &mut Growing,
     ) -> Result<(), AllocError>
         requires ready { conn.old ≡ going conn.old.state [] }
-        requires within { self.old.at ≤ length self.old.octets.items }
+        requires within { IsWithin self.old }
         ensures ready { conn.new ≡ going conn.new.state [] }
-        ensures within { OnOk result (self.new.at ≤ length self.new.octets.items) }
+        ensures within { OnOk result (IsWithin self.new) }
         ensures walks { OnOk result ((start : Start) → Walks start self.old conn.old → Walks start self.new conn.new) }
         ensures text { OnOk result ((start : Start) → Walks start self.old conn.old
             → Writes (filled_line start (place_of self.old) (line_said line.now)) (filled_place start (place_of self.old) (line_said line.now)) self.new out.old out.new) }
@@ -558,7 +558,7 @@ fn fill(
     out: &mut Growing,
 ) -> Result<(), AllocError>
     requires ready { conn.old ≡ going conn.old.state [] }
-    requires within { walk.old.at ≤ length walk.old.octets.items }
+    requires within { IsWithin walk.old }
     ensures { OnOk result ((start : Start) → Walks start walk.old conn.old
         → Gains (filled start (place_of walk.old) (map (λ l. l.now) lines.now)) out.old out.new) }
 {
@@ -581,7 +581,7 @@ fn write_anew(
     out: &mut Growing,
 ) -> Result<(), AllocError>
     requires ready { conn.old ≡ going conn.old.state [] }
-    requires within { walk.old.at ≤ length walk.old.octets.items }
+    requires within { IsWithin walk.old }
     ensures { OnOk result ((start : Start) → Walks start walk.old conn.old
         → Gains (blessed_at start (place_of walk.old) (map (λ l. l.now) lines.now)) out.old out.new) }
 {
@@ -599,7 +599,7 @@ fn bless_on(
     lines: &[&[u8]],
 ) -> Result<Vec<u8>, AllocError>
     requires ready { conn.old ≡ going conn.old.state [] }
-    ensures text { let start : Start = record { state = conn.old.state; sent = sent.items } in
+    ensures text { let start : Start = record { state = conn.old.state; sent = sent.items; texts = [] } in
         IfOk result (λ text. text.items ≡ blessed_at start first_place (map (λ l. l.now) lines.now)) }
 {
     let mut walk = Walk::new(alloc, sent);

@@ -7,6 +7,7 @@ mod bless;
 mod case_words;
 mod cases;
 mod growing;
+mod item_texts;
 mod line;
 mod pattern;
 mod run;

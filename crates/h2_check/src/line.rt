@@ -21,7 +21,7 @@ pub enum Line<'t> {
     Cause(&'t [u8]),
     /// `;? REASON`: why the item before is ignored.
     Reason(&'t [u8]),
-    /// `;> LINE`: a line of `explain`, which is not looked at yet.
+    /// `;> LINE`: a line of `explain`.
     Explained(&'t [u8]),
     /// `;& COMMAND`: a command of `debug`, which is not obeyed yet.
     Command(&'t [u8]),

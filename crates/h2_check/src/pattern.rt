@@ -1,7 +1,7 @@
 //! Lines of a text that are expected, and how a line differs from what was expected. Definitions: `specs/Texts.antt`.
 
 ghost use Rattle.std.specs.Prelude.{◌≡◌, ◌<◌, ◌≤◌, length};
-ghost use Rattle.h2_check.specs.Texts.{fits, has_line, shows};
+ghost use Rattle.h2_check.specs.Texts.{explains, fits, has_indented, has_line, shows, without_indent};
 
 use std::cmp::min;
 
@@ -33,6 +33,34 @@ pub(crate) fn shows(text: &[u8], expected: &[u8]) -> bool
     }
 }
 
+/// A line of `explain` without its indent.
+fn without_indent(line: &[u8]) -> &[u8]
+    ensures { result.now ≡ without_indent line.now }
+{
+    match line.strip_prefix(b"        ".as_slice()) {
+        Some(rest) => rest,
+        None => line,
+    }
+}
+
+/// Whether a text of `explain` has the line that is expected, apart from its indent.
+fn has_indented(text: &[u8], expected: &[u8]) -> bool
+    ensures { result ≡ has_indented text.now expected.now }
+{
+    text.split(|octet| *octet == b'\n')
+        .any(|line| fits(expected, without_indent(line)))
+}
+
+/// Whether a text of `explain` has the line that is expected, or has not the line after `! `.
+pub(crate) fn explains(text: &[u8], expected: &[u8]) -> bool
+    ensures { result ≡ explains text.now expected.now }
+{
+    match expected.strip_prefix(b"! ".as_slice()) {
+        Some(line) => !has_indented(text, line),
+        None => has_indented(text, expected),
+    }
+}
+
 /// How many first octets two texts share.
 pub(crate) fn shared(one: &[u8], other: &[u8]) -> usize {
     let most = min(one.len(), other.len());
@@ -44,12 +72,13 @@ pub(crate) fn shared(one: &[u8], other: &[u8]) -> usize {
     most
 }
 
-/// The line of a text that agrees with the one that is expected for longest, the first of these; empty where none
-/// agrees in its first octet.
+/// The line of a text, without an indent of `explain`, that agrees with the one that is expected for longest, the first of
+/// these; empty where none agrees in its first octet.
 pub(crate) fn closest<'t>(text: &'t [u8], expected: &[u8]) -> &'t [u8] {
     let mut best: &'t [u8] = &[];
     let mut most = 0;
-    for line in text.split(|octet| *octet == b'\n') {
+    for indented in text.split(|octet| *octet == b'\n') {
+        let line = without_indent(indented);
         let agreed = shared(line, expected);
         if agreed > most {
             most = agreed;

@@ -15,6 +15,8 @@ use std::alloc::{AllocError, Global};
 /// What is seen of the items that were taken.
 #[derive(Drop)]
 pub(crate) struct Seen {
+    /// How many there were.
+    pub items: usize,
     /// The octets that were sent, the opening SETTINGS first.
     pub sent: Vec<u8>,
     /// Why the first error was one, if there was an error.
@@ -44,11 +46,13 @@ fn take_item(
     seen: &mut Seen,
 ) -> Result<Option<usize>, AllocError>
     requires ready { conn.old ≡ going conn.old.state [] }
+    requires few { seen.old.items < 2 ^ 63 }
     ensures ready { conn.new ≡ going conn.new.state [] }
     ensures takes { IfOk result (λ used. TakesNext conn.old.state octets.now (seen_by seen.old) conn.new.state (seen_by seen.new) used) }
 {
     match conn.take_and_report(octets, &mut seen.sent) {
         Ok(Some(taken)) => {
+            seen.items += 1;
             seen.first = cause_or(seen.first, taken.cause);
             seen.cause = taken.cause;
             seen.ignored = taken.ignored;
@@ -69,8 +73,10 @@ pub(crate) fn take_items(
     seen: &mut Seen,
 ) -> Result<usize, AllocError>
     requires ready { conn.old ≡ going conn.old.state [] }
+    requires few { seen.old.items ≤ start }
     requires within { start ≤ length octets.now }
     ensures ready { conn.new ≡ going conn.new.state [] }
+    ensures few { IfOk result (λ at. seen.new.items ≤ at) }
     ensures within { IfOk result (λ at. at ≤ length octets.now) }
     ensures state { IfOk result (λ at. (parse_all next_event conn.old.state (drop start octets.now)).state ≡ conn.new.state) }
     ensures rest { IfOk result (λ at. (parse_all next_event conn.old.state (drop start octets.now)).rest ≡ drop at octets.now) }

@@ -19,7 +19,7 @@ pub enum ShellFault {
 
 /// Where in a word an octet is.
 #[derive(Clone, Copy)]
-pub(crate) enum Place {
+pub(crate) enum WordPlace {
     /// Between two words.
     Between,
     /// In a word, outside quotes.
@@ -35,93 +35,100 @@ pub(crate) enum Place {
 }
 
 /// Where the next octet is, after this one outside quotes; a blank ends a word.
-fn outside(octet: u8) -> Place
+fn outside(octet: u8) -> WordPlace
     ensures { result ≡ outside octet }
 {
     if octet == b' ' || octet == b'\t' {
-        Place::Between
+        WordPlace::Between
     } else if octet == b'\\' {
-        Place::Escaped
+        WordPlace::Escaped
     } else if octet == b'\'' {
-        Place::Single
+        WordPlace::Single
     } else if octet == b'"' {
-        Place::Double
+        WordPlace::Double
     } else {
-        Place::Plain
+        WordPlace::Plain
     }
 }
 
 /// Where the next octet is, after this one between double quotes.
-fn between_doubles(octet: u8) -> Place
-    ensures { result ≡ next_place Place.Double octet }
+fn between_doubles(octet: u8) -> WordPlace
+    ensures { result ≡ next_place WordPlace.Double octet }
 {
     if octet == b'\\' {
-        Place::DoubleEscaped
+        WordPlace::DoubleEscaped
     } else if octet == b'"' {
-        Place::Plain
+        WordPlace::Plain
     } else {
-        Place::Double
+        WordPlace::Double
     }
 }
 
 /// Where the next octet is, after this one.
-fn next_place(place: Place, octet: u8) -> Place
+fn next_place(place: WordPlace, octet: u8) -> WordPlace
     ensures { result ≡ next_place place octet }
 {
     match place {
-        Place::Between | Place::Plain => outside(octet),
-        Place::Escaped => Place::Plain,
-        Place::Single => {
+        WordPlace::Between | WordPlace::Plain => outside(octet),
+        WordPlace::Escaped => WordPlace::Plain,
+        WordPlace::Single => {
             if octet == b'\'' {
-                Place::Plain
+                WordPlace::Plain
             } else {
-                Place::Single
+                WordPlace::Single
             }
         }
-        Place::Double => between_doubles(octet),
-        Place::DoubleEscaped => Place::Double,
+        WordPlace::Double => between_doubles(octet),
+        WordPlace::DoubleEscaped => WordPlace::Double,
     }
 }
 
 /// Whether an octet is part of the word.
-fn is_part(place: Place, octet: u8) -> bool
+fn is_part(place: WordPlace, octet: u8) -> bool
     ensures { result ≡ is_part place octet }
 {
     match place {
-        Place::Between | Place::Plain => {
+        WordPlace::Between | WordPlace::Plain => {
             !(octet == b' ' || octet == b'\t' || octet == b'\\' || octet == b'\'' || octet == b'"')
         }
-        Place::Escaped | Place::DoubleEscaped => true,
-        Place::Single => octet != b'\'',
-        Place::Double => !(octet == b'\\' || octet == b'"'),
+        WordPlace::Escaped | WordPlace::DoubleEscaped => true,
+        WordPlace::Single => octet != b'\'',
+        WordPlace::Double => !(octet == b'\\' || octet == b'"'),
     }
 }
 
 /// Whether the backslash before an octet is part of the word: between double quotes, before any but these.
-fn keeps_backslash(place: Place, octet: u8) -> bool
+fn keeps_backslash(place: WordPlace, octet: u8) -> bool
     ensures { result ≡ keeps_backslash place octet }
 {
     match place {
-        Place::DoubleEscaped => {
+        WordPlace::DoubleEscaped => {
             !(octet == b'\\' || octet == b'"' || octet == b'$' || octet == b'`')
         }
-        Place::Between | Place::Plain | Place::Escaped | Place::Single | Place::Double => false,
+        WordPlace::Between
+        | WordPlace::Plain
+        | WordPlace::Escaped
+        | WordPlace::Single
+        | WordPlace::Double => false,
     }
 }
 
 /// Whether a place is between two words.
-fn is_between(place: Place) -> bool
+fn is_between(place: WordPlace) -> bool
     ensures { result ≡ is_between place }
 {
     match place {
-        Place::Between => true,
-        Place::Plain | Place::Escaped | Place::Single | Place::Double | Place::DoubleEscaped =>
-            false,
+        WordPlace::Between => true,
+        WordPlace::Plain
+        | WordPlace::Escaped
+        | WordPlace::Single
+        | WordPlace::Double
+        | WordPlace::DoubleEscaped => false,
     }
 }
 
 /// Appends what an octet adds to a word.
-fn add_octet(word: &mut Vec<u8>, place: Place, octet: u8) -> Result<(), AllocError>
+fn add_octet(word: &mut Vec<u8>, place: WordPlace, octet: u8) -> Result<(), AllocError>
     ensures { OnOk result (word.new.items ≡ word.old.items ++ gained place octet) }
 {
     if keeps_backslash(place, octet) {
@@ -151,9 +158,9 @@ fn add_word(words: &mut Words, word: &[u8]) -> Result<(), ShellFault>
 fn take_octet(
     words: &mut Words,
     word: &mut Vec<u8>,
-    place: Place,
+    place: WordPlace,
     octet: u8,
-) -> Result<Place, ShellFault>
+) -> Result<WordPlace, ShellFault>
     ensures ok { IfOk result (λ next. behind_octet (record { place = place; word = word.old.items; words = words.old }) octet
         ≡ Some (record { place = next; word = word.new.items; words = words.new })) }
     ensures err { IfErr result (λ fault. (fault ≡ NoMemory)
@@ -176,14 +183,14 @@ fn take_octet(
 }
 
 /// Puts the last word of a line after the others, where the line ends in one.
-fn add_last(words: &mut Words, place: Place, word: &[u8]) -> Result<(), ShellFault>
+fn add_last(words: &mut Words, place: WordPlace, word: &[u8]) -> Result<(), ShellFault>
     ensures ok { OnOk result (words_ended place word.now words.old ≡ Some words.new) }
     ensures err { IfErr result (λ fault. (fault ≡ NoMemory) ⊎ (words_ended place word.now words.old ≡ None)) }
 {
     match place {
-        Place::Between => Ok(()),
-        Place::Plain => add_word(words, word),
-        Place::Escaped | Place::Single | Place::Double | Place::DoubleEscaped => {
+        WordPlace::Between => Ok(()),
+        WordPlace::Plain => add_word(words, word),
+        WordPlace::Escaped | WordPlace::Single | WordPlace::Double | WordPlace::DoubleEscaped => {
             Err(ShellFault::Open)
         }
     }
@@ -202,7 +209,7 @@ pub fn add_words(alloc: Global, line: &[u8], words: &mut Words) -> Result<(), Sh
     ensures ok { OnOk result (with_words words.old line.now ≡ Some words.new) }
     ensures err { IfErr result (λ fault. (fault ≡ NoMemory) ⊎ (with_words words.old line.now ≡ None)) }
 {
-    let mut place = Place::Between;
+    let mut place = WordPlace::Between;
     let mut word = Vec::new(alloc);
     for octet in line {
         match take_octet(words, &mut word, place, *octet) {

@@ -1,14 +1,15 @@
 //! The verdict on a case. Definitions: `specs/Cases.antt`.
 
-ghost use Rattle.std.specs.Prelude.{◌≡◌, ◌⊎◌, [], map, IfOk, IfErr, OnOk, false, true};
+ghost use Rattle.std.specs.Prelude.{◌≡◌, ◌⊎◌, [], map, string_bytes, IfOk, IfErr, OnOk, false, true};
 ghost use Rattle.h2_conn.specs.Connection.{going};
 ghost use Rattle.h2_spec.specs.State.{is_allowed};
-ghost use Rattle.h2_check.specs.Cases.{Start, all_hold, first_place, outcome, outcome_of};
+ghost use Rattle.h2_check.specs.Cases.{IsOutcome, Start, all_hold, first_place, outcome, outcome_of};
 ghost use Rattle.h2_check.specs.Files.{expect_something};
 ghost use Rattle.h2_check.specs.Lines.{line_said};
 ghost use Rattle.h2_check.specs.Walks.{outcome_by};
 ghost use Rattle.h2_check.specs.declared.verdict.CaseFault.TheVariants.{BadConfig, NoMemory};
 
+use crate::item_texts::item_texts;
 use crate::walk::{Walk, check_lines};
 use h2_conn::{Conn, ConnFault};
 use h2_request::book::Book;
@@ -46,23 +47,45 @@ pub enum CaseFault {
     NoMemory,
 }
 
-/// The verdict on a case whose connection is new.
+/// The verdict on a case whose connection is new, and of whose items these are the texts.
 fn check_on<'t>(
     alloc: Global,
     conn: &mut Conn<'_, Global>,
     sent: Vec<u8>,
+    texts: &[String],
     lines: &[&'t [u8]],
     number: usize,
 ) -> Result<Verdict<'t>, CaseFault>
     requires ready { conn.old ≡ going conn.old.state [] }
-    ensures verdict { let start : Start = record { state = conn.old.state; sent = sent.items } in
+    ensures verdict { let start : Start = record { state = conn.old.state; sent = sent.items; texts = map string_bytes texts.now } in
         IfOk result (λ verdict. outcome_by verdict
         ≡ outcome (all_hold start first_place (map line_said (map (λ l. l.now) lines.now))) (expect_something (map (λ l. l.now) lines.now))) }
     ensures fault { IfErr result (λ fault. fault ≡ NoMemory) }
 {
     let mut walk = Walk::new(alloc, sent);
-    match check_lines(alloc, conn, lines, number, &mut walk) {
+    match check_lines(alloc, conn, texts, lines, number, &mut walk) {
         Ok(()) => Ok(walk.into_verdict(lines)),
+        Err(_) => Err(CaseFault::NoMemory),
+    }
+}
+
+/// The verdict on a case of whose items these are the texts.
+fn check_with<'t>(
+    alloc: Global,
+    book: &Book<Global>,
+    config: Config,
+    texts: &[String],
+    lines: &[&'t [u8]],
+    number: usize,
+) -> Result<Verdict<'t>, CaseFault>
+    ensures verdict { IfOk result (λ verdict. outcome_by verdict ≡ outcome_of book.now config (map string_bytes texts.now) (map (λ l. l.now) lines.now)) }
+    ensures allowed { OnOk result (is_allowed config ≡ true) }
+    ensures fault { IfErr result (λ fault. (fault ≡ NoMemory) ⊎ ((fault ≡ BadConfig) × (is_allowed config ≡ false))) }
+{
+    let mut sent = Vec::new(alloc);
+    match Conn::new(book, config, &mut sent) {
+        Ok(mut conn) => check_on(alloc, &mut conn, sent, texts, lines, number),
+        Err(ConnFault::BadConfig) => Err(CaseFault::BadConfig),
         Err(_) => Err(CaseFault::NoMemory),
     }
 }
@@ -80,14 +103,12 @@ pub fn check_case<'t>(
     lines: &[&'t [u8]],
     number: usize,
 ) -> Result<Verdict<'t>, CaseFault>
-    ensures verdict { IfOk result (λ verdict. outcome_by verdict ≡ outcome_of book.now config (map (λ l. l.now) lines.now)) }
+    ensures verdict { IfOk result (λ verdict. IsOutcome book.now config (map (λ l. l.now) lines.now) (outcome_by verdict)) }
     ensures allowed { OnOk result (is_allowed config ≡ true) }
     ensures fault { IfErr result (λ fault. (fault ≡ NoMemory) ⊎ ((fault ≡ BadConfig) × (is_allowed config ≡ false))) }
 {
-    let mut sent = Vec::new(alloc);
-    match Conn::new(book, config, &mut sent) {
-        Ok(mut conn) => check_on(alloc, &mut conn, sent, lines, number),
-        Err(ConnFault::BadConfig) => Err(CaseFault::BadConfig),
-        Err(_) => Err(CaseFault::NoMemory),
+    match item_texts(alloc, book, config, lines) {
+        Ok(texts) => check_with(alloc, book, config, texts.as_slice(), lines, number),
+        Err(fault) => Err(fault),
     }
 }

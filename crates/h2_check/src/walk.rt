@@ -1,7 +1,7 @@
 //! The lines of a case, one after another: those of the script are played, and the others are compared with what is
 //! seen of the run so far. Definitions: `specs/Cases.antt`, `specs/Walks.antt`.
 
-ghost use Rattle.std.specs.Prelude.{◌≡◌, ◌≤◌, ◌<◌, ◌^◌, ◌++◌, ◌&&◌, Bool, true, false, List, [], ℕ, length, drop, map, OnOk, IfOk};
+ghost use Rattle.std.specs.Prelude.{◌≡◌, ◌≤◌, ◌<◌, ◌^◌, ◌++◌, ◌&&◌, Bool, true, false, List, [], ℕ, length, drop, map, string_bytes, OnOk, IfOk};
 ghost use Rattle.h2_conn.specs.Connection.{going};
 ghost use Rattle.h2_spec.specs.Assemble.{statement_at};
 ghost use Rattle.h2_spec.specs.Show.{show};
@@ -9,14 +9,16 @@ ghost use Rattle.h2_spec.specs.View.{view};
 ghost use Rattle.h2_check.specs.Cases.{Start, all_hold, cause_text, closes, errs, ignores, outcome, passed, plays, played, reason_text};
 ghost use Rattle.h2_check.specs.Files.{expect_something};
 ghost use Rattle.h2_check.specs.Frames.{is_next, is_none, octets_at, sends, spoken_by};
+ghost use Rattle.h2_check.specs.ItemTexts.{text_before};
 ghost use Rattle.h2_check.specs.Lines.{line_said, said_by, Said};
 ghost use Rattle.h2_check.specs.Seen.{no_item, seen_by};
-ghost use Rattle.h2_check.specs.Texts.{shows};
-ghost use Rattle.h2_check.specs.Walks.{Closes, Compares, Finds, Goes, Passes, Speaks, Walks, outcome_by, place_of};
+ghost use Rattle.h2_check.specs.Texts.{explains, shows};
+ghost use Rattle.h2_check.specs.Walks.{Closes, Compares, Finds, Goes, IsWithin, Passes, Speaks, Walks, outcome_by, place_of};
 
 use crate::cases::expect_something;
+use crate::item_texts::text_before;
 use crate::line::{Line, line_of};
-use crate::pattern::{closest, shows};
+use crate::pattern::{closest, explains, shows};
 use crate::run::{Seen, take_items};
 use crate::verdict::{Verdict, Wrong};
 use h2_conn::Conn;
@@ -140,6 +142,7 @@ impl<'t> Walk<'t> {
             octets: Vec::new(alloc),
             at: 0,
             seen: Seen {
+                items: 0,
                 sent,
                 first: None,
                 cause: None,
@@ -269,9 +272,9 @@ impl<'t> Walk<'t> {
         more: &[u8],
     ) -> Result<(), AllocError>
         requires ready { conn.old ≡ going conn.old.state [] }
-        requires within { self.old.at ≤ length self.old.octets.items }
+        requires within { IsWithin self.old }
         ensures ready { conn.new ≡ going conn.new.state [] }
-        ensures within { OnOk result (self.new.at ≤ length self.new.octets.items) }
+        ensures within { OnOk result (IsWithin self.new) }
         ensures walks { OnOk result ((start : Start) → Walks start self.old conn.old → Walks start self.new conn.new) }
         ensures octets { OnOk result (self.new.octets.items ≡ self.old.octets.items ++ more.now) }
         ensures place { (self.new.spoken ≡ self.old.spoken) × (self.new.speaks ≡ self.old.speaks) }
@@ -290,9 +293,9 @@ impl<'t> Walk<'t> {
         more: &[u8],
     ) -> Result<(), AllocError>
         requires ready { conn.old ≡ going conn.old.state [] }
-        requires within { self.old.at ≤ length self.old.octets.items }
+        requires within { IsWithin self.old }
         ensures ready { conn.new ≡ going conn.new.state [] }
-        ensures within { OnOk result (self.new.at ≤ length self.new.octets.items) }
+        ensures within { OnOk result (IsWithin self.new) }
         ensures walks { OnOk result ((start : Start) → Walks start self.old conn.old → Walks start self.new conn.new) }
         ensures goes { OnOk result ((start : Start) → Walks start self.old conn.old
             → Goes (plays start (place_of self.old) (Some more.now)) (played start (place_of self.old) (Some more.now)) self.old self.new) }
@@ -315,9 +318,9 @@ impl<'t> Walk<'t> {
         text: &'t [u8],
     ) -> Result<(), AllocError>
         requires ready { conn.old ≡ going conn.old.state [] }
-        requires within { self.old.at ≤ length self.old.octets.items }
+        requires within { IsWithin self.old }
         ensures ready { conn.new ≡ going conn.new.state [] }
-        ensures within { OnOk result (self.new.at ≤ length self.new.octets.items) }
+        ensures within { OnOk result (IsWithin self.new) }
         ensures walks { OnOk result ((start : Start) → Walks start self.old conn.old → Walks start self.new conn.new) }
         ensures goes { OnOk result ((start : Start) → Walks start self.old conn.old
             → Goes (plays start (place_of self.old) (octets_at text.now)) (played start (place_of self.old) (octets_at text.now)) self.old self.new) }
@@ -448,20 +451,37 @@ impl<'t> Walk<'t> {
         self.find(alloc, text == found, number, text, found)
     }
 
+    /// A line of `explain` for the item before, or `! ` and one that is not there.
+    fn expect_explained(
+        &mut self,
+        alloc: Global,
+        texts: &[String],
+        number: usize,
+        text: &'t [u8],
+    ) -> Result<(), AllocError>
+        ensures { OnOk result (Finds (explains (text_before (map string_bytes texts.now) self.old.seen.items) text.now) self.old self.new) }
+    {
+        let said = text_before(texts, self.seen.items).as_bytes();
+        let found = closest(said, line_in(text));
+        self.find(alloc, explains(said, text), number, text, found)
+    }
+
     /// A line of the case, with its number in the file.
     fn take_line(
         &mut self,
         alloc: Global,
         conn: &mut Conn<'_, Global>,
+        texts: &[String],
         number: usize,
         line: &'t [u8],
     ) -> Result<(), AllocError>
         requires ready { conn.old ≡ going conn.old.state [] }
-        requires within { self.old.at ≤ length self.old.octets.items }
+        requires within { IsWithin self.old }
         ensures ready { conn.new ≡ going conn.new.state [] }
-        ensures within { OnOk result (self.new.at ≤ length self.new.octets.items) }
+        ensures within { OnOk result (IsWithin self.new) }
         ensures walks { OnOk result ((start : Start) → Walks start self.old conn.old → Walks start self.new conn.new) }
-        ensures goes { OnOk result ((start : Start) → Walks start self.old conn.old → Passes start (line_said line.now) self.old self.new) }
+        ensures goes { OnOk result ((start : Start) → start.texts ≡ map string_bytes texts.now → Walks start self.old conn.old
+            → Passes start (line_said line.now) self.old self.new) }
     {
         match line_of(line) {
             Line::Script(text) => self.play(alloc, conn, number, text),
@@ -470,10 +490,7 @@ impl<'t> Walk<'t> {
             Line::Shown(text) => self.expect_shown(alloc, conn, number, text),
             Line::Cause(text) => self.expect_cause(alloc, number, text),
             Line::Reason(text) => self.expect_reason(alloc, number, text),
-            Line::Explained(text) => {
-                let found = b"lines `;> ` are not compared by this version";
-                self.find(alloc, false, number, text, found)
-            }
+            Line::Explained(text) => self.expect_explained(alloc, texts, number, text),
             Line::Command(text) => {
                 let found = b"lines `;& ` are not obeyed by this version";
                 self.find(alloc, false, number, text, found)
@@ -482,7 +499,7 @@ impl<'t> Walk<'t> {
     }
 }
 
-/// The line of the state that a line speaks of.
+/// The line of the state, or of `explain`, that a line speaks of.
 fn line_in(text: &[u8]) -> &[u8] {
     match text.strip_prefix(b"! ".as_slice()) {
         Some(line) => line,
@@ -490,23 +507,25 @@ fn line_in(text: &[u8]) -> &[u8] {
     }
 }
 
-/// Goes over the lines of a case, the first of which has this number in the file.
+/// Goes over the lines of a case, the first of which has this number in the file, and of whose items these are the
+/// texts.
 ///
 /// `AllocError` where memory is refused.
 pub(crate) fn check_lines<'t>(
     alloc: Global,
     conn: &mut Conn<'_, Global>,
+    texts: &[String],
     lines: &[&'t [u8]],
     number: usize,
     walk: &mut Walk<'t>,
 ) -> Result<(), AllocError>
     requires ready { conn.old ≡ going conn.old.state [] }
-    requires within { walk.old.at ≤ length walk.old.octets.items }
-    ensures { OnOk result ((start : Start) → Walks start walk.old conn.old
+    requires within { IsWithin walk.old }
+    ensures { OnOk result ((start : Start) → start.texts ≡ map string_bytes texts.now → Walks start walk.old conn.old
         → walk.new.holds ≡ (walk.old.holds && all_hold start (place_of walk.old) (map (λ l. line_said l.now) lines.now))) }
 {
     for (place, line) in lines.iter().enumerate() {
-        match walk.take_line(alloc, conn, number.saturating_add(place), line) {
+        match walk.take_line(alloc, conn, texts, number.saturating_add(place), line) {
             Ok(()) => {}
             Err(error) => return Err(error),
         }

@@ -10,7 +10,7 @@ use Rattle.h2_spec.specs.declared.connection.Phase.{Phase}
 use Rattle.h2_spec.specs.declared.connection.Phase.TheVariants.{Preface, Settings, Running, Ended}
 use Rattle.h2_explain.specs.Explains.{IsExplanation, IsSummary, not_written}
 use Rattle.h2_explain.specs.Verdicts.{IsVerdict, strict_status}
-use Rattle.h2_explain.specs.declared.verdict.Verdict.{Verdict}
+use Rattle.h2_explain.specs.declared.verdict.ClientVerdict.{ClientVerdict}
 use Rattle.h2_explain.specs.declared.run.Form.{Form}
 use Rattle.h2_explain.specs.declared.run.Summary.{Summary}
 use Rattle.h2_explain.specs.declared.run.ExplainFault.{ExplainFault}
@@ -19,7 +19,7 @@ use Rattle.h2_commands.specs.ExplainProgram.{IsStatus, ReportsFile, ReportsIfSho
 use Rattle.h2_commands.specs.Input.{IsUnread, most}
 use Rattle.h2_commands.specs.Limits.{limits_fault}
 use Rattle.h2_commands.specs.Printing.{Printed, failed_as}
-use Rattle.h2_commands.specs.declared.explain.Outcome.{Outcome}
+use Rattle.h2_commands.specs.declared.explain.ExplainOutcome.{ExplainOutcome}
 use Rattle.h2_commands.specs.declared.fault.BenchFault.{BenchFault}
 use Rattle.h2_commands.specs.declared.fault.BenchFault.TheVariants.{NoMemory, Read}
 
@@ -40,10 +40,10 @@ over-at Settings = refl
 over-at Running = refl
 over-at (Ended code) = refl
 
-abbrev pub outcome : (strict ended : Bool) → Verdict → Outcome
+abbrev pub outcome : (strict ended : Bool) → ClientVerdict → ExplainOutcome
 outcome strict ended v = record { strict = strict; ended = ended; verdict = v }
 
-status-is : (strict ended : Bool) (s : State) (octets : List ℕ) (v : Verdict) → IsVerdict s octets v → ended ≡ is_some (option_map code_number (ended_code (trace s octets).state.core.phase))
+status-is : (strict ended : Bool) (s : State) (octets : List ℕ) (v : ClientVerdict) → IsVerdict s octets v → ended ≡ is_some (option_map code_number (ended_code (trace s octets).state.core.phase))
     → IsStatus strict s octets (outcome_status (outcome strict ended v))
 status-is true ended s octets v said is = (v, said, ap (λ (b : Bool). strict_status v b) (is ∙ over-at (trace s octets).state.core.phase))
 status-is false ended s octets v said is = ap plain_status is ∙ status-at (trace s octets).state.core.phase

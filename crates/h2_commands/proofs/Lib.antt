@@ -1,7 +1,9 @@
 pub mod Assembled
+pub mod Checked
 pub mod Explained
 pub mod Inputs
 pub mod Played
 pub mod RefusedWords
+pub mod Setups
 pub mod Tables
 pub mod Written

@@ -13,8 +13,8 @@ use Rattle.h2_spec.proofs.ParseLaws.{Uses, parse_all-step}
 use Rattle.h2_commands.specs.Each.{not_written, printed_after}
 use Rattle.h2_commands.specs.Printing.{OrCutShort, Printed, failed_after}
 use Rattle.h2_commands.specs.TableProgram.{behind_line, command_of, first_line, line_at, line_end, lines_of, obeyed, printed_lines, printed_of, printed_parts, table_parts, table_text, used_to}
-use Rattle.h2_commands.specs.declared.each.PlacesFault.{PlacesFault}
-use Rattle.h2_commands.specs.declared.each.PlacesFault.TheVariants.{Fault, NotWritten}
+use Rattle.h2_commands.specs.declared.each.PrintFault.{PrintFault}
+use Rattle.h2_commands.specs.declared.each.PrintFault.TheVariants.{Fault, NotWritten}
 use Rattle.h2_commands.specs.declared.fault.BenchFault.TheVariants.{NoMemory}
 use Rattle.h2_commands.proofs.Written.{more-written}
 
@@ -101,15 +101,15 @@ wrote-all all t text held before after none a w =
     more-written held (concat w.parts) entries (concat all) before after w.written a row
 
 -- memory was refused after some parts
-pub wrote-some : (all : List (List ℕ)) (printed : Printed) (t : LimitedTable) (text held : List ℕ) (before after : Option (List ℕ)) (why : PlacesFault) → not_written (Err why) ≡ false
+pub wrote-some : (all : List (List ℕ)) (printed : Printed) (t : LimitedTable) (text held : List ℕ) (before after : Option (List ℕ)) (why : PrintFault) → not_written (Err why) ≡ false
     → (why ≡ NotWritten) ⊎ ((why ≡ Fault NoMemory) × (after ≡ before)) → Wrote all t text held before
     → (x : List ℕ) × (after ≡ Some (held ++ x)) × OrCutShort all printed (printed_after x (Err why))
 wrote-some all printed t text held before after why well (inl e) w =
-    let broken : not_written (Err why) ≡ true = ap (λ (f : PlacesFault). not_written (Err f)) e in
+    let broken : not_written (Err why) ≡ true = ap (λ (f : PrintFault). not_written (Err f)) e in
     cc
 wrote-some all printed t text held before after why well (inr e) w =
     let some : take (length w.parts) all ≡ w.parts = ap (take (length w.parts)) (sym w.left) ∙ take-append_seam w.parts (printed_parts t (lines_of text)) in (
       concat w.parts,
       e.1 ∙ w.written,
-      inr (length w.parts, ap (λ (f : PlacesFault). printed_after (concat w.parts) (Err f)) e.0 ∙ ap (λ (ps : List (List ℕ)). failed_after (concat ps) NoMemory) (sym some)),
+      inr (length w.parts, ap (λ (f : PrintFault). printed_after (concat w.parts) (Err f)) e.0 ∙ ap (λ (ps : List (List ℕ)). failed_after (concat ps) NoMemory) (sym some)),
     )

@@ -6,8 +6,8 @@ use Rattle.std.proofs.lemmas.List.{append-nil}
 use Rattle.h2_commands.specs.Reports.{Gives, seen}
 use Rattle.h2_commands.specs.Each.{printed_after}
 use Rattle.h2_commands.specs.Printing.{OrCutShort, Printed, done, failed}
-use Rattle.h2_commands.specs.declared.each.PlacesFault.{PlacesFault}
-use Rattle.h2_commands.specs.declared.each.PlacesFault.TheVariants.{Fault}
+use Rattle.h2_commands.specs.declared.each.PrintFault.{PrintFault}
+use Rattle.h2_commands.specs.declared.each.PrintFault.TheVariants.{Fault}
 use Rattle.h2_commands.specs.declared.fault.BenchFault.{BenchFault}
 use Rattle.h2_commands.specs.declared.fault.BenchFault.TheVariants.{NoMemory}
 use Rattle.h2_commands.specs.declared.report.Report.{Report}
@@ -40,13 +40,13 @@ pub some-places : (ps : List (List ℕ)) (held : List ℕ) (after : Option (List
 some-places ps held after x = (concat (take x.0 ps), x.1, inr (x.0, refl))
 
 -- a text was written whole where no write failed
-pub written-whole : (r : Result (Unit {0}) PlacesFault) (text held : List ℕ) (before after : Option (List ℕ)) (broken : Bool) → broken ≡ is_err r → broken ≡ false → OnOk r (Appends before after text) → before ≡ Some held
+pub written-whole : (r : Result (Unit {0}) PrintFault) (text held : List ℕ) (before after : Option (List ℕ)) (broken : Bool) → broken ≡ is_err r → broken ≡ false → OnOk r (Appends before after text) → before ≡ Some held
     → (t : List ℕ) × (after ≡ Some (held ++ t)) × (printed_after t r ≡ done text)
 written-whole (Ok u) text held before after broken flag well o is = (text, appended held text before after is o, refl)
 written-whole (Err why) text held before after broken flag well o is = cc
 
 -- the last of some parts was written whole where no write failed
-pub whole-parts : {A : Type 0} → (r : Result (Unit {0}) PlacesFault) (ps : List (List ℕ)) (held : List ℕ) (after : Option (List ℕ)) (broken : Bool) → broken ≡ is_err r → broken ≡ false
+pub whole-parts : {A : Type 0} → (r : Result (Unit {0}) PrintFault) (ps : List (List ℕ)) (held : List ℕ) (after : Option (List ℕ)) (broken : Bool) → broken ≡ is_err r → broken ≡ false
     → (A → after ≡ Some (held ++ concat ps)) → OnOk r A → (t : List ℕ) × (after ≡ Some (held ++ t)) × OrCutShort ps (done (concat ps)) (printed_after t r)
 whole-parts (Ok u) ps held after broken flag well whole o = (concat ps, whole o, inl refl)
 whole-parts (Err why) ps held after broken flag well whole o = cc

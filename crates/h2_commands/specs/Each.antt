@@ -5,23 +5,23 @@ use Rattle.h2_spec.specs.State.{State}
 use Rattle.h2_spec.specs.View.{view}
 use Rattle.h2_commands.specs.Printing.{OrCutShort, Printed, done, failed_after}
 use Rattle.h2_commands.specs.Printed.{item_text, places_from, sent_and_state}
-use Rattle.h2_commands.specs.declared.each.PlacesFault.{PlacesFault}
-use Rattle.h2_commands.specs.declared.each.PlacesFault.TheVariants.{Fault, NotWritten}
+use Rattle.h2_commands.specs.declared.each.PrintFault.{PrintFault}
+use Rattle.h2_commands.specs.declared.each.PrintFault.TheVariants.{Fault, NotWritten}
 
 -- whether a write failed
-abbrev pub not_written : Result (Unit {0}) PlacesFault → Bool
+abbrev pub not_written : Result (Unit {0}) PrintFault → Bool
 not_written (Ok u) = false
 not_written (Err (Fault fault)) = false
 not_written (Err NotWritten) = true
 
 -- what is reported in all, where a text was written and then it ended so
-abbrev pub printed_after : List ℕ → Result (Unit {0}) PlacesFault → Printed
+abbrev pub printed_after : List ℕ → Result (Unit {0}) PrintFault → Printed
 printed_after text (Ok u) = done text
 printed_after text (Err (Fault fault)) = failed_after text fault
 printed_after text (Err NotWritten) = record { text = text; status = 3 }
 
 -- the output gained a text, and that it ended so leads to such an answer
-abbrev pub WritesSome : (Printed → Type 0) → Result (Unit {0}) PlacesFault → Option (List ℕ) → Option (List ℕ) → Type 0
+abbrev pub WritesSome : (Printed → Type 0) → Result (Unit {0}) PrintFault → Option (List ℕ) → Option (List ℕ) → Type 0
 WritesSome is_such ended before after = (held : List ℕ) → before ≡ Some held → (text : List ℕ) × (after ≡ Some (held ++ text)) × is_such (printed_after text ended)
 
 -- what is fed to a connection before it is reported

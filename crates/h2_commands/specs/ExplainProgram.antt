@@ -10,7 +10,7 @@ use Rattle.h2_book.specs.Entries.{Directory}
 use Rattle.h2_explain.specs.Explains.{IsExplanation}
 use Rattle.h2_explain.specs.Verdicts.{IsVerdict, strict_status}
 use Rattle.h2_explain.specs.declared.run.Form.{Form}
-use Rattle.h2_explain.specs.declared.verdict.Verdict.{Verdict}
+use Rattle.h2_explain.specs.declared.verdict.ClientVerdict.{ClientVerdict}
 use Rattle.h2_explain.specs.declared.run.ExplainFault.{ExplainFault}
 use Rattle.h2_explain.specs.declared.run.ExplainFault.TheVariants as explained
 use Rattle.h2_words.specs.Grammar.{BookAsked, View}
@@ -21,7 +21,7 @@ use Rattle.h2_commands.specs.Printing.{Printed, failed, failed_as, failed_after_
 use Rattle.h2_commands.specs.CommandEnd.{PrintsSome}
 use Rattle.h2_commands.specs.declared.explain.ExplainEnd.{ExplainEnd}
 use Rattle.h2_commands.specs.declared.explain.ExplainEnd.TheVariants.{Fault, NotWritten}
-use Rattle.h2_commands.specs.declared.explain.Outcome.{Outcome}
+use Rattle.h2_commands.specs.declared.explain.ExplainOutcome.{ExplainOutcome}
 use Rattle.h2_commands.specs.declared.fault.BenchFault.TheVariants.{BadConfig, BadHex, NoMemory, Read}
 
 -- ---- a run
@@ -47,7 +47,7 @@ is_over (Ended code) = true
 -- the status of a run over the octets: with `--strict` that of what is said about the client
 abbrev pub IsStatus : (strict : Bool) → State → List ℕ → ℕ → Type 0
 IsStatus false s octets status = status ≡ run_status (trace s octets).state.core.phase
-IsStatus true s octets status = (v : Verdict) × IsVerdict s octets v × (status ≡ strict_status v (is_over (trace s octets).state.core.phase))
+IsStatus true s octets status = (v : ClientVerdict) × IsVerdict s octets v × (status ≡ strict_status v (is_over (trace s octets).state.core.phase))
 
 -- the explanation of the run over the octets, with its status; or nothing, or that of some first items, and then memory
 -- was refused
@@ -116,17 +116,17 @@ EndsExplain form files config file book input input_failed before after status =
 -- ---- how an explanation ends
 
 -- the status of an explanation that was written whole
-abbrev pub outcome_status : Outcome → ℕ
+abbrev pub outcome_status : ExplainOutcome → ℕ
 outcome_status o = if o.strict then strict_status o.verdict o.ended else if o.ended then 4 else 0
 
 -- whether a write failed
-abbrev pub cut_off : Result Outcome ExplainEnd → Bool
+abbrev pub cut_off : Result ExplainOutcome ExplainEnd → Bool
 cut_off (Ok outcome) = false
 cut_off (Err (Fault fault)) = false
 cut_off (Err NotWritten) = true
 
 -- what is reported in all, where a text was written and then it ended so
-abbrev pub explained_after : (json : Bool) → List ℕ → Result Outcome ExplainEnd → Printed
+abbrev pub explained_after : (json : Bool) → List ℕ → Result ExplainOutcome ExplainEnd → Printed
 explained_after json text (Ok outcome) = record { text = text; status = outcome_status outcome }
 explained_after json text (Err (Fault fault)) = failed_after_as json text fault
 explained_after json text (Err NotWritten) = record { text = text; status = 3 }

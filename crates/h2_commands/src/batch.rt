@@ -19,8 +19,8 @@ use crate::advice::{advise, advise_batch};
 use crate::asm::asm_report;
 use crate::books::book_for_words;
 use crate::dis::dis_text;
-use crate::each::{PlacesFault, write_text};
-use crate::explain::{ExplainEnd, Outcome, explain_text, read_text};
+use crate::each::{PrintFault, write_text};
+use crate::explain::{ExplainEnd, ExplainOutcome, explain_text, read_text};
 use crate::fault::{BenchFault, FaultText};
 use crate::input::read_all;
 use crate::play::write_play;
@@ -107,7 +107,7 @@ fn print_answer<O: Output>(output: &mut O, answer: Result<Report, BenchFault>) -
 }
 
 /// Writes what remains to say of places that were written: the line of a fault that ended them. Gives the status.
-pub fn print_end<O: Output>(output: &mut O, ended: Result<(), PlacesFault>) -> u8
+pub fn print_end<O: Output>(output: &mut O, ended: Result<(), PrintFault>) -> u8
     requires { O.has_failed output.old ≡ not_written ended }
     ensures printed { O.has_failed output.new ≡ false → (held text : List ℕ) → O.written output.old ≡ Some (held ++ text)
         → Prints (printed_after text ended) held (O.written output.new) result }
@@ -118,8 +118,8 @@ pub fn print_end<O: Output>(output: &mut O, ended: Result<(), PlacesFault>) -> u
     match ended {
         Ok(()) => 0,
         Err(why) => match why {
-            PlacesFault::Fault(fault) => print_fault(output, fault),
-            PlacesFault::NotWritten => 3,
+            PrintFault::Fault(fault) => print_fault(output, fault),
+            PrintFault::NotWritten => 3,
         },
     }
 }
@@ -213,7 +213,11 @@ pub fn respond<F: Files, I: Input, O: Output, E: Output>(
 
 /// Writes what remains to say of an explanation: the fault that ended it. Gives the status: that of how the explanation
 /// ended, 1 after a fault, 3 where the output failed.
-fn print_explained<O: Output>(output: &mut O, json: bool, ended: Result<Outcome, ExplainEnd>) -> u8
+fn print_explained<O: Output>(
+    output: &mut O,
+    json: bool,
+    ended: Result<ExplainOutcome, ExplainEnd>,
+) -> u8
     requires { O.has_failed output.old ≡ cut_off ended }
     ensures printed { O.has_failed output.new ≡ false → (held text : List ℕ) → O.written output.old ≡ Some (held ++ text)
         → Prints (explained_after json text ended) held (O.written output.new) result }

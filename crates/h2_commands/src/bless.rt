@@ -6,7 +6,7 @@ ghost use Rattle.h2_commands.specs.Each.{not_written};
 
 use crate::batch::print_end;
 use crate::books::explain;
-use crate::each::PlacesFault;
+use crate::each::PrintFault;
 use crate::fault::BenchFault;
 use crate::input::LIMIT;
 use crate::own::{Case, Common, OwnFault, RefusedWords, own_of, words_line};
@@ -15,7 +15,7 @@ use h2_check::{
     CaseFault, add_lines, bless_case, case_length, have_words, lines_in, preamble_length,
 };
 use h2_device::Output;
-use h2_reasons::{Cut, Say, Source, Words, say_no_text, say_too_long, say_unread};
+use h2_reasons::{Cut, InputSource, Say, TextBuilder, say_no_text, say_too_long, say_unread};
 use h2_request::book::Book;
 use h2_spec::connection::Config;
 use h2_words::command::Check;
@@ -23,10 +23,10 @@ use std::alloc::{AllocError, Global};
 use std::str;
 
 /// Why a case stays as it is: its words are refused. `None` where it is written anew.
-type Kept = Option<RefusedWords>;
+type KeptCase = Option<RefusedWords>;
 
 /// Says that a case stays as it is.
-fn stays_as_it_is(alloc: Global, case: Case<'_, '_>, why: &str) -> Result<Kept, AllocError> {
+fn stays_as_it_is(alloc: Global, case: Case<'_, '_>, why: &str) -> Result<KeptCase, AllocError> {
     let line = words_line(case);
     let why = String::from_str(alloc, why)?;
     Ok(Some(RefusedWords { line, why }))
@@ -39,7 +39,7 @@ fn add_with(
     config: Config,
     case: Case<'_, '_>,
     text: &mut Vec<u8>,
-) -> Result<Kept, AllocError> {
+) -> Result<KeptCase, AllocError> {
     match bless_case(alloc, book, config, case.lines) {
         Ok(blessed) => {
             text.extend_from_slice(blessed.as_slice())?;
@@ -59,7 +59,7 @@ fn add_own<F: Files>(
     files: &mut F,
     case: Case<'_, '_>,
     text: &mut Vec<u8>,
-) -> Result<Kept, AllocError> {
+) -> Result<KeptCase, AllocError> {
     match own_of(alloc, files, case) {
         Ok(own) => add_with(alloc, &own.book, own.config, case, text),
         Err(OwnFault::Refused(refused)) => match add_lines(case.lines, text) {
@@ -77,7 +77,7 @@ fn add_case<F: Files>(
     files: &mut F,
     case: Case<'_, '_>,
     text: &mut Vec<u8>,
-) -> Result<Kept, AllocError> {
+) -> Result<KeptCase, AllocError> {
     if have_words(case.lines) {
         add_own(alloc, files, case, text)
     } else {
@@ -86,7 +86,7 @@ fn add_case<F: Files>(
 }
 
 /// Says that a case stays as it is, and why, as a sentence on its own line.
-fn say_kept(file: &str, refused: &RefusedWords, out: &mut Words) {
+fn say_kept(file: &str, refused: &RefusedWords, out: &mut TextBuilder) {
     Cut(file.as_bytes()).say(out);
     ", line ".say(out);
     (refused.line as u64).say(out);
@@ -96,7 +96,7 @@ fn say_kept(file: &str, refused: &RefusedWords, out: &mut Words) {
 }
 
 /// Says of a case whether it was written anew, and if not, why.
-fn note(file: &str, kept: &Kept, reasons: &mut Words) -> bool {
+fn note(file: &str, kept: &KeptCase, reasons: &mut TextBuilder) -> bool {
     match kept {
         Some(refused) => {
             say_kept(file, refused, reasons);
@@ -114,7 +114,7 @@ fn add_cases<F: Files>(
     file: &str,
     lines: &[&[u8]],
     text: &mut Vec<u8>,
-    reasons: &mut Words,
+    reasons: &mut TextBuilder,
 ) -> Result<bool, AllocError> {
     let mut all = true;
     let mut first = preamble_length(lines);
@@ -151,7 +151,7 @@ fn add_file_lines<F: Files>(
     file: &str,
     lines: &[&[u8]],
     text: &mut Vec<u8>,
-    reasons: &mut Words,
+    reasons: &mut TextBuilder,
 ) -> Result<bool, AllocError> {
     match add_lines(&lines[..preamble_length(lines)], text) {
         Ok(()) => add_cases(alloc, common, files, file, lines, text, reasons),
@@ -166,7 +166,7 @@ fn text_anew<F: Files>(
     files: &mut F,
     file: &str,
     octets: &[u8],
-    reasons: &mut Words,
+    reasons: &mut TextBuilder,
 ) -> Result<Anew, AllocError> {
     let mut text = Vec::new(alloc);
     let lines = match lines_in(alloc, octets) {
@@ -192,9 +192,9 @@ fn text_anew<F: Files>(
 }
 
 /// Says why a file was not read.
-fn say_unread_file<F: Files>(files: &F, file: &str, reasons: &mut Words) {
+fn say_unread_file<F: Files>(files: &F, file: &str, reasons: &mut TextBuilder) {
     if let Some(kind) = files.failure(file) {
-        say_unread(Source::File(file), kind, reasons);
+        say_unread(InputSource::File(file), kind, reasons);
     }
 }
 
@@ -203,19 +203,19 @@ fn read_cases<F: Files>(
     alloc: Global,
     files: &mut F,
     file: &str,
-    reasons: &mut Words,
+    reasons: &mut TextBuilder,
 ) -> Result<Vec<u8>, BenchFault> {
     match files.read(alloc, file, LIMIT) {
         Ok(octets) => {
             if str::from_utf8(octets.as_slice()).is_err() {
-                say_no_text(Source::File(file), octets.as_slice(), reasons);
+                say_no_text(InputSource::File(file), octets.as_slice(), reasons);
                 return Err(BenchFault::Read);
             }
             Ok(octets)
         }
         Err(FilesFault::NoMemory) => Err(BenchFault::NoMemory),
         Err(FilesFault::TooLong) => {
-            say_too_long(Source::File(file), LIMIT, reasons);
+            say_too_long(InputSource::File(file), LIMIT, reasons);
             Err(BenchFault::Read)
         }
         Err(FilesFault::Failed) => {
@@ -226,7 +226,7 @@ fn read_cases<F: Files>(
 }
 
 /// Says that a file was not written.
-fn say_not_replaced(file: &str, reasons: &mut Words) {
+fn say_not_replaced(file: &str, reasons: &mut TextBuilder) {
     Cut(file.as_bytes()).say(reasons);
     ": it can't be written, and is as it was: its directory is read-only, the disk is full, or ".say(
         reasons,
@@ -236,14 +236,14 @@ fn say_not_replaced(file: &str, reasons: &mut Words) {
 }
 
 /// Writes octets, or says that they were not written.
-fn write<O: Output>(output: &mut O, octets: &[u8]) -> Result<(), PlacesFault>
+fn write<O: Output>(output: &mut O, octets: &[u8]) -> Result<(), PrintFault>
     requires writer { O.has_failed output.old ≡ false }
     ensures flag { O.has_failed output.new ≡ not_written result }
     ensures name { O.name output.new ≡ O.name output.old }
 {
     match output.write(octets) {
         Ok(()) => Ok(()),
-        Err(_) => Err(PlacesFault::NotWritten),
+        Err(_) => Err(PrintFault::NotWritten),
     }
 }
 
@@ -260,8 +260,8 @@ fn replace<F: Files, O: Output>(
     octets: &[u8],
     text: &[u8],
     output: &mut O,
-    reasons: &mut Words,
-) -> Result<(), PlacesFault>
+    reasons: &mut TextBuilder,
+) -> Result<(), PrintFault>
     requires writer { O.has_failed output.old ≡ false }
     ensures flag { O.has_failed output.new ≡ not_written result }
     ensures name { O.name output.new ≡ O.name output.old }
@@ -272,14 +272,14 @@ fn replace<F: Files, O: Output>(
     // The line is made first, so that a file is not written where it can't be said.
     let line = match blessed_line(alloc, file) {
         Ok(line) => line,
-        Err(_) => return Err(PlacesFault::Fault(BenchFault::NoMemory)),
+        Err(_) => return Err(PrintFault::Fault(BenchFault::NoMemory)),
     };
     match files.replace(alloc, file, text) {
         Ok(()) => write(output, line.as_str().as_bytes()),
-        Err(FilesFault::NoMemory) => Err(PlacesFault::Fault(BenchFault::NoMemory)),
+        Err(FilesFault::NoMemory) => Err(PrintFault::Fault(BenchFault::NoMemory)),
         Err(_) => {
             say_not_replaced(file, reasons);
-            Err(PlacesFault::Fault(BenchFault::Write))
+            Err(PrintFault::Fault(BenchFault::Write))
         }
     }
 }
@@ -292,19 +292,19 @@ fn bless_file<F: Files, O: Output>(
     files: &mut F,
     file: &str,
     output: &mut O,
-    reasons: &mut Words,
-) -> Result<bool, PlacesFault>
+    reasons: &mut TextBuilder,
+) -> Result<bool, PrintFault>
     requires writer { O.has_failed output.old ≡ false }
     ensures flag { O.has_failed output.new ≡ not_blessed result }
     ensures name { O.name output.new ≡ O.name output.old }
 {
     let octets = match read_cases(alloc, files, file, reasons) {
         Ok(octets) => octets,
-        Err(fault) => return Err(PlacesFault::Fault(fault)),
+        Err(fault) => return Err(PrintFault::Fault(fault)),
     };
     let new = match text_anew(alloc, common, files, file, octets.as_slice(), reasons) {
         Ok(new) => new,
-        Err(_) => return Err(PlacesFault::Fault(BenchFault::NoMemory)),
+        Err(_) => return Err(PrintFault::Fault(BenchFault::NoMemory)),
     };
     let text = new.text.as_slice();
     let written = if plan.in_place {
@@ -325,8 +325,8 @@ fn bless_files<F: Files, O: Output>(
     common: Common<'_>,
     files: &mut F,
     output: &mut O,
-    reasons: &mut Words,
-) -> Result<bool, PlacesFault>
+    reasons: &mut TextBuilder,
+) -> Result<bool, PrintFault>
     requires writer { O.has_failed output.old ≡ false }
     ensures flag { O.has_failed output.new ≡ not_blessed result }
     ensures name { O.name output.new ≡ O.name output.old }
@@ -343,7 +343,7 @@ fn bless_files<F: Files, O: Output>(
 
 /// Writes the line of a fault that ended the writing of files, if one did. Gives the status: 0
 /// where each case was, else 1, and after a fault; 3 where the output failed.
-fn print_ended<O: Output>(output: &mut O, ended: Result<bool, PlacesFault>) -> u8
+fn print_ended<O: Output>(output: &mut O, ended: Result<bool, PrintFault>) -> u8
     requires { O.has_failed output.old ≡ not_blessed ended }
     ensures flag { O.has_failed output.new ≡ (result == 3) }
     ensures name { O.name output.new ≡ O.name output.old }
@@ -357,7 +357,7 @@ fn print_ended<O: Output>(output: &mut O, ended: Result<bool, PlacesFault>) -> u
 
 /// Writes files of cases anew, with this book for cases that have no words of their own, and gives the status. Why a case
 /// stays as it is is written to `errors`.
-pub fn print_blessed<F: Files, O: Output, E: Output>(
+pub(crate) fn print_blessed<F: Files, O: Output, E: Output>(
     alloc: Global,
     plan: &Check<'_>,
     book: &Book<Global>,
@@ -373,7 +373,7 @@ pub fn print_blessed<F: Files, O: Output, E: Output>(
 {
     let config = plan.config;
     let common = Common { config, book };
-    let mut reasons = Words::new(alloc);
+    let mut reasons = TextBuilder::new(alloc);
     let ended = bless_files(alloc, plan, common, files, output, &mut reasons);
     explain(errors, plan.book.why, reasons.finish());
     print_ended(output, ended)

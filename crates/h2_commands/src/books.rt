@@ -12,9 +12,9 @@ ghost use Rattle.h2_commands.specs.declared.fault.BenchFault.TheVariants.{NoMemo
 use crate::answer::told;
 use crate::fault::BenchFault;
 use h2_answers::add_answer;
-use h2_book::{BookFileFault, Cause, Files, add_book};
+use h2_book::{BookFileFault, BookRefusal, Files, add_book};
 use h2_device::Output;
-use h2_reasons::{Refusal, Words, say_answer, say_no_answer, say_no_memory};
+use h2_reasons::{EntryRefusal, TextBuilder, say_answer, say_no_answer, say_no_memory};
 use h2_request::book::Book;
 use h2_request::fault::EntryFault;
 use h2_words::command::BookWords;
@@ -37,18 +37,20 @@ fn file_refused(fault: &BookFileFault) -> BenchFault
     ensures { fault_number result ≡ fault.now }
 {
     match fault.cause() {
-        Cause::NoMemory => BenchFault::NoMemory,
-        Cause::Unread(_) | Cause::FileUnread(_) => BenchFault::Read,
-        Cause::FileTooLong | Cause::FillTooLong => BenchFault::BadEntry(EntryFault::TooLong),
-        Cause::BadEntry(fault) => BenchFault::BadEntry(*fault),
-        Cause::NoText
-        | Cause::NoToml(_)
-        | Cause::UnknownTop(_)
-        | Cause::NoTable
-        | Cause::UnknownKey(_)
-        | Cause::Missing(_)
-        | Cause::Malformed(_)
-        | Cause::ManyBodies => BenchFault::BadAnswer,
+        BookRefusal::NoMemory => BenchFault::NoMemory,
+        BookRefusal::Unread(_) | BookRefusal::FileUnread(_) => BenchFault::Read,
+        BookRefusal::FileTooLong | BookRefusal::FillTooLong => BenchFault::BadEntry(
+            EntryFault::TooLong,
+        ),
+        BookRefusal::BadEntry(fault) => BenchFault::BadEntry(*fault),
+        BookRefusal::NoText
+        | BookRefusal::NoToml(_)
+        | BookRefusal::UnknownTop(_)
+        | BookRefusal::NoTable
+        | BookRefusal::UnknownKey(_)
+        | BookRefusal::Missing(_)
+        | BookRefusal::Malformed(_)
+        | BookRefusal::ManyBodies => BenchFault::BadAnswer,
     }
 }
 
@@ -124,13 +126,13 @@ fn word_at<'w>(words: &[&'w str], place: usize) -> &'w str {
 
 /// Why an answer was refused, as a sentence on its own line.
 fn answer_sentence(alloc: Global, refused: Refused, words: &[&str]) -> Result<String, AllocError> {
-    let mut out = Words::new(alloc);
+    let mut out = TextBuilder::new(alloc);
     let word = word_at(words, refused.place);
     match refused.fault {
         BenchFault::BadEntry(fault) => say_answer(
             refused.place,
             word,
-            Refusal::from(fault),
+            EntryRefusal::from(fault),
             &mut out,
         ),
         BenchFault::NoMemory => say_no_memory(&mut out),

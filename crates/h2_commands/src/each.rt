@@ -3,7 +3,7 @@
 
 ghost use Rattle.std.specs.Prelude.{◌≡◌, ◌<◌, ◌^◌, [], false, length, IfErr, OnOk, is_err};
 ghost use Rattle.std.specs.Io.KnownBytes.{Appends};
-ghost use Rattle.h2_commands.specs.declared.each.PlacesFault.TheVariants.{NotWritten};
+ghost use Rattle.h2_commands.specs.declared.each.PrintFault.TheVariants.{NotWritten};
 ghost use Rattle.std.specs.List.{concat};
 ghost use Rattle.h2_spec.specs.View.{view};
 ghost use Rattle.h2_conn.specs.Connection.{going};
@@ -13,12 +13,12 @@ ghost use Rattle.h2_commands.specs.Printed.{OrCutShort, done, item_text, places_
 use crate::fault::BenchFault;
 use h2_conn::Conn;
 use h2_device::{Output, Text};
-use h2_places::Shown;
+use h2_places::ShownPlaces;
 use std::alloc::Global;
 
 /// Why places were not all written.
 #[derive(Clone, Copy)]
-pub enum PlacesFault {
+pub enum PrintFault {
     /// A fault, whose line is still to be written.
     Fault(BenchFault),
     /// A write of the output failed.
@@ -26,7 +26,7 @@ pub enum PlacesFault {
 }
 
 /// Writes a text, or says that it was not written.
-pub fn write_text<O: Output, T: Text>(output: &mut O, text: &T) -> Result<(), PlacesFault>
+pub fn write_text<O: Output, T: Text>(output: &mut O, text: &T) -> Result<(), PrintFault>
     requires { O.has_failed output.old ≡ false }
     ensures octets { OnOk result (Appends (O.written output.old) (O.written output.new) (T.text text.now)) }
     ensures err { IfErr result (λ why. why ≡ NotWritten) }
@@ -35,7 +35,7 @@ pub fn write_text<O: Output, T: Text>(output: &mut O, text: &T) -> Result<(), Pl
 {
     match text.write_to(output) {
         Ok(()) => Ok(()),
-        Err(_) => Err(PlacesFault::NotWritten),
+        Err(_) => Err(PrintFault::NotWritten),
     }
 }
 
@@ -48,7 +48,7 @@ pub fn write_places<O: Output>(
     sent: &[u8],
     octets: &[u8],
     output: &mut O,
-) -> Result<(), PlacesFault>
+) -> Result<(), PrintFault>
     requires new { conn.old ≡ going conn.old.state [] }
     requires few { length octets.now < 2 ^ 63 }
     requires writer { O.has_failed output.old ≡ false }
@@ -57,9 +57,9 @@ pub fn write_places<O: Output>(
     ensures flag { O.has_failed output.new ≡ not_written result }
     ensures name { O.name output.new ≡ O.name output.old }
 {
-    match h2_places::write_places(alloc, conn, sent, octets, Shown::all(), output) {
+    match h2_places::write_places(alloc, conn, sent, octets, ShownPlaces::all(), output) {
         Ok(()) => Ok(()),
-        Err(h2_places::PlacesFault::NoMemory) => Err(PlacesFault::Fault(BenchFault::NoMemory)),
-        Err(h2_places::PlacesFault::NotWritten) => Err(PlacesFault::NotWritten),
+        Err(h2_places::PlacesFault::NoMemory) => Err(PrintFault::Fault(BenchFault::NoMemory)),
+        Err(h2_places::PlacesFault::NotWritten) => Err(PrintFault::NotWritten),
     }
 }

@@ -20,7 +20,7 @@ use crate::play::refused_limits;
 use h2_book::{Files, FilesFault};
 use h2_conn::Conn;
 use h2_device::{Input, Output};
-use h2_explain::{ExplainFault, Form, Verdict, explain};
+use h2_explain::{ClientVerdict, ExplainFault, Form, explain};
 use h2_request::book::Book;
 use h2_spec::connection::Config;
 use h2_words::command::Explain;
@@ -37,16 +37,16 @@ pub enum ExplainEnd {
 
 /// How an explanation ended that was written whole.
 #[derive(Clone, Copy)]
-pub struct Outcome {
+pub struct ExplainOutcome {
     /// Whether a connection error ended the connection (RFC 9113, 5.4.1).
     pub ended: bool,
     /// Whether the status says what is said about the client.
     pub strict: bool,
     /// What is said about the client.
-    pub verdict: Verdict,
+    pub verdict: ClientVerdict,
 }
 
-impl Outcome {
+impl ExplainOutcome {
     /// The exit status: 4 where a connection error ended the connection, else 0; with `--strict` that of the verdict.
     pub fn status(self) -> u8
         ensures value { result ≡ outcome_status self }
@@ -120,7 +120,7 @@ fn explain_conn<O: Output>(
     conn: &mut Conn<'_, Global>,
     octets: &[u8],
     output: &mut O,
-) -> Result<Outcome, ExplainEnd>
+) -> Result<ExplainOutcome, ExplainEnd>
     requires new { conn.old ≡ going conn.old.state [] }
     requires few { length octets.now < 2 ^ 63 }
     requires writer { O.has_failed output.old ≡ false }
@@ -131,7 +131,7 @@ fn explain_conn<O: Output>(
     ensures name { O.name output.new ≡ O.name output.old }
 {
     match explain(alloc, form, conn, octets, output) {
-        Ok(summary) => Ok(Outcome {
+        Ok(summary) => Ok(ExplainOutcome {
             ended: summary.ended.is_some(),
             strict: form.strict,
             verdict: summary.verdict,
@@ -148,7 +148,7 @@ fn explain_octets<O: Output>(
     book: &Book<Global>,
     octets: &[u8],
     output: &mut O,
-) -> Result<Outcome, ExplainEnd>
+) -> Result<ExplainOutcome, ExplainEnd>
     requires allowed { is_allowed config ≡ true }
     requires few { length octets.now < 2 ^ 63 }
     requires writer { O.has_failed output.old ≡ false }
@@ -177,7 +177,7 @@ pub fn explain_text<O: Output>(
     book: &Book<Global>,
     text: &[u8],
     output: &mut O,
-) -> Result<Outcome, ExplainEnd>
+) -> Result<ExplainOutcome, ExplainEnd>
     requires few { length text.now ≤ most }
     requires writer { O.has_failed output.old ≡ false }
     ensures printed { O.has_failed output.new ≡ false → (held : List ℕ) → O.written output.old ≡ Some held

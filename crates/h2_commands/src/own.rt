@@ -1,4 +1,14 @@
-//! The limits, the settings and the book of a case that has words of its own.
+//! The limits, the settings and the book of a case that has words of its own. Definitions: `specs/CaseSetups.antt`.
+
+ghost use Rattle.std.specs.Prelude.{◌≡◌, ◌⊎◌, [], Option, Some, None, true, map, unwrap_or, IfErr, IfOk, OnOk};
+ghost use Rattle.std.specs.Path.{path_buf_bytes, path_bytes, path_parent};
+ghost use Rattle.h2_check.specs.CaseWords.{have_idle, with_case_words};
+ghost use Rattle.h2_words.specs.Grammar.{asked_of, debug};
+ghost use Rattle.h2_words.specs.Plans.{book_asked, planned};
+ghost use Rattle.h2_commands.specs.Books.{book_said};
+ghost use Rattle.h2_commands.specs.CaseSetups.{RefusesSetup, book_place, first_words, setup_asked, setup_of, setup_said, setup_with};
+ghost use Rattle.h2_commands.specs.declared.fault.BenchFault.TheVariants.{NoMemory};
+ghost use Rattle.h2_commands.specs.declared.own.CaseSetup.{CaseSetup};
 
 use crate::books::book_for_words;
 use crate::fault::BenchFault;
@@ -31,7 +41,7 @@ pub struct Common<'c> {
 
 /// What a case with words of its own is played with.
 #[derive(Drop)]
-pub struct Own {
+pub struct CaseSetup {
     pub config: Config,
     pub book: Book<Global>,
 }
@@ -65,7 +75,9 @@ pub fn words_line(case: Case<'_, '_>) -> usize {
 }
 
 /// Says that the words of a line are refused, and why.
-fn refused_at(alloc: Global, line: usize, why: &str) -> OwnFault {
+fn refused_at(alloc: Global, line: usize, why: &str) -> OwnFault
+    ensures { (setup : Option CaseSetup) → setup ≡ None → RefusesSetup setup result }
+{
     match String::from_str(alloc, why) {
         Ok(why) => OwnFault::Refused(RefusedWords { line, why }),
         Err(_) => OwnFault::NoMemory,
@@ -73,7 +85,9 @@ fn refused_at(alloc: Global, line: usize, why: &str) -> OwnFault {
 }
 
 /// Says that the words of a case are refused, and why.
-fn refused(alloc: Global, case: Case<'_, '_>, why: &str) -> OwnFault {
+fn refused(alloc: Global, case: Case<'_, '_>, why: &str) -> OwnFault
+    ensures { (setup : Option CaseSetup) → setup ≡ None → RefusesSetup setup result }
+{
     refused_at(alloc, words_line(case), why)
 }
 
@@ -94,7 +108,9 @@ fn said_in(gathered: &Gathered) -> &str {
 }
 
 /// The directory of a file; empty where its path names none.
-fn directory_of(file: &str) -> Path<'_> {
+fn directory_of(file: &str) -> Path<'_>
+    ensures { path_bytes result ≡ unwrap_or (path_parent file.now) [] }
+{
     match Path::new(file).parent() {
         Some(directory) => directory,
         None => Path::new(""),
@@ -102,7 +118,9 @@ fn directory_of(file: &str) -> Path<'_> {
 }
 
 /// The path of the book that a case's words name; empty where they name none.
-fn book_place(alloc: Global, file: &str, book: &str) -> Result<PathBuf, AllocError> {
+fn book_place(alloc: Global, file: &str, book: &str) -> Result<PathBuf, AllocError>
+    ensures { IfOk result (λ place. path_buf_bytes place ≡ book_place file.now book.now) }
+{
     if book.is_empty() {
         return Ok(PathBuf::new(alloc));
     }
@@ -110,7 +128,9 @@ fn book_place(alloc: Global, file: &str, book: &str) -> Result<PathBuf, AllocErr
 }
 
 /// Why a case is not played whose book has a fault, which these words say.
-fn book_refused(alloc: Global, case: Case<'_, '_>, fault: BenchFault, why: &str) -> OwnFault {
+fn book_refused(alloc: Global, case: Case<'_, '_>, fault: BenchFault, why: &str) -> OwnFault
+    ensures { (setup : Option CaseSetup) → (fault ≡ NoMemory) ⊎ (setup ≡ None) → RefusesSetup setup result }
+{
     match fault {
         BenchFault::NoMemory => OwnFault::NoMemory,
         BenchFault::BadEntry(_)
@@ -131,10 +151,15 @@ fn own_book<F: Files>(
     case: Case<'_, '_>,
     config: Config,
     words: &BookWords<'_>,
-) -> Result<Own, OwnFault> {
+) -> Result<CaseSetup, OwnFault>
+    ensures ok { F.is_printed files.old ≡ true → IfOk result (λ own. setup_with config (book_said (F.file files.old) (book_asked words.now)) ≡ Some own) }
+    ensures err { F.is_printed files.old ≡ true → IfErr result (RefusesSetup (setup_with config (book_said (F.file files.old) (book_asked words.now)))) }
+    ensures same_printed { F.is_printed files.new ≡ F.is_printed files.old }
+    ensures same_files { F.file files.new ≡ F.file files.old }
+{
     let mut why = Gathered::new(alloc);
     match book_for_words(alloc, words, files, &mut why) {
-        Ok(book) => Ok(Own { config, book }),
+        Ok(book) => Ok(CaseSetup { config, book }),
         Err(fault) => Err(book_refused(alloc, case, fault, said_in(&why))),
     }
 }
@@ -145,7 +170,12 @@ fn own_plan<F: Files>(
     files: &mut F,
     case: Case<'_, '_>,
     plan: Debug<'_>,
-) -> Result<Own, OwnFault> {
+) -> Result<CaseSetup, OwnFault>
+    ensures ok { F.is_printed files.old ≡ true → IfOk result (λ own. setup_asked (F.file files.old) case.entry.file.now (Some (debug plan.entry.config (book_asked plan.entry.book))) ≡ Some own) }
+    ensures err { F.is_printed files.old ≡ true → IfErr result (RefusesSetup (setup_asked (F.file files.old) case.entry.file.now (Some (debug plan.entry.config (book_asked plan.entry.book))))) }
+    ensures same_printed { F.is_printed files.new ≡ F.is_printed files.old }
+    ensures same_files { F.file files.new ≡ F.file files.old }
+{
     match book_place(alloc, case.file, plan.book.file) {
         Ok(place) => {
             let book = BookWords {
@@ -159,31 +189,65 @@ fn own_plan<F: Files>(
     }
 }
 
+/// The same of a plan of any command; only one that plays one connection is no refusal.
+fn own_asked<F: Files>(
+    alloc: Global,
+    files: &mut F,
+    case: Case<'_, '_>,
+    plan: Plan<'_>,
+) -> Result<CaseSetup, OwnFault>
+    ensures ok { F.is_printed files.old ≡ true → IfOk result (λ own. setup_asked (F.file files.old) case.entry.file.now (Some (planned plan.entry)) ≡ Some own) }
+    ensures err { F.is_printed files.old ≡ true → IfErr result (RefusesSetup (setup_asked (F.file files.old) case.entry.file.now (Some (planned plan.entry)))) }
+    ensures same_printed { F.is_printed files.new ≡ F.is_printed files.old }
+    ensures same_files { F.file files.new ≡ F.file files.old }
+{
+    match plan {
+        Plan::Debug(plan) => own_plan(alloc, files, case, plan),
+        Plan::Batch(_) | Plan::Serve(_) | Plan::Explain(_) | Plan::Check(_) => {
+            Err(refused(alloc, case, "other words"))
+        }
+    }
+}
+
 /// The same of these words of a command line.
 fn own_parsed<F: Files>(
     alloc: Global,
     files: &mut F,
     case: Case<'_, '_>,
     words: &Words,
-) -> Result<Own, OwnFault> {
+) -> Result<CaseSetup, OwnFault>
+    ensures ok { F.is_printed files.old ≡ true → IfOk result (λ own. setup_asked (F.file files.old) case.entry.file.now (asked_of words.now) ≡ Some own) }
+    ensures err { F.is_printed files.old ≡ true → IfErr result (RefusesSetup (setup_asked (F.file files.old) case.entry.file.now (asked_of words.now))) }
+    ensures same_printed { F.is_printed files.new ≡ F.is_printed files.old }
+    ensures same_files { F.file files.new ≡ F.file files.old }
+{
     match parse(alloc, words) {
-        Ok(Plan::Debug(plan)) => own_plan(alloc, files, case, plan),
-        Ok(Plan::Batch(_)) | Ok(Plan::Serve(_)) | Ok(Plan::Explain(_)) | Ok(Plan::Check(_)) => Err(
-            refused(alloc, case, "other words"),
-        ),
+        Ok(plan) => own_asked(alloc, files, case, plan),
         Err(Refusal::Words(text)) => Err(refused(alloc, case, first_line(text.as_str()))),
         Err(Refusal::NoMemory) => Err(OwnFault::NoMemory),
     }
 }
 
 /// Puts the words that are before those of a case: the program's name, and a command that plays one connection.
-fn add_first_words(words: &mut Words) -> Result<(), AllocError> {
+fn add_first_words(words: &mut Words) -> Result<(), AllocError>
+    requires { words.old ≡ [] }
+    ensures { OnOk result (words.new ≡ first_words) }
+{
     words.add("h2_bench")?;
     words.add("debug")
 }
 
 /// The limits, the settings and the book that the lines of a case say, none of whose words is idle.
-fn own_worded<F: Files>(alloc: Global, files: &mut F, case: Case<'_, '_>) -> Result<Own, OwnFault> {
+fn own_worded<F: Files>(
+    alloc: Global,
+    files: &mut F,
+    case: Case<'_, '_>,
+) -> Result<CaseSetup, OwnFault>
+    ensures ok { F.is_printed files.old ≡ true → IfOk result (λ own. setup_said (F.file files.old) case.entry.file.now (with_case_words first_words (map (λ l. l.now) case.entry.lines.now)) ≡ Some own) }
+    ensures err { F.is_printed files.old ≡ true → IfErr result (RefusesSetup (setup_said (F.file files.old) case.entry.file.now (with_case_words first_words (map (λ l. l.now) case.entry.lines.now)))) }
+    ensures same_printed { F.is_printed files.new ≡ F.is_printed files.old }
+    ensures same_files { F.file files.new ≡ F.file files.old }
+{
     let mut words = Words::new(alloc);
     match add_first_words(&mut words) {
         Ok(()) => {}
@@ -202,7 +266,16 @@ fn own_worded<F: Files>(alloc: Global, files: &mut F, case: Case<'_, '_>) -> Res
 ///
 /// `Refused` where a word has no effect in a case, where the words are none of a command, or where its book is refused;
 /// `NoMemory` may come before.
-pub fn own_of<F: Files>(alloc: Global, files: &mut F, case: Case<'_, '_>) -> Result<Own, OwnFault> {
+pub fn own_of<F: Files>(
+    alloc: Global,
+    files: &mut F,
+    case: Case<'_, '_>,
+) -> Result<CaseSetup, OwnFault>
+    ensures ok { F.is_printed files.old ≡ true → IfOk result (λ own. setup_of (F.file files.old) case.entry.file.now (map (λ l. l.now) case.entry.lines.now) ≡ Some own) }
+    ensures err { F.is_printed files.old ≡ true → IfErr result (RefusesSetup (setup_of (F.file files.old) case.entry.file.now (map (λ l. l.now) case.entry.lines.now))) }
+    ensures same_printed { F.is_printed files.new ≡ F.is_printed files.old }
+    ensures same_files { F.file files.new ≡ F.file files.old }
+{
     match idle_place(alloc, case.lines) {
         Ok(None) => own_worded(alloc, files, case),
         Ok(Some(place)) => {

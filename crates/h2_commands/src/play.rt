@@ -9,12 +9,12 @@ ghost use Rattle.h2_commands.specs.Each.{PrintsRun, WritesSome, fed_first, not_w
 ghost use Rattle.h2_commands.specs.Input.{IsNoHex};
 ghost use Rattle.h2_hex.specs.HexText.{octets_spelled};
 ghost use Rattle.h2_commands.specs.Limits.{limits_fault};
-ghost use Rattle.h2_commands.specs.declared.each.PlacesFault.TheVariants.{Fault};
+ghost use Rattle.h2_commands.specs.declared.each.PrintFault.TheVariants.{Fault};
 ghost use Rattle.h2_commands.specs.Pieces.{piece_lengths};
 ghost use Rattle.h2_commands.specs.Printed.{OrCutShort, done, places_play, places_played, sent_and_state, printed_play, printed_played};
 ghost use Rattle.h2_commands.specs.declared.fault.BenchFault.TheVariants.{BadConfig, NoMemory};
 
-use crate::each::{PlacesFault, write_places, write_text};
+use crate::each::{PrintFault, write_places, write_text};
 use crate::fault::BenchFault;
 use crate::input::read_hex;
 use h2_conn::play::open_and_feed;
@@ -91,7 +91,7 @@ fn write_sent<O: Output>(
     conn: &Conn<'_, Global>,
     sent: &[u8],
     output: &mut O,
-) -> Result<(), PlacesFault>
+) -> Result<(), PrintFault>
     requires { O.has_failed output.old ≡ false }
     ensures printed { O.has_failed output.new ≡ false → WritesSome (λ t. t ≡ done (sent_and_state sent.now (view conn.now.state)))
         result (O.written output.old) (O.written output.new) }
@@ -110,7 +110,7 @@ fn write_conn<O: Output>(
     sent: &[u8],
     octets: &[u8],
     output: &mut O,
-) -> Result<(), PlacesFault>
+) -> Result<(), PrintFault>
     requires new { each ≡ true → conn.old ≡ going conn.old.state [] }
     requires few { length octets.now < 2 ^ 63 }
     requires writer { O.has_failed output.old ≡ false }
@@ -133,7 +133,7 @@ fn write_played<O: Output>(
     book: &Book<Global>,
     octets: &[u8],
     output: &mut O,
-) -> Result<(), PlacesFault>
+) -> Result<(), PrintFault>
     requires few { length octets.now < 2 ^ 63 }
     requires writer { O.has_failed output.old ≡ false }
     ensures printed { O.has_failed output.new ≡ false → WritesSome (OrCutShort (places_played play.now.each book.now play.now.config octets.now) (printed_played play.now.each book.now play.now.config octets.now))
@@ -148,7 +148,7 @@ fn write_played<O: Output>(
             let sent = sent.as_slice();
             write_conn(alloc, play.each, &mut conn, sent, octets, output)
         }
-        Err(fault) => Err(PlacesFault::Fault(fault)),
+        Err(fault) => Err(PrintFault::Fault(fault)),
     }
 }
 
@@ -183,7 +183,7 @@ pub fn write_play<O: Output>(
     book: &Book<Global>,
     input: Vec<u8>,
     output: &mut O,
-) -> Result<(), PlacesFault>
+) -> Result<(), PrintFault>
     requires { O.has_failed output.old ≡ false }
     ensures printed { O.has_failed output.new ≡ false → let spelled = octets_spelled input.items in
         WritesSome (OrCutShort (places_play play.now.each book.now play.now.config spelled) (printed_play play.now.each book.now play.now.config spelled))
@@ -193,10 +193,10 @@ pub fn write_play<O: Output>(
     ensures name { O.name output.new ≡ O.name output.old }
 {
     if !play.config.is_allowed() {
-        return Err(PlacesFault::Fault(refused_limits(input.as_slice())));
+        return Err(PrintFault::Fault(refused_limits(input.as_slice())));
     }
     match octets_of(alloc, input) {
         Ok(octets) => write_played(alloc, play, book, octets.as_slice(), output),
-        Err(fault) => Err(PlacesFault::Fault(fault)),
+        Err(fault) => Err(PrintFault::Fault(fault)),
     }
 }

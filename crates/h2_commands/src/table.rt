@@ -12,10 +12,10 @@ ghost use Rattle.h2_commands.specs.TableProgram.{behind_line, command_of, counts
 ghost use Rattle.h2_commands.specs.TableReplies.{reply_text};
 ghost use Rattle.h2_commands.specs.Each.{WritesSome, not_written};
 ghost use Rattle.h2_commands.specs.Printing.{OrCutShort, done};
-ghost use Rattle.h2_commands.specs.declared.each.PlacesFault.TheVariants.{Fault, NotWritten};
+ghost use Rattle.h2_commands.specs.declared.each.PrintFault.TheVariants.{Fault, NotWritten};
 ghost use Rattle.h2_commands.specs.declared.fault.BenchFault.TheVariants.{NoMemory};
 
-use crate::each::{PlacesFault, write_text};
+use crate::each::{PrintFault, write_text};
 use crate::fault::BenchFault;
 use h2_answers::{place_of, text_before, text_from};
 use h2_device::{DeviceFault, Number, Output, Text, texts};
@@ -66,10 +66,10 @@ impl Text for CountsLine<'_> {
 
 /// The line of a fault, by its number.
 #[derive(Clone, Copy)]
-struct FaultLine(u8);
+struct TableFaultLine(u8);
 
 #[tactic(auto, unfolding(crate::specs::Faults::fault_line))]
-impl Text for FaultLine {
+impl Text for TableFaultLine {
     ghost text = { λ l. fault_line l.0 };
 
     fn write_to<O: Output>(&self, output: &mut O) -> Result<(), DeviceFault> {
@@ -88,19 +88,19 @@ pub enum TableReply {
 
 /// The reply to a line that asked for a change of this table.
 #[derive(Clone, Copy)]
-struct ReplyText<'t> {
+struct TableReplyText<'t> {
     reply: TableReply,
     /// The table after the line.
     table: &'t DynTable<Global>,
 }
 
-impl Text for ReplyText<'_> {
+impl Text for TableReplyText<'_> {
     ghost text = { λ r. reply_text r.table.now r.reply };
 
     fn write_to<O: Output>(&self, output: &mut O) -> Result<(), DeviceFault> {
         match self.reply {
             TableReply::Counts => CountsLine(self.table).write_to(output),
-            TableReply::Refused(fault) => FaultLine(fault).write_to(output),
+            TableReply::Refused(fault) => TableFaultLine(fault).write_to(output),
         }
     }
 }
@@ -145,7 +145,7 @@ fn write_line<O: Output>(
     table: &mut DynTable<Global>,
     line: &[u8],
     output: &mut O,
-) -> Result<(), PlacesFault>
+) -> Result<(), PrintFault>
     requires { O.has_failed output.old ≡ false }
     ensures table { OnOk result (table.new ≡ obeyed table.old (command_of line.now)) }
     ensures octets { OnOk result (Appends (O.written output.old) (O.written output.new) (printed_of table.old (command_of line.now))) }
@@ -154,8 +154,8 @@ fn write_line<O: Output>(
     ensures name { O.name output.new ≡ O.name output.old }
 {
     match obey(alloc, table, line) {
-        Ok(reply) => write_text(output, &ReplyText { reply, table }),
-        Err(_) => Err(PlacesFault::Fault(BenchFault::NoMemory)),
+        Ok(reply) => write_text(output, &TableReplyText { reply, table }),
+        Err(_) => Err(PrintFault::Fault(BenchFault::NoMemory)),
     }
 }
 
@@ -178,7 +178,7 @@ fn write_lines<O: Output>(
     table: &mut DynTable<Global>,
     input: &[u8],
     output: &mut O,
-) -> Result<(), PlacesFault>
+) -> Result<(), PrintFault>
     requires { O.has_failed output.old ≡ false }
     ensures printed { O.has_failed output.new ≡ false → let parts = printed_parts table.old (lines_of input.now) in
         WritesSome (OrCutShort parts (done (concat parts))) result (O.written output.old) (O.written output.new) }
@@ -210,7 +210,7 @@ pub fn write_table<O: Output>(
     limit: u32,
     input: &[u8],
     output: &mut O,
-) -> Result<(), PlacesFault>
+) -> Result<(), PrintFault>
     requires { O.has_failed output.old ≡ false }
     ensures printed { O.has_failed output.new ≡ false
         → WritesSome (OrCutShort (table_parts limit input.now) (done (table_text limit input.now)))
@@ -220,6 +220,6 @@ pub fn write_table<O: Output>(
 {
     match DynTable::new(alloc, limit) {
         Ok(mut table) => write_lines(alloc, &mut table, input, output),
-        Err(_) => Err(PlacesFault::Fault(BenchFault::NoMemory)),
+        Err(_) => Err(PrintFault::Fault(BenchFault::NoMemory)),
     }
 }

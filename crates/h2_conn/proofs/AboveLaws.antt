@@ -4,8 +4,8 @@ use Rattle.std.proofs.lemmas.Bool.{false≢true}
 use Rattle.std.proofs.lemmas.Bool.Decides.{nat_tests}
 use Rattle.std.specs.Prelude.{Result, Ok, Err, IsOk, OnOk, find, nat_lt, ◌&&◌, ◌||◌, not, ◌==◌}
 use Rattle.h2_spec.specs.declared.streams.Stream.{Stream}
-use Rattle.h2_spec.specs.declared.streams.Kind.{Kind}
-use Rattle.h2_spec.specs.declared.streams.Kind.TheVariants.{Idle, Skipped, BothOpen, HalfRemote, HalfLocal, Ended, PeerReset, WeReset}
+use Rattle.h2_spec.specs.declared.streams.StreamState.{StreamState}
+use Rattle.h2_spec.specs.declared.streams.StreamState.TheVariants.{Idle, Skipped, BothOpen, HalfRemote, HalfLocal, Ended, PeerReset, WeReset}
 use Rattle.h2_spec.specs.StreamEnds.{server_ended_as, with_body_remaining}
 use Rattle.h2_spec.specs.Answer.{Entry, picked}
 use Rattle.h2_spec.specs.Window.{sendable}
@@ -248,7 +248,7 @@ pub id-after_sending : (n : ℕ) (st : Stream) → (after_sending n st).id ≡ s
 unfolding after_sending
 id-after_sending n st = at (n == 0) (octets_waiting st == n) st.kind
   where
-    ended : (kind : Kind) → (server_ended_as kind (with_paid st n)).id ≡ st.id
+    ended : (kind : StreamState) → (server_ended_as kind (with_paid st n)).id ≡ st.id
     ended Idle = refl
     ended Skipped = refl
     ended BothOpen = refl
@@ -258,7 +258,7 @@ id-after_sending n st = at (n == 0) (octets_waiting st == n) st.kind
     ended PeerReset = refl
     ended WeReset = refl
 
-    at : (a b : Bool) (kind : Kind) → (cond a st (cond b (server_ended_as kind (with_paid st n)) (with_body_remaining (with_paid st n) (octets_waiting st - n)))).id ≡ st.id
+    at : (a b : Bool) (kind : StreamState) → (cond a st (cond b (server_ended_as kind (with_paid st n)) (with_body_remaining (with_paid st n) (octets_waiting st - n)))).id ≡ st.id
     at true b kind = refl
     at false true kind = ended kind
     at false false kind = refl

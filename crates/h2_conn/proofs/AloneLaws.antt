@@ -1,7 +1,7 @@
 -- What is sent where no stream can send, or only the one whose record is put.
 use Rattle.std.proofs.Common.{◌≡◌, ℕ, ◌-◌, ◌<◌, ◌≤◌, ◌%◌, Bool, true, false, ◌||◌, ◌&&◌, not, cond, eqb, List, [], ◌∷◌, ◌++◌, refl, ap, ◌∙◌, sym, subst, arith, max, true≢false, append-nil}
 use Rattle.std.specs.List.{AllByRecursion, list_any}
-use Rattle.h2_spec.specs.declared.streams.Kind.{Kind}
+use Rattle.h2_spec.specs.declared.streams.StreamState.{StreamState}
 use Rattle.h2_spec.specs.declared.streams.Stream.{Stream}
 use Rattle.h2_spec.specs.Answer.{Entry}
 use Rattle.h2_spec.specs.SendPending.{allowance, allowance_frames, after_sending, sent_frames, all_after_sending, window_left}
@@ -142,7 +142,7 @@ can-put-sent n st r within can = by (is_live st.kind) refl
     now : Stream
     now = after_sending n st
 
-    before : Kind
+    before : StreamState
     before = kind_of r.last r.streams st.id
 
     live : is_live st.kind ≡ true → can_become before st.kind ≡ true → can_become before now.kind ≡ true

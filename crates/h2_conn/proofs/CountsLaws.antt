@@ -10,8 +10,8 @@ use Rattle.h2_spec.specs.declared.reactions.Reaction.{Reaction}
 use Rattle.h2_spec.specs.declared.reactions.Reaction.TheVariants.{ConnectionError, Continues}
 use Rattle.h2_spec.specs.declared.reactions.ReceivedData.{ReceivedData}
 use Rattle.h2_spec.specs.declared.reactions.StreamOutcome.{StreamOutcome}
-use Rattle.h2_spec.specs.declared.streams.Kind.{Kind}
-use Rattle.h2_spec.specs.declared.streams.Kind.TheVariants.{Idle, Skipped, BothOpen, HalfRemote, HalfLocal, Ended, PeerReset, WeReset}
+use Rattle.h2_spec.specs.declared.streams.StreamState.{StreamState}
+use Rattle.h2_spec.specs.declared.streams.StreamState.TheVariants.{Idle, Skipped, BothOpen, HalfRemote, HalfLocal, Ended, PeerReset, WeReset}
 use Rattle.h2_spec.specs.declared.streams.Stream.{Stream}
 use Rattle.h2_spec.specs.Change.{only_counts, stream_error, with_outcome, with_size_update_pending}
 use Rattle.h2_spec.specs.Data.{counted, data_counted, data_outcome, data_refused, data_taken, if_within, owed_as, owed_on_connection}
@@ -33,8 +33,8 @@ counted-by core now r s same is h = subst (λ (k : ConnectionState). IsCounted k
 pub nothing-counted : (core : ConnectionState) → IsCounted core (nothing core)
 nothing-counted core = refl
 
-pub ping-counted : (core : ConnectionState) (is_answer : Bool) (octets : List ℕ) → IsCounted core (if is_answer then nothing core else Continues (record (only_counts core) { first = PingAck octets }))
-ping-counted core is_answer octets = by-test core is_answer (nothing core) (Continues (record (only_counts core) { first = PingAck octets })) refl refl
+pub ping-counted : (core : ConnectionState) (is_answer : Bool) (octets : List ℕ) → IsCounted core (if is_answer then nothing core else Continues (record (only_counts core) { connection_frame = PingAck octets }))
+ping-counted core is_answer octets = by-test core is_answer (nothing core) (Continues (record (only_counts core) { connection_frame = PingAck octets })) refl refl
 
 pub window-counted : (core : ConnectionState) (n : ℕ) → IsCounted core (connection_window core n)
 unfolding connection_window
@@ -55,7 +55,7 @@ stream-window-counted core n st = at st.kind
     moved : (with_outcome (only_counts core) (window_outcome core.peer.size_update_pending n st)).core ≡ with_counts core (with_outcome (only_counts core) (window_outcome core.peer.size_update_pending n st)).core
     moved = outcome-counted core (only_counts core) (window_outcome core.peer.size_update_pending n st) refl
 
-    at : (kind : Kind) → IsCounted core (run_cell ConnectionError (nothing core) (λ rule. window_rule rule core n st) (window_cell kind))
+    at : (kind : StreamState) → IsCounted core (run_cell ConnectionError (nothing core) (λ rule. window_rule rule core n st) (window_cell kind))
     at Idle = tt
     at Skipped = refl
     at BothOpen = moved
@@ -72,7 +72,7 @@ reset-counted core st = at st.kind
     moved : (with_outcome (only_counts core) (reset_outcome core.peer.size_update_pending st)).core ≡ with_counts core (with_outcome (only_counts core) (reset_outcome core.peer.size_update_pending st)).core
     moved = outcome-counted core (only_counts core) (reset_outcome core.peer.size_update_pending st) refl
 
-    at : (kind : Kind) → IsCounted core (run_cell ConnectionError (nothing core) (λ rule. reset_rule rule core st) (reset_cell kind))
+    at : (kind : StreamState) → IsCounted core (run_cell ConnectionError (nothing core) (λ rule. reset_rule rule core st) (reset_cell kind))
     at Idle = tt
     at Skipped = refl
     at BothOpen = moved
@@ -116,7 +116,7 @@ data-counted config core body d st = at st.kind
     counting : IsCounted core (data_counted config core d)
     counting = within-counted core d.octets change (counted-counted config.credit core d.octets)
 
-    at : (kind : Kind) → IsCounted core (run_cell ConnectionError (nothing core) (λ rule. data_rule rule config core body d st) (data_cell kind))
+    at : (kind : StreamState) → IsCounted core (run_cell ConnectionError (nothing core) (λ rule. data_rule rule config core body d st) (data_cell kind))
     at Idle = tt
     at Skipped = tt
     at BothOpen = taken

@@ -15,8 +15,8 @@ use Rattle.h2_conn.specs.Reports.{used_by}
 use Rattle.h2_conn.specs.declared.report.TakenItem.{TakenItem}
 use Rattle.std.specs.Option.{is_some}
 use Rattle.h2_conn.proofs.Items.{item-short}
-use Rattle.h2_conn.specs.Marks.{Follows}
-use Rattle.h2_conn.proofs.MarkLaws.{IsOrdered, follows-refl, step-follows}
+use Rattle.h2_conn.specs.Follows.{Follows}
+use Rattle.h2_conn.proofs.FollowsLaws.{IsOrdered, follows-refl, step-follows}
 
 next-is : (p : Phase) (limit : ℕ) (b : List ℕ) → is_ended p ≡ false → trace.next_in p limit b ≡ next (awaits_preface p) limit b
 next-is phase.Preface limit b h = refl

@@ -1,7 +1,7 @@
 -- What sending leaves as it is of the streams' states.
 use Rattle.std.proofs.Common.{◌≡◌, ℕ, ◌-◌, ◌%◌, ltb, eqb, List, [], ◌∷◌, Bool, true, false, cond, Option, Some, None, refl, ap, ◌∙◌}
-use Rattle.h2_spec.specs.declared.streams.Kind.{Kind}
-use Rattle.h2_spec.specs.declared.streams.Kind.TheVariants.{Idle, Skipped, BothOpen, HalfRemote, HalfLocal, Ended, PeerReset, WeReset}
+use Rattle.h2_spec.specs.declared.streams.StreamState.{StreamState}
+use Rattle.h2_spec.specs.declared.streams.StreamState.TheVariants.{Idle, Skipped, BothOpen, HalfRemote, HalfLocal, Ended, PeerReset, WeReset}
 use Rattle.h2_spec.specs.declared.streams.Stream.{Stream}
 use Rattle.h2_spec.specs.declared.connection.Purpose.{Purpose}
 use Rattle.h2_spec.specs.declared.connection.Purpose.TheVariants.{Request, Trailers, Closed, TableOnly}
@@ -14,11 +14,11 @@ use Rattle.h2_conn.specs.Blocks.{IsDecodedAt, IsOpenAt, IsOpenFor}
 use Rattle.h2_conn.proofs.AboveLaws.{id-after_sending}
 
 -- a test that says the same of a state and of that after the server's last frame
-pub sent-kind : (test : Kind → Bool) → test HalfLocal ≡ test BothOpen → test Ended ≡ test HalfRemote → (n : ℕ) (st : Stream) → test (after_sending n st).kind ≡ test st.kind
+pub sent-kind : (test : StreamState → Bool) → test HalfLocal ≡ test BothOpen → test Ended ≡ test HalfRemote → (n : ℕ) (st : Stream) → test (after_sending n st).kind ≡ test st.kind
 unfolding after_sending server_ended
 sent-kind test both half n st = by_tests (eqb n 0) (eqb (octets_waiting st) n)
   where
-    ended : (k : Kind) → st.kind ≡ k → test (server_ended_as k (with_paid st n)).kind ≡ test k
+    ended : (k : StreamState) → st.kind ≡ k → test (server_ended_as k (with_paid st n)).kind ≡ test k
     ended BothOpen e = both
     ended HalfRemote e = half
     ended Idle e = ap test e
@@ -33,7 +33,7 @@ sent-kind test both half n st = by_tests (eqb n 0) (eqb (octets_waiting st) n)
     by_tests false true = ended st.kind refl
     by_tests false false = refl
 
-sent-record : (test : Kind → Bool) → test HalfLocal ≡ test BothOpen → test Ended ≡ test HalfRemote → (id window : ℕ) (streams : List Stream) →
+sent-record : (test : StreamState → Bool) → test HalfLocal ≡ test BothOpen → test Ended ≡ test HalfRemote → (id window : ℕ) (streams : List Stream) →
     test (recorded id (record_of (all_after_sending window streams) id)).kind ≡ test (recorded id (record_of streams id)).kind
 unfolding all_after_sending
 sent-record test both half id window [] = refl
@@ -53,7 +53,7 @@ sent-record test both half id window (st ∷ sts) =
     by_test false rest = rest
 
 -- the same of a stream by its identifier
-pub sent-kinds : (test : Kind → Bool) → test HalfLocal ≡ test BothOpen → test Ended ≡ test HalfRemote → (last id window : ℕ) (streams : List Stream) →
+pub sent-kinds : (test : StreamState → Bool) → test HalfLocal ≡ test BothOpen → test Ended ≡ test HalfRemote → (last id window : ℕ) (streams : List Stream) →
     test (kind_of last (all_after_sending window streams) id) ≡ test (kind_of last streams id)
 unfolding stream_at
 sent-kinds test both half last id window streams = by_tests (eqb (id % 2) 0) (ltb last id)

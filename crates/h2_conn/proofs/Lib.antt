@@ -9,7 +9,7 @@ mod GrantedLaws
 pub mod Items
 mod InsideLaws
 mod KindLaws
-pub mod MarkLaws
+pub mod FollowsLaws
 mod ApplyChangeLaws
 mod PartLaws
 pub mod Phases

@@ -6,7 +6,7 @@ use Rattle.h2_spec.specs.declared.reactions.StreamFrame.{StreamFrame}
 use Rattle.h2_spec.specs.declared.reactions.StreamFrame.TheVariants.{NoStreamFrame, Reset, StreamCredit}
 use Rattle.h2_spec.specs.declared.streams.Stream.{Stream}
 use Rattle.h2_spec.specs.Answer.{Entry}
-use Rattle.h2_spec.specs.Change.{second_frames}
+use Rattle.h2_spec.specs.Change.{stream_frames}
 use Rattle.h2_spec.specs.Frame.{Frame}
 use Rattle.h2_spec.specs.SendPending.{data_frames, data_upto, piece, sent_frames, allowance, allowance_frames}
 use Rattle.h2_conn.specs.Does.{AreShort}
@@ -15,7 +15,7 @@ pub short-append : (fs gs : List Frame) → AreShort fs → AreShort gs → AreS
 short-append [] gs h k = k
 short-append (f ∷ fs) gs h k = (h.0, short-append fs gs h.1 k)
 
-pub second-short : (second : StreamFrame) → AreShort (second_frames second)
+pub second-short : (second : StreamFrame) → AreShort (stream_frames second)
 second-short NoStreamFrame = tt
 second-short (Reset id code) = (omega arith, tt)
 second-short (StreamCredit id n) = (omega arith, tt)

@@ -7,7 +7,7 @@ use Rattle.h2_fields.specs.Blocks.{faulted}
 use Rattle.h2_fields.specs.Drafts.{Grows, IsStopped}
 use Rattle.h2_fields.specs.declared.fault.BlockFault.{BlockFault}
 use Rattle.h2_fields.specs.declared.fault.BlockFault.TheVariants as fault
-use Rattle.h2_fields.specs.declared.collected.Mark.{Mark}
+use Rattle.h2_fields.specs.declared.collected.Savepoint.{Savepoint}
 use Rattle.h2_spec.specs.Block.{Decoded, FieldsSoFar, Progress, Unfinished, decoded, list_size, progress_with}
 use Rattle.h2_spec.specs.DynamicTable.{Table}
 use Rattle.h2_spec.specs.Field.{Field}
@@ -19,24 +19,24 @@ use Rattle.h2_conn.specs.Fragments.{HasFault, after_fragment, before_fragment}
 front : (old now : FieldsSoFar) (n : ℕ) → n ≡ length old.fields → Grows old now → take n now.fields ≡ old.fields
 front old now n e g = ap (λ k. take k now.fields) e ∙ ap (take (length old.fields)) g.1 ∙ take-append_seam old.fields g.0
 
--- the block before a fragment is known by the mark of its fields and by the octets that were left
-pub is-before : (purpose : Purpose) (old now : FieldsSoFar) (rest before : List ℕ) (mark : Mark) (d : Decoding) →
+-- the block before a fragment is known by the savepoint of its fields and by the octets that were left
+pub is-before : (purpose : Purpose) (old now : FieldsSoFar) (rest before : List ℕ) (savepoint : Savepoint) (d : Decoding) →
     record { purpose = purpose; fields = old.fields; due = old.due; rest = rest } ≡ d →
-    mark ≡ record { count = length old.fields; size = list_size old.fields; due = old.due } → before ≡ rest → Grows old now →
-    record { purpose = purpose; fields = take mark.count now.fields; due = mark.due; rest = before } ≡ d
-is-before purpose old now rest before mark d view marked same g =
-    ap (λ (fields : List Field). block fields mark.due before) (front old now mark.count (ap (λ (m : Mark). m.count) marked) g)
-    ∙ ap (λ (due : Bool). block old.fields due before) (ap (λ (m : Mark). m.due) marked)
+    savepoint ≡ record { count = length old.fields; size = list_size old.fields; due = old.due } → before ≡ rest → Grows old now →
+    record { purpose = purpose; fields = take savepoint.count now.fields; due = savepoint.due; rest = before } ≡ d
+is-before purpose old now rest before savepoint d view marked same g =
+    ap (λ (fields : List Field). block fields savepoint.due before) (front old now savepoint.count (ap (λ (m : Savepoint). m.count) marked) g)
+    ∙ ap (λ (due : Bool). block old.fields due before) (ap (λ (m : Savepoint). m.due) marked)
     ∙ ap (λ (left : List ℕ). block old.fields old.due left) same
     ∙ view
   where
     block : List Field → Bool → List ℕ → Decoding
     block fields due left = record { purpose = purpose; fields = fields; due = due; rest = left }
 
--- and the mark has their size
-pub is-sized : (old now : FieldsSoFar) (mark : Mark) → mark ≡ record { count = length old.fields; size = list_size old.fields; due = old.due } → Grows old now → mark.size ≡ list_size (take mark.count now.fields)
-is-sized old now mark marked g =
-    ap (λ (m : Mark). m.size) marked ∙ ap list_size (sym (front old now mark.count (ap (λ (m : Mark). m.count) marked) g))
+-- and the savepoint has their size
+pub is-sized : (old now : FieldsSoFar) (savepoint : Savepoint) → savepoint ≡ record { count = length old.fields; size = list_size old.fields; due = old.due } → Grows old now → savepoint.size ≡ list_size (take savepoint.count now.fields)
+is-sized old now savepoint marked g =
+    ap (λ (m : Savepoint). m.size) marked ∙ ap list_size (sym (front old now savepoint.count (ap (λ (m : Savepoint). m.count) marked) g))
 
 -- a block with the same octets left is the same
 pub same-block : (purpose : Purpose) (old : FieldsSoFar) (rest other : List ℕ) (d : Decoding) → record { purpose = purpose; fields = old.fields; due = old.due; rest = rest } ≡ d → other ≡ rest →

@@ -1,6 +1,6 @@
 -- A fragment that is decoded over an edit of the table, and not taken over yet.
 use Rattle.std.specs.Prelude.{◌≡◌, ℕ, List, Some, take}
-use Rattle.h2_fields.specs.declared.collected.Mark.{Mark}
+use Rattle.h2_fields.specs.declared.collected.Savepoint.{Savepoint}
 use Rattle.h2_fields.specs.Blocks.{faulted}
 use Rattle.h2_fields.specs.declared.fault.BlockFault.{BlockFault}
 use Rattle.h2_spec.specs.Block.{Decoded, Progress, Unfinished, list_size}
@@ -10,13 +10,13 @@ use Rattle.h2_spec.specs.State.{Decoding}
 -- what takes a block that is decoded with a fragment more back or on: the end of the fields before the fragment, and
 -- the octets that are left before it and after it
 pub record Tentative : Type 0 where
-  pub mark : Mark
+  pub savepoint : Savepoint
   pub before : List ℕ
   pub after : List ℕ
 
 -- the block as it was before the fragment
 abbrev pub before_of : Decoding → Tentative → Decoding
-before_of d t = record { purpose = d.purpose; fields = take t.mark.count d.fields; due = t.mark.due; rest = t.before }
+before_of d t = record { purpose = d.purpose; fields = take t.savepoint.count d.fields; due = t.savepoint.due; rest = t.before }
 
 -- the block as it is after it
 abbrev pub after_of : Decoding → Tentative → Decoding
@@ -24,7 +24,7 @@ after_of d t = record d { rest = t.after }
 
 -- the size of the fields before it is known
 abbrev pub IsSized : Decoding → Tentative → Type 0
-IsSized d t = t.mark.size ≡ list_size (take t.mark.count d.fields)
+IsSized d t = t.savepoint.size ≡ list_size (take t.savepoint.count d.fields)
 
 -- how far the block has got before it
 abbrev pub before_fragment : Table → Decoding → Progress

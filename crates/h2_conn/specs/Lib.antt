@@ -7,8 +7,8 @@ pub mod Faults
 pub mod First
 pub mod Fragments
 pub mod Granted
-pub mod Mark
-pub mod Marks
+pub mod Checkpoint
+pub mod Follows
 pub mod Parted
 pub mod Prepared
 pub mod Reports

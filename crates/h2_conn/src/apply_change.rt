@@ -1,4 +1,4 @@
-//! A change is made: the frames of the change after a mark in `out`, what becomes of the records, and what is sent from
+//! A change is made: the frames of the change after what is in `out`, what becomes of the records, and what is sent from
 //! them then; where memory is refused, nothing (RFC 9113, 5.4). Definitions: h2_spec's `specs/Change.antt`,
 //! `specs/SendPending.antt`, and `specs/Sending.antt` here.
 
@@ -21,7 +21,7 @@ ghost use Rattle.h2_rules.specs.Sound.{IsSoundChange, in_force, updated_records}
 use crate::send_pending::{sendable, without};
 use crate::send_update::update_and_send;
 use crate::state::{OpenBlock, State};
-use crate::write::{write_first, write_goaway, write_prepared, write_second};
+use crate::write::{write_connection_frame, write_goaway, write_prepared, write_stream_frame};
 use h2_frame::append_frame;
 use h2_request::book::Book;
 use h2_rules::change::stream_cause;
@@ -91,8 +91,8 @@ fn write_change<A: Allocator>(
     ensures short { OnOk result (AreShort (changes.frames_of book.now change.now)) }
     ensures kept { take (vec_len out.old) out.new.items ≡ out.old.items }
 {
-    write_first(change.first, out)?;
-    write_second(change.second, out)?;
+    write_connection_frame(change.connection_frame, out)?;
+    write_stream_frame(change.stream_frame, out)?;
     write_answer(book, change.answer, out)
 }
 
@@ -147,11 +147,11 @@ pub fn send_and_update<A: Allocator + Copy>(
     ensures records { OnOk result (streams.new ≡ records_after change.now.core (updated_records change.now.record_update streams.old)) }
     ensures err { OnErr result ((streams.new ≡ streams.old) × (out.new.items ≡ out.old.items)) }
 {
-    let mark = out.len();
+    let before = out.len();
     match write_and_update(book, streams, change, out) {
         Ok(count) => Ok(count),
         Err(error) => {
-            out.truncate(mark);
+            out.truncate(before);
             Err(error)
         }
     }
@@ -213,13 +213,13 @@ impl<'b, A: Allocator + Copy> State<'b, A> {
         requires kept { IsOpenFor (updated_records change.record_update (records self.old)) self.old.block }
         requires sound { IsSoundChange self.old.book (records self.old) (in_force self.old.core) change }
         ensures ok { OnOk result (Does (then_sent change.core.phase (changes.made self.old change)) out.old.items self.new out.new.items) }
-        ensures cause { IfOk result (λ cause. cause ≡ effect.stream_cause change.second) }
+        ensures cause { IfOk result (λ cause. cause ≡ effect.stream_cause change.stream_frame) }
         ensures err { OnErr result ((self.new ≡ self.old) × (out.new.items ≡ out.old.items)) }
     {
         match send_and_update(self.book, &mut self.streams, &change, out) {
             Ok(count) => {
                 self.core = with_sent(change.core, count);
-                Ok(stream_cause(change.second))
+                Ok(stream_cause(change.stream_frame))
             }
             Err(error) => Err(error),
         }
@@ -239,13 +239,13 @@ impl<'b, A: Allocator + Copy> State<'b, A> {
         requires sound { IsSoundChange self.old.book (records self.old) (in_force self.old.core) change.now }
         requires same { change.now.core ≡ with_counts self.old.core change.now.core }
         ensures ok { OnOk result (Does (then_sent change.now.core.phase (changes.made self.old change.now)) out.old.items self.new out.new.items) }
-        ensures cause { IfOk result (λ cause. cause ≡ effect.stream_cause change.now.second) }
+        ensures cause { IfOk result (λ cause. cause ≡ effect.stream_cause change.now.stream_frame) }
         ensures err { OnErr result ((self.new ≡ self.old) × (out.new.items ≡ out.old.items)) }
     {
         match send_and_update(self.book, &mut self.streams, change, out) {
             Ok(count) => {
                 set_counts(&mut self.core, &change.core, count);
-                Ok(stream_cause(change.second))
+                Ok(stream_cause(change.stream_frame))
             }
             Err(error) => Err(error),
         }

@@ -22,7 +22,7 @@ use h2_spec::causes::Cause;
 use h2_spec::connection::{BlockView, Purpose};
 use h2_spec::frames::{END_STREAM, Head};
 use h2_spec::reactions::Change;
-use h2_spec::streams::Kind;
+use h2_spec::streams::StreamState;
 use h2_table::{Draft, Edit};
 use std::alloc::{AllocError, Allocator};
 
@@ -138,18 +138,18 @@ impl<'b, A: Allocator + Copy> State<'b, A> {
 /// What HEADERS begins on a stream, by the stream's state: a block for this purpose, or a connection error (RFC 9113,
 /// 5.1 and 6.2).
 /// An idle stream that a client may open is above the last one that was opened.
-pub fn headers_purpose(id: u32, kind: Kind) -> Result<Purpose, Cause>
+pub fn headers_purpose(id: u32, kind: StreamState) -> Result<Purpose, Cause>
     ensures rule { cell_of result ≡ headers_cell id kind }
     ensures known { (book : List Entry) (f : InForce) (r : Records) → AreSound book f r.streams → kind ≡ kind_of r.last r.streams id → IfOk result (λ purpose. IsOpenAt r id purpose) }
 {
     match kind {
-        Kind::Idle if id % 2 == 1 => Ok(Purpose::Request),
-        Kind::Idle => Err(Cause::HeadersOnEven),
-        Kind::Skipped => Err(Cause::HeadersOnSkipped),
-        Kind::BothOpen | Kind::HalfLocal => Ok(Purpose::Trailers),
-        Kind::HalfRemote => Ok(Purpose::Closed),
-        Kind::Ended | Kind::PeerReset => Err(Cause::HeadersOnClosed),
-        Kind::WeReset => Ok(Purpose::TableOnly),
+        StreamState::Idle if id % 2 == 1 => Ok(Purpose::Request),
+        StreamState::Idle => Err(Cause::HeadersOnEven),
+        StreamState::Skipped => Err(Cause::HeadersOnSkipped),
+        StreamState::BothOpen | StreamState::HalfLocal => Ok(Purpose::Trailers),
+        StreamState::HalfRemote => Ok(Purpose::Closed),
+        StreamState::Ended | StreamState::PeerReset => Err(Cause::HeadersOnClosed),
+        StreamState::WeReset => Ok(Purpose::TableOnly),
     }
 }
 

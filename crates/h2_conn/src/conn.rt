@@ -15,7 +15,7 @@ ghost use Rattle.h2_spec.specs.State.{is_allowed};
 ghost use Rattle.h2_conn.specs.declared.fault.ConnFault.TheVariants.{Failed, NoMemory};
 ghost use Rattle.h2_conn.specs.Faults.{refusal_after, refusal_for};
 ghost use Rattle.h2_conn.specs.First.{TakesIfAny};
-ghost use Rattle.h2_conn.specs.Marks.{Follows};
+ghost use Rattle.h2_conn.specs.Follows.{Follows};
 ghost use Rattle.h2_conn.specs.Reports.{reported, used_by};
 ghost use Rattle.h2_conn.specs.Runs.{Feeds, FeedsOne, Halts};
 ghost use Rattle.h2_spec.specs.Trace.{next_item};

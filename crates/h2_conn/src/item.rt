@@ -145,7 +145,7 @@ impl<'b, A: Allocator + Copy> State<'b, A> {
 
     /// PING.
     fn on_ping(&self, is_answer: bool, octets: [u8; 8]) -> Reaction
-        ensures rule { result ≡ (if is_answer then rule.nothing self.now.core else reactions.Continues (record (changes.only_counts self.now.core) { first = frames.PingAck octets })) }
+        ensures rule { result ≡ (if is_answer then rule.nothing self.now.core else reactions.Continues (record (changes.only_counts self.now.core) { connection_frame = frames.PingAck octets })) }
         ensures counts { IsCounted self.now.core result }
         ensures sound { IsSound self.now.book (records self.now) (in_force self.now.core) result }
     {
@@ -284,8 +284,8 @@ impl<'b, A: Allocator + Copy> State<'b, A> {
         out: &mut Vec<u8, A>,
     ) -> Result<Option<Cause>, AllocError>
         requires stopped { IsStopped self.old.block }
-        ensures ok { OnOk result (Does (stepped (rule.concluded self.old (makes self.old (if is_answer then rule.nothing self.old.core else reactions.Continues (record (changes.only_counts self.old.core) { first = frames.PingAck octets }))))) out.old.items self.new out.new.items) }
-        ensures cause { IfOk result (λ cause. cause ≡ rule.effect_cause (makes self.old (if is_answer then rule.nothing self.old.core else reactions.Continues (record (changes.only_counts self.old.core) { first = frames.PingAck octets })))) }
+        ensures ok { OnOk result (Does (stepped (rule.concluded self.old (makes self.old (if is_answer then rule.nothing self.old.core else reactions.Continues (record (changes.only_counts self.old.core) { connection_frame = frames.PingAck octets }))))) out.old.items self.new out.new.items) }
+        ensures cause { IfOk result (λ cause. cause ≡ rule.effect_cause (makes self.old (if is_answer then rule.nothing self.old.core else reactions.Continues (record (changes.only_counts self.old.core) { connection_frame = frames.PingAck octets })))) }
         ensures err { OnErr result ((self.new ≡ self.old) × (out.new.items ≡ out.old.items)) }
     {
         let reaction = self.on_ping(is_answer, octets);

@@ -4,6 +4,7 @@
 
 mod apply_change;
 mod block;
+mod checkpoint;
 mod conn;
 mod fault;
 mod feeding;
@@ -11,7 +12,6 @@ mod first;
 mod headers_frame;
 mod item;
 mod look;
-mod mark;
 mod one;
 mod opening;
 mod pieces;
@@ -25,12 +25,12 @@ mod tentative;
 pub mod view;
 mod write;
 
+pub use checkpoint::Checkpoint;
 pub use conn::Conn;
 pub use fault::ConnFault;
 pub use h2_spec::connection::{BlockView, Config, Phase};
 pub use h2_spec::flow::Settings;
 pub use h2_spec::streams::{Numbers, StreamView};
-pub use mark::Mark;
 pub use one::One;
 pub use opening::write_opening;
 pub use report::TakenItem;

@@ -54,19 +54,19 @@ fn feed_or_cut<'b, A: Allocator + Copy>(
     conn: &mut Conn<'b, A>,
     octets: &[u8],
     lengths: &[usize],
-    mark: usize,
+    before: usize,
     out: &mut Vec<u8, A>,
 ) -> Result<(), ConnFault>
     requires new { conn.old ≡ going conn.old.state [] }
-    requires within { mark ≤ length out.old.items }
+    requires within { before ≤ length out.old.items }
     ensures ok { OnOk result (Fed conn.old octets.now out.old.items conn.new out.new.items) }
     ensures fault { IfErr result (λ fault. fault ≡ NoMemory) }
-    ensures cut { OnErr result (out.new.items ≡ take mark out.old.items) }
+    ensures cut { OnErr result (out.new.items ≡ take before out.old.items) }
 {
     match feed_pieces(conn, octets, lengths, out) {
         Ok(()) => Ok(()),
         Err(fault) => {
-            out.truncate(mark);
+            out.truncate(before);
             Err(fault)
         }
     }
@@ -94,9 +94,9 @@ pub fn open_and_feed<'b, A: Allocator + Copy>(
     ensures fault { IfErr result (λ fault. fault ≡ refusal_for (is_allowed config)) }
     ensures unchanged { OnErr result (out.new.items ≡ out.old.items) }
 {
-    let mark = out.as_slice().len();
+    let before = out.as_slice().len();
     let mut conn = Conn::new(book, config, out)?;
-    match feed_or_cut(&mut conn, octets, lengths, mark, out) {
+    match feed_or_cut(&mut conn, octets, lengths, before, out) {
         Ok(()) => Ok(conn),
         Err(fault) => Err(fault),
     }

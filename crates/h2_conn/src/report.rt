@@ -9,7 +9,7 @@ ghost use Rattle.h2_spec.specs.Ignored as rule;
 ghost use Rattle.h2_spec.specs.Payload.{window_part};
 ghost use Rattle.h2_spec.specs.Trace.{next_item};
 ghost use Rattle.h2_conn.specs.First.{TakesIfAny};
-ghost use Rattle.h2_conn.specs.Marks.{Follows};
+ghost use Rattle.h2_conn.specs.Follows.{Follows};
 ghost use Rattle.h2_conn.specs.Reports.{item_head, reported, used_by};
 
 use crate::conn::is_ended;
@@ -23,7 +23,7 @@ use h2_rules::ignored::{
 use h2_spec::causes::Cause;
 use h2_spec::frames::{ACK, FrameType, Head, ItemHead};
 use h2_spec::ignored::Ignored;
-use h2_spec::streams::Kind;
+use h2_spec::streams::StreamState;
 use std::alloc::{AllocError, Allocator};
 
 /// An item that was taken.
@@ -53,7 +53,7 @@ fn item_head(item: &Item<'_>) -> ItemHead
 
 impl<'b, A: Allocator + Copy> State<'b, A> {
     /// The state of the stream that a frame is on.
-    fn kind_at(&self, head: &Head) -> Kind
+    fn kind_at(&self, head: &Head) -> StreamState
         ensures { result ≡ rule.kind_at self.now head.now }
     {
         self.stream_at(head.stream).kind

@@ -10,7 +10,7 @@ ghost use Rattle.h2_conn.specs.Blocks.{bad_end};
 ghost use Rattle.h2_conn.specs.Fragments.{HasFault, IsSized, after_fragment, after_of, before_fragment, before_of};
 
 use crate::state::Decoding;
-use h2_fields::collected::Mark;
+use h2_fields::collected::Savepoint;
 use h2_fields::fault::BlockFault;
 use h2_fields::fragment::decode_piece;
 use h2_fields::rest::{Rest, RestChange};
@@ -27,7 +27,7 @@ pub struct Tentative<A: Allocator> {
     /// The octets that are left before the fragment and after it.
     rest: RestChange<A>,
     /// The end of the fields before the fragment.
-    mark: Mark,
+    savepoint: Savepoint,
 }
 
 impl<A: Allocator> Model for Tentative<A> {
@@ -35,7 +35,7 @@ impl<A: Allocator> Model for Tentative<A> {
 
     ghost Value = { fragments.Tentative };
 
-    ghost view = { λ t. record { mark = t.mark; before = t.rest.before; after = t.rest.after } };
+    ghost view = { λ t. record { savepoint = t.savepoint; before = t.rest.before; after = t.rest.after } };
 }
 
 impl<A: Allocator + Copy> Decoding<A> {
@@ -45,10 +45,10 @@ impl<A: Allocator + Copy> Decoding<A> {
         ensures after { after_of self.new result ≡ self.old }
         ensures sized { IsSized self.new result }
     {
-        let mark = self.collected.mark();
+        let savepoint = self.collected.savepoint();
         let none = Rest::new(self.collected.allocator());
         let rest = RestChange::unchanged(mem::replace(&mut self.rest, none));
-        Tentative { rest, mark }
+        Tentative { rest, savepoint }
     }
 
     /// Decodes a fragment over an edit of the table, which does not change. `edit` may be of any table: its memory is
@@ -70,11 +70,11 @@ impl<A: Allocator + Copy> Decoding<A> {
         ensures decoded { OnOk result.2 (block.decoded table.now.limit (before_fragment table.now.table self.old) (self.old.rest ++ octets.now) ≡ after_fragment (edited table.now.table.entries result.0) (after_of self.new result.1)) }
         ensures faulty { IfErr result.2 (λ fault. fault ≢ NoMemory → HasFault fault (block.decoded table.now.limit (before_fragment table.now.table self.old) (self.old.rest ++ octets.now))) }
     {
-        let mark = self.collected.mark();
+        let savepoint = self.collected.savepoint();
         let none = Rest::new(self.collected.allocator());
         let before = mem::replace(&mut self.rest, none);
         let (edit, rest, result) = decode_piece(&mut self.collected, table, edit, before, octets);
-        (edit, Tentative { rest, mark }, result)
+        (edit, Tentative { rest, savepoint }, result)
     }
 
     /// The block becomes what it was before the fragment.
@@ -82,8 +82,8 @@ impl<A: Allocator + Copy> Decoding<A> {
         requires sized { IsSized self.old tentative }
         ensures { self.new ≡ before_of self.old tentative }
     {
-        let Tentative { rest, mark } = tentative;
-        self.collected.restore(mark);
+        let Tentative { rest, savepoint } = tentative;
+        self.collected.restore(savepoint);
         self.rest = rest.give_up();
     }
 
@@ -91,7 +91,7 @@ impl<A: Allocator + Copy> Decoding<A> {
     pub fn take_over(&mut self, tentative: Tentative<A>)
         ensures { self.new ≡ after_of self.old tentative }
     {
-        let Tentative { rest, mark: _ } = tentative;
+        let Tentative { rest, savepoint: _ } = tentative;
         self.rest = rest.take_over();
     }
 

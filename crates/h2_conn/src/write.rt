@@ -29,15 +29,15 @@ fn write_number<A: Allocator>(
 
 /// Writes what is sent on the connection, or nothing.
 #[inline(always)]
-pub fn write_first<A: Allocator>(
-    first: ConnectionFrame,
+pub fn write_connection_frame<A: Allocator>(
+    connection_frame: ConnectionFrame,
     out: &mut Vec<u8, A>,
 ) -> Result<(), AllocError>
-    ensures ok { OnOk result (out.new.items ≡ out.old.items ++ frames_octets (changes.first_frames first)) }
-    ensures short { AreShort (changes.first_frames first) }
+    ensures ok { OnOk result (out.new.items ≡ out.old.items ++ frames_octets (changes.connection_frames connection_frame)) }
+    ensures short { AreShort (changes.connection_frames connection_frame) }
     ensures err { OnErr result (out.new.items ≡ out.old.items) }
 {
-    match first {
+    match connection_frame {
         ConnectionFrame::NoConnectionFrame => Ok(()),
         ConnectionFrame::SettingsAck => append_frame(SETTINGS, ACK, 0, &[], &[], out),
         ConnectionFrame::PingAck(octets) => append_frame(PING, ACK, 0, &[], &octets, out),
@@ -47,14 +47,14 @@ pub fn write_first<A: Allocator>(
 
 /// Writes what is sent on a stream, or nothing.
 #[inline(always)]
-pub fn write_second<A: Allocator>(
-    second: StreamFrame,
+pub fn write_stream_frame<A: Allocator>(
+    stream_frame: StreamFrame,
     out: &mut Vec<u8, A>,
 ) -> Result<(), AllocError>
-    ensures ok { OnOk result (out.new.items ≡ out.old.items ++ frames_octets (changes.second_frames second)) }
+    ensures ok { OnOk result (out.new.items ≡ out.old.items ++ frames_octets (changes.stream_frames stream_frame)) }
     ensures err { OnErr result (out.new.items ≡ out.old.items) }
 {
-    match second {
+    match stream_frame {
         StreamFrame::NoStreamFrame => Ok(()),
         StreamFrame::Reset(id, cause) => {
             write_number(RST_STREAM, id, cause.code().number(), out)

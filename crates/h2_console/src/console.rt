@@ -1,6 +1,6 @@
 //! A person, or a program, at a session: lines are read one at a time, each is given to the session as the command that
 //! it means, and what is no command of the session is answered here. It uses `commands` and `items`, and an
-//! `Explainer`, which the program gives.
+//! `OctetsExplainer`, which the program gives.
 
 ghost use Rattle.std.specs.Prelude.{◌≤◌, length, IfOk};
 
@@ -13,7 +13,7 @@ use std::io;
 use std::io::{Read, Write};
 
 /// What explains octets, once a session is asked for it.
-pub trait Explainer {
+pub trait OctetsExplainer {
     /// What `explain` prints of a text of hex.
     fn explain(&self, alloc: Global, text: &[u8]) -> Result<Vec<u8>, AllocError>;
 }
@@ -57,7 +57,7 @@ pub struct Manner<X> {
     pub explainer: X,
 }
 
-impl<'c, R: Read, O: Write, E: Write, X: Explainer> Console<'c, R, O, E, X> {
+impl<'c, R: Read, O: Write, E: Write, X: OctetsExplainer> Console<'c, R, O, E, X> {
     /// Lines of a reader; what is answered here is written to `output`, prompts to `errors`.
     pub fn new(
         alloc: Global,
@@ -256,7 +256,7 @@ enum Next {
     End,
 }
 
-impl<R: Read, O: Write, E: Write, X: Explainer> Read for Console<'_, R, O, E, X> {
+impl<R: Read, O: Write, E: Write, X: OctetsExplainer> Read for Console<'_, R, O, E, X> {
     fn read(&mut self, buffer: &mut [u8]) -> io::Result<usize> {
         if self.is_first {
             self.prompt()?;
@@ -276,7 +276,7 @@ pub enum Behind<'c, R, O, E, X> {
     Console(Console<'c, R, O, E, X>),
 }
 
-impl<R: Read, O: Write, E: Write, X: Explainer> Read for Behind<'_, R, O, E, X> {
+impl<R: Read, O: Write, E: Write, X: OctetsExplainer> Read for Behind<'_, R, O, E, X> {
     fn read(&mut self, buffer: &mut [u8]) -> io::Result<usize> {
         match self {
             Behind::Plain(reader) => reader.read(buffer),

@@ -9,13 +9,17 @@ mod copied;
 mod hexed;
 mod items;
 mod second_look;
+mod served;
+mod stopwatch;
 mod taken;
 mod waiting;
 mod watched;
 
-pub use console::{Behind, Console, Explainer, Manner};
+pub use console::{Behind, Console, Manner, OctetsExplainer};
 pub use hexed::{Hexed, hex_of};
 pub use second_look::{Outcome, say_outcome, say_refused_words};
+pub use served::ServerOutput;
+pub use stopwatch::Stopwatch;
 pub use taken::{Front, TakenInput, one_line};
 pub use waiting::{WaitingInput, WaitingOutput};
 pub use watched::{Noted, Watched};

@@ -2,7 +2,7 @@
 //! that of the faults.
 
 use h2_reasons::{
-    Source, Words, digit_count, has_offsets, is_hex, range_of, say_bad_line, say_limits,
+    InputSource, TextBuilder, digit_count, has_offsets, is_hex, range_of, say_bad_line, say_limits,
     say_more_octets, say_no_file, say_no_hex, say_no_memory, say_no_octets, say_no_text,
     say_offsets, say_port, say_range, say_table_faults, say_too_long, say_unread, say_unwritten,
 };
@@ -24,7 +24,7 @@ pub struct Outcome<'o> {
     /// Whether a sentence was written already, for the book.
     pub is_said: bool,
     /// What was read.
-    pub source: Source<'o>,
+    pub source: InputSource<'o>,
     /// What was read of it.
     pub seen: &'o [u8],
     /// Whether memory for that was refused.
@@ -37,7 +37,7 @@ pub struct Outcome<'o> {
 
 impl Outcome<'_> {
     /// Says why the input was not read; says whether it was.
-    fn say_input(self, out: &mut Words) -> bool {
+    fn say_input(self, out: &mut TextBuilder) -> bool {
         if let Some(kind) = self.failure {
             say_unread(self.source, kind, out);
         } else if self.seen.len() > LIMIT {
@@ -51,7 +51,7 @@ impl Outcome<'_> {
     }
 
     /// Says what is wrong with octets as hex, or with the limits of a connection.
-    fn say_octets(self, config: Option<Config>, out: &mut Words) {
+    fn say_octets(self, config: Option<Config>, out: &mut TextBuilder) {
         if !self.say_input(out) {
             return;
         }
@@ -63,7 +63,7 @@ impl Outcome<'_> {
     }
 
     /// Says what is strange about octets that were taken.
-    fn warn(self, out: &mut Words) {
+    fn warn(self, out: &mut TextBuilder) {
         if self.failure.is_some() || self.is_cut {
             return;
         }
@@ -75,7 +75,7 @@ impl Outcome<'_> {
     }
 
     /// Says of octets that were refused why, and warns of others.
-    fn say_hex(self, config: Option<Config>, out: &mut Words) {
+    fn say_hex(self, config: Option<Config>, out: &mut TextBuilder) {
         if self.status == 1 {
             self.say_octets(config, out);
         } else {
@@ -84,7 +84,7 @@ impl Outcome<'_> {
     }
 
     /// Says why a script was refused.
-    fn say_script(self, alloc: Global, out: &mut Words) {
+    fn say_script(self, alloc: Global, out: &mut TextBuilder) {
         if self.status != 1 || !self.say_input(out) {
             return;
         }
@@ -105,7 +105,7 @@ impl Outcome<'_> {
     }
 
     /// Says which lines of `table` were refused.
-    fn say_table(self, limit: u32, out: &mut Words) {
+    fn say_table(self, limit: u32, out: &mut TextBuilder) {
         if self.status == 1 {
             if self.say_input(out) {
                 say_no_memory(out);
@@ -115,7 +115,7 @@ impl Outcome<'_> {
         }
     }
 
-    fn say_batch(self, alloc: Global, batch: &Batch<'_>, out: &mut Words) {
+    fn say_batch(self, alloc: Global, batch: &Batch<'_>, out: &mut TextBuilder) {
         match batch {
             Batch::Play(play) => self.say_hex(Some(play.config), out),
             Batch::Dis => self.say_hex(None, out),
@@ -127,18 +127,18 @@ impl Outcome<'_> {
     /// The octets that a session was given: those of a file, or of the first line.
     fn first(self) -> Self {
         match self.source {
-            Source::Input => Outcome {
+            InputSource::Input => Outcome {
                 seen: first_line(self.seen),
                 ..self
             },
-            Source::File(_) => self,
+            InputSource::File(_) => self,
         }
     }
 
     /// Says why a session did not begin, or that it was given more octets than it took. Its commands that were refused, and
     /// memory that was, have their sentences already.
-    fn say_session(self, config: Config, out: &mut Words) {
-        if let (Source::Input, 0, false) = (self.source, self.status, self.is_cut) {
+    fn say_session(self, config: Config, out: &mut TextBuilder) {
+        if let (InputSource::Input, 0, false) = (self.source, self.status, self.is_cut) {
             say_more_octets(self.seen, out);
         }
         if self.status != 1 || !self.say_input(out) {
@@ -150,7 +150,7 @@ impl Outcome<'_> {
     }
 
     /// Says why nothing was served.
-    fn say_served(self, config: Config, port: u32, out: &mut Words) {
+    fn say_served(self, config: Config, port: u32, out: &mut TextBuilder) {
         if self.status != 1 {
             return;
         }
@@ -171,7 +171,7 @@ fn first_line(text: &[u8]) -> &[u8] {
 }
 
 /// Says what is to be said about a command that ended.
-pub fn say_outcome(alloc: Global, plan: &Plan<'_>, outcome: Outcome<'_>, out: &mut Words) {
+pub fn say_outcome(alloc: Global, plan: &Plan<'_>, outcome: Outcome<'_>, out: &mut TextBuilder) {
     if let Some(kind) = outcome.unwritten {
         say_unwritten(kind, out);
     } else if !outcome.is_said {
@@ -195,7 +195,7 @@ fn is_within(value: &str, least: u64, most: u64) -> bool {
 }
 
 /// Says that the number of an option is out of range, if it is.
-fn say_option(option: &str, value: &str, out: &mut Words) {
+fn say_option(option: &str, value: &str, out: &mut TextBuilder) {
     if let Some(range) = range_of(option)
         && !is_within(value, range.least, range.most)
     {
@@ -212,7 +212,7 @@ fn refused_word(printed: &str) -> Option<&str> {
 }
 
 /// Says of a command that takes no FILE that it was given one.
-fn say_file(words: &[String], printed: &str, out: &mut Words) {
+fn say_file(words: &[String], printed: &str, out: &mut TextBuilder) {
     let Some(command) = words.get(1) else {
         return;
     };
@@ -225,7 +225,7 @@ fn say_file(words: &[String], printed: &str, out: &mut Words) {
 }
 
 /// Says of words that were refused which numbers of options are out of range, and which word is a file.
-pub fn say_refused_words(refusal: &Refusal, words: &[String], out: &mut Words) {
+pub fn say_refused_words(refusal: &Refusal, words: &[String], out: &mut TextBuilder) {
     let Refusal::Words(printed) = refusal else {
         say_no_memory(out);
         return;

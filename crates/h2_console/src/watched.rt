@@ -5,7 +5,7 @@ ghost use Rattle.std.specs.Prelude.{◌≡◌, None, false};
 
 use crate::items::number_in;
 use h2_device::{DeviceFault, Output};
-use h2_reasons::{Words, say_session_fault};
+use h2_reasons::{TextBuilder, say_session_fault};
 use std::alloc::Global;
 use std::cell::Cell;
 use std::io::Write;
@@ -117,7 +117,7 @@ impl<'w, O: Output, E: Write> Watched<'w, O, E> {
         if let Some(number) = line.strip_prefix(b"fault ".as_slice())
             && !self.is_quiet
         {
-            let mut words = Words::new(self.alloc);
+            let mut words = TextBuilder::new(self.alloc);
             say_session_fault(self.line, number, &mut words);
             if let Ok(text) = words.finish() {
                 let _ = self.errors.write_all(text.as_bytes());

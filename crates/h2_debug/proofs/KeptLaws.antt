@@ -8,8 +8,8 @@ use Rattle.h2_spec.specs.Trace.{next_event, trace}
 use Rattle.h2_debug.proofs.PlaceLaws.{place-anew, place-took}
 use Rattle.h2_debug.specs.Debugging.{Debugging, IsKept, farthest_or, nearest_kept, reached_among, replay_count, replay_start}
 use Rattle.h2_conn.specs.Connection.{Connection, going}
-use Rattle.h2_conn.specs.Mark.{IsConsistent, Precedes}
-use Rattle.h2_conn.specs.Marks.{Follows}
+use Rattle.h2_conn.specs.Checkpoint.{IsConsistent, Precedes}
+use Rattle.h2_conn.specs.Follows.{Follows}
 use Rattle.h2_debug.specs.Places.{Source, Placed, Kept, Advances, IsAt, IsKeptOf, IsReached, AreKept, at, end, kept_of, start}
 
 kept-one : (r : Source) (i : ℕ) (k : Kept) (ks : List Kept) → AreKept r i ks → IsKeptOf r k → k.position ≡ (i + length ks) * 64 → AreKept r i (ks ++ k ∷ [])
@@ -37,13 +37,13 @@ place-follows r p far x y le =
     rw (here, there) (y.follows p.position le)
 
 -- what is kept of a place before another can be made again from that one
-pub kept-precedes : (r : Source) (k : Kept) (far : Placed) → IsKeptOf r k → IsAt r far → k.position ≤ far.position → Precedes k.mark far.connection.state
+pub kept-precedes : (r : Source) (k : Kept) (far : Placed) → IsKeptOf r k → IsAt r far → k.position ≤ far.position → Precedes k.checkpoint far.connection.state
 kept-precedes r k far x y le =
     let same : k.position ≡ x.place.position = ap (λ (j : Kept). j.position) x.same in
     record {
       state = x.place.connection.state;
       consistent = x.consistent;
-      marked = ap (λ (j : Kept). j.mark) x.same;
+      taken = ap (λ (j : Kept). j.checkpoint) x.same;
       follows = place-follows r x.place far x.here y (omega (arith, le, same));
     }
 

@@ -16,9 +16,9 @@ use Rattle.h2_conn.specs.First.{TakesFirst}
 use Rattle.h2_conn.specs.Reports.{report_of, reported}
 use Rattle.h2_conn.specs.declared.report.TakenItem.{TakenItem}
 use Rattle.h2_debug.specs.Reasons.{no_reasons, reasons_by, reasons_in, reasons_of}
-use Rattle.h2_conn.specs.Marks.{Follows}
+use Rattle.h2_conn.specs.Follows.{Follows}
 use Rattle.h2_conn.proofs.Items.{comes-past}
-use Rattle.h2_conn.proofs.MarkLaws.{follows-refl, follows-then}
+use Rattle.h2_conn.proofs.FollowsLaws.{follows-refl, follows-then}
 use Rattle.h2_debug.proofs.BreakLaws.{comes-head}
 use Rattle.h2_debug.specs.Items.{is_item}
 use Rattle.h2_debug.specs.Places.{Source, Placed, IsAt, TakesItem, HasNoItem, Advances, start, end, events, at, frames_at, reasons_at}

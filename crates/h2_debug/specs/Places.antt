@@ -10,8 +10,8 @@ use Rattle.h2_spec.specs.Opening.{opening_settings}
 use Rattle.h2_spec.specs.State.{State, opening}
 use Rattle.h2_spec.specs.Trace.{Event, trace}
 use Rattle.h2_conn.specs.Connection.{Connection, awaits_preface, going}
-use Rattle.h2_conn.specs.Mark.{IsConsistent, Marked, mark_of}
-use Rattle.h2_conn.specs.Marks.{Follows}
+use Rattle.h2_conn.specs.Checkpoint.{IsConsistent, CheckpointView, checkpoint_of}
+use Rattle.h2_conn.specs.Follows.{Follows}
 use Rattle.h2_debug.specs.Items.{IsItem}
 use Rattle.h2_debug.specs.Reasons.{reasons_in}
 use Rattle.h2_debug.specs.declared.reasons.Reasons.{Reasons}
@@ -94,10 +94,10 @@ abbrev pub Advances : Source → Placed → Placed → Bool → Type 0
 Advances r before after true = TakesItem r before after
 Advances r before after false = HasNoItem r before after
 
--- a mark of a connection, how many items and how many octets it took, why the last item was an error or was ignored,
+-- a checkpoint of a connection, how many items and how many octets it took, why the last item was an error or was ignored,
 -- and what was sent for it
 pub record Kept : Type 0 where
-  pub mark : Marked
+  pub checkpoint : CheckpointView
   pub position : ℕ
   pub used : ℕ
   pub reasons : Reasons
@@ -105,7 +105,7 @@ pub record Kept : Type 0 where
 
 -- what is kept of a place
 abbrev pub kept_of : Placed → Kept
-kept_of p = record { mark = mark_of p.connection.state; position = p.position; used = p.used; reasons = p.reasons; sent = p.sent }
+kept_of p = record { checkpoint = checkpoint_of p.connection.state; position = p.position; used = p.used; reasons = p.reasons; sent = p.sent }
 
 -- what is kept of a place of a run
 pub record IsKeptOf (r : Source) (k : Kept) : Type 0 where

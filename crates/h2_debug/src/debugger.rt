@@ -1,7 +1,7 @@
 //! A debugger: a position in the run of a new connection over octets, moved forward and back. The program does not call
-//! `view`, `show` and `replayed`, which are for users of the library: it writes the text of `conn`. A mark of the place
+//! `view`, `show` and `replayed`, which are for users of the library: it writes the text of `conn`. A checkpoint of the place
 //! at each multiple of 64 is kept from when it is first left, so that no move runs more than 63 items again. A place is
-//! made again from its mark and the records of the farthest place that was reached. Definitions: h2_spec's
+//! made again from its checkpoint and the records of the farthest place that was reached. Definitions: h2_spec's
 //! `specs/Debug.antt` for positions and breakpoints, `specs/Debugging.antt` for what a debugger represents.
 
 ghost use Rattle.std.specs.Prelude.{◌≡◌, ◌⊎◌, ◌+◌, ◌-◌, ◌<◌, ◌≤◌, ◌==◌, [], ◌∷◌, nat_lt, ◌++◌, IfErr, IfOk, IfSome, OnErr, OnOk, length, min, slice_get, nat_le, ◌&&◌, false, true, None, Some, if◌then◌else◌};
@@ -196,7 +196,7 @@ impl<'b, A: Allocator + Copy> Debugger<'b, A> {
         }
     }
 
-    /// The place where a move to a position starts: the greatest one of which a mark is kept that is not after it, or
+    /// The place where a move to a position starts: the greatest one of which a checkpoint is kept that is not after it, or
     /// the present one where that is between the two. It has taken no item yet.
     /// `AllocError` if it is out of memory.
     fn start_for(&self, target: usize) -> Result<Place<'b, A>, AllocError>

@@ -3,7 +3,7 @@
 
 ghost use Rattle.std.specs.Prelude.{◌≡◌, ◌+◌, ◌-◌, ◌*◌, ◌<◌, ◌≤◌, [], ◌∷◌, ◌++◌, IfOk, OnErr, OnOk, length, min, map};
 ghost use Rattle.h2_spec.specs.Debug.{stop};
-ghost use Rattle.h2_conn.specs.Mark.{IsConsistent};
+ghost use Rattle.h2_conn.specs.Checkpoint.{IsConsistent};
 ghost use Rattle.h2_debug.specs.Breakpoints.{break_of};
 ghost use Rattle.h2_debug.specs.Places.{Advances, AreKept, IsAt, IsReached, Source, end, events, kept_of};
 
@@ -16,7 +16,7 @@ use std::alloc::{AllocError, Allocator};
 /// How many items there are from one place of which something is kept to the next.
 pub const SPACING: usize = 64;
 
-/// Keeps a mark of a place after those that are kept, with which it shares what it can.
+/// Keeps a checkpoint of a place after those that are kept, with which it shares what it can.
 #[inline(never)]
 fn keep<'b, A: Allocator + Copy>(
     place: &Place<'b, A>,
@@ -31,7 +31,7 @@ fn keep<'b, A: Allocator + Copy>(
     Ok(())
 }
 
-/// Keeps a mark of a place where it is at the next multiple of 64.
+/// Keeps a checkpoint of a place where it is at the next multiple of 64.
 #[inline(always)]
 pub fn keep_if_due<'b, A: Allocator + Copy>(
     place: &Place<'b, A>,
@@ -48,7 +48,7 @@ pub fn keep_if_due<'b, A: Allocator + Copy>(
     Ok(())
 }
 
-/// Takes the next item, if there is one, and says whether; a mark of the place before it is kept where one is due.
+/// Takes the next item, if there is one, and says whether; a checkpoint of the place before it is kept where one is due.
 /// An `AllocError` leaves the place as it was.
 pub fn keep_and_advance<'b, A: Allocator + Copy>(
     source: &Input<'_, 'b, A>,

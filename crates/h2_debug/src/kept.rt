@@ -1,21 +1,21 @@
-//! What a debugger keeps of places, so that later moves can start from them: a mark of the connection, which is made
+//! What a debugger keeps of places, so that later moves can start from them: a checkpoint of the connection, which is made
 //! again from the records of the farthest place. Definitions: `specs/Places.antt`.
 
 ghost use Rattle.std.specs.Prelude.{◌≡◌, [], IfOk};
 ghost use Rattle.h2_conn.specs.Connection.{going};
-ghost use Rattle.h2_conn.specs.Mark.{IsConsistent, Precedes};
-ghost use Rattle.h2_conn.specs.Marks.{Follows};
+ghost use Rattle.h2_conn.specs.Checkpoint.{IsConsistent, Precedes};
+ghost use Rattle.h2_conn.specs.Follows.{Follows};
 ghost use Rattle.h2_debug.specs.Places.{Placed, kept_of};
 
 use crate::place::{Place, copy_of};
 use crate::reasons::Reasons;
-use h2_conn::Mark;
+use h2_conn::Checkpoint;
 use std::alloc::{AllocError, Allocator};
 use std::marker::Model;
 
 /// What is kept of a place.
 pub struct Kept<'b, A: Allocator> {
-    mark: Mark<'b, A>,
+    checkpoint: Checkpoint<'b, A>,
     position: usize,
     used: usize,
     reasons: Reasons,
@@ -27,14 +27,14 @@ impl<'b, A: Allocator> Model for Kept<'b, A> {
 
     ghost Value = { places.Kept };
 
-    ghost view = { λ k. record { mark = k.mark; position = k.position; used = k.used; reasons = k.reasons; sent = k.sent.items } };
+    ghost view = { λ k. record { checkpoint = k.checkpoint; position = k.position; used = k.used; reasons = k.reasons; sent = k.sent.items } };
 }
 
 /// By hand, as that of `Place`.
 impl<'b, A: Allocator> Drop for Kept<'b, A> {
     fn drop(self) {
         let Self {
-            mark: _,
+            checkpoint: _,
             position: _,
             used: _,
             reasons: _,
@@ -43,10 +43,12 @@ impl<'b, A: Allocator> Drop for Kept<'b, A> {
     }
 }
 
-/// The mark in what was kept of a place, if something was.
-fn mark_in<'m, 'b, A: Allocator>(kept: Option<&'m Kept<'b, A>>) -> Option<&'m Mark<'b, A>> {
+/// The checkpoint in what was kept of a place, if something was.
+fn checkpoint_in<'m, 'b, A: Allocator>(
+    kept: Option<&'m Kept<'b, A>>,
+) -> Option<&'m Checkpoint<'b, A>> {
     match kept {
-        Some(kept) => Some(&kept.mark),
+        Some(kept) => Some(&kept.checkpoint),
         None => None,
     }
 }
@@ -58,10 +60,10 @@ impl<'b, A: Allocator + Copy> Kept<'b, A> {
         ensures same { IfOk result (λ kept. kept ≡ kept_of place.now) }
         ensures consistent { IsConsistent place.now.connection.state }
     {
-        let mark = place.conn().mark(mark_in(earlier))?;
+        let checkpoint = place.conn().checkpoint(checkpoint_in(earlier))?;
         let sent = place.copy_sent()?;
         Ok(Kept {
-            mark,
+            checkpoint,
             position: place.position(),
             used: place.used(),
             reasons: place.reasons(),
@@ -71,11 +73,11 @@ impl<'b, A: Allocator + Copy> Kept<'b, A> {
 
     /// The place of which this was kept, made again from a later one; `AllocError` if it is out of memory.
     pub fn restore(&self, later: &Place<'b, A>) -> Result<Place<'b, A>, AllocError>
-        requires { Precedes self.now.mark later.now.connection.state }
+        requires { Precedes self.now.checkpoint later.now.connection.state }
         ensures { IfOk result (λ place. (p : Placed) → self.now ≡ kept_of p → p.connection ≡ going p.connection.state [] → Follows p.connection.state later.now.connection.state → place ≡ record p { ran = 0 }) }
     {
         let sent = copy_of(&self.sent)?;
-        let conn = self.mark.restore(later.conn())?;
+        let conn = self.checkpoint.restore(later.conn())?;
         Ok(Place::of(conn, self.position, self.used, self.reasons, sent))
     }
 }

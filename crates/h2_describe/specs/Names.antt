@@ -6,8 +6,8 @@ use Rattle.h2_spec.specs.Errors.{code_number}
 use Rattle.h2_spec.specs.FrameType.{END_STREAM, ACK, END_HEADERS, PADDED, WITH_PRIORITY}
 use Rattle.h2_spec.specs.declared.frames.FrameType.{FrameType}
 use Rattle.h2_spec.specs.declared.frames.FrameType.TheVariants.{Data, Headers, Priority, RstStream, Settings, PushPromise, Ping, Goaway, WindowUpdate, Continuation, Unknown}
-use Rattle.h2_spec.specs.declared.streams.Kind.{Kind}
-use Rattle.h2_spec.specs.declared.streams.Kind.TheVariants.{Idle, Skipped, BothOpen, HalfRemote, HalfLocal, Ended, PeerReset, WeReset}
+use Rattle.h2_spec.specs.declared.streams.StreamState.{StreamState}
+use Rattle.h2_spec.specs.declared.streams.StreamState.TheVariants.{Idle, Skipped, BothOpen, HalfRemote, HalfLocal, Ended, PeerReset, WeReset}
 use Rattle.h2_spec.specs.Settings.{SETTINGS_HEADER_TABLE_SIZE, SETTINGS_ENABLE_PUSH, SETTINGS_MAX_CONCURRENT_STREAMS, SETTINGS_INITIAL_WINDOW_SIZE, SETTINGS_MAX_FRAME_SIZE, SETTINGS_MAX_HEADER_LIST_SIZE}
 
 -- the name of an error code, if it has one (7)
@@ -60,7 +60,7 @@ setting_name id =
     else None
 
 -- the state of a stream in words (5.1)
-abbrev pub kind_name : Kind → List ℕ
+abbrev pub kind_name : StreamState → List ℕ
 kind_name Idle = codes "idle"
 kind_name Skipped = codes "closed, unused"
 kind_name BothOpen = codes "open"

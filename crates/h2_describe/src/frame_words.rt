@@ -1,11 +1,12 @@
 //! A frame in words: its type, its stream, its flags by name, and what its payload has. No definition speaks of them.
 
 use crate::names::{Code, registered_setting, say_flags, say_registered, setting_name};
-use crate::say::{Cut, Hex, Octets, Words};
+use crate::say::{Cut, Hex, OctetCount, TextBuilder};
 use crate::say_all;
 use h2_frame::{DataPart, FrameRef, Head, HeadersPart, Part, SettingsPart, part_of};
 use h2_spec::frames::{END_HEADERS, FrameType, WITH_PRIORITY};
 use h2_spec::octets::octets_from;
+use std::alloc::Allocator;
 
 /// Whether a type is on streams only; the others name one only where it is not 0.
 fn is_on_streams(kind: FrameType) -> bool {
@@ -23,7 +24,7 @@ fn is_on_streams(kind: FrameType) -> bool {
 }
 
 /// Puts the type, the stream and the flags of a frame last.
-pub fn say_head(head: &Head, out: &mut Words) {
+pub fn say_head<A: Allocator>(head: &Head, out: &mut TextBuilder<A>) {
     let kind = head.frame_type();
     say_all!(out; kind);
     if is_on_streams(kind) || head.stream != 0 {
@@ -33,22 +34,22 @@ pub fn say_head(head: &Head, out: &mut Words) {
 }
 
 /// Puts the length of a payload last, and that the block stays open where it does: if it can.
-fn say_fragment(head: &Head, can_stay: bool, out: &mut Words) {
-    say_all!(out; ", ", Octets(u64::from(head.length)));
+fn say_fragment<A: Allocator>(head: &Head, can_stay: bool, out: &mut TextBuilder<A>) {
+    say_all!(out; ", ", OctetCount(u64::from(head.length)));
     if can_stay && !head.has(END_HEADERS) {
         say_all!(out; "; the block stays open");
     }
 }
 
 /// Puts the length of the padding last, if a frame is padded.
-fn say_padding(pad: Option<u8>, out: &mut Words) {
+fn say_padding<A: Allocator>(pad: Option<u8>, out: &mut TextBuilder<A>) {
     if let Some(pad) = pad {
         say_all!(out; ", padding ", u64::from(pad));
     }
 }
 
 /// Puts a dependency and a weight last (RFC 9113, 5.3.2; of the 32 bits the first is the exclusive one).
-fn say_priority(bits: u32, weight: u8, out: &mut Words) {
+fn say_priority<A: Allocator>(bits: u32, weight: u8, out: &mut TextBuilder<A>) {
     say_all!(out; ", depends on ", bits % 2_147_483_648);
     if bits >= 2_147_483_648 {
         say_all!(out; ", exclusive");
@@ -56,12 +57,17 @@ fn say_priority(bits: u32, weight: u8, out: &mut Words) {
     say_all!(out; ", weight ", u64::from(weight) + 1);
 }
 
-fn say_data(head: &Head, part: DataPart<'_>, out: &mut Words) {
-    say_all!(out; ", ", Octets(u64::from(head.length)));
+fn say_data<A: Allocator>(head: &Head, part: DataPart<'_>, out: &mut TextBuilder<A>) {
+    say_all!(out; ", ", OctetCount(u64::from(head.length)));
     say_padding(part.pad, out);
 }
 
-fn say_headers(head: &Head, part: HeadersPart<'_>, can_stay: bool, out: &mut Words) {
+fn say_headers<A: Allocator>(
+    head: &Head,
+    part: HeadersPart<'_>,
+    can_stay: bool,
+    out: &mut TextBuilder<A>,
+) {
     if head.has(WITH_PRIORITY) {
         if let Some((bits, weight)) = part.priority {
             say_priority(bits, weight, out);
@@ -72,7 +78,7 @@ fn say_headers(head: &Head, part: HeadersPart<'_>, can_stay: bool, out: &mut Wor
 }
 
 /// Puts a setting last: its name, or its number, and its value.
-fn say_setting(id: u16, value: u32, out: &mut Words) {
+fn say_setting<A: Allocator>(id: u16, value: u32, out: &mut TextBuilder<A>) {
     match setting_name(id) {
         Some(name) => say_all!(out; ", ", name, " ", value),
         None => {
@@ -83,7 +89,7 @@ fn say_setting(id: u16, value: u32, out: &mut Words) {
     }
 }
 
-fn say_settings(settings: SettingsPart<'_>, out: &mut Words) {
+fn say_settings<A: Allocator>(settings: SettingsPart<'_>, out: &mut TextBuilder<A>) {
     if settings.count() == 0 {
         say_all!(out; ", empty");
     }
@@ -95,7 +101,7 @@ fn say_settings(settings: SettingsPart<'_>, out: &mut Words) {
 }
 
 /// Puts the last stream, the code and the debug octets of a GOAWAY last (RFC 9113, 6.8).
-fn say_goaway(last: u32, code: u32, payload: &[u8], out: &mut Words) {
+fn say_goaway<A: Allocator>(last: u32, code: u32, payload: &[u8], out: &mut TextBuilder<A>) {
     say_all!(out; " last ", last, " ", Code(code));
     if payload.len() > 8 {
         say_all!(out; ", debug \"", Cut(octets_from(payload, 8)), "\"");
@@ -103,14 +109,19 @@ fn say_goaway(last: u32, code: u32, payload: &[u8], out: &mut Words) {
 }
 
 /// Puts the dependency of a PRIORITY frame last.
-fn say_dependency(payload: &[u8], out: &mut Words) {
+fn say_dependency<A: Allocator>(payload: &[u8], out: &mut TextBuilder<A>) {
     if let [a, b, c, d, weight] = payload {
         say_priority(u32::from_be_bytes([*a, *b, *c, *d]), *weight, out);
     }
 }
 
 /// Puts what a payload has last.
-fn say_part(frame: FrameRef<'_>, part: Part<'_>, can_stay: bool, out: &mut Words) {
+fn say_part<A: Allocator>(
+    frame: FrameRef<'_>,
+    part: Part<'_>,
+    can_stay: bool,
+    out: &mut TextBuilder<A>,
+) {
     let head = frame.head;
     match part {
         Part::Data(part) => say_data(&head, part, out),
@@ -123,21 +134,22 @@ fn say_part(frame: FrameRef<'_>, part: Part<'_>, can_stay: bool, out: &mut Words
         Part::Goaway(last, code) => say_goaway(last, code, frame.payload, out),
         Part::WindowUpdate(increment) => say_all!(out; ", ", increment),
         Part::Continuation(_) => say_fragment(&head, can_stay, out),
-        Part::PushPromise | Part::Unknown => say_all!(out; ", ", Octets(u64::from(head.length))),
+        Part::PushPromise | Part::Unknown =>
+            say_all!(out; ", ", OctetCount(u64::from(head.length))),
     }
 }
 
 /// Puts a frame in words last; its length alone where its payload can't be read.
-pub fn say_frame(frame: FrameRef<'_>, out: &mut Words) {
+pub fn say_frame<A: Allocator>(frame: FrameRef<'_>, out: &mut TextBuilder<A>) {
     say_frame_in(frame, true, out);
 }
 
 /// The same of a frame that a connection took: `can_stay` is whether a field block can be open after it, since the frame
 /// did not end the connection.
-pub fn say_frame_in(frame: FrameRef<'_>, can_stay: bool, out: &mut Words) {
+pub fn say_frame_in<A: Allocator>(frame: FrameRef<'_>, can_stay: bool, out: &mut TextBuilder<A>) {
     say_head(&frame.head, out);
     match part_of(frame) {
         Ok(part) => say_part(frame, part, can_stay, out),
-        Err(_) => say_all!(out; ", ", Octets(u64::from(frame.head.length))),
+        Err(_) => say_all!(out; ", ", OctetCount(u64::from(frame.head.length))),
     }
 }

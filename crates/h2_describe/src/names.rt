@@ -6,13 +6,14 @@ ghost use Rattle.std.specs.Borrow.{Bor};
 ghost use Rattle.h2_describe.specs.Names as spec;
 ghost use Rattle.h2_spec.specs.Stream as stream;
 
-use crate::say::{HexOctet, Say, Words};
+use crate::say::{HexOctet, Say, TextBuilder};
 use crate::say_all;
 use h2_spec::errors::ErrorCode;
 use h2_spec::frames::{
     ACK, END_HEADERS, END_STREAM, FrameType, Head, PADDED, WITH_PRIORITY, type_name,
 };
-use h2_spec::streams::Kind;
+use h2_spec::streams::StreamState;
+use std::alloc::Allocator;
 
 /// The name of a type that other documents than RFC 9113 register with IANA, and that this server does not use.
 pub fn registered_type(kind: u8) -> Option<&'static str> {
@@ -35,14 +36,14 @@ pub fn registered_setting(id: u16) -> Option<&'static str> {
 }
 
 /// Puts a name last that is registered and not used here, if there is one.
-pub(crate) fn say_registered(name: Option<&'static str>, out: &mut Words) {
+pub(crate) fn say_registered<A: Allocator>(name: Option<&'static str>, out: &mut TextBuilder<A>) {
     if let Some(name) = name {
         say_all!(out; " (", name, ", not used here)");
     }
 }
 
 impl Say for FrameType {
-    fn say(self, out: &mut Words) {
+    fn say<A: Allocator>(self, out: &mut TextBuilder<A>) {
         let kind = self.number();
         match type_name(kind) {
             Some(name) => say_all!(out; name),
@@ -81,7 +82,7 @@ fn flags_of(kind: FrameType) -> &'static [Flag]
 }
 
 /// Puts the flags of a frame last, each after a blank: those of its type by name, the others as a number.
-pub fn say_flags(head: &Head, out: &mut Words) {
+pub fn say_flags<A: Allocator>(head: &Head, out: &mut TextBuilder<A>) {
     let mut rest = head.flags;
     for (bit, name) in flags_of(head.frame_type()) {
         if *bit > 0 && head.has(*bit) {
@@ -122,7 +123,7 @@ pub fn code_name(code: u32) -> Option<&'static str>
 }
 
 impl Say for Code {
-    fn say(self, out: &mut Words) {
+    fn say<A: Allocator>(self, out: &mut TextBuilder<A>) {
         match code_name(self.0) {
             Some(name) => say_all!(out; name),
             None => say_all!(out; "code ", self.0),
@@ -174,24 +175,27 @@ pub fn setting_name(id: u16) -> Option<&'static str>
 }
 
 /// The state of a stream in words (RFC 9113, 5.1).
-pub fn kind_name(kind: Kind) -> &'static str
+pub fn kind_name(kind: StreamState) -> &'static str
     ensures { result.now ≡ spec.kind_name kind }
 {
     match kind {
-        Kind::Idle => "idle",
-        Kind::Skipped => "closed, unused",
-        Kind::BothOpen => "open",
-        Kind::HalfRemote => "half-closed (remote)",
-        Kind::HalfLocal => "half-closed (local)",
-        Kind::Ended => "closed, ended",
-        Kind::PeerReset => "closed, reset by the client",
-        Kind::WeReset => "closed, reset by the server",
+        StreamState::Idle => "idle",
+        StreamState::Skipped => "closed, unused",
+        StreamState::BothOpen => "open",
+        StreamState::HalfRemote => "half-closed (remote)",
+        StreamState::HalfLocal => "half-closed (local)",
+        StreamState::Ended => "closed, ended",
+        StreamState::PeerReset => "closed, reset by the client",
+        StreamState::WeReset => "closed, reset by the server",
     }
 }
 
 /// Whether a stream in this state is counted as live: open or half-closed (RFC 9113, 5.1.2).
-pub fn is_live(kind: Kind) -> bool
+pub fn is_live(kind: StreamState) -> bool
     ensures { result ≡ stream.is_live kind }
 {
-    matches!(kind, Kind::BothOpen | Kind::HalfRemote | Kind::HalfLocal)
+    matches!(
+        kind,
+        StreamState::BothOpen | StreamState::HalfRemote | StreamState::HalfLocal
+    )
 }

@@ -12,10 +12,10 @@ ghost use Rattle.h2_describe.specs.Spelled.{IsDone, IsStep, Spelled, fields_of, 
 
 use crate::spelled::{SpelledField, Spelling, Stopped};
 use h2_fields::fault::BlockFault;
-use h2_fields::instruction::{Instr, InstrRead, Mode, Name, Text, read_instr};
+use h2_fields::instruction::{HpackString, Instr, InstrRead, Mode, Name, read_instr};
 use h2_spec::octets::octets_from;
 use h2_table::{DynTable, static_field};
-use std::alloc::{AllocError, Global};
+use std::alloc::{AllocError, Allocator};
 use std::marker::Model;
 
 /// The most that the fields before a field may count for it to be kept, in octets: a list that counts more is an error
@@ -24,15 +24,15 @@ const MOST: usize = 65536;
 
 /// How far a block has got: the dynamic table, the fields that are kept, and the table size updates.
 #[derive(Drop)]
-pub(crate) struct Reading {
-    table: DynTable<Global>,
-    fields: Vec<SpelledField>,
-    updates: Vec<u64>,
+pub(crate) struct Reading<A: Allocator> {
+    table: DynTable<A>,
+    fields: Vec<SpelledField<A>, A>,
+    updates: Vec<u64, A>,
     /// What the fields count together, 32 each beside their octets.
     size: usize,
 }
 
-impl Model for Reading {
+impl<A: Allocator> Model for Reading<A> {
     ghost use Rattle.std.specs.Prelude.{◌≡◌};
     ghost use Rattle.h2_spec.specs.Block.{list_size};
     ghost use Rattle.h2_describe.specs.Spelled as spec;
@@ -53,9 +53,9 @@ pub(crate) enum Step {
     Stop(Option<Stopped>),
 }
 
-impl Reading {
+impl<A: Allocator + Copy> Reading<A> {
     /// Nothing was read, and the table is empty, with this limit and maximum in octets.
-    pub(crate) fn new(alloc: Global, limit: u32) -> Result<Reading, AllocError>
+    pub(crate) fn new(alloc: A, limit: u32) -> Result<Self, AllocError>
         ensures { IfOk result (λ r. r ≡ record { table = record { table = record { entries = []; max = limit }; limit = limit }; fields = []; updates = [] }) }
     {
         Ok(Reading {
@@ -84,7 +84,7 @@ impl Reading {
     }
 
     /// The fields that are kept.
-    pub(crate) fn fields(&self) -> &[SpelledField]
+    pub(crate) fn fields(&self) -> &[SpelledField<A>]
         ensures { result.now ≡ self.now.fields }
     {
         self.fields.as_slice()
@@ -146,7 +146,7 @@ impl Reading {
     /// at, if it did.
     pub(crate) fn read_all(
         &mut self,
-        alloc: Global,
+        alloc: A,
         octets: &[u8],
     ) -> Result<(usize, Option<Stopped>), AllocError>
         ensures within { IfOk result (λ end. end.0 ≤ length octets.now) }
@@ -163,7 +163,7 @@ impl Reading {
     }
 
     /// Carries out the instruction at the front of octets, if it is whole and not refused.
-    fn read_one(&mut self, alloc: Global, octets: &[u8]) -> Result<Step, AllocError>
+    fn read_one(&mut self, alloc: A, octets: &[u8]) -> Result<Step, AllocError>
         ensures { IfOk result (λ step. IsStep self.old octets.now self.new step) }
     {
         match read_instr(alloc, octets) {
@@ -182,11 +182,7 @@ impl Reading {
     }
 
     /// Does what an instruction says. Returns what reading stops at, where it is refused; then nothing has changed.
-    fn carry_out(
-        &mut self,
-        alloc: Global,
-        instr: Instr<Global>,
-    ) -> Result<Option<Stopped>, AllocError>
+    fn carry_out(&mut self, alloc: A, instr: Instr<A>) -> Result<Option<Stopped>, AllocError>
         ensures { IfOk result (λ stop. (i : Shape) → instruction_of i ≡ Some (instr_of instr) → IsDone self.old i self.new stop) }
     {
         match instr {
@@ -197,7 +193,7 @@ impl Reading {
     }
 
     /// The field of an index (RFC 7541, 6.1).
-    fn indexed(&mut self, alloc: Global, index: u64) -> Result<Option<Stopped>, AllocError>
+    fn indexed(&mut self, alloc: A, index: u64) -> Result<Option<Stopped>, AllocError>
         ensures { IfOk result (λ stop. IsDone self.old (Indexed index) self.new stop) }
     {
         let full = self.is_full();
@@ -235,10 +231,10 @@ impl Reading {
     /// A literal (RFC 7541, 6.2).
     fn literal(
         &mut self,
-        alloc: Global,
+        alloc: A,
         mode: Mode,
-        name: Name<Global>,
-        value: Text<Global>,
+        name: Name<A>,
+        value: HpackString<A>,
     ) -> Result<Option<Stopped>, AllocError>
         ensures { IfOk result (λ stop. (i : Shape) → instruction_of i ≡ Some (Literal (mode_of mode) (name_text_of name) value) → IsDone self.old i self.new stop) }
     {
@@ -261,10 +257,10 @@ impl Reading {
     /// A literal with the name of an index.
     fn named(
         &mut self,
-        alloc: Global,
+        alloc: A,
         mode: Mode,
         index: u64,
-        value: Text<Global>,
+        value: HpackString<A>,
     ) -> Result<Option<Stopped>, AllocError>
         ensures { IfOk result (λ stop. (i : Shape) → instruction_of i ≡ Some (Literal (mode_of mode) (Ref index) value) → IsDone self.old i self.new stop) }
     {
@@ -285,8 +281,8 @@ impl Reading {
     fn add_literal(
         &mut self,
         mode: Mode,
-        name: Vec<u8>,
-        value: Vec<u8>,
+        name: Vec<u8, A>,
+        value: Vec<u8, A>,
         spelling: Spelling,
     ) -> Result<(), AllocError>
         ensures { OnOk result (self.new ≡ literal_added (mode_of mode) self.old (record { field = record { name = name.items; value = value.items }; spelling = spelling_seen spelling })) }
@@ -306,7 +302,7 @@ impl Reading {
     }
 
     /// Keeps a field, unless no field more is kept.
-    fn add(&mut self, field: SpelledField) -> Result<(), AllocError>
+    fn add(&mut self, field: SpelledField<A>) -> Result<(), AllocError>
         ensures { OnOk result (self.new ≡ record self.old { fields = keep self.old.fields field }) }
     {
         if self.is_full() {
@@ -320,7 +316,7 @@ impl Reading {
 }
 
 /// The name and the value at an index of both tables; none where no entry has it (RFC 7541, 2.3.3).
-fn field_found(table: &DynTable<Global>, index: u64) -> Option<(&[u8], &[u8])>
+fn field_found<A: Allocator>(table: &DynTable<A>, index: u64) -> Option<(&[u8], &[u8])>
     ensures { option_map lent_field result ≡ field_at index table.now.table.entries }
 {
     if index <= 61 {

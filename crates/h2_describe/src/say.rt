@@ -2,13 +2,13 @@
 
 use crate::sent::first_of;
 use itoa::Buffer;
-use std::alloc::{AllocError, Global};
+use std::alloc::{AllocError, Allocator, Global};
 
 /// A text that grows. Once memory for a part of it is refused, it takes no part more, and there is no text: so only
 /// its end asks whether memory was refused.
 #[derive(Drop)]
-pub struct Words {
-    text: String,
+pub struct TextBuilder<A: Allocator = Global> {
+    text: String<A>,
     refused: bool,
     /// How many octets of a long text are shown.
     shown: usize,
@@ -20,10 +20,10 @@ const SHOWN: usize = 100;
 /// How many octets a text has space for at first.
 const ROOM: usize = 240;
 
-impl Words {
+impl<A: Allocator> TextBuilder<A> {
     /// No part yet; of a long text the first 100 octets are shown. Takes no memory.
-    pub fn new(alloc: Global) -> Words {
-        Words {
+    pub fn new(alloc: A) -> Self {
+        Self {
             text: String::new(alloc),
             refused: false,
             shown: SHOWN,
@@ -31,8 +31,8 @@ impl Words {
     }
 
     /// No part yet; long texts are shown whole where this is asked for, else as by `new`. Takes no memory.
-    pub fn with(alloc: Global, is_whole: bool) -> Words {
-        Words {
+    pub fn with(alloc: A, is_whole: bool) -> Self {
+        Self {
             text: String::new(alloc),
             refused: false,
             shown: if is_whole { usize::MAX } else { SHOWN },
@@ -40,8 +40,8 @@ impl Words {
     }
 
     /// No part yet; as much is shown of long texts as here. Takes no memory.
-    pub fn empty(&self, alloc: Global) -> Words {
-        Words {
+    pub fn empty(&self, alloc: A) -> Self {
+        Self {
             text: String::new(alloc),
             refused: false,
             shown: self.shown,
@@ -58,7 +58,7 @@ impl Words {
     /// # Errors
     ///
     /// `AllocError` where memory for a part was refused.
-    pub fn finish(self) -> Result<String, AllocError> {
+    pub fn finish(self) -> Result<String<A>, AllocError> {
         if self.refused {
             return Err(AllocError);
         }
@@ -122,49 +122,109 @@ impl Words {
 /// A part of a text.
 pub trait Say {
     /// Puts the part last.
-    fn say(self, out: &mut Words);
+    fn say<A: Allocator>(self, out: &mut TextBuilder<A>);
 }
 
-/// Puts parts last, one after another.
+/// Puts two parts last. Several parts are one call, since the proof of a function pays for each call.
+pub fn say_two<A: Allocator, P: Say, Q: Say>(first: P, second: Q, out: &mut TextBuilder<A>) {
+    first.say(out);
+    second.say(out);
+}
+
+/// Puts three parts last.
+pub fn say_three<A: Allocator, P: Say, Q: Say, R: Say>(
+    first: P,
+    second: Q,
+    third: R,
+    out: &mut TextBuilder<A>,
+) {
+    first.say(out);
+    second.say(out);
+    third.say(out);
+}
+
+/// Puts four parts last.
+pub fn say_four<A: Allocator, P: Say, Q: Say, R: Say, S: Say>(
+    first: P,
+    second: Q,
+    third: R,
+    fourth: S,
+    out: &mut TextBuilder<A>,
+) {
+    first.say(out);
+    second.say(out);
+    third.say(out);
+    fourth.say(out);
+}
+
+/// Puts five parts last.
+pub fn say_five<A: Allocator, P: Say, Q: Say, R: Say, S: Say, T: Say>(
+    first: P,
+    second: Q,
+    third: R,
+    fourth: S,
+    fifth: T,
+    out: &mut TextBuilder<A>,
+) {
+    first.say(out);
+    second.say(out);
+    third.say(out);
+    fourth.say(out);
+    fifth.say(out);
+}
+
+/// Puts parts last, one after another, five in a call.
 #[macro_export]
 macro_rules! say_all {
-    ($out:expr; $($part:expr),+ $(,)?) => {{ $($crate::say::Say::say($part, $out);)+ }};
+    ($out:expr; $a:expr $(,)?) => { $crate::say::Say::say($a, $out) };
+    ($out:expr; $a:expr, $b:expr $(,)?) => { $crate::say::say_two($a, $b, $out) };
+    ($out:expr; $a:expr, $b:expr, $c:expr $(,)?) => { $crate::say::say_three($a, $b, $c, $out) };
+    ($out:expr; $a:expr, $b:expr, $c:expr, $d:expr $(,)?) => {
+        $crate::say::say_four($a, $b, $c, $d, $out)
+    };
+    ($out:expr; $a:expr, $b:expr, $c:expr, $d:expr, $e:expr $(,)?) => {
+        $crate::say::say_five($a, $b, $c, $d, $e, $out)
+    };
+    ($out:expr; $a:expr, $b:expr, $c:expr, $d:expr, $e:expr, $($more:expr),+ $(,)?) => {{
+        $crate::say::say_five($a, $b, $c, $d, $e, $out);
+        $crate::say_all!($out; $($more),+);
+    }};
 }
 
 impl Say for &str {
-    fn say(self, out: &mut Words) {
+    fn say<A: Allocator>(self, out: &mut TextBuilder<A>) {
         out.text(self);
     }
 }
 
 impl Say for char {
-    fn say(self, out: &mut Words) {
+    fn say<A: Allocator>(self, out: &mut TextBuilder<A>) {
         out.character(self);
     }
 }
 
 impl Say for u64 {
-    fn say(self, out: &mut Words) {
+    fn say<A: Allocator>(self, out: &mut TextBuilder<A>) {
         let mut buffer = Buffer::new();
         out.text(buffer.format(self));
     }
 }
 
 impl Say for i64 {
-    fn say(self, out: &mut Words) {
+    fn say<A: Allocator>(self, out: &mut TextBuilder<A>) {
         let mut buffer = Buffer::new();
         out.text(buffer.format(self));
     }
 }
 
 impl Say for u32 {
-    fn say(self, out: &mut Words) {
+    fn say<A: Allocator>(self, out: &mut TextBuilder<A>) {
         u64::from(self).say(out);
     }
 }
 
 impl Say for usize {
-    fn say(self, out: &mut Words) {
+    fn say<A: Allocator>(self, out: &mut TextBuilder<A>) {
         (self as u64).say(out);
     }
 }
@@ -174,7 +234,7 @@ impl Say for usize {
 pub struct Hex<'a>(pub &'a [u8]);
 
 impl Say for Hex<'_> {
-    fn say(self, out: &mut Words) {
+    fn say<A: Allocator>(self, out: &mut TextBuilder<A>) {
         for piece in self.0.chunks(32) {
             out.digits(piece);
         }
@@ -186,7 +246,7 @@ impl Say for Hex<'_> {
 pub struct HexOctet(pub u8);
 
 impl Say for HexOctet {
-    fn say(self, out: &mut Words) {
+    fn say<A: Allocator>(self, out: &mut TextBuilder<A>) {
         out.text("0x");
         out.digits(&[self.0]);
     }
@@ -194,15 +254,15 @@ impl Say for HexOctet {
 
 /// Octets as text: those from a blank to `~` as they are, `"`, `\` and each other octet as `\` and two hex digits.
 #[derive(Clone, Copy)]
-pub struct Text<'a>(pub &'a [u8]);
+pub struct EscapedText<'a>(pub &'a [u8]);
 
 /// Whether an octet is written as it is in a text.
 fn is_plain(octet: u8) -> bool {
     (32..=126).contains(&octet) && octet != b'"' && octet != b'\\'
 }
 
-impl Say for Text<'_> {
-    fn say(self, out: &mut Words) {
+impl Say for EscapedText<'_> {
+    fn say<A: Allocator>(self, out: &mut TextBuilder<A>) {
         if self.0.iter().all(|octet| is_plain(*octet)) {
             out.ascii(self.0);
             return;
@@ -218,12 +278,12 @@ impl Say for Text<'_> {
 pub struct Cut<'a>(pub &'a [u8]);
 
 impl Say for Cut<'_> {
-    fn say(self, out: &mut Words) {
+    fn say<A: Allocator>(self, out: &mut TextBuilder<A>) {
         let shown = out.shown_of(self.0);
-        Text(shown).say(out);
+        EscapedText(shown).say(out);
         if self.0.len() > shown.len() {
             out.text(".. of ");
-            Octets(self.0.len() as u64).say(out);
+            OctetCount(self.0.len() as u64).say(out);
         }
     }
 }
@@ -243,7 +303,7 @@ fn ordinal_end(number: usize) -> &'static str {
 }
 
 impl Say for Ordinal {
-    fn say(self, out: &mut Words) {
+    fn say<A: Allocator>(self, out: &mut TextBuilder<A>) {
         self.0.say(out);
         out.text(ordinal_end(self.0));
     }
@@ -251,10 +311,10 @@ impl Say for Ordinal {
 
 /// A number of fields: `1 field`, `2 fields`.
 #[derive(Clone, Copy)]
-pub struct Fields(pub usize);
+pub struct FieldCount(pub usize);
 
-impl Say for Fields {
-    fn say(self, out: &mut Words) {
+impl Say for FieldCount {
+    fn say<A: Allocator>(self, out: &mut TextBuilder<A>) {
         self.0.say(out);
         out.text(if self.0 == 1 { " field" } else { " fields" });
     }
@@ -262,10 +322,10 @@ impl Say for Fields {
 
 /// A number of octets: `1 octet`, `2 octets`.
 #[derive(Clone, Copy)]
-pub struct Octets(pub u64);
+pub struct OctetCount(pub u64);
 
-impl Say for Octets {
-    fn say(self, out: &mut Words) {
+impl Say for OctetCount {
+    fn say<A: Allocator>(self, out: &mut TextBuilder<A>) {
         self.0.say(out);
         out.text(if self.0 == 1 { " octet" } else { " octets" });
     }

@@ -10,7 +10,7 @@ ghost use Rattle.h2_describe.specs.Spelled.{Agrees, begun_with, fields_of, progr
 
 use crate::reading::Reading;
 use h2_fields::instruction::Mode;
-use std::alloc::{AllocError, Global};
+use std::alloc::{AllocError, Allocator, Global};
 use std::marker::Model;
 
 /// How a field was spelled.
@@ -25,16 +25,16 @@ pub enum Spelling {
 
 /// A field as it came: the octets of its name and value, and how it was spelled.
 #[derive(Drop)]
-pub struct SpelledField {
+pub struct SpelledField<A: Allocator = Global> {
     /// The octets of the name, decoded.
-    pub name: Vec<u8>,
+    pub name: Vec<u8, A>,
     /// The octets of the value, decoded.
-    pub value: Vec<u8>,
+    pub value: Vec<u8, A>,
     /// Its instruction (RFC 7541, 6).
     pub spelling: Spelling,
 }
 
-impl Model for SpelledField {
+impl<A: Allocator> Model for SpelledField<A> {
     ghost use Rattle.h2_describe.specs.Spelled.{Spelled, spelling_seen};
 
     ghost Value = { Spelled };
@@ -55,14 +55,14 @@ pub enum Stopped {
 
 /// The decoder of all field blocks of one side of a connection.
 #[derive(Drop)]
-pub struct BlockReader {
-    reading: Reading,
+pub struct BlockReader<A: Allocator = Global> {
+    reading: Reading<A>,
     /// The octets after the instructions that were carried out.
-    rest: Vec<u8>,
+    rest: Vec<u8, A>,
     stopped: Option<Stopped>,
 }
 
-impl Model for BlockReader {
+impl<A: Allocator> Model for BlockReader<A> {
     ghost use Rattle.h2_describe.specs.Spelled.{BlockRead};
 
     ghost Value = { BlockRead };
@@ -70,13 +70,13 @@ impl Model for BlockReader {
     ghost view = { λ b. record { reading = b.reading; rest = b.rest.items; stopped = b.stopped } };
 }
 
-impl BlockReader {
+impl<A: Allocator + Copy> BlockReader<A> {
     /// A decoder whose dynamic table is empty, with this limit and maximum in octets (RFC 7541, 4.2).
     ///
     /// # Errors
     ///
     /// `AllocError` where memory was refused.
-    pub fn new(alloc: Global, limit: u32) -> Result<BlockReader, AllocError>
+    pub fn new(alloc: A, limit: u32) -> Result<Self, AllocError>
         ensures { IfOk result (λ b. b ≡ begun_with (record { table = record { entries = []; max = limit }; limit = limit })) }
     {
         Ok(BlockReader {
@@ -118,7 +118,7 @@ impl BlockReader {
     /// # Errors
     ///
     /// `AllocError` where memory was refused; the decoder should not be used again.
-    pub fn read(&mut self, alloc: Global, fragment: &[u8]) -> Result<(), AllocError>
+    pub fn read(&mut self, alloc: A, fragment: &[u8]) -> Result<(), AllocError>
         ensures read { OnOk result (self.new ≡ read_more self.old fragment.now) }
         ensures agrees { OnOk result (self.old.stopped ≡ None → Agrees (decoded self.old.reading.table.limit (progress_of self.old.reading) (self.old.rest ++ fragment.now)) self.new) }
     {
@@ -133,7 +133,7 @@ impl BlockReader {
     }
 
     /// The fields of the block so far, in their order.
-    pub fn fields(&self) -> &[SpelledField]
+    pub fn fields(&self) -> &[SpelledField<A>]
         ensures { result.now ≡ self.now.reading.fields }
     {
         self.reading.fields()

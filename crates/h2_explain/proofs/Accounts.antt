@@ -1,5 +1,5 @@
 -- What is noted of streams, and the lists of what changed on them.
-use Rattle.std.proofs.Common.{◌≡◌, ◌∙◌, ℕ, zero, suc, ℤ, Bool, true, false, ◌==◌, List, [], ◌∷◌, ◌++◌, Option, Some, None, ap, append_assoc, arith, cond, refl, sym}
+use Rattle.std.proofs.Common.{◌≡◌, ◌∙◌, ℕ, zero, suc, ℤ, Bool, true, false, ◌==◌, List, [], ◌∷◌, ◌++◌, Option, Some, None, ap, append_assoc, arith, cond, refl, subst, sym}
 use Rattle.std.specs.List.{All}
 use Rattle.std.proofs.lemmas.Bool.{eqb-true, eqb-false}
 use Rattle.std.proofs.lemmas.List.{append-nil}
@@ -8,18 +8,18 @@ use Rattle.h2_spec.specs.State.{State}
 use Rattle.h2_spec.specs.declared.streams.Stream.{Stream}
 use Rattle.h2_describe.specs.Sent.{FirstFrame, first_frame}
 use Rattle.h2_explain.specs.Account.{ListsChanges, changes_of_sent, changes_on, changes_since, noted_with, streams_of, streams_then}
-use Rattle.h2_explain.specs.Changes.{Differs, connection_changes, stream_changes}
-use Rattle.h2_explain.specs.Notes.{AreNotes, Sees, is_noted, note_of, note_or, noted, with_later_note, with_note}
-use Rattle.h2_explain.specs.declared.changes.Change.{Change}
-use Rattle.h2_explain.specs.declared.item.Explained.{Explained}
-use Rattle.h2_explain.specs.declared.notes.Notes.{Notes}
-use Rattle.h2_explain.specs.declared.notes.StreamNote.{StreamNote}
-use Rattle.h2_explain.proofs.ChangeLaws.{stream_differ}
+use Rattle.h2_changes.specs.Changes.{Differs, connection_changes, stream_changes}
+use Rattle.h2_item.specs.Notes.{AreNotes, Sees, is_noted, note_of, note_or, noted, with_later_note, with_note}
+use Rattle.h2_changes.specs.declared.changes.ShownChange.{ShownChange}
+use Rattle.h2_item.specs.declared.item.Explained.{Explained}
+use Rattle.h2_item.specs.declared.notes.Notes.{Notes}
+use Rattle.h2_item.specs.declared.notes.StreamNote.{StreamNote}
+use Rattle.h2_changes.proofs.ChangeLaws.{stream_differ}
 
 -- ---- notes
 
 -- a stream that was noted
-pub seen_notes : (before after : Notes) (number ended : ℕ) (st : Stream) → is_noted st ≡ true → Sees before number ended st after → AreNotes after (with_note number ended st (note_of before))
+pub seen_notes : {A : Type 0} (before after : Notes A) (number ended : ℕ) (st : Stream) → is_noted st ≡ true → Sees before number ended st after → AreNotes after (with_note number ended st (note_of before))
 seen_notes before after number ended st is s id = rw is (at (id == st.id) refl)
   where
     at : (t : Bool) → (id == st.id) ≡ t → note_of after id ≡ cond t (Some (noted (note_or (note_of before st.id) st) number ended st)) (note_of before id)
@@ -27,16 +27,23 @@ seen_notes before after number ended st is s id = rw is (at (id == st.id) refl)
     at false e = s.others_same id (eqb-false id st.id e)
 
 -- a stream that is not to be noted
-unseen_notes : (before : Notes) (number ended : ℕ) (st : Stream) → is_noted st ≡ false → AreNotes before (with_note number ended st (note_of before))
+unseen_notes : {A : Type 0} (before : Notes A) (number ended : ℕ) (st : Stream) → is_noted st ≡ false → AreNotes before (with_note number ended st (note_of before))
 unseen_notes before number ended st is id = rw is refl
 
 -- after a stream was looked at
-pub notes_after : (before after : Notes) (number ended : ℕ) (st : Stream) → (is_noted st ≡ true → Sees before number ended st after) → (is_noted st ≡ false → after ≡ before) → AreNotes after (with_note number ended st (note_of before))
-notes_after before after number ended st seen same = at (is_noted st) refl
+pub notes_after : {A : Type 0} (before after : Notes A) (number ended : ℕ) (st : Stream) → (is_noted st ≡ true → Sees before number ended st after) → (is_noted st ≡ false → after ≡ before) → AreNotes after (with_note number ended st (note_of before))
+notes_after {A = A} before after number ended st seen same = at (is_noted st) refl
   where
     at : (t : Bool) → is_noted st ≡ t → AreNotes after (with_note number ended st (note_of before))
     at true e = seen_notes before after number ended st e (seen e)
-    at false e = λ id. ap (λ (n : Notes). note_of n id) (same e) ∙ unseen_notes before number ended st e id
+    at false e = λ id. ap (λ (n : Notes A). note_of n id) (same e) ∙ unseen_notes before number ended st e id
+
+-- after a stream was looked at that has a note already
+pub later_notes : {A : Type 0} (before after : Notes A) (number stream : ℕ) (st now : Stream) (note : StreamNote) → Some note ≡ note_of before stream → now ≡ st
+    → (is_noted now ≡ true → Sees before number number now after) → (is_noted now ≡ false → after ≡ before) → AreNotes after (with_later_note (note_of before stream) number st (note_of before))
+later_notes before after number stream st now note earlier is seen same =
+    subst (λ (o : Option StreamNote). AreNotes after (with_later_note o number st (note_of before))) earlier
+    (subst (λ (t : Stream). AreNotes after (with_note number number t (note_of before))) is (notes_after before after number number now seen same))
 
 -- ---- changes of one stream after another
 
@@ -53,7 +60,7 @@ pub changes_on-same : (number : ℕ) (now : ℕ → Stream) (connection : ℤ) (
 unfolding changes_on
 changes_on-same number now connection f g [] same = refl
 changes_on-same number now connection f g (id ∷ ids) same =
-    rw (same id) (ap (λ (l : List Change). changes_since (g id) (now id) connection ++ l)
+    rw (same id) (ap (λ (l : List ShownChange). changes_since (g id) (now id) connection ++ l)
     (changes_on-same number now connection (with_later_note (g id) number (now id) f) (with_later_note (g id) number (now id) g) ids (with_later-same (g id) number (now id) f g same)))
 
 -- what differs on a stream since it was noted
@@ -85,7 +92,7 @@ streams-zero zero b e = refl
 streams-zero (suc most) b e = absurd (omega (arith, e))
 
 -- the changes on one stream more
-pub one_more : (all now next : List Change) (number : ℕ) (at : ℕ → Stream) (connection : ℤ) (f g : ℕ → Option StreamNote) (most left : ℕ) (b : List ℕ) (frame : FirstFrame)
+pub one_more : (all now next : List ShownChange) (number : ℕ) (at : ℕ → Stream) (connection : ℤ) (f g : ℕ → Option StreamNote) (most left : ℕ) (b : List ℕ) (frame : FirstFrame)
     → most ≡ suc left → first_frame b ≡ Some frame → all ≡ now ++ changes_on number at connection f (streams_of most b)
     → next ≡ now ++ changes_since (f frame.head.stream) (at frame.head.stream) connection
     → ((id : ℕ) → g id ≡ with_later_note (f frame.head.stream) number (at frame.head.stream) f id)
@@ -102,14 +109,14 @@ one_more all now next number at connection f g most left b frame e first is more
     ∙ ap (λ l. l ++ changes_on number at connection later ids) (sym more) ∙ ap (λ l. next ++ l) (sym others)
 
 -- nothing is left
-pub none_left : (all now : List Change) (number : ℕ) (at : ℕ → Stream) (connection : ℤ) (f : ℕ → Option StreamNote) (ids : List ℕ) → ids ≡ [] → all ≡ now ++ changes_on number at connection f ids → now ≡ all
+pub none_left : (all now : List ShownChange) (number : ℕ) (at : ℕ → Stream) (connection : ℤ) (f : ℕ → Option StreamNote) (ids : List ℕ) → ids ≡ [] → all ≡ now ++ changes_on number at connection f ids → now ≡ all
 unfolding changes_on
 none_left all now number at connection f ids e is = sym (is ∙ ap (λ l. now ++ changes_on number at connection f l) e ∙ append-nil now)
 
 -- ---- what an item changed
 
 -- the changes of the connection, of the item's stream, and then of those that frames were sent on
-pub lists : (x : Explained) (s : State) (begun : ℕ) (note seen : ℕ → Option StreamNote) (a b c d : List Change) → ((id : ℕ) → seen id ≡ noted_with x begun note id)
+pub lists : (x : Explained) (s : State) (begun : ℕ) (note seen : ℕ → Option StreamNote) (a b c d : List ShownChange) → ((id : ℕ) → seen id ≡ noted_with x begun note id)
     → a ≡ [] → b ≡ a ++ connection_changes x.before x.after → c ≡ b ++ stream_changes x.before.stream x.after.stream x.after.counts.send → d ≡ c ++ changes_of_sent x s seen
     → ListsChanges x s begun note d
 lists x s begun note seen a b c d same none one two three = record {

@@ -1,36 +1,36 @@
 -- An explanation that goes on, item by item and piece by piece.
-use Rattle.std.proofs.Common.{Bool, true, false, IfErr, IfOk, OnOk, OnErr, None, Result, Ok, Err, is_err, ◌≡◌, ◌⊎◌, inl, inr, ◌∙◌, ◌+◌, ◌<◌, ◌≤◌, ℕ, suc, List, [], ◌∷◌, ◌++◌, Option, Some, length, take, drop, refl, sym, ap, ap₂, subst, arith, option_map, length-drop, length-take, length-append, append_assoc, le-ltb, ltb, ltb-false, true≢false}
+use Rattle.std.proofs.Common.{Bool, true, false, IfErr, None, Result, Ok, Err, is_err, ◌≡◌, inl, inr, ◌∙◌, ◌+◌, ◌<◌, ◌≤◌, ℕ, List, [], ◌∷◌, ◌++◌, Option, Some, length, take, drop, refl, sym, ap, ap₂, subst, arith, option_map, length-drop, length-take, length-append, append_assoc, le-ltb, ltb, ltb-false}
 use Rattle.std.proofs.lemmas.List.{append-nil, drop-append-le, drop_at, take-append-le, take_all}
 use Rattle.std.specs.Io.KnownBytes.{Appends}
 use Rattle.h2_spec.specs.declared.connection.Phase.{Phase}
 use Rattle.h2_spec.specs.declared.connection.Phase.TheVariants as phase
-use Rattle.h2_spec.specs.Frame.{Item, Next, NoItem, Got, frames_octets, head_at, head_of, next}
-use Rattle.h2_spec.specs.Parse.{Front, Stop, One, Parsed, after_one, parse_all}
+use Rattle.h2_spec.specs.Frame.{Item, Next, NoItem, Got, frames_octets, head_at, next}
+use Rattle.h2_spec.specs.Parse.{Front, Stop, One, Parsed, after_one}
 use Rattle.h2_spec.specs.Errors.{code_number}
 use Rattle.h2_spec.specs.State.{State, ended_code}
 use Rattle.h2_spec.specs.Trace.{Event, IsKept, Run, event_on, left_by, next_event, next_in, next_item, sent_octets, trace}
-use Rattle.h2_spec.proofs.ParseLaws.{Stays, Uses, joined}
+use Rattle.h2_spec.proofs.ParseLaws.{Stays, Uses}
 use Rattle.h2_spec.proofs.TraceLaws.{event-stays, event-uses, events-append, next-stays}
 use Rattle.h2_frame.proofs.MissingLaws.{head_of-append}
-use Rattle.h2_conn.specs.Connection.{Connection, going, halted, is_ended}
-use Rattle.h2_conn.specs.First.{TakesFirst, TakesIfAny}
+use Rattle.h2_conn.specs.Connection.{Connection, going, is_ended}
+use Rattle.h2_conn.specs.First.{TakesFirst}
 use Rattle.h2_conn.specs.Reports.{reported}
 use Rattle.h2_conn.specs.declared.report.TakenItem.{TakenItem}
-use Rattle.h2_conn.specs.Runs.{Fed, Feeds, Halted, Halts, Leads, Ran, Takes}
+use Rattle.h2_conn.specs.Runs.{Fed, Feeds, Halted, Leads, Ran, Takes}
 use Rattle.h2_conn.proofs.Items.{none-after}
-use Rattle.h2_conn.proofs.Runs.{halted-halts, halts-at-once, leads-refl, leads-stop, leads-takes, left-ended, left-going, ran-feeds, ran-halted, sent-none, trace-stop, whole, whole-one, whole-stop}
+use Rattle.h2_conn.proofs.Runs.{leads-takes, left-ended, left-going, ran-feeds, sent-none, trace-stop, whole, whole-one, whole-stop}
 use Rattle.h2_explain.specs.declared.explanation.Explanation.{Explanation}
-use Rattle.h2_explain.specs.declared.item.Explained.{Explained}
-use Rattle.h2_explain.specs.declared.item.Taking.{Taking}
+use Rattle.h2_item.specs.declared.item.Explained.{Explained}
+use Rattle.h2_explain.specs.declared.taking.Taking.{Taking}
 use Rattle.h2_explain.specs.declared.run.Summary.{Summary}
 use Rattle.h2_explain.specs.declared.run.ExplainFault.TheVariants.{NotWritten}
 use Rattle.h2_explain.specs.declared.run.ExplainFault.{ExplainFault}
 use Rattle.h2_explain.specs.declared.run.Form.{Form}
-use Rattle.h2_explain.specs.declared.verdict.Verdict.{Verdict}
-use Rattle.h2_explain.specs.Explained.{ExplainsItem, IsAhead, KeepsItem, moment_of, stream_ahead, stream_in}
-use Rattle.h2_explain.specs.Explaining.{Continues, CountsOn, EndsAs, ExplainsAll, ExplainsOn, Handles, HasGained, HasRoom, IsBeginning, IsCutShort, IsExplaining, IsNew, IsSummed, Leaves, PassesBy, SaysOf, SaysSome, StopsAt, TakesItem, TakesNone, total}
-use Rattle.h2_explain.specs.Explains.{AreExplained, Gains, IsExplanation, IsItemText, IsRestText, IsSummary, IsWritten, not_written, summary_over}
-use Rattle.h2_explain.specs.Verdicts.{AreTallied, IsVerdict, Tallied, TalliesItem, no_tally, verdict_at}
+use Rattle.h2_explain.specs.declared.verdict.ClientVerdict.{ClientVerdict}
+use Rattle.h2_explain.specs.Explained.{ExplainsItem, IsAhead, KeepsItem, moment_of, report_in, stream_ahead, stream_in}
+use Rattle.h2_explain.specs.Explaining.{Continues, CountsOn, EndsAs, ExplainsAll, ExplainsOn, Handles, HasGained, IsBeginning, IsCutShort, IsExplaining, IsNew, IsSummed, PassesBy, SaysOf, SaysSome, StopsAt, TakesItem}
+use Rattle.h2_explain.specs.Explains.{AreExplained, Gains, IsExplanation, IsItemText, IsRestText, IsWritten, not_written, summary_over}
+use Rattle.h2_explain.specs.Verdicts.{AreTallied, Tallied, TalliesItem, no_tally, verdict_at}
 
 -- of no octets nothing is an item
 none-uses : (x : Front State Event) → Uses [] x → x ≡ Stop
@@ -101,7 +101,7 @@ ahead-more b more used ahead a =
     let within : length ahead ≤ length b = omega (arith, ap length a.begins, length-take (length ahead) b) in
     record { whole = a.whole; begins = a.begins ∙ sym (take-append-le (length ahead) b more within) }
 
-pub item-uses : (s : State) (b : List ℕ) (number offset : ℕ) (c : Connection) (x : Explained) → ExplainsItem s b number offset c x → (0 < x.taken.used) × (x.taken.used ≤ length b)
+pub item-uses : (s : State) (b : List ℕ) (number offset : ℕ) (c : Connection) (x : Explained) → ExplainsItem s b number offset c x → (0 < x.used) × (x.used ≤ length b)
 item-uses s b number offset c x i = subst (λ (n : Front State Event). Uses b n) i.comes (event-uses s b)
 
 pub first-uses : (s t : State) (b out out' : List ℕ) (used : ℕ) → TakesFirst s b out t out' used → (0 < used) × (used ≤ length b)
@@ -110,16 +110,16 @@ first-uses s t b out out' used x = subst (λ (n : Front State Event). Uses b n) 
 pub item-more : (s : State) (b more : List ℕ) (number offset : ℕ) (c : Connection) (x : Explained) → ExplainsItem s b number offset c x → ExplainsItem s (b ++ more) number offset c x
 item-more s b more number offset c x i =
     let within = item-uses s b number offset c x i in
-    let stream = sym (stream-same s c.state b more i.event x.taken.used i.comes) in
+    let stream = sym (stream-same s c.state b more i.event x.used i.comes) in
     record {
       event = i.event;
       comes = subst (λ (n : Front State Event). Stays n (next_event s (b ++ more))) i.comes (event-stays s b more);
       ready = i.ready;
       number_is = i.number_is;
       offset_is = i.offset_is;
-      octets_is = i.octets_is ∙ sym (take-append-le x.taken.used b more within.1);
-      ahead_is = ahead-more b more x.taken.used x.ahead.now i.ahead_is;
-      taken_is = i.taken_is ∙ ap (reported s) (sym (item-same s c.state b more i.event x.taken.used i.comes));
+      octets_is = i.octets_is ∙ sym (take-append-le x.used b more within.1);
+      ahead_is = ahead-more b more x.used x.ahead.now i.ahead_is;
+      taken_is = i.taken_is ∙ ap (reported s) (sym (item-same s c.state b more i.event x.used i.comes));
       sent_is = i.sent_is;
       before_is = i.before_is ∙ ap (moment_of s) stream;
       after_is = i.after_is ∙ ap (moment_of c.state) stream;
@@ -127,12 +127,12 @@ item-more s b more number offset c x i =
 
 -- what is known of an item that was taken, with its octets and those that were sent for it
 pub item-explained : (s : State) (b out out' : List ℕ) (number offset : ℕ) (c : Connection) (k : Taking) (x : Explained) → c ≡ going c.state [] → TakesFirst s b out c.state out' k.taken.used → KeepsItem s b c.state k
-    → x.number ≡ number → x.offset ≡ offset → x.octets.now ≡ take k.taken.used b → x.ahead.now ≡ b → x.taken ≡ k.taken → x.sent.now ≡ drop (length out) out' → x.before ≡ k.before → x.after ≡ k.after
+    → x.number ≡ number → x.offset ≡ offset → x.octets.now ≡ take k.taken.used b → x.ahead.now ≡ b → report_in x ≡ k.taken → x.sent.now ≡ drop (length out) out' → x.before ≡ k.before → x.after ≡ k.after
     → ExplainsItem s b number offset c x
 item-explained s b out out' number offset c k x ready first kept number_is offset_is octets ahead taken sent before after =
-    let same : k.taken.used ≡ x.taken.used = ap (λ (t : TakenItem). t.used) (sym taken) in
-    let comes : next_event s b ≡ One first.event c.state x.taken.used = subst (λ (n : ℕ). next_event s b ≡ One first.event c.state n) same first.comes in
-    let uses : Uses b (One first.event c.state x.taken.used) = subst (λ (n : Front State Event). Uses b n) comes (event-uses s b) in
+    let same : k.taken.used ≡ x.used = ap (λ (t : TakenItem). t.used) (sym taken) in
+    let comes : next_event s b ≡ One first.event c.state x.used = subst (λ (n : ℕ). next_event s b ≡ One first.event c.state n) same first.comes in
+    let uses : Uses b (One first.event c.state x.used) = subst (λ (n : Front State Event). Uses b n) comes (event-uses s b) in
     record {
       event = first.event;
       comes = comes;
@@ -140,7 +140,7 @@ item-explained s b out out' number offset c k x ready first kept number_is offse
       number_is = number_is;
       offset_is = offset_is;
       octets_is = octets ∙ ap (λ (n : ℕ). take n b) same;
-      ahead_is = subst (λ (a : List ℕ). IsAhead b x.taken.used a) (sym ahead) (record { whole = uses.1; begins = sym (take_all (length b) b (omega arith)) });
+      ahead_is = subst (λ (a : List ℕ). IsAhead b x.used a) (sym ahead) (record { whole = uses.1; begins = sym (take_all (length b) b (omega arith)) });
       taken_is = ap (λ (t : TakenItem). Some t) taken ∙ kept.taken_is;
       sent_is = sent ∙ ap (drop (length out)) first.sent ∙ drop_at out (frames_octets first.event.sent) (length out) refl;
       before_is = before ∙ kept.before_is;
@@ -182,22 +182,22 @@ gains-written P (Err fault) a b t calm only appends p = λ held is. let e : not_
 
 continues-next : (form : Form) (s0 s : State) (b0 b : List ℕ) (items0 offset0 items offset : ℕ) (c : Connection) (x : Explained) (t u : List ℕ)
     → ExplainsItem s b (items + 1) offset c x → IsItemText form x u → Continues form s0 b0 items0 offset0 s b items offset t
-    → Continues form s0 b0 items0 offset0 c.state (drop x.taken.used b) (items + 1) (offset + x.taken.used) (t ++ u)
+    → Continues form s0 b0 items0 offset0 c.state (drop x.used b) (items + 1) (offset + x.used) (t ++ u)
 continues-next form s0 s b0 b items0 offset0 items offset c x t u i is on = λ later cut xs more are.
     let within = item-uses s b (items + 1) offset c x i in
-    let here = subst (λ (d : List ℕ). AreExplained form cut c.state d (items + 1) (offset + x.taken.used) xs more) (sym (drop-append-le x.taken.used b later within.1)) are in
+    let here = subst (λ (d : List ℕ). AreExplained form cut c.state d (items + 1) (offset + x.used) xs more) (sym (drop-append-le x.used b later within.1)) are in
     let all = on later cut (x ∷ xs) (u ++ more) (c, item-more s b later (items + 1) offset c x i, u, more, is, refl, here) in
     (all.0, subst (λ (d : List ℕ). AreExplained form cut s0 (b0 ++ later) items0 offset0 all.0 d) (sym (append_assoc t u more)) all.1)
 
 counts-next : (s0 s : State) (b0 b : List ℕ) (items0 offset0 items offset : ℕ) (c : Connection) (x : Explained) (t0 t t' : Tallied)
     → ExplainsItem s b (items + 1) offset c x → TalliesItem t x t' → CountsOn s0 b0 items0 offset0 t0 s b items offset t
-    → CountsOn s0 b0 items0 offset0 t0 c.state (drop x.taken.used b) (items + 1) (offset + x.taken.used) t'
+    → CountsOn s0 b0 items0 offset0 t0 c.state (drop x.used b) (items + 1) (offset + x.used) t'
 counts-next s0 s b0 b items0 offset0 items offset c x t0 t t' i note on = λ later xs v are.
     let within = item-uses s b (items + 1) offset c x i in
-    let here = subst (λ (d : List ℕ). AreTallied c.state d (items + 1 + 1) (offset + x.taken.used) xs t' v) (sym (drop-append-le x.taken.used b later within.1)) are in
+    let here = subst (λ (d : List ℕ). AreTallied c.state d (items + 1 + 1) (offset + x.used) xs t' v) (sym (drop-append-le x.used b later within.1)) are in
     on later (x ∷ xs) v (c, item-more s b later (items + 1) offset c x i, t', note, here)
 
-pub on-start : (e : Explanation) (s : State) (b : List ℕ) (known : Option (List ℕ)) → e.items ≤ e.offset → ExplainsOn e s b known e s b known
+pub on-start : {A : Type 0} (e : Explanation A) (s : State) (b : List ℕ) (known : Option (List ℕ)) → e.items ≤ e.offset → ExplainsOn e s b known e s b known
 on-start e s b known few = record {
   form_is = refl;
   items_are = omega arith;
@@ -210,11 +210,11 @@ on-start e s b known few = record {
 }
 
 -- one item more
-pub on-next : (e e1 e2 : Explanation) (s s1 : State) (b b1 : List ℕ) (c : Connection) (known known1 known2 : Option (List ℕ)) (used : ℕ)
-    → ExplainsOn e s b known e1 s1 b1 known1 → (y : TakesItem e1 s1 b1 known1 e2 c known2 used) → ExplainsOn e s b known e2 c.state (drop y.item.taken.used b1) known2
+pub on-next : {A : Type 0} (e e1 e2 : Explanation A) (s s1 : State) (b b1 : List ℕ) (c : Connection) (known known1 known2 : Option (List ℕ)) (used : ℕ)
+    → ExplainsOn e s b known e1 s1 b1 known1 → (y : TakesItem e1 s1 b1 known1 e2 c known2 used) → ExplainsOn e s b known e2 c.state (drop y.item.used b1) known2
 on-next e e1 e2 s s1 b b1 c known known1 known2 used x y =
     let i = y.explains in
-    let u : ℕ = y.item.taken.used in
+    let u : ℕ = y.item.used in
     let within = item-uses s1 b1 (e1.items + 1) e1.offset c y.item i in
     let offset : e2.offset ≡ e1.offset + u = y.offset_is ∙ ap (λ (n : ℕ). e1.offset + n) y.used_is in
     let one : whole s1 b1 ≡ after_one i.event (whole c.state (drop u b1)) = whole-one s1 c.state b1 i.event u i.comes in
@@ -233,14 +233,14 @@ on-next e e1 e2 s s1 b b1 c known known1 known2 used x y =
     }
 
 -- the explanation of some first items is one that is cut short
-pub on-cut : (e e1 : Explanation) (s s1 : State) (b b1 : List ℕ) (known known1 : Option (List ℕ)) → ExplainsOn e s b known e1 s1 b1 known1 → Gains (IsCutShort e s b) known known1
+pub on-cut : {A : Type 0} (e e1 : Explanation A) (s s1 : State) (b b1 : List ℕ) (known known1 : Option (List ℕ)) → ExplainsOn e s b known e1 s1 b1 known1 → Gains (IsCutShort e s b) known known1
 on-cut e e1 s s1 b b1 known known1 x =
     gains-map (Continues e.form s b e.items e.offset s1 b1 e1.items e1.offset) (IsCutShort e s b)
     (λ t on later. let one = on later true [] [] refl in (one.0, subst (λ (d : List ℕ). AreExplained e.form true s (b ++ later) e.items e.offset one.0 d) (append-nil t) one.1))
     known known1 x.written
 
 -- and nothing more was written after it
-pub on-cut-then : (e e1 : Explanation) (s s1 : State) (b b1 : List ℕ) (known known1 known2 : Option (List ℕ)) → ExplainsOn e s b known e1 s1 b1 known1 → Gains (λ (t : List ℕ). t ≡ []) known1 known2 → Gains (IsCutShort e s b) known known2
+pub on-cut-then : {A : Type 0} (e e1 : Explanation A) (s s1 : State) (b b1 : List ℕ) (known known1 known2 : Option (List ℕ)) → ExplainsOn e s b known e1 s1 b1 known1 → Gains (λ (t : List ℕ). t ≡ []) known1 known2 → Gains (IsCutShort e s b) known known2
 on-cut-then e e1 s s1 b b1 known known1 known2 x y =
     gains-both (IsCutShort e s b) (λ (t : List ℕ). t ≡ []) (IsCutShort e s b)
     (λ t u cut none. subst (λ (d : List ℕ). IsCutShort e s b d) (sym (ap (λ (w : List ℕ). t ++ w) none ∙ append-nil t)) cut)
@@ -283,7 +283,7 @@ late-feeds s held q out h =
 -- ---- what is held
 
 -- the octets and counts of an explanation that were not those of its items are others now
-all-same : (e e1 e2 : Explanation) (s s' : State) (b rest : List ℕ) (known known' : Option (List ℕ)) → ExplainsAll e s b known e1 s' rest known'
+all-same : {A : Type 0} (e e1 e2 : Explanation A) (s s' : State) (b rest : List ℕ) (known known' : Option (List ℕ)) → ExplainsAll e s b known e1 s' rest known'
     → e2.form ≡ e1.form → e2.items ≡ e1.items → e2.offset ≡ e1.offset → e2.tally ≡ e1.tally → ExplainsAll e s b known e2 s' rest known'
 all-same e e1 e2 s s' b rest known known' x form items offset tally =
     let on = x.on in
@@ -302,7 +302,7 @@ all-same e e1 e2 s s' b rest known known' x form items offset tally =
     }
 
 -- they were others before
-pub all-from : (e e0 e1 : Explanation) (s s' : State) (b rest : List ℕ) (known known' : Option (List ℕ)) → ExplainsAll e0 s b known e1 s' rest known'
+pub all-from : {A : Type 0} (e e0 e1 : Explanation A) (s s' : State) (b rest : List ℕ) (known known' : Option (List ℕ)) → ExplainsAll e0 s b known e1 s' rest known'
     → e.form ≡ e0.form → e.items ≡ e0.items → e.offset ≡ e0.offset → e.tally ≡ e0.tally → ExplainsAll e s b known e1 s' rest known'
 all-from e e0 e1 s s' b rest known known' x form items offset tally =
     let on = x.on in
@@ -321,7 +321,7 @@ all-from e e0 e1 s s' b rest known known' x form items offset tally =
     }
 
 -- the rest is held, or counted
-pub handles : (e e1 e2 : Explanation) (s s' : State) (b rest : List ℕ) (known known' : Option (List ℕ)) → ExplainsAll e s b known e1 s' rest known'
+pub handles : {A : Type 0} (e e1 e2 : Explanation A) (s s' : State) (b rest : List ℕ) (known known' : Option (List ℕ)) → ExplainsAll e s b known e1 s' rest known'
     → e2.form ≡ e1.form → e2.items ≡ e1.items → e2.offset ≡ e1.offset → e2.tally ≡ e1.tally
     → e2.held.items ≡ left_by s'.core.phase rest → length e2.held.items + e2.late ≡ e.late + length rest → Handles e s b known e2 s' known'
 handles e e1 e2 s s' b rest known known' x form items offset tally held left =
@@ -333,7 +333,7 @@ fed-all s s' held q out out' rest h x is =
     (x.0, subst (λ (d : List ℕ). Feeds (going s held) q out (going s' d) out' x.0) (sym is) (ran-feeds s s' held q out rest out' x.0 x.1))
 
 -- how many octets there are now
-pub handles-room : (e e' : Explanation) (s s' : State) (piece : List ℕ) (known known' : Option (List ℕ)) → Handles e s (e.held.items ++ piece) known e' s' known' → HasGained e (length piece) e'
+pub handles-room : {A : Type 0} (e e' : Explanation A) (s s' : State) (piece : List ℕ) (known known' : Option (List ℕ)) → Handles e s (e.held.items ++ piece) known e' s' known' → HasGained e (length piece) e'
 handles-room e e' s s' piece known known' h =
     (h.all.on.counted, omega (arith, h.all.on.offset_is, h.leaves.left_is, length-append e.held.items piece))
 
@@ -343,20 +343,20 @@ handles-room e e' s s' piece known known' h =
 abbrev After : State → List ℕ → List ℕ → State → List ℕ → Type 0
 After s0 b0 piece s' rest = ((whole s0 (b0 ++ piece)).state ≡ s') × ((whole s0 (b0 ++ piece)).rest ≡ rest)
 
-left-held : (s0 : State) (b0 : List ℕ) (c : Connection) (e : Explanation) → IsExplaining s0 b0 c e → is_ended c.state.core.phase ≡ false → e.held.items ≡ (whole s0 b0).rest
+left-held : {A : Type 0} (s0 : State) (b0 : List ℕ) (c : Connection) (e : Explanation A) → IsExplaining s0 b0 c e → is_ended c.state.core.phase ≡ false → e.held.items ≡ (whole s0 b0).rest
 left-held s0 b0 c e x goes =
     let same : c.state ≡ (whole s0 b0).state = ap (λ (d : Connection). d.state) x.after in
     x.held_is ∙ left-going (whole s0 b0).state.core.phase (whole s0 b0).rest (subst (λ (s : State). is_ended s.core.phase ≡ false) same goes)
 
 -- from the octets that were left
-from-left : (s0 : State) (b0 piece : List ℕ) (c c' : Connection) (e e' : Explanation) (known known' : Option (List ℕ)) → IsExplaining s0 b0 c e → is_ended c.state.core.phase ≡ false
+from-left : {A : Type 0} (s0 : State) (b0 piece : List ℕ) (c c' : Connection) (e e' : Explanation A) (known known' : Option (List ℕ)) → IsExplaining s0 b0 c e → is_ended c.state.core.phase ≡ false
     → Handles e c.state (e.held.items ++ piece) known e' c'.state known'
     → Handles e (whole s0 b0).state ((whole s0 b0).rest ++ piece) known e' c'.state known'
 from-left s0 b0 piece c c' e e' known known' x goes h =
     subst (λ (s : State). Handles e s ((whole s0 b0).rest ++ piece) known e' c'.state known') (ap (λ (d : Connection). d.state) x.after)
     (subst (λ (b : List ℕ). Handles e c.state (b ++ piece) known e' c'.state known') (left-held s0 b0 c e x goes) h)
 
-leads-on : (s0 : State) (b0 piece : List ℕ) (s' : State) (e e' : Explanation) (known known' : Option (List ℕ))
+leads-on : {A : Type 0} (s0 : State) (b0 piece : List ℕ) (s' : State) (e e' : Explanation A) (known known' : Option (List ℕ))
     → (h : Handles e (whole s0 b0).state ((whole s0 b0).rest ++ piece) known e' s' known') → After s0 b0 piece s' h.rest
 leads-on s0 b0 piece s' e e' known known' h =
     let all = events-append s0 b0 piece in
@@ -382,7 +382,7 @@ texts-on form s0 b0 piece s s' r r' items offset items' offset' text more x y = 
           (subst (λ (w : List ℕ). AreExplained form cut s0 (b0 ++ (piece ++ later)) 0 0 two.0 w) (sym (append_assoc text more u)) two.1),
     )
 
-pub explaining-goes : (s0 : State) (b0 piece : List ℕ) (c c' : Connection) (e e' : Explanation) (known known' : Option (List ℕ)) → c' ≡ going c'.state [] → is_ended c.state.core.phase ≡ false
+pub explaining-goes : {A : Type 0} (s0 : State) (b0 piece : List ℕ) (c c' : Connection) (e e' : Explanation A) (known known' : Option (List ℕ)) → c' ≡ going c'.state [] → is_ended c.state.core.phase ≡ false
     → Handles e c.state (e.held.items ++ piece) known e' c'.state known' → IsExplaining s0 b0 c e → IsExplaining s0 (b0 ++ piece) c' e'
 explaining-goes s0 b0 piece c c' e e' known known' ready goes given x =
     let h = from-left s0 b0 piece c c' e e' known known' x goes given in
@@ -402,7 +402,7 @@ explaining-goes s0 b0 piece c c' e e' known known' ready goes given x =
       tallied = rw (after.0, after.1) (tallies-on s0 b0 piece r.state c'.state r.rest h.rest e.items e.offset e'.items e'.offset e.tally e'.tally x.tallied on.tallied);
     }
 
-pub explaining-says : (c c' : Connection) (piece : List ℕ) (e e' : Explanation) (known known' : Option (List ℕ)) → is_ended c.state.core.phase ≡ false
+pub explaining-says : {A : Type 0} (c c' : Connection) (piece : List ℕ) (e e' : Explanation A) (known known' : Option (List ℕ)) → is_ended c.state.core.phase ≡ false
     → Handles e c.state (e.held.items ++ piece) known e' c'.state known' → SaysOf c e piece e' known known'
 explaining-says c c' piece e e' known known' goes given = λ s0 b0 text x begins.
     let h = from-left s0 b0 piece c c' e e' known known' x goes given in
@@ -412,7 +412,7 @@ explaining-says c c' piece e e' known known' goes given = λ s0 b0 text x begins
     (λ more on. rw (h.all.on.form_is, after.0, after.1) (texts-on e.form s0 b0 piece r.state c'.state r.rest h.rest e.items e.offset e'.items e'.offset text more begins on))
     known known' h.all.on.written
 
-pub explaining-cut : (c : Connection) (piece : List ℕ) (e : Explanation) (known known' : Option (List ℕ)) → is_ended c.state.core.phase ≡ false
+pub explaining-cut : {A : Type 0} (c : Connection) (piece : List ℕ) (e : Explanation A) (known known' : Option (List ℕ)) → is_ended c.state.core.phase ≡ false
     → Gains (IsCutShort e c.state (e.held.items ++ piece)) known known' → SaysSome c e piece known known'
 explaining-cut c piece e known known' goes given = λ s0 b0 text x begins.
     let r : Parsed State Event = whole s0 b0 in
@@ -426,7 +426,7 @@ explaining-cut c piece e known known' goes given = λ s0 b0 text x begins.
 
 -- ---- after the end of the connection
 
-pub late-goes : (s0 : State) (b0 piece : List ℕ) (c : Connection) (e e' : Explanation) → is_ended c.state.core.phase ≡ true → PassesBy e (length piece) e' → IsExplaining s0 b0 c e → IsExplaining s0 (b0 ++ piece) c e'
+pub late-goes : {A : Type 0} (s0 : State) (b0 piece : List ℕ) (c : Connection) (e e' : Explanation A) → is_ended c.state.core.phase ≡ true → PassesBy e (length piece) e' → IsExplaining s0 b0 c e → IsExplaining s0 (b0 ++ piece) c e'
 late-goes s0 b0 piece c e e' over p x =
     let r : Parsed State Event = whole s0 b0 in
     let same : c.state ≡ r.state = ap (λ (d : Connection). d.state) x.after in
@@ -447,7 +447,7 @@ late-goes s0 b0 piece c e e' over p x =
       tallied = rw (st, rest, p.items_are, p.offset_is, p.tally_is) (tallies-on s0 b0 piece r.state r.state r.rest (r.rest ++ piece) e.items e.offset e.items e.offset e.tally e.tally x.tallied (λ later xs v are. (xs, are)));
     }
 
-pub late-says : (c : Connection) (piece : List ℕ) (e e' : Explanation) (known : Option (List ℕ)) → is_ended c.state.core.phase ≡ true → PassesBy e (length piece) e'
+pub late-says : {A : Type 0} (c : Connection) (piece : List ℕ) (e e' : Explanation A) (known : Option (List ℕ)) → is_ended c.state.core.phase ≡ true → PassesBy e (length piece) e'
     → SaysOf c e piece e' known known
 late-says c piece e e' known over p = λ s0 b0 text x begins.
     let r : Parsed State Event = whole s0 b0 in
@@ -465,7 +465,7 @@ late-says c piece e e' known over p = λ s0 b0 text x begins.
 new-run : (s : State) → whole s [] ≡ record { elements = []; state = s; rest = [] }
 new-run s = whole-stop s [] (empty-stop s)
 
-pub new-explains : (form : Form) (s : State) (e : Explanation) → IsNew form e → IsExplaining s [] (going s []) e
+pub new-explains : {A : Type 0} (form : Form) (s : State) (e : Explanation A) → IsNew form e → IsExplaining s [] (going s []) e
 new-explains form s e n =
     let run = new-run s in
     record {
@@ -478,10 +478,10 @@ new-explains form s e n =
       tallied = rw (run, n.items_are, n.offset_is, n.tally_is) (λ later xs v are. (xs, are));
     }
 
-pub new-begins : (form : Form) (s : State) (e : Explanation) → IsNew form e → IsBeginning s [] e []
+pub new-begins : {A : Type 0} (form : Form) (s : State) (e : Explanation A) → IsNew form e → IsBeginning s [] e []
 new-begins form s e n = rw (new-run s, n.items_are, n.offset_is) (λ later cut xs more are. (xs, are))
 
-pub end-says : (c : Connection) (e : Explanation) (r : Result (Unit {0}) ExplainFault) (known known' : Option (List ℕ))
+pub end-says : {A : Type 0} (c : Connection) (e : Explanation A) (r : Result (Unit {0}) ExplainFault) (known known' : Option (List ℕ))
     → Gains (IsWritten (λ (t : List ℕ). IsRestText e.form e.items (length e.held.items + e.late) t) r) known known' → EndsAs (is_err r) c e known known'
 end-says c e r known known' given = λ s0 b0 text x begins. gains-map _ _ (said s0 b0 text x begins r) known known' given
   where
@@ -496,14 +496,14 @@ end-says c e r known known' given = λ s0 b0 text x begins. gains-map _ _ (said 
         let one = begins [] true [] more none in
         (one.0, subst (λ (b : List ℕ). AreExplained e.form true s0 b 0 0 one.0 (text ++ more)) (append-nil b0) one.1)
 
-abbrev summary_with : Verdict → ℕ → Option ℕ → Summary
+abbrev summary_with : ClientVerdict → ℕ → Option ℕ → Summary
 summary_with verdict items ended = record { items = items; ended = ended; verdict = verdict }
 
-summary-run : (s : State) (b : List ℕ) (v : Verdict) → summary_with v (length (whole s b).elements) (option_map code_number (ended_code (whole s b).state.core.phase)) ≡ summary_over s b v
+summary-run : (s : State) (b : List ℕ) (v : ClientVerdict) → summary_with v (length (whole s b).elements) (option_map code_number (ended_code (whole s b).state.core.phase)) ≡ summary_over s b v
 unfolding trace
 summary-run s b v = refl
 
-pub end-summed : (c : Connection) (e : Explanation) (r : Summary) (left : ℕ) → r.items ≡ e.items → r.ended ≡ option_map code_number (ended_code c.state.core.phase) → left ≡ length e.held.items + e.late
+pub end-summed : {A : Type 0} (c : Connection) (e : Explanation A) (r : Summary) (left : ℕ) → r.items ≡ e.items → r.ended ≡ option_map code_number (ended_code c.state.core.phase) → left ≡ length e.held.items + e.late
     → r.verdict ≡ verdict_at e.tally c.state left → IsSummed c e r
 end-summed c e r left items ended long verdict = λ s b x.
     let run : Parsed State Event = whole s b in
@@ -517,6 +517,6 @@ end-summed c e r left items ended long verdict = λ s b x.
     )
 
 -- a run over all octets at once
-pub all-run : (s : State) (b : List ℕ) (c : Connection) (e : Explanation) → IsExplaining s b c e → c ≡ going (trace s b).state []
+pub all-run : {A : Type 0} (s : State) (b : List ℕ) (c : Connection) (e : Explanation A) → IsExplaining s b c e → c ≡ going (trace s b).state []
 unfolding trace
 all-run s b c e x = x.after

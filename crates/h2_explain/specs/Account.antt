@@ -19,13 +19,13 @@ use Rattle.h2_describe.specs.Spelled.{BlockRead, begun_with}
 use Rattle.h2_describe.specs.Sent.{FirstFrame, first_frame}
 use Rattle.h2_spec.specs.State.{State}
 use Rattle.h2_spec.specs.Stream.{stream_at}
-use Rattle.h2_explain.specs.Explained.{head_in}
-use Rattle.h2_explain.specs.Notes.{with_later_note, with_note}
-use Rattle.h2_explain.specs.Changes.{Differs, connection_changes, stream_changes}
-use Rattle.h2_explain.specs.declared.changes.Change.{Change}
-use Rattle.h2_explain.specs.declared.item.Explained.{Explained}
-use Rattle.h2_explain.specs.declared.item.Moment.{Moment}
-use Rattle.h2_explain.specs.declared.notes.StreamNote.{StreamNote}
+use Rattle.h2_item.specs.Item.{head_in}
+use Rattle.h2_item.specs.Notes.{with_later_note, with_note}
+use Rattle.h2_changes.specs.Changes.{Differs, connection_changes, stream_changes}
+use Rattle.h2_changes.specs.declared.changes.ShownChange.{ShownChange}
+use Rattle.h2_item.specs.declared.item.Explained.{Explained}
+use Rattle.h2_item.specs.declared.item.Moment.{Moment}
+use Rattle.h2_item.specs.declared.notes.StreamNote.{StreamNote}
 
 -- the fragment of a field block that a part of a payload is, if it is one: that of HEADERS or of CONTINUATION (6.2, 6.10)
 abbrev pub fragment_of : Part → Option (List ℕ)
@@ -88,7 +88,7 @@ shows_fields_of (head.Frame h) before cause phase = shows_fields before.block h 
 
 -- whether the fields of a block are shown with an item
 abbrev pub shows_fields_with : Explained → Bool
-shows_fields_with x = shows_fields_of x.taken.item x.before x.taken.cause x.after.counts.phase
+shows_fields_with x = shows_fields_of x.what x.before x.cause x.after.counts.phase
 
 -- the item that began the open field block, after an item: HEADERS where none was open begins one (4.3)
 abbrev pub block_begun : (begun number : ℕ) → Option BlockView → Head → ℕ
@@ -114,12 +114,12 @@ unread limit = begun_with (record { table = record { entries = []; max = limit }
 -- ---- what an item changed
 
 -- what is other on a stream since it was noted, if it was; the connection's send window is given
-abbrev pub changes_since : Option StreamNote → Stream → ℤ → List Change
+abbrev pub changes_since : Option StreamNote → Stream → ℤ → List ShownChange
 changes_since None st connection = []
 changes_since (Some note) st connection = stream_changes note.seen st connection
 
 -- what is other on streams, one after another, each since it was noted; it is noted again then
-unfoldable pub changes_on : (number : ℕ) → (now : ℕ → Stream) → (connection : ℤ) → (note : ℕ → Option StreamNote) → List ℕ → List Change
+unfoldable pub changes_on : (number : ℕ) → (now : ℕ → Stream) → (connection : ℤ) → (note : ℕ → Option StreamNote) → List ℕ → List ShownChange
 changes_on number now connection note [] = []
 changes_on number now connection note (id ∷ ids) =
     changes_since (note id) (now id) connection ++ changes_on number now connection (with_later_note (note id) number (now id) note) ids
@@ -134,16 +134,16 @@ streams_of zero b = []
 streams_of (suc most) b = streams_then (streams_of most) (first_frame b)
 
 -- what an item changed on the streams that frames were sent on for it, which are noted as they were before the item
-abbrev pub changes_of_sent : Explained → State → (ℕ → Option StreamNote) → List Change
+abbrev pub changes_of_sent : Explained → State → (ℕ → Option StreamNote) → List ShownChange
 changes_of_sent x s note = changes_on x.number (stream_at s.core.last s.streams) x.after.counts.send note (streams_of (length x.sent.now) x.sent.now)
 
 -- what is noted once the stream of an item was looked at; the item that began its block is given
 abbrev pub noted_with : Explained → (begun : ℕ) → (ℕ → Option StreamNote) → ℕ → Option StreamNote
-noted_with x begun note = with_note x.number (ended_with begun x.number x.before.block (head_in x.taken.item)) x.after.stream note
+noted_with x begun note = with_note x.number (ended_with begun x.number x.before.block (head_in x.what)) x.after.stream note
 
 -- what an item changed: on the connection, on its stream, and then on the streams that frames were sent on for it; each
 -- of these has a value after it that differs from the value before it
-pub record ListsChanges (x : Explained) (s : State) (begun : ℕ) (note : ℕ → Option StreamNote) (list : List Change) : Type 0 where
+pub record ListsChanges (x : Explained) (s : State) (begun : ℕ) (note : ℕ → Option StreamNote) (list : List ShownChange) : Type 0 where
   pub is :
       list ≡ connection_changes x.before x.after ++ stream_changes x.before.stream x.after.stream x.after.counts.send ++ changes_of_sent x s (noted_with x begun note)
   pub differ : All Differs (changes_of_sent x s (noted_with x begun note))

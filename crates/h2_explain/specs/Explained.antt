@@ -1,10 +1,8 @@
 -- An item that was taken, with what was before it and what is after it.
-use Rattle.std.specs.Prelude.{◌≡◌, ℕ, ◌≤◌, List, [], length, take, drop, Option, Some, None, option_map}
+use Rattle.std.specs.Prelude.{◌≡◌, ℕ, ◌≤◌, List, [], length, take, Option, Some, None, option_map}
 use Rattle.h2_spec.specs.declared.connection.Phase.{Phase}
 use Rattle.h2_spec.specs.declared.connection.Phase.TheVariants.{Preface, Settings, Running, Ended}
 use Rattle.h2_spec.specs.declared.frames.Head.{Head}
-use Rattle.h2_spec.specs.declared.frames.ItemHead.{ItemHead}
-use Rattle.h2_spec.specs.declared.frames.ItemHead.TheVariants as head
 use Rattle.h2_spec.specs.DynamicTable.{total_size}
 use Rattle.h2_spec.specs.Frame.{frames_octets, head_at}
 use Rattle.h2_spec.specs.Parse.{One}
@@ -12,12 +10,12 @@ use Rattle.h2_spec.specs.State.{State}
 use Rattle.h2_spec.specs.Stream.{stream_at}
 use Rattle.h2_spec.specs.Trace.{Event, next_event, next_item}
 use Rattle.h2_spec.specs.View.{shown_block}
-use Rattle.h2_frame.specs.declared.head.FrameRef.{FrameRef}
 use Rattle.h2_conn.specs.Connection.{Connection, going}
 use Rattle.h2_conn.specs.Reports.{reported}
-use Rattle.h2_explain.specs.declared.item.Explained.{Explained}
-use Rattle.h2_explain.specs.declared.item.Moment.{Moment}
-use Rattle.h2_explain.specs.declared.item.Taking.{Taking}
+use Rattle.h2_conn.specs.declared.report.TakenItem.{TakenItem}
+use Rattle.h2_item.specs.declared.item.Explained.{Explained}
+use Rattle.h2_item.specs.declared.item.Moment.{Moment}
+use Rattle.h2_explain.specs.declared.taking.Taking.{Taking}
 
 -- what is looked at of a state, with one of its streams
 abbrev pub moment_of : State → ℕ → Moment
@@ -42,43 +40,25 @@ stream_ahead Settings b = stream_in (head_at b)
 stream_ahead Running b = stream_in (head_at b)
 stream_ahead (Ended code) b = stream_in (head_at b)
 
--- the head of the frame that an item is, if it is one
-abbrev pub head_in : ItemHead → Option Head
-head_in head.Preface = None
-head_in head.BadPreface = None
-head_in (head.Oversize h) = Some h
-head_in (head.Frame h) = Some h
-
--- the octets after the nine of a head (4.1)
-abbrev pub payload_in : List ℕ → List ℕ
-payload_in b = drop 9 b
-
--- the head and the payload of the whole frame that an item is, if it is one
-abbrev pub frame_in : ItemHead → List ℕ → Option (Head × List ℕ)
-frame_in head.Preface b = None
-frame_in head.BadPreface b = None
-frame_in (head.Oversize h) b = None
-frame_in (head.Frame h) b = Some (h, payload_in b)
-
--- a frame with its payload as a list
-abbrev pub frame_seen : FrameRef → Head × List ℕ
-frame_seen f = (f.head, f.payload.now)
-
 -- octets that begin with the octets of an item: those that are there when it is taken
 pub record IsAhead (b : List ℕ) (used : ℕ) (ahead : List ℕ) : Type 0 where
   pub whole : used ≤ length ahead
   pub begins : ahead ≡ take (length ahead) b
 
+-- what is reported of an item, and how many octets it takes
+abbrev pub report_in : Explained → TakenItem
+report_in x = record { used = x.used; item = x.what; cause = x.cause; ignored = x.ignored }
+
 -- the next item of a connection was taken: this is its event, and all that is kept of it is as the definitions have it
 pub record ExplainsItem (s : State) (b : List ℕ) (number offset : ℕ) (c : Connection) (x : Explained) : Type 0 where
   pub event : Event
-  pub comes : next_event s b ≡ One event c.state x.taken.used
+  pub comes : next_event s b ≡ One event c.state x.used
   pub ready : c ≡ going c.state []
   pub number_is : x.number ≡ number
   pub offset_is : x.offset ≡ offset
-  pub octets_is : x.octets.now ≡ take x.taken.used b
-  pub ahead_is : IsAhead b x.taken.used x.ahead.now
-  pub taken_is : Some x.taken ≡ reported s (next_item s b)
+  pub octets_is : x.octets.now ≡ take x.used b
+  pub ahead_is : IsAhead b x.used x.ahead.now
+  pub taken_is : Some (report_in x) ≡ reported s (next_item s b)
   pub sent_is : x.sent.now ≡ frames_octets event.sent
   pub before_is : x.before ≡ moment_of s (stream_ahead s.core.phase b)
   pub after_is : x.after ≡ moment_of c.state (stream_ahead s.core.phase b)

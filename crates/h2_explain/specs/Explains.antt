@@ -6,9 +6,10 @@ use Rattle.h2_spec.specs.State.{State, ended_code}
 use Rattle.h2_spec.specs.Trace.{Run, next_event, trace}
 use Rattle.h2_conn.specs.Connection.{Connection}
 use Rattle.h2_explain.specs.Explained.{ExplainsItem}
-use Rattle.h2_explain.specs.Lines.{Words, ended, lines_of}
-use Rattle.h2_explain.specs.declared.item.Explained.{Explained}
-use Rattle.h2_explain.specs.declared.verdict.Verdict.{Verdict}
+use Rattle.h2_account.specs.Lines.{EndsLine, EndsLineIf, Words, lines_of}
+use Rattle.h2_account.specs.Rest.{is_said}
+use Rattle.h2_item.specs.declared.item.Explained.{Explained}
+use Rattle.h2_explain.specs.declared.verdict.ClientVerdict.{ClientVerdict}
 use Rattle.h2_explain.specs.Verdicts.{IsVerdict}
 use Rattle.h2_explain.specs.declared.run.ExplainFault.{ExplainFault}
 use Rattle.h2_explain.specs.declared.run.ExplainFault.TheVariants.{NoMemory, NotWritten}
@@ -17,11 +18,11 @@ use Rattle.h2_explain.specs.declared.run.Summary.{Summary}
 
 -- how many items a run had, the code of the connection error that ended it, if one did, and what is said about the
 -- client
-abbrev pub summary_of : Run → Verdict → Summary
+abbrev pub summary_of : Run → ClientVerdict → Summary
 summary_of run verdict = record { items = length run.events; ended = option_map code_number (ended_code run.state.core.phase); verdict = verdict }
 
 -- the same of the run of a connection over octets
-abbrev pub summary_over : State → List ℕ → Verdict → Summary
+abbrev pub summary_over : State → List ℕ → ClientVerdict → Summary
 summary_over s octets verdict = summary_of (trace s octets) verdict
 
 -- what is summed up of a run
@@ -40,10 +41,6 @@ not_written (Err NotWritten) = true
 abbrev pub Gains : (List ℕ → Type 0) → Option (List ℕ) → Option (List ℕ) → Type 0
 Gains P before after = (held : List ℕ) → before ≡ Some held → (text : List ℕ) × (after ≡ Some (held ++ text)) × P text
 
--- a text of one line, or of more
-abbrev pub EndsLine : Bool → List ℕ → Type 0
-EndsLine color t = (front : List ℕ) × (t ≡ front ++ ended color)
-
 -- the text of an item: a line of JSON, or its lines
 abbrev pub IsTextOf : (json color : Bool) → Explained → List ℕ → Type 0
 IsTextOf true color x t = EndsLine false t
@@ -52,19 +49,9 @@ IsTextOf false color x t = (w : Words) × (t ≡ lines_of color x w)
 abbrev pub IsItemText : Form → Explained → List ℕ → Type 0
 IsItemText form x t = IsTextOf form.json form.color x t
 
--- a line, or nothing
-abbrev pub EndsLineIf : Bool → (color : Bool) → List ℕ → Type 0
-EndsLineIf false color t = t ≡ []
-EndsLineIf true color t = EndsLine color t
-
 -- lines, or nothing
 abbrev pub EndsLineOrNone : (color : Bool) → List ℕ → Type 0
 EndsLineOrNone color t = (t ≡ []) ⊎ EndsLine color t
-
--- whether something is said after that many items where that many octets are left: of these, or that no octets came at
--- all
-abbrev pub is_said : (items left : ℕ) → Bool
-is_said items left = nat_lt 0 left || items == 0
 
 -- the text after that many items: lines where octets are left or none came, and the lines of warnings, of live streams
 -- and of `--strict`, where there are any; in JSON always a line
@@ -88,7 +75,7 @@ AreExplained form cut s b items offset [] t = Ends form cut s b items t
 AreExplained form cut s b items offset (x ∷ xs) t =
     (c : Connection) × ExplainsItem s b (items + 1) offset c x
     × (first : List ℕ) × (rest : List ℕ) × IsItemText form x first × (t ≡ first ++ rest)
-    × AreExplained form cut c.state (drop x.taken.used b) (items + 1) (offset + x.taken.used) xs rest
+    × AreExplained form cut c.state (drop x.used b) (items + 1) (offset + x.used) xs rest
 
 -- the explanation of a connection over octets: of each of its items and of the rest, or of some first items
 abbrev pub IsExplanation : Form → (cut : Bool) → State → List ℕ → List ℕ → Type 0

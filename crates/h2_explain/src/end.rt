@@ -3,42 +3,74 @@
 
 ghost use Rattle.std.specs.Prelude.{◌≡◌, false, IfOk};
 ghost use Rattle.std.specs.String.{string_bytes};
-ghost use Rattle.h2_explain.specs.Explains.{EndsLine, EndsLineOrNone, IsRestOf, IsRestText};
+ghost use Rattle.h2_explain.specs.Explains.{EndsLineOrNone, IsRestOf, IsRestText};
+ghost use Rattle.h2_account.specs.Lines.{EndsLine};
+ghost use Rattle.h2_account.specs.Rest.{rest_of};
 
-use crate::account::{Explainer, has_ended, opening_of};
-use crate::json::{line_of, put_opening};
-use crate::json_words::JsonWords;
-use crate::paint::{Paint, Role};
-use crate::request_facts::RequestFacts;
-use crate::rest::{Rest, put_end, rest_line, say_place};
+use crate::explainer::{Explainer, has_ended, opening_of};
 use crate::run::Form;
 use crate::verdict::{Tally, verdict_at};
 use crate::verdict_words::{put_verdict, say_tally};
-use crate::waits::{put_wait, say_wait, wait_of};
-use crate::warning::{Warning, Warnings, is_unacknowledged};
-use crate::warning_words::put_warnings;
+use h2_account::json::{line_of, put_opening};
+use h2_account::json_words::JsonWords;
+use h2_account::paint::{Paint, Role};
+use h2_account::rest::{InputRest, missing_of, put_end, rest_line, say_place};
+use h2_account::waits::{put_wait, say_wait, wait_of};
+use h2_account::warning_words::put_warnings;
 use h2_conn::Conn;
-use h2_describe::say::Words;
+use h2_describe::say::TextBuilder;
 use h2_describe::say_all;
 use h2_device::{string_of, texts};
-use std::alloc::{AllocError, Global};
+use h2_facts::request_facts::RequestFacts;
+use h2_facts::warning::{Warning, Warnings, is_unacknowledged};
+use std::alloc::{AllocError, Allocator};
+
+/// What is after the last item of a connection that had that many items; `offset` is how many octets came before these.
+pub(crate) fn rest_of<A: Allocator + Copy>(
+    conn: &Conn<'_, A>,
+    items: u64,
+    offset: usize,
+    octets: &[u8],
+) -> InputRest
+    ensures { result ≡ rest_of conn.now.state items offset octets.now }
+{
+    InputRest {
+        items,
+        offset,
+        octets: octets.len(),
+        ended: conn.ended(),
+        missing: missing_of(conn.counts().phase, octets),
+    }
+}
 
 /// What the end of an explanation is made from.
-#[derive(Clone, Copy)]
-pub(crate) struct End<'e, 'b> {
+pub(crate) struct End<'e, 'b, A: Allocator> {
     /// Whether it is written as text or as JSON.
     pub(crate) form: Form,
     /// The connection after its last item.
-    pub(crate) conn: &'e Conn<'b, Global>,
+    pub(crate) conn: &'e Conn<'b, A>,
     /// What was known after the last item.
-    pub(crate) explainer: &'e Explainer,
+    pub(crate) explainer: &'e Explainer<A>,
     /// The errors and warnings of the items.
-    pub(crate) tally: &'e Tally,
+    pub(crate) tally: &'e Tally<A>,
     /// What is after the last item.
-    pub(crate) rest: Rest,
+    pub(crate) rest: InputRest,
 }
 
-impl End<'_, '_> {
+/// By hand, since a derived `clone` copies field by field.
+impl<A: Allocator> Clone for End<'_, '_, A> {
+    ghost is_clone = { λ x y. y ≡ x };
+
+    ghost is_infallible = { λ _. Unit {0} };
+
+    fn clone(&self) -> Result<Self, AllocError> {
+        Ok(*self)
+    }
+}
+
+impl<A: Allocator> Copy for End<'_, '_, A> {}
+
+impl<A: Allocator + Copy> End<'_, '_, A> {
     /// The warnings of the end.
     fn warnings(&self) -> Warnings {
         Warnings {
@@ -57,7 +89,7 @@ impl End<'_, '_> {
     }
 
     /// Begins a line, after the one before.
-    fn begin(&self, out: &mut Words) {
+    fn begin(&self, out: &mut TextBuilder<A>) {
         let paint = Paint(self.form.color);
         if out.len() > 0 {
             paint.end(out);
@@ -66,7 +98,7 @@ impl End<'_, '_> {
     }
 
     /// Puts the two lines of the warning last, if there is one.
-    fn say_warnings(&self, out: &mut Words) {
+    fn say_warnings(&self, out: &mut TextBuilder<A>) {
         let warning = Warning::SettingsNotAcknowledged;
         if !self.warnings().has(warning) {
             return;
@@ -80,7 +112,7 @@ impl End<'_, '_> {
     }
 
     /// Puts a line last for each live stream, unless the connection has ended.
-    fn say_waits(&self, out: &mut Words) {
+    fn say_waits(&self, out: &mut TextBuilder<A>) {
         let (counts, config) = (self.conn.counts(), self.conn.config());
         if has_ended(counts.phase) {
             return;
@@ -93,7 +125,7 @@ impl End<'_, '_> {
     }
 
     /// Puts the line of the tally last.
-    fn say_verdict(&self, out: &mut Words) {
+    fn say_verdict(&self, out: &mut TextBuilder<A>) {
         if self.form.strict {
             self.begin(out);
             let warnings = self.warning_count();
@@ -102,8 +134,8 @@ impl End<'_, '_> {
     }
 
     /// The lines after that of the octets that are left, without the end of the last.
-    fn words(&self, alloc: Global) -> Result<String, AllocError> {
-        let mut words = Words::new(alloc);
+    fn words(&self, alloc: A) -> Result<String<A>, AllocError> {
+        let mut words = TextBuilder::new(alloc);
         self.say_warnings(&mut words);
         self.say_waits(&mut words);
         self.say_verdict(&mut words);
@@ -111,7 +143,7 @@ impl End<'_, '_> {
     }
 
     /// The lines after that of the octets that are left.
-    fn lines(&self, alloc: Global) -> Result<String, AllocError>
+    fn lines(&self, alloc: A) -> Result<String<A>, AllocError>
         ensures { IfOk result (λ text. EndsLineOrNone self.now.form.color (string_bytes text)) }
     {
         let words = self.words(alloc)?;
@@ -123,7 +155,7 @@ impl End<'_, '_> {
     }
 
     /// The text, with the line of the octets that are left; before it, where no item came, the server's opening.
-    fn text(&self, alloc: Global, opening: &[u8]) -> Result<String, AllocError>
+    fn text(&self, alloc: A, opening: &[u8]) -> Result<String<A>, AllocError>
         ensures { IfOk result (λ text. IsRestOf false self.now.form.color self.now.rest.items self.now.rest.octets (string_bytes text)) }
     {
         let rest = rest_line(alloc, self.rest, opening, Paint(self.form.color))?;
@@ -132,7 +164,7 @@ impl End<'_, '_> {
     }
 
     /// Puts what each live stream waits for, if there is one.
-    fn put_waits(&self, out: &mut JsonWords) {
+    fn put_waits(&self, out: &mut JsonWords<A>) {
         let (counts, config) = (self.conn.counts(), self.conn.config());
         if has_ended(counts.phase) || self.explainer.live.is_empty() {
             return;
@@ -146,7 +178,7 @@ impl End<'_, '_> {
     }
 
     /// Puts what is said about the client.
-    fn put_verdict(&self, out: &mut JsonWords) {
+    fn put_verdict(&self, out: &mut JsonWords<A>) {
         if self.form.strict {
             let verdict = verdict_at(self.tally, self.conn, self.rest.octets);
             put_verdict(self.tally, verdict, self.warning_count(), out);
@@ -154,10 +186,10 @@ impl End<'_, '_> {
     }
 
     /// The last line of JSON; before it, where no item came, that of the server's opening.
-    fn json(&self, alloc: Global, opening: &[u8]) -> Result<String, AllocError>
+    fn json(&self, alloc: A, opening: &[u8]) -> Result<String<A>, AllocError>
         ensures { IfOk result (λ text. EndsLine false (string_bytes text)) }
     {
-        let mut out = JsonWords::over(Words::new(alloc));
+        let mut out = JsonWords::over(TextBuilder::new(alloc));
         put_opening(alloc, opening, &mut out);
         out.open_element();
         out.open("end");
@@ -171,7 +203,7 @@ impl End<'_, '_> {
     }
 
     /// The end in the form that is asked for.
-    pub(crate) fn said(&self, alloc: Global) -> Result<String, AllocError>
+    pub(crate) fn said(&self, alloc: A) -> Result<String<A>, AllocError>
         ensures { IfOk result (λ text. IsRestText self.now.form self.now.rest.items self.now.rest.octets (string_bytes text)) }
     {
         let opening = opening_of(alloc, self.conn, self.rest.items == 0)?;

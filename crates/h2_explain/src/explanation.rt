@@ -14,21 +14,21 @@ ghost use Rattle.h2_explain.specs.Explains.{Gains, IsItemText, IsRestText, IsWri
 ghost use Rattle.h2_explain.specs.Verdicts.{TalliesItem, verdict_at};
 ghost use Rattle.h2_explain.specs.declared.run.ExplainFault.TheVariants as faults;
 
-use crate::account::{Explainer, has_ended};
-use crate::end::End;
-use crate::item::{Explained, take_next};
-use crate::json::json_of;
-use crate::lines::lines_of;
-use crate::paint::Paint;
+use crate::end::{End, rest_of};
+use crate::explainer::{Explainer, has_ended};
 use crate::recorder::Recorder;
-use crate::rest::rest_of;
 use crate::run::{ExplainFault, Form, Summary};
+use crate::taking::take_next;
 use crate::verdict::{Tally, verdict_at};
+use h2_account::json::json_of;
+use h2_account::lines::lines_of;
+use h2_account::paint::Paint;
 use h2_conn::Conn;
 use h2_describe::sent::first_of;
 use h2_device::Output;
+use h2_item::item::Explained;
 use h2_spec::octets::octets_from;
-use std::alloc::{AllocError, Global};
+use std::alloc::{AllocError, Allocator, Global};
 use std::mem;
 
 /// Writes octets, or says that they were not written.
@@ -46,33 +46,34 @@ fn write<O: Output>(output: &mut O, octets: &[u8]) -> Result<(), ExplainFault>
 }
 
 /// The text of an item.
-fn item_text(
-    alloc: Global,
+fn item_text<A: Allocator + Copy>(
+    alloc: A,
     form: Form,
-    explainer: &mut Explainer,
-    tally: &mut Tally,
-    conn: &Conn<'_, Global>,
+    explainer: &mut Explainer<A>,
+    tally: &mut Tally<A>,
+    conn: &Conn<'_, A>,
     item: &Explained<'_>,
-) -> Result<String, AllocError>
+) -> Result<String<A>, AllocError>
     ensures text { IfOk result (λ text. IsItemText form item.now (string_bytes text)) }
     ensures tally { OnOk result (TalliesItem tally.old item.now tally.new) }
 {
     let account = explainer.account(alloc, conn, item)?;
     tally.note(item, account.facts, account.warnings)?;
+    let reader = &explainer.reader;
     if form.json {
-        json_of(alloc, item, &account, explainer)
+        json_of(alloc, item, &account, reader)
     } else {
-        lines_of(alloc, item, &account, explainer, Paint(form.color))
+        lines_of(alloc, item, &account, reader, Paint(form.color))
     }
 }
 
 /// Writes the text of an item.
-fn write_item<O: Output>(
-    alloc: Global,
+fn write_item<A: Allocator + Copy, O: Output>(
+    alloc: A,
     form: Form,
-    explainer: &mut Explainer,
-    tally: &mut Tally,
-    conn: &Conn<'_, Global>,
+    explainer: &mut Explainer<A>,
+    tally: &mut Tally<A>,
+    conn: &Conn<'_, A>,
     item: &Explained<'_>,
     output: &mut O,
 ) -> Result<(), ExplainFault>
@@ -89,7 +90,7 @@ fn write_item<O: Output>(
 }
 
 /// Where what is sent next begins in `out`: at its end where it is kept, else at its front.
-fn start_of(out: &mut Vec<u8>, keeps: bool) -> usize
+fn start_of<A: Allocator>(out: &mut Vec<u8, A>, keeps: bool) -> usize
     ensures end { result ≡ length out.new.items }
     ensures kept { keeps ≡ true → out.new.items ≡ out.old.items }
 {
@@ -100,7 +101,7 @@ fn start_of(out: &mut Vec<u8>, keeps: bool) -> usize
 }
 
 /// The octets without this many at their front.
-fn without_front(octets: Vec<u8>, count: usize) -> Vec<u8>
+fn without_front<A: Allocator>(octets: Vec<u8, A>, count: usize) -> Vec<u8, A>
     requires { count ≤ length octets.items }
     ensures { result.items ≡ drop count octets.items }
 {
@@ -112,7 +113,12 @@ fn without_front(octets: Vec<u8>, count: usize) -> Vec<u8>
 }
 
 /// What is summed up of a connection that had this many items, with this many octets left.
-fn summary_of(conn: &Conn<'_, Global>, tally: &Tally, items: u64, left: usize) -> Summary
+fn summary_of<A: Allocator + Copy>(
+    conn: &Conn<'_, A>,
+    tally: &Tally<A>,
+    items: u64,
+    left: usize,
+) -> Summary
     ensures items { result.items ≡ items }
     ensures ended { result.ended ≡ option_map code_number (ended_code conn.now.state.core.phase) }
     ensures verdict { result.verdict ≡ verdict_at tally.now conn.now.state left }
@@ -125,22 +131,22 @@ fn summary_of(conn: &Conn<'_, Global>, tally: &Tally, items: u64, left: usize) -
 }
 
 /// An explanation of a connection whose octets come piece by piece.
-pub struct Explanation {
+pub struct Explanation<A: Allocator = Global> {
     form: Form,
-    explainer: Explainer,
-    tally: Tally,
+    explainer: Explainer<A>,
+    tally: Tally<A>,
     /// How many items there were.
     items: u64,
     /// How many octets they have.
     offset: usize,
     /// The octets of the item that is not whole.
-    held: Vec<u8>,
+    held: Vec<u8, A>,
     /// How many octets came after the end of the connection.
     late: usize,
 }
 
 /// By hand, so that a function that drops an explanation makes one call.
-impl Drop for Explanation {
+impl<A: Allocator> Drop for Explanation<A> {
     fn drop(self) {
         let Self {
             form: _,
@@ -154,9 +160,9 @@ impl Drop for Explanation {
     }
 }
 
-impl Explanation {
+impl<A: Allocator + Copy> Explanation<A> {
     /// The explanation of a connection before any octets.
-    pub fn new(alloc: Global, form: Form) -> Result<Explanation, AllocError>
+    pub fn new(alloc: A, form: Form) -> Result<Explanation<A>, AllocError>
         ensures { IfOk result (λ new. IsNew form new) }
     {
         let mut explainer = Explainer::new(alloc)?;
@@ -176,11 +182,11 @@ impl Explanation {
     /// is sent for it is appended to `out`; where that is not kept, `out` is emptied before.
     fn take_item<O: Output, R: Recorder>(
         &mut self,
-        alloc: Global,
-        conn: &mut Conn<'_, Global>,
+        alloc: A,
+        conn: &mut Conn<'_, A>,
         octets: &[u8],
         keeps: bool,
-        out: &mut Vec<u8>,
+        out: &mut Vec<u8, A>,
         output: &mut O,
         recorder: &mut R,
     ) -> Result<Option<usize>, ExplainFault>
@@ -201,13 +207,17 @@ impl Explanation {
             Ok(None) => return Ok(None),
             Err(_) => return Err(ExplainFault::NoMemory),
         };
-        let used = taking.taken.used;
+        let taken = taking.taken;
+        let used = taken.used;
         let item = Explained {
             number: self.items + 1,
             offset: self.offset,
             octets: first_of(octets, used),
             ahead: octets,
-            taken: taking.taken,
+            used,
+            what: taken.item,
+            cause: taken.cause,
+            ignored: taken.ignored,
             sent: octets_from(out.as_slice(), start),
             before: taking.before,
             after: taking.after,
@@ -234,11 +244,11 @@ impl Explanation {
     /// is appended to `out`; where that is not kept, `out` has what was sent for the last.
     fn take_items<O: Output, R: Recorder>(
         &mut self,
-        alloc: Global,
-        conn: &mut Conn<'_, Global>,
+        alloc: A,
+        conn: &mut Conn<'_, A>,
         octets: &[u8],
         keeps: bool,
-        out: &mut Vec<u8>,
+        out: &mut Vec<u8, A>,
         output: &mut O,
         recorder: &mut R,
     ) -> Result<usize, ExplainFault>
@@ -278,11 +288,11 @@ impl Explanation {
     /// Takes and explains each item of a piece, where no octets are held.
     fn take_in_hand<O: Output, R: Recorder>(
         &mut self,
-        alloc: Global,
-        conn: &mut Conn<'_, Global>,
+        alloc: A,
+        conn: &mut Conn<'_, A>,
         piece: &[u8],
         keeps: bool,
-        out: &mut Vec<u8>,
+        out: &mut Vec<u8, A>,
         output: &mut O,
         recorder: &mut R,
     ) -> Result<(), ExplainFault>
@@ -316,11 +326,11 @@ impl Explanation {
     /// Takes and explains each item of the octets that are held and a piece after them.
     fn complete<O: Output, R: Recorder>(
         &mut self,
-        alloc: Global,
-        conn: &mut Conn<'_, Global>,
+        alloc: A,
+        conn: &mut Conn<'_, A>,
         piece: &[u8],
         keeps: bool,
-        out: &mut Vec<u8>,
+        out: &mut Vec<u8, A>,
         output: &mut O,
         recorder: &mut R,
     ) -> Result<(), ExplainFault>
@@ -365,11 +375,11 @@ impl Explanation {
     /// kept, `out` has what was sent for the last item.
     pub(crate) fn take_piece<O: Output, R: Recorder>(
         &mut self,
-        alloc: Global,
-        conn: &mut Conn<'_, Global>,
+        alloc: A,
+        conn: &mut Conn<'_, A>,
         piece: &[u8],
         keeps: bool,
-        out: &mut Vec<u8>,
+        out: &mut Vec<u8, A>,
         output: &mut O,
         recorder: &mut R,
     ) -> Result<(), ExplainFault>
@@ -411,10 +421,10 @@ impl Explanation {
     /// taken. The explanation can't go on then.
     pub fn feed<O: Output, R: Recorder>(
         &mut self,
-        alloc: Global,
-        conn: &mut Conn<'_, Global>,
+        alloc: A,
+        conn: &mut Conn<'_, A>,
         piece: &[u8],
-        out: &mut Vec<u8>,
+        out: &mut Vec<u8, A>,
         output: &mut O,
         recorder: &mut R,
     ) -> Result<(), ExplainFault>
@@ -436,7 +446,7 @@ impl Explanation {
     }
 
     /// The text of the octets after the last item, and of the end.
-    fn end_text(&self, alloc: Global, conn: &Conn<'_, Global>) -> Result<String, AllocError>
+    fn end_text(&self, alloc: A, conn: &Conn<'_, A>) -> Result<String<A>, AllocError>
         requires room { HasRoom self.now 0 }
         ensures { IfOk result (λ text. IsRestText self.now.form self.now.items (length self.now.held.items + self.now.late) (string_bytes text)) }
     {
@@ -455,8 +465,8 @@ impl Explanation {
     /// Writes the text of the octets after the last item, and of the end.
     fn write_end<O: Output>(
         &self,
-        alloc: Global,
-        conn: &Conn<'_, Global>,
+        alloc: A,
+        conn: &Conn<'_, A>,
         output: &mut O,
     ) -> Result<(), ExplainFault>
         requires room { HasRoom self.now 0 }
@@ -479,8 +489,8 @@ impl Explanation {
     /// `NoMemory` where memory is refused: nothing is written. `NotWritten` where the write failed.
     pub fn end<O: Output>(
         &self,
-        alloc: Global,
-        conn: &Conn<'_, Global>,
+        alloc: A,
+        conn: &Conn<'_, A>,
         output: &mut O,
     ) -> Result<Summary, ExplainFault>
         requires room { HasRoom self.now 0 }

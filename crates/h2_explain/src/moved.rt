@@ -2,38 +2,23 @@
 //! other streams that settings move, bodies that are sent to their end, and the open field block. With these every
 //! state can be made again from the changes alone. No definition speaks of it.
 
-use crate::count::Count;
-use crate::item::Explained;
-use crate::notes::Notes;
+use h2_changes::changes::Moved;
+use h2_changes::count::Count;
 use h2_conn::Conn;
 use h2_describe::names::is_live;
 use h2_describe::sent::next_frame;
+use h2_item::item::Explained;
+use h2_item::notes::Notes;
 use h2_spec::connection::BlockView;
 use h2_spec::streams::{Numbers, Stream};
-use std::alloc::{AllocError, Global};
+use std::alloc::{AllocError, Allocator};
 use std::collections::BTreeMap;
 
-/// A change of a stream.
-#[derive(Clone, Copy)]
-pub enum Moved {
-    /// A stream opens: its identifier, its receive window and its send window, and its content-length, if it has one (RFC
-    /// 9113, 5.1, 6.9.2 and 8.1.1).
-    Opened(u32, i64, i64, Option<u64>),
-    /// A number of a stream, before and after.
-    Number(u32, Count, i64, i64),
-    /// The body of the answer on a stream is sent to its end, and the stream is still live.
-    BodySent(u32),
-    /// A field block is open after the item (RFC 9113, 4.3).
-    Block(BlockView),
-    /// The block of a stream is not open any more.
-    BlockEnds(u32),
-}
-
 /// The streams that are live, by their identifiers.
-pub(crate) type Live = BTreeMap<u32, ()>;
+pub(crate) type Live<A> = BTreeMap<u32, (), A>;
 
 /// The streams of the frames that were sent for an item.
-fn sent_streams(alloc: Global, sent: &[u8]) -> Result<Live, AllocError> {
+fn sent_streams<A: Allocator + Copy>(alloc: A, sent: &[u8]) -> Result<Live<A>, AllocError> {
     let mut streams = BTreeMap::new(alloc);
     let mut rest = sent;
     for _frame in 0..sent.len() {
@@ -55,12 +40,12 @@ fn moves_windows(item: &Explained<'_>) -> bool {
 }
 
 /// Appends the row of a window, where it is another than before.
-fn put_window(
+fn put_window<A: Allocator>(
     stream: u32,
     count: Count,
     before: i64,
     after: i64,
-    out: &mut Vec<Moved>,
+    out: &mut Vec<Moved, A>,
 ) -> Result<(), AllocError> {
     if before != after {
         out.push(Moved::Number(stream, count, before, after))?;
@@ -69,11 +54,11 @@ fn put_window(
 }
 
 /// Appends the windows of a stream that are other than before.
-fn put_windows(
+fn put_windows<A: Allocator>(
     stream: u32,
     before: &Numbers,
     after: &Numbers,
-    out: &mut Vec<Moved>,
+    out: &mut Vec<Moved, A>,
 ) -> Result<(), AllocError> {
     let (recv, send) = (
         i64::from(before.recv.value()),
@@ -97,7 +82,11 @@ fn put_windows(
 
 /// Appends what a stream begins with, and its send window, where the answer has taken of it already; `initial` is the
 /// client's initial window.
-fn put_opened(stream: &Stream, initial: u32, out: &mut Vec<Moved>) -> Result<(), AllocError> {
+fn put_opened<A: Allocator>(
+    stream: &Stream,
+    initial: u32,
+    out: &mut Vec<Moved, A>,
+) -> Result<(), AllocError> {
     let numbers = &stream.numbers;
     let (recv, send) = (
         i64::from(numbers.recv.value()),
@@ -109,7 +98,11 @@ fn put_opened(stream: &Stream, initial: u32, out: &mut Vec<Moved>) -> Result<(),
 }
 
 /// Appends that the body of a stream is sent to its end, where it is.
-fn put_body_sent(before: &Stream, after: &Stream, out: &mut Vec<Moved>) -> Result<(), AllocError> {
+fn put_body_sent<A: Allocator>(
+    before: &Stream,
+    after: &Stream,
+    out: &mut Vec<Moved, A>,
+) -> Result<(), AllocError> {
     if before.numbers.body_remaining.is_some() && after.numbers.body_remaining.is_none() {
         out.push(Moved::BodySent(after.id))?;
     }
@@ -117,11 +110,11 @@ fn put_body_sent(before: &Stream, after: &Stream, out: &mut Vec<Moved>) -> Resul
 }
 
 /// Appends what `changes` does not list of a stream on which an item is, or a frame was sent.
-fn put_listed(
+fn put_listed<A: Allocator>(
     before: &Stream,
     after: &Stream,
     initial: u32,
-    out: &mut Vec<Moved>,
+    out: &mut Vec<Moved, A>,
 ) -> Result<(), AllocError> {
     match (is_live(before.kind), is_live(after.kind)) {
         (false, true) => put_opened(after, initial, out),
@@ -131,12 +124,12 @@ fn put_listed(
 }
 
 /// Appends the windows of a live stream that settings moved, unless `changes` lists them.
-fn put_other(
-    conn: &Conn<'_, Global>,
-    notes: &Notes,
-    sent: &Live,
+fn put_other<A: Allocator + Copy>(
+    conn: &Conn<'_, A>,
+    notes: &Notes<A>,
+    sent: &Live<A>,
     stream: u32,
-    out: &mut Vec<Moved>,
+    out: &mut Vec<Moved, A>,
 ) -> Result<(), AllocError> {
     if sent.contains_key(&stream) {
         return Ok(());
@@ -153,12 +146,12 @@ fn put_other(
 }
 
 /// Appends what `changes` does not list of the streams that frames were sent on.
-fn put_sent(
-    conn: &Conn<'_, Global>,
+fn put_sent<A: Allocator + Copy>(
+    conn: &Conn<'_, A>,
     item: &Explained<'_>,
-    notes: &Notes,
-    sent: &Live,
-    out: &mut Vec<Moved>,
+    notes: &Notes<A>,
+    sent: &Live<A>,
+    out: &mut Vec<Moved, A>,
 ) -> Result<(), AllocError> {
     let initial = item.after.counts.peer.window;
     for stream in sent.keys() {
@@ -180,7 +173,10 @@ fn extent_of(block: Option<BlockView>) -> Option<(u32, u64)> {
 }
 
 /// Appends how far the open block has got, or that it is not open any more: only a frame of the block changes it.
-fn put_block(item: &Explained<'_>, out: &mut Vec<Moved>) -> Result<(), AllocError> {
+fn put_block<A: Allocator>(
+    item: &Explained<'_>,
+    out: &mut Vec<Moved, A>,
+) -> Result<(), AllocError> {
     if extent_of(item.before.block) == extent_of(item.after.block) {
         return Ok(());
     }
@@ -194,13 +190,13 @@ fn put_block(item: &Explained<'_>, out: &mut Vec<Moved>) -> Result<(), AllocErro
 
 /// What an item changes on streams beside what `changes` lists; `notes` are those before the item, and `live` the streams
 /// that were live then.
-pub(crate) fn moved_by(
-    alloc: Global,
-    conn: &Conn<'_, Global>,
+pub(crate) fn moved_by<A: Allocator + Copy>(
+    alloc: A,
+    conn: &Conn<'_, A>,
     item: &Explained<'_>,
-    notes: &Notes,
-    live: &Live,
-) -> Result<Vec<Moved>, AllocError> {
+    notes: &Notes<A>,
+    live: &Live<A>,
+) -> Result<Vec<Moved, A>, AllocError> {
     let mut list = Vec::new(alloc);
     let sent = sent_streams(alloc, item.sent)?;
     if item.after.stream.id != 0 {
@@ -218,11 +214,11 @@ pub(crate) fn moved_by(
 }
 
 /// Notes the streams that settings have moved as they are now.
-fn note_live(
-    conn: &Conn<'_, Global>,
+fn note_live<A: Allocator + Copy>(
+    conn: &Conn<'_, A>,
     number: u64,
-    notes: &mut Notes,
-    live: &Live,
+    notes: &mut Notes<A>,
+    live: &Live<A>,
 ) -> Result<(), AllocError> {
     for stream in live.keys() {
         notes.see(number, number, conn.stream(*stream))?;
@@ -231,7 +227,7 @@ fn note_live(
 }
 
 /// Keeps a stream among the live ones where it is live, and else not.
-fn keep_live(stream: &Stream, live: &mut Live) -> Result<(), AllocError> {
+fn keep_live<A: Allocator + Copy>(stream: &Stream, live: &mut Live<A>) -> Result<(), AllocError> {
     if is_live(stream.kind) {
         live.insert(stream.id, ())?;
     } else {
@@ -241,12 +237,12 @@ fn keep_live(stream: &Stream, live: &mut Live) -> Result<(), AllocError> {
 }
 
 /// Notes what an item has moved, and which streams are live after it.
-pub(crate) fn note_moved(
-    alloc: Global,
-    conn: &Conn<'_, Global>,
+pub(crate) fn note_moved<A: Allocator + Copy>(
+    alloc: A,
+    conn: &Conn<'_, A>,
     item: &Explained<'_>,
-    notes: &mut Notes,
-    live: &mut Live,
+    notes: &mut Notes<A>,
+    live: &mut Live<A>,
 ) -> Result<(), AllocError> {
     if moves_windows(item) {
         note_live(conn, item.number, notes, live)?;

@@ -9,10 +9,10 @@ ghost use Rattle.h2_explain.specs.Explains.{Gains, IsExplanation, IsSummary, not
 
 use crate::explanation::Explanation;
 use crate::recorder::NoRecord;
-use crate::verdict::Verdict;
+use crate::verdict::ClientVerdict;
 use h2_conn::Conn;
 use h2_device::Output;
-use std::alloc::Global;
+use std::alloc::Allocator;
 
 /// In which form items are explained.
 #[derive(Clone, Copy)]
@@ -44,15 +44,15 @@ pub struct Summary {
     /// The code of the connection error that ended it, if one did (RFC 9113, 5.4.1).
     pub ended: Option<u32>,
     /// What is said about the client.
-    pub verdict: Verdict,
+    pub verdict: ClientVerdict,
 }
 
 /// Takes and explains each item of a connection over octets, and the octets after the last one, with an explanation that
 /// is new.
-fn explain_all<O: Output>(
-    alloc: Global,
-    explanation: &mut Explanation,
-    conn: &mut Conn<'_, Global>,
+fn explain_all<A: Allocator + Copy, O: Output>(
+    alloc: A,
+    explanation: &mut Explanation<A>,
+    conn: &mut Conn<'_, A>,
     octets: &[u8],
     output: &mut O,
 ) -> Result<Summary, ExplainFault>
@@ -80,10 +80,10 @@ fn explain_all<O: Output>(
 /// # Errors
 ///
 /// `NoMemory` where memory is refused, `NotWritten` where a write failed: some first items were explained.
-pub fn explain<O: Output>(
-    alloc: Global,
+pub fn explain<A: Allocator + Copy, O: Output>(
+    alloc: A,
     form: Form,
-    conn: &mut Conn<'_, Global>,
+    conn: &mut Conn<'_, A>,
     octets: &[u8],
     output: &mut O,
 ) -> Result<Summary, ExplainFault>

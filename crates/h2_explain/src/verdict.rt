@@ -4,21 +4,21 @@
 ghost use Rattle.std.specs.Prelude.{◌≡◌, ◌==◌, false, OnOk};
 ghost use Rattle.h2_explain.specs.Verdicts.{is_limit, no_tally, strict_status, tally_with, verdict_at, breaks_rule};
 
-use crate::account::has_ended;
-use crate::item::Explained;
-use crate::special::CaseFacts;
-use crate::warning::{Warnings, duty_of_error, duty_of_reason, is_breach, is_unacknowledged};
+use crate::explainer::has_ended;
 use h2_conn::Conn;
+use h2_facts::special::CaseFacts;
+use h2_facts::warning::{Warnings, duty_of_error, duty_of_reason, is_breach, is_unacknowledged};
+use h2_item::item::Explained;
 use h2_spec::causes::Cause;
 use h2_spec::rules::ClientDuty;
-use std::alloc::{AllocError, Global};
+use std::alloc::{AllocError, Allocator, Global};
 use std::marker::Model;
 
 /// What is counted of the items of a run.
 #[derive(Drop)]
-pub struct Tally {
+pub struct Tally<A: Allocator = Global> {
     /// The causes of the errors, in their order.
-    pub errors: Vec<Cause>,
+    pub errors: Vec<Cause, A>,
     /// How many warnings there were; stays at 2^64 - 1 once there.
     pub warnings: u64,
     /// Whether the client broke a rule.
@@ -27,7 +27,7 @@ pub struct Tally {
     pub limited: bool,
 }
 
-impl Model for Tally {
+impl<A: Allocator> Model for Tally<A> {
     ghost use Rattle.h2_explain.specs.Verdicts.{Tallied};
 
     ghost Value = { Tallied };
@@ -54,9 +54,9 @@ fn breaks_rule(item: &Explained<'_>, facts: CaseFacts, warnings: Warnings) -> bo
         || warnings.count() > 0
 }
 
-impl Tally {
+impl<A: Allocator> Tally<A> {
     /// Nothing was counted. Takes no memory.
-    pub(crate) fn new(alloc: Global) -> Tally
+    pub(crate) fn new(alloc: A) -> Tally<A>
         ensures { result ≡ no_tally }
     {
         Tally {
@@ -78,7 +78,7 @@ impl Tally {
     ) -> Result<(), AllocError>
         ensures { OnOk result (self.new ≡ tally_with self.old item.now facts warnings) }
     {
-        if let Some(cause) = item.taken.cause {
+        if let Some(cause) = item.cause {
             self.errors.push(cause)?;
         }
         self.warnings = self.warnings.saturating_add(warnings.count());
@@ -90,7 +90,7 @@ impl Tally {
 
 /// What is said about a client at the end of its octets.
 #[derive(Clone, Copy)]
-pub struct Verdict {
+pub struct ClientVerdict {
     /// Whether it broke a rule: with an error or an ignored frame whose rule it broke, or with a warning.
     pub broken: bool,
     /// Whether it was above a limit of this server.
@@ -99,7 +99,7 @@ pub struct Verdict {
     pub unfinished: bool,
 }
 
-impl Verdict {
+impl ClientVerdict {
     /// The exit status of `--strict`; `ended` is whether a connection error ended the connection (RFC 9113, 5.4.1).
     ///
     /// 5: the client broke a rule. 6: it was above a limit of this server. 7: octets of a frame are left. 4: a connection
@@ -123,11 +123,15 @@ impl Verdict {
 }
 
 /// What is said about a client whose items were counted, where that many octets are left after the last.
-pub(crate) fn verdict_at(tally: &Tally, conn: &Conn<'_, Global>, left: usize) -> Verdict
+pub(crate) fn verdict_at<A: Allocator + Copy>(
+    tally: &Tally<A>,
+    conn: &Conn<'_, A>,
+    left: usize,
+) -> ClientVerdict
     ensures { result ≡ verdict_at tally.now conn.now.state left }
 {
     let counts = conn.counts();
-    Verdict {
+    ClientVerdict {
         broken: tally.broken || is_unacknowledged(&counts),
         limited: tally.limited,
         unfinished: left > 0 && !has_ended(counts.phase),

@@ -1,11 +1,12 @@
 //! What `--strict` says at the end, as a line of text and as JSON: how many items there were, the errors by cause, and
 //! how many warnings. The form: docs/EXPLAIN.md.
 
-use crate::json_words::JsonWords;
-use crate::verdict::{Tally, Verdict};
-use h2_describe::say::Words;
+use crate::verdict::{ClientVerdict, Tally};
+use h2_account::json_words::JsonWords;
+use h2_describe::say::TextBuilder;
 use h2_describe::say_all;
 use h2_spec::causes::Cause;
+use std::alloc::Allocator;
 
 /// How many places there are for counts; there are fewer causes.
 const PLACES: usize = 256;
@@ -34,7 +35,7 @@ fn take_count(counts: &mut [u64], cause: Cause) -> u64 {
 }
 
 /// Puts a number of things last: `no error`, `1 error`, `2 errors`.
-fn say_number(number: u64, thing: &str, out: &mut Words) {
+fn say_number<A: Allocator>(number: u64, thing: &str, out: &mut TextBuilder<A>) {
     match number {
         0 => say_all!(out; "no ", thing),
         1 => say_all!(out; "1 ", thing),
@@ -43,7 +44,7 @@ fn say_number(number: u64, thing: &str, out: &mut Words) {
 }
 
 /// Puts last how many errors each cause has, in the order in which they came first.
-fn say_errors(errors: &[Cause], out: &mut Words) {
+fn say_errors<A: Allocator>(errors: &[Cause], out: &mut TextBuilder<A>) {
     let mut counts = counts_of(errors);
     let mut between = " (";
     for cause in errors {
@@ -59,7 +60,12 @@ fn say_errors(errors: &[Cause], out: &mut Words) {
 }
 
 /// Puts last how many items there were, their errors by cause, and how many warnings; `warnings` has those of the end too.
-pub(crate) fn say_tally(items: u64, tally: &Tally, warnings: u64, out: &mut Words) {
+pub(crate) fn say_tally<A: Allocator>(
+    items: u64,
+    tally: &Tally<A>,
+    warnings: u64,
+    out: &mut TextBuilder<A>,
+) {
     say_number(items, "item", out);
     say_all!(out; ", ");
     say_number(tally.errors.len() as u64, "error", out);
@@ -69,7 +75,7 @@ pub(crate) fn say_tally(items: u64, tally: &Tally, warnings: u64, out: &mut Word
 }
 
 /// Puts how many errors a cause has, as an element.
-fn put_count(cause: Cause, count: u64, out: &mut JsonWords) {
+fn put_count<A: Allocator>(cause: Cause, count: u64, out: &mut JsonWords<A>) {
     out.open_element();
     out.plain("cause", cause.name());
     out.number("count", count);
@@ -77,7 +83,7 @@ fn put_count(cause: Cause, count: u64, out: &mut JsonWords) {
 }
 
 /// Puts how many errors each cause has, in the order in which they came first.
-fn put_errors(errors: &[Cause], out: &mut JsonWords) {
+fn put_errors<A: Allocator>(errors: &[Cause], out: &mut JsonWords<A>) {
     let mut counts = counts_of(errors);
     out.open_list("errors");
     for cause in errors {
@@ -90,7 +96,12 @@ fn put_errors(errors: &[Cause], out: &mut JsonWords) {
 }
 
 /// Puts what is said about the client.
-pub(crate) fn put_verdict(tally: &Tally, verdict: Verdict, warnings: u64, out: &mut JsonWords) {
+pub(crate) fn put_verdict<A: Allocator>(
+    tally: &Tally<A>,
+    verdict: ClientVerdict,
+    warnings: u64,
+    out: &mut JsonWords<A>,
+) {
     out.open("verdict");
     out.flag("broken", verdict.broken);
     put_errors(tally.errors.as_slice(), out);

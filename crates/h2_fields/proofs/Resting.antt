@@ -7,8 +7,8 @@ use Rattle.h2_fields.specs.Resume.{Nothing, NameLength, NameOctets, ValueLength,
 use Rattle.h2_fields.specs.Shapes.{mode_of, shape_of, read_of}
 use Rattle.h2_fields.specs.declared.shape.Known.{Known}
 use Rattle.h2_fields.specs.declared.shape.Known.TheVariants as known
-use Rattle.h2_fields.specs.declared.shape.KnownName.{KnownName}
-use Rattle.h2_fields.specs.declared.shape.KnownName.TheVariants as name
+use Rattle.h2_fields.specs.declared.shape.PartialName.{PartialName}
+use Rattle.h2_fields.specs.declared.shape.PartialName.TheVariants as name
 use Rattle.h2_fields.specs.declared.shape.Point.{Point}
 use Rattle.h2_fields.specs.declared.shape.Shape.{Shape}
 use Rattle.h2_fields.specs.declared.shape.ShapeFault.{ShapeFault}
@@ -17,7 +17,7 @@ use Rattle.h2_fields.proofs.Resuming.{goes-on, past-zero, same-start}
 
 -- ---- more octets after
 
-name-stays : (b c : List ℕ) (at : ℕ) (name : KnownName) → IsNameBefore at name → at ≤ length b → name_at (b ++ c) name ≡ name_at b name
+name-stays : (b c : List ℕ) (at : ℕ) (name : PartialName) → IsNameBefore at name → at ≤ length b → name_at (b ++ c) name ≡ name_at b name
 name-stays b c at (name.Ref i) h k = refl
 name-stays b c at (name.Named huffman start n) h k =
     let front : drop start (b ++ c) ≡ drop start b ++ c = drop-append-le start b c (omega (arith, h.1, k)) in

@@ -12,8 +12,8 @@ use Rattle.h2_prim.specs.declared.integer.IntRead.{IntRead}
 use Rattle.h2_prim.specs.declared.integer.IntRead.TheVariants as int
 use Rattle.h2_fields.specs.Resume.{Begun, Nothing, NameLength, NameOctets, ValueLength, ValueOctets, read_on, resumed, SameOn, BeginsLiteral, huffman_flag, name_at, begun_of, IsNameBefore, IsKnownBefore, IsPoint, IsIntegerAt, IsStopped, IsReadOn}
 use Rattle.h2_fields.specs.declared.shape.Known.TheVariants as known
-use Rattle.h2_fields.specs.declared.shape.KnownName.{KnownName}
-use Rattle.h2_fields.specs.declared.shape.KnownName.TheVariants as name
+use Rattle.h2_fields.specs.declared.shape.PartialName.{PartialName}
+use Rattle.h2_fields.specs.declared.shape.PartialName.TheVariants as name
 use Rattle.h2_fields.specs.declared.shape.Point.{Point}
 use Rattle.h2_fields.specs.declared.shape.Shape.{Shape}
 use Rattle.h2_fields.specs.declared.shape.ShapeFault.{ShapeFault}
@@ -194,7 +194,7 @@ pub name-length-too_long : (b : List ℕ) (at : ℕ) (mode : spec.Mode) → TooL
 name-length-too_long b at mode e = ap (λ r. read_past at (read_then (drop at b) (read_map spec.Named r) (value_at mode))) (string-too_long (drop at b) e)
 
 -- a name that is before a place is before one further on
-pub name-further : (at to : ℕ) (name : KnownName) → at ≤ to → IsNameBefore at name → IsNameBefore to name
+pub name-further : (at to : ℕ) (name : PartialName) → at ≤ to → IsNameBefore at name → IsNameBefore to name
 name-further at to (name.Ref i) h k = omega (arith, h, k)
 name-further at to (name.Named huffman start n) h k = (k.0, omega (arith, h, k.1))
 

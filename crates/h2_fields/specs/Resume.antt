@@ -8,8 +8,8 @@ use Rattle.h2_spec.specs.Read.{Read, Whole, More, TooLong, read_map}
 use Rattle.h2_fields.specs.Shapes.{mode_of, shape_of}
 use Rattle.h2_fields.specs.declared.shape.Known.{Known}
 use Rattle.h2_fields.specs.declared.shape.Known.TheVariants as known
-use Rattle.h2_fields.specs.declared.shape.KnownName.{KnownName}
-use Rattle.h2_fields.specs.declared.shape.KnownName.TheVariants as name
+use Rattle.h2_fields.specs.declared.shape.PartialName.{PartialName}
+use Rattle.h2_fields.specs.declared.shape.PartialName.TheVariants as name
 use Rattle.h2_fields.specs.declared.shape.Point.{Point}
 use Rattle.h2_fields.specs.declared.shape.Shape.{Shape}
 use Rattle.h2_fields.specs.declared.shape.ShapeFault.{ShapeFault}
@@ -57,7 +57,7 @@ huffman_flag (o ∷ xs) = nat_le 128 o
 -- ---- a point of the code
 
 -- a name that is known by its place in the octets
-abbrev pub name_at : List ℕ → KnownName → spec.NameRef Str
+abbrev pub name_at : List ℕ → PartialName → spec.NameRef Str
 name_at b (name.Ref i) = spec.Ref i
 name_at b (name.Named huffman start count) = spec.Named (record { huffman = huffman; octets = take count (drop start b) })
 
@@ -70,7 +70,7 @@ begun_of b (known.ValueLength mode name) = ValueLength (mode_of mode) (name_at b
 begun_of b (known.ValueOctets mode name huffman n) = ValueOctets (mode_of mode) (name_at b name) huffman n
 
 -- the name is after the first octet, and before a place
-abbrev pub IsNameBefore : ℕ → KnownName → Type 0
+abbrev pub IsNameBefore : ℕ → PartialName → Type 0
 IsNameBefore at (name.Ref i) = 1 ≤ at
 IsNameBefore at (name.Named huffman start count) = (1 ≤ start) × (start + count ≤ at)
 

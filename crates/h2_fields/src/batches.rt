@@ -18,14 +18,14 @@ const MAX_FIELDS: usize = 4_294_967_295;
 
 /// Fields, and what each can be malformed for by itself.
 #[derive(Drop)]
-pub(crate) struct Batch<A: Allocator> {
+pub(crate) struct FieldBatch<A: Allocator> {
     /// The fields.
     pub(crate) list: FieldList<A>,
     /// The mark of each field, in the same order.
     pub(crate) marks: Vec<FieldMark, A>,
 }
 
-impl<A: Allocator> Model for Batch<A> {
+impl<A: Allocator> Model for FieldBatch<A> {
     ghost use Rattle.std.specs.Prelude.{◌≡◌, List, map};
     ghost use Rattle.h2_mark.specs.Mark.{mark_of};
     ghost use Rattle.h2_spec.specs.Field.{Field};
@@ -37,7 +37,7 @@ impl<A: Allocator> Model for Batch<A> {
     ghost invariant = { λ b. b.marks.items ≡ map mark_of b.list.fields };
 }
 
-impl<A: Allocator> Batch<A> {
+impl<A: Allocator> FieldBatch<A> {
     /// The field at a place with its mark; none at the number of fields and above.
     fn lent(&self, place: usize) -> Option<LentField<'_>>
         ensures field { option_map field_lent result ≡ slice_get self.now place }
@@ -72,7 +72,7 @@ pub(crate) fn lent_at<'a, A: Allocator>(
 /// The first fields of a batch, and how many there are before them.
 #[derive(Drop)]
 struct Shared<A: Allocator> {
-    batch: Rc<Batch<A>, A>,
+    batch: Rc<FieldBatch<A>, A>,
     start: usize,
     count: usize,
 }
@@ -211,7 +211,7 @@ impl<A: Allocator + Copy> Batches<A> {
     /// # Errors
     ///
     /// The batch, where memory was refused, or there would be more than 4,294,967,295 fields; nothing has changed.
-    pub(crate) fn push(&mut self, batch: Batch<A>) -> Result<(), Batch<A>>
+    pub(crate) fn push(&mut self, batch: FieldBatch<A>) -> Result<(), FieldBatch<A>>
         ensures ok { OnOk result (self.new ≡ self.old ++ batch) }
         ensures err { IfErr result (λ refused. refused ≡ batch) }
         ensures unchanged { OnErr result (self.new ≡ self.old) }

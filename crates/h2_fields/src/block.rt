@@ -198,7 +198,7 @@ fn advance<A: Allocator + Copy>(
     ensures unchanged { IsErrOf result faults.NoMemory → (collected.new ≡ collected.old) × (rest.new ≡ rest.old) × (ticks.new ≡ ticks.old) × (table.new ≡ table.old) }
     ensures limit { table.new.limit ≡ table.old.limit }
 {
-    let mark = collected.mark();
+    let savepoint = collected.savepoint();
     let edit = Edit::new(collected.allocator());
     let before = mem::replace(rest, Rest::new(collected.allocator()));
     let (mut edit, change, answer) = decode_piece(collected, table, edit, before, piece);
@@ -207,7 +207,7 @@ fn advance<A: Allocator + Copy>(
         return Err(BlockFault::NoMemory);
     }
     if !has_copied(fields, collected) {
-        collected.restore(mark);
+        collected.restore(savepoint);
         *rest = change.give_up();
         return Err(BlockFault::NoMemory);
     }

@@ -14,7 +14,7 @@ ghost use Rattle.h2_fields.specs.declared.fault.BlockFault.TheVariants as faults
 ghost use Rattle.h2_mark.specs.Mark.{mark_of};
 ghost use Rattle.h2_table.specs.Lent.{lent_field, field_lent, IsMarked};
 
-use crate::batches::{Batch, Batches, lent_at};
+use crate::batches::{Batches, FieldBatch, lent_at};
 use crate::fault::BlockFault;
 use crate::hints::Hints;
 use crate::shape::RawString;
@@ -77,7 +77,7 @@ impl<A: Allocator> Drop for Collected<A> {
 
 /// A place in a field block to which `Collected::restore` goes back; plain data.
 #[derive(Clone, Copy)]
-pub struct Mark {
+pub struct Savepoint {
     /// How many fields there were.
     pub count: usize,
     /// Their size together, as `Collected::list_size` has it.
@@ -189,27 +189,27 @@ impl<A: Allocator> Collected<A> {
     }
 
     /// The place after the fields so far.
-    pub fn mark(&self) -> Mark
+    pub fn savepoint(&self) -> Savepoint
         ensures { result ≡ record { count = length self.now.fields; size = list_size self.now.fields; due = self.now.due } }
     {
-        Mark {
+        Savepoint {
             count: self.len(),
             size: self.size,
             due: self.due,
         }
     }
 
-    /// Removes the fields after a mark that was taken of the fields before them. Takes no memory.
-    pub fn restore(&mut self, mark: Mark)
-        requires size { mark.size ≡ list_size (take mark.count self.old.fields) }
-        ensures { self.new ≡ record { fields = take mark.count self.old.fields; due = mark.due } }
+    /// Removes the fields after a savepoint that was taken of the fields before them. Takes no memory.
+    pub fn restore(&mut self, savepoint: Savepoint)
+        requires size { savepoint.size ≡ list_size (take savepoint.count self.old.fields) }
+        ensures { self.new ≡ record { fields = take savepoint.count self.old.fields; due = savepoint.due } }
     {
-        let behind = mark.count.saturating_sub(self.shared.len());
-        self.shared.truncate(mark.count);
+        let behind = savepoint.count.saturating_sub(self.shared.len());
+        self.shared.truncate(savepoint.count);
         self.list.truncate(behind);
         self.marks.truncate(behind);
-        self.size = mark.size;
-        self.due = mark.due;
+        self.size = savepoint.size;
+        self.due = savepoint.due;
     }
 
     /// Adds a field after the others.
@@ -349,12 +349,12 @@ impl<A: Allocator + Copy> Collected<A> {
             return;
         }
         let alloc = self.list.allocator();
-        let batch = Batch {
+        let batch = FieldBatch {
             list: replace(&mut self.list, FieldList::new(alloc)),
             marks: replace(&mut self.marks, Vec::new(alloc)),
         };
         if let Err(batch) = self.shared.push(batch) {
-            let Batch { list, marks } = batch;
+            let FieldBatch { list, marks } = batch;
             self.list = list;
             self.marks = marks;
         }

@@ -103,12 +103,12 @@ fn attempt<A: Allocator + Copy>(
     ensures unchanged { IsErrOf result.1 faults.NoMemory → collected.new ≡ collected.old }
     ensures grows { Grows collected.old collected.new }
 {
-    let mark = collected.mark();
+    let savepoint = collected.savepoint();
     let mut draft = Draft::start(table, edit);
     match decode(collected, &mut draft, ticks, from, octets) {
         Ok(end) => (draft.into_edit(), Ok(end)),
         Err(BlockFault::NoMemory) => {
-            collected.restore(mark);
+            collected.restore(savepoint);
             (draft.into_edit(), Err(BlockFault::NoMemory))
         }
         Err(fault) => (draft.into_edit(), Err(fault)),
@@ -222,7 +222,7 @@ fn decode_alone<A: Allocator + Copy>(
     ensures unchanged { IsErrOf result.2 faults.NoMemory → collected.new ≡ collected.old }
     ensures grows { Grows collected.old collected.new }
 {
-    let before = collected.mark();
+    let before = collected.savepoint();
     let mut ticks = 0;
     let start = Point::start();
     let (edit, answer) = attempt(collected, table, edit, &mut ticks, start, piece);

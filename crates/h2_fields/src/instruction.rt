@@ -32,14 +32,14 @@ pub enum Mode {
 
 /// A string of an instruction (RFC 7541, 5.2).
 #[derive(Drop)]
-pub struct Text<A: Allocator> {
+pub struct HpackString<A: Allocator> {
     /// The octets that the string means.
     pub octets: Octets<A>,
     /// Whether it is written as a Huffman string.
     pub huffman: bool,
 }
 
-impl<A: Allocator> Model for Text<A> {
+impl<A: Allocator> Model for HpackString<A> {
     ghost use Rattle.h2_spec.specs.Instruction.{TextStr};
 
     ghost Value = { TextStr };
@@ -53,7 +53,7 @@ pub enum Name<A: Allocator> {
     /// The name of the field at this index of the tables, from 1 on.
     Ref(u64),
     /// A name that is spelled.
-    Text(Text<A>),
+    Text(HpackString<A>),
 }
 
 /// An instruction of a field block (RFC 7541, 6).
@@ -70,7 +70,7 @@ pub enum Instr<A: Allocator> {
         /// Its name.
         name: Name<A>,
         /// Its value.
-        value: Text<A>,
+        value: HpackString<A>,
     },
 }
 
@@ -181,13 +181,16 @@ fn name_with_text<A: Allocator + Copy>(alloc: A, name: RawName<'_>) -> Result<Na
 }
 
 /// A string with its text.
-fn with_text<A: Allocator + Copy>(alloc: A, string: RawString<'_>) -> Result<Text<A>, BlockFault>
+fn with_text<A: Allocator + Copy>(
+    alloc: A,
+    string: RawString<'_>,
+) -> Result<HpackString<A>, BlockFault>
     ensures text { IfOk result (λ text. spec.text_str (string_of string.entry) ≡ Some text) }
     ensures fault { IfErr result (λ fault. fault ≢ faults.NoMemory → (fault ≡ faults.Huffman) × (spec.text_str (string_of string.entry) ≡ None)) }
     ensures no_memory { IsErrOf result faults.NoMemory → IsSome (spec.text_str (string_of string.entry)) }
 {
     let octets = text_of(alloc, string)?;
-    Ok(Text {
+    Ok(HpackString {
         octets: Octets::new(octets),
         huffman: string.huffman,
     })
@@ -226,11 +229,11 @@ pub fn write_instr<A: Allocator, B: Allocator>(
     ensures ok { OnOk result (out.new.items ≡ out.old.items ++ spec.spell (spec.shape_of (instr_of instr.now))) }
     ensures err { OnErr result (out.new.items ≡ out.old.items) }
 {
-    let mark = out.len();
+    let before = out.len();
     match write_parts(instr, out) {
         Ok(()) => Ok(()),
         Err(error) => {
-            out.truncate(mark);
+            out.truncate(before);
             Err(error)
         }
     }
@@ -277,7 +280,7 @@ fn write_name<A: Allocator, B: Allocator>(
 
 /// Appends a string as its flag says.
 fn write_text<A: Allocator, B: Allocator>(
-    text: &Text<B>,
+    text: &HpackString<B>,
     out: &mut Vec<u8, A>,
 ) -> Result<(), AllocError>
     requires { IsWritableText text.now }

@@ -25,7 +25,7 @@ pub enum ShapeFault {
 
 /// The name of a literal: an index of the tables, or a string by its place in the octets of the instruction.
 #[derive(Clone, Copy)]
-pub enum KnownName {
+pub enum PartialName {
     /// The index, above 0.
     Ref(u64),
     /// Whether the octets are a Huffman string, where they begin, and how many they are.
@@ -42,9 +42,9 @@ pub enum Known {
     /// The same with the flag and the length of the name; its octets come next.
     NameOctets(Mode, bool, u64),
     /// A literal and its name; the length of the value comes next.
-    ValueLength(Mode, KnownName),
+    ValueLength(Mode, PartialName),
     /// The same with the flag and the length of the value; its octets come next.
-    ValueOctets(Mode, KnownName, bool, u64),
+    ValueOctets(Mode, PartialName, bool, u64),
 }
 
 /// Where reading goes on in an instruction whose octets stopped: at the first octet of the integer that is not whole,
@@ -175,7 +175,7 @@ fn literal(mode: Mode, octets: &[u8]) -> Result<(Shape<'_>, usize), ShapeFault>
     match integer_at(mode.prefix(), 0, octets) {
         IntRead::Whole(0, used) => from_name_length(mode, used, octets),
         IntRead::Whole(index, used) => {
-            from_value_length(mode, KnownName::Ref(index), used, octets)
+            from_value_length(mode, PartialName::Ref(index), used, octets)
         }
         IntRead::More => Err(ShapeFault::More(Point::start())),
         IntRead::TooLong => Err(ShapeFault::TooLong),
@@ -216,7 +216,7 @@ fn from_name(
         let count = count as usize;
         return from_value_length(
             mode,
-            KnownName::Named(huffman, at, count),
+            PartialName::Named(huffman, at, count),
             at + count,
             octets,
         );
@@ -231,7 +231,7 @@ fn from_name(
 /// A literal with its name, from the length of the value, which begins at `at`.
 fn from_value_length(
     mode: Mode,
-    name: KnownName,
+    name: PartialName,
     at: usize,
     octets: &[u8],
 ) -> Result<(Shape<'_>, usize), ShapeFault>
@@ -255,7 +255,7 @@ fn from_value_length(
 /// A literal with its name, from the octets of the value, which begin at `at`.
 fn from_value(
     mode: Mode,
-    name: KnownName,
+    name: PartialName,
     huffman: bool,
     count: u64,
     at: usize,
@@ -284,13 +284,13 @@ fn from_value(
 }
 
 /// A name that is known, with its octets.
-fn name_in(name: KnownName, octets: &[u8]) -> RawName<'_>
+fn name_in(name: PartialName, octets: &[u8]) -> RawName<'_>
     requires within { IsNameBefore (length octets.now) name }
     ensures { name_of result ≡ name_at octets.now name }
 {
     match name {
-        KnownName::Ref(index) => RawName::Ref(index),
-        KnownName::Named(huffman, start, count) => RawName::Named(RawString {
+        PartialName::Ref(index) => RawName::Ref(index),
+        PartialName::Named(huffman, start, count) => RawName::Named(RawString {
             huffman,
             octets: octets_up_to(octets_from(octets, start), count),
         }),

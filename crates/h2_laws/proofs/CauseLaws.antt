@@ -20,7 +20,7 @@ use Rattle.h2_spec.specs.Answer.{Entry, picked}
 use Rattle.h2_spec.specs.Window.{sendable}
 use Rattle.h2_spec.specs.Stream.{octets_waiting}
 use Rattle.h2_spec.specs.State.{State}
-use Rattle.h2_spec.specs.Change.{Step, first_frames, second_frames, answer_frames, frames_of, goaway, rst_stream}
+use Rattle.h2_spec.specs.Change.{Step, connection_frames, stream_frames, answer_frames, frames_of, goaway, rst_stream}
 use Rattle.h2_spec.specs.Headers.{FrameEffect, Breaks, Makes}
 use Rattle.h2_spec.specs.SendPending.{piece, data_upto, data_frames, allowance, allowance_frames, sent_frames, send_pending}
 use Rattle.h2_spec.specs.Effect.{cause_of, stream_cause, effect_cause, item_effect, concluded, effect}
@@ -91,7 +91,7 @@ of-goaway last code = ap (λ n. n ∷ []) (code-back code)
 
 -- ---- what a change sends
 
-of-first : (f : ConnectionFrame) → error_codes_in (first_frames f) ≡ []
+of-first : (f : ConnectionFrame) → error_codes_in (connection_frames f) ≡ []
 of-first NoConnectionFrame = refl
 of-first SettingsAck = refl
 of-first (PingAck octets) = refl
@@ -101,17 +101,17 @@ of-answer : (book : List Entry) (a : Option Answering) → error_codes_in (answe
 of-answer book None = refl
 of-answer book (Some a) = refl
 
-of-second : (f : StreamFrame) → error_codes_in (second_frames f) ≡ error_codes_of (stream_cause f)
+of-second : (f : StreamFrame) → error_codes_in (stream_frames f) ≡ error_codes_of (stream_cause f)
 of-second NoStreamFrame = refl
 of-second (Reset id cause) = of-rst_stream id (code_of cause)
 of-second (StreamCredit id n) = refl
 
-of-change : (book : List Entry) (c : Change) → error_codes_in (frames_of book c) ≡ error_codes_of (stream_cause c.second)
+of-change : (book : List Entry) (c : Change) → error_codes_in (frames_of book c) ≡ error_codes_of (stream_cause c.stream_frame)
 unfolding frames_of
 of-change book c =
-    of-first-part (first_frames c.first ++ second_frames c.second) (answer_frames book c.answer) (of-answer book c.answer)
-    ∙ of-last-part (first_frames c.first) (second_frames c.second) (of-first c.first)
-    ∙ of-second c.second
+    of-first-part (connection_frames c.connection_frame ++ stream_frames c.stream_frame) (answer_frames book c.answer) (of-answer book c.answer)
+    ∙ of-last-part (connection_frames c.connection_frame) (stream_frames c.stream_frame) (of-first c.connection_frame)
+    ∙ of-second c.stream_frame
 
 of-effect : (s : State) (e : FrameEffect) → error_codes_in (concluded s e).sent ≡ error_codes_of (effect_cause e)
 of-effect s (Breaks cause) = of-goaway s.core.last (code_of cause)

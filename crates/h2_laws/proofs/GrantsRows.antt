@@ -14,7 +14,7 @@ use Rattle.h2_spec.specs.Frame.{Frame, frame}
 use Rattle.h2_spec.specs.Answer.{Entry, answer}
 use Rattle.h2_spec.specs.State.{limits, opening}
 use Rattle.h2_spec.specs.Trace.{Event, trace}
-use Rattle.h2_laws.specs.Grants.{Mark, Tally, When, AtEach, IsWithinStream, IsWithinFrameSize, IsInOrder, IsBeforeEnd, IsPrefixOf, IsOfBody, IsUsedUp, body_or_nothing, is_headers_on, is_data_on, is_unfinished, sends_data, sent_one, sent_all, start, Meets}
+use Rattle.h2_laws.specs.Grants.{StreamTally, Tally, When, AtEach, IsWithinStream, IsWithinFrameSize, IsInOrder, IsBeforeEnd, IsPrefixOf, IsOfBody, IsUsedUp, body_or_nothing, is_headers_on, is_data_on, is_unfinished, sends_data, sent_one, sent_all, start, Meets}
 use Rattle.h2_laws.specs.GrantsTest.{Test, WithinConnection, WithinStream, WithinFrameSize, AnswersOnce, SilentAfterEnd, NothingHeldBack, when, at_each, is_within_connection, is_within_stream, is_within_frame_size, is_in_order, is_prefix, is_of_body, is_before_end, is_used_up, fails, failing, failing_in}
 use Rattle.h2_spec.specs.SendPending.{data_frames}
 use Rattle.h2_laws.proofs.Hex.{hex}
@@ -49,22 +49,22 @@ frame_size-Decides t f = when-Decides (length f.payload ≤ t.frame) (eqb f.kind
 order-Decides : (id : ℕ) (t : Tally) (f : Frame) → Decides (is_in_order id t f) (IsInOrder id t f)
 order-Decides id t f =
     Decides-and _ _
-    (when-Decides (t.mark.headers ≡ 0) (is_headers_on id f) _ (Decides-eqb t.mark.headers 0))
-    (when-Decides (t.mark.headers ≡ 1) (is_data_on id f) _ (Decides-eqb t.mark.headers 1))
+    (when-Decides (t.on_stream.headers ≡ 0) (is_headers_on id f) _ (Decides-eqb t.on_stream.headers 0))
+    (when-Decides (t.on_stream.headers ≡ 1) (is_data_on id f) _ (Decides-eqb t.on_stream.headers 1))
 
 end-Decides : (id : ℕ) (t : Tally) (f : Frame) → Decides (is_before_end id t f) (IsBeforeEnd id t f)
 end-Decides id t f =
     Decides-and _ _
-    (when-Decides (t.mark.ended ≡ false) (is_headers_on id f || is_data_on id f) _ (not-Decides t.mark.ended))
-    (when-Decides (t.mark.reset ≡ false) (eqb f.stream id) _ (not-Decides t.mark.reset))
+    (when-Decides (t.on_stream.ended ≡ false) (is_headers_on id f || is_data_on id f) _ (not-Decides t.on_stream.ended))
+    (when-Decides (t.on_stream.reset ≡ false) (eqb f.stream id) _ (not-Decides t.on_stream.reset))
 
-body-Decides : (m : Mark) → Decides (is_of_body m) (IsOfBody m)
+body-Decides : (m : StreamTally) → Decides (is_of_body m) (IsOfBody m)
 body-Decides m =
     Decides-and _ _ (prefix-Decides m.content (body_or_nothing m.promised))
     (when-Decides (m.content ≡ body_or_nothing m.promised) m.ended _ (bytes_eq-Decides m.content (body_or_nothing m.promised)))
 
 used_up-Decides : (t : Tally) → Decides (is_used_up t) (IsUsedUp t)
-used_up-Decides t = Decides-or _ _ (Decides-eqb t.sent (65535 + t.granted)) (nat_le-Decides (t.window + t.mark.granted) (length t.mark.content))
+used_up-Decides t = Decides-or _ _ (Decides-eqb t.sent (65535 + t.granted)) (nat_le-Decides (t.window + t.on_stream.granted) (length t.on_stream.content))
 
 -- the list of those that fail is empty where each holds
 fails-nothing : (test : Test) (b : Bool) (rest : List Test) → fails test b rest ≡ [] → (b ≡ true) × (rest ≡ [])
@@ -82,19 +82,19 @@ failing-decides id ends t sent = (hold, none)
     a = nat_le-Decides u.sent (65535 + u.granted)
 
     b : Decides (when (sends_data id sent) (is_within_stream u)) (When (sends_data id sent) (IsWithinStream u))
-    b = when-Decides (IsWithinStream u) (sends_data id sent) (is_within_stream u) (nat_le-Decides (length u.mark.content) (u.window + u.mark.granted))
+    b = when-Decides (IsWithinStream u) (sends_data id sent) (is_within_stream u) (nat_le-Decides (length u.on_stream.content) (u.window + u.on_stream.granted))
 
     c : Decides (at_each is_within_frame_size id t sent) (AtEach IsWithinFrameSize id t sent)
     c = each-Decides IsWithinFrameSize is_within_frame_size frame_size-Decides id t sent
 
-    d : Decides (at_each (is_in_order id) id t sent && is_of_body u.mark) (AtEach (IsInOrder id) id t sent × IsOfBody u.mark)
-    d = Decides-and _ _ (each-Decides (IsInOrder id) (is_in_order id) (order-Decides id) id t sent) (body-Decides u.mark)
+    d : Decides (at_each (is_in_order id) id t sent && is_of_body u.on_stream) (AtEach (IsInOrder id) id t sent × IsOfBody u.on_stream)
+    d = Decides-and _ _ (each-Decides (IsInOrder id) (is_in_order id) (order-Decides id) id t sent) (body-Decides u.on_stream)
 
     e : Decides (at_each (is_before_end id) id t sent) (AtEach (IsBeforeEnd id) id t sent)
     e = each-Decides (IsBeforeEnd id) (is_before_end id) (end-Decides id) id t sent
 
-    f : Decides (when (not ends && is_unfinished u.mark) (is_used_up u)) (When (not ends && is_unfinished u.mark) (IsUsedUp u))
-    f = when-Decides (IsUsedUp u) (not ends && is_unfinished u.mark) (is_used_up u) (used_up-Decides u)
+    f : Decides (when (not ends && is_unfinished u.on_stream) (is_used_up u)) (When (not ends && is_unfinished u.on_stream) (IsUsedUp u))
+    f = when-Decides (IsUsedUp u) (not ends && is_unfinished u.on_stream) (is_used_up u) (used_up-Decides u)
 
     none : Meets id ends t sent → failing id ends t sent ≡ []
     none m = rw (a.1 m.within_connection, b.1 m.within_stream, c.1 m.within_frame_size, d.1 m.answers_once, e.1 m.silent_after_end, f.1 m.nothing_held_back) refl

@@ -17,8 +17,8 @@ use Rattle.h2_spec.specs.declared.reactions.ConnectionFrame.TheVariants.{PingAck
 use Rattle.h2_spec.specs.declared.reactions.Reaction.{Reaction}
 use Rattle.h2_spec.specs.declared.reactions.Reaction.TheVariants.{ConnectionError, Continues}
 use Rattle.h2_spec.specs.declared.reactions.ReceivedData.{ReceivedData}
-use Rattle.h2_spec.specs.declared.streams.Kind.{Kind}
-use Rattle.h2_spec.specs.declared.streams.Kind.TheVariants.{Idle, Skipped, BothOpen, HalfRemote, HalfLocal, Ended, PeerReset, WeReset}
+use Rattle.h2_spec.specs.declared.streams.StreamState.{StreamState}
+use Rattle.h2_spec.specs.declared.streams.StreamState.TheVariants.{Idle, Skipped, BothOpen, HalfRemote, HalfLocal, Ended, PeerReset, WeReset}
 use Rattle.h2_spec.specs.declared.streams.Stream.{Stream}
 use Rattle.h2_spec.specs.FrameType.{END_HEADERS, ACK, frame_type, has}
 use Rattle.h2_spec.specs.Frame.{Item, Preface, BadPreface, WholeFrame, Oversize}
@@ -105,7 +105,7 @@ module _ (s : State) where
   nothing-happens : (reason : Ignored) → IsIgnored reason s (concluded s (Makes s (only_counts s.core))) → Allowed (makes s (nothing s.core)) (Some reason)
   nothing-happens reason k = has-reason (Makes s (only_counts s.core)) reason k
 
-  resets : (rule : ResetRule → Reaction) (kind : Kind) → Allowed (makes s (run_cell ConnectionError (nothing s.core) rule (reset_cell kind))) (reset_ignored kind)
+  resets : (rule : ResetRule → Reaction) (kind : StreamState) → Allowed (makes s (run_cell ConnectionError (nothing s.core) rule (reset_cell kind))) (reset_ignored kind)
   resets rule Idle = no-reason _
   resets rule Skipped = nothing-happens RstStreamOnSkipped unchanged
   resets rule BothOpen = no-reason _
@@ -115,7 +115,7 @@ module _ (s : State) where
   resets rule PeerReset = nothing-happens RstStreamOnPeerReset unchanged
   resets rule WeReset = nothing-happens RstStreamOnReset unchanged
 
-  moves-window : (rule : WindowRule → Reaction) (zero : Bool) (kind : Kind) → Allowed (makes s (run_cell ConnectionError (nothing s.core) rule (window_cell kind))) (window_ignored zero kind)
+  moves-window : (rule : WindowRule → Reaction) (zero : Bool) (kind : StreamState) → Allowed (makes s (run_cell ConnectionError (nothing s.core) rule (window_cell kind))) (window_ignored zero kind)
   moves-window rule zero Idle = no-reason _
   moves-window rule true Skipped = nothing-happens WindowUpdateByZero unchanged
   moves-window rule false Skipped = nothing-happens WindowUpdateOnSkipped unchanged
@@ -129,7 +129,7 @@ module _ (s : State) where
   moves-window rule true WeReset = nothing-happens WindowUpdateByZero unchanged
   moves-window rule false WeReset = nothing-happens WindowUpdateOnReset unchanged
 
-  moves-a-window : (increment : ℕ) (on_zero zero : Bool) (rule : WindowRule → Reaction) (kind : Kind) →
+  moves-a-window : (increment : ℕ) (on_zero zero : Bool) (rule : WindowRule → Reaction) (kind : StreamState) →
       Allowed (makes s (cond on_zero (connection_window s.core increment) (run_cell ConnectionError (nothing s.core) rule (window_cell kind)))) (cond on_zero None (window_ignored zero kind))
   moves-a-window increment true zero rule kind = no-reason _
   moves-a-window increment false zero rule kind = moves-window rule zero kind
@@ -138,7 +138,7 @@ module _ (s : State) where
   acknowledges true = nothing-happens SecondAcknowledgement unchanged
   acknowledges false = no-reason _
 
-  pings : (octets : List ℕ) (acknowledges : Bool) → Allowed (makes s (cond acknowledges (nothing s.core) (Continues (record (only_counts s.core) { first = PingAck octets })))) (reason_if acknowledges PingAcknowledgement)
+  pings : (octets : List ℕ) (acknowledges : Bool) → Allowed (makes s (cond acknowledges (nothing s.core) (Continues (record (only_counts s.core) { connection_frame = PingAck octets })))) (reason_if acknowledges PingAcknowledgement)
   pings octets true = nothing-happens PingAcknowledgement unchanged
   pings octets false = no-reason _
 
@@ -156,7 +156,7 @@ module _ (s : State) where
       within true = is-error ConnectionWindowExceeded (Some DataOnReset)
       within false = has-reason (Makes s (counted s.config.credit s.core d.octets)) DataOnReset (owed (given_back s.config.credit (s.core.owed + d.octets)))
 
-  brings-data : (body : ℕ) (d : ReceivedData) (st : Stream) (kind : Kind) →
+  brings-data : (body : ℕ) (d : ReceivedData) (st : Stream) (kind : StreamState) →
       Allowed (makes s (run_cell ConnectionError (nothing s.core) (λ rule. data_rule rule s.config s.core body d st) (data_cell kind))) (where_reset DataOnReset kind)
   brings-data body d st Idle = no-reason _
   brings-data body d st Skipped = no-reason _
@@ -217,7 +217,7 @@ module _ (s : State) where
       at None = no-reason _
       at (Some d) = goes-on b.shown d octets ends
 
-  begins : (h : Head) (part : HeadersPart) (kind : Kind) → Allowed (on_headers s h part (headers_cell h.stream kind)) (where_reset TableOnlyBlock kind)
+  begins : (h : Head) (part : HeadersPart) (kind : StreamState) → Allowed (on_headers s h part (headers_cell h.stream kind)) (where_reset TableOnlyBlock kind)
   begins h part Idle = no-reason _
   begins h part Skipped = no-reason _
   begins h part BothOpen = no-reason _

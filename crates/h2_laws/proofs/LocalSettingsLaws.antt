@@ -306,7 +306,7 @@ module _ (config : Config) (s : State) (same : s.config ≡ config) (own : s.cor
   frame-has h p (OfSettings pairs) = reacts _ (settings-keeps s.streams s.core pairs)
   frame-has h p OfSettingsAck = acknowledged-has
   frame-has h p OfPushPromise = tt
-  frame-has h p (OfPing octets) = reacts _ (either-keeps s.core (has h.flags ACK) (nothing s.core) (Continues (record (only_counts s.core) { first = PingAck octets })) (refl, refl) (refl, refl))
+  frame-has h p (OfPing octets) = reacts _ (either-keeps s.core (has h.flags ACK) (nothing s.core) (Continues (record (only_counts s.core) { connection_frame = PingAck octets })) (refl, refl) (refl, refl))
   frame-has h p (OfGoaway last code) = (same, own, within)
   frame-has h p (OfWindowUpdate n) = reacts _ (either-keeps s.core (eqb h.stream 0) (connection_window s.core n) _ (connection-keeps s.core n) (window-keeps s.core n _))
   frame-has h p (OfContinuation octets) = kept _ (continuation-keeps s most low within s.block octets (has h.flags END_HEADERS))

@@ -14,8 +14,8 @@ use Rattle.h2_spec.specs.declared.reactions.RecordUpdate.TheVariants.{Put, Shift
 use Rattle.h2_spec.specs.declared.reactions.StreamFrame.{StreamFrame}
 use Rattle.h2_spec.specs.declared.reactions.StreamFrame.TheVariants.{NoStreamFrame, Reset, StreamCredit}
 use Rattle.h2_spec.specs.declared.reactions.StreamOutcome.{StreamOutcome}
-use Rattle.h2_spec.specs.declared.streams.Kind.{Kind}
-use Rattle.h2_spec.specs.declared.streams.Kind.TheVariants.{Idle, Skipped, BothOpen, HalfRemote, HalfLocal, Ended, PeerReset, WeReset}
+use Rattle.h2_spec.specs.declared.streams.StreamState.{StreamState}
+use Rattle.h2_spec.specs.declared.streams.StreamState.TheVariants.{Idle, Skipped, BothOpen, HalfRemote, HalfLocal, Ended, PeerReset, WeReset}
 use Rattle.h2_spec.specs.declared.streams.Pick.TheVariants.{Listed, NotFound}
 use Rattle.h2_spec.specs.declared.streams.Stream.{Stream}
 use Rattle.h2_spec.specs.Stream.{not_live}
@@ -32,7 +32,7 @@ abbrev running : ConnectionState
 running = record opening_core { phase = phase.Running; last = 1; acked = true }
 
 -- stream 1 in a state, with the windows that it began with
-abbrev stream : Kind → Stream
+abbrev stream : StreamState → Stream
 stream kind = record { id = 1; kind = kind; numbers = record { recv = pos 65535; owed = 0; send = pos 65535; content_received = 0; declared = None; body_remaining = None }; pick = NotFound }
 
 -- the error that ends the connection
@@ -43,7 +43,7 @@ error_of (Continues change) = None
 -- ---- DATA (6.1 and 6.9)
 
 -- DATA with that many octets, that many of them content, on stream 1, where credit is given back from a threshold on
-data_on : ℕ → ℕ → ℕ → Kind → Reaction
+data_on : ℕ → ℕ → ℕ → StreamState → Reaction
 unfolding on_data
 data_on threshold octets content kind = on_data (limits 100 threshold) running 0 (record { octets = octets; content = content; ends = false }) (stream kind)
 
@@ -56,8 +56,8 @@ payload_is_counted_and_not_content_alone = refl
 
 payload_is_given_back_at_the_threshold : data_on 3 3 1 BothOpen ≡ Continues (record (only_counts running) {
   record_update = Put (record (stream BothOpen) { numbers = record (stream BothOpen).numbers { content_received = 1 } });
-  first = Credit 3;
-  second = StreamCredit 1 3;
+  connection_frame = Credit 3;
+  stream_frame = StreamCredit 1 3;
 })
 unfolding data_on
 payload_is_given_back_at_the_threshold = refl
@@ -65,7 +65,7 @@ payload_is_given_back_at_the_threshold = refl
 -- a stream error of type STREAM_CLOSED (5.1, half-closed (remote))
 data_after_the_end_of_the_peer_is_counted_and_refused : data_on 65535 5 5 HalfRemote ≡ Continues (record (only_counts (record running { recv = pos 65530; owed = 5 })) {
   record_update = Put (not_live 1 WeReset);
-  second = Reset 1 cause.DataAfterEndStream;
+  stream_frame = Reset 1 cause.DataAfterEndStream;
 })
 unfolding data_on
 data_after_the_end_of_the_peer_is_counted_and_refused = refl
@@ -77,11 +77,11 @@ data_fills_a_window_and_no_more = refl
 -- ---- the states of a stream (5.1)
 
 -- why DATA, RST_STREAM and WINDOW_UPDATE are connection errors on a stream in a state
-errors : Kind → Option Cause × Option Cause × Option Cause
+errors : StreamState → Option Cause × Option Cause × Option Cause
 unfolding data_on on_reset on_window
 errors kind = (error_of (data_on 65535 1 1 kind), error_of (on_reset running (stream kind)), error_of (on_window running 1 (stream kind)))
 
-abbrev states : List (Kind × Option Cause × Option Cause × Option Cause)
+abbrev states : List (StreamState × Option Cause × Option Cause × Option Cause)
 states =
     -- any frame but HEADERS and PRIORITY is a connection error of type PROTOCOL_ERROR
     (Idle, Some cause.DataOnIdle, Some cause.RstStreamOnIdle, Some cause.WindowUpdateOnIdle) ∷
@@ -96,7 +96,7 @@ states =
     (WeReset, None, None, None) ∷ []
 
 abbrev State : Type 0
-State = Kind × Option Cause × Option Cause × Option Cause
+State = StreamState × Option Cause × Option Cause × Option Cause
 
 abbrev errors_wanted : State → Option Cause × Option Cause × Option Cause
 errors_wanted row = (row.1, row.2, row.3)
@@ -145,7 +145,7 @@ increments_of_a_stream = refl
 -- 4 is SETTINGS_INITIAL_WINDOW_SIZE, 2 is SETTINGS_ENABLE_PUSH; the window of the connection is not moved
 settings_are_taken_and_acknowledged : settings_rule [] running ((4, 1000) ∷ (2, 0) ∷ []) ≡ Continues (record (only_counts (record running { peer = record running.peer { window = 1000; push = 0 } })) {
   record_update = Shift 65535 1000;
-  first = SettingsAck;
+  connection_frame = SettingsAck;
 })
 unfolding settings_rule
 settings_are_taken_and_acknowledged = refl
@@ -171,7 +171,7 @@ settings_come_into_force_at_their_acknowledgement = refl
 -- ---- requests and trailers (5.1.2, 8.1, 8.1.1 and 10.5.1)
 
 abbrev Outcome : Type 0
-Outcome = Kind × StreamFrame × Bool
+Outcome = StreamState × StreamFrame × Bool
 
 abbrev told : StreamOutcome → Outcome
 told outcome = (outcome.stream.kind, outcome.frame, is_some outcome.answer)
@@ -203,7 +203,7 @@ requests_at_their_limits = refl
 
 -- the length of the answer's body, whether the answer is early, whether the request has ended; and the stream's state,
 -- the rest of the body, and whether the answer begins
-abbrev beginnings : List (ℕ × Bool × Bool × Kind × Option ℕ × Bool)
+abbrev beginnings : List (ℕ × Bool × Bool × StreamState × Option ℕ × Bool)
 beginnings =
     -- half-closed (local) where END_STREAM is sent first (5.1)
     (0, true, false, HalfLocal, None, true) ∷
@@ -215,13 +215,13 @@ beginnings =
     (2, true, true, HalfRemote, Some 2, true) ∷
     (2, false, true, HalfRemote, Some 2, true) ∷ []
 
-abbrev begun : StreamOutcome → Kind × Option ℕ × Bool
+abbrev begun : StreamOutcome → StreamState × Option ℕ × Bool
 begun outcome = (outcome.stream.kind, outcome.stream.numbers.body_remaining, is_some outcome.answer)
 
-abbrev begun_wanted : ℕ × Bool × Bool × Kind × Option ℕ × Bool → Kind × Option ℕ × Bool
+abbrev begun_wanted : ℕ × Bool × Bool × StreamState × Option ℕ × Bool → StreamState × Option ℕ × Bool
 begun_wanted row = (row.3, row.4, row.5)
 
-early_answers_begin_at_the_end_of_the_fields : map (λ (row : ℕ × Bool × Bool × Kind × Option ℕ × Bool). begun (request_outcome (limits 1 1) 0 row.0 row.1 running 1 row.2 (record (summary 42 None) { pick = Listed 0 }))) beginnings
+early_answers_begin_at_the_end_of_the_fields : map (λ (row : ℕ × Bool × Bool × StreamState × Option ℕ × Bool). begun (request_outcome (limits 1 1) 0 row.0 row.1 running 1 row.2 (record (summary 42 None) { pick = Listed 0 }))) beginnings
     ≡ map begun_wanted beginnings
 unfolding request_outcome
 early_answers_begin_at_the_end_of_the_fields = refl

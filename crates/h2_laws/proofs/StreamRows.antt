@@ -1,8 +1,8 @@
 -- Records of streams, and windows that settings move (RFC 9113, 5.1, 6.4 and 6.9.2).
 use Rattle.std.specs.Prelude.{◌≡◌, ℕ, Bool, true, false, List, [], ◌∷◌, map, refl, Option, Some, None, ℤ, pos, negsuc}
 use Rattle.std.specs.Option.{option_map}
-use Rattle.h2_spec.specs.declared.streams.Kind.{Kind}
-use Rattle.h2_spec.specs.declared.streams.Kind.TheVariants.{Idle, Skipped, BothOpen, HalfRemote, HalfLocal, Ended, PeerReset, WeReset}
+use Rattle.h2_spec.specs.declared.streams.StreamState.{StreamState}
+use Rattle.h2_spec.specs.declared.streams.StreamState.TheVariants.{Idle, Skipped, BothOpen, HalfRemote, HalfLocal, Ended, PeerReset, WeReset}
 use Rattle.h2_spec.specs.declared.streams.Numbers.{Numbers}
 use Rattle.h2_spec.specs.declared.streams.Pick.TheVariants.{NotFound}
 use Rattle.h2_spec.specs.declared.streams.Stream.{Stream}
@@ -26,7 +26,7 @@ at : Records → ℕ → Stream
 unfolding stream_at
 at r id = stream_at r.last r.streams id
 
-kinds : Records → List ℕ → List Kind
+kinds : Records → List ℕ → List StreamState
 unfolding stream_at
 kinds r ids = map (λ (id : ℕ). kind_of r.last r.streams id) ids
 
@@ -139,11 +139,11 @@ unfolding moved
 settings_move_windows_to_their_limits = refl
 
 -- a stream 1 with a window of 10 beside a stream 3 with a full one, in this state
-abbrev beside_full : Kind → List Stream
+abbrev beside_full : StreamState → List Stream
 beside_full kind = requested 1 (numbers (pos 10) None) NotFound false ∷ (record { id = 3; kind = kind; numbers = numbers (pos 2147483647) None; pick = NotFound }) ∷ []
 
 -- a window that is not moved, since the server has ended its side, refuses nothing
-full_window_refuses_for_all : map (λ (kind : Kind). overflows (pos 1) (beside_full kind)) (BothOpen ∷ HalfRemote ∷ HalfLocal ∷ []) ≡ true ∷ true ∷ false ∷ []
+full_window_refuses_for_all : map (λ (kind : StreamState). overflows (pos 1) (beside_full kind)) (BothOpen ∷ HalfRemote ∷ HalfLocal ∷ []) ≡ true ∷ true ∷ false ∷ []
 unfolding overflows
 full_window_refuses_for_all = refl
 

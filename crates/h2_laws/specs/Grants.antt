@@ -22,7 +22,7 @@ use Rattle.h2_spec.specs.Trace.{Event, trace}
 -- ---- the tally
 
 -- what is counted of the stream that is followed
-pub record Mark : Type 0 where
+pub record StreamTally : Type 0 where
   -- the octets that WINDOW_UPDATE granted on it
   pub granted : ℕ
   -- the body of the answer to its request, once that is whole
@@ -45,15 +45,15 @@ pub record Tally : Type 0 where
   pub granted : ℕ
   -- the octets of DATA sent on all streams
   pub sent : ℕ
-  pub mark : Mark
+  pub on_stream : StreamTally
 
 -- nothing of the stream has been received or sent
-abbrev pub blank : Mark
+abbrev pub blank : StreamTally
 blank = record { granted = 0; promised = None; headers = 0; content = []; ended = false; reset = false }
 
 -- before anything came: the settings are those that a connection begins with (6.5.2)
 abbrev pub start : Tally
-start = record { window = 65535; frame = 16384; granted = 0; sent = 0; mark = blank }
+start = record { window = 65535; frame = 16384; granted = 0; sent = 0; on_stream = blank }
 
 -- ---- what comes
 
@@ -69,15 +69,15 @@ abbrev pub with_settings : Tally → List (ℕ × ℕ) → Tally
 with_settings t [] = t
 with_settings t (p ∷ ps) = with_settings (with_setting t p.0 p.1) ps
 
--- the mark becomes this, where a frame is on the stream that is followed
-abbrev pub with_mark_on : ℕ → ℕ → Tally → Mark → Tally
-with_mark_on id stream t m = record t { mark = if stream == id then m else t.mark }
+-- the tally becomes this, where a frame is on the stream that is followed
+abbrev pub with_tally_on : ℕ → ℕ → Tally → StreamTally → Tally
+with_tally_on id stream t m = record t { on_stream = if stream == id then m else t.on_stream }
 
 -- an increment is granted, on the connection or on a stream (6.9)
 abbrev pub granted_on : ℕ → Tally → ℕ → ℕ → Tally
 granted_on id t stream n =
     if stream == 0 then record t { granted = t.granted + n }
-    else with_mark_on id stream t (record t.mark { granted = t.mark.granted + n })
+    else with_tally_on id stream t (record t.on_stream { granted = t.on_stream.granted + n })
 
 -- the fields of the block that a fragment ends, as they are decoded in this state (4.3)
 abbrev pub fields_at_end : State → Option Decoding → List ℕ → Bool → Option (List Field)
@@ -91,13 +91,13 @@ body_promised book (Some body) fields = Some body
 body_promised book None None = None
 body_promised book None (Some fields) = Some (picked book (pick_of book (request_of fields))).body
 
--- the mark with the body that these fields ask for
-abbrev pub with_fields : List Entry → Mark → Option (List Field) → Mark
+-- the tally with the body that these fields ask for
+abbrev pub with_fields : List Entry → StreamTally → Option (List Field) → StreamTally
 with_fields book m fields = record m { promised = body_promised book m.promised fields }
 
 -- a fragment of a block on a stream
 abbrev pub with_fragment : List Entry → ℕ → State → Tally → Head → Option Decoding → List ℕ → Tally
-with_fragment book id s t h d octets = with_mark_on id h.stream t (with_fields book t.mark (fields_at_end s d octets (has h.flags END_HEADERS)))
+with_fragment book id s t h d octets = with_tally_on id h.stream t (with_fields book t.on_stream (fields_at_end s d octets (has h.flags END_HEADERS)))
 
 -- how far the open block is decoded
 abbrev pub open_decoding : Option OpenBlock → Option Decoding
@@ -108,7 +108,7 @@ open_decoding (Some b) = b.decoding
 abbrev pub received_part : List Entry → ℕ → State → Tally → Head → Part → Tally
 received_part book id s t h (OfSettings pairs) = with_settings t pairs
 received_part book id s t h (OfWindowUpdate increment) = granted_on id t h.stream increment
-received_part book id s t h (OfRstStream code) = with_mark_on id h.stream t (record t.mark { reset = true })
+received_part book id s t h (OfRstStream code) = with_tally_on id h.stream t (record t.on_stream { reset = true })
 received_part book id s t h (OfHeaders part) = with_fragment book id s t h (Some (fresh_decoding s Request)) part.fragment
 received_part book id s t h (OfContinuation fragment) = with_fragment book id s t h (open_decoding s.block) fragment
 received_part book id s t h (OfData part) = t
@@ -134,8 +134,8 @@ received book id s t (WholeFrame h p) = received_frame book id s t h (part_of h 
 -- ---- what is sent
 
 -- a frame on the stream
-abbrev pub marked_by : Mark → Frame → Mark
-marked_by m f =
+abbrev pub tallied_by : StreamTally → Frame → StreamTally
+tallied_by m f =
     if f.kind == DATA then record m { content = m.content ++ f.payload; ended = m.ended || has f.flags END_STREAM }
     else if f.kind == HEADERS then record m { headers = m.headers + 1; ended = m.ended || has f.flags END_STREAM }
     else if f.kind == RST_STREAM then record m { reset = true }
@@ -147,7 +147,7 @@ data_length f = if f.kind == DATA then length f.payload else 0
 
 -- a frame on any stream
 abbrev pub sent_one : ℕ → Tally → Frame → Tally
-sent_one id t f = record t { sent = t.sent + data_length f; mark = if f.stream == id then marked_by t.mark f else t.mark }
+sent_one id t f = record t { sent = t.sent + data_length f; on_stream = if f.stream == id then tallied_by t.on_stream f else t.on_stream }
 
 -- frames, one after another
 abbrev pub sent_all : ℕ → Tally → List Frame → Tally
@@ -185,7 +185,7 @@ IsWithinConnection t = t.sent ≤ 65535 + t.granted
 
 -- DATA sent on the stream is within the initial window now and the stream's increments
 abbrev pub IsWithinStream : Tally → Type 0
-IsWithinStream t = length t.mark.content ≤ t.window + t.mark.granted
+IsWithinStream t = length t.on_stream.content ≤ t.window + t.on_stream.granted
 
 -- DATA is no longer than the frame size now
 abbrev pub IsWithinFrameSize : Tally → Frame → Type 0
@@ -193,7 +193,7 @@ IsWithinFrameSize t f = When (f.kind == DATA) (length f.payload ≤ t.frame)
 
 -- HEADERS is the first on the stream, and DATA comes after it
 abbrev pub IsInOrder : ℕ → Tally → Frame → Type 0
-IsInOrder id t f = When (is_headers_on id f) (t.mark.headers ≡ 0) × When (is_data_on id f) (t.mark.headers ≡ 1)
+IsInOrder id t f = When (is_headers_on id f) (t.on_stream.headers ≡ 0) × When (is_data_on id f) (t.on_stream.headers ≡ 1)
 
 -- the body that is promised, or none yet
 abbrev pub body_or_nothing : Option (List ℕ) → List ℕ
@@ -205,20 +205,20 @@ abbrev pub IsPrefixOf : List ℕ → List ℕ → Type 0
 IsPrefixOf xs ys = (rest : List ℕ) × (xs ++ rest ≡ ys)
 
 -- the DATA sent begins the body that is promised, and is all of it where END_STREAM was sent
-abbrev pub IsOfBody : Mark → Type 0
+abbrev pub IsOfBody : StreamTally → Type 0
 IsOfBody m = IsPrefixOf m.content (body_or_nothing m.promised) × When m.ended (m.content ≡ body_or_nothing m.promised)
 
 -- HEADERS and DATA come before END_STREAM, and each frame of the stream before RST_STREAM
 abbrev pub IsBeforeEnd : ℕ → Tally → Frame → Type 0
-IsBeforeEnd id t f = When (is_headers_on id f || is_data_on id f) (t.mark.ended ≡ false) × When (f.stream == id) (t.mark.reset ≡ false)
+IsBeforeEnd id t f = When (is_headers_on id f || is_data_on id f) (t.on_stream.ended ≡ false) × When (f.stream == id) (t.on_stream.reset ≡ false)
 
 -- the answer has begun, and was neither ended nor cut off
-abbrev pub is_unfinished : Mark → Bool
+abbrev pub is_unfinished : StreamTally → Bool
 is_unfinished m = nat_le 1 m.headers && not m.ended && not m.reset
 
 -- all that is granted on the connection is used, or all that is granted on the stream
 abbrev pub IsUsedUp : Tally → Type 0
-IsUsedUp t = (t.sent ≡ 65535 + t.granted) ⊎ (t.window + t.mark.granted ≤ length t.mark.content)
+IsUsedUp t = (t.sent ≡ 65535 + t.granted) ⊎ (t.window + t.on_stream.granted ≤ length t.on_stream.content)
 
 -- after one item: whether it ended the connection, the tally with what it brought, and the frames sent for it
 pub record Meets (id : ℕ) (ends : Bool) (t : Tally) (sent : List Frame) : Type 0 where
@@ -230,11 +230,11 @@ pub record Meets (id : ℕ) (ends : Bool) (t : Tally) (sent : List Frame) : Type
   pub within_frame_size : AtEach IsWithinFrameSize id t sent
   -- at most one HEADERS and no DATA before it; DATA is a prefix of the body that is promised, and the whole where
   -- END_STREAM was sent
-  pub answers_once : AtEach (IsInOrder id) id t sent × IsOfBody (sent_all id t sent).mark
+  pub answers_once : AtEach (IsInOrder id) id t sent × IsOfBody (sent_all id t sent).on_stream
   -- no HEADERS or DATA after END_STREAM, and no frame on the stream after RST_STREAM either way
   pub silent_after_end : AtEach (IsBeforeEnd id) id t sent
   -- unless the item ended the connection: the rest of an answer waits for the peer to grant more
-  pub nothing_held_back : When (not ends && is_unfinished (sent_all id t sent).mark) (IsUsedUp (sent_all id t sent))
+  pub nothing_held_back : When (not ends && is_unfinished (sent_all id t sent).on_stream) (IsUsedUp (sent_all id t sent))
 
 -- ---- a run
 

@@ -2,7 +2,7 @@
 
 use crate::same::same;
 use h2_spec::flow::{Credit, Window};
-use h2_streams::{Kind, Numbers, Pick, Streams};
+use h2_streams::{Numbers, Pick, StreamState, Streams};
 use std::alloc::{AllocError, Global};
 use std::process::Abort;
 
@@ -30,10 +30,10 @@ fn open_and_reset(rt: &impl Abort, streams: &mut Streams<Global>) -> Result<(), 
 /// says it, so that the proof of a test does not carry the records.
 fn state(streams: &Streams<Global>) -> (u32, usize, [bool; 4]) {
     let states = [
-        matches!(streams.kind(3), Kind::Skipped),
-        matches!(streams.kind(5), Kind::BothOpen),
-        matches!(streams.kind(7), Kind::WeReset),
-        matches!(streams.kind(9), Kind::Idle),
+        matches!(streams.kind(3), StreamState::Skipped),
+        matches!(streams.kind(5), StreamState::BothOpen),
+        matches!(streams.kind(7), StreamState::WeReset),
+        matches!(streams.kind(9), StreamState::Idle),
     ];
     (streams.last(), streams.live_count(), states)
 }

@@ -4,7 +4,7 @@ use Rattle.std.proofs.lemmas.List.{map-append, drop-append-le, take-append-le, t
 use Rattle.std.proofs.Math.ListN.{drop_of_length-le}
 use Rattle.h2_spec.specs.Field.{field}
 use Rattle.h2_list.specs.Spans.{IsOrdered, AreSpans, IsPart, between, field_in}
-use Rattle.h2_list.specs.declared.Part.{Part}
+use Rattle.h2_list.specs.declared.OctetRange.{OctetRange}
 use Rattle.h2_list.specs.declared.Span.{Span}
 
 -- ---- where spans are
@@ -90,7 +90,7 @@ pub stay : (octets now : List ℕ) (spans : List Span) (start : ℕ) → Begins 
 stay octets now spans start b = ap (λ (o : List ℕ). map (field_in o) spans) b.same
 
 -- a part stays where more octets are added
-pub part-stays : (part : Part) (octets now text : List ℕ) → IsPart part octets text → take (length octets) now ≡ octets → IsPart part now text
+pub part-stays : (part : OctetRange) (octets now text : List ℕ) → IsPart part octets text → take (length octets) now ≡ octets → IsPart part now text
 part-stays part octets now text p k =
     let more : length octets ≤ length now = omega (arith, ap length k, length-take (length octets) now) in
     record {
@@ -116,7 +116,7 @@ adds octets now spans s start name value b h e n v =
     }
 
 -- the octets after the fields are two parts
-pub front-part : (part : Part) (octets : List ℕ) (start name : ℕ) → start ≤ length octets → part.start ≡ start → part.end ≡ start + name → name ≤ length (drop start octets) → IsPart part octets (take name (drop start octets))
+pub front-part : (part : OctetRange) (octets : List ℕ) (start name : ℕ) → start ≤ length octets → part.start ≡ start → part.end ≡ start + name → name ≤ length (drop start octets) → IsPart part octets (take name (drop start octets))
 front-part part octets start name w a b n =
     let count : part.end - part.start ≡ name = omega (arith, a, b) in
     record {
@@ -125,7 +125,7 @@ front-part part octets start name w a b n =
       is = ap (λ n. take n (drop part.start octets)) count ∙ ap (λ n. take name (drop n octets)) a;
     }
 
-pub last-part : (part : Part) (octets : List ℕ) (start name : ℕ) → start ≤ length octets → part.start ≡ start + name → part.end ≡ length octets → name ≤ length (drop start octets) → IsPart part octets (drop name (drop start octets))
+pub last-part : (part : OctetRange) (octets : List ℕ) (start name : ℕ) → start ≤ length octets → part.start ≡ start + name → part.end ≡ length octets → name ≤ length (drop start octets) → IsPart part octets (drop name (drop start octets))
 last-part part octets start name w a b n =
     let more = drop start octets in
     let rest : drop part.start octets ≡ drop name more = ap (λ n. drop n octets) a ∙ sym (drop-drop name start octets) in

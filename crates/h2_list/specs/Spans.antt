@@ -1,7 +1,7 @@
 -- Fields as spans of one list of octets, which can share octets.
 use Rattle.std.specs.Prelude.{◌≡◌, ℕ, ◌-◌, ◌≤◌, List, [], ◌∷◌, take, drop, length}
 use Rattle.h2_spec.specs.Field.{Field, field}
-use Rattle.h2_list.specs.declared.Part.{Part}
+use Rattle.h2_list.specs.declared.OctetRange.{OctetRange}
 use Rattle.h2_list.specs.declared.Span.{Span}
 
 -- the octets from a place up to another
@@ -26,7 +26,7 @@ AreSpans start [] end = start ≡ end
 AreSpans start (s ∷ spans) end = (s.start ≡ start) × (IsOrdered s × AreSpans s.end spans end)
 
 -- a part of the octets that is this text
-pub record IsPart (part : Part) (octets text : List ℕ) : Type 0 where
+pub record IsPart (part : OctetRange) (octets text : List ℕ) : Type 0 where
   pub ordered : part.start ≤ part.end
   pub within : part.end ≤ length octets
   pub is : between part.start part.end octets ≡ text

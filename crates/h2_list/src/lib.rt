@@ -24,7 +24,7 @@ const MAX_OCTETS: usize = 4_294_967_295;
 
 /// A part of a list of octets: from a place up to another.
 #[derive(Clone, Copy)]
-struct Part {
+struct OctetRange {
     start: u32,
     end: u32,
 }
@@ -33,16 +33,16 @@ struct Part {
 /// may be that of an earlier field.
 #[derive(Clone, Copy)]
 struct Span {
-    name: Part,
-    value: Part,
+    name: OctetRange,
+    value: OctetRange,
     start: u32,
     end: u32,
 }
 
 /// A span of no octets.
 const NOTHING: Span = Span {
-    name: Part { start: 0, end: 0 },
-    value: Part { start: 0, end: 0 },
+    name: OctetRange { start: 0, end: 0 },
+    value: OctetRange { start: 0, end: 0 },
     start: 0,
     end: 0,
 };
@@ -174,11 +174,11 @@ impl<A: Allocator> FieldList<A> {
             return Err(AllocError);
         }
         self.spans.push(Span {
-            name: Part {
+            name: OctetRange {
                 start: self.start as u32,
                 end: split as u32,
             },
-            value: Part {
+            value: OctetRange {
                 start: split as u32,
                 end: end as u32,
             },
@@ -203,7 +203,7 @@ impl<A: Allocator> FieldList<A> {
         if before > MAX_OCTETS {
             return Err(AllocError);
         }
-        let value = Part {
+        let value = OctetRange {
             start: self.start as u32,
             end: before as u32,
         };
@@ -323,9 +323,9 @@ fn span_at(spans: &[Span], place: usize) -> Span
 /// The part that is these octets: an earlier one where it is the same, or else what is added at the end.
 fn put_part<A: Allocator>(
     octets: &mut Vec<u8, A>,
-    earlier: Part,
+    earlier: OctetRange,
     text: &[u8],
-) -> Result<Part, AllocError>
+) -> Result<OctetRange, AllocError>
     requires ordered { earlier.start ≤ earlier.end }
     requires within { earlier.end ≤ length octets.old.items }
     ensures ok { IfOk result (λ part. IsPart part octets.new.items text.now) }
@@ -341,7 +341,7 @@ fn put_part<A: Allocator>(
         return Ok(earlier);
     }
     octets.extend_from_slice(text)?;
-    Ok(Part {
+    Ok(OctetRange {
         start: start as u32,
         end: end as u32,
     })

@@ -8,7 +8,7 @@ use Rattle.std.proofs.lemmas.List.Folds.{concat-append}
 use Rattle.h2_places.specs.Places.{Stops, StopsAt, Writes, before_last, items_shown, places_shown, text_shown, up_to}
 use Rattle.h2_places.specs.declared.places.PlacesFault.{PlacesFault}
 use Rattle.h2_places.specs.declared.places.PlacesFault.TheVariants.{NoMemory, NotWritten}
-use Rattle.h2_places.specs.declared.places.Shown.{Shown}
+use Rattle.h2_places.specs.declared.places.ShownPlaces.{ShownPlaces}
 
 -- ---- the next place of a list
 
@@ -117,7 +117,7 @@ start-shown f (Some last) start items =
     first zero = refl
     first (suc f) = let after : nat_le (suc f) 0 ≡ false = grind (arith, nat_tests) in let same : suc f - 1 ≡ f = omega arith in rw (after, same) refl
 
-pub with-start : (shown : Shown) (start : List ℕ) (items : List (List ℕ)) (held : List ℕ) (before after : Option (List ℕ)) (r : Result (Unit {0}) PlacesFault) → before ≡ Some (held ++ text_shown shown.first 0 start)
+pub with-start : (shown : ShownPlaces) (start : List ℕ) (items : List (List ℕ)) (held : List ℕ) (before after : Option (List ℕ)) (r : Result (Unit {0}) PlacesFault) → before ≡ Some (held ++ text_shown shown.first 0 start)
     → OnOk r ((now : List ℕ) → before ≡ Some now → after ≡ Some (now ++ concat (items_shown shown items))) → IfErr r (λ why. (now : List ℕ) → before ≡ Some now → StopsAt shown items now after why)
     → Writes shown (start ∷ items) held after r
 with-start shown start items held before after (Ok u) is o e =

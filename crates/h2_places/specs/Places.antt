@@ -12,7 +12,7 @@ use Rattle.h2_spec.specs.View.{View, view}
 use Rattle.h2_spec.specs.declared.connection.Config.{Config}
 use Rattle.h2_conn.specs.Connection.{Connection, going}
 use Rattle.h2_places.specs.declared.places.PlacesFault.{PlacesFault}
-use Rattle.h2_places.specs.declared.places.Shown.{Shown}
+use Rattle.h2_places.specs.declared.places.ShownPlaces.{ShownPlaces}
 use Rattle.h2_places.specs.declared.places.PlacesFault.TheVariants.{NoMemory, NotWritten}
 
 -- a place in a run: how many items came before it, the octets sent for the last of them, and the text of the state
@@ -53,7 +53,7 @@ abbrev pub text_shown : ℕ → ℕ → List ℕ → List ℕ
 text_shown first place text = if nat_le first place then text else []
 
 -- all of them
-abbrev pub all_shown : Shown
+abbrev pub all_shown : ShownPlaces
 all_shown = record { first = 0; last = None }
 
 -- whether a place comes before the last one
@@ -61,7 +61,7 @@ abbrev pub before_last : Option ℕ → ℕ → Bool
 before_last None place = true
 before_last (Some last) place = nat_lt place last
 
-abbrev pub goes_on : Shown → ℕ → Bool
+abbrev pub goes_on : ShownPlaces → ℕ → Bool
 goes_on shown place = before_last shown.last place
 
 -- that many of a list; all of it where no number is given
@@ -75,22 +75,22 @@ through None = None
 through (Some last) = Some (last + 1)
 
 -- of the places of a run, of which the start is number 0, those from the first one on and up to the last one
-abbrev pub places_shown : Shown → List (List ℕ) → List (List ℕ)
+abbrev pub places_shown : ShownPlaces → List (List ℕ) → List (List ℕ)
 places_shown shown places = drop shown.first (up_to (through shown.last) places)
 
 -- the same of its items, of which the first is number 1
-abbrev pub items_shown : Shown → List (List ℕ) → List (List ℕ)
+abbrev pub items_shown : ShownPlaces → List (List ℕ) → List (List ℕ)
 items_shown shown items = drop (shown.first - 1) (up_to shown.last items)
 
 -- ---- how writing them ends
 
 -- memory was refused, and of some first items those that are shown were written; or a write failed
-abbrev pub StopsAt : Shown → List (List ℕ) → List ℕ → Option (List ℕ) → PlacesFault → Type 0
+abbrev pub StopsAt : ShownPlaces → List (List ℕ) → List ℕ → Option (List ℕ) → PlacesFault → Type 0
 StopsAt shown items held after NoMemory = (count : ℕ) × (after ≡ Some (held ++ concat (items_shown shown (take count items))))
 StopsAt shown items held after NotWritten = Unit {0}
 
 -- the same of places
-abbrev pub Stops : Shown → List (List ℕ) → List ℕ → Option (List ℕ) → PlacesFault → Type 0
+abbrev pub Stops : ShownPlaces → List (List ℕ) → List ℕ → Option (List ℕ) → PlacesFault → Type 0
 Stops shown places held after NoMemory = (count : ℕ) × (after ≡ Some (held ++ concat (places_shown shown (take count places))))
 Stops shown places held after NotWritten = Unit {0}
 
@@ -102,6 +102,6 @@ not_written (Err NotWritten) = true
 
 -- the places that are shown were written; or those of some first part of the run, until memory was refused; or a write
 -- failed
-abbrev pub Writes : Shown → List (List ℕ) → List ℕ → Option (List ℕ) → Result (Unit {0}) PlacesFault → Type 0
+abbrev pub Writes : ShownPlaces → List (List ℕ) → List ℕ → Option (List ℕ) → Result (Unit {0}) PlacesFault → Type 0
 Writes shown places held after (Ok u) = after ≡ Some (held ++ concat (places_shown shown places))
 Writes shown places held after (Err why) = Stops shown places held after why

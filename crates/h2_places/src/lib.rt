@@ -4,4 +4,4 @@
 
 mod places;
 
-pub use places::{PlacesFault, Shown, write_places, write_shown};
+pub use places::{PlacesFault, ShownPlaces, write_places, write_shown};

@@ -27,17 +27,17 @@ pub enum PlacesFault {
 /// Which places of a run are written: those from this one on, up to the last one; to the end where there is no last.
 /// Place 0 is the start of the connection, place N the one after its N-th item.
 #[derive(Clone, Copy)]
-pub struct Shown {
+pub struct ShownPlaces {
     pub first: usize,
     pub last: Option<usize>,
 }
 
-impl Shown {
+impl ShownPlaces {
     /// All of them.
-    pub fn all() -> Shown
+    pub fn all() -> ShownPlaces
         ensures { result ≡ all_shown }
     {
-        Shown {
+        ShownPlaces {
             first: 0,
             last: None,
         }
@@ -56,14 +56,14 @@ impl Shown {
 
 /// A place of a run: how many items came before it, the octets sent for the last of them, and the text of the state.
 #[derive(Drop)]
-struct PlaceText<'p, 'b, A: Allocator> {
+struct ItemText<'p, 'b, A: Allocator> {
     place: usize,
     sent: &'p [u8],
     conn: &'p Conn<'b, A>,
 }
 
 #[tactic(auto, using(h2_device::proofs::Appending::both), unfolding(crate::specs::Places::item_text))]
-impl<A: Allocator> Text for PlaceText<'_, '_, A> {
+impl<A: Allocator> Text for ItemText<'_, '_, A> {
     ghost text = { λ x. item_text x.place x.sent.now (view x.conn.now.state) };
 
     fn write_to<O: Output>(&self, output: &mut O) -> Result<(), DeviceFault> {
@@ -79,7 +79,7 @@ impl<A: Allocator> Text for PlaceText<'_, '_, A> {
 /// `NotWritten` where the output failed, and only then.
 pub fn write_shown<O: Output, T: Text>(
     output: &mut O,
-    shown: Shown,
+    shown: ShownPlaces,
     place: usize,
     text: &T,
 ) -> Result<(), PlacesFault>
@@ -103,7 +103,7 @@ pub fn write_shown<O: Output, T: Text>(
 /// `NotWritten` where the output failed, and only then.
 fn write_place<A: Allocator, O: Output>(
     output: &mut O,
-    shown: Shown,
+    shown: ShownPlaces,
     place: usize,
     sent: &[u8],
     conn: &Conn<'_, A>,
@@ -114,7 +114,7 @@ fn write_place<A: Allocator, O: Output>(
     ensures flag { O.has_failed output.new ≡ not_written result }
     ensures name { O.name output.new ≡ O.name output.old }
 {
-    write_shown(output, shown, place, &PlaceText { place, sent, conn })
+    write_shown(output, shown, place, &ItemText { place, sent, conn })
 }
 
 /// Takes the next item of the octets, and says how many it has; `None` where there is none. `sent` gains what is sent.
@@ -146,7 +146,7 @@ fn write_items<A: Allocator + Copy, O: Output>(
     alloc: A,
     conn: &mut Conn<'_, A>,
     octets: &[u8],
-    shown: Shown,
+    shown: ShownPlaces,
     output: &mut O,
 ) -> Result<(), PlacesFault>
     requires new { conn.old ≡ going conn.old.state [] }
@@ -189,7 +189,7 @@ pub fn write_places<A: Allocator + Copy, O: Output>(
     conn: &mut Conn<'_, A>,
     sent: &[u8],
     octets: &[u8],
-    shown: Shown,
+    shown: ShownPlaces,
     output: &mut O,
 ) -> Result<(), PlacesFault>
     requires new { conn.old ≡ going conn.old.state [] }

@@ -4,7 +4,7 @@ use crate::files::failure_of;
 use crate::input::{Given, LIMIT, read_file};
 use h2_bench::{Plan, Words};
 use h2_console::{Outcome, say_outcome, say_refused_words};
-use h2_reasons::{Source, say_unread};
+use h2_reasons::{InputSource, say_unread};
 use h2_words::command::{Check, Refusal};
 use std::io::{ErrorKind, Write};
 use std::net::{IpAddr, Ipv4Addr, SocketAddr, TcpListener};
@@ -52,9 +52,9 @@ fn say_of_file(
     plan: &Plan<'_>,
     path: &str,
     outcome: Outcome<'_>,
-    out: &mut h2_reasons::Words,
+    out: &mut h2_reasons::TextBuilder,
 ) {
-    let source = Source::File(path);
+    let source = InputSource::File(path);
     match read_again(rt, path) {
         Ok(octets) => {
             let seen = octets.as_slice();
@@ -99,17 +99,17 @@ fn say_of_server(
     plan: &Plan<'_>,
     port: u32,
     outcome: Outcome<'_>,
-    out: &mut h2_reasons::Words,
+    out: &mut h2_reasons::TextBuilder,
 ) {
     let failure = failure_of_port(rt, port);
     say_outcome(rt.alloc(), plan, Outcome { failure, ..outcome }, out);
 }
 
 /// Says which files of cases can't be read, and why.
-fn say_of_cases(rt: &HostRuntime, check: &Check<'_>, out: &mut h2_reasons::Words) {
+fn say_of_cases(rt: &HostRuntime, check: &Check<'_>, out: &mut h2_reasons::TextBuilder) {
     for path in check.files.as_slice() {
         if let Some(kind) = failure_of(rt, path) {
-            say_unread(Source::File(path), kind, out);
+            say_unread(InputSource::File(path), kind, out);
         }
     }
 }
@@ -118,7 +118,7 @@ fn say_of_plan(
     rt: &HostRuntime,
     plan: &Plan<'_>,
     outcome: Outcome<'_>,
-    out: &mut h2_reasons::Words,
+    out: &mut h2_reasons::TextBuilder,
 ) {
     match plan {
         Plan::Explain(explain) if explain.file != "" && outcome.unwritten.is_none() => {
@@ -142,7 +142,7 @@ pub fn end(
     given: &Given<'_, '_>,
     ending: Ending,
 ) {
-    let mut out = h2_reasons::Words::new(rt.alloc());
+    let mut out = h2_reasons::TextBuilder::new(rt.alloc());
     match asked {
         Ok(plan) => say_of_plan(rt, plan, outcome_of(given, ending), &mut out),
         Err(refusal) => say_refused_words(refusal, words.as_slice(), &mut out),

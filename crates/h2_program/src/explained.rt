@@ -2,19 +2,19 @@
 
 use crate::files::NamedFiles;
 use h2_bench::{Plan, carry_out};
-use h2_console::Explainer;
+use h2_console::OctetsExplainer;
 use h2_device::Gathered;
 use h2_words::command::{BookWords, Debug, Explain, Refusal};
 use std::alloc::{AllocError, Global};
 
 /// What explains the octets of a session.
-pub struct Explained<'r, 'c> {
+pub struct SessionExplained<'r, 'c> {
     rt: &'r HostRuntime,
     /// The words of the session; of another command there are none.
     words: Option<Debug<'c>>,
 }
 
-impl<'r, 'c> Drop for Explained<'r, 'c> {
+impl<'r, 'c> Drop for SessionExplained<'r, 'c> {
     fn drop(self) {
         let Self { rt: _, words: _ } = self;
     }
@@ -53,19 +53,19 @@ fn plan_of<'c>(alloc: Global, words: &Debug<'c>) -> Result<Plan<'c>, AllocError>
     }))
 }
 
-impl<'r, 'c> Explained<'r, 'c> {
+impl<'r, 'c> SessionExplained<'r, 'c> {
     /// What a session is explained by, and no other command. Where memory for its words is refused, there is nothing to
     /// say of an item.
-    pub fn new(rt: &'r HostRuntime, asked: &Result<Plan<'c>, Refusal>) -> Explained<'r, 'c> {
+    pub fn new(rt: &'r HostRuntime, asked: &Result<Plan<'c>, Refusal>) -> SessionExplained<'r, 'c> {
         let words = match asked {
             Ok(Plan::Debug(debug)) => words_of(rt.alloc(), debug).ok(),
             _ => None,
         };
-        Explained { rt, words }
+        SessionExplained { rt, words }
     }
 }
 
-impl Explainer for Explained<'_, '_> {
+impl OctetsExplainer for SessionExplained<'_, '_> {
     fn explain(&self, alloc: Global, text: &[u8]) -> Result<Vec<u8>, AllocError> {
         let Some(words) = &self.words else {
             return Ok(Vec::new(alloc));

@@ -1,7 +1,7 @@
 //! Which device is the input of a command: standard input, a file that the words name, or the lines of a console; and
 //! the octets themselves or their hex.
 
-use crate::explained::Explained;
+use crate::explained::SessionExplained;
 use crate::files::STANDARD_INPUT;
 use h2_bench::Plan;
 use h2_book::{Files, FilesFault, StdFiles};
@@ -9,7 +9,7 @@ use h2_console::{
     Behind, Console, Front, Hexed, Manner, TakenInput, WaitingInput, WaitingOutput, hex_of,
     one_line,
 };
-use h2_reasons::Source;
+use h2_reasons::InputSource;
 use h2_words::command::{Batch, Check, Devices, Refusal};
 use std::alloc::AllocError;
 use std::cell::Cell;
@@ -22,18 +22,18 @@ pub type Standard<'r> = WaitingOutput<'r, HostRuntime, Stdout>;
 type StandardInput<'r> = Hexed<WaitingInput<'r, HostRuntime, Stdin>>;
 
 /// The input of a command.
-pub type Taken<'r, 'c> = TakenInput<Lines<'r, 'c>>;
+pub type CommandInput<'r, 'c> = TakenInput<Lines<'r, 'c>>;
 
 /// What is read of standard input.
-type Lines<'r, 'c> = Behind<'c, StandardInput<'r>, Stdout, Stderr, Explained<'r, 'c>>;
+type Lines<'r, 'c> = Behind<'c, StandardInput<'r>, Stdout, Stderr, SessionExplained<'r, 'c>>;
 
 /// The input of a command, and what is known of it.
 #[derive(Drop)]
 pub struct Given<'r, 'c> {
     /// The input itself.
-    pub taken: Taken<'r, 'c>,
+    pub taken: CommandInput<'r, 'c>,
     /// What it is called where a sentence names it.
-    pub source: Source<'c>,
+    pub source: InputSource<'c>,
     /// The position of a session.
     pub position: &'c Cell<usize>,
 }
@@ -43,8 +43,8 @@ impl Given<'_, '_> {
     pub fn first_command(&self, devices: Devices<'_>) -> Option<usize> {
         match self.source {
             _ if devices.prompt != "" => None,
-            Source::Input => Some(2),
-            Source::File(_) => Some(1),
+            InputSource::Input => Some(2),
+            InputSource::File(_) => Some(1),
         }
     }
 }
@@ -136,11 +136,16 @@ pub fn refusal_for_devices(
     }
 }
 
-/// The path of the file that is the input: that of `--in`; of `explain` its FILE, where the words say that it has the octets
-/// themselves, since the command itself reads hex. Empty where standard input, or the command itself, has the input.
-fn file_of<'w>(asked: &mut Result<Plan<'w>, Refusal>, devices: Devices<'w>) -> &'w str {
+/// The path of the file that is the input: that of `--in`; of `explain` its FILE, where it is a case, or the words say that
+/// it has the octets themselves, since the command itself reads hex. Empty where standard input, or the command itself, has
+/// the input.
+fn file_of<'w>(
+    asked: &mut Result<Plan<'w>, Refusal>,
+    devices: Devices<'w>,
+    is_case: bool,
+) -> &'w str {
     match asked {
-        Ok(Plan::Explain(explain)) if devices.raw => {
+        Ok(Plan::Explain(explain)) if devices.raw || is_case => {
             let file = explain.file;
             explain.file = "";
             file
@@ -160,7 +165,7 @@ fn behind<'r, 'c>(
     rt: &'r HostRuntime,
     devices: Devices<'_>,
     octets: Option<Vec<u8>>,
-    explainer: Explained<'r, 'c>,
+    explainer: SessionExplained<'r, 'c>,
     position: &'c Cell<usize>,
 ) -> Lines<'r, 'c> {
     if devices.prompt == "" {
@@ -256,14 +261,19 @@ fn front_over(
     }
 }
 
-/// What a command is given of a file, and the file's text, for a session.
+/// What a command is given of a file, and the file's text, for a session. The text of a case is that of its script.
 fn front_of(
     rt: &HostRuntime,
     asked: &Result<Plan<'_>, Refusal>,
     devices: Devices<'_>,
     path: &str,
+    case: Option<Vec<u8>>,
 ) -> (Front, Vec<u8>) {
-    let text = match text_of(rt, path, devices.raw) {
+    let read = match case {
+        Some(text) => Ok(text),
+        None => text_of(rt, path, devices.raw),
+    };
+    let text = match read {
         Ok(text) => text,
         Err(kind) => return (Front::unread(rt.alloc(), kind), Vec::new(rt.alloc())),
     };
@@ -283,29 +293,31 @@ fn refuse_for_memory(asked: &mut Result<Plan<'_>, Refusal>, failure: Option<Erro
     }
 }
 
-/// The input of a command. Where memory for a file is refused, the words are refused for that.
+/// The input of a command; `case` is the text of its file, where that is a case. Where memory for a file is refused, the
+/// words are refused for that.
 pub fn input_of<'r, 'c, 'w: 'c>(
     rt: &'r HostRuntime,
     asked: &mut Result<Plan<'w>, Refusal>,
     devices: Devices<'w>,
+    case: Option<Vec<u8>>,
     position: &'c Cell<usize>,
 ) -> Given<'r, 'c> {
-    let path = file_of(asked, devices);
-    let explainer = Explained::new(rt, asked);
+    let path = file_of(asked, devices, case.is_some());
+    let explainer = SessionExplained::new(rt, asked);
     if path == "" {
         let behind = behind(rt, devices, None, explainer, position);
         return Given {
             taken: TakenInput::new(Front::empty(rt.alloc()), behind),
-            source: Source::Input,
+            source: InputSource::Input,
             position,
         };
     }
-    let (front, octets) = front_of(rt, asked, devices, path);
+    let (front, octets) = front_of(rt, asked, devices, path, case);
     refuse_for_memory(asked, front.failure);
     let behind = behind(rt, devices, Some(octets), explainer, position);
     Given {
         taken: TakenInput::new(front, behind),
-        source: Source::File(path),
+        source: InputSource::File(path),
         position,
     }
 }

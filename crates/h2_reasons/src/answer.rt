@@ -1,10 +1,11 @@
 //! Which part of an ANSWER is at fault: METHOD|PATH|STATUS|BODYHEX, and further parts NAME=VALUE or early.
 
-use crate::entry::{Refusal, field_reason, say_entry};
+use crate::entry::{EntryRefusal, field_reason, say_entry};
 use crate::place::Quoted;
-use h2_describe::say::{Cut, Hex, Say, Words};
+use h2_describe::say::{Cut, Hex, Say, TextBuilder};
 use h2_describe::say_all;
 use h2_describe::sent::first_of;
+use std::alloc::Allocator;
 
 /// How many octets of a body are written as hex where it was given as a text.
 const SHOWN: usize = 40;
@@ -39,25 +40,25 @@ fn early_words(word: &str) -> usize {
 
 /// Where a word of the command line is: `answer 1 of the command line`.
 #[derive(Clone, Copy)]
-struct Answer(usize);
+struct AnswerPlace(usize);
 
-impl Say for Answer {
-    fn say(self, out: &mut Words) {
+impl Say for AnswerPlace {
+    fn say<A: Allocator>(self, out: &mut TextBuilder<A>) {
         say_all!(out; "answer ", self.0, " of the command line");
     }
 }
 
 /// Says why a word says no answer; `place` is which of the answers it is, from 1.
-pub fn say_no_answer(place: usize, word: &str, out: &mut Words) {
+pub fn say_no_answer(place: usize, word: &str, out: &mut TextBuilder) {
     let parts = word.split('|').count();
     if parts == 1 {
         say_no_bar(place, word, out);
     } else if parts < 4 {
-        say_all!(out; Answer(place), ": ", Quoted(word.as_bytes()), " has ", parts, " parts; an answer has at least four: METHOD|PATH|STATUS|BODYHEX.\n");
+        say_all!(out; AnswerPlace(place), ": ", Quoted(word.as_bytes()), " has ", parts, " parts; an answer has at least four: METHOD|PATH|STATUS|BODYHEX.\n");
     } else if !is_status(part_of(word, 3)) {
-        say_all!(out; Answer(place), ", part 3, STATUS: ", Quoted(part_of(word, 3).as_bytes()), " is not three digits, 200 to 599.\n");
+        say_all!(out; AnswerPlace(place), ", part 3, STATUS: ", Quoted(part_of(word, 3).as_bytes()), " is not three digits, 200 to 599.\n");
     } else if early_words(word) > 1 {
-        say_all!(out; Answer(place), ": the part early is there more than once.\n");
+        say_all!(out; AnswerPlace(place), ": the part early is there more than once.\n");
     } else if !is_hex(part_of(word, 4)) {
         say_no_body(place, part_of(word, 4), out);
     } else {
@@ -65,17 +66,17 @@ pub fn say_no_answer(place: usize, word: &str, out: &mut Words) {
     }
 }
 
-fn say_no_bar(place: usize, word: &str, out: &mut Words) {
+fn say_no_bar(place: usize, word: &str, out: &mut TextBuilder) {
     if word == "-" {
-        say_all!(out; Answer(place), ": `-` is no answer; standard input is read without it, or by --in -.\n");
+        say_all!(out; AnswerPlace(place), ": `-` is no answer; standard input is read without it, or by --in -.\n");
         return;
     }
-    say_all!(out; Answer(place), ": ", Quoted(word.as_bytes()), " has no |, and an answer is METHOD|PATH|STATUS|BODYHEX; for a file of octets write < FILE or --in FILE, and for explain FILE in front of the answers.\n");
+    say_all!(out; AnswerPlace(place), ": ", Quoted(word.as_bytes()), " has no |, and an answer is METHOD|PATH|STATUS|BODYHEX; for a file of octets write < FILE or --in FILE, and for explain FILE in front of the answers.\n");
 }
 
-fn say_no_body(place: usize, body: &str, out: &mut Words) {
+fn say_no_body(place: usize, body: &str, out: &mut TextBuilder) {
     let octets = body.as_bytes();
-    say_all!(out; Answer(place), ", part 4, BODYHEX: ", Quoted(octets), " is not pairs of hex digits; as octets it is ", Hex(first_of(octets, SHOWN)));
+    say_all!(out; AnswerPlace(place), ", part 4, BODYHEX: ", Quoted(octets), " is not pairs of hex digits; as octets it is ", Hex(first_of(octets, SHOWN)));
     if octets.len() > SHOWN {
         ".. ".say(out);
     }
@@ -83,11 +84,11 @@ fn say_no_body(place: usize, body: &str, out: &mut Words) {
 }
 
 /// Says which further part is neither a field nor the word of an early answer.
-fn say_bad_part(place: usize, word: &str, out: &mut Words) {
+fn say_bad_part(place: usize, word: &str, out: &mut TextBuilder) {
     for (before, part) in word.split('|').enumerate().skip(4) {
         if part != "early" && !part.as_bytes().contains(&b'=') {
             let number = before.saturating_add(1);
-            say_all!(out; Answer(place), ", part ", number, ": ", Quoted(part.as_bytes()), " is neither NAME=VALUE nor early.\n");
+            say_all!(out; AnswerPlace(place), ", part ", number, ": ", Quoted(part.as_bytes()), " is neither NAME=VALUE nor early.\n");
             return;
         }
     }
@@ -114,7 +115,7 @@ fn bad_field(word: &str) -> Option<BadField<'_>> {
     None
 }
 
-fn say_field(word: &str, out: &mut Words) {
+fn say_field(word: &str, out: &mut TextBuilder) {
     match bad_field(word) {
         Some(field) => say_all!(
             out;
@@ -131,18 +132,18 @@ fn say_field(word: &str, out: &mut Words) {
 }
 
 /// Where in a word the reason of a refusal is.
-fn place_of(refusal: Refusal) -> &'static str {
+fn place_of(refusal: EntryRefusal) -> &'static str {
     match refusal {
-        Refusal::Status => ", part 3, STATUS: ",
-        Refusal::Body => ", part 4, BODYHEX: ",
-        Refusal::Field | Refusal::Length => ": ",
+        EntryRefusal::Status => ", part 3, STATUS: ",
+        EntryRefusal::Body => ", part 4, BODYHEX: ",
+        EntryRefusal::Field | EntryRefusal::Length => ": ",
     }
 }
 
 /// Says why the book refuses the answer that a word says.
-pub fn say_answer(place: usize, word: &str, refusal: Refusal, out: &mut Words) {
-    Answer(place).say(out);
-    if let Refusal::Field = refusal {
+pub fn say_answer(place: usize, word: &str, refusal: EntryRefusal, out: &mut TextBuilder) {
+    AnswerPlace(place).say(out);
+    if let EntryRefusal::Field = refusal {
         say_field(word, out);
         return;
     }

@@ -1,26 +1,26 @@
 //! What a book refuses an entry for, with its values.
 
-use h2_describe::say::{Cut, Octets, Say, Words};
+use h2_describe::say::{Cut, OctetCount, Say, TextBuilder};
 use h2_describe::say_all;
 use h2_request::book::MAX_BODY;
 use h2_request::fault::EntryFault;
 
 /// What a book refuses an entry for.
 #[derive(Clone, Copy)]
-pub enum Refusal {
+pub enum EntryRefusal {
     Status,
     Field,
     Body,
     Length,
 }
 
-impl From<EntryFault> for Refusal {
-    fn from(fault: EntryFault) -> Refusal {
+impl From<EntryFault> for EntryRefusal {
+    fn from(fault: EntryFault) -> EntryRefusal {
         match fault {
-            EntryFault::BadStatus => Refusal::Status,
-            EntryFault::BadField => Refusal::Field,
-            EntryFault::BodyNotAllowed => Refusal::Body,
-            EntryFault::TooLong => Refusal::Length,
+            EntryFault::BadStatus => EntryRefusal::Status,
+            EntryFault::BadField => EntryRefusal::Field,
+            EntryFault::BodyNotAllowed => EntryRefusal::Body,
+            EntryFault::TooLong => EntryRefusal::Length,
         }
     }
 }
@@ -76,20 +76,27 @@ fn value_reason(value: &[u8]) -> Option<&'static str> {
 }
 
 /// Says what a book refuses an entry for that has this method and this status, and a body of this many octets.
-pub fn say_entry(refusal: Refusal, method: &str, status: Cut<'_>, octets: usize, out: &mut Words) {
+pub fn say_entry(
+    refusal: EntryRefusal,
+    method: &str,
+    status: Cut<'_>,
+    octets: usize,
+    out: &mut TextBuilder,
+) {
     match refusal {
-        Refusal::Status => say_all!(out; "the status is ", status, "; it has to be 200 to 599.\n"),
-        Refusal::Field => say_all!(out; "a field is not allowed in an answer.\n"),
-        Refusal::Body if method == "HEAD" => {
-            say_all!(out; "an answer to HEAD has no body, and this one has ", Octets(octets as u64), ".\n");
+        EntryRefusal::Status =>
+            say_all!(out; "the status is ", status, "; it has to be 200 to 599.\n"),
+        EntryRefusal::Field => say_all!(out; "a field is not allowed in an answer.\n"),
+        EntryRefusal::Body if method == "HEAD" => {
+            say_all!(out; "an answer to HEAD has no body, and this one has ", OctetCount(octets as u64), ".\n");
         }
-        Refusal::Body => {
-            say_all!(out; "an answer with status ", status, " has no body, and this one has ", Octets(octets as u64), ".\n");
+        EntryRefusal::Body => {
+            say_all!(out; "an answer with status ", status, " has no body, and this one has ", OctetCount(octets as u64), ".\n");
         }
-        Refusal::Length if octets > MAX_BODY => {
-            say_all!(out; "the body has ", Octets(octets as u64), "; at most ", MAX_BODY, " are taken.\n");
+        EntryRefusal::Length if octets > MAX_BODY => {
+            say_all!(out; "the body has ", OctetCount(octets as u64), "; at most ", MAX_BODY, " are taken.\n");
         }
-        Refusal::Length => {
+        EntryRefusal::Length => {
             say_all!(out; "the fields take more than 16383 octets, or the book has 1000 answers already.\n");
         }
     }

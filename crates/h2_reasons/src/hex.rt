@@ -2,9 +2,10 @@
 //! digits.
 
 use crate::dump::{Look, has_offsets, look_of};
-use crate::place::{Source, place_at};
-use h2_describe::say::{HexOctet, Say, Words};
+use crate::place::{InputSource, place_at};
+use h2_describe::say::{HexOctet, Say, TextBuilder};
 use h2_describe::say_all;
+use std::alloc::Allocator;
 
 /// Whether an octet is a space, a tab, a carriage return or a line feed.
 fn is_space(octet: u8) -> bool {
@@ -16,7 +17,7 @@ fn is_space(octet: u8) -> bool {
 struct Octet(u8);
 
 impl Say for Octet {
-    fn say(self, out: &mut Words) {
+    fn say<A: Allocator>(self, out: &mut TextBuilder<A>) {
         if (33..=126).contains(&self.0) {
             say_all!(out; '`', char::from(self.0), '`');
         } else {
@@ -58,14 +59,14 @@ pub fn is_hex(text: &[u8]) -> bool {
 }
 
 /// Says why a text is no hex text.
-pub fn say_no_hex(source: Source<'_>, text: &[u8], out: &mut Words) {
+pub fn say_no_hex(source: InputSource<'_>, text: &[u8], out: &mut TextBuilder) {
     match bad_digit(text) {
         Some(at) => say_bad_digit(source, text, at, out),
         None => say_odd(source, text, out),
     }
 }
 
-fn say_bad_digit(source: Source<'_>, text: &[u8], at: usize, out: &mut Words) {
+fn say_bad_digit(source: InputSource<'_>, text: &[u8], at: usize, out: &mut TextBuilder) {
     let octet = Octet(text.get(at).copied().unwrap_or(0));
     let advice = advice(look_of(text, at));
     say_all!(out; source, ", ", place_at(text, at), ": ", octet, " is no hex digit; ", advice, ".\n");
@@ -80,7 +81,7 @@ fn odd_advice(text: &[u8]) -> &'static str {
     }
 }
 
-fn say_odd(source: Source<'_>, text: &[u8], out: &mut Words) {
+fn say_odd(source: InputSource<'_>, text: &[u8], out: &mut TextBuilder) {
     let digits = digit_count(text);
     let last = text
         .iter()
@@ -100,11 +101,11 @@ fn say_odd(source: Source<'_>, text: &[u8], out: &mut Words) {
 }
 
 /// Says that a text has no octets.
-pub fn say_no_octets(source: Source<'_>, out: &mut Words) {
+pub fn say_no_octets(source: InputSource<'_>, out: &mut TextBuilder) {
     say_all!(out; source, ": no octets.\n");
 }
 
 /// Says that a text was read as hex that looks like a dump with offsets.
-pub fn say_offsets(source: Source<'_>, out: &mut Words) {
+pub fn say_offsets(source: InputSource<'_>, out: &mut TextBuilder) {
     say_all!(out; source, ": each line begins with a number that grows by 16, so this looks like a dump with offsets; they were read as octets too: make it by xxd -p.\n");
 }

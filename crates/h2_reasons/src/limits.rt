@@ -1,6 +1,6 @@
 //! Which limit or setting is out of its range.
 
-use h2_describe::say::{Say, Words};
+use h2_describe::say::{Say, TextBuilder};
 use h2_describe::say_all;
 use h2_spec::connection::Config;
 
@@ -57,12 +57,12 @@ pub fn range_of(word: &str) -> Option<Range> {
 }
 
 /// Says which number of an option is out of range.
-pub fn say_range(range: Range, value: &str, out: &mut Words) {
+pub fn say_range(range: Range, value: &str, out: &mut TextBuilder) {
     say_all!(out; range.option, " ", crate::place::Quoted(value.as_bytes()), " is out of range: ", range.what, ", ", range.least, " to ", range.most, ".\n");
 }
 
 /// Says of a command that takes no FILE that a word is none of its own.
-pub fn say_no_file(command: &str, word: &str, out: &mut Words) {
+pub fn say_no_file(command: &str, word: &str, out: &mut TextBuilder) {
     say_all!(out; crate::place::Quoted(word.as_bytes()), ": ", command, " takes no FILE; it reads standard input, or the file of --in FILE.\n");
 }
 
@@ -78,7 +78,7 @@ fn values(config: Config) -> [u32; 5] {
 }
 
 /// Says which limits or settings are out of range.
-pub fn say_limits(config: Config, out: &mut Words) {
+pub fn say_limits(config: Config, out: &mut TextBuilder) {
     for (range, value) in RANGES.iter().zip(values(config).iter()) {
         let value = u64::from(*value);
         if value < range.least || value > range.most {

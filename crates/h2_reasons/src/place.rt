@@ -1,28 +1,29 @@
 //! Where something is: in which input, and at which line, column and octet of it.
 
-use h2_describe::say::{Cut, Say, Words};
+use h2_describe::say::{Cut, Say, TextBuilder};
 use h2_describe::say_all;
 use h2_describe::sent::first_of;
+use std::alloc::Allocator;
 
 /// What was read: standard input, or the file at a path.
 #[derive(Clone, Copy)]
-pub enum Source<'a> {
+pub enum InputSource<'a> {
     Input,
     File(&'a str),
 }
 
-impl Say for Source<'_> {
-    fn say(self, out: &mut Words) {
+impl Say for InputSource<'_> {
+    fn say<A: Allocator>(self, out: &mut TextBuilder<A>) {
         match self {
-            Source::Input => "standard input".say(out),
-            Source::File(path) => Cut(path.as_bytes()).say(out),
+            InputSource::Input => "standard input".say(out),
+            InputSource::File(path) => Cut(path.as_bytes()).say(out),
         }
     }
 }
 
 /// A place in a text: its line, the octet of the line and the octet of the text, each counted from 1.
 #[derive(Clone, Copy)]
-pub struct Place {
+pub struct TextPlace {
     /// The line.
     pub line: usize,
     /// The octet of the line.
@@ -31,14 +32,14 @@ pub struct Place {
     pub octet: usize,
 }
 
-impl Say for Place {
-    fn say(self, out: &mut Words) {
+impl Say for TextPlace {
+    fn say<A: Allocator>(self, out: &mut TextBuilder<A>) {
         say_all!(out; "line ", self.line, ", column ", self.column, " (octet ", self.octet, ")");
     }
 }
 
 /// The place of an octet, by how many octets are before it.
-pub fn place_at(text: &[u8], before: usize) -> Place {
+pub fn place_at(text: &[u8], before: usize) -> TextPlace {
     let mut line = 1usize;
     let mut column = 1usize;
     for octet in first_of(text, before) {
@@ -49,7 +50,7 @@ pub fn place_at(text: &[u8], before: usize) -> Place {
             column = column.saturating_add(1);
         }
     }
-    Place {
+    TextPlace {
         line,
         column,
         octet: before.saturating_add(1),
@@ -61,7 +62,7 @@ pub fn place_at(text: &[u8], before: usize) -> Place {
 pub(crate) struct Quoted<'a>(pub(crate) &'a [u8]);
 
 impl Say for Quoted<'_> {
-    fn say(self, out: &mut Words) {
+    fn say<A: Allocator>(self, out: &mut TextBuilder<A>) {
         say_all!(out; '`', Cut(self.0), '`');
     }
 }

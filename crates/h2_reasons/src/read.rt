@@ -1,7 +1,7 @@
 //! Why an input or a file was not read.
 
-use crate::place::{Source, place_at};
-use h2_describe::say::{Say, Words};
+use crate::place::{InputSource, place_at};
+use h2_describe::say::{Say, TextBuilder};
 use h2_describe::say_all;
 use std::io::ErrorKind;
 
@@ -25,17 +25,17 @@ pub fn file_reason(kind: ErrorKind) -> &'static str {
 }
 
 /// Says why an input was not read.
-pub fn say_unread(source: Source<'_>, kind: ErrorKind, out: &mut Words) {
+pub fn say_unread(source: InputSource<'_>, kind: ErrorKind, out: &mut TextBuilder) {
     say_all!(out; source, ": ", file_reason(kind), ".\n");
 }
 
 /// Says that an input is too long: it has more octets than this.
-pub fn say_too_long(source: Source<'_>, most: usize, out: &mut Words) {
+pub fn say_too_long(source: InputSource<'_>, most: usize, out: &mut TextBuilder) {
     say_all!(out; source, ": it has more than ", most, " octets, the most that is read.\n");
 }
 
 /// Says where a text is not UTF-8.
-pub fn say_no_text(source: Source<'_>, text: &[u8], out: &mut Words) {
+pub fn say_no_text(source: InputSource<'_>, text: &[u8], out: &mut TextBuilder) {
     let at = match std::str::from_utf8(text) {
         Ok(_) => 0,
         Err(error) => error.valid_up_to(),

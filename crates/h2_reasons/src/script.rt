@@ -1,8 +1,8 @@
 //! What is wrong with a line of a script: its kind in words, and the place in the line.
 
 use crate::hex::is_hex;
-use crate::place::{Quoted, Source};
-use h2_describe::say::{Say, Words};
+use crate::place::{InputSource, Quoted};
+use h2_describe::say::{Say, TextBuilder};
 use h2_describe::say_all;
 use h2_describe::sent::first_of;
 use h2_spec::scripts::SyntaxKind;
@@ -77,11 +77,11 @@ fn rule(kind: SyntaxKind) -> &'static str {
 
 /// Says what is wrong with a line of a script.
 pub fn say_bad_line(
-    source: Source<'_>,
+    source: InputSource<'_>,
     text: &[u8],
     line: usize,
     kind: SyntaxKind,
-    out: &mut Words,
+    out: &mut TextBuilder,
 ) {
     let found = line_of(text, line);
     let part = part_of(kind, found);

@@ -1,8 +1,8 @@
 //! Why a line of `debug` is refused.
 
 use crate::hex::{digit_count, is_hex};
-use crate::place::Source;
-use h2_describe::say::{Say, Words};
+use crate::place::InputSource;
+use h2_describe::say::{Say, TextBuilder};
 use h2_describe::say_all;
 
 /// What the number of a fault says of a command; `None` for the faults that end a session, of which more is known.
@@ -21,12 +21,12 @@ fn reason(number: &[u8]) -> Option<&'static str> {
 
 /// Says why a command was refused whose answer is `fault` and this number; `line` is the command's line of standard input,
 /// from 1, where it is known.
-pub fn say_session_fault(line: Option<usize>, number: &[u8], out: &mut Words) {
+pub fn say_session_fault(line: Option<usize>, number: &[u8], out: &mut TextBuilder) {
     let Some(reason) = reason(number) else {
         return;
     };
     match line {
-        Some(line) => say_all!(out; Source::Input, ", line ", line, ": "),
+        Some(line) => say_all!(out; InputSource::Input, ", line ", line, ": "),
         None => say_all!(out; "debug: "),
     }
     say_all!(out; reason, ".\n");
@@ -36,11 +36,11 @@ pub fn say_session_fault(line: Option<usize>, number: &[u8], out: &mut Words) {
 const DIGITS: usize = 8;
 
 /// Says of the second line of an input that it looks like octets, if it does: only the first line has them.
-pub fn say_more_octets(text: &[u8], out: &mut Words) {
+pub fn say_more_octets(text: &[u8], out: &mut TextBuilder) {
     let Some(line) = text.split(|octet| *octet == b'\n').nth(1) else {
         return;
     };
     if digit_count(line) >= DIGITS && is_hex(line) {
-        say_all!(out; Source::Input, ", line 2: it looks like more octets, and the first line alone has them; a file of --in FILE may have them on any number of lines.\n");
+        say_all!(out; InputSource::Input, ", line 2: it looks like more octets, and the first line alone has them; a file of --in FILE may have them on any number of lines.\n");
     }
 }

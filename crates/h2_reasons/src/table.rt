@@ -1,7 +1,7 @@
 //! Which lines of `table` are refused, and why.
 
-use crate::place::{Quoted, Source};
-use h2_describe::say::{Say, Words};
+use crate::place::{InputSource, Quoted};
+use h2_describe::say::{Say, TextBuilder};
 use h2_describe::say_all;
 
 /// Why a line is refused.
@@ -50,12 +50,12 @@ fn fault_of(line: &[u8], limit: u32) -> Option<Fault> {
 }
 
 fn say_line(
-    source: Source<'_>,
+    source: InputSource<'_>,
     number: usize,
     line: &[u8],
     fault: Fault,
     limit: u32,
-    out: &mut Words,
+    out: &mut TextBuilder,
 ) {
     say_all!(out; source, ", line ", number, ": ", Quoted(line));
     match fault {
@@ -65,7 +65,7 @@ fn say_line(
 }
 
 /// Says of each line that a table of this limit refuses why it does.
-pub fn say_table_faults(source: Source<'_>, text: &[u8], limit: u32, out: &mut Words) {
+pub fn say_table_faults(source: InputSource<'_>, text: &[u8], limit: u32, out: &mut TextBuilder) {
     let text = match text.strip_suffix(b"\n".as_slice()) {
         Some(text) => text,
         None => text,

@@ -1,6 +1,6 @@
 //! What the system or the memory refused: an output, a port, memory.
 
-use h2_describe::say::{Say, Words};
+use h2_describe::say::{Say, TextBuilder};
 use h2_describe::say_all;
 use std::io::ErrorKind;
 
@@ -19,17 +19,17 @@ fn reason(kind: ErrorKind) -> &'static str {
 }
 
 /// Says why the output was not written whole.
-pub fn say_unwritten(kind: ErrorKind, out: &mut Words) {
+pub fn say_unwritten(kind: ErrorKind, out: &mut TextBuilder) {
     say_all!(out; "standard output: ", reason(kind), "; the output is not whole.\n");
 }
 
 /// Says that memory was refused.
-pub fn say_no_memory(out: &mut Words) {
+pub fn say_no_memory(out: &mut TextBuilder) {
     say_all!(out; "out of memory: give the program more, or a shorter input.\n");
 }
 
 /// Says why a port can't be listened on; without a reason, that a connection of it could not be accepted.
-pub fn say_port(port: u32, kind: Option<ErrorKind>, out: &mut Words) {
+pub fn say_port(port: u32, kind: Option<ErrorKind>, out: &mut TextBuilder) {
     let reason = match kind {
         Some(ErrorKind::AddrInUse) =>
             "is in use: end the program that listens there, or take another port",

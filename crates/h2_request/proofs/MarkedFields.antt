@@ -3,12 +3,12 @@ use Rattle.std.proofs.Common.{◌≡◌, ◌||◌, true, cond, codes, refl, ap, 
 use Rattle.h2_spec.specs.Field.{Field, field}
 use Rattle.h2_request.specs.Marked.{marked_by, noted_by, measured_by}
 use Rattle.h2_request.specs.Walk.{Pseudo, marked, noted, measured, with_pseudo}
-use Rattle.h2_request.specs.declared.walk.Marks.{Marks}
+use Rattle.h2_request.specs.declared.walk.ListMark.{ListMark}
 use Rattle.h2_request.specs.declared.walk.ContentLength.{ContentLength}
 use Rattle.h2_mark.specs.Mark.{known_of, mark_of}
 use Rattle.h2_mark.proofs.KnownNames.{by-name, by-colon, connection-marked, pseudo-marked}
 
-pub marked-by : (m : Marks) (f : Field) → marked_by m (mark_of f) ≡ marked m f
+pub marked-by : (m : ListMark) (f : Field) → marked_by m (mark_of f) ≡ marked m f
 unfolding mark_of
 marked-by m f = rw (connection-marked f, pseudo-marked f) refl
 

@@ -13,7 +13,7 @@ use Rattle.h2_spec.specs.Request.{is_pseudo, is_named, has_bad_name, has_bad_val
 use Rattle.h2_request.specs.Asked.{request_seen}
 use Rattle.h2_request.specs.Seen.{AreMarks, ArePseudo, IsLength, is_lacking, seen_reason, seen_trailers_reason}
 use Rattle.h2_request.specs.Walk.{Pseudo, marked, noted, measured, with_number}
-use Rattle.h2_request.specs.declared.walk.Marks.{Marks}
+use Rattle.h2_request.specs.declared.walk.ListMark.{ListMark}
 use Rattle.h2_request.specs.declared.walk.ContentLength.{ContentLength}
 
 -- ---- tests of a list and one field more
@@ -66,7 +66,7 @@ two-snoc t (f ∷ fs) g = rw (any-snoc (t f) fs g, two-snoc t fs g) (or_swap (li
 more : (p : Field → Bool) (b : Bool) (fs : List Field) (f : Field) → b ≡ list_any p fs → (b || p f) ≡ list_any p (fs ++ f ∷ [])
 more p b fs f e = ap (λ a. a || p f) e ∙ sym (any-snoc p fs f)
 
-pub marks-more : (fs : List Field) (f : Field) (m : Marks) → AreMarks fs m → AreMarks (fs ++ f ∷ []) (marked m f)
+pub marks-more : (fs : List Field) (f : Field) (m : ListMark) → AreMarks fs m → AreMarks (fs ++ f ∷ []) (marked m f)
 marks-more fs f m h = record {
   bad_name = more has_bad_name _ fs f h.bad_name;
   bad_value = more has_bad_value _ fs f h.bad_value;
@@ -379,9 +379,9 @@ length-more fs g l h = at (is_content_length g) refl
 up_to : (fields : List Field) (i : ℕ) (f : Field) → slice_get fields i ≡ Some f → take i fields ++ f ∷ [] ≡ take (i + 1) fields
 up_to fields i f is = ap (λ x. take i fields ++ x ∷ []) (sym (get_or_from_slice_get fields i f f is)) ∙ sym (take_more fields i f (slice_get_within fields i f is))
 
-pub marks-walked : (fields : List Field) (i : ℕ) (f : Field) (m after : Marks) → slice_get fields i ≡ Some f → after ≡ marked m f → AreMarks (take i fields) m → AreMarks (take (i + 1) fields) after
+pub marks-walked : (fields : List Field) (i : ℕ) (f : Field) (m after : ListMark) → slice_get fields i ≡ Some f → after ≡ marked m f → AreMarks (take i fields) m → AreMarks (take (i + 1) fields) after
 marks-walked fields i f m after is step h =
-    subst (λ (x : Marks). AreMarks (take (i + 1) fields) x) (sym step)
+    subst (λ (x : ListMark). AreMarks (take (i + 1) fields) x) (sym step)
     (subst (λ (xs : List Field). AreMarks xs (marked m f)) (up_to fields i f is) (marks-more (take i fields) f m h))
 
 pub pseudo-walked : (fields : List Field) (i : ℕ) (f : Field) (p after : Pseudo) → slice_get fields i ≡ Some f → after ≡ noted p f → ArePseudo (take i fields) p → ArePseudo (take (i + 1) fields) after
@@ -397,7 +397,7 @@ length-walked fields i f l after is step h =
 -- ---- the reason at the end
 
 -- what is seen of the fields reports the reason that the definitions give
-pub seen-reason : (fields : List Field) (m : Marks) (p : Pseudo) (l : ContentLength) → AreMarks fields m → ArePseudo fields p → IsLength fields l → seen_reason m p l ≡ malformed fields
+pub seen-reason : (fields : List Field) (m : ListMark) (p : Pseudo) (l : ContentLength) → AreMarks fields m → ArePseudo fields p → IsLength fields l → seen_reason m p l ≡ malformed fields
 unfolding malformed
 seen-reason fields m p l marks pseudo length = at p.unknown refl
   where
@@ -410,7 +410,7 @@ seen-reason fields m p l marks pseudo length = at p.unknown refl
         let double : p.double ≡ any_two is_double_pseudo fields = pseudo.double e in
         rw (marks.bad_name, marks.bad_value, marks.of_connection, marks.bad_te, pseudo.late, e, known, double, pseudo.method, pseudo.scheme, pseudo.path, pseudo.authority, length.bad) refl
 
-pub seen-trailers-reason : (fields : List Field) (m : Marks) → AreMarks fields m → seen_trailers_reason m ≡ malformed_trailers fields
+pub seen-trailers-reason : (fields : List Field) (m : ListMark) → AreMarks fields m → seen_trailers_reason m ≡ malformed_trailers fields
 unfolding malformed_trailers
 seen-trailers-reason fields m marks = rw (marks.bad_name, marks.bad_value, marks.pseudo, marks.of_connection, marks.bad_te) refl
 
@@ -424,7 +424,7 @@ past true n o e = absurd (some_is e)
     some_is k = cc
 past false n o e = (refl, e)
 
-good-length : (m : Marks) (p : Pseudo) (l : ContentLength) → seen_reason m p l ≡ None → l.bad ≡ false
+good-length : (m : ListMark) (p : Pseudo) (l : ContentLength) → seen_reason m p l ≡ None → l.bad ≡ false
 good-length m p l e =
     (past l.bad 9 _ (past m.bad_te 8 _ (past m.of_connection 7 _ (past (is_lacking p) 6 _ (past p.double 5 _ (past p.unknown 4 _ (past p.late 3 _ (past m.bad_value 2 _ (past m.bad_name 1 _ e).1).1).1).1).1).1).1).1).0
 
@@ -433,7 +433,7 @@ connect-same None = refl
 connect-same (Some v) = refl
 
 -- what is seen of well-formed fields reports what they ask for
-pub seen-request : (fields : List Field) (m : Marks) (p : Pseudo) (l : ContentLength) → ArePseudo fields p → IsLength fields l → seen_reason m p l ≡ None → request_seen p l ≡ request_of fields
+pub seen-request : (fields : List Field) (m : ListMark) (p : Pseudo) (l : ContentLength) → ArePseudo fields p → IsLength fields l → seen_reason m p l ≡ None → request_seen p l ≡ request_of fields
 unfolding request_of
 seen-request fields m p l pseudo length none =
     let declared : l.declared ≡ declared_length fields = length.declared (good-length m p l none) in

@@ -6,10 +6,10 @@ use Rattle.h2_mark.specs.declared.mark.KnownName.{KnownName}
 use Rattle.h2_mark.specs.declared.mark.KnownName.TheVariants.{Method, Scheme, Path, Authority, OtherPseudo, ContentLength, Te, OfConnection, Other}
 use Rattle.h2_mark.specs.declared.mark.FieldMark.{FieldMark}
 use Rattle.h2_request.specs.Walk.{Pseudo, with_number}
-use Rattle.h2_request.specs.declared.walk.Marks.{Marks}
+use Rattle.h2_request.specs.declared.walk.ListMark.{ListMark}
 use Rattle.h2_request.specs.declared.walk.ContentLength as walk
 
-abbrev pub marked_by : Marks → FieldMark → Marks
+abbrev pub marked_by : ListMark → FieldMark → ListMark
 marked_by m k = record {
   bad_name = m.bad_name || k.bad_name;
   bad_value = m.bad_value || k.bad_value;

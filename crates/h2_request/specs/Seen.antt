@@ -5,12 +5,12 @@ use Rattle.std.specs.List.{list_any}
 use Rattle.h2_spec.specs.Field.{Field}
 use Rattle.h2_spec.specs.Request.{is_pseudo, has_bad_name, has_bad_value, is_unknown_pseudo, is_of_connection, has_bad_te, decimal_value, has_bad_length, is_other_length, is_late_pseudo, is_double_pseudo, value_named, any_two, is_value, least_holding}
 use Rattle.h2_request.specs.Walk.{Pseudo, pseudo_of}
-use Rattle.h2_request.specs.declared.walk.Marks.{Marks}
+use Rattle.h2_request.specs.declared.walk.ListMark.{ListMark}
 use Rattle.h2_request.specs.declared.walk.ContentLength.{ContentLength}
-use Rattle.h2_request.specs.declared.walk.Seen.{Seen}
+use Rattle.h2_request.specs.declared.walk.FieldScan.{FieldScan}
 
 -- what is marked of these fields
-pub record AreMarks (fields : List Field) (m : Marks) : Type 0 where
+pub record AreMarks (fields : List Field) (m : ListMark) : Type 0 where
   pub bad_name : m.bad_name ≡ list_any has_bad_name fields
   pub bad_value : m.bad_value ≡ list_any has_bad_value fields
   pub pseudo : m.pseudo ≡ list_any is_pseudo fields
@@ -34,7 +34,7 @@ pub record IsLength (fields : List Field) (l : ContentLength) : Type 0 where
   pub declared : l.bad ≡ false → l.declared ≡ option_map decimal_value (value_named (codes "content-length") fields)
 
 -- what is seen of these fields
-pub record AreSeen (fields : List Field) (seen : Seen) : Type 0 where
+pub record AreSeen (fields : List Field) (seen : FieldScan) : Type 0 where
   pub marks : AreMarks fields seen.marks
   pub pseudo : ArePseudo fields (pseudo_of seen.pseudo)
   pub length : IsLength fields seen.length
@@ -46,7 +46,7 @@ is_lacking p =
     else is_none p.scheme || length (unwrap_or p.path []) == 0)
 
 -- the least reason against a request of which this is seen
-abbrev pub seen_reason : Marks → Pseudo → ContentLength → Option ℕ
+abbrev pub seen_reason : ListMark → Pseudo → ContentLength → Option ℕ
 seen_reason m p l = least_holding (
     (1, m.bad_name) ∷
     (2, m.bad_value) ∷
@@ -59,5 +59,5 @@ seen_reason m p l = least_holding (
     (9, l.bad) ∷ [])
 
 -- the least reason against trailers
-abbrev pub seen_trailers_reason : Marks → Option ℕ
+abbrev pub seen_trailers_reason : ListMark → Option ℕ
 seen_trailers_reason m = least_holding ((1, m.bad_name) ∷ (2, m.bad_value) ∷ (4, m.pseudo) ∷ (7, m.of_connection) ∷ (8, m.bad_te) ∷ [])

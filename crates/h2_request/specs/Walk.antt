@@ -2,14 +2,14 @@
 use Rattle.std.specs.Prelude.{ℕ, Bool, true, ◌||◌, not, ◌==◌, List, codes, if◌then◌else◌, Option, Some, None, is_some, unwrap_or}
 use Rattle.h2_spec.specs.Field.{Field}
 use Rattle.h2_spec.specs.Request.{is_pseudo, is_named, has_bad_name, has_bad_value, is_of_connection, has_bad_te, is_content_length, is_digits, decimal_value}
-use Rattle.h2_request.specs.declared.walk.Marks.{Marks}
+use Rattle.h2_request.specs.declared.walk.ListMark.{ListMark}
 use Rattle.h2_request.specs.declared.walk.ContentLength.{ContentLength}
 use Rattle.h2_request.specs.declared.walk.PseudoFields.{PseudoFields}
 use Rattle.std.specs.Option.{option_copied}
 
 -- ---- fields alone
 
-abbrev pub marked : Marks → Field → Marks
+abbrev pub marked : ListMark → Field → ListMark
 marked m f = record {
   bad_name = m.bad_name || has_bad_name f;
   bad_value = m.bad_value || has_bad_value f;

@@ -14,9 +14,9 @@ use crate::fields::Fields;
 use h2_mark::{FieldMark, KnownName, octets};
 use std::alloc::Allocator;
 
-/// Which tests of a field alone some field has passed.
+/// The marks of all fields of a list together: what some field of it is malformed for by itself.
 #[derive(Clone, Copy)]
-pub struct Marks {
+pub struct ListMark {
     /// A name is empty, has an octet that no name has, or a misplaced colon (RFC 9113, 8.2.1).
     pub bad_name: bool,
     /// A value has an octet that no value has, or begins or ends with a blank (8.2.1).
@@ -29,12 +29,12 @@ pub struct Marks {
     pub bad_te: bool,
 }
 
-impl Marks {
+impl ListMark {
     /// Of no field.
     pub fn none() -> Self
         ensures { result ≡ record { bad_name = false; bad_value = false; pseudo = false; of_connection = false; bad_te = false } }
     {
-        Marks {
+        ListMark {
             bad_name: false,
             bad_value: false,
             pseudo: false,
@@ -47,7 +47,7 @@ impl Marks {
     pub fn with(self, mark: FieldMark) -> Self
         ensures { result ≡ marked_by self mark }
     {
-        Marks {
+        ListMark {
             bad_name: self.bad_name || mark.bad_name,
             bad_value: self.bad_value || mark.bad_value,
             pseudo: self.pseudo || mark.known.is_pseudo(),
@@ -177,24 +177,24 @@ impl ContentLength {
     }
 }
 
-/// All that is seen of a list of fields.
+/// What one walk over a list of fields found.
 #[derive(Clone, Copy)]
-pub struct Seen<'a> {
+pub struct FieldScan<'a> {
     /// The marks of all fields together.
-    pub marks: Marks,
+    pub marks: ListMark,
     /// The pseudo-fields.
     pub pseudo: PseudoFields<'a>,
     /// The content-length.
     pub length: ContentLength,
 }
 
-impl<'a> Seen<'a> {
+impl<'a> FieldScan<'a> {
     /// Of these fields, in one walk over them.
     pub fn of<A: Allocator>(fields: &Fields<'a, A>) -> Self
         ensures { AreSeen (fields_in fields.now) result }
     {
         let count = fields.len();
-        let mut marks = Marks::none();
+        let mut marks = ListMark::none();
         let mut pseudo = PseudoFields::none(fields);
         let mut length = ContentLength::none();
         for place in 0..count {
@@ -204,7 +204,7 @@ impl<'a> Seen<'a> {
                 length = length.with(found.mark.known, found.value);
             }
         }
-        Seen {
+        FieldScan {
             marks,
             pseudo,
             length,

@@ -16,7 +16,7 @@ ghost use Rattle.h2_request.specs.Walk.{pseudo_of};
 
 use crate::fields::Fields;
 use crate::reason::{Malformed, Reason};
-use crate::walk::{Marks, PseudoFields, Seen};
+use crate::walk::{FieldScan, ListMark, PseudoFields};
 use h2_fields::field::Field;
 use h2_mark::octets;
 use std::alloc::Allocator;
@@ -59,7 +59,7 @@ pub fn check_fields<'a, A: Allocator>(fields: &Fields<'a, A>) -> Result<Request<
     ensures request { IfOk result (λ request. asked request ≡ request_of (fields_in fields.now)) }
     ensures refused { IfErr result (λ e. malformed (fields_in fields.now) ≡ Some (reason_number e.0)) }
 {
-    let seen = Seen::of(fields);
+    let seen = FieldScan::of(fields);
     match request_reason(seen) {
         Some(reason) => Err(Malformed(reason)),
         None => Ok(requested(seen)),
@@ -90,17 +90,17 @@ pub fn check_trailer_fields<A: Allocator>(fields: &Fields<'_, A>) -> Result<(), 
     ensures accepted { OnOk result (malformed_trailers (fields_in fields.now) ≡ None) }
     ensures refused { IfErr result (λ e. malformed_trailers (fields_in fields.now) ≡ Some (reason_number e.0)) }
 {
-    match trailers_reason(Seen::of(fields).marks) {
+    match trailers_reason(FieldScan::of(fields).marks) {
         Some(reason) => Err(Malformed(reason)),
         None => Ok(()),
     }
 }
 
 /// The least reason against a request of which this is seen.
-fn request_reason(seen: Seen<'_>) -> Option<Reason>
+fn request_reason(seen: FieldScan<'_>) -> Option<Reason>
     ensures { option_map reason_number result ≡ seen_reason seen.entry.marks (pseudo_of seen.entry.pseudo) seen.entry.length }
 {
-    let Seen {
+    let FieldScan {
         marks,
         pseudo,
         length,
@@ -129,7 +129,7 @@ fn request_reason(seen: Seen<'_>) -> Option<Reason>
 }
 
 /// The least reason against trailers of which this is seen.
-fn trailers_reason(marks: Marks) -> Option<Reason>
+fn trailers_reason(marks: ListMark) -> Option<Reason>
     ensures { option_map reason_number result ≡ seen_trailers_reason marks }
 {
     if marks.bad_name {
@@ -173,7 +173,7 @@ fn is_missing_or_empty(value: Option<&[u8]>) -> bool
 }
 
 /// What fields of which this is seen ask for, if they are well-formed.
-fn requested(seen: Seen<'_>) -> Request<'_>
+fn requested(seen: FieldScan<'_>) -> Request<'_>
     ensures { asked result ≡ request_seen (pseudo_of seen.entry.pseudo) seen.entry.length }
 {
     let method = octets_or_none(seen.pseudo.method);

@@ -4,8 +4,8 @@ use Rattle.std.specs.Option.{option_map}
 use Rattle.h2_spec.specs.declared.connection.Config.{Config}
 use Rattle.h2_spec.specs.declared.connection.ConnectionState.{ConnectionState}
 use Rattle.h2_spec.specs.declared.reactions.BlockSummary.{BlockSummary}
-use Rattle.h2_spec.specs.declared.streams.Kind.{Kind}
-use Rattle.h2_spec.specs.declared.streams.Kind.TheVariants.{Idle, Skipped, BothOpen, HalfRemote, HalfLocal, Ended, PeerReset, WeReset}
+use Rattle.h2_spec.specs.declared.streams.StreamState.{StreamState}
+use Rattle.h2_spec.specs.declared.streams.StreamState.TheVariants.{Idle, Skipped, BothOpen, HalfRemote, HalfLocal, Ended, PeerReset, WeReset}
 use Rattle.h2_spec.specs.declared.streams.Stream.{Stream}
 use Rattle.h2_spec.specs.Answer.{Entry, picked}
 use Rattle.h2_spec.specs.Block.{list_size}
@@ -17,7 +17,7 @@ use Rattle.h2_streams.specs.Put.{CanPut, can_become}
 use Rattle.h2_rules.proofs.RequestOutcomeLaws.{large-turn, malformed-turn}
 
 -- a stream that the peer may still send on is live
-pub peer-open-live : (kind : Kind) → is_peer_open kind ≡ true → is_live kind ≡ true
+pub peer-open-live : (kind : StreamState) → is_peer_open kind ≡ true → is_live kind ≡ true
 peer-open-live Idle h = h
 peer-open-live Skipped h = h
 peer-open-live BothOpen h = refl
@@ -28,7 +28,7 @@ peer-open-live PeerReset h = h
 peer-open-live WeReset h = h
 
 -- a live or closed stream is not above the last one that was opened
-recorded-within : (last id : ℕ) (streams : List Stream) (now : Kind) → can_become (kind_of last streams id) now ≡ true → id ≤ last
+recorded-within : (last id : ℕ) (streams : List Stream) (now : StreamState) → can_become (kind_of last streams id) now ≡ true → id ≤ last
 unfolding stream_at
 recorded-within last id streams now h = by_tests (eqb (id % 2) 0) (ltb last id) refl h
   where

@@ -9,8 +9,8 @@ use Rattle.h2_spec.specs.declared.reactions.Change.{Change}
 use Rattle.h2_spec.specs.declared.reactions.RecordUpdate.{RecordUpdate}
 use Rattle.h2_spec.specs.declared.reactions.RecordUpdate.TheVariants.{Unchanged, Put, Shift, Receive}
 use Rattle.h2_spec.specs.declared.streams.Stream.{Stream}
-use Rattle.h2_spec.specs.declared.streams.Kind.{Kind}
-use Rattle.h2_spec.specs.declared.streams.Kind.TheVariants.{Idle, Skipped, BothOpen, HalfRemote, HalfLocal, Ended, PeerReset, WeReset}
+use Rattle.h2_spec.specs.declared.streams.StreamState.{StreamState}
+use Rattle.h2_spec.specs.declared.streams.StreamState.TheVariants.{Idle, Skipped, BothOpen, HalfRemote, HalfLocal, Ended, PeerReset, WeReset}
 use Rattle.h2_spec.specs.Answer.{Entry}
 use Rattle.h2_spec.specs.Change.{follows_initial_window, moved_by, overflows, overflows_one, received, received_one, shifted, shifted_one, updated_streams, with_recv, with_send}
 use Rattle.h2_spec.specs.SettingsFrame.{comes_into_force}
@@ -24,7 +24,7 @@ use Rattle.h2_rules.specs.Sound.{AreInRange, AreSound, HasBody, InForce, IsCredi
 -- ---- a stream that is not live
 
 -- settings leave a stream alone that is not live
-follows-ended : (kind : Kind) → is_live kind ≡ false → follows_initial_window kind ≡ false
+follows-ended : (kind : StreamState) → is_live kind ≡ false → follows_initial_window kind ≡ false
 follows-ended Idle h = refl
 follows-ended Skipped h = refl
 follows-ended BothOpen h = absurd (false≢true (sym h))
@@ -34,10 +34,10 @@ follows-ended Ended h = refl
 follows-ended PeerReset h = refl
 follows-ended WeReset h = refl
 
-pub not-live-sound : (f : InForce) (id : ℕ) (kind : Kind) → is_live kind ≡ false → IsSoundStream f (not_live id kind)
+pub not-live-sound : (f : InForce) (id : ℕ) (kind : StreamState) → is_live kind ≡ false → IsSoundStream f (not_live id kind)
 not-live-sound f id kind ended = ((λ live. absurd (false≢true (sym ended ∙ live))), grind arith, λ follows. absurd (false≢true (sym (follows-ended kind ended) ∙ follows)))
 
-pub not-live-body : (book : List Entry) (id : ℕ) (kind : Kind) → HasBody book (not_live id kind)
+pub not-live-body : (book : List Entry) (id : ℕ) (kind : StreamState) → HasBody book (not_live id kind)
 unfolding octets_waiting
 not-live-body book id kind = (tt, by_test (is_live kind))
   where
@@ -47,7 +47,7 @@ not-live-body book id kind = (tt, by_test (is_live kind))
 
 -- ---- the record of a live stream
 
-pub is-live : (kind : Kind) → (kind ≡ BothOpen) ⊎ ((kind ≡ HalfLocal) ⊎ (kind ≡ HalfRemote)) → is_live kind ≡ true
+pub is-live : (kind : StreamState) → (kind ≡ BothOpen) ⊎ ((kind ≡ HalfLocal) ⊎ (kind ≡ HalfRemote)) → is_live kind ≡ true
 is-live kind (inl is) = ap is_live is
 is-live kind (inr (inl is)) = ap is_live is
 is-live kind (inr (inr is)) = ap is_live is
@@ -72,7 +72,7 @@ live-put r st now found live same =
     ((λ above. absurd (omega (arith, above, within, same)), λ below. ap (λ t. t || (is_closed k && not (is_live now.kind))) here), omega (arith, within, same))
 
 -- a live stream has been opened
-pub live-recorded : (kind : Kind) → is_live kind ≡ true → is_recorded kind ≡ true
+pub live-recorded : (kind : StreamState) → is_live kind ≡ true → is_recorded kind ≡ true
 live-recorded kind live = ap (λ t. t || is_closed kind) live
 
 -- ---- the records that are there
@@ -321,7 +321,7 @@ pub ended-sound : (f : InForce) (st : Stream) → IsSoundStream f st → IsSound
 unfolding server_ended
 ended-sound f st h = at st.kind refl
   where
-    at : (k : Kind) → st.kind ≡ k → IsSoundStream f (server_ended_as k st)
+    at : (k : StreamState) → st.kind ≡ k → IsSoundStream f (server_ended_as k st)
     at BothOpen e = ((λ live. h.0 (ap is_live e)), h.1, λ follows. absurd (false≢true follows))
     at HalfRemote e = not-live-sound f st.id Ended refl
     at Idle e = h
@@ -335,7 +335,7 @@ pub ended-body : (book : List Entry) (st : Stream) → HasBody book st → HasBo
 unfolding server_ended octets_waiting
 ended-body book st h = at st.kind
   where
-    at : (k : Kind) → HasBody book (server_ended_as k st)
+    at : (k : StreamState) → HasBody book (server_ended_as k st)
     at BothOpen = (h.0, omega arith)
     at HalfRemote = not-live-body book st.id Ended
     at Idle = h

@@ -8,7 +8,7 @@ use Rattle.h2_spec.specs.declared.reactions.Reaction.{Reaction}
 use Rattle.h2_spec.specs.declared.reactions.Reaction.TheVariants.{ConnectionError, Continues}
 use Rattle.h2_spec.specs.declared.reactions.RecordUpdate.{RecordUpdate}
 use Rattle.h2_spec.specs.declared.reactions.RecordUpdate.TheVariants.{Unchanged, Put, Shift, Receive}
-use Rattle.h2_spec.specs.declared.streams.Kind.{Kind}
+use Rattle.h2_spec.specs.declared.streams.StreamState.{StreamState}
 use Rattle.h2_spec.specs.declared.streams.Numbers.{Numbers}
 use Rattle.h2_spec.specs.declared.streams.Stream.{Stream}
 use Rattle.h2_spec.specs.Answer.{Entry, picked}
@@ -55,7 +55,7 @@ abbrev pub HasBody : List Entry → Stream → Type 0
 HasBody book st = IsPickOf book st.pick × (octets_waiting st ≤ length (picked book st.pick).body)
 
 -- whether a stream has been opened, so that it has a record
-abbrev pub is_recorded : Kind → Bool
+abbrev pub is_recorded : StreamState → Bool
 is_recorded kind = is_live kind || is_closed kind
 
 -- what becomes of the streams: with the book, the records before, what was in force before, and the counts after; the

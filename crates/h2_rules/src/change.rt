@@ -13,7 +13,7 @@ use h2_spec::causes::Cause;
 use h2_spec::connection::ConnectionState;
 use h2_spec::flow::Settings;
 use h2_spec::reactions::{Change, ConnectionFrame, RecordUpdate, StreamFrame, StreamOutcome};
-use h2_spec::streams::{Kind, Stream};
+use h2_spec::streams::{Stream, StreamState};
 use h2_streams::not_live;
 
 /// The stream's record, with nothing sent.
@@ -40,7 +40,7 @@ pub fn stream_error(size_update_pending: bool, id: u32, cause: Cause) -> StreamO
     ensures recorded { is_recorded result.stream.kind ≡ true }
 {
     StreamOutcome {
-        stream: not_live(id, Kind::WeReset),
+        stream: not_live(id, StreamState::WeReset),
         frame: StreamFrame::Reset(id, cause),
         answer: None,
         size_update_pending,
@@ -54,8 +54,8 @@ pub fn only_counts(core: ConnectionState) -> Change
     Change {
         core,
         record_update: RecordUpdate::Unchanged,
-        first: ConnectionFrame::NoConnectionFrame,
-        second: StreamFrame::NoStreamFrame,
+        connection_frame: ConnectionFrame::NoConnectionFrame,
+        stream_frame: StreamFrame::NoStreamFrame,
         answer: None,
     }
 }
@@ -74,8 +74,8 @@ pub fn with_outcome(change: Change, outcome: StreamOutcome) -> Change
     Change {
         core: ConnectionState { peer, ..core },
         record_update: RecordUpdate::Put(outcome.stream),
-        first: change.first,
-        second: outcome.frame,
+        connection_frame: change.connection_frame,
+        stream_frame: outcome.frame,
         answer: outcome.answer,
     }
 }

@@ -27,7 +27,7 @@ pub fn nothing(core: ConnectionState) -> Reaction
 /// ignored. There is no error.
 pub fn on_ping(core: ConnectionState, is_answer: bool, octets: [u8; 8]) -> Reaction
     requires core { IsSoundConnectionState core }
-    ensures rule { result ≡ (if is_answer then rule.nothing core else reactions.Continues (record (changes.only_counts core) { first = frames.PingAck octets })) }
+    ensures rule { result ≡ (if is_answer then rule.nothing core else reactions.Continues (record (changes.only_counts core) { connection_frame = frames.PingAck octets })) }
     ensures sound { (book : List Entry) (r : Records) → r.last ≡ core.last → IsSound book r (in_force core) result }
 {
     let change = only_counts(core);
@@ -35,7 +35,7 @@ pub fn on_ping(core: ConnectionState, is_answer: bool, octets: [u8; 8]) -> React
         return Reaction::Continues(change);
     }
     Reaction::Continues(Change {
-        first: ConnectionFrame::PingAck(octets),
+        connection_frame: ConnectionFrame::PingAck(octets),
         ..change
     })
 }

@@ -16,7 +16,7 @@ use h2_spec::flow::{Credit, Window};
 use h2_spec::reactions::{
     Change, ConnectionFrame, Reaction, ReceivedData, StreamFrame, StreamOutcome,
 };
-use h2_spec::streams::{Kind, Numbers, Stream};
+use h2_spec::streams::{Numbers, Stream, StreamState};
 
 /// Octets of DATA are counted on the connection, and given back once they reach the threshold.
 #[tactic(auto, unfolding(h2_spec::specs::Data::counted, h2_spec::specs::Data::owed_on_connection))]
@@ -35,7 +35,7 @@ fn counted(threshold: u32, core: ConnectionState, count: u32) -> Change
             ..core
         });
         return Change {
-            first: ConnectionFrame::Credit(owed.owed()),
+            connection_frame: ConnectionFrame::Credit(owed.owed()),
             ..returned
         };
     }
@@ -163,12 +163,18 @@ pub fn on_data(
     ensures sound { (book : List Entry) (r : Records) → body ≡ length (picked book stream.pick).body → HasBody book stream → stream ≡ stream_at r.last r.streams stream.id → r.last ≡ core.last → IsSound book r (in_force core) result }
 {
     match stream.kind {
-        Kind::Idle => Reaction::ConnectionError(Cause::DataOnIdle),
-        Kind::Skipped => Reaction::ConnectionError(Cause::DataOnSkipped),
-        Kind::Ended | Kind::PeerReset => Reaction::ConnectionError(Cause::DataOnClosed),
-        Kind::BothOpen | Kind::HalfLocal => data_taken(config, core, body, incoming, stream),
-        Kind::HalfRemote => data_refused(config, core, incoming, stream, Cause::DataAfterEndStream),
-        Kind::WeReset => data_counted(config, core, incoming),
+        StreamState::Idle => Reaction::ConnectionError(Cause::DataOnIdle),
+        StreamState::Skipped => Reaction::ConnectionError(Cause::DataOnSkipped),
+        StreamState::Ended | StreamState::PeerReset => {
+            Reaction::ConnectionError(Cause::DataOnClosed)
+        }
+        StreamState::BothOpen | StreamState::HalfLocal => {
+            data_taken(config, core, body, incoming, stream)
+        }
+        StreamState::HalfRemote => {
+            data_refused(config, core, incoming, stream, Cause::DataAfterEndStream)
+        }
+        StreamState::WeReset => data_counted(config, core, incoming),
     }
 }
 

@@ -10,7 +10,7 @@ ghost use Rattle.h2_rules.specs.Sound.{HasBody, InForce, IsSoundStream, is_recor
 use crate::change::outcome_without_frame;
 use h2_spec::causes::Cause;
 use h2_spec::reactions::{Answering, StreamFrame, StreamOutcome};
-use h2_spec::streams::{Kind, Numbers, Stream};
+use h2_spec::streams::{Numbers, Stream, StreamState};
 use h2_streams::not_live;
 
 /// The stream after the server's last frame.
@@ -89,9 +89,9 @@ pub fn peer_ended(size_update_pending: bool, body: u64, stream: Stream) -> Strea
     ensures recorded { is_recorded stream.kind ≡ true → is_recorded result.stream.kind ≡ true }
 {
     match stream.kind {
-        Kind::BothOpen => {
+        StreamState::BothOpen => {
             let half = Stream {
-                kind: Kind::HalfRemote,
+                kind: StreamState::HalfRemote,
                 ..stream
             };
             if stream.numbers.body_remaining.is_some() {
@@ -100,16 +100,16 @@ pub fn peer_ended(size_update_pending: bool, body: u64, stream: Stream) -> Strea
                 answered(size_update_pending, body, half)
             }
         }
-        Kind::HalfLocal => outcome_without_frame(
+        StreamState::HalfLocal => outcome_without_frame(
             size_update_pending,
-            not_live(stream.id, Kind::Ended),
+            not_live(stream.id, StreamState::Ended),
         ),
-        Kind::Idle
-        | Kind::Skipped
-        | Kind::HalfRemote
-        | Kind::Ended
-        | Kind::PeerReset
-        | Kind::WeReset => outcome_without_frame(size_update_pending, stream),
+        StreamState::Idle
+        | StreamState::Skipped
+        | StreamState::HalfRemote
+        | StreamState::Ended
+        | StreamState::PeerReset
+        | StreamState::WeReset => outcome_without_frame(size_update_pending, stream),
     }
 }
 

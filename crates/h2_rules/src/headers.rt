@@ -16,7 +16,7 @@ use h2_spec::causes::Cause;
 use h2_spec::connection::{Config, ConnectionState};
 use h2_spec::flow::{Credit, Window};
 use h2_spec::reactions::{BlockSummary, StreamOutcome};
-use h2_spec::streams::{Kind, Numbers, Stream};
+use h2_spec::streams::{Numbers, Stream, StreamState};
 
 /// The largest list of fields, in octets (RFC 9113, 10.5.1).
 const MAX_LIST: u64 = 65_536;
@@ -41,7 +41,7 @@ fn new_stream(core: ConnectionState, id: u32, summary: BlockSummary) -> Stream
     };
     Stream {
         id,
-        kind: Kind::BothOpen,
+        kind: StreamState::BothOpen,
         numbers,
         pick: summary.pick,
     }

@@ -7,32 +7,38 @@ ghost use Rattle.h2_spec.specs.Ignored as rule;
 use h2_spec::causes::Cause;
 use h2_spec::connection::Purpose;
 use h2_spec::ignored::Ignored;
-use h2_spec::streams::Kind;
+use h2_spec::streams::StreamState;
 
 /// Why RST_STREAM is ignored on a stream of this state, if it is (RFC 9113, 5.1).
-pub fn reset_ignored(kind: Kind) -> Option<Ignored>
+pub fn reset_ignored(kind: StreamState) -> Option<Ignored>
     ensures { result ≡ rule.reset_ignored kind }
 {
     match kind {
-        Kind::Skipped => Some(Ignored::RstStreamOnSkipped),
-        Kind::Ended => Some(Ignored::RstStreamOnClosed),
-        Kind::PeerReset => Some(Ignored::RstStreamOnPeerReset),
-        Kind::WeReset => Some(Ignored::RstStreamOnReset),
-        Kind::Idle | Kind::BothOpen | Kind::HalfLocal | Kind::HalfRemote => None,
+        StreamState::Skipped => Some(Ignored::RstStreamOnSkipped),
+        StreamState::Ended => Some(Ignored::RstStreamOnClosed),
+        StreamState::PeerReset => Some(Ignored::RstStreamOnPeerReset),
+        StreamState::WeReset => Some(Ignored::RstStreamOnReset),
+        StreamState::Idle
+        | StreamState::BothOpen
+        | StreamState::HalfLocal
+        | StreamState::HalfRemote => None,
     }
 }
 
 /// Why WINDOW_UPDATE is ignored on a stream of this state, if it is, by whether its increment is 0 (RFC 9113, 5.1 and
 /// 6.9).
-pub fn window_ignored(zero: bool, kind: Kind) -> Option<Ignored>
+pub fn window_ignored(zero: bool, kind: StreamState) -> Option<Ignored>
     ensures { result ≡ rule.window_ignored zero kind }
 {
     match kind {
-        Kind::Skipped => Some(unless_zero(zero, Ignored::WindowUpdateOnSkipped)),
-        Kind::Ended => Some(unless_zero(zero, Ignored::WindowUpdateOnClosed)),
-        Kind::PeerReset => Some(unless_zero(zero, Ignored::WindowUpdateOnPeerReset)),
-        Kind::WeReset => Some(unless_zero(zero, Ignored::WindowUpdateOnReset)),
-        Kind::Idle | Kind::BothOpen | Kind::HalfLocal | Kind::HalfRemote => None,
+        StreamState::Skipped => Some(unless_zero(zero, Ignored::WindowUpdateOnSkipped)),
+        StreamState::Ended => Some(unless_zero(zero, Ignored::WindowUpdateOnClosed)),
+        StreamState::PeerReset => Some(unless_zero(zero, Ignored::WindowUpdateOnPeerReset)),
+        StreamState::WeReset => Some(unless_zero(zero, Ignored::WindowUpdateOnReset)),
+        StreamState::Idle
+        | StreamState::BothOpen
+        | StreamState::HalfLocal
+        | StreamState::HalfRemote => None,
     }
 }
 
@@ -48,18 +54,18 @@ fn unless_zero(zero: bool, reason: Ignored) -> Ignored
 }
 
 /// This reason, if the server has reset the stream (RFC 9113, 5.1).
-pub fn where_reset(reason: Ignored, kind: Kind) -> Option<Ignored>
+pub fn where_reset(reason: Ignored, kind: StreamState) -> Option<Ignored>
     ensures { result ≡ rule.where_reset reason kind }
 {
     match kind {
-        Kind::WeReset => Some(reason),
-        Kind::Idle
-        | Kind::Skipped
-        | Kind::BothOpen
-        | Kind::HalfLocal
-        | Kind::HalfRemote
-        | Kind::Ended
-        | Kind::PeerReset => None,
+        StreamState::WeReset => Some(reason),
+        StreamState::Idle
+        | StreamState::Skipped
+        | StreamState::BothOpen
+        | StreamState::HalfLocal
+        | StreamState::HalfRemote
+        | StreamState::Ended
+        | StreamState::PeerReset => None,
     }
 }
 

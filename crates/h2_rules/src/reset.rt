@@ -10,7 +10,7 @@ use crate::change::{only_counts, outcome_without_frame, with_outcome};
 use h2_spec::causes::Cause;
 use h2_spec::connection::ConnectionState;
 use h2_spec::reactions::Reaction;
-use h2_spec::streams::{Kind, Stream};
+use h2_spec::streams::{Stream, StreamState};
 use h2_streams::not_live;
 
 /// RST_STREAM on a stream (RFC 9113, 5.4.2 and 6.4): an open or half-closed stream is reset by the peer, and nothing
@@ -26,14 +26,13 @@ pub fn on_reset(core: ConnectionState, stream: Stream) -> Reaction
     ensures sound { (book : List Entry) (r : Records) → stream ≡ stream_at r.last r.streams stream.id → r.last ≡ core.last → IsSound book r (in_force core) result }
 {
     match stream.kind {
-        Kind::Idle => Reaction::ConnectionError(Cause::RstStreamOnIdle),
-        Kind::Skipped | Kind::Ended | Kind::PeerReset | Kind::WeReset => {
-            Reaction::Continues(only_counts(core))
-        }
-        Kind::BothOpen | Kind::HalfLocal | Kind::HalfRemote => {
+        StreamState::Idle => Reaction::ConnectionError(Cause::RstStreamOnIdle),
+        StreamState::Skipped | StreamState::Ended | StreamState::PeerReset | StreamState::WeReset =>
+            { Reaction::Continues(only_counts(core)) }
+        StreamState::BothOpen | StreamState::HalfLocal | StreamState::HalfRemote => {
             let outcome = outcome_without_frame(
                 core.peer.size_update_pending,
-                not_live(stream.id, Kind::PeerReset),
+                not_live(stream.id, StreamState::PeerReset),
             );
             Reaction::Continues(with_outcome(only_counts(core), outcome))
         }

@@ -106,7 +106,7 @@ pub fn settings_rule(
             });
             Reaction::Continues(Change {
                 record_update: RecordUpdate::Shift(before, peer.window),
-                first: ConnectionFrame::SettingsAck,
+                connection_frame: ConnectionFrame::SettingsAck,
                 ..change
             })
         }

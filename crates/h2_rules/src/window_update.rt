@@ -12,7 +12,7 @@ use crate::change::{only_counts, outcome_without_frame, stream_error, with_outco
 use h2_spec::causes::Cause;
 use h2_spec::connection::ConnectionState;
 use h2_spec::reactions::{Reaction, StreamOutcome};
-use h2_spec::streams::{Kind, Numbers, Stream};
+use h2_spec::streams::{Numbers, Stream, StreamState};
 
 /// An increment of a live stream's send window.
 #[tactic(auto, unfolding(h2_spec::specs::WindowUpdate::window_outcome, h2_spec::specs::Stream::octets_waiting))]
@@ -53,11 +53,10 @@ pub fn on_window(core: ConnectionState, increment: u32, stream: Stream) -> React
     ensures sound { (book : List Entry) (r : Records) → HasBody book stream → stream ≡ stream_at r.last r.streams stream.id → r.last ≡ core.last → IsSound book r (in_force core) result }
 {
     match stream.kind {
-        Kind::Idle => Reaction::ConnectionError(Cause::WindowUpdateOnIdle),
-        Kind::Skipped | Kind::Ended | Kind::PeerReset | Kind::WeReset => {
-            Reaction::Continues(only_counts(core))
-        }
-        Kind::BothOpen | Kind::HalfLocal | Kind::HalfRemote => {
+        StreamState::Idle => Reaction::ConnectionError(Cause::WindowUpdateOnIdle),
+        StreamState::Skipped | StreamState::Ended | StreamState::PeerReset | StreamState::WeReset =>
+            { Reaction::Continues(only_counts(core)) }
+        StreamState::BothOpen | StreamState::HalfLocal | StreamState::HalfRemote => {
             let outcome = window_outcome(core.peer.size_update_pending, increment, stream);
             Reaction::Continues(with_outcome(only_counts(core), outcome))
         }

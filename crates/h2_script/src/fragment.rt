@@ -13,7 +13,7 @@ ghost use Rattle.h2_script.specs.Texts.{AddsText, IsBlockText, IsFirstSaid, Says
 use crate::said::push_hex;
 use crate::text::{push_number, push_numbered, push_string};
 use h2_fields::fault::BlockFault;
-use h2_fields::instruction::{Instr, InstrRead, Mode, Name, Text, read_instr, write_instr};
+use h2_fields::instruction::{HpackString, Instr, InstrRead, Mode, Name, read_instr, write_instr};
 use h2_spec::octets::octets_from;
 use std::alloc::{AllocError, Allocator};
 
@@ -167,7 +167,7 @@ fn push_instruction<A: Allocator, B: Allocator>(
 fn push_literal<A: Allocator, B: Allocator>(
     mode: Mode,
     name: &Name<B>,
-    value: &Text<B>,
+    value: &HpackString<B>,
     out: &mut String<A>,
 ) -> Result<(), AllocError>
     ensures { OnOk result (string_bytes out.new ≡ string_bytes out.old ++ (mode_letter (mode_of mode) ∷ (name_text (name_text_of name.now) ++ 61 ∷ string_text value.now))) }
@@ -204,7 +204,7 @@ fn push_name<A: Allocator, B: Allocator>(
 
 /// Appends a string between its quotes.
 fn push_text<A: Allocator, B: Allocator>(
-    text: &Text<B>,
+    text: &HpackString<B>,
     out: &mut String<A>,
 ) -> Result<(), AllocError>
     ensures { OnOk result (string_bytes out.new ≡ string_bytes out.old ++ string_text text.now) }

@@ -12,7 +12,7 @@ ghost use Rattle.h2_script.specs.Writable.{can_write, can_write_name, indexed_na
 use crate::built::Built;
 use crate::number::number_at;
 use crate::words::{after, cut, split_before, unescaped};
-use h2_fields::instruction::{Instr, Mode, Name, Text, write_instr};
+use h2_fields::instruction::{HpackString, Instr, Mode, Name, write_instr};
 use h2_fields::octets::Octets;
 use std::alloc::{AllocError, Allocator};
 
@@ -194,7 +194,7 @@ fn begins_with_quote(text: &[u8]) -> bool
 fn string_at<A: Allocator + Copy>(
     alloc: A,
     text: &[u8],
-) -> Result<Option<(Text<A>, &[u8])>, AllocError>
+) -> Result<Option<(HpackString<A>, &[u8])>, AllocError>
     ensures { IfOk result (λ o. option_map (λ p. (p.0, p.1.now)) o ≡ string_at text.now) }
 {
     let Some((quote, rest)) = text.split_first() else {
@@ -213,7 +213,7 @@ fn quoted_at<A: Allocator + Copy>(
     quote: u8,
     huffman: bool,
     text: &[u8],
-) -> Result<Option<(Text<A>, &[u8])>, AllocError>
+) -> Result<Option<(HpackString<A>, &[u8])>, AllocError>
     ensures { IfOk result (λ o. option_map (λ p. (p.0, p.1.now)) o ≡ option_and_then (string_of huffman) (cut_at quote text.now)) }
 {
     let Some((inside, rest)) = cut(text, quote) else {
@@ -223,7 +223,7 @@ fn quoted_at<A: Allocator + Copy>(
         return Ok(None);
     };
     let octets = Octets::new(octets);
-    Ok(Some((Text { octets, huffman }, rest)))
+    Ok(Some((HpackString { octets, huffman }, rest)))
 }
 
 /// Whether an instruction's numbers and strings are within what `write_instr` takes.
@@ -250,7 +250,7 @@ fn can_write_name<A: Allocator>(name: &Name<A>) -> bool
 }
 
 /// Whether a string is short enough to be written out: a longer one alone is more than a frame holds.
-fn is_short<A: Allocator>(text: &Text<A>) -> bool
+fn is_short<A: Allocator>(text: &HpackString<A>) -> bool
     ensures value { result ≡ nat_le (length text.now.text) 33554432 }
     ensures writable { result ≡ true → IsWritableText text.now }
 {

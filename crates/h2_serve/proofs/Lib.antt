@@ -1,1 +1,3 @@
 pub mod ServeLemmas
+pub mod ShownLemmas
+pub mod Watching

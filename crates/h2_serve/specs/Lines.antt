@@ -10,6 +10,10 @@ use Rattle.h2_drive.specs.declared.fault.DriveFault.{DriveFault}
 unfoldable pub listening_line : ℕ → List ℕ
 listening_line port = joined (codes "listening " ∷ decimal port ∷ codes "\n" ∷ [])
 
+-- the connection with this number was accepted
+unfoldable pub open_line : ℕ → List ℕ
+open_line number = joined (codes "connection " ∷ decimal number ∷ codes " open\n" ∷ [])
+
 -- how the connection with this number ended
 unfoldable pub end_line : ℕ → Result DriveEnd DriveFault → List ℕ
 end_line number (Ok Input) = joined (codes "connection " ∷ decimal number ∷ codes " end input\n" ∷ [])

@@ -1,7 +1,7 @@
 //! The lines that a server prints. Definitions: `specs/Lines.antt`.
 
 ghost use Rattle.std.specs.Prelude.{Some};
-ghost use Rattle.h2_serve.specs.Lines.{end_line, listening_line};
+ghost use Rattle.h2_serve.specs.Lines.{end_line, listening_line, open_line};
 
 use h2_drive::{DriveEnd, DriveFault};
 use std::fmt;
@@ -17,6 +17,20 @@ impl fmt::Display for ListeningLine {
     fn fmt<W: fmt::Write>(&self, f: &mut fmt::Formatter<W>) -> fmt::Result {
         let port = self.0;
         write!(f, "listening {port}\n")
+    }
+}
+
+/// `connection NUMBER open`; the first connection is 1.
+#[derive(Clone, Copy)]
+pub struct OpenLine(pub u32);
+
+#[tactic(auto, unfolding(crate::specs::Lines::open_line))]
+impl fmt::Display for OpenLine {
+    ghost output = { λ x. Some (open_line x.0) };
+
+    fn fmt<W: fmt::Write>(&self, f: &mut fmt::Formatter<W>) -> fmt::Result {
+        let number = self.0;
+        write!(f, "connection {number} open\n")
     }
 }
 

@@ -1,7 +1,9 @@
 //! Connections of a TCP listener, one after another. Definitions: `specs/Lines.antt` and `specs/Serves.antt`.
 
-ghost use Rattle.std.specs.Prelude.{◌≡◌, true, false, Ok, Err, IfErr, IfSome, OnOk, OnErr};
-ghost use Rattle.h2_spec.specs.State.{is_allowed};
+ghost use Rattle.std.specs.Prelude.{◌≡◌, ◌⊎◌, [], true, false, Ok, Err, IfErr, IfOk, IfSome, OnOk, OnErr};
+ghost use Rattle.h2_spec.specs.State.{is_allowed, opening};
+ghost use Rattle.h2_conn.specs.Connection.{going};
+ghost use Rattle.h2_serve.specs.Lines.{listening_line};
 ghost use Rattle.h2_serve.specs.Serves.{AcceptsAs, Gains, ListensAs, ServesAs, opening_fault};
 
 use crate::fault::ServeFault;
@@ -16,13 +18,13 @@ use std::io::{ErrorKind, Write};
 use std::net::{IpAddr, Ipv4Addr, Net, SocketAddr, TcpListener, TcpStream};
 
 /// The most turns of one connection; each is one read of at most 4,096 octets.
-const TURNS: u32 = 1_000_000;
+pub(crate) const TURNS: u32 = 1_000_000;
 
 /// The most clients in a row that may go away before they are accepted.
 const ACCEPT_TRIES: u32 = 1_000;
 
 /// Writes a line, and flushes the output so that its reader sees the line at once.
-fn print<W: Write, D: Display + Drop>(output: &mut W, line: D) -> Result<(), ServeFault>
+pub(crate) fn print<W: Write, D: Display + Drop>(output: &mut W, line: D) -> Result<(), ServeFault>
     ensures ok { OnOk result (IfSome (D.output line) (Gains (W.contents output.old) (W.contents output.new))) }
     ensures err { IfErr result (λ fault. fault ≡ ServeFault.Write) }
 {
@@ -37,12 +39,13 @@ fn print<W: Write, D: Display + Drop>(output: &mut W, line: D) -> Result<(), Ser
 }
 
 /// A new connection; its opening SETTINGS is appended to `out`.
-fn open<'b>(
+pub(crate) fn open<'b>(
     book: &'b Book<Global>,
     config: Config,
     out: &mut Vec<u8>,
 ) -> Result<Conn<'b, Global>, ServeFault>
     ensures ok { OnOk result (is_allowed config ≡ true) }
+    ensures opened { IfOk result (λ conn. conn ≡ going (opening book.now config) []) }
     ensures err { IfErr result (λ fault. fault ≡ opening_fault (is_allowed config)) }
 {
     match Conn::new(book, config, out) {
@@ -66,7 +69,7 @@ fn is_lost_client(kind: ErrorKind) -> bool {
 }
 
 /// The next connection of a listener. Clients that went away before they were accepted are passed over.
-fn accept(listener: &TcpListener) -> Result<TcpStream, ServeFault>
+pub(crate) fn accept(listener: &TcpListener) -> Result<TcpStream, ServeFault>
     ensures { IfErr result (λ fault. fault ≡ ServeFault.Socket) }
 {
     for _ in 0..ACCEPT_TRIES {
@@ -161,6 +164,28 @@ pub fn serve_on<W: Write>(
     Ok(())
 }
 
+/// Listens on `port` of 127.0.0.1, and prints `listening PORT`.
+///
+/// `Socket` where the port cannot be listened on: nothing was printed. `Write` where the line could not be written.
+pub(crate) fn listen<N: Net<Listener = TcpListener, Stream = TcpStream>, W: Write>(
+    net: &N,
+    port: u16,
+    output: &mut W,
+) -> Result<TcpListener, ServeFault>
+    ensures ok { OnOk result (Gains (W.contents output.old) (W.contents output.new) (listening_line port)) }
+    ensures err { IfErr result (λ fault. (fault ≡ ServeFault.Write)
+        ⊎ ((fault ≡ ServeFault.Socket) × (W.contents output.new ≡ W.contents output.old))) }
+{
+    let address = SocketAddr::new(IpAddr::V4(Ipv4Addr::LOCALHOST), port);
+    let Ok(listener) = TcpListener::bind(net, address) else {
+        return Err(ServeFault::Socket);
+    };
+    match print(output, ListeningLine(port)) {
+        Ok(()) => Ok(listener),
+        Err(fault) => Err(fault),
+    }
+}
+
 /// Listens on `port` of 127.0.0.1, prints `listening PORT`, and serves `count` connections as `serve_on` does.
 ///
 /// # Errors
@@ -178,13 +203,9 @@ pub fn listen_and_serve<N: Net<Listener = TcpListener, Stream = TcpStream>, W: W
 ) -> Result<(), ServeFault>
     ensures { ListensAs (is_allowed config) port count (W.contents output.old) (W.contents output.new) result }
 {
-    let address = SocketAddr::new(IpAddr::V4(Ipv4Addr::LOCALHOST), port);
-    let Ok(listener) = TcpListener::bind(net, address) else {
-        return Err(ServeFault::Socket);
-    };
-    match print(output, ListeningLine(port)) {
-        Ok(()) => {}
+    let listener = match listen(net, port, output) {
+        Ok(listener) => listener,
         Err(fault) => return Err(fault),
-    }
+    };
     serve_on(alloc, &listener, book, config, count, output)
 }

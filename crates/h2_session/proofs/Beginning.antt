@@ -14,8 +14,8 @@ use Rattle.h2_session.specs.Session.{IsAnswered, IsFollowed, IsGiven, IsLoaded, 
 use Rattle.h2_session.specs.Takes.{TakesFirst}
 use Rattle.h2_session.specs.declared.fault.SessionFault.{SessionFault}
 use Rattle.h2_session.specs.declared.fault.SessionFault.TheVariants.{NoMemory}
-use Rattle.h2_session.specs.declared.line.End.{End}
-use Rattle.h2_session.specs.declared.line.End.TheVariants.{Input, LineFeed}
+use Rattle.h2_session.specs.declared.line.LineEnd.{LineEnd}
+use Rattle.h2_session.specs.declared.line.LineEnd.TheVariants.{Input, LineFeed}
 use Rattle.h2_session.proofs.Giving.{cut-given, end-given, known, last-given, line-given}
 
 spelled-digits : (line digits : List ℕ) → digits ≡ filter is_digit line → body_of digits ≡ octets_spelled line
@@ -63,7 +63,7 @@ not-loaded book config spelled fault lines whole why = go spelled (is_allowed co
     go (Some octets) true is none = inl none
     go (Some octets) false is bad = inr (rw (bad, is) refl)
 
-pub session-unloaded : (book : List Entry) (config : Config) (octets digits : List ℕ) (end : End) (first last : ℕ) (before after rest : Option (List ℕ)) (fault : SessionFault)
+pub session-unloaded : (book : List Entry) (config : Config) (octets digits : List ℕ) (end : LineEnd) (first last : ℕ) (before after rest : Option (List ℕ)) (fault : SessionFault)
     → before ≡ Some octets → first ≡ 0 → last ≤ most → TakesFirst before after first last digits end → fault ≡ load_fault (body_of digits) (is_allowed config)
     → IsSession book config octets false rest (failed (fault_number fault))
 session-unloaded book config octets digits Input first last before after rest fault e zero le takes not =
@@ -99,7 +99,7 @@ session-followed book config octets digits more input_failed first last before a
     (answered-loads book config (body_of digits) d lines whole t loads answered)
 
 -- the session after its first line
-pub session-responded : (book : List Entry) (config : Config) (octets held digits : List ℕ) (loaded : Result Debugging SessionFault) (end : End) (first last : ℕ) (before middle rest : Option (List ℕ)) (input_failed : Bool)
+pub session-responded : (book : List Entry) (config : Config) (octets held digits : List ℕ) (loaded : Result Debugging SessionFault) (end : LineEnd) (first last : ℕ) (before middle rest : Option (List ℕ)) (input_failed : Bool)
     (written : Option (List ℕ)) (status : ℕ) → before ≡ Some octets → first ≡ 0 → last ≤ most → TakesFirst before middle first last digits end
     → IfOk loaded (Loads book config (body_of digits)) → IfErr loaded (λ fault. fault ≡ load_fault (body_of digits) (is_allowed config))
     → IfOk loaded (λ d. IsResponse d end (most - last) middle input_failed rest false (Some held) written status)

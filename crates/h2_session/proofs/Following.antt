@@ -7,8 +7,8 @@ use Rattle.h2_session.specs.Reading.{IsCut, TakesLast, TakesLine, most}
 use Rattle.h2_session.specs.Replies.{Obeys}
 use Rattle.h2_session.specs.Session.{IsAnswered, IsFollowed, Printed, closed}
 use Rattle.h2_session.specs.Takes.{TakesNext}
-use Rattle.h2_session.specs.declared.line.End.{End}
-use Rattle.h2_session.specs.declared.line.End.TheVariants.{Input, LineFeed}
+use Rattle.h2_session.specs.declared.line.LineEnd.{LineEnd}
+use Rattle.h2_session.specs.declared.line.LineEnd.TheVariants.{Input, LineFeed}
 use Rattle.h2_session.proofs.Giving.{cut-given, end-given, last-given, line-given}
 
 -- a text, and after it what is reported
@@ -65,7 +65,7 @@ pub follows-cut : (d : Debugging) (first : ℕ) (more : List ℕ) (failed : Bool
 follows-cut d first more failed before after k cut = ([], false, cut-given before after first more failed k cut, ([], refl, refl))
 
 -- a line that does not end with the input ends by a line feed
-pub line-feed : (before after : Option (List ℕ)) (first last : ℕ) (octets : List ℕ) (end : End) → (end ≡ Input → ⊥) → TakesNext before after first last octets (Some end)
+pub line-feed : (before after : Option (List ℕ)) (first last : ℕ) (octets : List ℕ) (end : LineEnd) → (end ≡ Input → ⊥) → TakesNext before after first last octets (Some end)
     → TakesNext before after first last octets (Some LineFeed)
 line-feed before after first last octets LineFeed other takes = takes
 line-feed before after first last octets Input other takes = absurd (other refl)

@@ -4,12 +4,12 @@ use Rattle.h2_debug.specs.Debugging.{Debugging}
 use Rattle.h2_session.specs.Faults.{fault_number}
 use Rattle.h2_session.specs.Session.{IsFollowed, Printed, Prints, closed, failed}
 use Rattle.h2_session.specs.declared.fault.SessionFault.{SessionFault}
-use Rattle.h2_session.specs.declared.line.End.{End}
-use Rattle.h2_session.specs.declared.line.End.TheVariants.{Input, LineFeed}
+use Rattle.h2_session.specs.declared.line.LineEnd.{LineEnd}
+use Rattle.h2_session.specs.declared.line.LineEnd.TheVariants.{Input, LineFeed}
 
 -- nothing more after a line that ends with the input, else the answers to the lines that are ahead, at most that many
 -- octets
-abbrev pub IsResponse : Debugging → End → ℕ → Option (List ℕ) → Bool → Option (List ℕ) → Bool → Option (List ℕ) → Option (List ℕ) → ℕ → Type 0
+abbrev pub IsResponse : Debugging → LineEnd → ℕ → Option (List ℕ) → Bool → Option (List ℕ) → Bool → Option (List ℕ) → Option (List ℕ) → ℕ → Type 0
 IsResponse d Input limit octets input_failed rest output_failed before after status = output_failed ≡ false → (held : List ℕ) → before ≡ Some held → Prints (closed true []) held after status
 IsResponse d LineFeed limit ahead input_failed rest output_failed before after status = output_failed ≡ false → (octets held : List ℕ) → ahead ≡ Some octets → before ≡ Some held
     → (t : Printed) × IsFollowed d limit octets input_failed rest t × Prints t held after status

@@ -5,16 +5,16 @@ use Rattle.h2_session.specs.Lines.{is_digit}
 use Rattle.h2_session.specs.Reading.{TakesLast, TakesLine}
 use Rattle.h2_session.specs.declared.fault.SessionFault.{SessionFault}
 use Rattle.h2_session.specs.declared.fault.SessionFault.TheVariants.{BadHex, NoMemory, Read}
-use Rattle.h2_session.specs.declared.line.End.{End}
-use Rattle.h2_session.specs.declared.line.End.TheVariants.{Input, LineFeed}
+use Rattle.h2_session.specs.declared.line.LineEnd.{LineEnd}
+use Rattle.h2_session.specs.declared.line.LineEnd.TheVariants.{Input, LineFeed}
 
 -- the digits of a line that ends so
-abbrev pub TakesFirst : Option (List ℕ) → Option (List ℕ) → ℕ → ℕ → List ℕ → End → Type 0
+abbrev pub TakesFirst : Option (List ℕ) → Option (List ℕ) → ℕ → ℕ → List ℕ → LineEnd → Type 0
 TakesFirst before after first last digits LineFeed = (line : List ℕ) × TakesLine before after first last line × (digits ≡ filter is_digit line)
 TakesFirst before after first last digits Input = (line : List ℕ) × TakesLast before after first last line × (digits ≡ filter is_digit line)
 
 -- the first octets of a line that ends so; none where the input ended before
-abbrev pub TakesNext : Option (List ℕ) → Option (List ℕ) → ℕ → ℕ → List ℕ → Option End → Type 0
+abbrev pub TakesNext : Option (List ℕ) → Option (List ℕ) → ℕ → ℕ → List ℕ → Option LineEnd → Type 0
 TakesNext before after first last octets None = TakesLast before after first last []
 TakesNext before after first last octets (Some LineFeed) = (line : List ℕ) × TakesLine before after first last line × (octets ≡ take longest line)
 TakesNext before after first last octets (Some Input) = (line : List ℕ) × TakesLast before after first last line × (octets ≡ take longest line) × (0 < length line)

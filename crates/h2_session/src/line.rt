@@ -6,7 +6,7 @@ ghost use Rattle.h2_session.specs.Commands.{longest};
 ghost use Rattle.h2_spec.specs.AnswerWords.{body_of};
 ghost use Rattle.h2_session.specs.Lines.{is_digit};
 ghost use Rattle.h2_session.specs.Reading.{IsCut, ahead, most};
-ghost use Rattle.h2_session.specs.declared.line.End.TheVariants.{Input};
+ghost use Rattle.h2_session.specs.declared.line.LineEnd.TheVariants.{Input};
 ghost use Rattle.h2_session.specs.Takes.{IsNoHex, IsRefused, TakesFirst, TakesNext};
 
 use crate::fault::SessionFault;
@@ -20,11 +20,11 @@ use std::alloc::{AllocError, Global};
 pub const LONGEST: usize = 24;
 
 /// The first octets of a line, more than any command has.
-pub type Line = ArrayVec<u8, LONGEST>;
+pub type LineStart = ArrayVec<u8, LONGEST>;
 
 /// How a line ends.
 #[derive(Clone, Copy)]
-pub enum End {
+pub enum LineEnd {
     /// By a line feed.
     LineFeed,
     /// With the input.
@@ -57,7 +57,7 @@ pub fn take_digits<I: Input>(
     reader: &mut Reader,
     input: &mut I,
     digits: &mut Vec<u8>,
-) -> Result<End, SessionFault>
+) -> Result<LineEnd, SessionFault>
     requires well { I.has_failed input.old ≡ false }
     requires empty { digits.old.items ≡ [] }
     ensures ok { IfOk result (λ end. TakesFirst (ahead reader.old (I.remaining input.old)) (ahead reader.new (I.remaining input.new)) reader.old.passed reader.new.passed digits.new.items end) }
@@ -71,10 +71,10 @@ pub fn take_digits<I: Input>(
             return Err(SessionFault::Read);
         };
         let Some(octet) = next else {
-            return Ok(End::Input);
+            return Ok(LineEnd::Input);
         };
         if octet == b'\n' {
-            return Ok(End::LineFeed);
+            return Ok(LineEnd::LineFeed);
         }
         let Ok(()) = keep_digit(digits, octet) else {
             return Err(SessionFault::NoMemory);
@@ -96,7 +96,7 @@ pub fn spelled(alloc: Global, digits: &[u8]) -> Result<Vec<u8>, SessionFault>
 
 /// Puts an octet after the others, where there is space.
 #[tactic(auto, using(crate::proofs::Taking::takes_short))]
-fn keep(line: &mut Line, octet: u8)
+fn keep(line: &mut LineStart, octet: u8)
     ensures { line.new.items ≡ take longest (line.old.items ++ octet ∷ []) }
 {
     if !line.is_full() {
@@ -105,14 +105,14 @@ fn keep(line: &mut Line, octet: u8)
 }
 
 /// How a line ends that the end of the input follows; `None` where there is no octet of it.
-fn last_end(line: &Line) -> Option<End>
+fn last_end(line: &LineStart) -> Option<LineEnd>
     ensures none { result ≡ None → line.now.items ≡ [] }
     ensures some { IfSome result (λ end. (end ≡ Input) × (0 < length line.now.items)) }
 {
     if line.is_empty() {
         return None;
     }
-    Some(End::Input)
+    Some(LineEnd::Input)
 }
 
 /// Takes the next line, as far as a command goes, and says how it ends; `None` at the end of the input. Takes no
@@ -122,8 +122,8 @@ fn last_end(line: &Line) -> Option<End>
 pub fn next_line<I: Input>(
     reader: &mut Reader,
     input: &mut I,
-    line: &mut Line,
-) -> Result<Option<End>, Unread>
+    line: &mut LineStart,
+) -> Result<Option<LineEnd>, Unread>
     requires well { I.has_failed input.old ≡ false }
     requires empty { line.old.items ≡ [] }
     ensures ok { IfOk result (λ end. TakesNext (ahead reader.old (I.remaining input.old)) (ahead reader.new (I.remaining input.new)) reader.old.passed reader.new.passed line.new.items end) }
@@ -137,7 +137,7 @@ pub fn next_line<I: Input>(
             return Ok(last_end(line));
         };
         if octet == b'\n' {
-            return Ok(Some(End::LineFeed));
+            return Ok(Some(LineEnd::LineFeed));
         }
         keep(line, octet);
     }

@@ -10,12 +10,12 @@ ghost use Rattle.h2_session.specs.Reading.{ahead, most};
 ghost use Rattle.h2_session.specs.Replies.{Obeys, reply_text};
 ghost use Rattle.h2_session.specs.Session.{AnswersLine, IsFollowed, IsSession, Prints, Printed, failed};
 ghost use Rattle.h2_session.specs.Responses.{IsRefusal, IsResponse};
-ghost use Rattle.h2_session.specs.declared.line.End.TheVariants.{Input as LastLine};
+ghost use Rattle.h2_session.specs.declared.line.LineEnd.TheVariants.{Input as LastLine};
 ghost use Rattle.h2_session.specs.Loading.{Loads, load_fault};
 
 use crate::command::command_of;
 use crate::fault::SessionFault;
-use crate::line::{End, Line, next_line, spelled, take_digits};
+use crate::line::{LineEnd, LineStart, next_line, spelled, take_digits};
 use crate::obey::obey;
 use crate::reader::Reader;
 use crate::reply::{FaultLine, Reply, ReplyText, write_flushed};
@@ -77,7 +77,7 @@ fn follow<I: Input, O: Output>(
     ensures name { O.name output.new ≡ O.name output.old }
 {
     loop {
-        let mut line = Line::new();
+        let mut line = LineStart::new();
         let end = match next_line(reader, input, &mut line) {
             Ok(Some(end)) => end,
             Ok(None) => return 0,
@@ -86,7 +86,7 @@ fn follow<I: Input, O: Output>(
         let Ok(()) = answer(debugger, line.as_slice(), output) else {
             return 3;
         };
-        if let End::Input = end {
+        if let LineEnd::Input = end {
             return 0;
         }
     }
@@ -95,7 +95,7 @@ fn follow<I: Input, O: Output>(
 /// Responds to the lines after a first line that ends so, and gives the exit status.
 fn follow_behind<I: Input, O: Output>(
     debugger: &mut Debugger<'_, Global>,
-    end: End,
+    end: LineEnd,
     reader: &mut Reader,
     input: &mut I,
     output: &mut O,
@@ -110,15 +110,15 @@ fn follow_behind<I: Input, O: Output>(
     ensures name { O.name output.new ≡ O.name output.old }
 {
     match end {
-        End::Input => 0,
-        End::LineFeed => follow(debugger, reader, input, output),
+        LineEnd::Input => 0,
+        LineEnd::LineFeed => follow(debugger, reader, input, output),
     }
 }
 
 /// The same of a debugger that may not have been loaded, whose fault is then written.
 fn respond<I: Input, O: Output>(
     loaded: &mut Result<Debugger<'_, Global>, SessionFault>,
-    end: End,
+    end: LineEnd,
     reader: &mut Reader,
     input: &mut I,
     output: &mut O,

@@ -13,8 +13,8 @@ use Rattle.h2_spec.specs.declared.reactions.StreamFrame.TheVariants.{NoStreamFra
 use Rattle.h2_spec.specs.declared.reactions.RecordUpdate.{RecordUpdate}
 use Rattle.h2_spec.specs.declared.reactions.RecordUpdate.TheVariants.{Unchanged, Put, Shift, Receive}
 use Rattle.h2_spec.specs.declared.reactions.StreamOutcome.{StreamOutcome}
-use Rattle.h2_spec.specs.declared.streams.Kind.{Kind}
-use Rattle.h2_spec.specs.declared.streams.Kind.TheVariants.{Idle, Skipped, BothOpen, HalfRemote, HalfLocal, Ended, PeerReset, WeReset}
+use Rattle.h2_spec.specs.declared.streams.StreamState.{StreamState}
+use Rattle.h2_spec.specs.declared.streams.StreamState.TheVariants.{Idle, Skipped, BothOpen, HalfRemote, HalfLocal, Ended, PeerReset, WeReset}
 use Rattle.h2_spec.specs.declared.streams.Stream.{Stream}
 use Rattle.h2_spec.specs.Octets.{big_endian}
 use Rattle.h2_spec.specs.FrameType.{HEADERS, RST_STREAM, SETTINGS, PING, GOAWAY, WINDOW_UPDATE, END_STREAM, END_HEADERS, ACK}
@@ -45,7 +45,7 @@ unless_broken None size_update_pending id turn = turn
 
 -- nothing but the counts changes, and nothing is sent
 abbrev pub only_counts : ConnectionState → Change
-only_counts core = record { core = core; record_update = Unchanged; first = NoConnectionFrame; second = NoStreamFrame; answer = None }
+only_counts core = record { core = core; record_update = Unchanged; connection_frame = NoConnectionFrame; stream_frame = NoStreamFrame; answer = None }
 
 -- whether the next response begins with a table size update (RFC 7541, 4.2)
 abbrev pub with_size_update_pending : ConnectionState → Bool → ConnectionState
@@ -53,10 +53,10 @@ with_size_update_pending core size_update_pending = record core { peer = record 
 
 -- a change, and then what a rule does to one stream
 unfoldable pub with_outcome : Change → StreamOutcome → Change
-with_outcome c t = record { core = with_size_update_pending c.core t.size_update_pending; record_update = Put t.stream; first = c.first; second = t.frame; answer = t.answer }
+with_outcome c t = record { core = with_size_update_pending c.core t.size_update_pending; record_update = Put t.stream; connection_frame = c.connection_frame; stream_frame = t.frame; answer = t.answer }
 
 -- streams whose send windows settings move (6.9.2)
-abbrev pub follows_initial_window : Kind → Bool
+abbrev pub follows_initial_window : StreamState → Bool
 follows_initial_window Idle = false
 follows_initial_window Skipped = false
 follows_initial_window BothOpen = true
@@ -139,17 +139,17 @@ abbrev pub response : Bool → ℕ → Answer → Frame
 response size_update_pending id a = record { kind = HEADERS; flags = END_HEADERS + flag_if (length a.body == 0) END_STREAM; stream = id; payload = response_block size_update_pending a.status a.fields }
 
 -- what is sent on the connection
-abbrev pub first_frames : ConnectionFrame → List Frame
-first_frames NoConnectionFrame = []
-first_frames SettingsAck = record { kind = SETTINGS; flags = ACK; stream = 0; payload = [] } ∷ []
-first_frames (PingAck octets) = record { kind = PING; flags = ACK; stream = 0; payload = octets } ∷ []
-first_frames (Credit n) = window_update 0 n ∷ []
+abbrev pub connection_frames : ConnectionFrame → List Frame
+connection_frames NoConnectionFrame = []
+connection_frames SettingsAck = record { kind = SETTINGS; flags = ACK; stream = 0; payload = [] } ∷ []
+connection_frames (PingAck octets) = record { kind = PING; flags = ACK; stream = 0; payload = octets } ∷ []
+connection_frames (Credit n) = window_update 0 n ∷ []
 
 -- what is sent on a stream
-abbrev pub second_frames : StreamFrame → List Frame
-second_frames NoStreamFrame = []
-second_frames (Reset id cause) = rst_stream id (code_of cause) ∷ []
-second_frames (StreamCredit id n) = window_update id n ∷ []
+abbrev pub stream_frames : StreamFrame → List Frame
+stream_frames NoStreamFrame = []
+stream_frames (Reset id cause) = rst_stream id (code_of cause) ∷ []
+stream_frames (StreamCredit id n) = window_update id n ∷ []
 
 -- HEADERS of an answer that begins
 abbrev pub answer_frames : List Entry → Option Answering → List Frame
@@ -158,7 +158,7 @@ answer_frames book (Some a) = response a.size_update_pending a.id (picked book a
 
 -- what is sent for an item, in the order of its parts
 unfoldable pub frames_of : List Entry → Change → List Frame
-frames_of book c = first_frames c.first ++ second_frames c.second ++ answer_frames book c.answer
+frames_of book c = connection_frames c.connection_frame ++ stream_frames c.stream_frame ++ answer_frames book c.answer
 
 -- a state and the frames sent on the way to it
 pub record Step : Type 0 where

@@ -20,7 +20,7 @@ use Rattle.h2_spec.specs.StreamEnds.{peer_ended}
 
 -- what is owed on the connection is given back, or stays owed
 abbrev pub owed_as : Option ℕ → ConnectionState → ℕ → Change
-owed_as (Some n) core owed = record (only_counts (record core { recv = core.recv +ℤ pos n; owed = 0 })) { first = Credit n }
+owed_as (Some n) core owed = record (only_counts (record core { recv = core.recv +ℤ pos n; owed = 0 })) { connection_frame = Credit n }
 owed_as None core owed = only_counts (record core { owed = owed })
 
 -- octets are owed to the peer on the connection, and given back once they reach the threshold

@@ -14,7 +14,7 @@ use Rattle.h2_spec.specs.declared.reactions.Reaction.TheVariants.{ConnectionErro
 use Rattle.h2_spec.specs.declared.reactions.StreamFrame.{StreamFrame}
 use Rattle.h2_spec.specs.declared.reactions.StreamFrame.TheVariants.{NoStreamFrame, Reset, StreamCredit}
 use Rattle.h2_spec.specs.declared.reactions.StreamOutcome.{StreamOutcome}
-use Rattle.h2_spec.specs.declared.streams.Kind.TheVariants.{PeerReset}
+use Rattle.h2_spec.specs.declared.streams.StreamState.TheVariants.{PeerReset}
 use Rattle.h2_spec.specs.declared.streams.Stream.{Stream}
 use Rattle.h2_spec.specs.FrameType.{ACK, END_STREAM, END_HEADERS, has}
 use Rattle.h2_spec.specs.Frame.{Item, Preface, BadPreface, WholeFrame, Oversize}
@@ -98,7 +98,7 @@ frame_effect s h p (OfRstStream code) = makes s (on_reset s.core (stream_at s.co
 frame_effect s h p (OfSettings pairs) = makes s (settings_rule s.streams s.core pairs)
 frame_effect s h p OfSettingsAck = makes s (acknowledged s.config s.core)
 frame_effect s h p OfPushPromise = Breaks cause.PushPromiseFromClient
-frame_effect s h p (OfPing octets) = makes s (if has h.flags ACK then nothing s.core else Continues (record (only_counts s.core) { first = PingAck octets }))
+frame_effect s h p (OfPing octets) = makes s (if has h.flags ACK then nothing s.core else Continues (record (only_counts s.core) { connection_frame = PingAck octets }))
 frame_effect s h p (OfGoaway last code) = makes s (Continues (only_counts (record s.core { goaway = Some (last, code) })))
 frame_effect s h p (OfWindowUpdate increment) = makes s (if h.stream == 0 then connection_window s.core increment else on_window s.core increment (stream_at s.core.last s.streams h.stream))
 frame_effect s h p (OfContinuation fragment) = continuation s s.block fragment (has h.flags END_HEADERS)
@@ -149,7 +149,7 @@ stream_cause (StreamCredit id n) = None
 -- the cause of the error that a frame results in
 abbrev pub effect_cause : FrameEffect → Option Cause
 effect_cause (Breaks cause) = Some cause
-effect_cause (Makes t c) = stream_cause c.second
+effect_cause (Makes t c) = stream_cause c.stream_frame
 
 -- why an item results in a connection error or a stream error, if it does (5.4)
 unfoldable pub cause_of : State → Item → Option Cause

@@ -13,7 +13,7 @@ use Rattle.h2_spec.specs.declared.reactions.BlockSummary.{BlockSummary}
 use Rattle.h2_spec.specs.declared.reactions.Reaction.{Reaction}
 use Rattle.h2_spec.specs.declared.reactions.Reaction.TheVariants.{ConnectionError, Continues}
 use Rattle.h2_spec.specs.declared.reactions.StreamOutcome.{StreamOutcome}
-use Rattle.h2_spec.specs.declared.streams.Kind.TheVariants.{BothOpen}
+use Rattle.h2_spec.specs.declared.streams.StreamState.TheVariants.{BothOpen}
 use Rattle.h2_spec.specs.declared.streams.Stream.{Stream}
 use Rattle.h2_spec.specs.Cause.{first_of}
 use Rattle.h2_spec.specs.FrameType.{END_STREAM, END_HEADERS, has}

@@ -8,8 +8,8 @@ use Rattle.h2_spec.specs.declared.frames.FrameType.TheVariants as types
 use Rattle.h2_spec.specs.declared.frames.Head.{Head}
 use Rattle.h2_spec.specs.declared.ignored.Ignored.{Ignored}
 use Rattle.h2_spec.specs.declared.ignored.Ignored.TheVariants.{Priority, UnknownType, SecondAcknowledgement, PingAcknowledgement, RstStreamOnSkipped, RstStreamOnClosed, RstStreamOnPeerReset, RstStreamOnReset, WindowUpdateOnSkipped, WindowUpdateOnClosed, WindowUpdateOnPeerReset, WindowUpdateOnReset, WindowUpdateByZero, DataOnReset, TableOnlyBlock}
-use Rattle.h2_spec.specs.declared.streams.Kind.{Kind}
-use Rattle.h2_spec.specs.declared.streams.Kind.TheVariants.{Idle, Skipped, BothOpen, HalfRemote, HalfLocal, Ended, PeerReset, WeReset}
+use Rattle.h2_spec.specs.declared.streams.StreamState.{StreamState}
+use Rattle.h2_spec.specs.declared.streams.StreamState.TheVariants.{Idle, Skipped, BothOpen, HalfRemote, HalfLocal, Ended, PeerReset, WeReset}
 use Rattle.h2_spec.specs.FrameType.{ACK, frame_type, has}
 use Rattle.h2_spec.specs.Frame.{Item, Preface, BadPreface, WholeFrame, Oversize}
 use Rattle.h2_spec.specs.Payload.{window_part}
@@ -20,7 +20,7 @@ use Rattle.h2_spec.specs.Effect.{cause_of}
 -- ---- by the type of a frame
 
 -- RST_STREAM, by the stream's state (5.1)
-abbrev pub reset_ignored : Kind → Option Ignored
+abbrev pub reset_ignored : StreamState → Option Ignored
 reset_ignored Idle = None
 reset_ignored Skipped = Some RstStreamOnSkipped
 reset_ignored BothOpen = None
@@ -31,7 +31,7 @@ reset_ignored PeerReset = Some RstStreamOnPeerReset
 reset_ignored WeReset = Some RstStreamOnReset
 
 -- WINDOW_UPDATE by 1 or more, by the stream's state (5.1 and 6.9)
-abbrev pub increment_ignored : Kind → Option Ignored
+abbrev pub increment_ignored : StreamState → Option Ignored
 increment_ignored Idle = None
 increment_ignored Skipped = Some WindowUpdateOnSkipped
 increment_ignored BothOpen = None
@@ -48,7 +48,7 @@ zero_or (Some reason) true = Some WindowUpdateByZero
 zero_or (Some reason) false = Some reason
 
 -- WINDOW_UPDATE, by whether the increment is 0 and by the stream's state (5.1 and 6.9)
-abbrev pub window_ignored : Bool → Kind → Option Ignored
+abbrev pub window_ignored : Bool → StreamState → Option Ignored
 window_ignored zero kind = zero_or (increment_ignored kind) zero
 
 -- whether an increment that is read is 0
@@ -57,7 +57,7 @@ is_zero (Ok increment) = increment == 0
 is_zero (Err cause) = false
 
 -- this reason, on a stream that the server has reset
-abbrev pub where_reset : Ignored → Kind → Option Ignored
+abbrev pub where_reset : Ignored → StreamState → Option Ignored
 where_reset reason Idle = None
 where_reset reason Skipped = None
 where_reset reason BothOpen = None
@@ -90,7 +90,7 @@ block_ignored None = None
 block_ignored (Some b) = decoding_ignored b.decoding
 
 -- the state of the stream that a frame is on
-abbrev pub kind_at : State → Head → Kind
+abbrev pub kind_at : State → Head → StreamState
 kind_at s h = (stream_at s.core.last s.streams h.stream).kind
 
 -- SETTINGS, by whether it is an acknowledgement and whether one has arrived before (6.5.3)

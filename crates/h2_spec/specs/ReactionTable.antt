@@ -4,8 +4,8 @@ use Rattle.h2_spec.specs.declared.causes.Cause.{Cause}
 use Rattle.h2_spec.specs.declared.causes.Cause.TheVariants.{DataOnIdle, DataOnSkipped, DataAfterEndStream, DataOnClosed, HeadersOnEven, HeadersOnSkipped, HeadersOnClosed, RstStreamOnIdle, WindowUpdateOnIdle}
 use Rattle.h2_spec.specs.declared.connection.Purpose.{Purpose}
 use Rattle.h2_spec.specs.declared.connection.Purpose.TheVariants.{Request, Trailers, Closed, TableOnly}
-use Rattle.h2_spec.specs.declared.streams.Kind.{Kind}
-use Rattle.h2_spec.specs.declared.streams.Kind.TheVariants.{Idle, Skipped, BothOpen, HalfRemote, HalfLocal, Ended, PeerReset, WeReset}
+use Rattle.h2_spec.specs.declared.streams.StreamState.{StreamState}
+use Rattle.h2_spec.specs.declared.streams.StreamState.TheVariants.{Idle, Skipped, BothOpen, HalfRemote, HalfLocal, Ended, PeerReset, WeReset}
 
 -- what the table says: a connection error, nothing, or a rule of the frame's type
 pub data Cell (R : Type 0) : Type 0 where
@@ -28,7 +28,7 @@ pub data WindowRule : Type 0 where
   MoveWindow : WindowRule
 
 -- DATA (6.1)
-abbrev pub data_cell : Kind → Cell DataRule
+abbrev pub data_cell : StreamState → Cell DataRule
 data_cell Idle = Error DataOnIdle
 data_cell Skipped = Error DataOnSkipped
 data_cell BothOpen = Rule Take
@@ -39,7 +39,7 @@ data_cell PeerReset = Error DataOnClosed
 data_cell WeReset = Rule Count
 
 -- HEADERS open a block for this (6.2); a client begins streams with odd identifiers (5.1.1)
-abbrev pub headers_cell : ℕ → Kind → Cell Purpose
+abbrev pub headers_cell : ℕ → StreamState → Cell Purpose
 headers_cell id Idle = if id % 2 == 1 then Rule Request else Error HeadersOnEven
 headers_cell id Skipped = Error HeadersOnSkipped
 headers_cell id BothOpen = Rule Trailers
@@ -50,7 +50,7 @@ headers_cell id PeerReset = Error HeadersOnClosed
 headers_cell id WeReset = Rule TableOnly
 
 -- RST_STREAM (6.4)
-abbrev pub reset_cell : Kind → Cell ResetRule
+abbrev pub reset_cell : StreamState → Cell ResetRule
 reset_cell Idle = Error RstStreamOnIdle
 reset_cell Skipped = Nothing
 reset_cell BothOpen = Rule PeerResets
@@ -61,7 +61,7 @@ reset_cell PeerReset = Nothing
 reset_cell WeReset = Nothing
 
 -- WINDOW_UPDATE (6.9)
-abbrev pub window_cell : Kind → Cell WindowRule
+abbrev pub window_cell : StreamState → Cell WindowRule
 window_cell Idle = Error WindowUpdateOnIdle
 window_cell Skipped = Nothing
 window_cell BothOpen = Rule MoveWindow

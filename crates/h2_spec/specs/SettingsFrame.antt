@@ -32,7 +32,7 @@ settings_applied streams from now (p ∷ ps) = setting_next streams from (with_s
 -- the settings are taken and acknowledged, or refused
 abbrev pub settings_taken : ConnectionState → Result Settings Cause → Reaction
 settings_taken core (Err cause) = ConnectionError cause
-settings_taken core (Ok peer) = Continues (record (only_counts (record core { peer = peer; phase = Running })) { record_update = Shift core.peer.window peer.window; first = SettingsAck })
+settings_taken core (Ok peer) = Continues (record (only_counts (record core { peer = peer; phase = Running })) { record_update = Shift core.peer.window peer.window; connection_frame = SettingsAck })
 
 -- SETTINGS: all of the frame, or none of it
 unfoldable pub settings_rule : List Stream → ConnectionState → List (ℕ × ℕ) → Reaction

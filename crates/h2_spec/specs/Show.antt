@@ -8,8 +8,8 @@ use Rattle.h2_spec.specs.declared.connection.Phase.{Phase}
 use Rattle.h2_spec.specs.declared.connection.Phase.TheVariants as phase
 use Rattle.h2_spec.specs.declared.flow.LocalSettings.{LocalSettings}
 use Rattle.h2_spec.specs.declared.flow.Settings.{Settings}
-use Rattle.h2_spec.specs.declared.streams.Kind.{Kind}
-use Rattle.h2_spec.specs.declared.streams.Kind.TheVariants.{Idle, Skipped, BothOpen, HalfRemote, HalfLocal, Ended, PeerReset, WeReset}
+use Rattle.h2_spec.specs.declared.streams.StreamState.{StreamState}
+use Rattle.h2_spec.specs.declared.streams.StreamState.TheVariants.{Idle, Skipped, BothOpen, HalfRemote, HalfLocal, Ended, PeerReset, WeReset}
 use Rattle.h2_spec.specs.declared.streams.StreamView.{StreamView}
 use Rattle.h2_spec.specs.Errors.{code_number}
 use Rattle.h2_spec.specs.Field.{Field}
@@ -45,7 +45,7 @@ phase_text phase.Running = codes "running"
 phase_text (phase.Ended code) = codes "ended " ++ decimal (code_number code)
 
 -- a state of a stream that has a record
-unfoldable pub kind_text : Kind → List ℕ
+unfoldable pub kind_text : StreamState → List ℕ
 kind_text Idle = codes "idle"
 kind_text Skipped = codes "skipped"
 kind_text BothOpen = codes "open"

@@ -1,15 +1,15 @@
 -- Streams: their records and states (RFC 9113, 5.1).
 use Rattle.std.specs.Prelude.{◌≡◌, ℕ, ◌<◌, ◌≤◌, ◌%◌, Bool, true, false, ◌&&◌, List, [], ◌∷◌, ◌++◌, find, count_by, nat_lt, ◌==◌, if◌then◌else◌, Option, Some, None, max, pos}
 use Rattle.std.specs.Option.{option_map}
-use Rattle.h2_spec.specs.declared.streams.Kind.{Kind}
-use Rattle.h2_spec.specs.declared.streams.Kind.TheVariants.{Idle, Skipped, BothOpen, HalfRemote, HalfLocal, Ended, PeerReset, WeReset}
+use Rattle.h2_spec.specs.declared.streams.StreamState.{StreamState}
+use Rattle.h2_spec.specs.declared.streams.StreamState.TheVariants.{Idle, Skipped, BothOpen, HalfRemote, HalfLocal, Ended, PeerReset, WeReset}
 use Rattle.h2_spec.specs.declared.streams.Numbers.{Numbers}
 use Rattle.h2_spec.specs.declared.streams.Pick.{Pick}
 use Rattle.h2_spec.specs.declared.streams.Pick.TheVariants.{NotFound}
 use Rattle.h2_spec.specs.declared.streams.Stream.{Stream}
 
 -- whether one side or both are open
-abbrev pub is_live : Kind → Bool
+abbrev pub is_live : StreamState → Bool
 is_live Idle = false
 is_live Skipped = false
 is_live BothOpen = true
@@ -24,7 +24,7 @@ abbrev pub no_numbers : Numbers
 no_numbers = record { recv = pos 0; owed = 0; send = pos 0; content_received = 0; declared = None; body_remaining = None }
 
 -- a stream that is not live: its identifier and its state alone
-abbrev pub not_live : ℕ → Kind → Stream
+abbrev pub not_live : ℕ → StreamState → Stream
 not_live id kind = record { id = id; kind = kind; numbers = no_numbers; pick = NotFound }
 
 -- whether the record has this identifier
@@ -48,7 +48,7 @@ stream_at last streams id =
     else recorded id (record_of streams id)
 
 -- the state of a stream
-abbrev pub kind_of : ℕ → List Stream → ℕ → Kind
+abbrev pub kind_of : ℕ → List Stream → ℕ → StreamState
 kind_of last streams id = (stream_at last streams id).kind
 
 -- how many streams are live
@@ -87,7 +87,7 @@ AreRising low last [] = Unit {0}
 AreRising low last (st ∷ sts) = (low < st.id) × (st.id % 2 ≡ 1) × (st.id ≤ last) × AreRising st.id last sts
 
 -- whether the peer may still send on the stream
-abbrev pub is_peer_open : Kind → Bool
+abbrev pub is_peer_open : StreamState → Bool
 is_peer_open Idle = false
 is_peer_open Skipped = false
 is_peer_open BothOpen = true
@@ -98,7 +98,7 @@ is_peer_open PeerReset = false
 is_peer_open WeReset = false
 
 -- whether the server may still send on the stream
-abbrev pub is_server_open : Kind → Bool
+abbrev pub is_server_open : StreamState → Bool
 is_server_open Idle = false
 is_server_open Skipped = false
 is_server_open BothOpen = true
@@ -118,7 +118,7 @@ abbrev pub with_numbers : Numbers → Stream → Stream
 with_numbers numbers st = record st { numbers = numbers }
 
 -- a stream after the peer's last frame, by its state before
-abbrev pub peer_closed_as : Kind → Stream → Stream
+abbrev pub peer_closed_as : StreamState → Stream → Stream
 peer_closed_as BothOpen st = record st { kind = HalfRemote }
 peer_closed_as HalfLocal st = not_live st.id Ended
 peer_closed_as Idle st = st
@@ -133,7 +133,7 @@ abbrev pub peer_closed : Stream → Stream
 peer_closed st = peer_closed_as st.kind st
 
 -- the state after RST_STREAM, which the peer or the server sent (6.4)
-abbrev pub reset_kind : Bool → Kind
+abbrev pub reset_kind : Bool → StreamState
 reset_kind true = PeerReset
 reset_kind false = WeReset
 

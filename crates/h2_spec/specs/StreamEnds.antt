@@ -2,8 +2,8 @@
 use Rattle.std.specs.Prelude.{ℕ, Bool, true, false, ◌==◌, if◌then◌else◌, Some, None, is_some}
 use Rattle.h2_spec.specs.declared.reactions.StreamFrame.TheVariants.{NoStreamFrame}
 use Rattle.h2_spec.specs.declared.reactions.StreamOutcome.{StreamOutcome}
-use Rattle.h2_spec.specs.declared.streams.Kind.{Kind}
-use Rattle.h2_spec.specs.declared.streams.Kind.TheVariants.{Idle, Skipped, BothOpen, HalfRemote, HalfLocal, Ended, PeerReset, WeReset}
+use Rattle.h2_spec.specs.declared.streams.StreamState.{StreamState}
+use Rattle.h2_spec.specs.declared.streams.StreamState.TheVariants.{Idle, Skipped, BothOpen, HalfRemote, HalfLocal, Ended, PeerReset, WeReset}
 use Rattle.h2_spec.specs.declared.streams.Stream.{Stream}
 use Rattle.h2_spec.specs.Stream.{not_live}
 use Rattle.h2_spec.specs.Change.{outcome_without_frame}
@@ -13,11 +13,11 @@ abbrev pub with_body_remaining : Stream → ℕ → Stream
 with_body_remaining st n = record st { numbers = record st.numbers { body_remaining = Some n } }
 
 -- in this state
-abbrev pub with_kind : Stream → Kind → Stream
+abbrev pub with_kind : Stream → StreamState → Stream
 with_kind st kind = record st { kind = kind }
 
 -- a stream whose server side has ended, by its state before
-abbrev pub server_ended_as : Kind → Stream → Stream
+abbrev pub server_ended_as : StreamState → Stream → Stream
 server_ended_as BothOpen st = record st { kind = HalfLocal; numbers = record st.numbers { body_remaining = None } }
 server_ended_as HalfRemote st = not_live st.id Ended
 server_ended_as Idle st = st
@@ -47,7 +47,7 @@ answered_unless true size_update_pending body st = outcome_without_frame size_up
 answered_unless false size_update_pending body st = answered size_update_pending body st
 
 -- a stream whose peer's side ends, by its state before
-abbrev pub peer_ended_as : Kind → Bool → ℕ → Stream → StreamOutcome
+abbrev pub peer_ended_as : StreamState → Bool → ℕ → Stream → StreamOutcome
 peer_ended_as BothOpen size_update_pending body st = answered_unless (is_some st.numbers.body_remaining) size_update_pending body (with_kind st HalfRemote)
 peer_ended_as HalfLocal size_update_pending body st = outcome_without_frame size_update_pending (not_live st.id Ended)
 peer_ended_as HalfRemote size_update_pending body st = outcome_without_frame size_update_pending st

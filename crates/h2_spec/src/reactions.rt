@@ -72,9 +72,9 @@ pub struct Change {
     /// What becomes of the records of streams.
     pub record_update: RecordUpdate,
     /// The frame that is sent on the connection, before all others.
-    pub first: ConnectionFrame,
+    pub connection_frame: ConnectionFrame,
     /// The frame that is sent on a stream, after that.
-    pub second: StreamFrame,
+    pub stream_frame: StreamFrame,
     /// The answer whose HEADERS are sent after both, if one begins.
     pub answer: Option<Answering>,
 }

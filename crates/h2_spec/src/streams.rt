@@ -4,7 +4,7 @@ use crate::flow::{Credit, Window};
 
 /// The states of a stream (RFC 9113, 5.1). Client streams alone have records.
 #[derive(Clone, Copy, PartialEq, Eq)]
-pub enum Kind {
+pub enum StreamState {
     /// Not begun.
     Idle,
     /// Passed over by a request on a higher stream, and so closed.
@@ -56,7 +56,7 @@ pub struct Stream {
     /// The stream's identifier: odd, since clients open all streams (RFC 9113, 5.1.1).
     pub id: u32,
     /// Its state (5.1).
-    pub kind: Kind,
+    pub kind: StreamState,
     /// Its counts; all 0 and none where it is not live.
     pub numbers: Numbers,
     /// The answer that its request picked.
@@ -69,7 +69,7 @@ pub struct StreamView {
     /// The stream's identifier.
     pub id: u32,
     /// Its state (RFC 9113, 5.1).
-    pub kind: Kind,
+    pub kind: StreamState,
     /// Its counts; all 0 and none where it is not live.
     pub numbers: Numbers,
 }

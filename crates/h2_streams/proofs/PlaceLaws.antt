@@ -6,8 +6,8 @@ use Rattle.std.specs.List.{AllWithin}
 use Rattle.std.specs.List.Sorted.{IsNonDecreasingBy}
 use Rattle.std.specs.Option.{is_some, option_map_or}
 use Rattle.h2_spec.specs.declared.streams.Stream.{Stream}
-use Rattle.h2_spec.specs.declared.streams.Kind.{Kind}
-use Rattle.h2_spec.specs.declared.streams.Kind.TheVariants.{Idle}
+use Rattle.h2_spec.specs.declared.streams.StreamState.{StreamState}
+use Rattle.h2_spec.specs.declared.streams.StreamState.TheVariants.{Idle}
 use Rattle.h2_spec.specs.Stream.{record_of, put, AreRising, stream_at, kind_of, recorded, is_live, not_live, Records, added, with_record}
 use Rattle.h2_streams.specs.Put.{can_become}
 use Rattle.h2_streams.specs.Kept.{Rise, passes_at, place_of}
@@ -126,7 +126,7 @@ rising-put low last (x ∷ xs) st old h f = by (eqb x.id st.id) refl (rising-put
   by false e rest = let g : record_of xs st.id ≡ Some old = rw e at f in rw e (h.0, h.1, h.2, rest g)
 
 -- a live or closed stream has a record
-pub recorded-found : (last : ℕ) (rs : List Stream) (id : ℕ) (now : Kind) → can_become (kind_of last rs id) now ≡ true → (old : Stream) × (record_of rs id ≡ Some old) × (can_become old.kind now ≡ true)
+pub recorded-found : (last : ℕ) (rs : List Stream) (id : ℕ) (now : StreamState) → can_become (kind_of last rs id) now ≡ true → (old : Stream) × (record_of rs id ≡ Some old) × (can_become old.kind now ≡ true)
 unfolding stream_at
 recorded-found last rs id now h = by_test (eqb (id % 2) 0) (nat_lt last id) (record_of rs id) refl h where
   by_record : (o : Option Stream) → record_of rs id ≡ o → can_become (recorded id o).kind now ≡ true → (old : Stream) × (record_of rs id ≡ Some old) × (can_become old.kind now ≡ true)

@@ -5,8 +5,8 @@ use Rattle.std.specs.List.{AllByRecursion, list_any}
 use Rattle.std.specs.Prelude.{slice_index_or, slice_set}
 use Rattle.std.specs.Map.{values_of}
 use Rattle.std.specs.Option.{option_map}
-use Rattle.h2_spec.specs.declared.streams.Kind.{Kind}
-use Rattle.h2_spec.specs.declared.streams.Kind.TheVariants.{Idle, Skipped, BothOpen, HalfRemote, HalfLocal, Ended, PeerReset, WeReset}
+use Rattle.h2_spec.specs.declared.streams.StreamState.{StreamState}
+use Rattle.h2_spec.specs.declared.streams.StreamState.TheVariants.{Idle, Skipped, BothOpen, HalfRemote, HalfLocal, Ended, PeerReset, WeReset}
 use Rattle.h2_spec.specs.declared.streams.Stream.{Stream}
 use Rattle.h2_spec.specs.Change.{follows_initial_window, received, received_one, shifted, shifted_one, overflows, overflows_one, with_recv, with_send}
 use Rattle.h2_spec.specs.Window.{max_window, is_above_max}
@@ -30,7 +30,7 @@ update-absent f (suc place) (x ∷ xs) le = ap (λ ys. x ∷ ys) (update-absent 
 -- ---- streams that settings move
 
 -- they leave those alone that are not live
-follows-ended : (kind : Kind) → is_live kind ≡ false → follows_initial_window kind ≡ false
+follows-ended : (kind : StreamState) → is_live kind ≡ false → follows_initial_window kind ≡ false
 follows-ended Idle h = refl
 follows-ended Skipped h = refl
 follows-ended BothOpen h = absurd (true≢false h)

@@ -7,16 +7,20 @@ ghost use Rattle.h2_spec.specs.StreamEnds as ends;
 ghost use Rattle.h2_streams.specs.Kept as kept;
 
 use h2_spec::flow::{Credit, Window};
-use h2_spec::streams::{Kind, Numbers, Pick, Stream};
+use h2_spec::streams::{Numbers, Pick, Stream, StreamState};
 
 /// Whether one side of the stream or both are open.
 #[inline(always)]
-pub fn is_live(kind: Kind) -> bool
+pub fn is_live(kind: StreamState) -> bool
     ensures { result ≡ spec.is_live kind }
 {
     match kind {
-        Kind::BothOpen | Kind::HalfRemote | Kind::HalfLocal => true,
-        Kind::Idle | Kind::Skipped | Kind::Ended | Kind::PeerReset | Kind::WeReset => false,
+        StreamState::BothOpen | StreamState::HalfRemote | StreamState::HalfLocal => true,
+        StreamState::Idle
+        | StreamState::Skipped
+        | StreamState::Ended
+        | StreamState::PeerReset
+        | StreamState::WeReset => false,
     }
 }
 
@@ -41,7 +45,7 @@ pub(crate) fn is_ready(stream: &Stream) -> bool
 }
 
 /// A stream that is not live: its identifier and its state alone.
-pub fn not_live(id: u32, kind: Kind) -> Stream
+pub fn not_live(id: u32, kind: StreamState) -> Stream
     ensures { result ≡ spec.not_live id kind }
 {
     Stream {
@@ -64,17 +68,17 @@ pub(crate) fn peer_closed(stream: Stream) -> Stream
     ensures { result ≡ spec.peer_closed stream }
 {
     match stream.kind {
-        Kind::BothOpen => Stream {
-            kind: Kind::HalfRemote,
+        StreamState::BothOpen => Stream {
+            kind: StreamState::HalfRemote,
             ..stream
         },
-        Kind::HalfLocal => not_live(stream.id, Kind::Ended),
-        Kind::Idle
-        | Kind::Skipped
-        | Kind::HalfRemote
-        | Kind::Ended
-        | Kind::PeerReset
-        | Kind::WeReset => stream,
+        StreamState::HalfLocal => not_live(stream.id, StreamState::Ended),
+        StreamState::Idle
+        | StreamState::Skipped
+        | StreamState::HalfRemote
+        | StreamState::Ended
+        | StreamState::PeerReset
+        | StreamState::WeReset => stream,
     }
 }
 
@@ -86,34 +90,34 @@ pub fn server_ended(stream: Stream) -> Stream
     ensures id { result.id ≡ stream.id }
 {
     match stream.kind {
-        Kind::BothOpen => {
+        StreamState::BothOpen => {
             let numbers = Numbers {
                 body_remaining: None,
                 ..stream.numbers
             };
             Stream {
-                kind: Kind::HalfLocal,
+                kind: StreamState::HalfLocal,
                 numbers,
                 ..stream
             }
         }
-        Kind::HalfRemote => not_live(stream.id, Kind::Ended),
-        Kind::Idle
-        | Kind::Skipped
-        | Kind::HalfLocal
-        | Kind::Ended
-        | Kind::PeerReset
-        | Kind::WeReset => stream,
+        StreamState::HalfRemote => not_live(stream.id, StreamState::Ended),
+        StreamState::Idle
+        | StreamState::Skipped
+        | StreamState::HalfLocal
+        | StreamState::Ended
+        | StreamState::PeerReset
+        | StreamState::WeReset => stream,
     }
 }
 
 /// The state after RST_STREAM, from the peer or from the server.
-pub(crate) fn reset_kind(by_peer: bool) -> Kind
+pub(crate) fn reset_kind(by_peer: bool) -> StreamState
     ensures { result ≡ spec.reset_kind by_peer }
 {
     if by_peer {
-        Kind::PeerReset
+        StreamState::PeerReset
     } else {
-        Kind::WeReset
+        StreamState::WeReset
     }
 }

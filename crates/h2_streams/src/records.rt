@@ -27,7 +27,7 @@ use crate::shift::{InitialWindow, move_each};
 use crate::walks::{first_waiting, list_ready};
 use h2_spec::errors::FlowFault;
 use h2_spec::flow::Window;
-use h2_spec::streams::{Kind, Numbers, Pick, Stream};
+use h2_spec::streams::{Numbers, Pick, Stream, StreamState};
 use indexmap::IndexMap;
 use std::alloc::{AllocError, Allocator};
 use std::marker::Model;
@@ -202,16 +202,16 @@ impl<A: Allocator> Streams<A> {
         ensures id { result.id ≡ id }
     {
         if is_idle(self.last(), id) {
-            return not_live(id, Kind::Idle);
+            return not_live(id, StreamState::Idle);
         }
         match self.get(id) {
-            None => not_live(id, Kind::Skipped),
+            None => not_live(id, StreamState::Skipped),
             Some(stream) => *stream,
         }
     }
 
     /// The state of the stream (RFC 9113, 5.1): even identifiers and those above `last` are idle.
-    pub fn kind(&self, id: u32) -> Kind
+    pub fn kind(&self, id: u32) -> StreamState
         ensures { result ≡ spec.kind_of self.now.last self.now.streams id }
     {
         self.stream_at(id).kind
@@ -232,9 +232,9 @@ impl<A: Allocator> Streams<A> {
         ensures err { OnErr result (self.new ≡ self.old) }
     {
         let kind = if ends {
-            Kind::HalfRemote
+            StreamState::HalfRemote
         } else {
-            Kind::BothOpen
+            StreamState::BothOpen
         };
         self.add(Stream {
             id,
@@ -249,10 +249,10 @@ impl<A: Allocator> Streams<A> {
     pub fn open_reset(&mut self, id: u32) -> Result<(), AllocError>
         requires odd { id % 2 ≡ 1 }
         requires above { self.old.last < id }
-        ensures ok { OnOk result (self.new ≡ spec.added (spec.not_live id Kind.WeReset) self.old) }
+        ensures ok { OnOk result (self.new ≡ spec.added (spec.not_live id StreamState.WeReset) self.old) }
         ensures err { OnErr result (self.new ≡ self.old) }
     {
-        self.add(not_live(id, Kind::WeReset))
+        self.add(not_live(id, StreamState::WeReset))
     }
 
     /// Gives a live stream these numbers.

@@ -9,7 +9,7 @@ ghost use Rattle.h2_streams.specs.Shift as shift;
 use crate::hash::IdHash;
 use crate::kinds::is_live;
 use h2_spec::flow::Window;
-use h2_spec::streams::{Kind, Stream};
+use h2_spec::streams::{Stream, StreamState};
 use indexmap::IndexMap;
 use std::alloc::Allocator;
 
@@ -26,17 +26,17 @@ pub(crate) enum InitialWindow {
 }
 
 /// Whether settings move the send window of the stream.
-pub(crate) fn follows_initial_window(kind: Kind) -> bool
+pub(crate) fn follows_initial_window(kind: StreamState) -> bool
     ensures { result ≡ changes.follows_initial_window kind }
 {
     match kind {
-        Kind::BothOpen | Kind::HalfRemote => true,
-        Kind::Idle
-        | Kind::Skipped
-        | Kind::HalfLocal
-        | Kind::Ended
-        | Kind::PeerReset
-        | Kind::WeReset => false,
+        StreamState::BothOpen | StreamState::HalfRemote => true,
+        StreamState::Idle
+        | StreamState::Skipped
+        | StreamState::HalfLocal
+        | StreamState::Ended
+        | StreamState::PeerReset
+        | StreamState::WeReset => false,
     }
 }
 

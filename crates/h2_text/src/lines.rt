@@ -10,7 +10,7 @@ use crate::hex_text::OctetsText;
 use h2_device::{DeviceFault, Number, Output, SignedNumber, Text, texts};
 use h2_spec::connection::{BlockView, ConnectionState, Phase};
 use h2_spec::flow::{LocalSettings, Settings, Window};
-use h2_spec::streams::{Kind, StreamView};
+use h2_spec::streams::{StreamState, StreamView};
 use h2_streams::is_live;
 
 /// A number, and a dash where there is none.
@@ -287,18 +287,18 @@ impl Text for EntryLine<'_> {
 
 /// The name of a stream's state.
 #[tactic(auto, unfolding(h2_spec::specs::Show::kind_text))]
-fn kind_name(kind: Kind) -> &'static str
+fn kind_name(kind: StreamState) -> &'static str
     ensures { result.now ≡ kind_text kind }
 {
     match kind {
-        Kind::Idle => "idle",
-        Kind::Skipped => "skipped",
-        Kind::BothOpen => "open",
-        Kind::HalfRemote => "half-remote",
-        Kind::HalfLocal => "half-local",
-        Kind::Ended => "ended",
-        Kind::PeerReset => "peer-reset",
-        Kind::WeReset => "we-reset",
+        StreamState::Idle => "idle",
+        StreamState::Skipped => "skipped",
+        StreamState::BothOpen => "open",
+        StreamState::HalfRemote => "half-remote",
+        StreamState::HalfLocal => "half-local",
+        StreamState::Ended => "ended",
+        StreamState::PeerReset => "peer-reset",
+        StreamState::WeReset => "we-reset",
     }
 }
 

@@ -28,8 +28,8 @@ impl Drop for Call<'_> {
 }
 
 /// The parts of a text before and after a mark; nothing is after it where there is none.
-fn parts<'l>(text: &'l str, mark: &str) -> (&'l str, &'l str) {
-    match text.split_once(mark) {
+fn parts<'l>(text: &'l str, separator: &str) -> (&'l str, &'l str) {
+    match text.split_once(separator) {
         Some(parts) => parts,
         None => (text, ""),
     }

@@ -18,7 +18,7 @@ use Rattle.h2_conn.specs.declared.fault.ConnFault.TheVariants as conn
 use Rattle.h2_places.specs.Places.{StopsAt, Writes, item_text, items_shown, places_from, through, up_to}
 use Rattle.h2_places.specs.declared.places.PlacesFault.{PlacesFault}
 use Rattle.h2_places.specs.declared.places.PlacesFault.TheVariants as places
-use Rattle.h2_places.specs.declared.places.Shown.{Shown}
+use Rattle.h2_places.specs.declared.places.ShownPlaces.{ShownPlaces}
 use Rattle.h2_web.specs.Web.{RunText, RunsInto, ShowsRun, WritesFrom, answers_said, ended_as, refused_line, texts_from, texts_run, texts_shown, told}
 use Rattle.h2_web.specs.Whys.{why_texts}
 use Rattle.h2_web.specs.declared.fault.WebFault.{WebFault}
@@ -74,7 +74,7 @@ no-texts : (first : ℕ) (count : Option ℕ) (texts : List (List ℕ)) → conc
 no-texts first None texts = ap concat (drop_all first [] (omega arith))
 no-texts first (Some n) texts = ap concat (ap (drop first) (take_all n [] (omega arith)) ∙ drop_all first [] (omega arith))
 
-none-shown : (w : What) (shown : Shown) (texts : List (List ℕ)) → concat (texts_shown w shown (take 0 texts)) ≡ []
+none-shown : (w : What) (shown : ShownPlaces) (texts : List (List ℕ)) → concat (texts_shown w shown (take 0 texts)) ≡ []
 none-shown what.Places shown texts = no-texts shown.first (through shown.last) texts
 none-shown what.Whys shown texts = no-texts (shown.first - 1) shown.last texts
 

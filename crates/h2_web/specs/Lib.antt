@@ -1,2 +1,3 @@
 pub mod Web
 pub mod Whys
+pub mod Words

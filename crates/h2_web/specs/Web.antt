@@ -1,5 +1,5 @@
 -- What a page is given by each call, and how the call ended.
-use Rattle.std.specs.Prelude.{◌≡◌, ◌⊎◌, ◌+◌, ◌++◌, ℕ, true, false, List, [], ◌∷◌, Option, Some, Result, Ok, Err, take}
+use Rattle.std.specs.Prelude.{◌≡◌, ◌⊎◌, ◌++◌, ℕ, true, false, List, [], ◌∷◌, Option, Some, Result, Ok, Err, take}
 use Rattle.std.specs.List.{concat}
 use Rattle.std.specs.Str.{IsUtf8}
 use Rattle.h2_spec.specs.Answer.{Entry}
@@ -18,9 +18,9 @@ use Rattle.h2_answers.specs.declared.fault.AnswerFault.TheVariants as answer
 use Rattle.h2_places.specs.Places.{item_text, items_shown, places_from, places_shown}
 use Rattle.h2_places.specs.declared.places.PlacesFault.{PlacesFault}
 use Rattle.h2_places.specs.declared.places.PlacesFault.TheVariants as places
-use Rattle.h2_places.specs.declared.places.Shown.{Shown}
-use Rattle.h2_web.specs.declared.answers.Refused.{Refused}
-use Rattle.h2_web.specs.declared.fault.End.{End}
+use Rattle.h2_places.specs.declared.places.ShownPlaces.{ShownPlaces}
+use Rattle.h2_web.specs.declared.answers.RefusedLine.{RefusedLine}
+use Rattle.h2_web.specs.declared.fault.CallEnd.{CallEnd}
 use Rattle.h2_web.specs.declared.fault.WebFault.{WebFault}
 use Rattle.h2_web.specs.declared.fault.WebFault.TheVariants.{NoMemory, NoRoom, BadConfig, BadAnswer, NoText, Syntax}
 use Rattle.h2_web.specs.declared.run.Asked.{Asked}
@@ -32,7 +32,7 @@ use Rattle.h2_web.specs.declared.run.RunFault.TheVariants as run
 
 -- ---- how a call ended
 
-abbrev pub end_of : Result (Unit {0}) WebFault → End
+abbrev pub end_of : Result (Unit {0}) WebFault → CallEnd
 end_of (Ok u) = record { fault = 0; kind = 0; line = 0 }
 end_of (Err NoMemory) = record { fault = 1; kind = 0; line = 0 }
 end_of (Err NoRoom) = record { fault = 2; kind = 0; line = 0 }
@@ -42,11 +42,11 @@ end_of (Err NoText) = record { fault = 22; kind = 0; line = 0 }
 end_of (Err (Syntax line kind)) = record { fault = 18; kind = kind_number kind; line = line }
 
 -- what was put at the front of a place, and the end that was reported: the text, or nothing where it has no space
-abbrev pub Puts : List ℕ → Result (Unit {0}) WebFault → List ℕ → End → Type 0
+abbrev pub Puts : List ℕ → Result (Unit {0}) WebFault → List ℕ → CallEnd → Type 0
 Puts text ended put end = ((put ≡ text) × (end ≡ end_of ended)) ⊎ ((put ≡ []) × (end ≡ end_of (Err NoRoom)))
 
 -- the end that was reported is one of a call that gives such octets
-abbrev pub Gives : (List ℕ → Result (Unit {0}) WebFault → Type 0) → List ℕ → End → Type 0
+abbrev pub Gives : (List ℕ → Result (Unit {0}) WebFault → Type 0) → List ℕ → CallEnd → Type 0
 Gives IsSuch octets end = (ended : Result (Unit {0}) WebFault) × (end ≡ end_of ended) × IsSuch octets ended
 
 -- ---- the answers
@@ -62,7 +62,7 @@ refused_line line answer.NoMemory = NoMemory
 refused_line line answer.BadAnswer = BadAnswer line answer.BadAnswer
 refused_line line (answer.BadEntry fault) = BadAnswer line (answer.BadEntry fault)
 
-abbrev pub refused_answer : Refused → WebFault
+abbrev pub refused_answer : RefusedLine → WebFault
 refused_answer refused = refused_line refused.line refused.fault
 
 -- ---- the texts of a run
@@ -83,7 +83,7 @@ abbrev pub texts_run : Asked → List Entry → List ℕ → List (List ℕ)
 texts_run asked book octets = texts_from asked.what (item_text 0 (opening_octets asked.config) (view (opening book asked.config))) (opening book asked.config) octets
 
 -- those that are shown: the start is place 0, the first item place 1
-abbrev pub texts_shown : What → Shown → List (List ℕ) → List (List ℕ)
+abbrev pub texts_shown : What → ShownPlaces → List (List ℕ) → List (List ℕ)
 texts_shown what.Places shown texts = places_shown shown texts
 texts_shown what.Whys shown texts = items_shown shown texts
 

@@ -13,7 +13,7 @@ use std::alloc::{AllocError, Allocator};
 
 /// A line that was refused, from 1, and why.
 #[derive(Clone, Copy)]
-pub(crate) struct Refused {
+pub(crate) struct RefusedLine {
     pub line: usize,
     pub fault: AnswerFault,
 }
@@ -41,7 +41,7 @@ fn add_lines<A: Allocator + Copy>(
     alloc: A,
     book: &mut Book<A>,
     lines: &[&[u8]],
-) -> Result<(), Refused>
+) -> Result<(), RefusedLine>
     ensures ok { OnOk result (book_of book.old (map (λ l. l.now) lines.now) ≡ Ok book.new) }
     ensures err { IfErr result (λ r. (r.fault ≡ NoMemory)
         ⊎ (book_of book.old (map (λ l. l.now) lines.now) ≡ Err (fault_number r.fault))) }
@@ -49,14 +49,14 @@ fn add_lines<A: Allocator + Copy>(
     for (before, word) in lines.iter().enumerate() {
         if let Err(fault) = add_answer(alloc, book, word) {
             let line = before + 1;
-            return Err(Refused { line, fault });
+            return Err(RefusedLine { line, fault });
         }
     }
     Ok(())
 }
 
 /// The book of the answers that a text says, a line for each.
-pub(crate) fn book_in<A: Allocator + Copy>(alloc: A, text: &[u8]) -> Result<Book<A>, Refused>
+pub(crate) fn book_in<A: Allocator + Copy>(alloc: A, text: &[u8]) -> Result<Book<A>, RefusedLine>
     ensures ok { IfOk result (λ book. book_of [] (answers_said text.now) ≡ Ok book) }
     ensures err { IfErr result (λ r. (r.fault ≡ NoMemory)
         ⊎ (book_of [] (answers_said text.now) ≡ Err (fault_number r.fault))) }
@@ -64,7 +64,7 @@ pub(crate) fn book_in<A: Allocator + Copy>(alloc: A, text: &[u8]) -> Result<Book
     let mut book = Book::new(alloc);
     let Ok(lines) = answers_in(alloc, text) else {
         let fault = AnswerFault::NoMemory;
-        return Err(Refused { line: 0, fault });
+        return Err(RefusedLine { line: 0, fault });
     };
     match add_lines(alloc, &mut book, lines.as_slice()) {
         Ok(()) => Ok(book),

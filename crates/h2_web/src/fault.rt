@@ -26,7 +26,7 @@ pub enum WebFault {
 /// How a call ended, as the page reads it.
 #[repr(C)]
 #[derive(Clone, Copy)]
-pub struct End {
+pub struct CallEnd {
     /// 0 where all was given; 1 where memory did not suffice; 2 where there was no space; else the number of the
     /// program.
     pub fault: u8,
@@ -37,7 +37,7 @@ pub struct End {
 }
 
 /// How a call ended, as numbers.
-pub(crate) fn end_of(ended: Result<(), WebFault>) -> End
+pub(crate) fn end_of(ended: Result<(), WebFault>) -> CallEnd
     ensures { result ≡ end_of ended }
 {
     let (fault, kind, line) = match ended {
@@ -49,5 +49,5 @@ pub(crate) fn end_of(ended: Result<(), WebFault>) -> End
         Err(WebFault::NoText) => (22, 0, 0),
         Err(WebFault::Syntax(line, kind)) => (18, kind_number(kind), line),
     };
-    End { fault, kind, line }
+    CallEnd { fault, kind, line }
 }

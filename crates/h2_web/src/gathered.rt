@@ -3,7 +3,7 @@
 ghost use Rattle.std.specs.Prelude.{◌≡◌, ◌≤◌, [], Some, false, length, take};
 ghost use Rattle.h2_web.specs.Web.{Puts};
 
-use crate::fault::{End, WebFault, end_of};
+use crate::fault::{CallEnd, WebFault, end_of};
 use h2_device::{DeviceFault, Output};
 use std::alloc::Allocator;
 
@@ -23,7 +23,7 @@ pub(crate) fn put_text(
     text: &[u8],
     ended: Result<(), WebFault>,
     out: &mut [u8],
-    end: &mut End,
+    end: &mut CallEnd,
 ) -> usize
     ensures within { result ≤ length out.new }
     ensures put { Puts text.now ended (take result out.new) end.new }
@@ -40,25 +40,25 @@ pub(crate) fn put_text(
 
 /// What was written, in memory.
 #[derive(Drop)]
-pub(crate) struct Gathered<A: Allocator> {
+pub(crate) struct PageOutput<A: Allocator> {
     pub(crate) octets: Vec<u8, A>,
     /// Whether the growth for the last write was refused.
     failed: bool,
 }
 
-impl<A: Allocator> Gathered<A> {
+impl<A: Allocator> PageOutput<A> {
     /// Nothing yet. Takes no memory.
-    pub(crate) fn new(alloc: A) -> Gathered<A>
+    pub(crate) fn new(alloc: A) -> PageOutput<A>
         ensures { (result.octets.items ≡ []) × (result.failed ≡ false) }
     {
-        Gathered {
+        PageOutput {
             octets: Vec::new(alloc),
             failed: false,
         }
     }
 }
 
-impl<A: Allocator> Output for Gathered<A> {
+impl<A: Allocator> Output for PageOutput<A> {
     ghost written = { λ g. Some g.octets.items };
 
     ghost has_failed = { λ g. g.failed };

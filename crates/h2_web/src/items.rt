@@ -11,7 +11,7 @@ ghost use Rattle.h2_web.specs.Whys.{TakesAnyWhy, why_text, why_texts};
 
 use h2_conn::Conn;
 use h2_device::{DeviceFault, Number, Output, Text, texts};
-use h2_places::{PlacesFault, Shown, write_shown};
+use h2_places::{PlacesFault, ShownPlaces, write_shown};
 use h2_spec::causes::Cause;
 use h2_spec::ignored::Ignored;
 use h2_spec::octets::octets_from;
@@ -54,7 +54,7 @@ impl Text for ItemWhy {
 /// Writes why an item was an error or was ignored, where it is shown. Takes no memory.
 fn write_why<O: Output>(
     output: &mut O,
-    shown: Shown,
+    shown: ShownPlaces,
     place: usize,
     taken: TakenWhy,
 ) -> Result<(), PlacesFault>
@@ -96,7 +96,7 @@ pub(crate) fn write_whys<A: Allocator + Copy, O: Output>(
     alloc: A,
     conn: &mut Conn<'_, A>,
     octets: &[u8],
-    shown: Shown,
+    shown: ShownPlaces,
     output: &mut O,
 ) -> Result<(), PlacesFault>
     requires new { conn.old ≡ going conn.old.state [] }

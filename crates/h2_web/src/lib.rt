@@ -1,5 +1,5 @@
-//! The bench for a page of a browser: a connection over octets, scripts, and the octets of scripts, in memory that the
-//! page gives. It is a static library: the gate proves it for this machine, tools/web.sh builds it as WebAssembly.
+//! The bench for a page of a browser: a connection over octets, its explanation, scripts, and the octets of scripts, in
+//! memory that the page gives. It is a static library: the gate proves it for this machine, tools/web.sh builds it as WebAssembly.
 #![tactic(auto)]
 
 mod answers;
@@ -8,6 +8,8 @@ mod gathered;
 mod items;
 mod run;
 mod script;
+mod words;
 
 pub use run::{places, whys};
 pub use script::{octets_of, script_of};
+pub use words::explanation;

@@ -7,15 +7,15 @@ ghost use Rattle.h2_spec.specs.View.{view};
 ghost use Rattle.h2_web.specs.declared.run.What.TheVariants as what;
 ghost use Rattle.h2_web.specs.Web.{Gives, RunsInto, RunText, ShowsRun, WritesFrom, asked_for, config_of, ended_as, refused_answer, told};
 
-use crate::answers::{Refused, book_in};
-use crate::fault::{End, WebFault};
-use crate::gathered::{Gathered, put_text};
+use crate::answers::{RefusedLine, book_in};
+use crate::fault::{CallEnd, WebFault};
+use crate::gathered::{PageOutput, put_text};
 use crate::items::write_whys;
 use h2_answers::AnswerFault;
 use h2_arena::{Arena, Free};
 use h2_conn::{Conn, ConnFault};
 use h2_device::Output;
-use h2_places::{PlacesFault, Shown, write_places};
+use h2_places::{PlacesFault, ShownPlaces, write_places};
 use h2_request::book::Book;
 use h2_spec::connection::Config;
 use std::alloc::Allocator;
@@ -33,7 +33,7 @@ pub enum What {
 #[derive(Clone, Copy)]
 pub struct Asked {
     pub config: Config,
-    pub shown: Shown,
+    pub shown: ShownPlaces,
     pub what: What,
 }
 
@@ -111,7 +111,7 @@ fn text_of_run<A: Allocator + Copy>(
     requires few { length octets.now < 2 ^ 63 }
     ensures { RunText asked book.now octets.now result.0.items result.1 }
 {
-    let mut gathered = Gathered::new(alloc);
+    let mut gathered = PageOutput::new(alloc);
     match write_run(alloc, asked, book, octets, &mut gathered) {
         Ok(()) => (gathered.octets, Ok(())),
         Err(RunFault::BadConfig) => (gathered.octets, Err(RunFault::BadConfig)),
@@ -121,7 +121,7 @@ fn text_of_run<A: Allocator + Copy>(
 }
 
 /// How a run ended, as the page is reported.
-fn told(ended: Result<(), RunFault>) -> Result<(), WebFault>
+pub(crate) fn told(ended: Result<(), RunFault>) -> Result<(), WebFault>
     ensures { result ≡ told ended }
 {
     match ended {
@@ -133,7 +133,7 @@ fn told(ended: Result<(), RunFault>) -> Result<(), WebFault>
 }
 
 /// Why the answers have no book.
-fn refused_answer(refused: Refused) -> WebFault
+pub(crate) fn refused_answer(refused: RefusedLine) -> WebFault
     ensures { result ≡ refused_answer refused }
 {
     let line = refused.line;
@@ -170,7 +170,7 @@ fn show_run<A: Allocator + Copy>(
     answers: &[u8],
     octets: &[u8],
     out: &mut [u8],
-    end: &mut End,
+    end: &mut CallEnd,
 ) -> usize
     requires few { length octets.now < 2 ^ 63 }
     ensures within { result ≤ length out.new }
@@ -187,7 +187,7 @@ fn asked_for(what: What, config: Config, first: usize, last: usize) -> Asked
     let last = Some(last);
     Asked {
         config,
-        shown: Shown { first, last },
+        shown: ShownPlaces { first, last },
         what,
     }
 }
@@ -212,7 +212,7 @@ pub extern "C" fn places(
     answers: &[u8],
     octets: &[u8],
     out: &mut [u8],
-    end: &mut End,
+    end: &mut CallEnd,
 ) -> usize
     ensures within { result ≤ length out.new }
     ensures shown { Gives (ShowsRun (asked_for what.Places (config_of streams credit table window frame) first last) answers.now octets.now) (take result out.new) end.new }
@@ -244,7 +244,7 @@ pub extern "C" fn whys(
     answers: &[u8],
     octets: &[u8],
     out: &mut [u8],
-    end: &mut End,
+    end: &mut CallEnd,
 ) -> usize
     ensures within { result ≤ length out.new }
     ensures shown { Gives (ShowsRun (asked_for what.Whys (config_of streams credit table window frame) first last) answers.now octets.now) (take result out.new) end.new }

@@ -3,7 +3,7 @@
 ghost use Rattle.std.specs.Prelude.{◌≡◌, ◌≤◌, length, take};
 ghost use Rattle.h2_web.specs.Web.{AssemblesTo, Gives, SaysScript};
 
-use crate::fault::{End, WebFault};
+use crate::fault::{CallEnd, WebFault};
 use crate::gathered::put_text;
 use h2_arena::{Arena, Free};
 use h2_script::{ScriptFault, assemble, disassemble};
@@ -28,7 +28,12 @@ fn assembled<A: Allocator + Copy>(alloc: A, text: &[u8]) -> (Vec<u8, A>, Result<
 }
 
 /// The same, put where the page reads it.
-fn put_octets<A: Allocator + Copy>(alloc: A, text: &[u8], out: &mut [u8], end: &mut End) -> usize
+fn put_octets<A: Allocator + Copy>(
+    alloc: A,
+    text: &[u8],
+    out: &mut [u8],
+    end: &mut CallEnd,
+) -> usize
     ensures within { result ≤ length out.new }
     ensures given { Gives (AssemblesTo text.now) (take result out.new) end.new }
 {
@@ -42,7 +47,7 @@ fn put_octets<A: Allocator + Copy>(alloc: A, text: &[u8], out: &mut [u8], end: &
 ///
 /// All that it needs is taken from `memory`, which is not given back.
 #[unsafe(no_mangle)]
-pub extern "C" fn octets_of(memory: Free, text: &[u8], out: &mut [u8], end: &mut End) -> usize
+pub extern "C" fn octets_of(memory: Free, text: &[u8], out: &mut [u8], end: &mut CallEnd) -> usize
     ensures within { result ≤ length out.new }
     ensures given { Gives (AssemblesTo text.now) (take result out.new) end.new }
 {
@@ -51,7 +56,12 @@ pub extern "C" fn octets_of(memory: Free, text: &[u8], out: &mut [u8], end: &mut
 }
 
 /// The script of octets, put where the page reads it.
-fn put_script<A: Allocator + Copy>(alloc: A, octets: &[u8], out: &mut [u8], end: &mut End) -> usize
+fn put_script<A: Allocator + Copy>(
+    alloc: A,
+    octets: &[u8],
+    out: &mut [u8],
+    end: &mut CallEnd,
+) -> usize
     ensures within { result ≤ length out.new }
     ensures given { Gives (SaysScript octets.now) (take result out.new) end.new }
 {
@@ -66,7 +76,7 @@ fn put_script<A: Allocator + Copy>(alloc: A, octets: &[u8], out: &mut [u8], end:
 ///
 /// All that it needs is taken from `memory`, which is not given back.
 #[unsafe(no_mangle)]
-pub extern "C" fn script_of(memory: Free, octets: &[u8], out: &mut [u8], end: &mut End) -> usize
+pub extern "C" fn script_of(memory: Free, octets: &[u8], out: &mut [u8], end: &mut CallEnd) -> usize
     ensures within { result ≤ length out.new }
     ensures given { Gives (SaysScript octets.now) (take result out.new) end.new }
 {

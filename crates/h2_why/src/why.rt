@@ -11,13 +11,13 @@ use h2_spec::ignored::Ignored;
 
 /// The two lines of an error.
 #[derive(Clone, Copy)]
-struct ErrorLines {
+struct WhyError {
     has_ended: bool,
     cause: Cause,
 }
 
 #[tactic(auto, unfolding(crate::specs::Why::error_lines))]
-impl Text for ErrorLines {
+impl Text for WhyError {
     ghost text = { λ l. error_lines l.has_ended l.cause };
 
     fn write_to<O: Output>(&self, output: &mut O) -> Result<(), DeviceFault> {
@@ -46,10 +46,10 @@ impl Text for ErrorLines {
 
 /// The two lines of an item that was ignored.
 #[derive(Clone, Copy)]
-struct IgnoredLines(Ignored);
+struct WhyIgnored(Ignored);
 
 #[tactic(auto, unfolding(crate::specs::Why::ignored_lines))]
-impl Text for IgnoredLines {
+impl Text for WhyIgnored {
     ghost text = { λ l. ignored_lines l.0 };
 
     fn write_to<O: Output>(&self, output: &mut O) -> Result<(), DeviceFault> {
@@ -87,8 +87,8 @@ impl Text for WhyText {
     fn write_to<O: Output>(&self, output: &mut O) -> Result<(), DeviceFault> {
         let has_ended = self.has_ended;
         match (self.cause, self.ignored) {
-            (Some(cause), _) => ErrorLines { has_ended, cause }.write_to(output),
-            (None, Some(reason)) => IgnoredLines(reason).write_to(output),
+            (Some(cause), _) => WhyError { has_ended, cause }.write_to(output),
+            (None, Some(reason)) => WhyIgnored(reason).write_to(output),
             (None, None) => "no error\n".write_to(output),
         }
     }

@@ -1,5 +1,5 @@
 -- The words of a command line: the commands as clap reads them, and what words ask for.
-use Rattle.std.specs.Prelude.{◌&&◌, ◌^◌, ℕ, Bool, true, false, List, [], ◌∷◌, Option, Some, None, codes, drop, length, nat_eq, nat_lt, if◌then◌else◌, not, unwrap_or, option_and_then, option_map}
+use Rattle.std.specs.Prelude.{◌&&◌, ◌||◌, ◌^◌, ℕ, Bool, true, false, List, [], ◌∷◌, Option, Some, None, codes, drop, length, nat_eq, nat_lt, if◌then◌else◌, not, unwrap_or, option_and_then, option_map}
 use Rattle.std.specs.List.{list_all, list_any}
 use Rattle.std.specs.Option.{option_map_or}
 use Rattle.std.specs.Str.{bytes_eq}
@@ -49,6 +49,18 @@ color_rule = record (new_rule (codes "color")) { long = Some (codes "color"); ac
 -- whether the status and a last line say what the client broke
 abbrev pub strict_rule : Rule
 strict_rule = record (new_rule (codes "strict")) { long = Some (codes "strict"); action = Some SetTrue }
+
+-- whether the connections that are served are explained
+abbrev pub explain_rule : Rule
+explain_rule = record (new_rule (codes "explain")) { long = Some (codes "explain"); action = Some SetTrue }
+
+-- whether the time is written before each line
+abbrev pub times_rule : Rule
+times_rule = record (new_rule (codes "times")) { long = Some (codes "times"); action = Some SetTrue }
+
+-- the directory of records, one text
+abbrev pub record_rule : Rule
+record_rule = record (new_rule (codes "record")) { long = Some (codes "record"); action = Some Set }
 
 -- whether long texts are written whole
 abbrev pub full_rule : Rule
@@ -129,11 +141,15 @@ port_rule = record (new_rule (codes "PORT")) { required = true; action = Some Se
 abbrev pub count_rule : Rule
 count_rule = record (new_rule (codes "COUNT")) { required = true; action = Some Set; parser = Some (parser.Unsigned 0 4294967295) }
 
+-- a command with the rules of how an explanation is written
+abbrev pub with_view : App → App
+with_view app = with_rule (with_rule (with_rule (with_rule app json_rule) color_rule) strict_rule) full_rule
+
 abbrev pub serve_app : App
-serve_app = with_rule (with_rule (with_rule (with_book (with_limits (new_app (codes "serve")))) port_rule) count_rule) answer_rule
+serve_app = with_rule (with_rule (with_rule (with_book (with_view (with_rule (with_rule (with_rule (with_limits (new_app (codes "serve"))) explain_rule) times_rule) record_rule))) port_rule) count_rule) answer_rule
 
 abbrev pub explain_app : App
-explain_app = with_rule (with_rule (with_book (with_rule (with_rule (with_rule (with_rule (with_limits (new_app (codes "explain"))) json_rule) color_rule) strict_rule) full_rule)) raw_rule) answer_rule
+explain_app = with_rule (with_rule (with_book (with_view (with_limits (new_app (codes "explain"))))) raw_rule) answer_rule
 
 -- FILE of `check`, one or more
 abbrev pub files_rule : Rule
@@ -180,10 +196,18 @@ pub record View : Type 0 where
   pub strict : Bool
   pub full : Bool
 
+-- what is shown of connections that are served: whether they are explained, and how; whether with the time of each line;
+-- and the directory where they are recorded, empty where they are not
+pub record Watched : Type 0 where
+  pub explain : Bool
+  pub view : View
+  pub times : Bool
+  pub record_to : Text
+
 pub data Asked : Type 0 where
   batch : BatchAsked → Asked
   debug : (config : Config) → (book : BookAsked) → Asked
-  serve : (config : Config) → (port : ℕ) → (count : ℕ) → (book : BookAsked) → Asked
+  serve : (config : Config) → (port : ℕ) → (count : ℕ) → (watched : Watched) → (book : BookAsked) → Asked
   explain : (config : Config) → (view : View) → (file : Text) → (book : BookAsked) → Asked
   check : (config : Config) → (book : BookAsked) → (bless : Bool) → (in_place : Bool) → (files : List Text) → Asked
 
@@ -256,6 +280,15 @@ file_book_at rows = record { file = text_at (codes "book") rows; why = not (is_s
 abbrev pub view_at : List Row → View
 view_at rows = record { json = is_set (codes "json") rows; color = is_set (codes "color") rows; strict = is_set (codes "strict") rows; full = is_set (codes "full") rows }
 
+-- what is shown of the connections: they are explained where that is asked for, or JSON, a verdict, times or a record
+abbrev pub watched_at : List Row → Watched
+watched_at rows = record {
+  explain = is_set (codes "explain") rows || (is_set (codes "json") rows || (is_set (codes "strict") rows || (is_set (codes "times") rows || nat_lt 0 (length (text_at (codes "record") rows)))));
+  view = view_at rows;
+  times = is_set (codes "times") rows;
+  record_to = text_at (codes "record") rows;
+}
+
 abbrev pub asked_by : Text → List Row → Option Asked
 asked_by name rows =
     if bytes_eq name (codes "play") then Some (batch (play (config_at rows) (number_at (codes "cut") 0 rows) (is_set (codes "each") rows) (book_at rows)))
@@ -263,7 +296,7 @@ asked_by name rows =
     else if bytes_eq name (codes "dis") then Some (batch dis)
     else if bytes_eq name (codes "table") then Some (batch (table (number_at (codes "LIMIT") 0 rows)))
     else if bytes_eq name (codes "debug") then Some (debug (config_at rows) (book_at rows))
-    else (if bytes_eq name (codes "serve") then Some (serve (config_at rows) (number_at (codes "PORT") 0 rows) (number_at (codes "COUNT") 0 rows) (book_at rows))
+    else (if bytes_eq name (codes "serve") then Some (serve (config_at rows) (number_at (codes "PORT") 0 rows) (number_at (codes "COUNT") 0 rows) (watched_at rows) (book_at rows))
     else (if bytes_eq name (codes "explain") then Some (explain (config_at rows) (view_at rows) (file_among (texts_at (codes "ANSWER") rows)) (explain_book_at rows))
     else (if bytes_eq name (codes "check") then Some (check (config_at rows) (file_book_at rows) (is_set (codes "bless") rows) (is_set (codes "in-place") rows) (texts_at (codes "FILE") rows)) else None)))
 

@@ -1,11 +1,12 @@
 -- What a plan represents, and what a refusal says of words.
 use Rattle.std.specs.Prelude.{◌≡◌, Option, Some, None, Result, Ok, Err, map}
-use Rattle.h2_words.specs.Grammar.{Asked, BatchAsked, BookAsked, DevicesAsked, View, batch, play, asm, dis, table, debug, serve, explain, check}
+use Rattle.h2_words.specs.Grammar.{Asked, BatchAsked, BookAsked, DevicesAsked, View, Watched, batch, play, asm, dis, table, debug, serve, explain, check}
 use Rattle.h2_words.specs.declared.command.Batch.{Batch}
 use Rattle.h2_words.specs.declared.command.Batch.TheVariants.{Play, Asm, Dis, Table}
 use Rattle.h2_words.specs.declared.command.BookWords.{BookWords}
 use Rattle.h2_words.specs.declared.command.Devices.{Devices}
 use Rattle.h2_words.specs.declared.command.Explain.{Explain}
+use Rattle.h2_words.specs.declared.command.Watch.{Watch}
 use Rattle.h2_words.specs.declared.command.Plan.{Plan}
 use Rattle.h2_words.specs.declared.command.Plan.TheVariants as plan
 use Rattle.h2_words.specs.declared.command.Refusal.{Refusal}
@@ -26,10 +27,18 @@ batch_asked (Table limit) = table limit
 abbrev pub view_asked : Explain → View
 view_asked e = record { json = e.json; color = e.color; strict = e.strict; full = e.full }
 
+abbrev pub watched_asked : Watch → Watched
+watched_asked w = record {
+  explain = w.explain;
+  view = record { json = w.json; color = w.color; strict = w.strict; full = w.full };
+  times = w.times;
+  record_to = w.record_to.now;
+}
+
 abbrev pub planned : Plan → Asked
 planned (plan.Batch b) = batch (batch_asked b)
 planned (plan.Debug d) = debug d.config (book_asked d.book)
-planned (plan.Serve s) = serve s.config s.port s.count (book_asked s.book)
+planned (plan.Serve s) = serve s.config s.port s.count (watched_asked s.watch) (book_asked s.book)
 planned (plan.Explain e) = explain e.config (view_asked e) e.file.now (book_asked e.book)
 planned (plan.Check k) = check k.config (book_asked k.book) k.bless k.in_place (map (λ s. s.now) k.files.items)
 

@@ -4,9 +4,9 @@
 ghost use Rattle.std.specs.Prelude.{◌≡◌, ◌≤◌, length, IfOk, IfErr, IfSome, bytes_eq, Some, None, codes, map, option_map};
 ghost use Rattle.clap.specs.Words.{App, Rule, found_of, kind_of, new_app, rows_of, subcommand_of, subcommand_rows_of, with_rule, with_subcommand};
 ghost use Rattle.clap.specs.declared.error.ErrorKind.TheVariants.{OutOfMemory};
-ghost use Rattle.h2_words.specs.Grammar.{answer_rule, answers_among, asked_at, asked_by, asked_of, asm_app, bench_app, bless_rule, book_at, book_rule, check_app, color_rule, config_at, count_rule, credit_rule, cut_rule, debug_app, devices_at, devices_found, devices_of, dis_app, each_rule, explain_app, file_among, files_among, files_rule, frame_rule, full_rule, in_place_rule, in_rule, is_answer, is_set, json_rule, limit_rule, number_at, path_in, play_app, port_rule, prompt_rule, quiet_rule, raw_rule, serve_app, streams_rule, strict_rule, table_app, table_rule, text_at, texts_at, top_app, why_rule, window_rule, with_book, with_limits, with_octets, with_settings, with_text};
+ghost use Rattle.h2_words.specs.Grammar.{answer_rule, answers_among, asked_at, asked_by, asked_of, asm_app, bench_app, bless_rule, book_at, book_rule, check_app, color_rule, config_at, count_rule, credit_rule, cut_rule, debug_app, devices_at, devices_found, devices_of, dis_app, each_rule, explain_app, explain_rule, file_among, files_among, files_rule, frame_rule, full_rule, in_place_rule, in_rule, is_answer, is_set, json_rule, limit_rule, number_at, path_in, play_app, port_rule, prompt_rule, quiet_rule, raw_rule, record_rule, serve_app, streams_rule, strict_rule, table_app, table_rule, text_at, texts_at, times_rule, top_app, watched_at, why_rule, window_rule, with_book, with_limits, with_octets, with_settings, with_text, with_view};
 ghost use Rattle.h2_words.specs.Built.{IsArg, IsCommand, flag_rule, number_rule, option_rule, text_rule};
-ghost use Rattle.h2_words.specs.Plans.{book_asked, devices_asked, planned, Refuses};
+ghost use Rattle.h2_words.specs.Plans.{book_asked, devices_asked, planned, watched_asked, Refuses};
 
 use crate::legend::LEGEND;
 use crate::words::Words;
@@ -68,6 +68,25 @@ pub struct Explain<'a> {
     pub book: BookWords<'a>,
 }
 
+/// What is shown of connections that are served.
+#[derive(Clone, Copy)]
+pub struct Watch<'a> {
+    /// Whether each item is explained as soon as it arrives; else the other members say nothing.
+    pub explain: bool,
+    /// Whether it is explained as JSON, an object a line.
+    pub json: bool,
+    /// Whether a text has colours.
+    pub color: bool,
+    /// Whether the status and a last line say what the clients broke.
+    pub strict: bool,
+    /// Whether long texts are written whole.
+    pub full: bool,
+    /// Whether each line and each recorded item has its time.
+    pub times: bool,
+    /// The directory where each connection is recorded; empty where none is.
+    pub record_to: &'a str,
+}
+
 /// How connections are served.
 #[derive(Drop)]
 pub struct Serve<'a> {
@@ -77,6 +96,8 @@ pub struct Serve<'a> {
     pub port: u32,
     /// How many connections are served.
     pub count: u32,
+    /// What is shown and recorded of each connection.
+    pub watch: Watch<'a>,
     /// The answers.
     pub book: BookWords<'a>,
 }
@@ -264,6 +285,36 @@ fn strict_option<'a>(alloc: Global) -> Arg<'a>
         )
         .long("strict")
         .action(ArgAction::SetTrue)
+}
+
+fn explain_option<'a>(alloc: Global) -> Arg<'a>
+    ensures { IsArg explain_rule result }
+{
+    flag(
+        alloc,
+        "explain",
+        "Explains each item as soon as it arrives, each line after the number of its connection; so do --json, --strict, --times and --record",
+    )
+}
+
+fn times_option<'a>(alloc: Global) -> Arg<'a>
+    ensures { IsArg times_rule result }
+{
+    flag(
+        alloc,
+        "times",
+        "Explains, with the milliseconds since the connection was accepted before each line and in the record",
+    )
+}
+
+fn record_option<'a>(alloc: Global) -> Arg<'a>
+    ensures { IsArg record_rule result }
+{
+    text_option(
+        alloc,
+        "record",
+        "Explains, and records each connection in this directory: its octets as hex, and a case for check",
+    )
 }
 
 fn full_option<'a>(alloc: Global) -> Arg<'a>
@@ -462,6 +513,19 @@ fn with_limits<'a>(
     with_settings(alloc, command)
 }
 
+/// The command with how an explanation is written.
+fn with_view<'a>(
+    alloc: Global,
+    command: Result<Command<'a>, AllocError>,
+) -> Result<Command<'a>, AllocError>
+    ensures { (app : App) → IfOk command.entry (IsCommand app) → IfOk result (IsCommand (with_view app)) }
+{
+    let command = with_arg(command, json_option(alloc));
+    let command = with_arg(command, color_option(alloc));
+    let command = with_arg(command, strict_option(alloc));
+    with_arg(command, full_option(alloc))
+}
+
 /// The command with the file of an input, and whether it has the octets themselves.
 fn with_octets<'a>(
     alloc: Global,
@@ -567,6 +631,10 @@ fn serve_command<'a>(alloc: Global) -> Result<Command<'a>, AllocError>
 {
     let about = "Serves connections of a port, one after another";
     let command = with_limits(alloc, Ok(described(alloc, "serve", about)));
+    let command = with_arg(command, explain_option(alloc));
+    let command = with_arg(command, times_option(alloc));
+    let command = with_arg(command, record_option(alloc));
+    let command = with_view(alloc, command);
     let command = with_book(alloc, command);
     let command = with_arg(command, port_word(alloc));
     let command = with_arg(command, count_word(alloc));
@@ -578,10 +646,7 @@ fn explain_command<'a>(alloc: Global) -> Result<Command<'a>, AllocError>
 {
     let about = "Explains one connection, item by item: what it is, what is sent for it, and why";
     let command = with_limits(alloc, Ok(described(alloc, "explain", about)));
-    let command = with_arg(command, json_option(alloc));
-    let command = with_arg(command, color_option(alloc));
-    let command = with_arg(command, strict_option(alloc));
-    let command = with_arg(command, full_option(alloc));
+    let command = with_view(alloc, command);
     let command = with_book(alloc, command);
     let command = with_arg(command, raw_option(alloc));
     with_arg(command, input_words(alloc))
@@ -720,6 +785,26 @@ fn debug_from<'a>(alloc: Global, matches: &ArgMatches<'a>) -> Result<Debug<'a>, 
     })
 }
 
+/// What is to be shown of connections that are served.
+fn watch_from<'a>(matches: &ArgMatches<'a>) -> Watch<'a>
+    ensures { watched_asked result ≡ watched_at (rows_of (found_of matches.now)) }
+{
+    let json = is_set(matches, "json");
+    let strict = is_set(matches, "strict");
+    let full = is_set(matches, "full");
+    let times = is_set(matches, "times");
+    let record_to = text_at(matches, "record");
+    Watch {
+        explain: is_set(matches, "explain") || (json || (strict || (times || 0 < record_to.len()))),
+        json,
+        color: is_set(matches, "color"),
+        strict,
+        full,
+        times,
+        record_to,
+    }
+}
+
 /// How connections are to be served.
 fn serve_from<'a>(alloc: Global, matches: &ArgMatches<'a>) -> Result<Serve<'a>, AllocError>
     ensures { IfOk result (λ serve. Some (planned (Plan.Serve serve)) ≡ asked_by (codes "serve") (rows_of
@@ -730,6 +815,7 @@ fn serve_from<'a>(alloc: Global, matches: &ArgMatches<'a>) -> Result<Serve<'a>, 
         config: config_at(matches),
         port: number_at(matches, "PORT", 0),
         count: number_at(matches, "COUNT", 0),
+        watch: watch_from(matches),
         book,
     })
 }

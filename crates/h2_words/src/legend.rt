@@ -19,6 +19,10 @@ What explain prints (docs/EXPLAIN.md):
   sent          a frame that the server sends for the item
   A -> B        a number before and after the item
 
+What serve prints (docs/FORMATS.md, serve):
+  connection K  that it is open, with --explain; how it ended; or, by fault N, why not to its end
+  K: LINE       with --explain, what explain prints of connection K
+
 What check prints is TAP (docs/CASES.md). Answers in a file: docs/BOOKS.md.
 
 fault N         on standard output, for programs: what was refused (docs/FORMATS.md, Faults). A sentence on

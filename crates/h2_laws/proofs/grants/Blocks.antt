@@ -23,7 +23,7 @@ use Rattle.h2_spec.specs.State.{State, OpenBlock, Decoding}
 use Rattle.h2_spec.specs.Change.{only_counts, with_outcome, stream_error}
 use Rattle.h2_spec.specs.Headers.{FrameEffect, Breaks, request_summary, new_stream, request_outcome, trailers_outcome, block_ends, fragment_decoded, decoded_with, fragment}
 use Rattle.h2_spec.specs.Effect.{body_length}
-use Rattle.h2_laws.specs.Grants.{Mark, Tally, When, with_mark_on, body_promised, with_fields, fields_at_end}
+use Rattle.h2_laws.specs.Grants.{StreamTally, Tally, When, with_tally_on, body_promised, with_fields, fields_at_end}
 use Rattle.h2_laws.specs.Order.{Rise}
 use Rattle.h2_laws.proofs.grants.Agreement.{Fits, IsRecorded, IsBlock, FitsBlock, Agreement}
 use Rattle.h2_laws.proofs.grants.Turns.{Proper, Good, just_asked, error-proper, error-good, Uncut-live, trailers_turn-proper, trailers_turn-good, request_turn-proper, request_turn-good}
@@ -40,12 +40,12 @@ no_fields : (book : List Entry) (o : Option (List ℕ)) → body_promised book o
 no_fields book (Some body) = refl
 no_fields book None = refl
 
--- a mark that stays
-mark-same : (id j : ℕ) (t : Tally) (n : Mark) → (eqb j id ≡ true → n ≡ t.mark) → with_mark_on id j t n ≡ t
-mark-same id j t n h = at (eqb j id) refl
+-- a tally that stays
+on_stream-same : (id j : ℕ) (t : Tally) (n : StreamTally) → (eqb j id ≡ true → n ≡ t.on_stream) → with_tally_on id j t n ≡ t
+on_stream-same id j t n h = at (eqb j id) refl
   where
-    at : (b : Bool) → eqb j id ≡ b → record t { mark = cond b n t.mark } ≡ t
-    at true e = ap (λ m. record t { mark = m }) (h e)
+    at : (b : Bool) → eqb j id ≡ b → record t { on_stream = cond b n t.on_stream } ≡ t
+    at true e = ap (λ m. record t { on_stream = m }) (h e)
     at false e = refl
 
 whenever : (P : Type 0) (b : Bool) → b ≡ true → When b P → P
@@ -54,12 +54,12 @@ whenever P false e p = absurd (false≢true e)
 
 -- ---- a request
 
--- m: the mark with the body that its fields promise
+-- m: the tally with the body that its fields promise
 request-kept : (id : ℕ) (s : State) (t : Tally) (j : ℕ) (ends : Bool) (fields : List Field) → 1 ≤ id → Agreement s.book id s t → s.block ≡ None → s.core.last < j →
-    Moves s.book id (with_mark_on id j t (with_fields s.book t.mark (Some fields))) s (block_ends s j ends fields Request)
+    Moves s.book id (with_tally_on id j t (with_fields s.book t.on_stream (Some fields))) s (block_ends s j ends fields Request)
 unfolding octets_waiting
 request-kept id s t j ends fields pos_id x none above =
-    outcome-kept id s t (cond (eqb j id) asked t.mark) (only_counts core) st outcome pos_id agrees none proper (omega arith, tt) ordered good (λ e. rw e refl) (λ e h. absurd (omega (arith, eqb-true j id e)))
+    outcome-kept id s t (cond (eqb j id) asked t.on_stream) (only_counts core) st outcome pos_id agrees none proper (omega arith, tt) ordered good (λ e. rw e refl) (λ e h. absurd (omega (arith, eqb-true j id e)))
   where
     f : BlockSummary
     f = request_summary s.book fields
@@ -73,8 +73,8 @@ request-kept id s t j ends fields pos_id x none above =
     core : ConnectionState
     core = record s.core { last = j }
 
-    asked : Mark
-    asked = with_fields s.book t.mark (Some fields)
+    asked : StreamTally
+    asked = with_fields s.book t.on_stream (Some fields)
 
     proper : Proper s.book st outcome
     proper = request_turn-proper s.book s.config (live_count s.streams) s.core j ends f
@@ -99,53 +99,53 @@ request-kept id s t j ends fields pos_id x none above =
       bodies = x.bodies;
       ordered = raised 0 s.core.last s.streams above x.ordered;
       idle = λ h. x.idle (omega arith);
-      of_block = subst (λ o. FitsBlock id j s.streams o t.mark) (sym none) tt;
+      of_block = subst (λ o. FitsBlock id j s.streams o t.on_stream) (sym none) tt;
     }
 
-    good : eqb j id ≡ true → Good s.book t.window (cond (eqb j id) asked t.mark) outcome
+    good : eqb j id ≡ true → Good s.book t.window (cond (eqb j id) asked t.on_stream) outcome
     good e =
         let blank = (x.idle (omega (arith, eqb-true j id e))).0 in
-        let m : Mark = just_asked (picked s.book f.pick).body in
+        let m : StreamTally = just_asked (picked s.book f.pick).body in
         let same : asked ≡ m = ap (λ n. with_fields s.book n (Some fields)) blank in
         rw (e, same) (subst (λ w. Good s.book w m outcome) x.same_window (request_turn-good s.book s.config (live_count s.streams) s.core j ends f))
 
 -- ---- the end of a block
 
-block-kept : (id : ℕ) (s : State) (t : Tally) (j : ℕ) (ends : Bool) (fields : List Field) (purpose : Purpose) → 1 ≤ id → Agreement s.book id s t → s.block ≡ None → IsBlock id s.core.last s.streams j purpose t.mark →
-    Moves s.book id (with_mark_on id j t (with_fields s.book t.mark (Some fields))) s (block_ends s j ends fields purpose)
+block-kept : (id : ℕ) (s : State) (t : Tally) (j : ℕ) (ends : Bool) (fields : List Field) (purpose : Purpose) → 1 ≤ id → Agreement s.book id s t → s.block ≡ None → IsBlock id s.core.last s.streams j purpose t.on_stream →
+    Moves s.book id (with_tally_on id j t (with_fields s.book t.on_stream (Some fields))) s (block_ends s j ends fields purpose)
 block-kept id s t j ends fields purpose pos_id x none b = at purpose b
   where
     st : Stream
     st = stream_at s.core.last s.streams j
 
     -- what was promised is promised
-    promised : (c : Change) → (eqb j id ≡ true → is_some t.mark.promised ≡ true) → Moves s.book id t s c → Moves s.book id (with_mark_on id j t (with_fields s.book t.mark (Some fields))) s c
-    promised c h = subst (λ u. Moves s.book id u s c) (sym (mark-same id j t (with_fields s.book t.mark (Some fields)) (λ e. ap (λ o. record t.mark { promised = o }) (promised-same s.book t.mark.promised (Some fields) (h e)))))
+    promised : (c : Change) → (eqb j id ≡ true → is_some t.on_stream.promised ≡ true) → Moves s.book id t s c → Moves s.book id (with_tally_on id j t (with_fields s.book t.on_stream (Some fields))) s c
+    promised c h = subst (λ u. Moves s.book id u s c) (sym (on_stream-same id j t (with_fields s.book t.on_stream (Some fields)) (λ e. ap (λ o. record t.on_stream { promised = o }) (promised-same s.book t.on_stream.promised (Some fields) (h e)))))
 
-    on_record : (outcome : StreamOutcome) → IsRecorded st.kind → Proper s.book st outcome → (eqb j id ≡ true → Fits s.book t.window st t.mark → Good s.book t.window t.mark outcome) → Moves s.book id t s (with_outcome (only_counts s.core) outcome)
-    on_record outcome r proper good = record-kept id s t t.mark (only_counts s.core) j outcome pos_id x none r proper good (λ e. refl)
+    on_record : (outcome : StreamOutcome) → IsRecorded st.kind → Proper s.book st outcome → (eqb j id ≡ true → Fits s.book t.window st t.on_stream → Good s.book t.window t.on_stream outcome) → Moves s.book id t s (with_outcome (only_counts s.core) outcome)
+    on_record outcome r proper good = record-kept id s t t.on_stream (only_counts s.core) j outcome pos_id x none r proper good (λ e. refl)
 
-    at : (purpose : Purpose) → IsBlock id s.core.last s.streams j purpose t.mark → Moves s.book id (with_mark_on id j t (with_fields s.book t.mark (Some fields))) s (block_ends s j ends fields purpose)
+    at : (purpose : Purpose) → IsBlock id s.core.last s.streams j purpose t.on_stream → Moves s.book id (with_tally_on id j t (with_fields s.book t.on_stream (Some fields))) s (block_ends s j ends fields purpose)
     at Request b = request-kept id s t j ends fields pos_id x none b.0
     at Trailers b =
-        let for : (e : eqb j id ≡ true) → (is_some t.mark.promised ≡ true) × (t.mark.reset ≡ false) = λ e. whenever _ (eqb j id) e b.1 in
+        let for : (e : eqb j id ≡ true) → (is_some t.on_stream.promised ≡ true) × (t.on_stream.reset ≡ false) = λ e. whenever _ (eqb j id) e b.1 in
         promised _ (λ e. (for e).0)
         (on_record (trailers_outcome (list_size fields) (trailers_fault fields) (body_length s.book st) s.core.peer.size_update_pending ends st) b.0
         (trailers_turn-proper s.book (list_size fields) (trailers_fault fields) s.core.peer.size_update_pending ends st)
-        (λ e f. trailers_turn-good s.book t.window t.mark (list_size fields) (trailers_fault fields) s.core.peer.size_update_pending ends st f (for e).1))
+        (λ e f. trailers_turn-good s.book t.window t.on_stream (list_size fields) (trailers_fault fields) s.core.peer.size_update_pending ends st f (for e).1))
     at Closed b =
-        let for : (e : eqb j id ≡ true) → (is_some t.mark.promised ≡ true) × (t.mark.reset ≡ false) = λ e. whenever _ (eqb j id) e b.1 in
+        let for : (e : eqb j id ≡ true) → (is_some t.on_stream.promised ≡ true) × (t.on_stream.reset ≡ false) = λ e. whenever _ (eqb j id) e b.1 in
         let same : st.id ≡ j = at-id s.core.last s.streams j in
         promised _ (λ e. (for e).0)
         (on_record (stream_error s.core.peer.size_update_pending j HeadersAfterEndStream) b.0
         (subst (λ i. Proper s.book st (stream_error s.core.peer.size_update_pending i HeadersAfterEndStream)) same (error-proper s.book s.core.peer.size_update_pending st HeadersAfterEndStream))
-        (λ e f. error-good s.book t.window t.mark s.core.peer.size_update_pending j HeadersAfterEndStream (Uncut-live st.kind (picked s.book st.pick).body t.window st.numbers.send st.numbers.body_remaining t.mark f (for e).1)))
+        (λ e f. error-good s.book t.window t.on_stream s.core.peer.size_update_pending j HeadersAfterEndStream (Uncut-live st.kind (picked s.book st.pick).body t.window st.numbers.send st.numbers.body_remaining t.on_stream f (for e).1)))
     at TableOnly b = promised _ (λ e. whenever _ (eqb j id) e b.1) (stays s.book id t s s.core NoConnectionFrame pos_id x)
 
 -- ---- a fragment
 
-pub fragment-kept : (id : ℕ) (s : State) (t : Tally) (b : BlockView) (d : Decoding) (octets : List ℕ) (ends : Bool) → 1 ≤ id → Agreement s.book id s t → IsBlock id s.core.last s.streams b.stream d.purpose t.mark →
-    Kept s.book id (with_mark_on id b.stream t (with_fields s.book t.mark (fields_at_end s (Some d) octets ends))) (fragment s b d octets ends)
+pub fragment-kept : (id : ℕ) (s : State) (t : Tally) (b : BlockView) (d : Decoding) (octets : List ℕ) (ends : Bool) → 1 ≤ id → Agreement s.book id s t → IsBlock id s.core.last s.streams b.stream d.purpose t.on_stream →
+    Kept s.book id (with_tally_on id b.stream t (with_fields s.book t.on_stream (fields_at_end s (Some d) octets ends))) (fragment s b d octets ends)
 fragment-kept id s t b d octets ends pos_id x of = over _ (cases ends)
   where
     c : BlockView
@@ -162,7 +162,7 @@ fragment-kept id s t b d octets ends pos_id x of = over _ (cases ends)
     over u k = either u (nat_lt 65536 (b.octets + length octets)) (Breaks _) (fragment_decoded s c d.purpose ends r) tt k
 
     -- the same state with another table and block
-    with_table : (table : Table) (o : Option OpenBlock) → FitsBlock id s.core.last s.streams o t.mark → Agreement s.book id (record s { table = table; block = o }) t
+    with_table : (table : Table) (o : Option OpenBlock) → FitsBlock id s.core.last s.streams o t.on_stream → Agreement s.book id (record s { table = table; block = o }) t
     with_table table o h = record {
       running = x.running;
       same_book = x.same_book;
@@ -182,13 +182,13 @@ fragment-kept id s t b d octets ends pos_id x of = over _ (cases ends)
     more (Faulty fault) = tt
     more (Unfinished rest) = stays s.book id t _ s.core NoConnectionFrame pos_id (with_table r.progress.table _ of)
 
-    last : (o : Outcome) → Kept s.book id (with_mark_on id b.stream t (with_fields s.book t.mark (Some r.progress.fields))) (fragment_decoded s c d.purpose true (record r { outcome = o }))
+    last : (o : Outcome) → Kept s.book id (with_tally_on id b.stream t (with_fields s.book t.on_stream (Some r.progress.fields))) (fragment_decoded s c d.purpose true (record r { outcome = o }))
     last (Faulty fault) = tt
     last (Unfinished rest) =
         either _ (not (eqb (length rest) 0)) (Breaks _) _ tt
         (either _ r.progress.due (Breaks _) _ tt
         (block-kept id (record s { table = r.progress.table; block = None }) t b.stream b.ends r.progress.fields d.purpose pos_id (with_table r.progress.table None tt) refl of))
 
-    cases : (e : Bool) → Kept s.book id (with_mark_on id b.stream t (with_fields s.book t.mark (fields_at_end s (Some d) octets e))) (fragment_decoded s c d.purpose e r)
-    cases false = subst (λ u. Kept s.book id u (fragment_decoded s c d.purpose false r)) (sym (mark-same id b.stream t _ (λ e. ap (λ o. record t.mark { promised = o }) (no_fields s.book t.mark.promised)))) (more r.outcome)
+    cases : (e : Bool) → Kept s.book id (with_tally_on id b.stream t (with_fields s.book t.on_stream (fields_at_end s (Some d) octets e))) (fragment_decoded s c d.purpose e r)
+    cases false = subst (λ u. Kept s.book id u (fragment_decoded s c d.purpose false r)) (sym (on_stream-same id b.stream t _ (λ e. ap (λ o. record t.on_stream { promised = o }) (no_fields s.book t.on_stream.promised)))) (more r.outcome)
     cases true = last r.outcome

@@ -11,8 +11,8 @@ use Rattle.h2_spec.specs.declared.connection.Purpose.TheVariants.{Request, Trail
 use Rattle.h2_spec.specs.declared.frames.Head.{Head}
 use Rattle.h2_spec.specs.declared.reactions.ConnectionFrame.TheVariants.{NoConnectionFrame, PingAck}
 use Rattle.h2_spec.specs.declared.reactions.Reaction.TheVariants.{Continues}
-use Rattle.h2_spec.specs.declared.streams.Kind.{Kind}
-use Rattle.h2_spec.specs.declared.streams.Kind.TheVariants.{Idle, Skipped, BothOpen, HalfRemote, HalfLocal, Ended, PeerReset, WeReset}
+use Rattle.h2_spec.specs.declared.streams.StreamState.{StreamState}
+use Rattle.h2_spec.specs.declared.streams.StreamState.TheVariants.{Idle, Skipped, BothOpen, HalfRemote, HalfLocal, Ended, PeerReset, WeReset}
 use Rattle.h2_spec.specs.declared.streams.Stream.{Stream}
 use Rattle.h2_spec.specs.FrameType.{END_HEADERS, ACK, frame_type, has}
 use Rattle.h2_spec.specs.Frame.{Item, Preface, BadPreface, WholeFrame, Oversize}
@@ -27,7 +27,7 @@ use Rattle.h2_spec.specs.ReactionTable.{Rule, Error, headers_cell}
 use Rattle.h2_spec.specs.WindowUpdate.{connection_window}
 use Rattle.h2_spec.specs.Headers.{makes, fresh_block, fresh_decoding, block_opens, continued}
 use Rattle.h2_spec.specs.Effect.{nothing, incoming, on_headers, on_window, frame_effect, part_effect, checked_effect, block_stream, item_effect}
-use Rattle.h2_laws.specs.Grants.{Tally, When, with_mark_on, with_fields, with_fragment, fields_at_end, received_part, received_frame, received}
+use Rattle.h2_laws.specs.Grants.{Tally, When, with_tally_on, with_fields, with_fragment, fields_at_end, received_part, received_frame, received}
 use Rattle.h2_laws.proofs.grants.Tallies.{always}
 use Rattle.h2_laws.proofs.grants.Agreement.{FitsAs, IsRecorded, IsBlock, IsDecoding, FitsBlock, Agreement}
 use Rattle.h2_laws.proofs.grants.Turns.{granted_more, Uncut-live}
@@ -45,9 +45,9 @@ module _ (id : ℕ) (s : State) (t : Tally) (h : Head) (p : List ℕ) (pos_id : 
   abbrev headers : HeadersPart → Tally
   headers part = with_fragment s.book id s t h (Some (fresh_decoding s Request)) part.fragment
 
-  opens : (part : HeadersPart) (purpose : Purpose) → IsBlock id s.core.last s.streams h.stream purpose t.mark → Kept s.book id (headers part) (block_opens s purpose h part)
+  opens : (part : HeadersPart) (purpose : Purpose) → IsBlock id s.core.last s.streams h.stream purpose t.on_stream → Kept s.book id (headers part) (block_opens s purpose h part)
   opens part purpose of =
-      subst (λ fs. Kept s.book id (with_mark_on id h.stream t (with_fields s.book t.mark fs)) (block_opens s purpose h part)) (same (has h.flags END_HEADERS))
+      subst (λ fs. Kept s.book id (with_tally_on id h.stream t (with_fields s.book t.on_stream fs)) (block_opens s purpose h part)) (same (has h.flags END_HEADERS))
       (fragment-kept id s t (fresh_block h) (fresh_decoding s purpose) part.fragment (has h.flags END_HEADERS) pos_id x of)
     where
       same : (ends : Bool) → fields_at_end s (Some (fresh_decoding s purpose)) part.fragment ends ≡ fields_at_end s (Some (fresh_decoding s Request)) part.fragment ends
@@ -55,20 +55,20 @@ module _ (id : ℕ) (s : State) (t : Tally) (h : Head) (p : List ℕ) (pos_id : 
       same false = refl
 
   -- what the record of the stream that is followed says
-  own : (P : Type 0) (k : Kind) → IsRecorded k → st.kind ≡ k → (FitsAs k (picked s.book st.pick).body t.window st.numbers.send st.numbers.body_remaining t.mark → P) → When (eqb h.stream id) P
+  own : (P : Type 0) (k : StreamState) → IsRecorded k → st.kind ≡ k → (FitsAs k (picked s.book st.pick).body t.window st.numbers.send st.numbers.body_remaining t.on_stream → P) → When (eqb h.stream id) P
   own P k r e f = at (eqb h.stream id) refl
     where
       at : (b : Bool) → eqb h.stream id ≡ b → When b P
       at false g = tt
       at true g =
           let found : record_of s.streams id ≡ Some st = subst (λ i. record_of s.streams i ≡ Some st) (eqb-true h.stream id g) (at-found s.core.last s.streams h.stream (subst IsRecorded (sym e) r)) in
-          f (subst (λ k. FitsAs k (picked s.book st.pick).body t.window st.numbers.send st.numbers.body_remaining t.mark) e (found-fits s.book t.window id s.streams t.mark st found x.agreed))
+          f (subst (λ k. FitsAs k (picked s.book st.pick).body t.window st.numbers.send st.numbers.body_remaining t.on_stream) e (found-fits s.book t.window id s.streams t.on_stream st found x.agreed))
 
-  live : (k : Kind) → IsLive k → IsRecorded k → st.kind ≡ k → When (eqb h.stream id) ((is_some t.mark.promised ≡ true) × (t.mark.reset ≡ false))
-  live k l r e = own ((is_some t.mark.promised ≡ true) × (t.mark.reset ≡ false)) k r e
+  live : (k : StreamState) → IsLive k → IsRecorded k → st.kind ≡ k → When (eqb h.stream id) ((is_some t.on_stream.promised ≡ true) × (t.on_stream.reset ≡ false))
+  live k l r e = own ((is_some t.on_stream.promised ≡ true) × (t.on_stream.reset ≡ false)) k r e
       (λ f.
-      let reset : t.mark.reset ≡ false = live-reset k (picked s.book st.pick).body t.window st.numbers.send st.numbers.body_remaining t.mark l f in
-      ((Uncut-live k (picked s.book st.pick).body t.window st.numbers.send st.numbers.body_remaining t.mark f reset).promised, reset))
+      let reset : t.on_stream.reset ≡ false = live-reset k (picked s.book st.pick).body t.window st.numbers.send st.numbers.body_remaining t.on_stream l f in
+      ((Uncut-live k (picked s.book st.pick).body t.window st.numbers.send st.numbers.body_remaining t.on_stream f reset).promised, reset))
 
   headers-kept : (part : HeadersPart) → Kept s.book id (headers part) (on_headers s h part (headers_cell h.stream st.kind))
   headers-kept part = at st.kind refl
@@ -77,7 +77,7 @@ module _ (id : ℕ) (s : State) (t : Tally) (h : Head) (p : List ℕ) (pos_id : 
       first true odd e = opens part Request (at-idle s.book s.core.last s.streams h.stream x.bodies e odd, always (eqb h.stream id) tt)
       first false odd e = tt
 
-      at : (k : Kind) → st.kind ≡ k → Kept s.book id (headers part) (on_headers s h part (headers_cell h.stream k))
+      at : (k : StreamState) → st.kind ≡ k → Kept s.book id (headers part) (on_headers s h part (headers_cell h.stream k))
       at Idle e = first (eqb (h.stream % 2) 1) refl e
       at Skipped e = tt
       at BothOpen e = opens part Trailers (subst IsRecorded (sym e) tt, live BothOpen tt tt e)
@@ -85,7 +85,7 @@ module _ (id : ℕ) (s : State) (t : Tally) (h : Head) (p : List ℕ) (pos_id : 
       at HalfRemote e = opens part Closed (subst IsRecorded (sym e) tt, live HalfRemote tt tt e)
       at Ended e = tt
       at PeerReset e = tt
-      at WeReset e = opens part TableOnly (tt, own (is_some t.mark.promised ≡ true) WeReset tt e (λ f. f.promised))
+      at WeReset e = opens part TableOnly (tt, own (is_some t.on_stream.promised ≡ true) WeReset tt e (λ f. f.promised))
 
   -- ---- each type of frame, where no block is open
 
@@ -98,12 +98,12 @@ module _ (id : ℕ) (s : State) (t : Tally) (h : Head) (p : List ℕ) (pos_id : 
   part-kept OfSettingsAck = acknowledged-kept id s t pos_id x none
   part-kept OfPushPromise = tt
   part-kept (OfPing octets) =
-      either-kept s.book id t s (has h.flags ACK) (nothing s.core) (Continues (record (only_counts s.core) { first = PingAck octets }))
+      either-kept s.book id t s (has h.flags ACK) (nothing s.core) (Continues (record (only_counts s.core) { connection_frame = PingAck octets }))
       (stays s.book id t s s.core NoConnectionFrame pos_id x) (stays s.book id t s s.core (PingAck octets) pos_id x)
   part-kept (OfGoaway last code) = stays s.book id t s (record s.core { goaway = Some (last, code) }) NoConnectionFrame pos_id x
   part-kept (OfWindowUpdate n) = at (eqb h.stream 0)
     where
-      at : (b : Bool) → Kept s.book id (cond b (record t { granted = t.granted + n }) (with_mark_on id h.stream t (granted_more n t.mark))) (makes s (cond b (connection_window s.core n) (on_window s.core n st)))
+      at : (b : Bool) → Kept s.book id (cond b (record t { granted = t.granted + n }) (with_tally_on id h.stream t (granted_more n t.on_stream))) (makes s (cond b (connection_window s.core n) (on_window s.core n st)))
       at true = connection-kept id s t n pos_id x
       at false = window-kept id s t h.stream pos_id x none n
   part-kept (OfContinuation fragment) = rw none tt
@@ -140,11 +140,11 @@ frame-kept id s t h p pos_id x e = at s.block refl e
     inside : (b : OpenBlock) → s.block ≡ Some b → h.stream ≡ b.shown.stream → Kept s.book id (received_part s.book id s t h (OfContinuation p)) (frame_effect s h p (OfContinuation p))
     inside b g same = rw (g, same) (decoding b.decoding agreed)
       where
-        agreed : FitsBlock id s.core.last s.streams (Some b) t.mark
-        agreed = subst (λ o. FitsBlock id s.core.last s.streams o t.mark) g x.of_block
+        agreed : FitsBlock id s.core.last s.streams (Some b) t.on_stream
+        agreed = subst (λ o. FitsBlock id s.core.last s.streams o t.on_stream) g x.of_block
 
-        decoding : (o : Option Decoding) → IsDecoding id s.core.last s.streams b.shown.stream o t.mark →
-            Kept s.book id (with_mark_on id b.shown.stream t (with_fields s.book t.mark (fields_at_end s o p (has h.flags END_HEADERS)))) (continued s b.shown o p (has h.flags END_HEADERS))
+        decoding : (o : Option Decoding) → IsDecoding id s.core.last s.streams b.shown.stream o t.on_stream →
+            Kept s.book id (with_tally_on id b.shown.stream t (with_fields s.book t.on_stream (fields_at_end s o p (has h.flags END_HEADERS)))) (continued s b.shown o p (has h.flags END_HEADERS))
         decoding None f = tt
         decoding (Some d) f = fragment-kept id s t b.shown d p (has h.flags END_HEADERS) pos_id x f
 

@@ -5,8 +5,8 @@ use Rattle.std.specs.Prelude.{ℤ}
 use Rattle.h2_spec.specs.declared.connection.Config.{Config}
 use Rattle.h2_spec.specs.declared.connection.Phase.{Phase}
 use Rattle.h2_spec.specs.declared.connection.Phase.TheVariants as phase
-use Rattle.h2_spec.specs.declared.streams.Kind.{Kind}
-use Rattle.h2_spec.specs.declared.streams.Kind.TheVariants.{Idle, Skipped, BothOpen, HalfRemote, HalfLocal, Ended, PeerReset, WeReset}
+use Rattle.h2_spec.specs.declared.streams.StreamState.{StreamState}
+use Rattle.h2_spec.specs.declared.streams.StreamState.TheVariants.{Idle, Skipped, BothOpen, HalfRemote, HalfLocal, Ended, PeerReset, WeReset}
 use Rattle.h2_spec.specs.declared.streams.Stream.{Stream}
 use Rattle.h2_spec.specs.Parse.{parse_first, parse_all}
 use Rattle.h2_spec.specs.Frame.{Frame, Item, Next, NoItem, Got}
@@ -18,7 +18,7 @@ use Rattle.h2_spec.specs.Headers.{FrameEffect, Breaks, Makes}
 use Rattle.h2_spec.specs.Effect.{item_effect, concluded, effect}
 use Rattle.h2_spec.specs.SendPending.{send_pending}
 use Rattle.h2_spec.specs.Trace.{then_sent, step, next_in, next_item, event_on, next_event, trace}
-use Rattle.h2_laws.specs.Grants.{Mark, Tally, When, IsWithinConnection, IsWithinStream, IsWithinFrameSize, IsInOrder, IsBeforeEnd, IsOfBody, body_or_nothing, IsUsedUp, is_unfinished, sends_data, sent_all, received, received_by, has_ended, start, Meets, Keeps, KeepsGrants}
+use Rattle.h2_laws.specs.Grants.{StreamTally, Tally, When, IsWithinConnection, IsWithinStream, IsWithinFrameSize, IsInOrder, IsBeforeEnd, IsOfBody, body_or_nothing, IsUsedUp, is_unfinished, sends_data, sent_all, received, received_by, has_ended, start, Meets, Keeps, KeepsGrants}
 use Rattle.h2_laws.specs.Order.{Rise, AreOrdered, KeepsOrder}
 use Rattle.h2_spec.proofs.ParseLaws.{Uses, parse_all-step}
 use Rattle.h2_spec.proofs.TraceLaws.{event-uses}
@@ -31,7 +31,7 @@ use Rattle.h2_laws.proofs.grants.Items.{item-kept}
 
 -- ---- what the record says of the content
 
-fits-of_body : (kind : Kind) (body : List ℕ) (window : ℕ) (send : ℤ) (left : Option ℕ) (m : Mark) → FitsAs kind body window send left m → IsOfBody m
+fits-of_body : (kind : StreamState) (body : List ℕ) (window : ℕ) (send : ℤ) (left : Option ℕ) (m : StreamTally) → FitsAs kind body window send left m → IsOfBody m
 fits-of_body Idle body window send left m f = absurd f
 fits-of_body Skipped body window send left m f = absurd f
 fits-of_body BothOpen body window send left m f = (Uncut-sends body window send left m f).of_body
@@ -45,7 +45,7 @@ when_not : (P : Type 0) (b : Bool) → b ≡ false → When b P
 when_not P true e = absurd (both_ways true e refl)
 when_not P false e = tt
 
-agreed-of_body : (book : List Entry) (window id : ℕ) (sts : List Stream) (m : Mark) → FitsStreams book window id sts m → IsOfBody m
+agreed-of_body : (book : List Entry) (window id : ℕ) (sts : List Stream) (m : StreamTally) → FitsStreams book window id sts m → IsOfBody m
 agreed-of_body book window id [] m f = (([], rw (f.content, f.promised) refl), when_not (m.content ≡ body_or_nothing m.promised) m.ended f.ended)
 agreed-of_body book window id (x ∷ sts) m f = at (λ g. agreed-of_body book window id sts m g) (eqb x.id id) f
   where
@@ -55,14 +55,14 @@ agreed-of_body book window id (x ∷ sts) m f = at (λ g. agreed-of_body book wi
 
 -- ---- the tests, from frames that lead to a tally
 
-meets : (id : ℕ) (ends : Bool) (t u : Tally) (sent : List Frame) → Leads id t sent u → IsWithinConnection u → When (sends_data id sent) (IsWithinStream u) → IsOfBody u.mark → When (not ends && is_unfinished u.mark) (IsUsedUp u) → Meets id ends t sent
+meets : (id : ℕ) (ends : Bool) (t u : Tally) (sent : List Frame) → Leads id t sent u → IsWithinConnection u → When (sends_data id sent) (IsWithinStream u) → IsOfBody u.on_stream → When (not ends && is_unfinished u.on_stream) (IsUsedUp u) → Meets id ends t sent
 meets id ends t u sent l a b c d = record {
   within_connection = subst IsWithinConnection (sym l.tally) a;
   within_stream = subst (λ v. When (sends_data id sent) (IsWithinStream v)) (sym l.tally) b;
   within_frame_size = AtEach-weaker (IsRight id) IsWithinFrameSize (λ v f o. o.0) id t sent l.right;
-  answers_once = (AtEach-weaker (IsRight id) (IsInOrder id) (λ v f o. o.1) id t sent l.right, subst (λ (v : Tally). IsOfBody v.mark) (sym l.tally) c);
+  answers_once = (AtEach-weaker (IsRight id) (IsInOrder id) (λ v f o. o.1) id t sent l.right, subst (λ (v : Tally). IsOfBody v.on_stream) (sym l.tally) c);
   silent_after_end = AtEach-weaker (IsRight id) (IsBeforeEnd id) (λ v f o. o.2) id t sent l.right;
-  nothing_held_back = subst (λ (v : Tally). When (not ends && is_unfinished v.mark) (IsUsedUp v)) (sym l.tally) d;
+  nothing_held_back = subst (λ (v : Tally). When (not ends && is_unfinished v.on_stream) (IsUsedUp v)) (sym l.tally) d;
 }
 
 when_so : (P : Type 0) (b : Bool) → (b ≡ true → P) → When b P
@@ -91,7 +91,7 @@ steps book id s t item pos_id x = at (item_effect s item) (item-kept book id s t
           let sent : List Frame = goaway s.core.last (code_of cause) ∷ [] in
           let quiet : sends_data id sent ≡ false = quiet-only id 0 sent (refl, refl, tt) in
           subst (λ v. Meets id true v sent) (sym e)
-          (meets id true t t sent (other-leads id 0 t sent (not_zero id pos_id) (refl, refl, tt)) x.within (when_not (IsWithinStream t) (sends_data id sent) quiet) (agreed-of_body book t.window id s.streams t.mark x.agreed) tt);
+          (meets id true t t sent (other-leads id 0 t sent (not_zero id pos_id) (refl, refl, tt)) x.within (when_not (IsWithinStream t) (sends_data id sent) quiet) (agreed-of_body book t.window id s.streams t.on_stream x.agreed) tt);
       ordered = x.ordered;
       agrees = λ e. absurd (both_ways true e refl);
     }
@@ -119,8 +119,8 @@ steps book id s t item pos_id x = at (item_effect s item) (item-kept book id s t
             kept =
                 meets id false u v all.sent both-lead y.agrees.within
                 (subst (λ b. When b (IsWithinStream v)) (sym (sends_data-append id e.sent q.sent ∙ ap (λ b. b || sends_data id q.sent) quiet)) y.stream)
-                (agreed-of_body book v.window id q.state.streams v.mark y.agrees.agreed)
-                (when_so (IsUsedUp v) (is_unfinished v.mark) y.used_up)
+                (agreed-of_body book v.window id q.state.streams v.on_stream y.agrees.agreed)
+                (when_so (IsUsedUp v) (is_unfinished v.on_stream) y.used_up)
 
             both : Steps book id t u all
             both = record {

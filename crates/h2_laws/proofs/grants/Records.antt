@@ -2,11 +2,11 @@
 -- others.
 use Rattle.std.proofs.Common.{◌≡◌, ℕ, ◌%◌, ◌<◌, ◌≤◌, Bool, true, false, cond, List, [], ◌∷◌, refl, sym, ap, subst, ◌∙◌, arith, eqb, ltb, Option, Some, None}
 use Rattle.std.proofs.lemmas.Bool.{eqb-true, eq-eqb, ltb-true, ltb-false, both_ways}
-use Rattle.h2_spec.specs.declared.streams.Kind.TheVariants.{Idle, Skipped}
+use Rattle.h2_spec.specs.declared.streams.StreamState.TheVariants.{Idle, Skipped}
 use Rattle.h2_spec.specs.declared.streams.Stream.{Stream}
 use Rattle.h2_spec.specs.Answer.{Entry}
 use Rattle.h2_spec.specs.Stream.{not_live, record_of, recorded, stream_at, put}
-use Rattle.h2_laws.specs.Grants.{Mark}
+use Rattle.h2_laws.specs.Grants.{StreamTally}
 use Rattle.h2_laws.specs.Order.{Rise}
 use Rattle.h2_laws.proofs.grants.Agreement.{Fits, Absent, Unasked, Either, FitsStreams, IsRecorded, HasBody, Bodies}
 
@@ -28,7 +28,7 @@ found-body book j (x ∷ sts) st e b = at (λ g. found-body book j sts st g b.1)
     at more true e = let same : x ≡ st = cc in subst (HasBody book) same b.0
     at more false e = more e
 
-pub found-fits : (book : List Entry) (window id : ℕ) (sts : List Stream) (m : Mark) (st : Stream) → record_of sts id ≡ Some st → FitsStreams book window id sts m → Fits book window st m
+pub found-fits : (book : List Entry) (window id : ℕ) (sts : List Stream) (m : StreamTally) (st : Stream) → record_of sts id ≡ Some st → FitsStreams book window id sts m → Fits book window st m
 found-fits book window id [] m st e f = absurd (cc)
 found-fits book window id (x ∷ sts) m st e f = at (λ g h. found-fits book window id sts m st g h) (eqb x.id id) e f
   where
@@ -48,7 +48,7 @@ none-absent j (x ∷ sts) e = at (none-absent j sts) (eqb x.id j) refl e
     at more true g e = absurd (cc)
     at more false g e = (g, more e)
 
-pub unfound : (book : List Entry) (window id : ℕ) (sts : List Stream) (m : Mark) → record_of sts id ≡ None → FitsStreams book window id sts m → Unasked m × Absent id sts
+pub unfound : (book : List Entry) (window id : ℕ) (sts : List Stream) (m : StreamTally) → record_of sts id ≡ None → FitsStreams book window id sts m → Unasked m × Absent id sts
 unfound book window id [] m e f = (f, tt)
 unfound book window id (x ∷ sts) m e f = at (λ g h. unfound book window id sts m g h) (eqb x.id id) refl e f
   where
@@ -165,7 +165,7 @@ put-bodies book y (x ∷ sts) h b = at (eqb x.id y.id) (put-bodies book y sts h 
     at true more = (h, b.1)
     at false more = (b.0, more)
 
-pub put-own : (book : List Entry) (window id : ℕ) (y : Stream) (sts : List Stream) (m n : Mark) → y.id ≡ id → FitsStreams book window id sts m → Fits book window y n → FitsStreams book window id (put y sts) n
+pub put-own : (book : List Entry) (window id : ℕ) (y : Stream) (sts : List Stream) (m n : StreamTally) → y.id ≡ id → FitsStreams book window id sts m → Fits book window y n → FitsStreams book window id (put y sts) n
 put-own book window id y [] m n e f h = rw (eq-eqb y.id id e) (h, tt)
 put-own book window id y (x ∷ sts) m n e f h = at (λ g. put-own book window id y sts m n e g h) (eqb x.id y.id) (ap (eqb x.id) e) f
   where
@@ -174,7 +174,7 @@ put-own book window id y (x ∷ sts) m n e f h = at (λ g. put-own book window i
     at more true g f = rw (eq-eqb y.id id e) (h, (rw (sym g) at f).1)
     at more false g f = rw (sym g) (more (rw (sym g) at f))
 
-pub put-other : (book : List Entry) (window id : ℕ) (y : Stream) (sts : List Stream) (m : Mark) → eqb y.id id ≡ false → FitsStreams book window id sts m → FitsStreams book window id (put y sts) m
+pub put-other : (book : List Entry) (window id : ℕ) (y : Stream) (sts : List Stream) (m : StreamTally) → eqb y.id id ≡ false → FitsStreams book window id sts m → FitsStreams book window id (put y sts) m
 put-other book window id y [] m d f = rw d f
 put-other book window id y (x ∷ sts) m d f = at (λ k. put-other book window id y sts m d k) (eqb x.id y.id) refl (eqb x.id id) refl f
   where
@@ -210,17 +210,17 @@ put-last low high y (x ∷ sts) h r = at (put-last x.id high y sts h r.1) (eqb x
     at more true g = let le = rise-le x.id high sts r.1 in let same = eqb-true x.id y.id g in absurd (omega arith)
     at more false g = (r.0, more)
 
--- ---- another mark
+-- ---- another tally
 
--- the mark alone changes
-pub remarked : (book : List Entry) (window id : ℕ) (sts : List Stream) (m n : Mark) (st : Stream) → record_of sts id ≡ Some st → (Fits book window st m → Fits book window st n) → FitsStreams book window id sts m → FitsStreams book window id sts n
-remarked book window id [] m n st e h f = absurd (cc)
-remarked book window id (x ∷ sts) m n st e h f = at (λ g k. remarked book window id sts m n st g h k) (eqb x.id id) e f
+-- the tally alone changes
+pub retallied : (book : List Entry) (window id : ℕ) (sts : List Stream) (m n : StreamTally) (st : Stream) → record_of sts id ≡ Some st → (Fits book window st m → Fits book window st n) → FitsStreams book window id sts m → FitsStreams book window id sts n
+retallied book window id [] m n st e h f = absurd (cc)
+retallied book window id (x ∷ sts) m n st e h f = at (λ g k. retallied book window id sts m n st g h k) (eqb x.id id) e f
   where
     at : (record_of sts id ≡ Some st → FitsStreams book window id sts m → FitsStreams book window id sts n) → (c : Bool) → cond c (Some x) (record_of sts id) ≡ Some st → Either c (Fits book window x m × Absent id sts) (FitsStreams book window id sts m) → Either c (Fits book window x n × Absent id sts) (FitsStreams book window id sts n)
     at more true e f = let same : x ≡ st = cc in (subst (λ y. Fits book window y m → Fits book window y n) (sym same) h f.0, f.1)
     at more false e f = more e f
 
-pub unmarked : (book : List Entry) (window id : ℕ) (sts : List Stream) (n : Mark) → Absent id sts → Unasked n → FitsStreams book window id sts n
-unmarked book window id [] n a u = u
-unmarked book window id (x ∷ sts) n a u = rw a.0 (unmarked book window id sts n a.1 u)
+pub untallied : (book : List Entry) (window id : ℕ) (sts : List Stream) (n : StreamTally) → Absent id sts → Unasked n → FitsStreams book window id sts n
+untallied book window id [] n a u = u
+untallied book window id (x ∷ sts) n a u = rw a.0 (untallied book window id sts n a.1 u)

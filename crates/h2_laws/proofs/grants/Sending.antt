@@ -5,8 +5,8 @@ use Rattle.std.proofs.lemmas.Bool.{eqb-true, eqb-false, ne_eqb, cases_lt, both_w
 use Rattle.std.proofs.lemmas.Int.{ints}
 use Rattle.std.specs.Option.{is_some}
 use Rattle.std.specs.Prelude.{ℤ, pos, negsuc, ◌+ℤ◌, ◌-ℤ◌}
-use Rattle.h2_spec.specs.declared.streams.Kind.{Kind}
-use Rattle.h2_spec.specs.declared.streams.Kind.TheVariants.{Idle, Skipped, BothOpen, HalfRemote, HalfLocal, Ended, PeerReset, WeReset}
+use Rattle.h2_spec.specs.declared.streams.StreamState.{StreamState}
+use Rattle.h2_spec.specs.declared.streams.StreamState.TheVariants.{Idle, Skipped, BothOpen, HalfRemote, HalfLocal, Ended, PeerReset, WeReset}
 use Rattle.h2_spec.specs.declared.streams.Numbers.{Numbers}
 use Rattle.h2_spec.specs.declared.streams.Pick.{Pick}
 use Rattle.h2_spec.specs.declared.streams.Stream.{Stream}
@@ -18,7 +18,7 @@ use Rattle.h2_spec.specs.Window.{sendable}
 use Rattle.h2_spec.specs.Change.{Step}
 use Rattle.h2_spec.specs.StreamEnds.{server_ended, server_ended_as, with_body_remaining}
 use Rattle.h2_spec.specs.SendPending.{allowance, data_upto, data_frames, allowance_frames, with_paid, after_sending, sent_frames, all_after_sending, window_left, send_pending}
-use Rattle.h2_laws.specs.Grants.{Mark, Tally, When, AtEach, IsWithinStream, IsUsedUp, body_or_nothing, is_unfinished, sends_data, sent_all}
+use Rattle.h2_laws.specs.Grants.{StreamTally, Tally, When, AtEach, IsWithinStream, IsUsedUp, body_or_nothing, is_unfinished, sends_data, sent_all}
 use Rattle.h2_laws.specs.Order.{Rise}
 use Rattle.h2_laws.proofs.grants.Tallies.{always, IsRight, Leads, Leads-append, Leads-to, elsewhere, nowhere, data-elsewhere, data-own, sends_data-append, quiet-append, finished_by_end, finished_by_reset, not_begun}
 use Rattle.h2_laws.proofs.grants.Records.{still-recorded}
@@ -49,7 +49,7 @@ after-id : (n : ℕ) (st : Stream) → (after_sending n st).id ≡ st.id
 unfolding after_sending server_ended
 after-id n st = at (eqb n 0) (eqb (octets_waiting st) n) st.kind
   where
-    at : (z b : Bool) (k : Kind) → (cond z st (cond b (server_ended_as k (with_paid st n)) (with_body_remaining (with_paid st n) (octets_waiting st - n)))).id ≡ st.id
+    at : (z b : Bool) (k : StreamState) → (cond z st (cond b (server_ended_as k (with_paid st n)) (with_body_remaining (with_paid st n) (octets_waiting st - n)))).id ≡ st.id
     at true b k = refl
     at false false k = refl
     at false true Idle = refl
@@ -66,10 +66,10 @@ unfolding after_sending server_ended octets_waiting
 after-has_body book n st h = at (eqb n 0) (eqb (octets_waiting st) n) st.kind h
   where
     -- the record with another state
-    in_state : Kind → Stream
+    in_state : StreamState → Stream
     in_state k = record st { kind = k }
 
-    at : (z b : Bool) (k : Kind) → HasBody book (in_state k) → HasBody book (cond z (in_state k) (cond b (server_ended_as k (with_paid (in_state k) n)) (with_body_remaining (with_paid (in_state k) n) (octets_waiting (in_state k) - n))))
+    at : (z b : Bool) (k : StreamState) → HasBody book (in_state k) → HasBody book (cond z (in_state k) (cond b (server_ended_as k (with_paid (in_state k) n)) (with_body_remaining (with_paid (in_state k) n) (octets_waiting (in_state k) - n))))
     at true b k h = h
     at false false Idle h = (omega arith, h.1)
     at false false Skipped h = (omega arith, h.1)
@@ -129,15 +129,15 @@ passes book id size (st ∷ sts) t w f h a b =
 
 -- what its share leaves
 record Pays (book : List Entry) (id : ℕ) (t : Tally) (w : ℕ) (frames : List Frame) (n : ℕ) (st : Stream) : Type 0 where
-  mark : Mark
-  leads : Leads id t frames (record t { sent = t.sent + n; mark = mark })
-  fits : Fits book t.window st mark
-  promised : mark.promised ≡ t.mark.promised
-  reset : mark.reset ≡ t.mark.reset
-  stream : When (sends_data id frames) (length mark.content ≤ t.window + mark.granted)
-  held : is_unfinished mark ≡ true → (t.window + mark.granted ≤ length mark.content) ⊎ (n ≡ w)
+  on_stream : StreamTally
+  leads : Leads id t frames (record t { sent = t.sent + n; on_stream = on_stream })
+  fits : Fits book t.window st on_stream
+  promised : on_stream.promised ≡ t.on_stream.promised
+  reset : on_stream.reset ≡ t.on_stream.reset
+  stream : When (sends_data id frames) (length on_stream.content ≤ t.window + on_stream.granted)
+  held : is_unfinished on_stream ≡ true → (t.window + on_stream.granted ≤ length on_stream.content) ⊎ (n ≡ w)
 
-held-sends : (body : List ℕ) (window w : ℕ) (x : Numbers) (m : Mark) → Sends body window x.send x.body_remaining m → is_unfinished m ≡ true → min (min (octets_left x.body_remaining) (sendable x.send)) w ≡ 0 → (window + m.granted ≤ length m.content) ⊎ (0 ≡ w)
+held-sends : (body : List ℕ) (window w : ℕ) (x : Numbers) (m : StreamTally) → Sends body window x.send x.body_remaining m → is_unfinished m ≡ true → min (min (octets_left x.body_remaining) (sendable x.send)) w ≡ 0 → (window + m.granted ≤ length m.content) ⊎ (0 ≡ w)
 held-sends body window w x m f u e = at x.body_remaining x.send f.waits f.send_is e
   where
     at : (o : Option ℕ) (z : ℤ) → Waits body o m → z +ℤ pos (length m.content) ≡ pos (window + m.granted) → min (min (octets_left o) (sendable z)) w ≡ 0 → (window + m.granted ≤ length m.content) ⊎ (0 ≡ w)
@@ -147,12 +147,12 @@ held-sends body window w x m f u e = at x.body_remaining x.send f.waits f.send_i
     at (Some l) (pos (suc k)) p q e = inr (omega arith)
 
 -- where it sends nothing
-rests : (book : List Entry) (id w : ℕ) (i : ℕ) (kind : Kind) (x : Numbers) (pick : Pick) (t : Tally) →
+rests : (book : List Entry) (id w : ℕ) (i : ℕ) (kind : StreamState) (x : Numbers) (pick : Pick) (t : Tally) →
     let st : Stream = record { id = i; kind = kind; numbers = x; pick = pick } in
-    Fits book t.window st t.mark → allowance w st ≡ 0 → Pays book id t w [] 0 st
+    Fits book t.window st t.on_stream → allowance w st ≡ 0 → Pays book id t w [] 0 st
 unfolding allowance octets_waiting
 rests book id w i kind x pick t f e = record {
-  mark = t.mark;
+  on_stream = t.on_stream;
   leads = nowhere id t;
   fits = f;
   promised = refl;
@@ -161,15 +161,15 @@ rests book id w i kind x pick t f e = record {
   held = λ u. at kind f u e;
 }
   where
-    at : (k : Kind) → FitsAs k (picked book pick).body t.window x.send x.body_remaining t.mark → is_unfinished t.mark ≡ true → min (min (cond (is_live k) (octets_left x.body_remaining) 0) (sendable x.send)) w ≡ 0 → (t.window + t.mark.granted ≤ length t.mark.content) ⊎ (0 ≡ w)
+    at : (k : StreamState) → FitsAs k (picked book pick).body t.window x.send x.body_remaining t.on_stream → is_unfinished t.on_stream ≡ true → min (min (cond (is_live k) (octets_left x.body_remaining) 0) (sendable x.send)) w ≡ 0 → (t.window + t.on_stream.granted ≤ length t.on_stream.content) ⊎ (0 ≡ w)
     at Idle f u e = absurd f
     at Skipped f u e = absurd f
-    at BothOpen f u e = held-sends (picked book pick).body t.window w x t.mark f u e
-    at HalfRemote f u e = held-sends (picked book pick).body t.window w x t.mark f u e
-    at HalfLocal f u e = absurd (finished_by_end t.mark f.0.ended u)
-    at Ended f u e = absurd (finished_by_end t.mark f.ended u)
-    at PeerReset f u e = absurd (finished_by_reset t.mark f.reset u)
-    at WeReset f u e = absurd (finished_by_reset t.mark f.reset u)
+    at BothOpen f u e = held-sends (picked book pick).body t.window w x t.on_stream f u e
+    at HalfRemote f u e = held-sends (picked book pick).body t.window w x t.on_stream f u e
+    at HalfLocal f u e = absurd (finished_by_end t.on_stream f.0.ended u)
+    at Ended f u e = absurd (finished_by_end t.on_stream f.ended u)
+    at PeerReset f u e = absurd (finished_by_reset t.on_stream f.reset u)
+    at WeReset f u e = absurd (finished_by_reset t.on_stream f.reset u)
 
 within-window : (z : ℤ) (a b n : ℕ) → z +ℤ pos a ≡ pos b → suc n ≤ sendable z → a + suc n ≤ b
 within-window (pos m) a b n e h = omega (arith, ints)
@@ -177,21 +177,21 @@ within-window (negsuc m) a b n e h = absurd (omega arith)
 
 -- where it sends this many octets and one
 module _ (book : List Entry) (id size k l : ℕ) (t : Tally) (x : Numbers) (body : List ℕ)
-    (same : size ≡ t.frame) (some : 1 ≤ size) (f : Sends body t.window x.send (Some l) t.mark) (le : suc k ≤ l) (within : suc k ≤ sendable x.send) where
+    (same : size ≡ t.frame) (some : 1 ≤ size) (f : Sends body t.window x.send (Some l) t.on_stream) (le : suc k ≤ l) (within : suc k ≤ sendable x.send) where
   abbrev xs : List ℕ
   xs = next_octets body l (suc k)
 
-  abbrev after : Bool → Mark
-  after b = record t.mark { content = t.mark.content ++ xs; ended = b }
+  abbrev after : Bool → StreamTally
+  after b = record t.on_stream { content = t.on_stream.content ++ xs; ended = b }
 
   long : length xs ≡ suc k
   long = next-length body l (suc k) f.waits.2 le
 
-  rest : (t.mark.content ++ xs) ++ drop (length body - (l - suc k)) body ≡ body
-  rest = next-rest t.mark.content body l (suc k) f.waits.2 le f.waits.3
+  rest : (t.on_stream.content ++ xs) ++ drop (length body - (l - suc k)) body ≡ body
+  rest = next-rest t.on_stream.content body l (suc k) f.waits.2 le f.waits.3
 
-  total : length (t.mark.content ++ xs) ≡ length t.mark.content + suc k
-  total = omega (arith, length-append t.mark.content xs, long)
+  total : length (t.on_stream.content ++ xs) ≡ length t.on_stream.content + suc k
+  total = omega (arith, length-append t.on_stream.content xs, long)
 
   sends-more : eqb l (suc k) ≡ false → Sends body t.window (x.send -ℤ pos (suc k)) (Some (l - suc k)) (after false)
   sends-more e = record {
@@ -205,19 +205,19 @@ module _ (book : List Entry) (id size k l : ℕ) (t : Tally) (x : Numbers) (body
   ends-now : eqb l (suc k) ≡ true → HasEnded (after true)
   ends-now e =
       let none : length body ≤ length body - (l - suc k) = omega (arith, eqb-true l (suc k) e) in
-      let whole : t.mark.content ++ xs ≡ body = sym (append-nil (t.mark.content ++ xs)) ∙ (ap (λ ys. (t.mark.content ++ xs) ++ ys) (sym (drop_all (length body - (l - suc k)) body none)) ∙ rest) in
-      let promised : body ≡ body_or_nothing t.mark.promised = ap body_or_nothing (sym f.promised) in
+      let whole : t.on_stream.content ++ xs ≡ body = sym (append-nil (t.on_stream.content ++ xs)) ∙ (ap (λ ys. (t.on_stream.content ++ xs) ++ ys) (sym (drop_all (length body - (l - suc k)) body none)) ∙ rest) in
+      let promised : body ≡ body_or_nothing t.on_stream.promised = ap body_or_nothing (sym f.promised) in
       record {
         promised = ap is_some f.promised;
-        of_body = (([], append-nil (t.mark.content ++ xs) ∙ (whole ∙ promised)), whole ∙ promised);
+        of_body = (([], append-nil (t.on_stream.content ++ xs) ∙ (whole ∙ promised)), whole ∙ promised);
         ended = refl;
       }
 
-  held-more : (w : ℕ) (b : Bool) → eqb l (suc k) ≡ b → suc k ≡ min (min l (sendable x.send)) w → is_unfinished (after b) ≡ true → (t.window + t.mark.granted ≤ length (t.mark.content ++ xs)) ⊎ (suc k ≡ w)
+  held-more : (w : ℕ) (b : Bool) → eqb l (suc k) ≡ b → suc k ≡ min (min l (sendable x.send)) w → is_unfinished (after b) ≡ true → (t.window + t.on_stream.granted ≤ length (t.on_stream.content ++ xs)) ⊎ (suc k ≡ w)
   held-more w true e m u = absurd (finished_by_end (after true) refl u)
   held-more w false e m u = at x.send f.send_is m (cases_lt (suc k) w)
     where
-      at : (z : ℤ) → z +ℤ pos (length t.mark.content) ≡ pos (t.window + t.mark.granted) → suc k ≡ min (min l (sendable z)) w → (suc k < w) ⊎ (w ≤ suc k) → (t.window + t.mark.granted ≤ length (t.mark.content ++ xs)) ⊎ (suc k ≡ w)
+      at : (z : ℤ) → z +ℤ pos (length t.on_stream.content) ≡ pos (t.window + t.on_stream.granted) → suc k ≡ min (min l (sendable z)) w → (suc k < w) ⊎ (w ≤ suc k) → (t.window + t.on_stream.granted ≤ length (t.on_stream.content ++ xs)) ⊎ (suc k ≡ w)
       at z g m (inr h) = inr (omega arith)
       at (pos n) g m (inl h) = let other : l ≢ suc k = eqb-false l (suc k) e in inl (omega (arith, ints, total))
       at (negsuc n) g m (inl h) = absurd (omega arith)
@@ -228,12 +228,12 @@ module _ (book : List Entry) (id size k l : ℕ) (t : Tally) (x : Numbers) (body
   pays w i st own m fits =
       let b : Bool = eqb l (suc k) in
       record {
-        mark = after b;
-        leads = Leads-to id _ _ _ _ (data-own id i size b t xs own (omega arith) some (omega (arith, long)) f.waits.0 f.ended f.reset) (ap (λ y. record t { sent = t.sent + y; mark = after b }) long);
+        on_stream = after b;
+        leads = Leads-to id _ _ _ _ (data-own id i size b t xs own (omega arith) some (omega (arith, long)) f.waits.0 f.ended f.reset) (ap (λ y. record t { sent = t.sent + y; on_stream = after b }) long);
         fits = fits;
         promised = refl;
         reset = refl;
-        stream = always (sends_data id (data_frames i b size xs)) (let r = within-window x.send (length t.mark.content) (t.window + t.mark.granted) k f.send_is within in omega (arith, r, total));
+        stream = always (sends_data id (data_frames i b size xs)) (let r = within-window x.send (length t.on_stream.content) (t.window + t.on_stream.granted) k f.send_is within in omega (arith, r, total));
         held = held-more w b refl m;
       }
 
@@ -261,17 +261,17 @@ unfolding after_sending
 after-some k st = rw (ne_eqb (suc k) 0 (λ e. absurd (omega arith))) refl
 
 -- whatever its share is
-own-allowance : (book : List Entry) (id size w i : ℕ) (kind : Kind) (x : Numbers) (pick : Pick) (t : Tally) (n : ℕ) →
+own-allowance : (book : List Entry) (id size w i : ℕ) (kind : StreamState) (x : Numbers) (pick : Pick) (t : Tally) (n : ℕ) →
     let st : Stream = record { id = i; kind = kind; numbers = x; pick = pick } in
-    eqb i id ≡ true → size ≡ t.frame → 1 ≤ size → Fits book t.window st t.mark → n ≡ allowance w st →
+    eqb i id ≡ true → size ≡ t.frame → 1 ≤ size → Fits book t.window st t.on_stream → n ≡ allowance w st →
     Pays book id t w (allowance_frames book size n st) n (after_sending n st)
 unfolding allowance allowance_frames data_frames data_upto octets_waiting
 own-allowance book id size w i kind x pick t zero own g h f e = rw (after-none (record { id = i; kind = kind; numbers = x; pick = pick })) (rests book id w i kind x pick t f (sym e))
 own-allowance book id size w i kind x pick t (suc k) own g h f e = at kind x.body_remaining f e
   where
-    at : (kd : Kind) (o : Option ℕ) →
+    at : (kd : StreamState) (o : Option ℕ) →
         let st : Stream = record { id = i; kind = kd; numbers = record x { body_remaining = o }; pick = pick } in
-        Fits book t.window st t.mark → suc k ≡ allowance w st →
+        Fits book t.window st t.on_stream → suc k ≡ allowance w st →
         Pays book id t w (allowance_frames book size (suc k) st) (suc k) (after_sending (suc k) st)
     at Idle o f e = absurd f
     at Skipped o f e = absurd f
@@ -292,22 +292,22 @@ or-false false = refl
 
 -- what sending leaves
 record Sent (book : List Entry) (id : ℕ) (t : Tally) (w : ℕ) (sts : List Stream) (frames : List Frame) (streams : List Stream) (left : ℕ) : Type 0 where
-  mark : Mark
-  leads : Leads id t frames (record t { sent = t.sent + (w - left); mark = mark })
-  agreed : FitsStreams book t.window id streams mark
+  on_stream : StreamTally
+  leads : Leads id t frames (record t { sent = t.sent + (w - left); on_stream = on_stream })
+  agreed : FitsStreams book t.window id streams on_stream
   within : left ≤ w
   bodies : Bodies book streams
-  promised : mark.promised ≡ t.mark.promised
-  reset : mark.reset ≡ t.mark.reset
-  absent : Absent id sts → (mark ≡ t.mark) × Absent id streams
-  stream : When (sends_data id frames) (length mark.content ≤ t.window + mark.granted)
-  held : is_unfinished mark ≡ true → (t.window + mark.granted ≤ length mark.content) ⊎ (w - left ≡ w)
+  promised : on_stream.promised ≡ t.on_stream.promised
+  reset : on_stream.reset ≡ t.on_stream.reset
+  absent : Absent id sts → (on_stream ≡ t.on_stream) × Absent id streams
+  stream : When (sends_data id frames) (length on_stream.content ≤ t.window + on_stream.granted)
+  held : is_unfinished on_stream ≡ true → (t.window + on_stream.granted ≤ length on_stream.content) ⊎ (w - left ≡ w)
 
-sends : (book : List Entry) (id size : ℕ) (sts : List Stream) (t : Tally) (w : ℕ) → size ≡ t.frame → 1 ≤ size → FitsStreams book t.window id sts t.mark → Bodies book sts →
+sends : (book : List Entry) (id size : ℕ) (sts : List Stream) (t : Tally) (w : ℕ) → size ≡ t.frame → 1 ≤ size → FitsStreams book t.window id sts t.on_stream → Bodies book sts →
     Sent book id t w sts (sent_frames book size w sts) (all_after_sending w sts) (window_left w sts)
 unfolding sent_frames all_after_sending window_left
 sends book id size [] t w g h f b = record {
-  mark = t.mark;
+  on_stream = t.on_stream;
   leads = Leads-to id _ _ _ _ (nowhere id t) (ap (elsewhere t) (omega arith));
   agreed = f;
   within = omega arith;
@@ -316,7 +316,7 @@ sends book id size [] t w g h f b = record {
   reset = refl;
   absent = λ a. (refl, tt);
   stream = tt;
-  held = λ u. absurd (not_begun t.mark f.headers u);
+  held = λ u. absurd (not_begun t.on_stream f.headers u);
 }
 sends book id size (st ∷ sts) t w g h f b = at (λ x. sends book id size sts (elsewhere t (allowance w st)) (w - allowance w st) g h x b.1) (eqb st.id id) refl f
   where
@@ -338,17 +338,17 @@ sends book id size (st ∷ sts) t w g h f b = at (λ x. sends book id size sts (
     le : (n ≤ w) × (n ≤ octets_waiting st) × (n ≤ sendable st.numbers.send)
     le = allowance-le w st
 
-    at : (FitsStreams book t.window id sts t.mark → Sent book id (elsewhere t n) (w - n) sts back rest left) →
-        (c : Bool) → eqb st.id id ≡ c → Either c (Fits book t.window st t.mark × Absent id sts) (FitsStreams book t.window id sts t.mark) →
+    at : (FitsStreams book t.window id sts t.on_stream → Sent book id (elsewhere t n) (w - n) sts back rest left) →
+        (c : Bool) → eqb st.id id ≡ c → Either c (Fits book t.window st t.on_stream × Absent id sts) (FitsStreams book t.window id sts t.on_stream) →
         Sent book id t w (st ∷ sts) (front ++ back) (after_sending n st ∷ rest) left
     at tail true e f =
         let one = own-allowance book id size w st.id st.kind st.numbers st.pick t n e g h f.0 refl in
-        let u : Tally = record t { sent = t.sent + n; mark = one.mark } in
+        let u : Tally = record t { sent = t.sent + n; on_stream = one.on_stream } in
         let more = passes book id size sts u (w - n) g h f.1 b.1 in
         let sum : t.sent + n + (w - n - left) ≡ t.sent + (w - left) = omega (arith, le.0, more.within) in
         record {
-          mark = one.mark;
-          leads = Leads-to id _ _ _ _ (Leads-append id t u _ front back one.leads more.leads) (ap (λ k. record t { sent = k; mark = one.mark }) sum);
+          on_stream = one.on_stream;
+          leads = Leads-to id _ _ _ _ (Leads-append id t u _ front back one.leads more.leads) (ap (λ k. record t { sent = k; on_stream = one.on_stream }) sum);
           agreed = rw (after-id n st, e) (one.fits, more.absent);
           within = omega (arith, le.0, more.within);
           bodies = (after-has_body book n st b.0, more.bodies);
@@ -363,8 +363,8 @@ sends book id size (st ∷ sts) t w g h f b = at (λ x. sends book id size sts (
         let more = tail f in
         let sum : t.sent + n + (w - n - left) ≡ t.sent + (w - left) = omega (arith, le.0, more.within) in
         record {
-          mark = more.mark;
-          leads = Leads-to id _ _ _ _ (Leads-append id t (elsewhere t n) _ front back one.0 more.leads) (ap (λ k. record t { sent = k; mark = more.mark }) sum);
+          on_stream = more.on_stream;
+          leads = Leads-to id _ _ _ _ (Leads-append id t (elsewhere t n) _ front back one.0 more.leads) (ap (λ k. record t { sent = k; on_stream = more.on_stream }) sum);
           agreed = rw (after-id n st, e) more.agreed;
           within = omega (arith, le.0, more.within);
           bodies = (after-has_body book n st b.0, more.bodies);
@@ -392,7 +392,7 @@ pub record PendingSent (book : List Entry) (id : ℕ) (t : Tally) (p : Step) : T
   pub right : AtEach (IsRight id) id t p.sent
   pub agrees : Agreement book id p.state (sent_all id t p.sent)
   pub stream : When (sends_data id p.sent) (IsWithinStream (sent_all id t p.sent))
-  pub used_up : is_unfinished (sent_all id t p.sent).mark ≡ true → IsUsedUp (sent_all id t p.sent)
+  pub used_up : is_unfinished (sent_all id t p.sent).on_stream ≡ true → IsUsedUp (sent_all id t p.sent)
 
 emptied : (z : ℤ) (sent granted left : ℕ) → z +ℤ pos sent ≡ pos (65535 + granted) → sent ≤ 65535 + granted → sendable z - left ≡ sendable z → sent + (sendable z - left) ≡ 65535 + granted
 emptied (pos n) sent granted left e h g = omega (arith, ints)
@@ -424,7 +424,7 @@ sending-keeps book id s t x = at (subst (λ b. Sent book id t w s.streams (sent_
 
     at : Sent book id t w s.streams frames streams left → PendingSent book id t (record { state = after; sent = frames })
     at y =
-        let u : Tally = record t { sent = t.sent + (w - left); mark = y.mark } in
+        let u : Tally = record t { sent = t.sent + (w - left); on_stream = y.on_stream } in
         let agrees : Agreement book id after u = record {
           running = x.running;
           same_book = x.same_book;
@@ -437,13 +437,13 @@ sending-keeps book id s t x = at (subst (λ b. Sent book id t w s.streams (sent_
           bodies = y.bodies;
           ordered = rises 0 s.core.last w s.streams x.ordered;
           idle = λ h. let i = x.idle h in let a = y.absent i.1 in (a.0 ∙ i.0, a.1);
-          of_block = FitsBlock-same id s.core.last s.streams streams s.block t.mark y.mark y.promised y.reset (λ j. still-recorded s.book j s.core.last s.streams streams (still-absent j w s.streams) (subst (λ b. Bodies b streams) (sym x.same_book) y.bodies)) x.of_block;
+          of_block = FitsBlock-same id s.core.last s.streams streams s.block t.on_stream y.on_stream y.promised y.reset (λ j. still-recorded s.book j s.core.last s.streams streams (still-absent j w s.streams) (subst (λ b. Bodies b streams) (sym x.same_book) y.bodies)) x.of_block;
         } in
         let same : u ≡ sent_all id t frames = sym y.leads.tally in
         record {
           right = y.leads.right;
           agrees = subst (Agreement book id after) same agrees;
           stream = subst (λ v. When (sends_data id frames) (IsWithinStream v)) same y.stream;
-          used_up = subst (λ (v : Tally). is_unfinished v.mark ≡ true → IsUsedUp v) same
+          used_up = subst (λ (v : Tally). is_unfinished v.on_stream ≡ true → IsUsedUp v) same
               (λ h. elim (y.held h) [ inl a ↦ inr a | inr b ↦ inl (emptied s.core.send t.sent t.granted left x.send_is x.within b) ]);
         }

@@ -9,8 +9,8 @@ use Rattle.h2_spec.specs.declared.flow.LocalSettings.{LocalSettings}
 use Rattle.h2_spec.specs.declared.flow.Settings.{Settings}
 use Rattle.h2_spec.specs.declared.reactions.ConnectionFrame.TheVariants.{NoConnectionFrame}
 use Rattle.h2_spec.specs.declared.reactions.Reaction.TheVariants.{Continues}
-use Rattle.h2_spec.specs.declared.streams.Kind.{Kind}
-use Rattle.h2_spec.specs.declared.streams.Kind.TheVariants.{Idle, Skipped, BothOpen, HalfRemote, HalfLocal, Ended, PeerReset, WeReset}
+use Rattle.h2_spec.specs.declared.streams.StreamState.{StreamState}
+use Rattle.h2_spec.specs.declared.streams.StreamState.TheVariants.{Idle, Skipped, BothOpen, HalfRemote, HalfLocal, Ended, PeerReset, WeReset}
 use Rattle.h2_spec.specs.declared.streams.Stream.{Stream}
 use Rattle.h2_spec.specs.Settings.{with_setting}
 use Rattle.h2_spec.specs.SettingsFrame.{acknowledged, comes_into_force, setting_next, settings_applied, settings_taken, settings_rule}
@@ -19,7 +19,7 @@ use Rattle.h2_spec.specs.Stream.{is_live, octets_waiting}
 use Rattle.h2_spec.specs.State.{State, configured}
 use Rattle.h2_spec.specs.Change.{frames_of, only_counts, follows_initial_window, received, received_one, with_recv, shifted, shifted_one, overflows, moved_by}
 use Rattle.h2_spec.specs.Headers.{makes}
-use Rattle.h2_laws.specs.Grants.{Mark, Tally, with_settings}
+use Rattle.h2_laws.specs.Grants.{StreamTally, Tally, with_settings}
 use Rattle.h2_laws.specs.Grants as tally
 use Rattle.h2_laws.specs.Order.{Rise}
 use Rattle.h2_laws.proofs.grants.Agreement.{Sends, Fits, Absent, Either, FitsStreams, HasBody, Bodies, FitsBlock, Agreement}
@@ -128,13 +128,13 @@ shifted-bodies book d (x ∷ sts) b = (at (follows_initial_window x.kind), shift
     at true = b.0
     at false = b.0
 
-shifted-sends : (body : List ℕ) (window new : ℕ) (send : ℤ) (left : Option ℕ) (m : Mark) → Sends body window send left m → Sends body new (send +ℤ moved_by window new) left m
+shifted-sends : (body : List ℕ) (window new : ℕ) (send : ℤ) (left : Option ℕ) (m : StreamTally) → Sends body window send left m → Sends body new (send +ℤ moved_by window new) left m
 shifted-sends body window new send left m f = record { promised = f.promised; send_is = let e = f.send_is in omega (arith, ints); waits = f.waits; ended = f.ended; reset = f.reset }
 
-shifted-fits : (book : List Entry) (window new : ℕ) (st : Stream) (m : Mark) → Fits book window st m → Fits book new (shifted_one (moved_by window new) st) m
+shifted-fits : (book : List Entry) (window new : ℕ) (st : Stream) (m : StreamTally) → Fits book window st m → Fits book new (shifted_one (moved_by window new) st) m
 shifted-fits book window new st m f = at st.kind f
   where
-    at : (k : Kind) → Fits book window (record st { kind = k }) m → Fits book new (shifted_one (moved_by window new) (record st { kind = k })) m
+    at : (k : StreamState) → Fits book window (record st { kind = k }) m → Fits book new (shifted_one (moved_by window new) (record st { kind = k })) m
     at Idle f = f
     at Skipped f = f
     at BothOpen f = shifted-sends (picked book st.pick).body window new st.numbers.send st.numbers.body_remaining m f
@@ -144,7 +144,7 @@ shifted-fits book window new st m f = at st.kind f
     at PeerReset f = f
     at WeReset f = f
 
-shifted-agreed : (book : List Entry) (window new id : ℕ) (sts : List Stream) (m : Mark) → FitsStreams book window id sts m → FitsStreams book new id (shifted (moved_by window new) sts) m
+shifted-agreed : (book : List Entry) (window new id : ℕ) (sts : List Stream) (m : StreamTally) → FitsStreams book window id sts m → FitsStreams book new id (shifted (moved_by window new) sts) m
 unfolding shifted
 shifted-agreed book window new id [] m f = f
 shifted-agreed book window new id (x ∷ sts) m f = rw (shifted-id (moved_by window new) x) (at (λ g. shifted-agreed book window new id sts m g) (eqb x.id id) f)
@@ -185,7 +185,7 @@ received-bodies book d (x ∷ sts) b = (at (is_live x.kind), received-bodies boo
     at true = b.0
     at false = b.0
 
-received-agreed : (book : List Entry) (window id : ℕ) (d : ℤ) (sts : List Stream) (m : Mark) → FitsStreams book window id sts m → FitsStreams book window id (received d sts) m
+received-agreed : (book : List Entry) (window id : ℕ) (d : ℤ) (sts : List Stream) (m : StreamTally) → FitsStreams book window id sts m → FitsStreams book window id (received d sts) m
 unfolding received
 received-agreed book window id d [] m f = f
 received-agreed book window id d (x ∷ sts) m f = rw (received-id d x) (at (λ g. received-agreed book window id d sts m g) (eqb x.id id) (is_live x.kind) f)
@@ -218,11 +218,11 @@ acknowledged-kept id s t pos_id x none =
         some_frame = x.some_frame;
         send_is = x.send_is;
         within = x.within;
-        agreed = received-agreed s.book t.window id d s.streams t.mark x.agreed;
+        agreed = received-agreed s.book t.window id d s.streams t.on_stream x.agreed;
         bodies = received-bodies s.book d s.streams x.bodies;
         ordered = received-rise 0 s.core.last d s.streams x.ordered;
         idle = λ i. let j = x.idle i in (j.0, received-absent id d s.streams j.1);
-        of_block = subst (λ o. FitsBlock id s.core.last (received d s.streams) o t.mark) (sym none) tt;
+        of_block = subst (λ o. FitsBlock id s.core.last (received d s.streams) o t.on_stream) (sym none) tt;
       };
     })
   where
@@ -257,10 +257,10 @@ settings-kept id s t pairs pos_id x none =
             some_frame = h.1;
             send_is = x.send_is;
             within = x.within;
-            agreed = shifted-agreed s.book s.core.peer.window peer.window id s.streams t.mark (rw x.same_window x.agreed);
+            agreed = shifted-agreed s.book s.core.peer.window peer.window id s.streams t.on_stream (rw x.same_window x.agreed);
             bodies = shifted-bodies s.book d s.streams x.bodies;
             ordered = shifted-rise 0 s.core.last d s.streams x.ordered;
             idle = λ i. let j = x.idle i in (j.0, shifted-absent id d s.streams j.1);
-            of_block = subst (λ o. FitsBlock id s.core.last (shifted d s.streams) o t.mark) (sym none) tt;
+            of_block = subst (λ o. FitsBlock id s.core.last (shifted d s.streams) o t.on_stream) (sym none) tt;
           };
         })

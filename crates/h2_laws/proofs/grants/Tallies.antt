@@ -4,7 +4,7 @@ use Rattle.std.proofs.lemmas.List.{take-append-drop, length-take}
 use Rattle.std.proofs.lemmas.Bool.{false≢true, leb-true, leb-false}
 use Rattle.h2_spec.specs.Frame.{Frame}
 use Rattle.h2_spec.specs.SendPending.{piece, data_upto, data_frames}
-use Rattle.h2_laws.specs.Grants.{Mark, Tally, When, AtEach, IsWithinFrameSize, IsInOrder, IsBeforeEnd, sent_one, sent_all, sends_data, is_unfinished}
+use Rattle.h2_laws.specs.Grants.{StreamTally, Tally, When, AtEach, IsWithinFrameSize, IsInOrder, IsBeforeEnd, sent_one, sent_all, sends_data, is_unfinished}
 
 pub always : {P : Type 0} (b : Bool) → P → When b P
 always true p = p
@@ -50,13 +50,13 @@ ended_not false b c e u = false≢true u
 ended_not true true c e u = false≢true u
 ended_not true false c e u = false≢true e
 
-pub finished_by_reset : (m : Mark) → m.reset ≡ true → is_unfinished m ≡ true → ⊥
+pub finished_by_reset : (m : StreamTally) → m.reset ≡ true → is_unfinished m ≡ true → ⊥
 finished_by_reset m e u = reset_not (leb 1 m.headers) m.ended m.reset e u
 
-pub finished_by_end : (m : Mark) → m.ended ≡ true → is_unfinished m ≡ true → ⊥
+pub finished_by_end : (m : StreamTally) → m.ended ≡ true → is_unfinished m ≡ true → ⊥
 finished_by_end m e u = ended_not (leb 1 m.headers) m.ended m.reset e u
 
-pub not_begun : (m : Mark) → m.headers ≡ 0 → is_unfinished m ≡ true → ⊥
+pub not_begun : (m : StreamTally) → m.headers ≡ 0 → is_unfinished m ≡ true → ⊥
 not_begun m e u = false≢true (subst (λ k. (leb 1 k && not m.ended && not m.reset) ≡ true) e u)
 
 -- ---- frames that pass the tests of each, and lead to this tally
@@ -91,7 +91,7 @@ elsewhere t n = record t { sent = t.sent + n }
 
 -- and with octets of its own
 abbrev pub with_content : Tally → List ℕ → Bool → Tally
-with_content t xs ends = record t { sent = t.sent + length xs; mark = record t.mark { content = t.mark.content ++ xs; ended = ends } }
+with_content t xs ends = record t { sent = t.sent + length xs; on_stream = record t.on_stream { content = t.on_stream.content ++ xs; ended = ends } }
 
 pub nowhere : (id : ℕ) (t : Tally) → Leads id t [] (elsewhere t 0)
 nowhere id t = Leads-to id t t (elsewhere t 0) [] (Leads-nil id t) (ap (λ k. record t { sent = k }) (omega arith))
@@ -126,7 +126,7 @@ data-elsewhere (suc n) id j size ends t (x ∷ xs) e h s g = at (leb (length ys)
         )
 
 data-here : (n id j size : ℕ) (ends : Bool) (t : Tally) (x : ℕ) (xs : List ℕ) → eqb j id ≡ true → size ≤ t.frame → 1 ≤ size → length (x ∷ xs) ≤ n →
-    t.mark.headers ≡ 1 → t.mark.ended ≡ false → t.mark.reset ≡ false →
+    t.on_stream.headers ≡ 1 → t.on_stream.ended ≡ false → t.on_stream.reset ≡ false →
     Leads id t (data_upto n j ends size (x ∷ xs)) (with_content t (x ∷ xs) ends)
 unfolding data_upto
 data-here zero id j size ends t x xs e h s g a b c = absurd (omega arith)
@@ -140,7 +140,7 @@ data-here (suc n) id j size ends t x xs e h s g a b c = at (leb (length ys) size
     last false short = Leads-cons id t _ _ (piece j false ys) [] (rw e (short, (tt, a), (b, c))) (rw (e, b) refl) (Leads-nil id _)
 
     at : (b : Bool) → leb (length ys) size ≡ b → (rest : List ℕ) → drop size ys ≡ rest →
-        ((u : Tally) (y : ℕ) (zs : List ℕ) → size ≤ u.frame → 1 ≤ size → length (y ∷ zs) ≤ n → u.mark.headers ≡ 1 → u.mark.ended ≡ false → u.mark.reset ≡ false → Leads id u (data_upto n j ends size (y ∷ zs)) (with_content u (y ∷ zs) ends)) →
+        ((u : Tally) (y : ℕ) (zs : List ℕ) → size ≤ u.frame → 1 ≤ size → length (y ∷ zs) ≤ n → u.on_stream.headers ≡ 1 → u.on_stream.ended ≡ false → u.on_stream.reset ≡ false → Leads id u (data_upto n j ends size (y ∷ zs)) (with_content u (y ∷ zs) ends)) →
         Leads id t (cond b (piece j ends ys ∷ []) (piece j false (take size ys) ∷ data_upto n j ends size rest)) (with_content t ys ends)
     at true l rest r more = last ends (omega (arith, leb-true (length ys) size l))
     at false l [] r more = let back = length-drop size ys in let none : length (drop size ys) ≡ 0 = ap length r in absurd (omega (arith, back, none, leb-false (length ys) size l))
@@ -151,14 +151,14 @@ data-here (suc n) id j size ends t x xs e h s g a b c = at (leb (length ys) size
         let same : length (drop size ys) ≡ length (y ∷ zs) = ap length r in
         let short : length (take size ys) ≤ t.frame = omega (arith, front) in
         let sum : t.sent + length (take size ys) + length (y ∷ zs) ≡ t.sent + length ys = omega (arith, front, back, same) in
-        let whole : (t.mark.content ++ take size ys) ++ (y ∷ zs) ≡ t.mark.content ++ ys =
-        append_assoc t.mark.content (take size ys) (y ∷ zs) ∙ ap (λ ws. t.mark.content ++ ws) (ap (λ vs. take size ys ++ vs) (sym r) ∙ take-append-drop size ys) in
+        let whole : (t.on_stream.content ++ take size ys) ++ (y ∷ zs) ≡ t.on_stream.content ++ ys =
+        append_assoc t.on_stream.content (take size ys) (y ∷ zs) ∙ ap (λ ws. t.on_stream.content ++ ws) (ap (λ vs. take size ys ++ vs) (sym r) ∙ take-append-drop size ys) in
         Leads-cons id t (with_content t (take size ys) false) _ (piece j false (take size ys)) _ (rw e (short, (tt, a), (b, c))) (rw (e, b) refl)
         (Leads-to id _ _ _ _ (more (with_content t (take size ys) false) y zs h s (omega (arith, back, g, same)) a refl c) (rw (sum, whole) refl))
 
 -- on the stream itself octets lengthen the content, and end it where they should
 pub data-own : (id j size : ℕ) (ends : Bool) (t : Tally) (xs : List ℕ) → eqb j id ≡ true → size ≤ t.frame → 1 ≤ size → 1 ≤ length xs →
-    t.mark.headers ≡ 1 → t.mark.ended ≡ false → t.mark.reset ≡ false →
+    t.on_stream.headers ≡ 1 → t.on_stream.ended ≡ false → t.on_stream.reset ≡ false →
     Leads id t (data_frames j ends size xs) (with_content t xs ends)
 unfolding data_frames
 data-own id j size ends t [] e h s g a b c = absurd (omega arith)

@@ -1,4 +1,4 @@
--- The rules on one stream: what frames they send, and that the record after them fits the mark after those frames.
+-- The rules on one stream: what frames they send, and that the record after them fits the tally after those frames.
 use Rattle.std.proofs.Common.{◌≡◌, ◌≢◌, ℕ, ◌+◌, ◌-◌, Bool, true, false, cond, ◌||◌, List, [], ◌∷◌, ◌++◌, length, drop, refl, sym, ap, subst, ◌∙◌, arith, eqb, Option, Some, None}
 use Rattle.std.proofs.lemmas.Bool.{eqb-true, eqb-false, both_ways}
 use Rattle.std.proofs.lemmas.Int.{ints}
@@ -12,8 +12,8 @@ use Rattle.h2_spec.specs.declared.connection.ConnectionState.{ConnectionState}
 use Rattle.h2_spec.specs.declared.reactions.ReceivedData.{ReceivedData}
 use Rattle.h2_spec.specs.declared.reactions.BlockSummary.{BlockSummary}
 use Rattle.h2_spec.specs.declared.reactions.StreamOutcome.{StreamOutcome}
-use Rattle.h2_spec.specs.declared.streams.Kind.{Kind}
-use Rattle.h2_spec.specs.declared.streams.Kind.TheVariants.{Idle, Skipped, BothOpen, HalfRemote, HalfLocal, Ended, PeerReset, WeReset}
+use Rattle.h2_spec.specs.declared.streams.StreamState.{StreamState}
+use Rattle.h2_spec.specs.declared.streams.StreamState.TheVariants.{Idle, Skipped, BothOpen, HalfRemote, HalfLocal, Ended, PeerReset, WeReset}
 use Rattle.h2_spec.specs.declared.streams.Numbers.{Numbers}
 use Rattle.h2_spec.specs.declared.streams.Pick.{Pick}
 use Rattle.h2_spec.specs.declared.streams.Stream.{Stream}
@@ -21,13 +21,13 @@ use Rattle.h2_spec.specs.Frame.{Frame}
 use Rattle.h2_spec.specs.Answer.{Entry, picked}
 use Rattle.h2_spec.specs.Window.{given_back}
 use Rattle.h2_spec.specs.Stream.{octets_waiting}
-use Rattle.h2_spec.specs.Change.{outcome_without_frame, stream_error, unless_broken, second_frames, answer_frames, with_send}
+use Rattle.h2_spec.specs.Change.{outcome_without_frame, stream_error, unless_broken, stream_frames, answer_frames, with_send}
 use Rattle.h2_spec.specs.StreamEnds.{server_ended, begun, with_body_remaining, with_kind, answered, answered_unless, peer_ended}
 use Rattle.h2_spec.specs.Data.{returned, returned_as, taken, data_outcome}
 use Rattle.h2_spec.specs.WindowUpdate.{window_outcome}
 use Rattle.h2_spec.specs.Headers.{new_stream, request_outcome, trailers_outcome}
 use Rattle.h2_spec.specs.Effect.{body_length, reset_outcome}
-use Rattle.h2_laws.specs.Grants.{Mark, Tally, When, IsOfBody, body_or_nothing, blank, marked_by}
+use Rattle.h2_laws.specs.Grants.{StreamTally, Tally, When, IsOfBody, body_or_nothing, blank, tallied_by}
 use Rattle.h2_laws.proofs.grants.Tallies.{always, Leads, Leads-nil, Leads-cons}
 use Rattle.h2_laws.proofs.grants.Agreement.{Waits, Sends, HasEnded, Cut, FitsAs, Fits, HasBody}
 
@@ -37,14 +37,14 @@ abbrev pub OnlyOn : ℕ → List Frame → Type 0
 OnlyOn j [] = Unit {0}
 OnlyOn j (f ∷ fs) = (f.stream ≡ j) × (eqb f.kind 0 ≡ false) × OnlyOn j fs
 
-abbrev pub marked_all : Mark → List Frame → Mark
-marked_all m [] = m
-marked_all m (f ∷ fs) = marked_all (marked_by m f) fs
+abbrev pub tallied_all : StreamTally → List Frame → StreamTally
+tallied_all m [] = m
+tallied_all m (f ∷ fs) = tallied_all (tallied_by m f) fs
 
 -- their order
-abbrev pub InTurn : Mark → List Frame → Type 0
+abbrev pub InTurn : StreamTally → List Frame → Type 0
 InTurn m [] = Unit {0}
-InTurn m (f ∷ fs) = (When (eqb f.kind 1) ((m.headers ≡ 0) × (m.ended ≡ false)) × (m.reset ≡ false)) × InTurn (marked_by m f) fs
+InTurn m (f ∷ fs) = (When (eqb f.kind 1) ((m.headers ≡ 0) × (m.ended ≡ false)) × (m.reset ≡ false)) × InTurn (tallied_by m f) fs
 
 -- where they're of another stream they change nothing
 pub other-leads : (id j : ℕ) (t : Tally) (fs : List Frame) → eqb j id ≡ false → OnlyOn j fs → Leads id t fs t
@@ -54,20 +54,20 @@ other-leads id j t (f ∷ fs) e o =
     let same : t.sent + 0 ≡ t.sent = omega arith in
     Leads-cons id t t t f fs (rw (other, o.1) (tt, (tt, tt), (tt, tt))) (rw (other, o.1, same) refl) (other-leads id j t fs e o.2)
 
--- on the stream they mark it
-pub own-leads : (id j : ℕ) (t : Tally) (fs : List Frame) → eqb j id ≡ true → OnlyOn j fs → InTurn t.mark fs → Leads id t fs (record t { mark = marked_all t.mark fs })
+-- on the stream they tally it
+pub own-leads : (id j : ℕ) (t : Tally) (fs : List Frame) → eqb j id ≡ true → OnlyOn j fs → InTurn t.on_stream fs → Leads id t fs (record t { on_stream = tallied_all t.on_stream fs })
 own-leads id j t [] e o h = Leads-nil id t
 own-leads id j t (f ∷ fs) e o h =
     let own : eqb f.stream id ≡ true = rw o.0 e in
     let same : t.sent + 0 ≡ t.sent = omega arith in
-    let u : Tally = record t { mark = marked_by t.mark f } in
+    let u : Tally = record t { on_stream = tallied_by t.on_stream f } in
     Leads-cons id t u _ f fs (rw (own, o.1) (tt, (headers (eqb f.kind 1) h.0.0, tt), (ended (eqb f.kind 1) h.0.0, h.0.1))) (rw (own, o.1, same) refl) (own-leads id j u fs e o.2 h.1)
   where
-    headers : (b : Bool) → When b ((t.mark.headers ≡ 0) × (t.mark.ended ≡ false)) → When b (t.mark.headers ≡ 0)
+    headers : (b : Bool) → When b ((t.on_stream.headers ≡ 0) × (t.on_stream.ended ≡ false)) → When b (t.on_stream.headers ≡ 0)
     headers true p = p.0
     headers false p = tt
 
-    ended : (b : Bool) → When b ((t.mark.headers ≡ 0) × (t.mark.ended ≡ false)) → When (b || false) (t.mark.ended ≡ false)
+    ended : (b : Bool) → When b ((t.on_stream.headers ≡ 0) × (t.on_stream.ended ≡ false)) → When (b || false) (t.on_stream.ended ≡ false)
     ended true p = p.1
     ended false p = tt
 
@@ -75,7 +75,7 @@ own-leads id j t (f ∷ fs) e o h =
 
 -- what a turn sends
 abbrev pub outcome_frames : List Entry → StreamOutcome → List Frame
-outcome_frames book outcome = second_frames outcome.frame ++ answer_frames book outcome.answer
+outcome_frames book outcome = stream_frames outcome.frame ++ answer_frames book outcome.answer
 
 -- of any stream: it keeps the identifier, sends on it alone, and waits for no more than the body
 pub record Proper (book : List Entry) (st : Stream) (outcome : StreamOutcome) : Type 0 where
@@ -83,17 +83,17 @@ pub record Proper (book : List Entry) (st : Stream) (outcome : StreamOutcome) : 
   pub only : OnlyOn st.id (outcome_frames book outcome)
   pub has_body : HasBody book st → HasBody book outcome.stream
 
--- of the stream that is followed, m being its mark before the frames
-pub record Good (book : List Entry) (window : ℕ) (m : Mark) (outcome : StreamOutcome) : Type 0 where
+-- of the stream that is followed, m being its tally before the frames
+pub record Good (book : List Entry) (window : ℕ) (m : StreamTally) (outcome : StreamOutcome) : Type 0 where
   pub in_turn : InTurn m (outcome_frames book outcome)
-  pub fits : Fits book window outcome.stream (marked_all m (outcome_frames book outcome))
+  pub fits : Fits book window outcome.stream (tallied_all m (outcome_frames book outcome))
 
 -- tests are gone through without a look at what they say
 either-proper : (book : List Entry) (st : Stream) (b : Bool) (x y : StreamOutcome) → Proper book st x → Proper book st y → Proper book st (cond b x y)
 either-proper book st true x y p q = p
 either-proper book st false x y p q = q
 
-either-good : (book : List Entry) (window : ℕ) (m : Mark) (b : Bool) (x y : StreamOutcome) → Good book window m x → Good book window m y → Good book window m (cond b x y)
+either-good : (book : List Entry) (window : ℕ) (m : StreamTally) (b : Bool) (x y : StreamOutcome) → Good book window m x → Good book window m y → Good book window m (cond b x y)
 either-good book window m true x y p q = p
 either-good book window m false x y p q = q
 
@@ -102,7 +102,7 @@ either-good book window m false x y p q = q
 quiet-proper : (book : List Entry) (size_update_pending : Bool) (st : Stream) → Proper book st (outcome_without_frame size_update_pending st)
 quiet-proper book size_update_pending st = record { same_id = refl; only = tt; has_body = λ h. h }
 
-quiet-good : (book : List Entry) (window : ℕ) (m : Mark) (size_update_pending : Bool) (st : Stream) → Fits book window st m → Good book window m (outcome_without_frame size_update_pending st)
+quiet-good : (book : List Entry) (window : ℕ) (m : StreamTally) (size_update_pending : Bool) (st : Stream) → Fits book window st m → Good book window m (outcome_without_frame size_update_pending st)
 quiet-good book window m size_update_pending st f = record { in_turn = tt; fits = f }
 
 pub error-proper : (book : List Entry) (size_update_pending : Bool) (st : Stream) (cause : Cause) → Proper book st (stream_error size_update_pending st.id cause)
@@ -110,15 +110,15 @@ unfolding octets_waiting
 error-proper book size_update_pending st cause = record { same_id = refl; only = (refl, refl, tt); has_body = λ h. (omega arith, tt) }
 
 -- the stream has a request and was not reset
-pub record Uncut (m : Mark) : Type 0 where
+pub record Uncut (m : StreamTally) : Type 0 where
   pub promised : is_some m.promised ≡ true
   pub of_body : IsOfBody m
   pub reset : m.reset ≡ false
 
-pub error-good : (book : List Entry) (window : ℕ) (m : Mark) (size_update_pending : Bool) (id : ℕ) (cause : Cause) → Uncut m → Good book window m (stream_error size_update_pending id cause)
+pub error-good : (book : List Entry) (window : ℕ) (m : StreamTally) (size_update_pending : Bool) (id : ℕ) (cause : Cause) → Uncut m → Good book window m (stream_error size_update_pending id cause)
 error-good book window m size_update_pending id cause u = record { in_turn = ((tt, u.reset), tt); fits = record { promised = u.promised; of_body = u.of_body; reset = refl } }
 
-pub Uncut-sends : (body : List ℕ) (window : ℕ) (send : ℤ) (left : Option ℕ) (m : Mark) → Sends body window send left m → Uncut m
+pub Uncut-sends : (body : List ℕ) (window : ℕ) (send : ℤ) (left : Option ℕ) (m : StreamTally) → Sends body window send left m → Uncut m
 Uncut-sends body window send left m f = record {
   promised = ap is_some f.promised;
   of_body = at left f.waits;
@@ -137,7 +137,7 @@ Uncut-sends body window send left m f = record {
     at (Some n) w = ((drop (length body - n) body, w.3 ∙ promised), not_ended (m.content ≡ body_or_nothing m.promised) m.ended f.ended)
 
 -- whichever state a stream with a record is in
-pub Uncut-live : (kind : Kind) (body : List ℕ) (window : ℕ) (send : ℤ) (left : Option ℕ) (m : Mark) → FitsAs kind body window send left m → m.reset ≡ false → Uncut m
+pub Uncut-live : (kind : StreamState) (body : List ℕ) (window : ℕ) (send : ℤ) (left : Option ℕ) (m : StreamTally) → FitsAs kind body window send left m → m.reset ≡ false → Uncut m
 Uncut-live Idle body window send left m f r = absurd f
 Uncut-live Skipped body window send left m f r = absurd f
 Uncut-live BothOpen body window send left m f r = Uncut-sends body window send left m f
@@ -154,10 +154,10 @@ unfolding answered begun server_ended octets_waiting
 answered-proper book size_update_pending st = at (eqb (body_length book st) 0) st.kind
   where
     -- the record with another state
-    in_state : Kind → Stream
+    in_state : StreamState → Stream
     in_state k = record st { kind = k }
 
-    at : (b : Bool) (k : Kind) → Proper book (in_state k) (record (answered size_update_pending (body_length book st) (in_state k)) { stream = cond b (server_ended (in_state k)) (with_body_remaining (in_state k) (body_length book st)) })
+    at : (b : Bool) (k : StreamState) → Proper book (in_state k) (record (answered size_update_pending (body_length book st) (in_state k)) { stream = cond b (server_ended (in_state k)) (with_body_remaining (in_state k) (body_length book st)) })
     at false Idle = record { same_id = refl; only = (refl, refl, tt); has_body = λ h. (omega arith, h.1) }
     at false Skipped = record { same_id = refl; only = (refl, refl, tt); has_body = λ h. (omega arith, h.1) }
     at false BothOpen = record { same_id = refl; only = (refl, refl, tt); has_body = λ h. (omega arith, h.1) }
@@ -176,7 +176,7 @@ answered-proper book size_update_pending st = at (eqb (body_length book st) 0) s
     at true WeReset = record { same_id = refl; only = (refl, refl, tt); has_body = λ h. h }
 
 -- where the server's side is open
-abbrev pub IsAnswerable : Kind → Type 0
+abbrev pub IsAnswerable : StreamState → Type 0
 IsAnswerable BothOpen = Unit {0}
 IsAnswerable HalfRemote = Unit {0}
 IsAnswerable Idle = ⊥
@@ -187,7 +187,7 @@ IsAnswerable PeerReset = ⊥
 IsAnswerable WeReset = ⊥
 
 -- on a stream that nothing was sent on
-answered-good : (book : List Entry) (window : ℕ) (m : Mark) (size_update_pending : Bool) (k : Kind) (i : ℕ) (x : Numbers) (pick : Pick) → IsAnswerable k → Sends (picked book pick).body window x.send None m →
+answered-good : (book : List Entry) (window : ℕ) (m : StreamTally) (size_update_pending : Bool) (k : StreamState) (i : ℕ) (x : Numbers) (pick : Pick) → IsAnswerable k → Sends (picked book pick).body window x.send None m →
     let st : Stream = record { id = i; kind = k; numbers = x; pick = pick } in
     Good book window m (answered size_update_pending (body_length book st) st)
 unfolding answered begun server_ended
@@ -221,10 +221,10 @@ answered-good book window m size_update_pending k i x pick may f = at k may (eqb
       reset = f.reset;
     }
 
-    st : Kind → Stream
+    st : StreamState → Stream
     st k = record { id = i; kind = k; numbers = x; pick = pick }
 
-    at : (k : Kind) → IsAnswerable k → (b : Bool) → eqb (length body) 0 ≡ b → Good book window m (record (answered size_update_pending (length body) (st k)) { stream = cond b (server_ended (st k)) (with_body_remaining (st k) (length body)) })
+    at : (k : StreamState) → IsAnswerable k → (b : Bool) → eqb (length body) 0 ≡ b → Good book window m (record (answered size_update_pending (length body) (st k)) { stream = cond b (server_ended (st k)) (with_body_remaining (st k) (length body)) })
     at HalfRemote o true e = record { in_turn = (((f.waits.0, f.ended), f.reset), tt); fits = rw e (ends e) }
     at HalfRemote o false e = record { in_turn = (((f.waits.0, f.ended), f.reset), tt); fits = rw e (goes_on e) }
     at BothOpen o true e = record { in_turn = (((f.waits.0, f.ended), f.reset), tt); fits = rw e (ends e, f.reset, refl) }
@@ -253,7 +253,7 @@ peer_ended-proper book size_update_pending st = at st.kind
     begins true = record { same_id = refl; only = tt; has_body = λ h. h }
     begins false = moved-proper book (record st { kind = BothOpen }) after (answered size_update_pending (body_length book st) after) refl (λ h. h) (answered-proper book size_update_pending after)
 
-    at : (k : Kind) → Proper book (record st { kind = k }) (peer_ended size_update_pending (body_length book st) (record st { kind = k }))
+    at : (k : StreamState) → Proper book (record st { kind = k }) (peer_ended size_update_pending (body_length book st) (record st { kind = k }))
     at Idle = quiet-proper book size_update_pending (record st { kind = Idle })
     at Skipped = quiet-proper book size_update_pending (record st { kind = Skipped })
     at BothOpen = begins (is_some st.numbers.body_remaining)
@@ -263,7 +263,7 @@ peer_ended-proper book size_update_pending st = at st.kind
     at PeerReset = quiet-proper book size_update_pending (record st { kind = PeerReset })
     at WeReset = quiet-proper book size_update_pending (record st { kind = WeReset })
 
-peer_ended-good : (book : List Entry) (window : ℕ) (m : Mark) (size_update_pending : Bool) (st : Stream) → Fits book window st m → Good book window m (peer_ended size_update_pending (body_length book st) st)
+peer_ended-good : (book : List Entry) (window : ℕ) (m : StreamTally) (size_update_pending : Bool) (st : Stream) → Fits book window st m → Good book window m (peer_ended size_update_pending (body_length book st) st)
 unfolding peer_ended
 peer_ended-good book window m size_update_pending st f = at st.kind f
   where
@@ -273,7 +273,7 @@ peer_ended-good book window m size_update_pending st f = at st.kind f
     begins None f = answered-good book window m size_update_pending HalfRemote st.id (record st.numbers { body_remaining = None }) st.pick tt f
     begins (Some l) f = record { in_turn = tt; fits = f }
 
-    at : (k : Kind) → Fits book window (record st { kind = k }) m → Good book window m (peer_ended size_update_pending (body_length book st) (record st { kind = k }))
+    at : (k : StreamState) → Fits book window (record st { kind = k }) m → Good book window m (peer_ended size_update_pending (body_length book st) (record st { kind = k }))
     at Idle f = absurd f
     at Skipped f = absurd f
     at BothOpen f = begins st.numbers.body_remaining f
@@ -289,7 +289,7 @@ unless-proper : (book : List Entry) (size_update_pending : Bool) (st : Stream) (
 unless-proper book size_update_pending st (Some cause) turn h = error-proper book size_update_pending st cause
 unless-proper book size_update_pending st None turn h = h
 
-unless-good : (book : List Entry) (window : ℕ) (m : Mark) (size_update_pending : Bool) (id : ℕ) (o : Option Cause) (turn : StreamOutcome) → Uncut m → Good book window m turn → Good book window m (unless_broken o size_update_pending id turn)
+unless-good : (book : List Entry) (window : ℕ) (m : StreamTally) (size_update_pending : Bool) (id : ℕ) (o : Option Cause) (turn : StreamOutcome) → Uncut m → Good book window m turn → Good book window m (unless_broken o size_update_pending id turn)
 unless-good book window m size_update_pending id (Some cause) turn u h = error-good book window m size_update_pending id cause u
 unless-good book window m size_update_pending id None turn u h = h
 
@@ -303,7 +303,7 @@ returned-proper book threshold size_update_pending st = at (given_back threshold
     at (Some n) = record { same_id = refl; only = (refl, refl, tt); has_body = λ h. h }
     at None = quiet-proper book size_update_pending st
 
-returned-good : (book : List Entry) (window : ℕ) (m : Mark) (threshold : ℕ) (size_update_pending : Bool) (st : Stream) → Fits book window st m → m.reset ≡ false → Good book window m (returned threshold size_update_pending st)
+returned-good : (book : List Entry) (window : ℕ) (m : StreamTally) (threshold : ℕ) (size_update_pending : Bool) (st : Stream) → Fits book window st m → m.reset ≡ false → Good book window m (returned threshold size_update_pending st)
 unfolding returned
 returned-good book window m threshold size_update_pending st f r = at (given_back threshold st.numbers.owed)
   where
@@ -321,7 +321,7 @@ data_turn-proper book threshold size_update_pending d st =
     (moved-proper book st after _ refl (λ h. h) (peer_ended-proper book size_update_pending after))
     (moved-proper book st after _ refl (λ h. h) (returned-proper book threshold size_update_pending after))))
 
-pub data_turn-good : (book : List Entry) (window : ℕ) (m : Mark) (threshold : ℕ) (size_update_pending : Bool) (d : ReceivedData) (st : Stream) → Fits book window st m → m.reset ≡ false → Good book window m (data_outcome threshold size_update_pending (body_length book st) d st)
+pub data_turn-good : (book : List Entry) (window : ℕ) (m : StreamTally) (threshold : ℕ) (size_update_pending : Bool) (d : ReceivedData) (st : Stream) → Fits book window st m → m.reset ≡ false → Good book window m (data_outcome threshold size_update_pending (body_length book st) d st)
 unfolding data_outcome taken
 data_turn-good book window m threshold size_update_pending d st f r =
     let u : Uncut m = Uncut-live st.kind (picked book st.pick).body window st.numbers.send st.numbers.body_remaining m f r in
@@ -331,29 +331,29 @@ data_turn-good book window m threshold size_update_pending d st f r =
 
 -- ---- WINDOW_UPDATE and RST_STREAM
 
--- the mark with an increment
-abbrev pub granted_more : ℕ → Mark → Mark
+-- the tally with an increment
+abbrev pub granted_more : ℕ → StreamTally → StreamTally
 granted_more n m = record m { granted = m.granted + n }
 
--- the mark with RST_STREAM received
-abbrev pub now_reset : Mark → Mark
+-- the tally with RST_STREAM received
+abbrev pub now_reset : StreamTally → StreamTally
 now_reset m = record m { reset = true }
 
 -- what the window is moved by does not matter where nothing more is sent
-granted-sends : (body : List ℕ) (window : ℕ) (send : ℤ) (left : Option ℕ) (m : Mark) (i : ℕ) → Sends body window send left m → Sends body window (send +ℤ pos i) left (granted_more i m)
+granted-sends : (body : List ℕ) (window : ℕ) (send : ℤ) (left : Option ℕ) (m : StreamTally) (i : ℕ) → Sends body window send left m → Sends body window (send +ℤ pos i) left (granted_more i m)
 granted-sends body window send left m i f = record { promised = f.promised; send_is = let e = f.send_is in omega (arith, ints); waits = waits left f.waits; ended = f.ended; reset = f.reset }
   where
     waits : (o : Option ℕ) → Waits body o m → Waits body o (granted_more i m)
     waits None w = w
     waits (Some l) w = w
 
-granted-ends : (m : Mark) (i : ℕ) → HasEnded m → HasEnded (granted_more i m)
+granted-ends : (m : StreamTally) (i : ℕ) → HasEnded m → HasEnded (granted_more i m)
 granted-ends m i f = record { promised = f.promised; of_body = f.of_body; ended = f.ended }
 
-granted-cut : (m : Mark) (i : ℕ) → Cut m → Cut (granted_more i m)
+granted-cut : (m : StreamTally) (i : ℕ) → Cut m → Cut (granted_more i m)
 granted-cut m i f = record { promised = f.promised; of_body = f.of_body; reset = f.reset }
 
-granted-fits : (kind : Kind) (body : List ℕ) (window : ℕ) (send : ℤ) (left : Option ℕ) (m : Mark) (i : ℕ) → FitsAs kind body window send left m → FitsAs kind body window (send +ℤ pos i) left (granted_more i m)
+granted-fits : (kind : StreamState) (body : List ℕ) (window : ℕ) (send : ℤ) (left : Option ℕ) (m : StreamTally) (i : ℕ) → FitsAs kind body window send left m → FitsAs kind body window (send +ℤ pos i) left (granted_more i m)
 granted-fits Idle body window send left m i f = f
 granted-fits Skipped body window send left m i f = f
 granted-fits BothOpen body window send left m i f = granted-sends body window send left m i f
@@ -364,7 +364,7 @@ granted-fits PeerReset body window send left m i f = granted-cut m i f
 granted-fits WeReset body window send left m i f = granted-cut m i f
 
 -- the server has nothing more to send, whatever comes
-abbrev pub IsOver : Kind → Type 0
+abbrev pub IsOver : StreamState → Type 0
 IsOver Ended = Unit {0}
 IsOver PeerReset = Unit {0}
 IsOver WeReset = Unit {0}
@@ -374,7 +374,7 @@ IsOver BothOpen = ⊥
 IsOver HalfRemote = ⊥
 IsOver HalfLocal = ⊥
 
-pub over-granted : (kind : Kind) (body : List ℕ) (window : ℕ) (send : ℤ) (left : Option ℕ) (m : Mark) (i : ℕ) → IsOver kind → FitsAs kind body window send left m → FitsAs kind body window send left (granted_more i m)
+pub over-granted : (kind : StreamState) (body : List ℕ) (window : ℕ) (send : ℤ) (left : Option ℕ) (m : StreamTally) (i : ℕ) → IsOver kind → FitsAs kind body window send left m → FitsAs kind body window send left (granted_more i m)
 over-granted Ended body window send left m i o f = granted-ends m i f
 over-granted PeerReset body window send left m i o f = granted-cut m i f
 over-granted WeReset body window send left m i o f = granted-cut m i f
@@ -384,7 +384,7 @@ over-granted BothOpen body window send left m i o f = absurd o
 over-granted HalfRemote body window send left m i o f = absurd o
 over-granted HalfLocal body window send left m i o f = absurd o
 
-pub over-reset : (kind : Kind) (body : List ℕ) (window : ℕ) (send : ℤ) (left : Option ℕ) (m : Mark) → IsOver kind → FitsAs kind body window send left m → FitsAs kind body window send left (now_reset m)
+pub over-reset : (kind : StreamState) (body : List ℕ) (window : ℕ) (send : ℤ) (left : Option ℕ) (m : StreamTally) → IsOver kind → FitsAs kind body window send left m → FitsAs kind body window send left (now_reset m)
 over-reset Ended body window send left m o f = record { promised = f.promised; of_body = f.of_body; ended = f.ended }
 over-reset PeerReset body window send left m o f = record { promised = f.promised; of_body = f.of_body; reset = refl }
 over-reset WeReset body window send left m o f = record { promised = f.promised; of_body = f.of_body; reset = refl }
@@ -400,10 +400,10 @@ window_turn-proper book size_update_pending i st =
     either-proper book st _ _ _ (error-proper book size_update_pending st StreamIncrementZero)
     (either-proper book st _ _ _ (error-proper book size_update_pending st StreamWindowOverflow) (record { same_id = refl; only = tt; has_body = λ h. h }))
 
-pub window_turn-good : (book : List Entry) (window : ℕ) (m : Mark) (size_update_pending : Bool) (i : ℕ) (st : Stream) → Fits book window st m → m.reset ≡ false → Good book window (granted_more i m) (window_outcome size_update_pending i st)
+pub window_turn-good : (book : List Entry) (window : ℕ) (m : StreamTally) (size_update_pending : Bool) (i : ℕ) (st : Stream) → Fits book window st m → m.reset ≡ false → Good book window (granted_more i m) (window_outcome size_update_pending i st)
 unfolding window_outcome
 window_turn-good book window m size_update_pending i st f r =
-    let more : Mark = granted_more i m in
+    let more : StreamTally = granted_more i m in
     let g : FitsAs st.kind (picked book st.pick).body window (st.numbers.send +ℤ pos i) st.numbers.body_remaining more = granted-fits st.kind (picked book st.pick).body window st.numbers.send st.numbers.body_remaining m i f in
     let u : Uncut more = Uncut-live st.kind (picked book st.pick).body window (st.numbers.send +ℤ pos i) st.numbers.body_remaining more g r in
     either-good book window more _ _ _ (error-good book window more size_update_pending st.id StreamIncrementZero u)
@@ -413,7 +413,7 @@ pub reset_turn-proper : (book : List Entry) (size_update_pending : Bool) (st : S
 unfolding octets_waiting
 reset_turn-proper book size_update_pending st = record { same_id = refl; only = tt; has_body = λ h. (omega arith, tt) }
 
-pub reset_turn-good : (book : List Entry) (window : ℕ) (m : Mark) (size_update_pending : Bool) (st : Stream) → Fits book window st m → m.reset ≡ false → Good book window (now_reset m) (reset_outcome size_update_pending st)
+pub reset_turn-good : (book : List Entry) (window : ℕ) (m : StreamTally) (size_update_pending : Bool) (st : Stream) → Fits book window st m → m.reset ≡ false → Good book window (now_reset m) (reset_outcome size_update_pending st)
 reset_turn-good book window m size_update_pending st f r =
     let u : Uncut m = Uncut-live st.kind (picked book st.pick).body window st.numbers.send st.numbers.body_remaining m f r in
     record { in_turn = tt; fits = record { promised = u.promised; of_body = u.of_body; reset = refl } }
@@ -426,7 +426,7 @@ trailers_turn-proper book size malformed size_update_pending ends st =
     either-proper book st _ _ _ (error-proper book size_update_pending st ListTooLarge)
     (unless-proper book size_update_pending st _ _ (peer_ended-proper book size_update_pending st))
 
-pub trailers_turn-good : (book : List Entry) (window : ℕ) (m : Mark) (size : ℕ) (malformed : Option Cause) (size_update_pending ends : Bool) (st : Stream) → Fits book window st m → m.reset ≡ false →
+pub trailers_turn-good : (book : List Entry) (window : ℕ) (m : StreamTally) (size : ℕ) (malformed : Option Cause) (size_update_pending ends : Bool) (st : Stream) → Fits book window st m → m.reset ≡ false →
     Good book window m (trailers_outcome size malformed (body_length book st) size_update_pending ends st)
 unfolding trailers_outcome
 trailers_turn-good book window m size malformed size_update_pending ends st f r =
@@ -445,8 +445,8 @@ request_turn-proper book config live core id ends f =
     (either-proper book st ends _ _ (peer_ended-proper book core.peer.size_update_pending st)
     (either-proper book st (picked book f.pick).early _ _ (answered-proper book core.peer.size_update_pending st) (quiet-proper book core.peer.size_update_pending st)))))
 
--- the mark of a stream whose request has just come
-abbrev pub just_asked : List ℕ → Mark
+-- the tally of a stream whose request has just come
+abbrev pub just_asked : List ℕ → StreamTally
 just_asked body = record blank { promised = Some body }
 
 pub request_turn-good : (book : List Entry) (config : Config) (live : ℕ) (core : ConnectionState) (id : ℕ) (ends : Bool) (f : BlockSummary) →
@@ -455,7 +455,7 @@ unfolding request_outcome
 request_turn-good book config live core id ends f =
     let st : Stream = new_stream core id f in
     let body : List ℕ = (picked book f.pick).body in
-    let m : Mark = just_asked body in
+    let m : StreamTally = just_asked body in
     let w : ℕ = core.peer.window in
     let g : Sends body w (pos w) None m = record { promised = refl; send_is = omega (arith, ints); waits = (refl, refl); ended = refl; reset = refl } in
     let u : Uncut m = Uncut-sends body w (pos w) None m g in

@@ -24,6 +24,12 @@ returns-clause-explains g c = λ config view file book words bookfile textfile w
       prints-other _ _ _ _ _ (λ t e. inl (inl e, unread.1)) ((rw memory at c.carry_out.ensures.refused) well)
 ]
 
+pub returns-clause-checks : goal.returns-clause-checks
+returns-clause-checks g c = λ config book in_place names words files well. elim (parsed _ c.parse-asked.result c.parse-asked.ensures.ok c.parse-asked.ensures.refused) [
+  | inl same ↦ c.carry_out.ensures.checks config book in_place names (same ∙ words) files well
+  | inr memory ↦ prints-other _ _ _ _ _ (λ t e. inl e) ((rw memory at c.carry_out.ensures.refused) well)
+]
+
 pub returns-clause-serves : goal.returns-clause-serves
 returns-clause-serves g c = λ is well. elim (parsed _ c.parse-asked.result c.parse-asked.ensures.ok c.parse-asked.ensures.refused) [
   | inl same ↦ inl (c.carry_out.ensures.serves (ap is_serve same ∙ is))

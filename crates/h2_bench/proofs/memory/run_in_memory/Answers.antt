@@ -1,5 +1,6 @@
 use Rattle.std.proofs.Common.{Some, false, inr, refl}
 use Rattle.h2_book.specs.Files.{file_in}
+use Rattle.h2_commands.specs.CheckProgram.{IsCheck}
 use Rattle.h2_commands.specs.ExplainProgram.{IsExplained, form_of}
 use Rattle.h2_commands.specs.Printed.{Printed}
 use Rattle.h2_bench.proofs.InMemory.{batch-whole, printed-such, session-whole}
@@ -15,3 +16,8 @@ pub returns-clause-explains : goal.returns-clause-explains
 returns-clause-explains c = λ config view file book words.
     printed-such (λ (t : Printed). IsExplained (form_of view) (file_in c.args.files.now) config file book (Some c.args.input.now) false t) _ _
     (rw c.new-output.ensures.0 at (c.run_on-status.ensures.explains config view file book words (inr refl) (inr refl) c.if-output.false))
+
+pub returns-clause-checks : goal.returns-clause-checks
+returns-clause-checks c = λ config book in_place names words.
+    printed-such (λ (t : Printed). IsCheck (file_in c.args.files.now) config book names t) _ _
+    (rw c.new-output.ensures.0 at (c.run_on-status.ensures.checks config book in_place names words refl c.if-output.false))

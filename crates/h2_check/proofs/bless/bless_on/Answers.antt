@@ -1,4 +1,4 @@
-use Rattle.std.proofs.Common.{List, ℕ, map}
+use Rattle.std.proofs.Common.{List, [], ℕ, map}
 use Rattle.std.proofs.lemmas.Result.{IfOk-weaker}
 use Rattle.h2_check.specs.Cases.{Start}
 use Rattle.h2_check.proofs.Blessing.{whole}
@@ -7,7 +7,7 @@ use Rattle.h2_check.proofs.bless.bless_on.Goals as goal
 
 pub returns-in-Ok : goal.returns-in-Ok
 returns-in-Ok c =
-    let start : Start = record { state = c.args.conn.now.state; sent = c.args.sent.items } in
+    let start : Start = record { state = c.args.conn.now.state; sent = c.args.sent.items; texts = [] } in
     let w = c.new-walk.result in
     let walks = begun start w c.args.conn.now c.new-walk.ensures.octets.0 c.new-walk.ensures.octets.1 c.new-walk.ensures.seen c.requires.ready in
     let lines : List (List ℕ) = map (λ l. l.now) c.args.lines.now in

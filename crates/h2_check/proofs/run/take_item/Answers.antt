@@ -1,3 +1,4 @@
+use Rattle.std.proofs.Common.{◌+◌, refl}
 use Rattle.h2_check.specs.Seen.{seen_by}
 use Rattle.h2_check.proofs.Items.{item_said, sight_with}
 use Rattle.h2_check.proofs.run.take_item.Goals as goal
@@ -11,5 +12,5 @@ returns-in-Ok-Some-clause-takes c =
       event = took.event;
       comes = took.comes;
       state = said.state;
-      sight = sight_with c.args.conn.now.state (seen_by c.args.seen.now) took.event c.take_and_report.new.out.items _ _ _ took.sent c.cause_or-seen.ensures said.cause said.ignored;
+      sight = sight_with c.args.conn.now.state (seen_by c.args.seen.now) took.event (c.args.seen.now.items + 1) c.take_and_report.new.out.items _ _ _ refl took.sent c.cause_or-seen.ensures said.cause said.ignored;
     }

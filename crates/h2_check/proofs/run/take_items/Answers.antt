@@ -1,5 +1,5 @@
-use Rattle.std.proofs.Common.{◌∙◌, arith, sym}
-use Rattle.h2_check.specs.Seen.{seen_by}
+use Rattle.std.proofs.Common.{◌≡◌, ◌∙◌, ◌+◌, ap, arith, sym}
+use Rattle.h2_check.specs.Seen.{Sight, seen_by}
 use Rattle.h2_check.proofs.Items.{rest_end, rest_next, seen_end, seen_next, state_end, state_next, within_next}
 use Rattle.h2_check.proofs.run.take_items.Goals as goal
 
@@ -21,7 +21,9 @@ loop-used-preserved c =
     let s = c.loop-used.conn.state in
     let t = c.take_item.new.conn.state in
     let within = within_next s t c.args.octets.now c.loop-used.at c.in-Ok-Some.used item.event c.loop-used.invariant.within item.comes in
+    let more : c.take_item.new.seen.items ≡ c.loop-used.seen.items + 1 = ap (λ (x : Sight). x.items) item.sight in
     record {
+      few = omega (arith, c.loop-used.invariant.few, within.0, more);
       within = within.1;
       ready = c.take_item.ensures.ready;
       state = c.loop-used.invariant.state ∙ state_next s t c.args.octets.now c.loop-used.at c.in-Ok-Some.used item.event item.comes;
@@ -33,8 +35,10 @@ loop-used-preserved c =
 pub returns-in-Ok-None : goal.returns-in-Ok-None
 returns-in-Ok-None c =
     let none = rw (c.octets_from.ensures, c.in-Ok-None.field-0-is) at c.in-Ok-None.ensures.takes in
+    let same : c.take_item.new.seen.items ≡ c.loop-used.seen.items = ap (λ (x : Sight). x.items) none.sight in
     record {
       ready = c.take_item.ensures.ready;
+      few = omega (arith, c.loop-used.invariant.few, same);
       within = c.loop-used.invariant.within;
       state = c.loop-used.invariant.state ∙ state_end _ _ none.none ∙ sym none.same;
       rest = c.loop-used.invariant.rest ∙ rest_end _ _ none.none;

@@ -1,4 +1,5 @@
-use Rattle.std.proofs.Common.{◌≡◌, ◌∙◌, Bool, List, ℕ, ap, map}
+use Rattle.std.proofs.Common.{◌≡◌, ◌∙◌, Bool, List, ℕ, ap, map, refl}
+use Rattle.std.specs.String.{string_bytes}
 use Rattle.h2_check.specs.Cases.{Start, outcome}
 use Rattle.h2_check.specs.Files.{expect_something}
 use Rattle.h2_check.proofs.Going.{all_held, begun}
@@ -6,8 +7,8 @@ use Rattle.h2_check.proofs.verdict.check_on.Goals as goal
 
 pub returns-in-Ok-clause-verdict : goal.returns-in-Ok-clause-verdict
 returns-in-Ok-clause-verdict c =
-    let start : Start = record { state = c.args.conn.now.state; sent = c.args.sent.items } in
+    let start : Start = record { state = c.args.conn.now.state; sent = c.args.sent.items; texts = map string_bytes c.args.texts.now } in
     let w = c.new-walk.result in
     let walks = begun start w c.args.conn.now c.new-walk.ensures.octets.0 c.new-walk.ensures.octets.1 c.new-walk.ensures.seen c.requires.ready in
-    let held = all_held start w c.check_lines.new.walk c.args.lines.now c.new-walk.ensures.holds c.new-walk.ensures.octets.0 c.new-walk.ensures.place.0 c.new-walk.ensures.place.1 (c.in-Ok.ensures start walks) in
+    let held = all_held start w c.check_lines.new.walk c.args.lines.now c.new-walk.ensures.holds c.new-walk.ensures.octets.0 c.new-walk.ensures.place.0 c.new-walk.ensures.place.1 (c.in-Ok.ensures start refl walks) in
     c.into_verdict.ensures ∙ ap (λ (b : Bool). outcome b (expect_something (map (λ l. l.now) c.args.lines.now))) held

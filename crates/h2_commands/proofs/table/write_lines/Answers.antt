@@ -1,7 +1,7 @@
 use Rattle.std.proofs.Common.{◌∙◌, ◌≤◌, ◌<◌, Result, length, arith, ap, refl, sym}
 use Rattle.h2_commands.specs.Each.{not_written}
 use Rattle.h2_commands.specs.TableProgram.{lines_of, printed_parts}
-use Rattle.h2_commands.specs.declared.each.PlacesFault.{PlacesFault}
+use Rattle.h2_commands.specs.declared.each.PrintFault.{PrintFault}
 use Rattle.h2_commands.proofs.Tables.{wrote-all, wrote-line, wrote-none, wrote-some}
 use Rattle.h2_commands.proofs.Written.{whole-parts}
 use Rattle.h2_commands.proofs.table.write_lines.Goals as goal
@@ -17,7 +17,7 @@ pub loop-rest-preserved : goal.loop-rest-preserved
 loop-rest-preserved g c =
     let some : 0 < length c.loop-rest.rest.now = grind (arith, c.loop-rest-test.ensures) in
     record {
-      writer = c.write_line.ensures.flag ∙ ap (λ (r : Result (Unit {0}) PlacesFault). not_written r) c.in-Ok.is;
+      writer = c.write_line.ensures.flag ∙ ap (λ (r : Result (Unit {0}) PrintFault). not_written r) c.in-Ok.is;
       name = c.write_line.ensures.name ∙ c.loop-rest.invariant.name;
       printed = λ held is.
           wrote-line _ _ _ c.loop-rest.rest.now c.first_line.result.0.now c.first_line.result.1.now held _ _ some c.first_line.ensures.0 c.first_line.ensures.1
@@ -26,7 +26,7 @@ loop-rest-preserved g c =
 
 pub returns-in-Err-clause-printed : goal.returns-in-Err-clause-printed
 returns-in-Err-clause-printed g c = λ well held is.
-    let broken = sym (ap (λ (r : Result (Unit {0}) PlacesFault). not_written r) c.in-Err.is) ∙ sym c.write_line.ensures.flag ∙ well in
+    let broken = sym (ap (λ (r : Result (Unit {0}) PrintFault). not_written r) c.in-Err.is) ∙ sym c.write_line.ensures.flag ∙ well in
     wrote-some (printed_parts c.args.table.now (lines_of c.args.input.now)) _ _ c.loop-rest.rest.now held _ _ c.in-Err.why broken c.in-Err.ensures.err (c.loop-rest.invariant.printed held is)
 
 pub returns-clause-printed : goal.returns-clause-printed

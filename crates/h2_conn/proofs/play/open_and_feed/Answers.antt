@@ -15,4 +15,4 @@ returns-in-Ok-clause-grants g c =
     within-grants a.book.now a.config a.octets.now a.out.now.items c.feed_or_cut.new.out.items opens.sent
 
 pub returns-clause-unchanged : goal.returns-clause-unchanged
-returns-clause-unchanged g c = rw (c.as_slice-mark.ensures.value, c.in_ok-conn.ensures.sent, take-append_seam) at c.in-Err.ensures.cut
+returns-clause-unchanged g c = rw (c.as_slice-before.ensures.value, c.in_ok-conn.ensures.sent, take-append_seam) at c.in-Err.ensures.cut

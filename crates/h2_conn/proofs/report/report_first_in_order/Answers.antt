@@ -3,7 +3,7 @@ use Rattle.h2_spec.specs.State.{State}
 use Rattle.h2_rules.specs.Sound.{IsSoundState}
 use Rattle.h2_conn.specs.Blocks.{IsOpenFor}
 use Rattle.h2_conn.proofs.FirstLaws.{taken-follows}
-use Rattle.h2_conn.proofs.MarkLaws.{ordered}
+use Rattle.h2_conn.proofs.FollowsLaws.{ordered}
 use Rattle.h2_conn.proofs.report.report_first_in_order.Goals as goal
 
 pub returns-clause-follows : goal.returns-clause-follows

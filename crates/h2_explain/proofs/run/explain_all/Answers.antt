@@ -1,4 +1,4 @@
-use Rattle.std.proofs.Common.{◌++◌, List, ℕ, [], is_err, subst, sym}
+use Rattle.std.proofs.Common.{List, ℕ, [], is_err, subst, sym}
 use Rattle.std.proofs.lemmas.Result.{IfOk-weaker}
 use Rattle.h2_conn.specs.Connection.{Connection}
 use Rattle.h2_explain.specs.Explaining.{IsBeginning, IsExplaining}

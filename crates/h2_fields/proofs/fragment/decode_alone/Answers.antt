@@ -1,9 +1,9 @@
 use Rattle.std.proofs.Common.{ap}
 use Rattle.h2_spec.specs.Block.{FieldsSoFar}
-use Rattle.h2_fields.specs.declared.collected.Mark.{Mark}
+use Rattle.h2_fields.specs.declared.collected.Savepoint.{Savepoint}
 use Rattle.h2_fields.proofs.Drafting.{grows-restored}
 use Rattle.h2_fields.proofs.fragment.decode_alone.Goals as goal
 
 pub returns-in_default-Err-clause-grows : goal.returns-in_default-Err-clause-grows
 returns-in_default-Err-clause-grows g c =
-    grows-restored c.args.collected.now c.attempt-edit.new.collected c.restore.new.self c.mark-before.result.count c.attempt-edit.ensures.grows (ap (λ (m : Mark). m.count) c.mark-before.ensures) (ap (λ (s : FieldsSoFar). s.fields) c.restore.ensures)
+    grows-restored c.args.collected.now c.attempt-edit.new.collected c.restore.new.self c.savepoint-before.result.count c.attempt-edit.ensures.grows (ap (λ (m : Savepoint). m.count) c.savepoint-before.ensures) (ap (λ (s : FieldsSoFar). s.fields) c.restore.ensures)

@@ -1,7 +1,7 @@
 use Rattle.std.proofs.Common.{◌≤◌, ◌+◌, length, drop, subst, arith, ℕ, List}
 use Rattle.h2_fields.specs.Resume.{NameOctets, ValueLength, name_at}
 use Rattle.h2_fields.specs.Shapes.{mode_of}
-use Rattle.h2_fields.specs.declared.shape.KnownName.TheVariants as name
+use Rattle.h2_fields.specs.declared.shape.PartialName.TheVariants as name
 use Rattle.h2_fields.proofs.Resuming.{goes-on, name-whole}
 use Rattle.h2_fields.proofs.shape.from_name.Goals as goal
 

@@ -2,7 +2,7 @@ use Rattle.std.proofs.Common.{arith, ◌+◌, ◌≤◌, ◌++◌, ◌∷◌, []
 use Rattle.h2_spec.specs.Field.{Field, field}
 use Rattle.h2_list.specs.Listed.{Listed}
 use Rattle.h2_list.specs.Spans.{AreSpans, field_in}
-use Rattle.h2_list.specs.declared.Part.{Part}
+use Rattle.h2_list.specs.declared.OctetRange.{OctetRange}
 use Rattle.h2_list.specs.declared.Span.{Span}
 use Rattle.h2_list.proofs.Closing.{adds, front-part, last-part, spans-push}
 use Rattle.h2_list.proofs.FieldList.close.Goals as goal
@@ -26,8 +26,8 @@ unfolding listed
 returns-clause-ok g c =
     let l = c.self.inside in
     let split = l.start + c.args.name in
-    let first : Part = record { start = l.start; end = split } in
-    let second : Part = record { start = split; end = c.len-end.result } in
+    let first : OctetRange = record { start = l.start; end = split } in
+    let second : OctetRange = record { start = split; end = c.len-end.result } in
     let s : Span = record { name = first; value = second; start = l.start; end = c.len-end.result } in
     let seen = ap (λ (o : Listed). length o.next) c.self.view_is in
     let more = drop l.start l.octets.items in

@@ -2,7 +2,7 @@ use Rattle.std.proofs.Common.{arith, ◌++◌, ◌∷◌, [], ℕ, List, take, d
 use Rattle.h2_spec.specs.Field.{Field, field}
 use Rattle.h2_list.specs.Listed.{Listed}
 use Rattle.h2_list.specs.Spans.{AreSpans, IsPart, field_in}
-use Rattle.h2_list.specs.declared.Part.{Part}
+use Rattle.h2_list.specs.declared.OctetRange.{OctetRange}
 use Rattle.h2_list.specs.declared.Span.{Span}
 use Rattle.h2_list.proofs.Closing.{adds, begins-more, begins-whole, last-part, part-stays, spans-push, span-ordered}
 use Rattle.h2_list.proofs.FieldList.close_named.Goals as goal
@@ -15,7 +15,7 @@ invariant_of-self-2 g c =
     let l = c.self.inside in
     let o1 = l.octets.items in
     let o2 = c.put_part.new.octets.items in
-    let last : Part = record { start = l.start; end = c.len-before.result } in
+    let last : OctetRange = record { start = l.start; end = c.len-before.result } in
     let s : Span = record { name = c.in_ok-name.name; value = last; start = l.start; end = c.len-end.result } in
     let end = c.len-end.ensures ∙ c.put_part.new.octets.ok.0 in
     let b = begins-more l.start o1 o1 o2 (begins-whole l.start o1 c.self.invariant.0) c.in_ok-name.ensures.kept in
@@ -30,7 +30,7 @@ returns-clause-ok g c =
     let l = c.self.inside in
     let o1 = l.octets.items in
     let o2 = c.put_part.new.octets.items in
-    let last : Part = record { start = l.start; end = c.len-before.result } in
+    let last : OctetRange = record { start = l.start; end = c.len-before.result } in
     let s : Span = record { name = c.in_ok-name.name; value = last; start = l.start; end = c.len-end.result } in
     let end = c.len-end.ensures ∙ c.put_part.new.octets.ok.0 in
     let b = begins-more l.start o1 o1 o2 (begins-whole l.start o1 c.self.invariant.0) c.in_ok-name.ensures.kept in

@@ -1,6 +1,6 @@
 use Rattle.std.proofs.Common.{◌≡◌, refl, sym, ◌∙◌, ap, subst}
 use Rattle.h2_spec.specs.declared.reactions.StreamOutcome.{StreamOutcome}
-use Rattle.h2_spec.specs.declared.streams.Kind.TheVariants.{PeerReset}
+use Rattle.h2_spec.specs.declared.streams.StreamState.TheVariants.{PeerReset}
 use Rattle.h2_spec.specs.declared.streams.Stream.{Stream}
 use Rattle.h2_spec.specs.Stream.{not_live}
 use Rattle.h2_rules.specs.Sound.{HasBody, IsCalm, IsSoundStream, in_force, is_recorded}

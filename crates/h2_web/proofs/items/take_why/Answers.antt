@@ -1,5 +1,4 @@
-use Rattle.std.proofs.Common.{◌≡◌, ◌∙◌, Option, ap, is_some, option_map, refl, sym}
-use Rattle.h2_spec.specs.State.{ended_code}
+use Rattle.std.proofs.Common.{◌∙◌, ap, is_some}
 use Rattle.h2_places.proofs.Taken.{event-state}
 use Rattle.h2_web.proofs.Told.{reported-event, some-mapped}
 use Rattle.h2_web.proofs.items.take_why.Goals as goal

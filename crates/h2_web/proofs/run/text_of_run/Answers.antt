@@ -1,5 +1,5 @@
 use Rattle.std.proofs.Common.{ℕ, List, Some, [], ap}
-use Rattle.h2_web.proofs.Runs.{gathered-all, gathered-none, gathered-some, no-text}
+use Rattle.h2_web.proofs.Runs.{gathered-all, gathered-none, gathered-some}
 use Rattle.h2_web.proofs.run.text_of_run.Goals as goal
 
 pub returns-in-Ok : goal.returns-in-Ok

@@ -1,4 +1,4 @@
-use Rattle.std.proofs.Common.{◌≡◌, ◌∙◌, ◌++◌, ℕ, List, ap}
+use Rattle.std.proofs.Common.{◌∙◌, ◌++◌, ℕ, List, ap}
 use Rattle.h2_spec.specs.Opening.{opening_octets}
 use Rattle.h2_web.proofs.Runs.{not-allowed, nothing-written, run-written}
 use Rattle.h2_web.proofs.run.write_run.Goals as goal

@@ -1,7 +1,3 @@
-use Rattle.std.proofs.Common.{◌≡◌, ◌∙◌, subst, ap, sym}
-use Rattle.h2_script.specs.Readings.{Refuses}
-use Rattle.h2_script.specs.declared.fault.ScriptFault.{ScriptFault}
-use Rattle.h2_spec.specs.Assemble.{assembled}
 use Rattle.h2_web.proofs.script.assembled.Goals as goal
 
 pub returns-in_default : goal.returns-in_default

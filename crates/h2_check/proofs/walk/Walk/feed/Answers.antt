@@ -10,9 +10,9 @@ returns-clause-walks c = λ start is.
     let items : c.extend_from_slice.new.self.items ≡ w.octets.items ++ more = c.in_ok-extend_from_slice.ensures.items in
     let slice : c.as_slice.result.now ≡ w.octets.items ++ more = c.as_slice.ensures.value ∙ items in
     record {
-      within = rw c.as_slice.ensures.value at c.in_ok-self.ensures.within;
+      within = (c.in_ok-self.ensures.few, rw c.as_slice.ensures.value at c.in_ok-self.ensures.within);
       ready = c.take_items.ensures.ready;
-      state = rw items (state_fed start.state c.args.conn.now.state c.take_items.new.conn.state w.octets.items more w.at is.within is.state is.rest (rw slice at c.in_ok-self.ensures.state));
-      rest = rw items (rest_fed start.state c.args.conn.now.state w.octets.items more w.at _ is.within is.state is.rest (rw slice at c.in_ok-self.ensures.rest));
-      seen = rw items (seen_fed start.state c.args.conn.now.state start.sent w.octets.items more w.at (seen_by w.seen) (seen_by c.take_items.new.seen) is.within is.state is.rest is.seen (rw slice at c.in_ok-self.ensures.seen));
+      state = rw items (state_fed start.state c.args.conn.now.state c.take_items.new.conn.state w.octets.items more w.at is.within.1 is.state is.rest (rw slice at c.in_ok-self.ensures.state));
+      rest = rw items (rest_fed start.state c.args.conn.now.state w.octets.items more w.at _ is.within.1 is.state is.rest (rw slice at c.in_ok-self.ensures.rest));
+      seen = rw items (seen_fed start.state c.args.conn.now.state start.sent w.octets.items more w.at (seen_by w.seen) (seen_by c.take_items.new.seen) is.within.1 is.state is.rest is.seen (rw slice at c.in_ok-self.ensures.seen));
     }

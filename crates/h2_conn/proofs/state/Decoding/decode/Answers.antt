@@ -7,12 +7,12 @@ pub returns-clause-before : goal.returns-clause-before
 returns-clause-before g c =
     let inside = c.self.inside in
     let piece = c.decode_piece-edit in
-    is-before inside.purpose inside.collected piece.new.collected inside.rest piece.result.1.before c.mark-mark.result c.args.self.now c.self.view_is c.mark-mark.ensures (piece.ensures.before ∙ c.replace-before.ensures.value) piece.ensures.grows
+    is-before inside.purpose inside.collected piece.new.collected inside.rest piece.result.1.before c.savepoint-savepoint.result c.args.self.now c.self.view_is c.savepoint-savepoint.ensures (piece.ensures.before ∙ c.replace-before.ensures.value) piece.ensures.grows
 
 pub returns-clause-sized : goal.returns-clause-sized
 returns-clause-sized g c =
     let piece = c.decode_piece-edit in
-    is-sized c.self.inside.collected piece.new.collected c.mark-mark.result c.mark-mark.ensures piece.ensures.grows
+    is-sized c.self.inside.collected piece.new.collected c.savepoint-savepoint.result c.savepoint-savepoint.ensures piece.ensures.grows
 
 pub returns-clause-decoded : goal.returns-clause-decoded
 returns-clause-decoded g c =

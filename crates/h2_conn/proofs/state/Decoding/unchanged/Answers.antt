@@ -7,7 +7,7 @@ pub returns-clause-before : goal.returns-clause-before
 returns-clause-before g c =
     let inside = c.self.inside in
     let same = ap (λ (r : RestChange). r.before) c.unchanged-rest.ensures ∙ c.replace.ensures.value in
-    is-before inside.purpose inside.collected inside.collected inside.rest c.unchanged-rest.result.before c.mark-mark.result c.args.self.now c.self.view_is c.mark-mark.ensures same (grows-not inside.collected)
+    is-before inside.purpose inside.collected inside.collected inside.rest c.unchanged-rest.result.before c.savepoint-savepoint.result c.args.self.now c.self.view_is c.savepoint-savepoint.ensures same (grows-not inside.collected)
 
 pub returns-clause-after : goal.returns-clause-after
 returns-clause-after g c =
@@ -18,4 +18,4 @@ returns-clause-after g c =
 pub returns-clause-sized : goal.returns-clause-sized
 returns-clause-sized g c =
     let inside = c.self.inside in
-    is-sized inside.collected inside.collected c.mark-mark.result c.mark-mark.ensures (grows-not inside.collected)
+    is-sized inside.collected inside.collected c.savepoint-savepoint.result c.savepoint-savepoint.ensures (grows-not inside.collected)

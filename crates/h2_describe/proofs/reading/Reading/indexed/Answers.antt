@@ -7,17 +7,17 @@ use Rattle.h2_describe.proofs.Stepping.{indexed-found, indexed-none, indexed-ski
 use Rattle.h2_describe.proofs.reading.Reading.indexed.Goals as goal
 
 pub returns-in_default : goal.returns-in_default
-returns-in_default c =
+returns-in_default g c =
     let table = ap (λ (r : Reading). field_at c.args.index r.table.table.entries) (sym c.self.view_is) in
     (refl, index_fault c.args.index, indexed-none c.args.self.now c.args.index (table ∙ sym c.in_default.ensures), refl)
 
 pub returns-then-full : goal.returns-then-full
-returns-then-full c =
+returns-then-full g c =
     let table = ap (λ (r : Reading). field_at c.args.index r.table.table.entries) (sym c.self.view_is) in
     indexed-skipped c.args.self.now c.args.index (field c.in-Some.name.now c.in-Some.value.now) (table ∙ sym c.in-Some.ensures) (sym c.if-full.ensures)
 
 pub returns : goal.returns
-returns c =
+returns g c =
     let f = field c.in-Some.name.now c.in-Some.value.now in
     let s : Spelled = record { field = f; spelling = ByIndex c.args.index } in
     let table = ap (λ (r : Reading). field_at c.args.index r.table.table.entries) (sym c.self.view_is) in

@@ -8,7 +8,7 @@ use Rattle.h2_describe.proofs.Stepping.{literal-by_name}
 use Rattle.h2_describe.proofs.reading.Reading.literal.Goals as goal
 
 pub returns-in_ok-add_literal-in-Text : goal.returns-in_ok-add_literal-in-Text
-returns-in_ok-add_literal-in-Text c = λ i e.
+returns-in_ok-add_literal-in-Text g c = λ i e.
     let mode = mode_of c.args.mode in
     let n = c.in-Text.name in
     let s : Spelled = record { field = field n.text c.args.value.text; spelling = AsLiteral mode None n.huffman c.args.value.huffman } in

@@ -3,10 +3,10 @@ use Rattle.h2_describe.specs.Spelled.{read_to}
 use Rattle.h2_describe.proofs.reading.Reading.read_all.Given as goal
 
 abbrev pub invariant-loop-used : goal.invariant-loop-used
-invariant-loop-used l = record {
+invariant-loop-used g l = record {
   within : l.at ≤ length l.octets;
   read : read_to l.fn.self l.octets ≡ read_to l.self (drop l.at l.octets);
 }
 
 abbrev pub decreases-loop-used : goal.decreases-loop-used
-decreases-loop-used l = length l.octets - l.at
+decreases-loop-used g l = length l.octets - l.at

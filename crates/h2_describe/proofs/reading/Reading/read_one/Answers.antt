@@ -6,7 +6,7 @@ use Rattle.h2_describe.proofs.ReadingOn.{step-done, step-refused, step-more, ste
 use Rattle.h2_describe.proofs.reading.Reading.read_one.Goals as goal
 
 pub returns-in-None : goal.returns-in-None
-returns-in-None c =
+returns-in-None g c =
     let old = c.args.self.now in
     let now = c.carry_out.new.self in
     let w = c.in-Ok-Whole in
@@ -14,7 +14,7 @@ returns-in-None c =
     (λ i e. subst (IsDone old i now) c.in-None.is (c.in_ok-carry_out-in-Ok-Whole.ensures i e))
 
 pub returns-in-Some : goal.returns-in-Some
-returns-in-Some c =
+returns-in-Some g c =
     let old = c.args.self.now in
     let now = c.carry_out.new.self in
     let w = c.in-Ok-Whole in
@@ -22,12 +22,12 @@ returns-in-Some c =
     (λ i e. subst (IsDone old i now) c.in-Some.is (c.in_ok-carry_out-in-Ok-Whole.ensures i e))
 
 pub returns-in-Ok-More : goal.returns-in-Ok-More
-returns-in-Ok-More c =
+returns-in-Ok-More g c =
     let m = step-more c.args.self.now c.args.octets.now (ap read_text (sym c.in-Ok-More.field-0-is) ∙ c.in-Ok-More.ensures.read) in
     (refl, m.0, m.1)
 
 pub returns-else-eq : goal.returns-else-eq
-returns-else-eq c =
+returns-else-eq g c =
     let other : c.in-Err.fault ≢ faults.NoMemory = search rules in
     let f = step-fault c.args.self.now c.args.octets.now c.in-Err.fault (c.in-Err.ensures.fault other) in
     (refl, f.0, f.1)

@@ -5,7 +5,7 @@ use Rattle.h2_describe.proofs.ReadingOn.{more-held}
 use Rattle.h2_describe.proofs.spelled.BlockReader.read.Goals as goal
 
 pub returns-clause-read : goal.returns-clause-read
-returns-clause-read c =
+returns-clause-read g c =
     let before : BlockRead = record { reading = c.self.inside.reading; rest = c.self.inside.rest.items; stopped = c.self.inside.stopped } in
     let all = c.as_slice.result.now in
     let none : c.self.inside.stopped ≡ None = search rules in
@@ -15,4 +15,4 @@ returns-clause-read c =
     ∙ ap (λ b. read_more b c.args.fragment.now) c.self.view_is
 
 pub returns-clause-agrees : goal.returns-clause-agrees
-returns-clause-agrees c = λ none. agrees-more c.args.self.now _ c.args.fragment.now none (returns-clause-read c)
+returns-clause-agrees g c = λ none. agrees-more c.args.self.now _ c.args.fragment.now none (returns-clause-read g c)

@@ -1,4 +1,4 @@
-use Rattle.std.proofs.Common.{◌≡◌, ◌∙◌, ◌+◌, ℕ, List, Option, Result, ap, arith, drop, length, length-drop, refl, subst, sym}
+use Rattle.std.proofs.Common.{◌≡◌, ◌∙◌, ◌+◌, ℕ, List, Option, Result, ap, arith, drop, length-drop, refl, subst, sym}
 use Rattle.std.proofs.lemmas.List.{drop-drop}
 use Rattle.h2_conn.proofs.Runs.{leads-refl, leads-stop, leads-takes}
 use Rattle.h2_explain.specs.Explaining.{ExplainsOn}
@@ -26,7 +26,7 @@ loop-used-preserved g c =
     let i = c.loop-used.invariant in
     let y = rw (c.octets_from-rest.ensures, c.in-Ok-Some.field-0-is) at c.in-Ok-Some.ensures.ok in
     let uses = item-uses _ _ _ _ _ y.item y.explains in
-    let past : drop y.item.taken.used (drop at octets) ≡ drop (at + c.in-Ok-Some.used) octets = ap (λ (u : ℕ). drop u (drop at octets)) (sym y.used_is) ∙ drop-drop c.in-Ok-Some.used at octets in
+    let past : drop y.item.used (drop at octets) ≡ drop (at + c.in-Ok-Some.used) octets = ap (λ (u : ℕ). drop u (drop at octets)) (sym y.used_is) ∙ drop-drop c.in-Ok-Some.used at octets in
     record {
       within = omega (arith, i.within, uses.1, y.used_is, length-drop at octets);
       ready = c.take_item.ensures.ready;

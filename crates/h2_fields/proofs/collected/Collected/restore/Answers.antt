@@ -20,7 +20,7 @@ first-of-both n k count shared after list now all e f a b whole =
 
 pub invariant_of-self : goal.invariant_of-self
 invariant_of-self g c =
-    let n = c.args.mark.count in
+    let n = c.args.savepoint.count in
     let k = c.saturating_sub-behind.result in
     let list = c.self.inside.list in
     let behind = ap (λ (l : Listed). l.fields) c.truncate-2.ensures in
@@ -33,9 +33,9 @@ invariant_of-self g c =
 pub returns : goal.returns
 unfolding so_far
 returns g c =
-    let n = c.args.mark.count in
+    let n = c.args.savepoint.count in
     let k = c.saturating_sub-behind.result in
     let behind = ap (λ (l : Listed). l.fields) c.truncate-2.ensures in
     let whole = ap (λ (s : FieldsSoFar). s.fields) c.self.view_is in
     let both = first-of-both n k c.len.result c.self.inside.shared c.truncate.new.self c.self.inside.list c.truncate-2.new.self c.args.self.now c.saturating_sub-behind.ensures c.len.ensures.count c.truncate.ensures behind whole in
-    ap (λ (fs : List Field). so_far fs c.args.mark.due) both
+    ap (λ (fs : List Field). so_far fs c.args.savepoint.due) both

@@ -1,0 +1,41 @@
+//! What there is to show of an item: values of which the text and the JSON are views.
+
+use h2_changes::changes::{Changes, Moved};
+use h2_describe::say::TextBuilder;
+use h2_facts::special::CaseFacts;
+use h2_facts::warning::Warnings;
+use h2_item::header_table::EntryChange;
+use h2_spec::causes::Cause;
+use std::alloc::{Allocator, Global};
+
+/// What there is to say of an item, beside the item itself.
+#[derive(Drop)]
+pub struct Account<A: Allocator = Global> {
+    /// The sentence of its cause, empty where it is no error.
+    pub sentence: String<A>,
+    /// The other causes that hold of its block, where it is malformed (RFC 9113, 8.1.1).
+    pub also: Vec<Cause, A>,
+    /// What decides whether its rule is a special case.
+    pub facts: CaseFacts,
+    /// What the client may not do and the server let pass.
+    pub warnings: Warnings,
+    /// Whether the fields of its block are shown with it: the block ends here, or is refused here.
+    pub shows_fields: bool,
+    /// What it changed on the connection and on its stream.
+    pub changes: Changes<A>,
+    /// What it changed on streams besides.
+    pub moved: Vec<Moved, A>,
+    /// The entries of the client's header table that it entered or evicted.
+    pub entries: Vec<EntryChange<A>, A>,
+    /// The frames that the server sent before the first item; none for the others (RFC 9113, 3.4).
+    pub opening: Vec<u8, A>,
+    /// Whether long texts are shown whole; else the first 100 octets of each.
+    pub is_full: bool,
+}
+
+impl<A: Allocator + Copy> Account<A> {
+    /// A text in words that is empty yet; long texts are shown in it as they are asked for.
+    pub(crate) fn words(&self, alloc: A) -> TextBuilder<A> {
+        TextBuilder::with(alloc, self.is_full)
+    }
+}

@@ -1,0 +1,601 @@
+//! An item as a JSON object: the same values as its text, numbers as numbers, octets as text where they are UTF-8 and
+//! always as hex. The members of each object are in the order of their names. The members are described in
+//! docs/FORMATS.md.
+
+ghost use Rattle.std.specs.Prelude.{◌≡◌, false, IfOk};
+ghost use Rattle.std.specs.String.{string_bytes};
+ghost use Rattle.h2_account.specs.Lines.{EndsLine};
+
+use crate::account::Account;
+use crate::json_words::JsonWords;
+use crate::text::{mode_name, read_answer, say_item};
+use crate::warning_words::put_warnings;
+use h2_changes::changes::{Moved, ShownChange};
+use h2_changes::count::Count;
+use h2_describe::frame_words::say_frame;
+use h2_describe::names::{code_name, kind_name, registered_setting, registered_type, setting_name};
+use h2_describe::say::{Hex, HexOctet, Say, TextBuilder};
+use h2_describe::say_all;
+use h2_describe::sent::{first_of, next_frame};
+use h2_describe::spelled::{BlockReader, SpelledField, Spelling};
+use h2_facts::special::{case_of_error, case_of_reason, rule_of_cause, rule_of_reason};
+use h2_frame::{FrameRef, FrameType, Head, HeadersPart, Part, SettingsPart, part_of};
+use h2_item::header_table::EntryChange;
+use h2_item::item::Explained;
+use h2_spec::causes::Cause;
+use h2_spec::ignored::Ignored;
+use h2_spec::octets::octets_from;
+use h2_spec::special_cases::SpecialCase;
+use std::alloc::{AllocError, Allocator};
+
+/// The octets that are shown of some, as hex, and how many there are where not all are shown.
+fn put_hex<A: Allocator>(shown: &[u8], octets: &[u8], out: &mut JsonWords<A>) {
+    out.plain("hex", Hex(shown));
+    if shown.len() < octets.len() {
+        out.number("length", octets.len() as u64);
+    }
+}
+
+/// Octets as hex, and as text where those that are shown are UTF-8.
+fn put_octets<A: Allocator>(name: &str, octets: &[u8], out: &mut JsonWords<A>) {
+    let shown = out.shown_of(octets);
+    out.open(name);
+    put_hex(shown, octets, out);
+    if let Ok(text) = str::from_utf8(shown) {
+        out.text("text", text);
+    }
+    out.close();
+}
+
+/// The name of a type, or its number in words.
+fn put_type<A: Allocator>(kind: u8, out: &mut JsonWords<A>) {
+    match FrameType::of(kind) {
+        FrameType::Unknown(kind) => out.plain("type", Unnamed(kind)),
+        known => out.plain("type", known),
+    }
+}
+
+/// A type that RFC 9113 does not name, as `type 0x10`.
+#[derive(Clone, Copy)]
+struct Unnamed(u8);
+
+impl Say for Unnamed {
+    fn say<A: Allocator>(self, out: &mut TextBuilder<A>) {
+        say_all!(out; "type ", HexOctet(self.0));
+    }
+}
+
+/// The head of a frame.
+pub(crate) fn put_head<A: Allocator>(head: &Head, out: &mut JsonWords<A>) {
+    out.open("frame");
+    out.number("flags", u64::from(head.flags));
+    out.number("length", u64::from(head.length));
+    if let Some(name) = registered_type(head.kind) {
+        out.plain("registered", name);
+    }
+    out.number("stream", u64::from(head.stream));
+    put_type(head.kind, out);
+    out.number("type_number", u64::from(head.kind));
+    out.close();
+}
+
+/// An error code by number and name.
+fn put_code<A: Allocator>(code: u32, out: &mut JsonWords<A>) {
+    out.open("code");
+    out.plain("name", code_name(code).unwrap_or("unknown"));
+    out.number("number", u64::from(code));
+    out.close();
+}
+
+/// A setting.
+fn put_setting<A: Allocator>(id: u16, value: u32, out: &mut JsonWords<A>) {
+    out.open_element();
+    out.number("id", u64::from(id));
+    out.plain("name", setting_name(id).unwrap_or("unknown"));
+    if let Some(name) = registered_setting(id) {
+        out.plain("registered", name);
+    }
+    out.number("value", u64::from(value));
+    out.close();
+}
+
+/// The settings of a frame, in their order.
+fn put_settings<A: Allocator>(part: SettingsPart<'_>, out: &mut JsonWords<A>) {
+    out.open_list("settings");
+    for place in 0..part.count() {
+        if let Some((id, value)) = part.pair(place) {
+            put_setting(id, value, out);
+        }
+    }
+    out.close_list();
+}
+
+/// What a payload has, by the frame's type; its octets where it has nothing else, or can't be read.
+fn put_parts<A: Allocator>(frame: FrameRef<'_>, out: &mut JsonWords<A>) {
+    match part_of(frame) {
+        Ok(Part::Settings(part)) => put_settings(part, out),
+        Ok(Part::RstStream(number)) => put_code(number, out),
+        Ok(Part::Goaway(last, number)) => put_goaway(last, number, frame.payload, out),
+        Ok(Part::WindowUpdate(increment)) => out.number("increment", u64::from(increment)),
+        Ok(Part::Data(part)) => {
+            put_octets("content", part.content, out);
+            out.number("padding", part.padding.len() as u64);
+        }
+        Ok(Part::Headers(part)) => put_headers(part, frame.payload, out),
+        Ok(Part::Continuation(fragment)) => {
+            put_octets("fragment", fragment, out);
+            put_octets("octets", frame.payload, out);
+        }
+        Ok(Part::Priority) => put_priority_frame(frame.payload, out),
+        Ok(Part::SettingsAck) => {
+            put_octets("octets", frame.payload, out);
+            out.open_list("settings");
+            out.close_list();
+        }
+        Ok(_) | Err(_) => put_octets("octets", frame.payload, out),
+    }
+}
+
+/// The stream that a frame depends on, and whether it does so exclusively (RFC 9113, 5.3.2).
+fn put_dependency<A: Allocator>(bits: u32, out: &mut JsonWords<A>) {
+    out.number("dependency", u64::from(bits % 2_147_483_648));
+    out.flag("exclusive", bits >= 2_147_483_648);
+}
+
+/// What HEADERS has: its dependency, its fragment, its padding and its weight, where it has them.
+fn put_headers<A: Allocator>(part: HeadersPart<'_>, payload: &[u8], out: &mut JsonWords<A>) {
+    if let Some((bits, _)) = part.priority {
+        put_dependency(bits, out);
+    }
+    put_octets("fragment", part.fragment, out);
+    put_octets("octets", payload, out);
+    if let Some(pad) = part.pad {
+        out.number("padding", u64::from(pad));
+    }
+    if let Some((_, weight)) = part.priority {
+        out.number("weight", u64::from(weight).saturating_add(1));
+    }
+}
+
+/// What PRIORITY has: its dependency and its weight.
+fn put_priority_frame<A: Allocator>(payload: &[u8], out: &mut JsonWords<A>) {
+    if let [a, b, c, d, weight] = payload {
+        put_dependency(u32::from_be_bytes([*a, *b, *c, *d]), out);
+        put_octets("octets", payload, out);
+        out.number("weight", u64::from(*weight).saturating_add(1));
+    }
+}
+
+/// The payload of a frame.
+fn put_payload<A: Allocator>(frame: FrameRef<'_>, out: &mut JsonWords<A>) {
+    out.open("payload");
+    put_parts(frame, out);
+    out.close();
+}
+
+/// What GOAWAY has: its last stream, its code and its debug octets.
+fn put_goaway<A: Allocator>(last: u32, number: u32, payload: &[u8], out: &mut JsonWords<A>) {
+    put_code(number, out);
+    put_octets("debug", octets_from(payload, payload.len().min(8)), out);
+    out.number("last_stream", u64::from(last));
+}
+
+/// Puts a frame in words in.
+fn put_frame_words<A: Allocator + Copy>(alloc: A, frame: FrameRef<'_>, out: &mut JsonWords<A>) {
+    let mut words = out.empty(alloc);
+    say_frame(frame, &mut words);
+    out.words("words", words);
+}
+
+/// The fields of HEADERS that were sent.
+fn put_answer<A: Allocator + Copy>(alloc: A, frame: FrameRef<'_>, out: &mut JsonWords<A>) {
+    if let FrameType::Headers = frame.head.frame_type() {
+        match read_answer(alloc, frame.payload) {
+            Ok(reader) => put_fields(&reader, out),
+            Err(_) => out.refuse(),
+        }
+    }
+}
+
+/// A frame that was sent, and its octets.
+fn put_sent_frame<A: Allocator + Copy>(
+    alloc: A,
+    frame: FrameRef<'_>,
+    octets: &[u8],
+    out: &mut JsonWords<A>,
+) {
+    out.open_element();
+    put_answer(alloc, frame, out);
+    put_head(&frame.head, out);
+    out.open("octets");
+    put_hex(out.shown_of(octets), octets, out);
+    out.close();
+    put_payload(frame, out);
+    put_frame_words(alloc, frame, out);
+    out.close();
+}
+
+/// The frames that octets have, in their order.
+fn put_frames<A: Allocator + Copy>(alloc: A, octets: &[u8], out: &mut JsonWords<A>) {
+    let mut rest = octets;
+    for _frame in 0..octets.len() {
+        let Some((frame, after)) = next_frame(rest) else {
+            return;
+        };
+        let used = rest.len().saturating_sub(after.len());
+        put_sent_frame(alloc, frame, first_of(rest, used), out);
+        rest = after;
+    }
+}
+
+/// The frames that were sent, in their order.
+fn put_sent<A: Allocator + Copy>(alloc: A, octets: &[u8], out: &mut JsonWords<A>) {
+    out.open_list("sent");
+    put_frames(alloc, octets, out);
+    out.close_list();
+}
+
+/// How a field was spelled.
+fn put_spelling<A: Allocator>(spelling: Spelling, out: &mut JsonWords<A>) {
+    out.open("spelling");
+    match spelling {
+        Spelling::Indexed(index) => {
+            out.number("index", index);
+            out.plain("kind", "indexed");
+        }
+        Spelling::Literal(mode, index, name, value) => {
+            out.plain("kind", mode_name(mode));
+            match index {
+                Some(index) => out.number("name_index", index),
+                None => out.flag("name_huffman", name),
+            }
+            out.flag("value_huffman", value);
+        }
+    }
+    out.close();
+}
+
+/// A field.
+fn put_field<A: Allocator>(field: &SpelledField<A>, out: &mut JsonWords<A>) {
+    out.open_element();
+    put_octets("name", field.name.as_slice(), out);
+    put_spelling(field.spelling, out);
+    put_octets("value", field.value.as_slice(), out);
+    out.close();
+}
+
+/// The fields of a block.
+fn put_fields<A: Allocator + Copy>(reader: &BlockReader<A>, out: &mut JsonWords<A>) {
+    out.open_list("fields");
+    for field in reader.fields() {
+        put_field(field, out);
+    }
+    out.close_list();
+}
+
+/// The table size updates of a block.
+fn put_updates<A: Allocator + Copy>(reader: &BlockReader<A>, out: &mut JsonWords<A>) {
+    out.open_list("table_updates");
+    for max in reader.updates() {
+        out.element(*max);
+    }
+    out.close_list();
+}
+
+/// The name of a special case, if a rule is one.
+fn put_case<A: Allocator>(case: Option<SpecialCase>, out: &mut JsonWords<A>) {
+    if let Some(case) = case {
+        out.plain("case", case.name());
+    }
+}
+
+/// The other causes that hold of a block, if there are any.
+fn put_also<A: Allocator>(also: &[Cause], out: &mut JsonWords<A>) {
+    if also.is_empty() {
+        return;
+    }
+    out.open_list("also");
+    for cause in also {
+        out.text_element(cause.name());
+    }
+    out.close_list();
+}
+
+/// An error: its scope, its code, its cause, what the RFC says of both sides, and the sentence.
+fn put_error<A: Allocator + Copy>(
+    cause: Cause,
+    is_connection: bool,
+    case: Option<SpecialCase>,
+    account: &Account<A>,
+    out: &mut JsonWords<A>,
+) {
+    let rule = rule_of_cause(cause, case);
+    out.open("error");
+    put_also(account.also.as_slice(), out);
+    put_case(case, out);
+    out.plain("cause", cause.name());
+    out.plain("client", rule.client);
+    out.plain("client_section", rule.client_section);
+    put_code(cause.code().number(), out);
+    out.plain(
+        "scope",
+        if is_connection {
+            "connection"
+        } else {
+            "stream"
+        },
+    );
+    out.plain("section", rule.section);
+    out.text("sentence", account.sentence.as_str());
+    out.plain("server", rule.server);
+    out.close();
+}
+
+/// Why a frame is ignored.
+fn put_ignored<A: Allocator>(why: Ignored, case: Option<SpecialCase>, out: &mut JsonWords<A>) {
+    let rule = rule_of_reason(why, case);
+    out.open("ignored");
+    put_case(case, out);
+    out.plain("client", rule.client);
+    out.plain("client_section", rule.client_section);
+    out.plain("reason", why.name());
+    out.plain("section", rule.section);
+    out.plain("sentence", rule.sentence);
+    out.plain("server", rule.server);
+    out.close();
+}
+
+/// A number of a change, null where it is absent.
+fn put_number<A: Allocator>(name: &str, what: Count, value: i64, out: &mut JsonWords<A>) {
+    if value == -1 && what.may_be_absent() {
+        out.null(name);
+    } else {
+        out.signed(name, value);
+    }
+}
+
+/// The members of a change that are before `stream` and `what`: what was before and after, or where a body stops.
+fn put_values<A: Allocator>(change: &ShownChange, out: &mut JsonWords<A>) {
+    match change {
+        ShownChange::Number(_, what, before, after) => {
+            put_number("after", *what, *after, out);
+            put_number("before", *what, *before, out);
+        }
+        ShownChange::State(_, before, after) => {
+            out.plain("after", kind_name(*after));
+            out.plain("before", kind_name(*before));
+        }
+        ShownChange::Acknowledged(before, after) => {
+            out.flag("after", *after);
+            out.flag("before", *before);
+        }
+        ShownChange::Stops(_, remaining, _, connection) => {
+            out.number("after", *remaining);
+            out.signed("connection_window", *connection);
+        }
+    }
+}
+
+/// What changed, by name.
+fn what_of(change: &ShownChange) -> &'static str {
+    match change {
+        ShownChange::Number(_, what, _, _) => what.name(),
+        ShownChange::State(_, _, _) => "state",
+        ShownChange::Acknowledged(_, _) => "settings acknowledged",
+        ShownChange::Stops(_, _, _, _) => "body remaining",
+    }
+}
+
+/// The stream of a change, 0 for the connection.
+fn stream_of(change: &ShownChange) -> u32 {
+    match change {
+        ShownChange::Number(stream, _, _, _)
+        | ShownChange::State(stream, _, _)
+        | ShownChange::Stops(stream, _, _, _) => *stream,
+        ShownChange::Acknowledged(_, _) => 0,
+    }
+}
+
+/// A change.
+fn put_change<A: Allocator>(change: &ShownChange, out: &mut JsonWords<A>) {
+    out.open_element();
+    put_values(change, out);
+    out.number("stream", u64::from(stream_of(change)));
+    if let ShownChange::Stops(_, _, own, _) = change {
+        out.signed("stream_window", *own);
+    }
+    out.plain("what", what_of(change));
+    out.close();
+}
+
+/// The members of a change of a stream that are before `stream` and `what`.
+fn put_moved_values<A: Allocator>(moved: &Moved, out: &mut JsonWords<A>) {
+    match moved {
+        Moved::Opened(_, recv, send, declared) => {
+            out.number_if_any("content_length", *declared);
+            out.signed("receive_window", *recv);
+            out.signed("send_window", *send);
+        }
+        Moved::Number(_, _, before, after) => {
+            out.signed("after", *after);
+            out.signed("before", *before);
+        }
+        Moved::Block(block) => {
+            out.flag("end_stream", block.ends);
+            out.number("list_size", block.list_size);
+            out.number("octets", u64::from(block.octets));
+        }
+        Moved::BodySent(_) | Moved::BlockEnds(_) => {}
+    }
+}
+
+/// The stream of a change that is not among the changes.
+fn stream_moved(moved: &Moved) -> u32 {
+    match moved {
+        Moved::Opened(stream, _, _, _)
+        | Moved::Number(stream, _, _, _)
+        | Moved::BodySent(stream)
+        | Moved::BlockEnds(stream) => *stream,
+        Moved::Block(block) => block.stream,
+    }
+}
+
+/// What changed of a stream, by name.
+fn what_moved(moved: &Moved) -> &'static str {
+    match moved {
+        Moved::Opened(_, _, _, _) => "opened",
+        Moved::Number(_, what, _, _) => what.name(),
+        Moved::BodySent(_) => "body sent",
+        Moved::Block(_) => "block",
+        Moved::BlockEnds(_) => "block ended",
+    }
+}
+
+/// A change of a stream that is not among the changes.
+fn put_moved<A: Allocator>(moved: &Moved, out: &mut JsonWords<A>) {
+    out.open_element();
+    put_moved_values(moved, out);
+    out.number("stream", u64::from(stream_moved(moved)));
+    out.plain("what", what_moved(moved));
+    out.close();
+}
+
+/// The changes, in their order, and then what changed on streams besides.
+fn put_changes<A: Allocator + Copy>(account: &Account<A>, out: &mut JsonWords<A>) {
+    out.open_list("changes");
+    for change in &account.changes {
+        put_change(change, out);
+    }
+    for moved in &account.moved {
+        put_moved(moved, out);
+    }
+    out.close_list();
+}
+
+/// An entry that was entered or evicted.
+fn put_entry<A: Allocator + Copy>(change: &EntryChange<A>, out: &mut JsonWords<A>) {
+    out.open_element();
+    put_octets("name", change.entry.name.as_slice(), out);
+    out.number("octets", change.entry.size() as u64);
+    put_octets("value", change.entry.value.as_slice(), out);
+    out.plain(
+        "what",
+        if change.is_entered {
+            "entered"
+        } else {
+            "evicted"
+        },
+    );
+    out.close();
+}
+
+/// The entries of the client's header table that were entered or evicted, if there are any.
+fn put_entries<A: Allocator + Copy>(entries: &[EntryChange<A>], out: &mut JsonWords<A>) {
+    if entries.is_empty() {
+        return;
+    }
+    out.open_list("table");
+    for change in entries {
+        put_entry(change, out);
+    }
+    out.close_list();
+}
+
+/// Puts the changes in, the error, the fields of the block, the head of the frame, and why it is ignored.
+fn put_why<A: Allocator + Copy>(
+    item: &Explained<'_>,
+    account: &Account<A>,
+    reader: &BlockReader<A>,
+    out: &mut JsonWords<A>,
+) {
+    put_changes(account, out);
+    if let Some(cause) = item.cause {
+        let is_connection = item.ends_connection();
+        let case = case_of_error(item, account.facts);
+        put_error(cause, is_connection, case, account, out);
+    }
+    if account.shows_fields {
+        put_fields(reader, out);
+    }
+    if let Some(head) = item.head() {
+        put_head(&head, out);
+    }
+    if let Some(why) = item.ignored {
+        put_ignored(why, case_of_reason(item, account.facts), out);
+    }
+}
+
+/// Puts an item in words in.
+fn put_item_words<A: Allocator + Copy>(alloc: A, item: &Explained<'_>, out: &mut JsonWords<A>) {
+    let mut words = out.empty(alloc);
+    say_item(item, &mut words);
+    out.words("words", words);
+}
+
+/// Puts the item in: its number, its octets, and what was sent for it.
+fn put_item<A: Allocator + Copy>(alloc: A, item: &Explained<'_>, out: &mut JsonWords<A>) {
+    out.number("item", item.number);
+    put_octets("octets", item.octets, out);
+    out.number("offset", item.offset as u64);
+    if let Some(frame) = item.frame() {
+        put_payload(frame, out);
+    }
+    put_sent(alloc, item.sent, out);
+}
+
+/// The version of the form of the lines.
+const VERSION: u64 = 1;
+
+/// The line of what the server sent before the first item, if there is anything.
+pub fn put_opening<A: Allocator + Copy>(alloc: A, opening: &[u8], out: &mut JsonWords<A>) {
+    if opening.is_empty() {
+        return;
+    }
+    out.open_element();
+    out.open_list("changes");
+    out.close_list();
+    out.number("item", 0);
+    put_octets("octets", &[], out);
+    out.number("offset", 0);
+    put_sent(alloc, opening, out);
+    out.number("version", VERSION);
+    out.plain("words", "the server's opening");
+    out.close();
+    out.end_line();
+}
+
+/// The line of an item, before it that of the server's opening, if the item is the first; `reader` has the fields of its
+/// block.
+///
+/// `AllocError` where memory is refused.
+pub fn json_of<A: Allocator + Copy>(
+    alloc: A,
+    item: &Explained<'_>,
+    account: &Account<A>,
+    reader: &BlockReader<A>,
+) -> Result<String<A>, AllocError>
+    ensures { IfOk result (λ text. EndsLine false (string_bytes text)) }
+{
+    let mut out = JsonWords::over(account.words(alloc));
+    put_opening(alloc, account.opening.as_slice(), &mut out);
+    out.open_element();
+    put_why(item, account, reader, &mut out);
+    put_item(alloc, item, &mut out);
+    put_entries(account.entries.as_slice(), &mut out);
+    if account.shows_fields {
+        put_updates(reader, &mut out);
+    }
+    put_warnings(account.warnings, &mut out);
+    put_item_words(alloc, item, &mut out);
+    out.close();
+    line_of(out)
+}
+
+/// What was put together, as a line.
+pub fn line_of<A: Allocator>(out: JsonWords<A>) -> Result<String<A>, AllocError>
+    ensures { IfOk result (λ text. EndsLine false (string_bytes text)) }
+{
+    let mut text = out.finish()?;
+    text.push_str("\n")?;
+    Ok(text)
+}

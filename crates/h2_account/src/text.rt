@@ -1,0 +1,297 @@
+//! The words of an item: the item itself, and the lines of its fields, of the frames that were sent, and of what
+//! changed. No definition speaks of them, the format is in docs/FORMATS.md.
+
+use crate::paint::{Paint, Role};
+use h2_changes::changes::{Moved, ShownChange};
+use h2_changes::count::Count;
+use h2_describe::frame_words::{say_frame, say_frame_in, say_head};
+use h2_describe::names::kind_name;
+use h2_describe::say::{Cut, OctetCount, TextBuilder};
+use h2_describe::say_all;
+use h2_describe::sent::next_frame;
+use h2_describe::spelled::{BlockReader, SpelledField, Spelling};
+use h2_fields::instruction::Mode;
+use h2_frame::FrameRef;
+use h2_item::header_table::EntryChange;
+use h2_item::item::Explained;
+use h2_spec::causes::Cause;
+use h2_spec::frames::{FrameType, ItemHead};
+use std::alloc::{AllocError, Allocator};
+
+/// Puts the item in words last.
+pub(crate) fn say_item<A: Allocator>(item: &Explained<'_>, out: &mut TextBuilder<A>) {
+    match item.what {
+        ItemHead::Preface => say_all!(out; "the connection preface"),
+        ItemHead::BadPreface => say_all!(out;
+            OctetCount(item.octets.len() as u64), " instead of the connection preface"),
+        ItemHead::Oversize(head) => {
+            say_head(&head, out);
+            say_all!(out; ", ", OctetCount(u64::from(head.length)), "; only its head is read");
+        }
+        ItemHead::Frame(_) => {
+            if let Some(frame) = item.frame() {
+                say_frame_in(frame, !item.ends_connection(), out);
+            }
+        }
+    }
+}
+
+/// What becomes of a literal field.
+pub(crate) fn mode_name(mode: Mode) -> &'static str {
+    match mode {
+        Mode::IncrementalIndexing => "literal with indexing",
+        Mode::WithoutIndexing => "literal without indexing",
+        Mode::NeverIndexed => "literal never indexed",
+    }
+}
+
+fn string_name(huffman: bool) -> &'static str {
+    if huffman { "Huffman" } else { "plain" }
+}
+
+/// Puts last how a field was spelled.
+fn say_spelling<A: Allocator>(spelling: Spelling, out: &mut TextBuilder<A>) {
+    match spelling {
+        Spelling::Indexed(index) => say_all!(out; "index ", index),
+        Spelling::Literal(mode, Some(index), _, huffman) => say_all!(out;
+            mode_name(mode), ", name of index ", index, ", value ", string_name(huffman)),
+        Spelling::Literal(mode, None, name, value) => say_all!(out;
+            mode_name(mode), ", name ", string_name(name), ", value ", string_name(value)),
+    }
+}
+
+/// Puts the line of a field last.
+fn say_field<A: Allocator>(field: &SpelledField<A>, paint: Paint, out: &mut TextBuilder<A>) {
+    paint.begin(Role::Field, out);
+    let (name, value) = (Cut(field.name.as_slice()), Cut(field.value.as_slice()));
+    say_all!(out; "field ", name, ": \"", value, "\" (");
+    say_spelling(field.spelling, out);
+    say_all!(out; ")");
+    paint.end(out);
+}
+
+/// Puts the lines of a block's table size updates last.
+fn say_updates<A: Allocator + Copy>(
+    reader: &BlockReader<A>,
+    paint: Paint,
+    out: &mut TextBuilder<A>,
+) {
+    for max in reader.updates() {
+        paint.begin(Role::Field, out);
+        say_all!(out; "table size update to ", *max);
+        paint.end(out);
+    }
+}
+
+/// Puts the lines of a block's updates and fields last.
+pub(crate) fn say_fields<A: Allocator + Copy>(
+    reader: &BlockReader<A>,
+    paint: Paint,
+    out: &mut TextBuilder<A>,
+) {
+    say_updates(reader, paint, out);
+    for field in reader.fields() {
+        say_field(field, paint, out);
+    }
+}
+
+/// The most octets of a header table, as this server takes it; an answer enters no field into one.
+const ANSWER_TABLE: u32 = 4096;
+
+/// The fields of an answer.
+pub(crate) fn read_answer<A: Allocator + Copy>(
+    alloc: A,
+    block: &[u8],
+) -> Result<BlockReader<A>, AllocError> {
+    let mut reader = BlockReader::new(alloc, ANSWER_TABLE)?;
+    reader.read(alloc, block)?;
+    Ok(reader)
+}
+
+/// Puts the lines of the fields of an answer last.
+fn say_answer<A: Allocator + Copy>(alloc: A, block: &[u8], paint: Paint, out: &mut TextBuilder<A>) {
+    match read_answer(alloc, block) {
+        Ok(reader) => say_fields(&reader, paint, out),
+        Err(_) => out.refuse(),
+    }
+}
+
+/// Puts the line of a frame that was sent last, and those of its fields.
+fn say_sent_frame<A: Allocator + Copy>(
+    alloc: A,
+    frame: FrameRef<'_>,
+    paint: Paint,
+    out: &mut TextBuilder<A>,
+) {
+    paint.begin(Role::Sent, out);
+    say_all!(out; "sent ");
+    say_frame(frame, out);
+    paint.end(out);
+    if let FrameType::Headers = frame.head.frame_type() {
+        say_answer(alloc, frame.payload, paint, out);
+    }
+}
+
+/// Puts the lines of the frames that were sent last.
+pub(crate) fn say_sent<A: Allocator + Copy>(
+    alloc: A,
+    sent: &[u8],
+    paint: Paint,
+    out: &mut TextBuilder<A>,
+) {
+    let mut rest = sent;
+    for _frame in 0..sent.len() {
+        let Some((frame, after)) = next_frame(rest) else {
+            return;
+        };
+        rest = after;
+        say_sent_frame(alloc, frame, paint, out);
+    }
+}
+
+/// Puts a number last, `none` where it is absent.
+fn say_number<A: Allocator>(what: Count, value: i64, out: &mut TextBuilder<A>) {
+    if value == -1 && what.may_be_absent() {
+        say_all!(out; "none");
+    } else {
+        say_all!(out; value);
+    }
+}
+
+fn say_window<A: Allocator>(whose: &str, value: i64, out: &mut TextBuilder<A>) {
+    say_all!(out; whose, " send window is ", value);
+}
+
+/// Puts last why a body is not sent to its end: the windows that are spent.
+fn say_spent<A: Allocator>(own: i64, connection: i64, out: &mut TextBuilder<A>) {
+    if own <= 0 {
+        say_all!(out; ": ");
+        say_window("its", own, out);
+    }
+    if connection <= 0 {
+        say_all!(out; if own <= 0 { ", and " } else { ": " });
+        say_window("the connection's", connection, out);
+    }
+}
+
+/// Puts a change last.
+fn say_change<A: Allocator>(change: &ShownChange, out: &mut TextBuilder<A>) {
+    match change {
+        ShownChange::Number(stream, what, before, after) => {
+            if *stream != 0 {
+                say_all!(out; "stream ", *stream, ": ");
+            }
+            say_all!(out; what.name(), " ");
+            say_number(*what, *before, out);
+            say_all!(out; " -> ");
+            say_number(*what, *after, out);
+        }
+        ShownChange::State(stream, before, after) => say_all!(out;
+            "stream ", *stream, ": ", kind_name(*before), " -> ", kind_name(*after)),
+        ShownChange::Acknowledged(_, _) => say_all!(out; "the server's settings are acknowledged"),
+        ShownChange::Stops(stream, remaining, own, connection) => {
+            let verb = if *remaining == 1 {
+                " of its body remains"
+            } else {
+                " of its body remain"
+            };
+            say_all!(out; "stream ", *stream, ": ", OctetCount(*remaining), verb);
+            say_spent(*own, *connection, out);
+        }
+    }
+}
+
+/// Puts a change of a stream last that is not among the changes.
+fn say_moved<A: Allocator>(moved: &Moved, out: &mut TextBuilder<A>) {
+    match moved {
+        Moved::Opened(stream, recv, send, declared) => {
+            say_all!(out;
+                "stream ", *stream, ": begins with a receive window of ", *recv,
+                " and a send window of ", *send);
+            if let Some(declared) = declared {
+                say_all!(out; ", content-length ", *declared);
+            }
+        }
+        Moved::Number(stream, what, before, after) => say_all!(out;
+            "stream ", *stream, ": ", what.name(), " ", *before, " -> ", *after),
+        Moved::BodySent(stream) => say_all!(out; "stream ", *stream, ": its body is sent"),
+        Moved::Block(block) => say_all!(out;
+            "the block of stream ", block.stream, " is open: ", OctetCount(u64::from(block.octets)),
+            ", a list of ", block.list_size),
+        Moved::BlockEnds(stream) => say_all!(out; "the block of stream ", *stream, " ends"),
+    }
+}
+
+/// Puts the lines of what changed on streams besides last.
+pub(crate) fn say_all_moved<A: Allocator>(moved: &[Moved], paint: Paint, out: &mut TextBuilder<A>) {
+    for change in moved {
+        paint.begin(Role::Change, out);
+        say_moved(change, out);
+        paint.end(out);
+    }
+}
+
+/// Puts the lines of entries that were entered or evicted last: `table + 62 NAME: VALUE (SIZE)`, `table - NAME: VALUE`.
+pub(crate) fn say_entries<A: Allocator + Copy>(
+    entries: &[EntryChange<A>],
+    paint: Paint,
+    out: &mut TextBuilder<A>,
+) {
+    for change in entries {
+        let entry = &change.entry;
+        let (name, value) = (Cut(entry.name.as_slice()), Cut(entry.value.as_slice()));
+        paint.begin(Role::Change, out);
+        if change.is_entered {
+            say_all!(out; "table + 62 ", name, ": \"", value, "\" (", entry.size(), ")");
+        } else {
+            say_all!(out; "table - ", name, ": \"", value, "\"");
+        }
+        paint.end(out);
+    }
+}
+
+/// Puts the lines of the frames that the server sent before the first item last, if there are any.
+pub(crate) fn say_opening<A: Allocator + Copy>(
+    alloc: A,
+    opening: &[u8],
+    paint: Paint,
+    out: &mut TextBuilder<A>,
+) {
+    if opening.is_empty() {
+        return;
+    }
+    paint.start(Role::Item, out);
+    say_all!(out; "#0 @0   the server's opening");
+    paint.end(out);
+    say_sent(alloc, opening, paint, out);
+}
+
+/// Puts the line of the other causes that hold of a block last, if there are any.
+pub(crate) fn say_also<A: Allocator>(also: &[Cause], paint: Paint, out: &mut TextBuilder<A>) {
+    if also.is_empty() {
+        return;
+    }
+    paint.begin(Role::Error, out);
+    say_all!(out; "also: ");
+    let start = out.len();
+    for cause in also {
+        if out.len() > start {
+            say_all!(out; ", ");
+        }
+        say_all!(out; cause.name());
+    }
+    paint.end(out);
+}
+
+/// Puts the lines of changes last.
+pub(crate) fn say_changes<A: Allocator>(
+    changes: &[ShownChange],
+    paint: Paint,
+    out: &mut TextBuilder<A>,
+) {
+    for change in changes {
+        paint.begin(Role::Change, out);
+        say_change(change, out);
+        paint.end(out);
+    }
+}

@@ -1,0 +1,160 @@
+//! What is wrong with a request that this server answers all the same, looked up in its fields (RFC 9113, 8.3.1; RFC
+//! 9110, 5.3 and 9.1). No definition speaks of which fields they are found in.
+
+ghost use Rattle.std.specs.Prelude.{◌≡◌};
+ghost use Rattle.h2_facts.specs.Warnings.{no_request_facts};
+
+use crate::fields::value_of;
+use h2_describe::spelled::SpelledField;
+use std::alloc::Allocator;
+
+/// What is wrong with a request.
+#[derive(Clone, Copy)]
+pub struct RequestFacts {
+    /// Whether `:method` is no token (RFC 9110, 9.1).
+    pub bad_method: bool,
+    /// Whether `:scheme` is no scheme (RFC 3986, 3.1).
+    pub bad_scheme: bool,
+    /// Whether `:path` of http and https does not begin with a slash, and is not `*` with OPTIONS (RFC 9113, 8.3.1).
+    pub bad_path: bool,
+    /// Whether `:authority` of http and https has userinfo (RFC 9113, 8.3.1).
+    pub userinfo: bool,
+    /// Whether the field `host` is there twice (RFC 9110, 5.3).
+    pub host_twice: bool,
+    /// Whether the field `host` is other than `:authority`, apart from the case of letters (RFC 9113, 8.3.1).
+    pub host_differs: bool,
+}
+
+impl RequestFacts {
+    /// Nothing is wrong.
+    pub fn none() -> RequestFacts
+        ensures { result ≡ no_request_facts }
+    {
+        RequestFacts {
+            bad_method: false,
+            bad_scheme: false,
+            bad_path: false,
+            userinfo: false,
+            host_twice: false,
+            host_differs: false,
+        }
+    }
+}
+
+/// Whether an octet is one of a token (RFC 9110, 5.6.2).
+fn is_of_token(octet: u8) -> bool {
+    octet.is_ascii_alphanumeric() || b"!#$%&'*+-.^_`|~".contains(&octet)
+}
+
+/// Whether octets are a token: one at least (RFC 9110, 5.6.2).
+fn is_token(octets: &[u8]) -> bool {
+    for octet in octets {
+        if !is_of_token(*octet) {
+            return false;
+        }
+    }
+    !octets.is_empty()
+}
+
+/// Whether an octet may be in a scheme, after its first (RFC 3986, 3.1).
+fn is_of_scheme(octet: u8) -> bool {
+    octet.is_ascii_alphanumeric() || b"+-.".contains(&octet)
+}
+
+/// Whether octets are a scheme: a letter, and then letters, digits and `+`, `-` and `.` (RFC 3986, 3.1).
+fn is_scheme(octets: &[u8]) -> bool {
+    for octet in octets {
+        if !is_of_scheme(*octet) {
+            return false;
+        }
+    }
+    match octets.first() {
+        Some(first) => first.is_ascii_alphabetic(),
+        None => false,
+    }
+}
+
+/// Whether a request is one of http or https.
+fn is_web<A: Allocator>(fields: &[SpelledField<A>]) -> bool {
+    match value_of(b":scheme", fields) {
+        Some(scheme) => {
+            scheme.eq_ignore_ascii_case(b"http") || scheme.eq_ignore_ascii_case(b"https")
+        }
+        None => false,
+    }
+}
+
+/// Whether a value that is there is no token.
+fn is_no_token(value: Option<&[u8]>) -> bool {
+    match value {
+        Some(octets) => !is_token(octets),
+        None => false,
+    }
+}
+
+/// Whether a value that is there is no scheme.
+fn is_no_scheme(value: Option<&[u8]>) -> bool {
+    match value {
+        Some(octets) => !is_scheme(octets),
+        None => false,
+    }
+}
+
+/// Whether the path of a request of http or https does not begin with a slash, and is not `*` with OPTIONS.
+fn has_bad_path<A: Allocator>(fields: &[SpelledField<A>]) -> bool {
+    let Some(path) = value_of(b":path", fields) else {
+        return false;
+    };
+    let options = match value_of(b":method", fields) {
+        Some(method) => method == "OPTIONS".as_bytes(),
+        None => false,
+    };
+    !path.starts_with(b"/") && !(options && path == "*".as_bytes())
+}
+
+/// Whether an authority has userinfo: an `@` (RFC 3986, 3.2).
+fn has_userinfo<A: Allocator>(fields: &[SpelledField<A>]) -> bool {
+    match value_of(b":authority", fields) {
+        Some(authority) => authority.contains(&b'@'),
+        None => false,
+    }
+}
+
+/// How many fields have this name.
+fn times<A: Allocator>(name: &[u8], fields: &[SpelledField<A>]) -> usize {
+    let mut count = 0usize;
+    for field in fields {
+        if field.name.as_slice() == name {
+            count = count.saturating_add(1);
+        }
+    }
+    count
+}
+
+/// Whether `:authority` is there, and a field `host` is other than it, apart from the case of letters.
+fn do_hosts_differ<A: Allocator>(fields: &[SpelledField<A>]) -> bool {
+    let Some(authority) = value_of(b":authority", fields) else {
+        return false;
+    };
+    for field in fields {
+        if field.name.as_slice() == "host".as_bytes()
+            && !field.value.eq_ignore_ascii_case(authority)
+        {
+            return true;
+        }
+    }
+    false
+}
+
+/// What is wrong with the request that has these fields.
+pub fn request_facts<A: Allocator>(fields: &[SpelledField<A>]) -> RequestFacts {
+    let web = is_web(fields);
+    RequestFacts {
+        bad_method: is_no_token(value_of(b":method", fields)),
+        bad_scheme: is_no_scheme(value_of(b":scheme", fields)),
+        bad_path: web && has_bad_path(fields),
+        userinfo: web && has_userinfo(fields),
+        host_twice: times(b"host", fields) > 1,
+        host_differs: do_hosts_differ(fields),
+    }
+}

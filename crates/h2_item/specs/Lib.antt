@@ -1,0 +1,3 @@
+pub mod ErrorContext
+pub mod Item
+pub mod Notes

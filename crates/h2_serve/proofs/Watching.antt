@@ -1,0 +1,182 @@
+-- A connection that is explained as its octets come, piece after piece.
+use Rattle.std.proofs.Common.{◌≡◌, ◌∙◌, ℕ, ◌+◌, ◌<◌, ◌^◌, Bool, true, false, List, [], ◌++◌, length, Option, Some, None, Result, Ok, Err, IfOk, refl, sym, ap, subst, arith}
+use Rattle.std.proofs.lemmas.List.{append-nil}
+use Rattle.h2_spec.specs.State.{State}
+use Rattle.h2_conn.specs.Connection.{Connection, going, halted}
+use Rattle.h2_conn.specs.Runs.{Fed, Halts}
+use Rattle.h2_drive.specs.Drives.{HasNoItem, HasRead}
+use Rattle.h2_drive.specs.Wires.{grown}
+use Rattle.h2_drive.proofs.Exchanges.{fed-no_item}
+use Rattle.h2_drive.proofs.Halting.{sent-none}
+use Rattle.std.specs.Io.KnownBytes.{Appends}
+use Rattle.h2_explain.specs.Explains.{IsExplanation}
+use Rattle.h2_explain.specs.Explaining as explaining
+use Rattle.h2_explain.specs.Explaining.{EndsAs, HasGained, IsBeginning, IsExplaining, IsNew, IsSummed, SaysOf, SaysSome}
+use Rattle.h2_explain.specs.declared.run.Form.{Form}
+use Rattle.h2_explain.specs.declared.explanation.Explanation.{Explanation}
+use Rattle.h2_explain.specs.declared.run.Summary.{Summary}
+use Rattle.h2_explain.proofs.Steps.{new-begins, new-explains}
+use Rattle.h2_serve.specs.declared.fault.ServeFault.{ServeFault}
+use Rattle.h2_serve.specs.Numbered.{PrintsPrefixed, fresh_after, gathered_text, prefix_of, prefixed}
+use Rattle.h2_serve.specs.Watched.{Concludes, GoesOn, IsWatched, Said, Shows, whole}
+use Rattle.h2_serve.specs.Passes.{prints-then}
+
+-- whatever comes, what was said so far is an explanation that is cut short
+pub cut-now : {A : Type 0} (form : Form) (s : State) (b octets text : List ℕ) (c : Connection) (e : Explanation A)
+    → Said false form s b c e text → IsExplanation form true s (b ++ octets) (text ++ [])
+cut-now form s b octets text c e said =
+    subst (λ (f : Form). IsExplanation f true s (b ++ octets) (text ++ [])) said.0 (said.2 octets true [] [] refl)
+
+-- ---- the start
+
+pub watched-new : {A : Type 0} (form : Form) (c : Connection) (e : Explanation A) → c ≡ going c.state [] → IsNew form e → HasNoItem c
+    → IsWatched false c e 0
+watched-new form c e is new none = (
+  is,
+  omega (arith, new.items_are, new.offset_is),
+  omega (arith, new.offset_is, ap (λ (xs : List ℕ). length xs) new.held_is, new.late_is),
+  omega arith,
+  subst (λ (h : List ℕ). HasNoItem (going c.state h)) (sym new.held_is) (subst (λ (d : Connection). HasNoItem d) is none),
+)
+
+pub said-new : {A : Type 0} (form : Form) (c : Connection) (e : Explanation A) → c ≡ going c.state [] → IsNew form e → Said false form c.state [] c e []
+said-new form c e is new = (
+  new.form_is,
+  subst (λ (d : Connection). IsExplaining c.state [] d e) (sym is) (new-explains form c.state e new),
+  new-begins form c.state e new,
+)
+
+-- ---- a piece
+
+-- a text that was empty gained this
+gained-is : (begun items more : List ℕ) → begun ≡ [] → Some items ≡ Some (begun ++ more) → items ≡ more
+gained-is begun items more empty is = cc (subst (λ (h : List ℕ). Some items ≡ Some (h ++ more)) empty is)
+
+-- all of its items were explained
+pub goes-said : {A : Type 0} (P : List ℕ → Type 0) (c c' : Connection) (e e' : Explanation A) (piece begun items printed : List ℕ)
+    → e'.form ≡ e.form → begun ≡ [] → printed ≡ items → explaining.GoesOn c e piece c' e'
+    → SaysOf c e piece e' (Some begun) (Some items) → P printed → GoesOn false c e P piece c' e'
+goes-said P c c' e e' piece begun items printed same empty whole goes says p = λ form s b text said.
+    let gained = says s b text said.1 said.2 begun refl in (
+      gained.0,
+      (same ∙ said.0, goes s b said.1, gained.2),
+      subst P (whole ∙ gained-is begun items gained.0 empty gained.1) p,
+    )
+
+-- or only some, as memory was refused
+pub cut-said : {A : Type 0} (P : List ℕ → Type 0) (c c' : Connection) (e e' : Explanation A) (piece begun items printed : List ℕ)
+    → begun ≡ [] → printed ≡ items → SaysSome c e piece (Some begun) (Some items) → P printed
+    → GoesOn true c e P piece c' e'
+cut-said P c c' e e' piece begun items printed empty whole says p = λ form s b text said.
+    let gained = says s b text said.1 said.2 begun refl in (
+      gained.0,
+      subst (λ (f : Form). IsExplanation f true s (b ++ piece) (text ++ gained.0)) said.0 gained.2,
+      subst P (whole ∙ gained-is begun items gained.0 empty gained.1) p,
+    )
+
+-- or none
+pub cut-before : {A : Type 0} (P : List ℕ → Type 0) (c c' : Connection) (e e' : Explanation A) (piece : List ℕ) → P [] → GoesOn true c e P piece c' e'
+cut-before P c c' e e' piece p = λ form s b text said. ([], cut-now form s b piece text c e said, p)
+
+-- whether memory for some of the text was refused too
+pub cut-gathered : {A : Type 0} (P : List ℕ → Type 0) (c c' : Connection) (e e' : Explanation A) (piece begun items : List ℕ) (failed : Bool)
+    → begun ≡ [] → (failed ≡ false → SaysSome c e piece (Some begun) (Some items)) → P (gathered_text failed items)
+    → GoesOn true c e P piece c' e'
+cut-gathered P c c' e e' piece begun items true empty says p = cut-before P c c' e e' piece p
+cut-gathered P c c' e e' piece begun items false empty says p = cut-said P c c' e e' piece begun items items empty refl (says refl) p
+
+-- then nothing was taken
+halts-before : (s : State) (held piece out : List ℕ) → Halts (going s held) piece out (halted s) out
+halts-before s held piece out = record {
+  items = 0;
+  within = omega arith;
+  after = refl;
+  sent = rw sent-none (sym (append-nil out));
+}
+
+pub halts-early : (failed : Bool) (s : State) (held piece out : List ℕ) → (whole failed s held).failed ≡ false
+    → Halts (whole failed s held) piece out (halted s) out
+halts-early false s held piece out is = halts-before s held piece out
+halts-early true s held piece out is = cc
+
+-- what was watched goes on being watched
+pub watched-more : {A : Type 0} (failed : Bool) (c c' : Connection) (e e' : Explanation A) (came more came' : ℕ) (piece out out' : List ℕ)
+    → (whole failed c.state e.held.items).failed ≡ false → IsWatched failed c e came → c' ≡ going c'.state []
+    → HasGained e more e' → came' ≡ came + more → came' < 2 ^ 63
+    → Fed (going c.state e.held.items) piece out (going c'.state e'.held.items) out' → IsWatched failed c' e' came'
+watched-more false c c' e e' came more came' piece out out' is watched ready gained add small fed =
+    (ready, gained.0, omega (arith, gained.1, watched.2, add), small, fed-no_item _ _ _ _ _ fed)
+watched-more true c c' e e' came more came' piece out out' is watched ready gained add small fed = tt
+
+-- ---- the end
+
+pub ends-as : {A : Type 0} (P : List ℕ → Type 0) (failed : Bool) (summary : Option Summary) (c : Connection) (e : Explanation A)
+    → failed ≡ false → Concludes false summary c e P → Concludes failed summary c e P
+ends-as P failed summary c e is ends = subst (λ (f : Bool). Concludes f summary c e P) (sym is) ends
+
+-- the end was explained, and this sums it up
+pub ends-said : {A : Type 0} (P : List ℕ → Type 0) (x : Summary) (c : Connection) (e : Explanation A) (begun items printed : List ℕ)
+    → begun ≡ [] → printed ≡ items → EndsAs false c e (Some begun) (Some items) → IsSummed c e x → P printed
+    → Concludes false (Some x) c e P
+ends-said P x c e begun items printed empty whole ends summed p = λ form s b text said.
+    let gained = ends s b text said.1 said.2 begun refl in (
+      gained.0,
+      (subst (λ (f : Form). IsExplanation f false s b (text ++ gained.0)) said.0 gained.2, summed s b said.1),
+      subst P (whole ∙ gained-is begun items gained.0 empty gained.1) p,
+    )
+
+-- memory was refused for it, or for its text
+pub ends-gathered : {A : Type 0} (P : List ℕ → Type 0) (c : Connection) (e : Explanation A) (begun items : List ℕ) (failed : Bool)
+    → begun ≡ [] → (failed ≡ false → EndsAs true c e (Some begun) (Some items)) → P (gathered_text failed items)
+    → Concludes false None c e P
+ends-gathered P c e begun items true empty ends p = λ form s b text said. (
+  [],
+  (subst (λ (o : List ℕ). IsExplanation form true s o (text ++ [])) (append-nil b) (cut-now form s b [] text c e said), tt),
+  p,
+)
+ends-gathered P c e begun items false empty ends p = λ form s b text said.
+    let gained = ends refl s b text said.1 said.2 begun refl in (
+      gained.0,
+      (subst (λ (f : Form). IsExplanation f true s b (text ++ gained.0)) said.0 gained.2, tt),
+      subst P (gained-is begun items gained.0 empty gained.1) p,
+    )
+
+-- ---- all of it
+
+shown : {A : Type 0} (form : Form) (number : ℕ) (refused : Bool) (summary : Option Summary) (s : State) (octets : List ℕ) (c c' : Connection)
+    (e e' : Explanation A) (p q : List ℕ) (j k f g : Bool) (x y : Option ServeFault) (l m n : Option (List ℕ))
+    → p ≡ prefix_of form.json number → j ≡ form.json → f ≡ true → q ≡ p → k ≡ j
+    → Said false form s [] c e [] → GoesOn refused c e (λ more. PrintsPrefixed p j f x l more g y m) octets c' e'
+    → Concludes refused summary c' e' (λ more. (y ≡ None) × Appends m n (prefixed q k g more))
+    → Shows form number summary s l n octets
+shown form number refused summary s octets c c' e e' p q j k f g x y l m n pe je fe qe ke said goes ends =
+    let one = goes form s [] [] said in
+    let two = ends form s octets one.0 one.1 in
+    let text : List ℕ = one.0 ++ two.0 in
+    let printed : PrintsPrefixed p j f x l text (fresh_after g two.0) None n =
+    prints-then p q j k f g (fresh_after g two.0) x y None l m n one.0 two.0 qe ke one.2 (λ e. (two.2.0, refl, two.2.1)) in
+    let gained : Appends l n (prefixed p j f text) = (printed refl).2 in (
+      text,
+      two.1,
+      subst (λ (h : Bool). Appends l n (prefixed (prefix_of form.json number) form.json h text)) fe
+          (subst (λ (h : Bool). Appends l n (prefixed (prefix_of form.json number) h f text)) je
+          (subst (λ (h : List ℕ). Appends l n (prefixed h j f text)) pe gained)),
+    )
+
+-- the same of what was read, where its end was printed
+pub shown-read : {A : Type 0} (form : Form) (number : ℕ) (result : Result (Option Summary) ServeFault) (refused failed : Bool) (s : State)
+    (octets : List ℕ) (c c' : Connection) (e e' : Explanation A) (p q : List ℕ) (j k f g : Bool) (x y : Option ServeFault)
+    (l m n before after read read' : Option (List ℕ)) → l ≡ before → n ≡ after → read' ≡ grown read octets → failed ≡ refused
+    → p ≡ prefix_of form.json number → j ≡ form.json → f ≡ true → q ≡ p → k ≡ j
+    → Said false form s [] c e [] → GoesOn refused c e (λ more. PrintsPrefixed p j f x l more g y m) octets c' e'
+    → IfOk result (λ summary. Concludes failed summary c' e' (λ more. (y ≡ None) × Appends m n (prefixed q k g more)))
+    → IfOk result (λ summary. HasRead (Shows form number summary s before after) read read')
+shown-read form number (Err fault) refused failed s octets c c' e e' p q j k f g x y l m n before after read read' lb na grew is pe je fe qe ke said goes ends = tt
+shown-read form number (Ok summary) refused failed s octets c c' e e' p q j k f g x y l m n before after read read' lb na grew is pe je fe qe ke said goes ends =
+    let concludes = subst (λ (r : Bool). Concludes r summary c' e' (λ more. (y ≡ None) × Appends m n (prefixed q k g more))) is ends in
+    let shows = shown form number refused summary s octets c c' e e' p q j k f g x y l m n pe je fe qe ke said goes concludes in (
+      octets,
+      grew,
+      subst (λ (t : Option (List ℕ)). Shows form number summary s t after octets) lb
+          (subst (λ (t : Option (List ℕ)). Shows form number summary s l t octets) na shows),
+    )

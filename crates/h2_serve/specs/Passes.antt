@@ -1,0 +1,73 @@
+-- The laws of `Driven`: what is printed for pieces, one after another, is what is printed for all of their octets.
+use Rattle.std.proofs.Common.{◌≡◌, ◌∙◌, ℕ, Bool, false, List, [], ◌∷◌, ◌++◌, ◌==◌, Option, Some, None, refl, sym, ap, subst, append_assoc}
+use Rattle.std.proofs.lemmas.List.{append-nil}
+use Rattle.std.proofs.KnownBytes.{Appends-trans}
+use Rattle.std.specs.Io.KnownBytes.{Appends}
+use Rattle.h2_conn.specs.Connection.{Connection}
+use Rattle.h2_explain.specs.declared.explanation.Explanation.{Explanation}
+use Rattle.h2_serve.specs.Numbered.{PrintsPrefixed, fresh_after, prefixed, prefixed_octet}
+use Rattle.h2_serve.specs.Watched.{GoesOn, Said}
+use Rattle.h2_serve.specs.declared.fault.ServeFault.{ServeFault}
+
+pub prefixed-append : (p : List ℕ) (json fresh : Bool) (a b : List ℕ)
+    → prefixed p json fresh (a ++ b) ≡ prefixed p json fresh a ++ prefixed p json (fresh_after fresh a) b
+prefixed-append p json fresh [] b = refl
+prefixed-append p json fresh (c ∷ a) b =
+    ap (λ (t : List ℕ). prefixed_octet p json fresh c ++ t) (prefixed-append p json (c == 10) a b)
+    ∙ sym (append_assoc (prefixed_octet p json fresh c) (prefixed p json (c == 10) a) (prefixed p json (fresh_after (c == 10) a) b))
+
+pub fresh-append : (fresh : Bool) (a b : List ℕ) → fresh_after fresh (a ++ b) ≡ fresh_after (fresh_after fresh a) b
+fresh-append fresh [] b = refl
+fresh-append fresh (c ∷ a) b = fresh-append (c == 10) a b
+
+appends-none : (known : Option (List ℕ)) → Appends known known []
+appends-none None = tt
+appends-none (Some xs) = sym (append-nil xs)
+
+-- nothing was printed
+pub prints-none : (p : List ℕ) (json fresh : Bool) (fault : Option ServeFault) (known : Option (List ℕ))
+    → PrintsPrefixed p json fresh fault known [] fresh fault known
+prints-none p json fresh fault known e = (e, refl, appends-none known)
+
+-- a text was printed, and then another
+pub prints-more : (p : List ℕ) (json f g h : Bool) (x y z : Option ServeFault) (k l m : Option (List ℕ)) (a b : List ℕ)
+    → PrintsPrefixed p json f x k a g y l → PrintsPrefixed p json g y l b h z m → PrintsPrefixed p json f x k (a ++ b) h z m
+prints-more p json f g h x y z k l m a b one two e =
+    let second = two e in
+    let first = one second.0 in (
+      first.0,
+      second.1 ∙ ap (λ (k : Bool). fresh_after k b) first.1 ∙ sym (fresh-append f a b),
+      subst (λ (t : List ℕ). Appends k m t) (sym (prefixed-append p json f a b))
+          (Appends-trans k l m (prefixed p json f a) (prefixed p json (fresh_after f a) b) first.2
+          (subst (λ (n : Bool). Appends l m (prefixed p json n b)) first.1 second.2)),
+    )
+
+-- the same, where the second has the same prefix
+pub prints-then : (p q : List ℕ) (json other f g h : Bool) (x y z : Option ServeFault) (k l m : Option (List ℕ)) (a b : List ℕ)
+    → q ≡ p → other ≡ json → PrintsPrefixed p json f x k a g y l → PrintsPrefixed q other g y l b h z m
+    → PrintsPrefixed p json f x k (a ++ b) h z m
+prints-then p q json other f g h x y z k l m a b same also one two =
+    prints-more p json f g h x y z k l m a b one
+    (subst (λ (r : List ℕ). PrintsPrefixed r json g y l b h z m) same
+    (subst (λ (j : Bool). PrintsPrefixed q j g y l b h z m) also two))
+
+-- no octets came, and nothing was said
+pub goes-none : {A : Type 0} (P : List ℕ → Type 0) (c : Connection) (e : Explanation A) → P [] → GoesOn false c e P [] c e
+goes-none P c e p = λ form s b text said. (
+  [],
+  subst (λ (o : List ℕ). Said false form s o c e (text ++ [])) (sym (append-nil b))
+      (subst (λ (t : List ℕ). Said false form s b c e t) (sym (append-nil text)) said),
+  p,
+)
+
+pub goes-more : {A : Type 0} (refused : Bool) (P Q R : List ℕ → Type 0) (c c' c'' : Connection) (e e' e'' : Explanation A)
+    (a b : List ℕ) → ((x y : List ℕ) → P x → Q y → R (x ++ y)) → GoesOn false c e P a c' e'
+    → GoesOn refused c' e' Q b c'' e'' → GoesOn refused c e R (a ++ b) c'' e''
+goes-more refused P Q R c c' c'' e e' e'' a b join one two = λ form s o text said.
+    let first = one form s o text said in
+    let second = two form s (o ++ a) (text ++ first.0) first.1 in (
+      first.0 ++ second.0,
+      subst (λ (t : List ℕ). Said refused form s t c'' e'' (text ++ (first.0 ++ second.0))) (append_assoc o a b)
+          (subst (λ (t : List ℕ). Said refused form s ((o ++ a) ++ b) c'' e'' t) (append_assoc text first.0 second.0) second.1),
+      join first.0 second.0 first.2 second.2,
+    )

@@ -1,0 +1,156 @@
+//! The texts of a connection that is served, each line after the connection's number.
+//! Definitions: `specs/Numbered.antt`.
+
+ghost use Rattle.std.specs.Prelude.{◌≡◌, ◌++◌, true, None, OnOk, IfOk};
+ghost use Rattle.std.specs.Io.KnownBytes.{Appends};
+ghost use Rattle.h2_serve.specs.Numbered.{PrintsPrefixed, fresh_after, gathered_text, prefix_of, prefixed, prefixed_octet};
+
+use crate::fault::ServeFault;
+use h2_device::{Gathered, Number, Text, texts};
+use std::alloc::{AllocError, Global};
+use std::io::Write;
+
+/// The octets of a text.
+fn octets_of<T: Text>(alloc: Global, text: &T) -> Result<Vec<u8>, AllocError>
+    ensures { IfOk result (λ octets. octets.items ≡ T.text text.now) }
+{
+    let mut gathered = Gathered::new(alloc);
+    match text.write_to(&mut gathered) {
+        Ok(()) => Ok(gathered.octets),
+        Err(_) => Err(AllocError),
+    }
+}
+
+/// What each line of a connection begins with.
+#[tactic(auto, unfolding(crate::specs::Numbered::prefix_of))]
+pub(crate) fn prefix_of(alloc: Global, json: bool, number: u32) -> Result<Vec<u8>, AllocError>
+    ensures { IfOk result (λ octets. octets.items ≡ prefix_of json number) }
+{
+    let number = Number(u64::from(number));
+    if json {
+        octets_of(alloc, &texts!("{\"connection\":", number, ","))
+    } else {
+        octets_of(alloc, &texts!(number, ": "))
+    }
+}
+
+/// Appends an octet, after the prefix where it begins a line; in JSON the prefix takes its place.
+fn put_octet(
+    prefix: &[u8],
+    json: bool,
+    fresh: bool,
+    octet: u8,
+    out: &mut Vec<u8>,
+) -> Result<(), AllocError>
+    ensures { OnOk result (out.new.items ≡ out.old.items ++ prefixed_octet prefix.now json fresh octet) }
+{
+    if fresh {
+        out.extend_from_slice(prefix)?;
+    }
+    if fresh && json {
+        return Ok(());
+    }
+    out.extend_from_slice(&[octet])
+}
+
+/// Appends a text with the prefix before each of its lines; `fresh` is whether a line begins with it, and then whether
+/// one begins after it.
+fn put_text(
+    prefix: &[u8],
+    json: bool,
+    fresh: &mut bool,
+    text: &[u8],
+    out: &mut Vec<u8>,
+) -> Result<(), AllocError>
+    ensures text { OnOk result (out.new.items ≡ out.old.items ++ prefixed prefix.now json fresh.old text.now) }
+    ensures fresh { OnOk result (fresh.new ≡ fresh_after fresh.old text.now) }
+{
+    for octet in text {
+        put_octet(prefix, json, *fresh, *octet, out)?;
+        *fresh = *octet == b'\n';
+    }
+    Ok(())
+}
+
+/// Writes octets so that the reader of the output sees them at once; says why not, where that failed.
+fn write_now<W: Write>(output: &mut W, octets: &[u8]) -> Option<ServeFault>
+    ensures { result ≡ None → Appends (W.contents output.old) (W.contents output.new) octets.now }
+{
+    if output.write_all(octets).is_err() || output.flush().is_err() {
+        return Some(ServeFault::Write);
+    }
+    None
+}
+
+/// What prints the texts of a connection. After a fault it prints nothing.
+#[derive(Drop)]
+pub(crate) struct Printer<'o, W> {
+    output: &'o mut W,
+    /// What each line begins with.
+    prefix: Vec<u8>,
+    json: bool,
+    /// Whether a line begins.
+    fresh: bool,
+    fault: Option<ServeFault>,
+}
+
+impl<'o, W: Write> Printer<'o, W> {
+    /// A printer to this output that has printed nothing.
+    pub(crate) fn new(output: &'o mut W, prefix: Vec<u8>, json: bool) -> Printer<'o, W>
+        ensures lines { (result.prefix ≡ prefix) × (result.json ≡ json) × (result.fresh ≡ true) × (result.fault ≡ None) }
+        ensures output { result.output.now ≡ output.entry.now }
+        ensures same_reference { result.output.ghost_name ≡ output.entry.ghost_name }
+    {
+        Printer {
+            output,
+            prefix,
+            json,
+            fresh: true,
+            fault: None,
+        }
+    }
+
+    /// The output, and why something was not printed, if it was not.
+    pub(crate) fn into_parts(self) -> (&'o mut W, Option<ServeFault>)
+        ensures fault { result.1 ≡ self.entry.fault }
+        ensures output { result.0.now ≡ self.entry.output.now }
+        ensures same_reference { result.0.ghost_name ≡ self.entry.output.ghost_name }
+    {
+        (self.output, self.fault)
+    }
+
+    /// Prints a text, each line after the prefix.
+    pub(crate) fn print(&mut self, alloc: Global, text: &[u8])
+        ensures text { PrintsPrefixed self.old.prefix.items self.old.json self.old.fresh self.old.fault (W.contents self.old.output.now)
+            text.now self.new.fresh self.new.fault (W.contents self.new.output.now) }
+        ensures kept { (self.new.prefix ≡ self.old.prefix) × (self.new.json ≡ self.old.json) }
+        ensures same_reference { self.new.output.ghost_name ≡ self.old.output.ghost_name }
+    {
+        if self.fault.is_some() {
+            return;
+        }
+        let mut lines = Vec::new(alloc);
+        match put_text(
+            self.prefix.as_slice(),
+            self.json,
+            &mut self.fresh,
+            text,
+            &mut lines,
+        ) {
+            Ok(()) => self.fault = write_now(self.output, lines.as_slice()),
+            Err(_) => self.fault = Some(ServeFault::NoMemory),
+        }
+    }
+    /// Prints what was gathered, each line after the prefix; nothing where memory for some of it was refused.
+    pub(crate) fn print_gathered(&mut self, alloc: Global, text: &Gathered)
+        ensures text { PrintsPrefixed self.old.prefix.items self.old.json self.old.fresh self.old.fault (W.contents self.old.output.now)
+            (gathered_text text.now.failed text.now.octets.items) self.new.fresh self.new.fault (W.contents self.new.output.now) }
+        ensures kept { (self.new.prefix ≡ self.old.prefix) × (self.new.json ≡ self.old.json) }
+        ensures same_reference { self.new.output.ghost_name ≡ self.old.output.ghost_name }
+    {
+        if text.failed {
+            return;
+        }
+        self.print(alloc, text.octets.as_slice());
+    }
+}
