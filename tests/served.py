@@ -6,13 +6,19 @@
 It needs nothing but Python. The last line is `N passed, M failed`; the status is 1 where one failed. `tests/clients.sh` has real clients.
 """
 
+import json
 import os
+import re
+import resource
+import signal
 import socket
+import struct
 import subprocess
 import sys
 import tempfile
 
 sys.dont_write_bytecode = True
+import schema  # noqa: E402
 import script  # noqa: E402
 
 SECONDS = 60
@@ -28,11 +34,11 @@ GOAWAY = script.octets("GOAWAY 00 0 x0000000000000001")
 class Server:
     """The program as it serves at a free port; its output is read line by line."""
 
-    def __init__(self, program, count, *words, port=None):
+    def __init__(self, program, count, *words, port=None, before=None):
         self.port = port or free_port()
         words = ["h2_bench", "serve", str(self.port), str(count), *words]
         self.errors = tempfile.TemporaryFile()
-        self.process = subprocess.Popen(words, executable=program, stdin=subprocess.DEVNULL, stdout=subprocess.PIPE, stderr=self.errors)
+        self.process = subprocess.Popen(words, executable=program, stdin=subprocess.DEVNULL, stdout=subprocess.PIPE, stderr=self.errors, preexec_fn=before)
 
     def __enter__(self):
         return self
@@ -190,6 +196,211 @@ def refused_answers_open_no_port(program):
             yield errors.startswith(said[number]), True
 
 
+def explained(program, octets, number, *words):
+    """What `explain` says of a client's octets, each line behind the number of its connection."""
+    words = ["h2_bench", "explain", *words]
+    run = subprocess.run(words, executable=program, input=octets.hex().encode(), stdout=subprocess.PIPE, stderr=subprocess.DEVNULL, check=False)
+    lines = run.stdout.decode().splitlines()
+    if "--json" in words:
+        return [f'{{"connection":{number},' + line[1:] for line in lines], run.returncode
+    return [f"{number}: {line}" for line in lines], run.returncode
+
+
+def checked(program, path):
+    """What `check` says of a file."""
+    run = subprocess.run(["h2_bench", "check", path], executable=program, stdout=subprocess.PIPE, check=False)
+    return run.stdout.decode().splitlines()[1:]
+
+
+def text_of(path):
+    with open(path, encoding="utf-8") as file:
+        return file.read()
+
+
+SHOWN = """connection 1 open
+1: #0 @0   the server's opening
+1:         sent SETTINGS, MAX_CONCURRENT_STREAMS 100, MAX_HEADER_LIST_SIZE 65536
+1: #2 @24  SETTINGS, empty
+1:         sent SETTINGS ACK
+1: #3 @33  PING 0102030405060708
+1:         sent PING ACK 0102030405060708
+"""
+
+
+def each_item_is_explained_as_it_comes(program):
+    """The lines of an item are there before the client sends more, and the client is sent the same frames."""
+    with Server(program, 1, "--explain") as server:
+        yield server.line(), f"listening {server.port}\n"
+        one = client(server.port, START + PING)
+        yield "".join(server.line() for _ in SHOWN.splitlines()), SHOWN
+        one.sendall(PING[:10])
+        one.shutdown(socket.SHUT_WR)
+        yield read_all(one), (ANSWERED, True)
+        lines, _ = explained(program, START + PING + PING[:10], 1)
+        ended, status, _ = server.ended()
+        yield (ended.splitlines(), status), (lines[6:] + ["connection 1 end input"], 0)
+
+
+def an_item_in_pieces_is_explained_once(program):
+    """A client sends octet by octet; what is said and sent is that of all octets at once."""
+    octets = START + PING + script.octets("WINDOW_UPDATE 00 0 w0") + PING
+    for form in ([], ["--json"], ["--full", "--json"]):
+        with Server(program, 1, "--explain", *form) as server:
+            yield server.line(), f"listening {server.port}\n"
+            one = client(server.port, b"")
+            one.setsockopt(socket.IPPROTO_TCP, socket.TCP_NODELAY, 1)
+            for octet in octets:
+                one.sendall(bytes([octet]))
+            one.shutdown(socket.SHUT_WR)
+            yield read_all(one), (ANSWERED + GOAWAY, True)
+            lines, _ = explained(program, octets, 1, *form)
+            ended, status, _ = server.ended()
+            found = ended.splitlines()
+            yield found[0], "connection 1 open"
+            # How many octets come after the end, if any, is up to the system; `explain` has a line of them, the last one.
+            yield (found[1:len(lines)], status), (lines[:-1], 0)
+            yield [re.sub(r"\d+", "N", line) for line in found[len(lines):-1]] in ([], [re.sub(r"\d+", "N", lines[-1])]), True
+            yield found[-1], "connection 1 end goaway 1"
+
+
+def times_are_in_front(program):
+    """Each line of a connection begins with its time, which does not fall; without them the lines are those without --times."""
+    octets = START + PING
+    of_schema = schema.Schema(f"{schema.TOP}/docs/explain.schema.json")
+    for form in ([], ["--json"]):
+        with tempfile.TemporaryDirectory() as directory, Server(program, 1, "--times", "--record", directory, *form) as server:
+            yield server.line(), f"listening {server.port}\n"
+            yield read_all(client(server.port, octets, ends=True)), (ANSWERED, True)
+            ended, status, _ = server.ended()
+            found = [re.fullmatch(r"(?:\+(\d+) |(?=\{\"time\":(\d+),))(.*)", line) for line in ended.splitlines()]
+            times = [int(it[1] or it[2]) for it in found]
+            yield (times, status), (sorted(times), 0)
+            lines = [re.sub(r"\{\"time\":\d+,", "{", it[3]) for it in found]
+            yield lines, ["connection 1 open", *explained(program, octets, 1, *form)[0], "connection 1 end input"]
+            yield [fault for it in found if it[2] for fault in of_schema.faults(json.loads(it[3]))], []
+            case = f"{directory}/connection-1.h2"
+            yield sum(bool(re.fullmatch(r"; \d+ ms", line)) for line in text_of(case).splitlines()), 3
+            yield checked(program, case), [f"ok 1 - {case}: connection 1", "1..1"]
+
+
+def a_verdict_is_the_status(program):
+    """5 where a client broke a rule, 7 where octets of a frame are left, 0 where nothing is to be said; the worst of all decides."""
+    acknowledged = START + script.octets("SETTINGS 01 0 -")
+    cut, broken = acknowledged + PING[:3], acknowledged + script.octets("WINDOW_UPDATE 00 0 w0")
+    for clients, wanted in (([acknowledged], 0), ([acknowledged, cut], 7), ([cut, broken, acknowledged], 5)):
+        with Server(program, len(clients), "--strict") as server:
+            yield server.line(), f"listening {server.port}\n"
+            for octets in clients:
+                read_all(client(server.port, octets, ends=True))
+            ended, status, _ = server.ended()
+            yield status, wanted
+            wanted_lines = [line for number, octets in enumerate(clients, 1) for line in explained(program, octets, number, "--strict")[0]]
+            yield [line for line in ended.splitlines() if not line.startswith("connection")], wanted_lines
+
+
+def a_record_is_a_case(program):
+    """What a client sent is kept as hex and as a case that holds, with the words of the server; no file is overwritten."""
+    with tempfile.TemporaryDirectory() as directory:
+        with open(f"{directory}/connection-1.hex", "w", encoding="utf-8") as taken:
+            taken.write("mine")
+        octets = START + PING + script.octets("HEADERS 05 1 hi2,i6,n4=\"/it\"") + PING[:5]
+        with Server(program, 1, "--record", directory, "--streams", "7", "GET|/it|200|6869|x=it's") as server:
+            yield server.line(), f"listening {server.port}\n"
+            yield read_all(client(server.port, octets, ends=True))[1], True
+            ended, status, _ = server.ended()
+            yield status, 0
+        yield sorted(os.listdir(directory)), ["connection-1.hex", "connection-2.h2", "connection-2.hex"]
+        yield text_of(f"{directory}/connection-1.hex"), "mine"
+        yield "".join(text_of(f"{directory}/connection-2.hex").split()), octets.hex()
+        words = ["h2_bench", "explain", f"{directory}/connection-2.h2"]
+        run = subprocess.run(words, executable=program, stdout=subprocess.PIPE, check=False)
+        yield [f"1: {line}" for line in run.stdout.decode().splitlines()], ended.splitlines()[1:-1]
+        yield checked(program, f"{directory}/connection-2.h2"), [f"ok 1 - {directory}/connection-2.h2: connection 1", "1..1"]
+        wanted = [
+            ";# connection 1",
+            ";@ --streams 7 --credit 32768 --table 4096 --window 65535 --frame 16384",
+            ";@ 'GET|/it|200|6869|x=it'\\''s'",
+            ";< SETTINGS 00 0 s3=7,6=65536",
+            "PREFACE",
+            "SETTINGS 00 0 -",
+            ";< SETTINGS 01 0 -",
+            "PING 00 0 x0102030405060708",
+            ";< PING 01 0 x0102030405060708",
+            "HEADERS 05 1 hi2,i6,n4=\"/it\"",
+            ";< HEADERS 04 1 hi8,n\"x\"=\"it\\27s\"",
+            ";< DATA 01 1 x6869",
+            "RAW 0000080600",
+        ]
+        yield text_of(f"{directory}/connection-2.h2").splitlines(), wanted
+
+
+def a_server_that_is_killed_leaves_a_record(program):
+    """What was shown of an item is in the files already, and they can be read."""
+    with tempfile.TemporaryDirectory() as directory:
+        with Server(program, 1, "--record", directory) as server:
+            yield server.line(), f"listening {server.port}\n"
+            one = client(server.port, START + PING + PING[:9])
+            yield "".join(server.line() for _ in SHOWN.splitlines()), SHOWN
+            server.process.kill()
+            one.close()
+        case = f"{directory}/connection-1.h2"
+        yield checked(program, case), [f"ok 1 - {case}: connection 1", "1..1"]
+        yield text_of(case).splitlines()[-1], ";< PING 01 0 x0102030405060708"
+        yield "".join(text_of(f"{directory}/connection-1.hex").split()), (START + PING + PING[:9]).hex()
+
+
+def small_files():
+    """No file may have more than 400 octets; a write beyond fails."""
+    signal.signal(signal.SIGXFSZ, signal.SIG_IGN)
+    resource.setrlimit(resource.RLIMIT_FSIZE, (400, 400))
+
+
+def a_full_disk_ends_the_record_only(program):
+    """The client is answered to its end; the record ends with a whole line, and the next connection has one of its own."""
+    with tempfile.TemporaryDirectory() as directory:
+        with Server(program, 2, "--record", directory, before=small_files) as server:
+            yield server.line(), f"listening {server.port}\n"
+            yield read_all(client(server.port, START + 20 * PING, ends=True)), (ACKNOWLEDGED + 20 * ANSWERED[len(ACKNOWLEDGED):], True)
+            yield read_all(client(server.port, START, ends=True)), (ACKNOWLEDGED, True)
+            ended, status, errors = server.ended()
+            yield (ended.splitlines()[-1], status), ("connection 2 end input", 0)
+            yield errors.splitlines()[1:], [f"{directory}: it can't be written to; the record of this connection ends here, and the connection goes on."]
+        for number in (1, 2):
+            case = f"{directory}/connection-{number}.h2"
+            yield text_of(case)[-1], "\n"
+            yield checked(program, case), [f"ok 1 - {case}: connection {number}", "1..1"]
+
+
+def a_directory_that_is_not_there_is_refused(program):
+    """Fault 22 comes before the port is opened."""
+    with tempfile.TemporaryDirectory() as directory:
+        file = f"{directory}/file"
+        with open(file, "w", encoding="utf-8"):
+            pass
+        for path, reason in ((f"{directory}/none", "there is no such directory"), (file, "it is no directory")):
+            with Server(program, 1, "--record", path) as server:
+                output, status, errors = server.ended()
+                yield (output, status), ("fault 22\n", 1)
+                yield errors.splitlines()[1:], [f"{path}: {reason}; nothing is served."]
+            with Server(program, 1, "--record", path, "--quiet") as server:
+                yield server.ended(), ("fault 22\n", 1, "")
+
+
+def the_fault_of_a_connection_has_a_sentence(program):
+    """A client resets its connection; with --quiet nothing is said of it."""
+    sentence = "connection 1: a read failed; mostly the client has reset the connection.\n"
+    for words, said in (([], sentence), (["--quiet"], "")):
+        with Server(program, 1, *words) as server:
+            yield server.line(), f"listening {server.port}\n"
+            one = client(server.port, START)
+            read = b""
+            while read != ACKNOWLEDGED:
+                read += one.recv(65536)
+            one.setsockopt(socket.SOL_SOCKET, socket.SO_LINGER, struct.pack("ii", 1, 0))
+            one.close()
+            yield server.ended(), ("connection 1 fault 22\n", 0, said)
+
+
 TESTS = [
     two_clients_are_served,
     each_line_is_flushed,
@@ -201,6 +412,15 @@ TESTS = [
     a_port_in_use_is_refused,
     a_line_that_is_not_written_ends_the_server,
     refused_answers_open_no_port,
+    each_item_is_explained_as_it_comes,
+    an_item_in_pieces_is_explained_once,
+    times_are_in_front,
+    a_verdict_is_the_status,
+    a_record_is_a_case,
+    a_server_that_is_killed_leaves_a_record,
+    a_full_disk_ends_the_record_only,
+    a_directory_that_is_not_there_is_refused,
+    the_fault_of_a_connection_has_a_sentence,
 ]
 
 
