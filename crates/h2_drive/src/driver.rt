@@ -18,11 +18,12 @@ use std::alloc::Allocator;
 const READ_SIZE: usize = 4096;
 
 /// Reads once, feeds what was read to the connection, and writes the frames that it sends for that. Returns how many
-/// octets were read; 0 is the end of the input.
+/// octets were read; 0 is the end of the input. What was in `buffer` does not matter.
 fn take_turn<A: Allocator + Copy, D: Driven<A>, S: Wire>(
     driven: &mut D,
     out: &mut Vec<u8, A>,
     wire: &mut S,
+    buffer: &mut [u8; READ_SIZE],
 ) -> Result<usize, DriveFault>
     requires open { S.has_failed wire.old ≡ false }
     requires empty { out.old.items ≡ [] }
@@ -41,15 +42,14 @@ fn take_turn<A: Allocator + Copy, D: Driven<A>, S: Wire>(
     ensures passes { HasRead (λ octets. D.passes (is_out_of_memory result) driven.old octets driven.new)
         (S.octets_read wire.old) (S.octets_read wire.new) }
 {
-    let mut buffer = [0u8; READ_SIZE];
-    let count = match wire.read(&mut buffer) {
+    let count = match wire.read(buffer) {
         Ok(count) => count,
         Err(_) => return Err(DriveFault::Read),
     };
     if count == 0 {
         return Ok(0);
     }
-    match driven.take_octets(octets_up_to(&buffer, count), out) {
+    match driven.take_octets(octets_up_to(buffer, count), out) {
         Ok(()) => {}
         Err(_) => return Err(DriveFault::NoMemory),
     }
@@ -92,11 +92,12 @@ pub fn drive_with<A: Allocator + Copy, D: Driven<A>, S: Wire>(
         Ok(()) => {}
         Err(_) => return Err(DriveFault::Write),
     }
+    let mut buffer = [0u8; READ_SIZE];
     for _turn in 0..turns {
         if let Some(code) = driven.end_code() {
             return Ok(DriveEnd::Goaway(code));
         }
-        match take_turn(driven, out, wire) {
+        match take_turn(driven, out, wire, &mut buffer) {
             Ok(0) => return Ok(DriveEnd::Input),
             Ok(_) => {}
             Err(fault) => return Err(fault),
