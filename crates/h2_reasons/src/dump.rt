@@ -27,6 +27,9 @@ pub(crate) enum Look {
 /// How many lines of a text are looked at.
 const LINES: usize = 100;
 
+/// The most octets of an offset and its `:`, and one more.
+const OFFSET: usize = 17;
+
 /// What a text looks like in which the octet at a place is no hex digit.
 pub(crate) fn look_of(text: &[u8], at: usize) -> Look {
     if has_mark(text) {
@@ -125,7 +128,13 @@ fn is_dump_line(line: &[u8]) -> bool {
 /// Whether each line of a text begins with its offset, which grows by 16, in hex or in octal digits. A line of a dump
 /// has 16 octets; the last line may be a bare offset.
 pub fn has_offsets(text: &[u8]) -> bool {
-    grows(text, 16) || grows(text, 8)
+    may_have_offsets(text) && (grows(text, 16) || grows(text, 8))
+}
+
+/// Whether a text begins with an offset, or with an empty line. Most texts don't, so their lines are not looked for.
+fn may_have_offsets(text: &[u8]) -> bool {
+    let start = first_line(first_of(text, OFFSET));
+    text.starts_with(b"\n".as_slice()) || offset_in(first_word(start), 16).is_some()
 }
 
 /// The same for digits of this base.

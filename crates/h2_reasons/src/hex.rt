@@ -42,8 +42,13 @@ fn advice(look: Look) -> &'static str {
     }
 }
 
+/// Whether a text is white space alone.
+pub fn is_blank(text: &[u8]) -> bool {
+    text.iter().all(|octet| is_space(*octet))
+}
+
 /// How many octets of a text are no white space.
-pub fn digit_count(text: &[u8]) -> usize {
+pub(crate) fn digit_count(text: &[u8]) -> usize {
     text.iter().filter(|octet| !is_space(**octet)).count()
 }
 
