@@ -1,6 +1,5 @@
 -- What a fragment that is decoded results in.
-use Rattle.std.proofs.Common.{◌≡◌, ◌≢◌, ℕ, Bool, true, false, cond, ◌+◌, nat_lt, List, ◌++◌, length, Some, None, not, refl, sym, ap, subst, ◌∙◌, ◌==◌, ◌≤◌, arith}
-use Rattle.std.proofs.lemmas.Bool.Decides.{nat_tests}
+use Rattle.std.proofs.Common.{◌≡◌, ◌≢◌, ℕ, Bool, true, false, cond, ◌+◌, nat_lt, List, ◌++◌, length, Some, None, not, refl, sym, ap, subst, ◌∙◌, ◌==◌}
 use Rattle.std.proofs.lemmas.Option.{none-some}
 use Rattle.h2_fields.specs.Blocks.{faulted}
 use Rattle.h2_fields.specs.declared.fault.BlockFault.{BlockFault}
@@ -21,7 +20,8 @@ use Rattle.h2_spec.specs.State as state
 use Rattle.h2_spec.specs.Stream.{Records}
 use Rattle.h2_rules.specs.Sound.{IsSoundConnectionState, in_force}
 use Rattle.h2_table.specs.Edits.{EditOf, IsEdit}
-use Rattle.h2_conn.specs.Blocks.{IsOpenAt, IsSoundEffect, bad_end, block_after, cause_by}
+use Rattle.h2_rules.specs.Block.{cause_by}
+use Rattle.h2_conn.specs.Blocks.{IsOpenAt, IsSoundEffect, bad_end, block_after}
 use Rattle.h2_conn.specs.declared.block.FragmentEffect.TheVariants.{Makes}
 use Rattle.h2_conn.specs.Sending.{records}
 use Rattle.h2_conn.specs.Fragments.{HasFault, after_fragment, before_fragment}
@@ -113,10 +113,6 @@ pub read-begun : (s : state.State) (b : BlockView) (d : state.Decoding) (ends : 
     headers.Makes (headers.with_block s (block_after (Some b) d)) change ≡ fragment_read s b d ends
 read-begun s b d false change e is = ap (λ (c : Change). headers.Makes (headers.with_block s (block_after (Some b) d)) c) is
 read-begun s b d true change e is = cc
-
--- a block that is not too large
-pub few-octets : (n : ℕ) → n ≤ 65536 → nat_lt 65536 n ≡ false
-few-octets n most = grind (arith, nat_tests, most)
 
 -- with the last stream as the counts have it
 pub same-records : (r : Records) (last : ℕ) → r.last ≡ last → record { streams = r.streams; last = last } ≡ r

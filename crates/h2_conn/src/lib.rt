@@ -4,6 +4,7 @@
 
 mod apply_change;
 mod block;
+mod block_end;
 mod checkpoint;
 mod conn;
 mod fault;

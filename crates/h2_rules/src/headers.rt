@@ -54,8 +54,8 @@ fn is_full(config: Config, live: usize) -> bool
     config.streams as usize <= live
 }
 
-/// Whether a list of fields of this size is too large.
-pub(crate) fn is_too_large(size: u64) -> bool
+/// Whether a list of fields of this size, in octets, is too large (RFC 9113, 10.5.1).
+pub fn is_too_large(size: u64) -> bool
     ensures { result ≡ nat_lt rule.max_list size }
 {
     MAX_LIST < size

@@ -12,20 +12,20 @@ ghost use Rattle.h2_spec.specs.Block.{list_size};
 ghost use Rattle.h2_spec.specs.Change as changes;
 ghost use Rattle.h2_spec.specs.DynamicTable.{Table};
 ghost use Rattle.h2_spec.specs.Headers as rule;
-ghost use Rattle.h2_spec.specs.Request.{malformed, request_fault, trailers_fault, request_cause, trailers_cause};
+ghost use Rattle.h2_spec.specs.Request.{malformed, request_fault, trailers_fault};
 ghost use Rattle.h2_spec.specs.State.{OpenBlock};
 ghost use Rattle.h2_request.specs.Lent.{IsPickOf};
-ghost use Rattle.h2_request.specs.ReasonNumber.{reason_number};
 ghost use Rattle.h2_rules.specs.Open.{IsOpenAt, state_of};
 ghost use Rattle.h2_rules.specs.Sound.{HasBody, IsSoundChange, IsSoundConnectionState, IsSoundState, IsSoundStream, in_force, is_recorded};
 
-use crate::change::{only_counts, stream_error, with_outcome};
-use crate::headers::{is_too_large, request_outcome, trailers_outcome};
 use h2_fields::collected::Collected;
 use h2_request::book::Book;
 use h2_request::fields::Fields;
-use h2_request::reason::{Malformed, Reason};
+use h2_request::reason::Malformed;
 use h2_request::well_formed::{check_fields, check_trailer_fields};
+use h2_rules::change::{only_counts, stream_error, with_outcome};
+use h2_rules::headers::{is_too_large, request_outcome, trailers_outcome};
+use h2_rules::malformed::{request_cause, trailers_cause};
 use h2_spec::causes::Cause;
 use h2_spec::connection::{BlockView, Config, ConnectionState, Purpose};
 use h2_spec::reactions::{BlockSummary, Change, StreamOutcome};
@@ -162,40 +162,6 @@ fn trailers_fault<A: Allocator>(size: u64, fields: &Collected<A>) -> Option<Caus
     match check_trailer_fields(&Fields::Block(fields)) {
         Ok(()) => None,
         Err(Malformed(reason)) => Some(trailers_cause(reason)),
-    }
-}
-
-/// The cause by a reason against a request.
-fn request_cause(reason: Reason) -> Cause
-    ensures { result ≡ request_cause (reason_number reason) }
-{
-    match reason {
-        Reason::BadName => Cause::BadName,
-        Reason::BadValue => Cause::BadValue,
-        Reason::LatePseudoField => Cause::LatePseudoField,
-        Reason::UnknownPseudoField => Cause::UnknownPseudoField,
-        Reason::DoublePseudoField => Cause::DoublePseudoField,
-        Reason::LackingPseudoField => Cause::LackingPseudoField,
-        Reason::ConnectionField => Cause::ConnectionField,
-        Reason::BadTe => Cause::BadTe,
-        Reason::BadContentLength => Cause::BadContentLength,
-    }
-}
-
-/// The cause by a reason against trailers.
-fn trailers_cause(reason: Reason) -> Cause
-    ensures { result ≡ trailers_cause (reason_number reason) }
-{
-    match reason {
-        Reason::BadName => Cause::TrailersBadName,
-        Reason::BadValue => Cause::TrailersBadValue,
-        Reason::UnknownPseudoField => Cause::TrailersPseudoField,
-        Reason::ConnectionField => Cause::TrailersConnectionField,
-        Reason::LatePseudoField
-        | Reason::DoublePseudoField
-        | Reason::LackingPseudoField
-        | Reason::BadTe
-        | Reason::BadContentLength => Cause::TrailersBadTe,
     }
 }
 

@@ -1,6 +1,6 @@
 use Rattle.std.proofs.Common.{sym, ◌∙◌, rules}
 use Rattle.h2_rules.proofs.SoundLaws.{idle-above}
-use Rattle.h2_conn.proofs.block.headers_purpose.Goals as goal
+use Rattle.h2_rules.proofs.block.headers_purpose.Goals as goal
 
 pub returns-in-Idle-clause-known : goal.returns-in-Idle-clause-known
 returns-in-Idle-clause-known c = λ book f r all is.
