@@ -349,12 +349,12 @@ module _ (s : State) (j : ℕ) where
   data-result d = at st.kind refl
     where
       take : is_live st.kind ≡ true → MayResult s (makes s (data_taken s.config s.core (body_length s.book st) d st))
-      take l = within s d.octets (with_outcome (counted s.config.credit s.core d.octets) (data_outcome s.config.credit s.core.peer.size_update_pending (body_length s.book st) d st))
-          (outcome-update s (counted s.config.credit s.core d.octets) j (data_outcome s.config.credit s.core.peer.size_update_pending (body_length s.book st) d st) l (data_turn-proper s.book s.config.credit s.core.peer.size_update_pending d st))
+      take l = within s d.octets (with_outcome (counted s.config.credit s.core d.octets) (data_outcome s.config.credit (body_length s.book st) d st))
+          (outcome-update s (counted s.config.credit s.core d.octets) j (data_outcome s.config.credit (body_length s.book st) d st) l (data_turn-proper s.book s.config.credit d st))
 
       refuse : is_live st.kind ≡ true → MayResult s (makes s (data_refused s.config s.core d st DataAfterEndStream))
-      refuse l = within s d.octets (with_outcome (counted s.config.credit s.core d.octets) (stream_error s.core.peer.size_update_pending st.id DataAfterEndStream))
-          (outcome-update s (counted s.config.credit s.core d.octets) j (stream_error s.core.peer.size_update_pending st.id DataAfterEndStream) l (error-proper s.book s.core.peer.size_update_pending st DataAfterEndStream))
+      refuse l = within s d.octets (with_outcome (counted s.config.credit s.core d.octets) (stream_error st.id DataAfterEndStream))
+          (outcome-update s (counted s.config.credit s.core d.octets) j (stream_error st.id DataAfterEndStream) l (error-proper s.book st DataAfterEndStream))
 
       at : (k : StreamState) → st.kind ≡ k → MayResult s (makes s (run_cell ConnectionError (nothing s.core) (λ rule. data_rule rule s.config s.core (body_length s.book st) d st) (data_cell k)))
       at Idle e = tt
@@ -370,8 +370,8 @@ module _ (s : State) (j : ℕ) where
   unfolding on_reset
   reset-result = at st.kind refl
     where
-      live : is_live st.kind ≡ true → MayResult s (makes s (Continues (with_outcome (only_counts s.core) (reset_outcome s.core.peer.size_update_pending st))))
-      live l = stays s (with_outcome (only_counts s.core) (reset_outcome s.core.peer.size_update_pending st)) (outcome-update s (only_counts s.core) j (reset_outcome s.core.peer.size_update_pending st) l (reset_turn-proper s.book s.core.peer.size_update_pending st))
+      live : is_live st.kind ≡ true → MayResult s (makes s (Continues (with_outcome (only_counts s.core) (reset_outcome st))))
+      live l = stays s (with_outcome (only_counts s.core) (reset_outcome st)) (outcome-update s (only_counts s.core) j (reset_outcome st) l (reset_turn-proper s.book st))
 
       at : (k : StreamState) → st.kind ≡ k → MayResult s (makes s (run_cell ConnectionError (nothing s.core) (λ r. reset_rule r s.core st) (reset_cell k)))
       at Idle e = tt
@@ -387,8 +387,8 @@ module _ (s : State) (j : ℕ) where
   unfolding on_window
   window-result i = at st.kind refl
     where
-      live : is_live st.kind ≡ true → MayResult s (makes s (Continues (with_outcome (only_counts s.core) (window_outcome s.core.peer.size_update_pending i st))))
-      live l = stays s (with_outcome (only_counts s.core) (window_outcome s.core.peer.size_update_pending i st)) (outcome-update s (only_counts s.core) j (window_outcome s.core.peer.size_update_pending i st) l (window_turn-proper s.book s.core.peer.size_update_pending i st))
+      live : is_live st.kind ≡ true → MayResult s (makes s (Continues (with_outcome (only_counts s.core) (window_outcome i st))))
+      live l = stays s (with_outcome (only_counts s.core) (window_outcome i st)) (outcome-update s (only_counts s.core) j (window_outcome i st) l (window_turn-proper s.book i st))
 
       at : (k : StreamState) → st.kind ≡ k → MayResult s (makes s (run_cell ConnectionError (nothing s.core) (λ r. window_rule r s.core i st) (window_cell k)))
       at Idle e = tt
@@ -432,7 +432,7 @@ ends-update : (s : State) (table : Table) (id : ℕ) (ends : Bool) (fields : Lis
 ends-update s table id ends fields Request h =
     let f : BlockSummary = request_summary s.book fields in
     put-same s _ id _ (request_turn-proper s.book s.config (live_count s.streams) s.core id ends f).same_id h
-ends-update s table id ends fields Trailers h = outcome-update s _ id _ h (trailers_turn-proper s.book (list_size fields) _ s.core.peer.size_update_pending ends (stream_at s.core.last s.streams id))
+ends-update s table id ends fields Trailers h = outcome-update s _ id _ h (trailers_turn-proper s.book (list_size fields) _ ends (stream_at s.core.last s.streams id))
 ends-update s table id ends fields Closed h = put-same s _ id _ refl h
 ends-update s table id ends fields TableOnly h = tt
 

@@ -85,8 +85,8 @@ outcome-within config core d t h =
 
 data-past : (rule : DataRule) (config : Config) (core : ConnectionState) (body : ℕ) (d : ReceivedData) (st : Stream) → Past core.phase → PastIn (data_rule rule config core body d st)
 unfolding data_taken data_refused data_counted
-data-past Take config core body d st h = outcome-within config core d (data_outcome config.credit core.peer.size_update_pending body d st) h
-data-past (Refuse code) config core body d st h = outcome-within config core d (stream_error core.peer.size_update_pending st.id code) h
+data-past Take config core body d st h = outcome-within config core d (data_outcome config.credit body d st) h
+data-past (Refuse code) config core body d st h = outcome-within config core d (stream_error st.id code) h
 data-past Count config core body d st h = within-past core d.octets (counted config.credit core d.octets) (counted-past config.credit core d.octets h)
 
 on_data-past : (config : Config) (core : ConnectionState) (body : ℕ) (d : ReceivedData) (st : Stream) → Past core.phase → PastIn (on_data config core body d st)

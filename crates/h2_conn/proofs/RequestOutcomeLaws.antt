@@ -20,11 +20,11 @@ unfolding request_outcome
 large-turn config live body body' early early' core id ends f f' size large = rw (large, sym (ap (λ n. nat_lt max_list n) size) ∙ large) refl
 
 -- so it is of trailers
-pub trailers-turn : (size : ℕ) (bad bad' : Option Cause) (body : ℕ) (pending ends : Bool) (st : Stream) → (nat_lt max_list size ≡ false → bad ≡ bad') →
-    trailers_outcome size bad body pending ends st ≡ trailers_outcome size bad' body pending ends st
+pub trailers-turn : (size : ℕ) (bad bad' : Option Cause) (body : ℕ) (ends : Bool) (st : Stream) → (nat_lt max_list size ≡ false → bad ≡ bad') →
+    trailers_outcome size bad body ends st ≡ trailers_outcome size bad' body ends st
 unfolding trailers_outcome
-trailers-turn size bad bad' body pending ends st same = by_size (nat_lt max_list size) refl
+trailers-turn size bad bad' body ends st same = by_size (nat_lt max_list size) refl
   where
-    by_size : (large : Bool) → nat_lt max_list size ≡ large → trailers_outcome size bad body pending ends st ≡ trailers_outcome size bad' body pending ends st
+    by_size : (large : Bool) → nat_lt max_list size ≡ large → trailers_outcome size bad body ends st ≡ trailers_outcome size bad' body ends st
     by_size true e = rw e refl
-    by_size false e = ap (λ b. trailers_outcome size b body pending ends st) (same e)
+    by_size false e = ap (λ b. trailers_outcome size b body ends st) (same e)

@@ -139,15 +139,7 @@ fn trailers_end<A: Allocator + Copy>(
     let size = fields.list_size();
     let malformed = trailers_fault(size, fields);
     let body = body_length(book, stream.pick);
-    let size_update_pending = core.peer.size_update_pending;
-    let outcome = trailers_outcome(
-        size,
-        malformed,
-        body,
-        size_update_pending,
-        shown.ends,
-        stream,
-    );
+    let outcome = trailers_outcome(size, malformed, body, shown.ends, stream);
     with_outcome(only_counts(core), outcome)
 }
 
@@ -174,14 +166,10 @@ fn closed_end<A: Allocator>(
 ) -> Change
     requires sound { IsSoundState book.now core streams.now }
     requires open { IsOpenAt streams.now id Closed }
-    ensures rule { result ≡ changes.with_outcome (changes.only_counts core) (changes.stream_error core.peer.size_update_pending id HeadersAfterEndStream) }
+    ensures rule { result ≡ changes.with_outcome (changes.only_counts core) (changes.stream_error id HeadersAfterEndStream) }
     ensures sound { IsSoundChange book.now streams.now (in_force core) result }
 {
-    let outcome = stream_error(
-        core.peer.size_update_pending,
-        id,
-        Cause::HeadersAfterEndStream,
-    );
+    let outcome = stream_error(id, Cause::HeadersAfterEndStream);
     with_outcome(only_counts(core), outcome)
 }
 

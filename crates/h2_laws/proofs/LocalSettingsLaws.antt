@@ -165,8 +165,8 @@ data-keeps config core body d st = cell-keeps core _ by_rule (data_cell st.kind)
     outcome-within t = within (with_outcome (counted config.credit core d.octets) t) (same-twice (with_outcome (counted config.credit core d.octets) t).core (counted config.credit core d.octets).core core (outcome-own (counted config.credit core d.octets) t) (counted-own config.credit core d.octets))
 
     by_rule : (r : DataRule) → ReactionKeeps core (data_rule r config core body d st)
-    by_rule Take = outcome-within (data_outcome config.credit core.peer.size_update_pending body d st)
-    by_rule (Refuse cause) = outcome-within (stream_error core.peer.size_update_pending st.id cause)
+    by_rule Take = outcome-within (data_outcome config.credit body d st)
+    by_rule (Refuse cause) = outcome-within (stream_error st.id cause)
     by_rule Count = within (counted config.credit core d.octets) (counted-own config.credit core d.octets)
 
 reset-keeps : (core : ConnectionState) (st : Stream) → ReactionKeeps core (on_reset core st)
@@ -174,14 +174,14 @@ unfolding on_reset
 reset-keeps core st = cell-keeps core _ by_rule (reset_cell st.kind)
   where
     by_rule : (r : ResetRule) → ReactionKeeps core (reset_rule r core st)
-    by_rule PeerResets = outcome-own (only_counts core) (reset_outcome core.peer.size_update_pending st)
+    by_rule PeerResets = outcome-own (only_counts core) (reset_outcome st)
 
 window-keeps : (core : ConnectionState) (n : ℕ) (st : Stream) → ReactionKeeps core (on_window core n st)
 unfolding on_window
 window-keeps core n st = cell-keeps core _ by_rule (window_cell st.kind)
   where
     by_rule : (r : WindowRule) → ReactionKeeps core (window_rule r core n st)
-    by_rule MoveWindow = outcome-own (only_counts core) (window_outcome core.peer.size_update_pending n st)
+    by_rule MoveWindow = outcome-own (only_counts core) (window_outcome n st)
 
 connection-keeps : (core : ConnectionState) (n : ℕ) → ReactionKeeps core (connection_window core n)
 unfolding connection_window

@@ -12,13 +12,15 @@ ghost use Rattle.h2_rules.specs.Sound.{HasBody, InForce, IsCalm, IsSoundChange, 
 use h2_spec::causes::Cause;
 use h2_spec::connection::ConnectionState;
 use h2_spec::flow::Settings;
-use h2_spec::reactions::{Change, ConnectionFrame, RecordUpdate, StreamFrame, StreamOutcome};
-use h2_spec::streams::{Stream, StreamState};
+use h2_spec::reactions::{
+    Answering, Change, ConnectionFrame, RecordUpdate, StreamFrame, StreamOutcome,
+};
+use h2_spec::streams::{Pick, Stream, StreamState};
 use h2_streams::not_live;
 
 /// The stream's record, with nothing sent.
-pub fn outcome_without_frame(size_update_pending: bool, stream: Stream) -> StreamOutcome
-    ensures rule { result ≡ changes.outcome_without_frame size_update_pending stream }
+pub fn outcome_without_frame(stream: Stream) -> StreamOutcome
+    ensures rule { result ≡ changes.outcome_without_frame stream }
     ensures id { result.stream.id ≡ stream.id }
     ensures recorded { is_recorded stream.kind ≡ true → is_recorded result.stream.kind ≡ true }
 {
@@ -26,14 +28,13 @@ pub fn outcome_without_frame(size_update_pending: bool, stream: Stream) -> Strea
         stream,
         frame: StreamFrame::NoStreamFrame,
         answer: None,
-        size_update_pending,
     }
 }
 
 /// A stream error (RFC 9113, 5.4.2): RST_STREAM with this code is sent, and the stream is one that the server has reset.
 #[tactic(auto, unfolding(h2_spec::specs::Stream::octets_waiting))]
-pub fn stream_error(size_update_pending: bool, id: u32, cause: Cause) -> StreamOutcome
-    ensures rule { result ≡ changes.stream_error size_update_pending id cause }
+pub fn stream_error(id: u32, cause: Cause) -> StreamOutcome
+    ensures rule { result ≡ changes.stream_error id cause }
     ensures id { result.stream.id ≡ id }
     ensures sound { (f : InForce) → IsSoundStream f result.stream }
     ensures waits { (book : List Entry) → HasBody book result.stream }
@@ -43,7 +44,6 @@ pub fn stream_error(size_update_pending: bool, id: u32, cause: Cause) -> StreamO
         stream: not_live(id, StreamState::WeReset),
         frame: StreamFrame::Reset(id, cause),
         answer: None,
-        size_update_pending,
     }
 }
 
@@ -60,6 +60,31 @@ pub fn only_counts(core: ConnectionState) -> Change
     }
 }
 
+/// The answer that begins on a stream, if one does. Where a table size update is pending, its block begins with it (RFC
+/// 7541, 4.2).
+fn answer_begun(size_update_pending: bool, id: u32, answer: Option<Pick>) -> Option<Answering>
+    ensures { result ≡ changes.answer_begun size_update_pending id answer }
+{
+    match answer {
+        None => None,
+        Some(pick) => Some(Answering {
+            id,
+            pick,
+            size_update_pending,
+        }),
+    }
+}
+
+/// Whether a table size update is still pending after the answer that begins, if one does.
+fn still_pending(size_update_pending: bool, answer: Option<Pick>) -> bool
+    ensures { result ≡ changes.still_pending size_update_pending answer }
+{
+    match answer {
+        None => size_update_pending,
+        Some(_) => false,
+    }
+}
+
 /// A change, and then what a rule does to one stream.
 #[tactic(auto, unfolding(h2_spec::specs::Change::with_outcome))]
 pub fn with_outcome(change: Change, outcome: StreamOutcome) -> Change
@@ -67,8 +92,9 @@ pub fn with_outcome(change: Change, outcome: StreamOutcome) -> Change
     ensures sound { (book : List Entry) (r : Records) (core : ConnectionState) → IsCalm core change → core.last ≡ max r.last outcome.stream.id → IsSoundStream (in_force core) outcome.stream → HasBody book outcome.stream → CanPut outcome.stream r → is_recorded outcome.stream.kind ≡ true → IsSoundChange book r (in_force core) result }
 {
     let core = change.core;
+    let pending = core.peer.size_update_pending;
     let peer = Settings {
-        size_update_pending: outcome.size_update_pending,
+        size_update_pending: still_pending(pending, outcome.answer),
         ..core.peer
     };
     Change {
@@ -76,7 +102,7 @@ pub fn with_outcome(change: Change, outcome: StreamOutcome) -> Change
         record_update: RecordUpdate::Put(outcome.stream),
         connection_frame: change.connection_frame,
         stream_frame: outcome.frame,
-        answer: outcome.answer,
+        answer: answer_begun(pending, outcome.stream.id, outcome.answer),
     }
 }
 

@@ -44,9 +44,9 @@ fn counted(threshold: u32, core: ConnectionState, count: u32) -> Change
 
 /// What is owed on the stream is given back once it reaches the threshold.
 #[tactic(auto, unfolding(h2_spec::specs::Data::returned, h2_spec::specs::Stream::octets_waiting))]
-fn returned(threshold: u32, size_update_pending: bool, stream: Stream) -> StreamOutcome
+fn returned(threshold: u32, stream: Stream) -> StreamOutcome
     requires credit { IsCredit stream.numbers.recv stream.numbers.owed }
-    ensures rule { result ≡ rule.returned threshold size_update_pending stream }
+    ensures rule { result ≡ rule.returned threshold stream }
     ensures id { result.stream.id ≡ stream.id }
     ensures sound { (f : InForce) → f.window ≤ 2147483647 → IsSoundStream f stream → IsSoundStream f result.stream }
     ensures waits { (book : List Entry) → HasBody book stream → HasBody book result.stream }
@@ -62,10 +62,10 @@ fn returned(threshold: u32, size_update_pending: bool, stream: Stream) -> Stream
         };
         return StreamOutcome {
             frame: StreamFrame::StreamCredit(stream.id, owed),
-            ..outcome_without_frame(size_update_pending, Stream { numbers, ..stream })
+            ..outcome_without_frame(Stream { numbers, ..stream })
         };
     }
-    outcome_without_frame(size_update_pending, stream)
+    outcome_without_frame(stream)
 }
 
 /// The stream has taken the octets.
@@ -103,14 +103,13 @@ fn exceeds(window: Window, octets: u32) -> bool
 #[tactic(auto, unfolding(h2_spec::specs::Data::data_outcome))]
 fn data_outcome(
     threshold: u32,
-    size_update_pending: bool,
     body: u64,
     incoming: ReceivedData,
     stream: Stream,
 ) -> StreamOutcome
     requires credit { IsCredit stream.numbers.recv stream.numbers.owed }
     requires least { IsWindow stream.numbers.recv }
-    ensures rule { result ≡ rule.data_outcome threshold size_update_pending body incoming stream }
+    ensures rule { result ≡ rule.data_outcome threshold body incoming stream }
     ensures id { result.stream.id ≡ stream.id }
     ensures sound { (f : InForce) → f.window ≤ 2147483647 → IsSoundStream f stream → IsSoundStream f result.stream }
     ensures waits { (book : List Entry) → body ≡ length (picked book stream.pick).body → HasBody book stream → HasBody book result.stream }
@@ -118,19 +117,19 @@ fn data_outcome(
 {
     let numbers = stream.numbers;
     if exceeds(numbers.recv, incoming.octets) {
-        return stream_error(size_update_pending, stream.id, Cause::StreamWindowExceeded);
+        return stream_error(stream.id, Cause::StreamWindowExceeded);
     }
     let content_received = numbers
         .content_received
         .saturating_add(u64::from(incoming.content));
     if let Some(cause) = length_broken(numbers.declared, content_received, incoming.ends) {
-        return stream_error(size_update_pending, stream.id, cause);
+        return stream_error(stream.id, cause);
     }
     let after = taken(stream, incoming);
     if incoming.ends {
-        peer_ended(size_update_pending, body, after)
+        peer_ended(body, after)
     } else {
-        returned(threshold, size_update_pending, after)
+        returned(threshold, after)
     }
 }
 
@@ -197,9 +196,8 @@ fn data_taken(
     if core.recv.is_below(incoming.octets) {
         return Reaction::ConnectionError(Cause::ConnectionWindowExceeded);
     }
-    let size_update_pending = core.peer.size_update_pending;
     let change = counted(threshold, core, incoming.octets);
-    let outcome = data_outcome(threshold, size_update_pending, body, incoming, stream);
+    let outcome = data_outcome(threshold, body, incoming, stream);
     Reaction::Continues(with_outcome(change, outcome))
 }
 
@@ -219,9 +217,8 @@ fn data_refused(
     if core.recv.is_below(incoming.octets) {
         return Reaction::ConnectionError(Cause::ConnectionWindowExceeded);
     }
-    let size_update_pending = core.peer.size_update_pending;
     let change = counted(config.credit, core, incoming.octets);
-    let outcome = stream_error(size_update_pending, stream.id, cause);
+    let outcome = stream_error(stream.id, cause);
     Reaction::Continues(with_outcome(change, outcome))
 }
 

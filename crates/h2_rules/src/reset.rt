@@ -30,10 +30,7 @@ pub fn on_reset(core: ConnectionState, stream: Stream) -> Reaction
         StreamState::Skipped | StreamState::Ended | StreamState::PeerReset | StreamState::WeReset =>
             { Reaction::Continues(only_counts(core)) }
         StreamState::BothOpen | StreamState::HalfLocal | StreamState::HalfRemote => {
-            let outcome = outcome_without_frame(
-                core.peer.size_update_pending,
-                not_live(stream.id, StreamState::PeerReset),
-            );
+            let outcome = outcome_without_frame(not_live(stream.id, StreamState::PeerReset));
             Reaction::Continues(with_outcome(only_counts(core), outcome))
         }
     }

@@ -16,25 +16,25 @@ use h2_spec::streams::{Numbers, Stream, StreamState};
 
 /// An increment of a live stream's send window.
 #[tactic(auto, unfolding(h2_spec::specs::WindowUpdate::window_outcome, h2_spec::specs::Stream::octets_waiting))]
-fn window_outcome(size_update_pending: bool, increment: u32, stream: Stream) -> StreamOutcome
-    ensures rule { result ≡ rule.window_outcome size_update_pending increment stream }
+fn window_outcome(increment: u32, stream: Stream) -> StreamOutcome
+    ensures rule { result ≡ rule.window_outcome increment stream }
     ensures id { result.stream.id ≡ stream.id }
     ensures sound { (f : InForce) → f.window ≤ 2147483647 → IsSoundStream f stream → IsSoundStream f result.stream }
     ensures waits { (book : List Entry) → HasBody book stream → HasBody book result.stream }
     ensures recorded { is_recorded stream.kind ≡ true → is_recorded result.stream.kind ≡ true }
 {
     if increment == 0 {
-        return stream_error(size_update_pending, stream.id, Cause::StreamIncrementZero);
+        return stream_error(stream.id, Cause::StreamIncrementZero);
     }
     let numbers = stream.numbers;
     if numbers.send.overflows(increment) {
-        return stream_error(size_update_pending, stream.id, Cause::StreamWindowOverflow);
+        return stream_error(stream.id, Cause::StreamWindowOverflow);
     }
     let numbers = Numbers {
         send: numbers.send.plus(increment),
         ..numbers
     };
-    outcome_without_frame(size_update_pending, Stream { numbers, ..stream })
+    outcome_without_frame(Stream { numbers, ..stream })
 }
 
 /// WINDOW_UPDATE on a stream (RFC 9113, 6.9): its send window rises by `increment`, 0 to 2147483647; on a stream that
@@ -57,7 +57,7 @@ pub fn on_window(core: ConnectionState, increment: u32, stream: Stream) -> React
         StreamState::Skipped | StreamState::Ended | StreamState::PeerReset | StreamState::WeReset =>
             { Reaction::Continues(only_counts(core)) }
         StreamState::BothOpen | StreamState::HalfLocal | StreamState::HalfRemote => {
-            let outcome = window_outcome(core.peer.size_update_pending, increment, stream);
+            let outcome = window_outcome(increment, stream);
             Reaction::Continues(with_outcome(only_counts(core), outcome))
         }
     }

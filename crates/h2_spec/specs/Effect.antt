@@ -1,5 +1,5 @@
 -- What one item does to a connection (RFC 9113, 5 and 6).
-use Rattle.std.specs.Prelude.{ℕ, Bool, List, length, ◌==◌, if◌then◌else◌, Option, Some, None, Result, Ok, Err}
+use Rattle.std.specs.Prelude.{ℕ, List, length, ◌==◌, if◌then◌else◌, Option, Some, None, Result, Ok, Err}
 use Rattle.h2_spec.specs.declared.causes.Cause.{Cause}
 use Rattle.h2_spec.specs.declared.causes.Cause.TheVariants as cause
 use Rattle.h2_spec.specs.declared.connection.Config.{Config}
@@ -60,12 +60,12 @@ body_length book st = length (picked book st.pick).body
 -- ---- RST_STREAM and WINDOW_UPDATE
 
 -- a live stream that the peer resets (6.4)
-abbrev pub reset_outcome : Bool → Stream → StreamOutcome
-reset_outcome size_update_pending st = outcome_without_frame size_update_pending (not_live st.id PeerReset)
+abbrev pub reset_outcome : Stream → StreamOutcome
+reset_outcome st = outcome_without_frame (not_live st.id PeerReset)
 
 -- RST_STREAM by the rule that the table names
 abbrev pub reset_rule : ResetRule → ConnectionState → Stream → Reaction
-reset_rule PeerResets core st = Continues (with_outcome (only_counts core) (reset_outcome core.peer.size_update_pending st))
+reset_rule PeerResets core st = Continues (with_outcome (only_counts core) (reset_outcome st))
 
 -- RST_STREAM that comes on a stream (6.4)
 unfoldable pub on_reset : ConnectionState → Stream → Reaction
@@ -74,7 +74,7 @@ on_reset core st = run_cell ConnectionError (nothing core) (λ rule. reset_rule 
 
 -- WINDOW_UPDATE by the rule that the table names
 abbrev pub window_rule : WindowRule → ConnectionState → ℕ → Stream → Reaction
-window_rule MoveWindow core increment st = Continues (with_outcome (only_counts core) (window_outcome core.peer.size_update_pending increment st))
+window_rule MoveWindow core increment st = Continues (with_outcome (only_counts core) (window_outcome increment st))
 
 -- WINDOW_UPDATE that comes on a stream (6.9)
 unfoldable pub on_window : ConnectionState → ℕ → Stream → Reaction

@@ -46,22 +46,19 @@ pub struct Answering {
     pub id: u32,
     /// The answer.
     pub pick: Pick,
-    /// Whether the block begins with a table size update to 0.
+    /// Whether the block begins with a table size update to 0 (RFC 7541, 4.2).
     pub size_update_pending: bool,
 }
 
-/// What a rule of one stream answers: its record, what is sent on it, and whether a table size update is still to be
-/// sent.
+/// What a rule of one stream answers: its record, what is sent on it, and the answer that begins.
 #[derive(Clone, Copy)]
 pub struct StreamOutcome {
     /// The record after it.
     pub stream: Stream,
     /// The frame that is sent on the stream, before an answer.
     pub frame: StreamFrame,
-    /// The answer that begins, if one does.
-    pub answer: Option<Answering>,
-    /// Whether the next response's field block has to begin with a table size update (RFC 7541, 4.2).
-    pub size_update_pending: bool,
+    /// The answer that begins on it, if one does.
+    pub answer: Option<Pick>,
 }
 
 /// What an item changes, and what is sent for it.

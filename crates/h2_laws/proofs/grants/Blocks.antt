@@ -130,16 +130,16 @@ block-kept id s t j ends fields purpose pos_id x none b = at purpose b
     at Trailers b =
         let for : (e : eqb j id ≡ true) → (is_some t.on_stream.promised ≡ true) × (t.on_stream.reset ≡ false) = λ e. whenever _ (eqb j id) e b.1 in
         promised _ (λ e. (for e).0)
-        (on_record (trailers_outcome (list_size fields) (trailers_fault fields) (body_length s.book st) s.core.peer.size_update_pending ends st) b.0
-        (trailers_turn-proper s.book (list_size fields) (trailers_fault fields) s.core.peer.size_update_pending ends st)
-        (λ e f. trailers_turn-good s.book t.window t.on_stream (list_size fields) (trailers_fault fields) s.core.peer.size_update_pending ends st f (for e).1))
+        (on_record (trailers_outcome (list_size fields) (trailers_fault fields) (body_length s.book st) ends st) b.0
+        (trailers_turn-proper s.book (list_size fields) (trailers_fault fields) ends st)
+        (λ e f. trailers_turn-good s.book t.window t.on_stream (list_size fields) (trailers_fault fields) ends st f (for e).1))
     at Closed b =
         let for : (e : eqb j id ≡ true) → (is_some t.on_stream.promised ≡ true) × (t.on_stream.reset ≡ false) = λ e. whenever _ (eqb j id) e b.1 in
         let same : st.id ≡ j = at-id s.core.last s.streams j in
         promised _ (λ e. (for e).0)
-        (on_record (stream_error s.core.peer.size_update_pending j HeadersAfterEndStream) b.0
-        (subst (λ i. Proper s.book st (stream_error s.core.peer.size_update_pending i HeadersAfterEndStream)) same (error-proper s.book s.core.peer.size_update_pending st HeadersAfterEndStream))
-        (λ e f. error-good s.book t.window t.on_stream s.core.peer.size_update_pending j HeadersAfterEndStream (Uncut-live st.kind (picked s.book st.pick).body t.window st.numbers.send st.numbers.body_remaining t.on_stream f (for e).1)))
+        (on_record (stream_error j HeadersAfterEndStream) b.0
+        (subst (λ i. Proper s.book st (stream_error i HeadersAfterEndStream)) same (error-proper s.book st HeadersAfterEndStream))
+        (λ e f. error-good s.book t.window t.on_stream j HeadersAfterEndStream (Uncut-live st.kind (picked s.book st.pick).body t.window st.numbers.send st.numbers.body_remaining t.on_stream f (for e).1)))
     at TableOnly b = promised _ (λ e. whenever _ (eqb j id) e b.1) (stays s.book id t s s.core NoConnectionFrame pos_id x)
 
 -- ---- a fragment

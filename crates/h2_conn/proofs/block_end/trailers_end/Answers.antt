@@ -23,13 +23,12 @@ returns-clause-rule g c = λ config b table.
     let book = a.book.now in
     let st = c.stream_at-stream.result in
     let bad = trailers_fault fields in
-    let pending = a.core.peer.size_update_pending in
     let ends = a.shown.now.ends in
     let outcome =
-    c.trailers_outcome-outcome.ensures.rule ∙ trailers-turn c.list_size-size.result c.trailers_fault-malformed.result bad c.body_length-body.result pending ends st c.trailers_fault-malformed.ensures
-    ∙ ap (λ n. trailers_outcome n bad c.body_length-body.result pending ends st) c.list_size-size.ensures
-    ∙ ap (λ n. trailers_outcome (list_size fields) bad n pending ends st) c.body_length-body.ensures
-    ∙ ap (λ (x : Stream). trailers_outcome (list_size fields) bad (length (picked book x.pick).body) pending ends x) (c.stream_at-stream.ensures.value ∙ ap (λ l. stream_at l r.streams id) c.requires.sound.last) in
+    c.trailers_outcome-outcome.ensures.rule ∙ trailers-turn c.list_size-size.result c.trailers_fault-malformed.result bad c.body_length-body.result ends st c.trailers_fault-malformed.ensures
+    ∙ ap (λ n. trailers_outcome n bad c.body_length-body.result ends st) c.list_size-size.ensures
+    ∙ ap (λ n. trailers_outcome (list_size fields) bad n ends st) c.body_length-body.ensures
+    ∙ ap (λ (x : Stream). trailers_outcome (list_size fields) bad (length (picked book x.pick).body) ends x) (c.stream_at-stream.ensures.value ∙ ap (λ l. stream_at l r.streams id) c.requires.sound.last) in
     c.with_outcome.ensures.rule ∙ ap (λ (x : Change). with_outcome x c.trailers_outcome-outcome.result) c.only_counts.ensures ∙ ap (λ (t : StreamOutcome). with_outcome (only_counts a.core) t) outcome
 
 pub returns-clause-sound : goal.returns-clause-sound
