@@ -13,8 +13,7 @@ ghost use Rattle.h2_rules.specs.Sound.{in_force};
 use crate::block_end::block_ends;
 use crate::state::{Decoding, State};
 use crate::tentative::Tentative;
-use h2_rules::block::{fault_cause, is_block_too_large};
-use h2_rules::change::only_counts;
+use h2_rules::block::{fault_cause, goes_on, is_block_too_large};
 use h2_spec::causes::Cause;
 use h2_spec::connection::BlockView;
 use h2_spec::frames::{END_STREAM, Head};
@@ -43,7 +42,8 @@ impl<'b, A: Allocator + Copy> State<'b, A> {
         ensures sound { (base : LimitedTable) (edit : EditOf) → IsEdit base edit → IsSoundEffect self.now.book (records self.now) (in_force self.now.core) base edit (after_of decoding.now tentative.now) result }
     {
         if !end_headers {
-            return FragmentEffect::Makes(Some(shown), only_counts(self.core));
+            let change = goes_on(self.core, decoding.purpose);
+            return FragmentEffect::Makes(Some(shown), change);
         }
         match decoding.bad_end(tentative) {
             Some(cause) => FragmentEffect::Breaks(cause),

@@ -23,6 +23,7 @@ use h2_request::book::Book;
 use h2_request::fields::Fields;
 use h2_request::reason::Malformed;
 use h2_request::well_formed::{check_fields, check_trailer_fields};
+use h2_rules::block::goes_on;
 use h2_rules::change::{only_counts, stream_error, with_outcome};
 use h2_rules::headers::{is_too_large, request_outcome, trailers_outcome};
 use h2_rules::malformed::{request_cause, trailers_cause};
@@ -195,6 +196,6 @@ pub fn block_ends<A: Allocator + Copy>(
         Purpose::Request => request_ends(book, config, core, streams, shown, fields),
         Purpose::Trailers => trailers_end(book, core, streams, shown, fields),
         Purpose::Closed => closed_end(book, core, streams, shown.stream),
-        Purpose::TableOnly => only_counts(core),
+        Purpose::TableOnly => goes_on(core, purpose),
     }
 }

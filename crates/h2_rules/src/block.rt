@@ -11,9 +11,12 @@ ghost use Rattle.h2_rules.specs.Block.{cause_by, cell_of, refused_end};
 ghost use Rattle.h2_rules.specs.Open.{IsOpenAt};
 ghost use Rattle.h2_rules.specs.Sound.{AreSound, InForce};
 
+use crate::change::only_counts;
 use h2_fields::fault::BlockFault;
 use h2_spec::causes::Cause;
-use h2_spec::connection::Purpose;
+use h2_spec::connection::{ConnectionState, Purpose};
+use h2_spec::ignored::Ignored;
+use h2_spec::reactions::Change;
 use h2_spec::streams::StreamState;
 
 /// The most octets of a block's fragments.
@@ -34,6 +37,26 @@ pub fn headers_purpose(id: u32, kind: StreamState) -> Result<Purpose, Cause>
         StreamState::HalfRemote => Ok(Purpose::Closed),
         StreamState::Ended | StreamState::PeerReset => Err(Cause::HeadersOnClosed),
         StreamState::WeReset => Ok(Purpose::TableOnly),
+    }
+}
+
+/// Why a fragment of a block with this purpose is ignored, if it is: only the header table follows it (RFC 9113, 4.3).
+fn fragment_ignored(purpose: Purpose) -> Option<Ignored>
+    ensures { result ≡ rule.fragment_ignored purpose }
+{
+    match purpose {
+        Purpose::TableOnly => Some(Ignored::TableOnlyBlock),
+        Purpose::Request | Purpose::Trailers | Purpose::Closed => None,
+    }
+}
+
+/// What changes for a fragment after which its block goes on: nothing but the block and the header table.
+pub fn goes_on(core: ConnectionState, purpose: Purpose) -> Change
+    ensures { result ≡ rule.goes_on core purpose }
+{
+    Change {
+        ignored: fragment_ignored(purpose),
+        ..only_counts(core)
     }
 }
 

@@ -12,8 +12,9 @@ ghost use Rattle.h2_rules.specs.Sound.{HasBody, InForce, IsCalm, IsSoundChange, 
 use h2_spec::causes::Cause;
 use h2_spec::connection::ConnectionState;
 use h2_spec::flow::Settings;
+use h2_spec::ignored::Ignored;
 use h2_spec::reactions::{
-    Answering, Change, ConnectionFrame, RecordUpdate, StreamFrame, StreamOutcome,
+    Answering, Change, ConnectionFrame, RecordUpdate, StreamFrame, StreamOutcome, Verdict,
 };
 use h2_spec::streams::{Pick, Stream, StreamState};
 use h2_streams::not_live;
@@ -57,6 +58,17 @@ pub fn only_counts(core: ConnectionState) -> Change
         connection_frame: ConnectionFrame::NoConnectionFrame,
         stream_frame: StreamFrame::NoStreamFrame,
         answer: None,
+        ignored: None,
+    }
+}
+
+/// What changes for an item that is ignored for this reason.
+pub fn ignoring(reason: Ignored, change: Change) -> Change
+    ensures { result ≡ changes.ignoring reason change }
+{
+    Change {
+        ignored: Some(reason),
+        ..change
     }
 }
 
@@ -103,12 +115,24 @@ pub fn with_outcome(change: Change, outcome: StreamOutcome) -> Change
         connection_frame: change.connection_frame,
         stream_frame: outcome.frame,
         answer: answer_begun(pending, outcome.stream.id, outcome.answer),
+        ignored: None,
+    }
+}
+
+/// How an item is judged that results in this change.
+#[inline(always)]
+pub fn verdict_of(change: &Change) -> Verdict
+    ensures { result ≡ record { cause = effect.stream_cause change.now.stream_frame; ignored = change.now.ignored } }
+{
+    Verdict {
+        cause: stream_cause(change.stream_frame),
+        ignored: change.ignored,
     }
 }
 
 /// The cause of a stream error, where one is sent.
 #[inline(always)]
-pub fn stream_cause(frame: StreamFrame) -> Option<Cause>
+fn stream_cause(frame: StreamFrame) -> Option<Cause>
     ensures { result ≡ effect.stream_cause frame }
 {
     match frame {

@@ -8,11 +8,12 @@ ghost use Rattle.h2_spec.specs.Effect as effect;
 ghost use Rattle.h2_spec.specs.Stream.{Records, is_live, stream_at};
 ghost use Rattle.h2_rules.specs.Sound.{HasBody, InForce, IsCalm, IsCredit, IsSound, IsSoundConnectionState, IsSoundStream, IsWindow, in_force, is_recorded};
 
-use crate::change::{only_counts, outcome_without_frame, stream_error, with_outcome};
+use crate::change::{ignoring, only_counts, outcome_without_frame, stream_error, with_outcome};
 use crate::ends::{length_broken, peer_ended};
 use h2_spec::causes::Cause;
 use h2_spec::connection::{Config, ConnectionState};
 use h2_spec::flow::{Credit, Window};
+use h2_spec::ignored::Ignored;
 use h2_spec::reactions::{
     Change, ConnectionFrame, Reaction, ReceivedData, StreamFrame, StreamOutcome,
 };
@@ -147,7 +148,7 @@ fn data_outcome(
 ///   server's settings have made the window negative (6.9.2).
 /// - More content than `content-length` declared, or less at END_STREAM: stream error PROTOCOL_ERROR (8.1.1).
 ///
-/// On a stream that the server has reset, the octets count on the connection and nothing else happens.
+/// On a stream that the server has reset it is ignored, but that the octets count on the connection.
 #[tactic(auto, unfolding(h2_spec::specs::Effect::on_data))]
 pub fn on_data(
     config: Config,
@@ -173,7 +174,7 @@ pub fn on_data(
         StreamState::HalfRemote => {
             data_refused(config, core, incoming, stream, Cause::DataAfterEndStream)
         }
-        StreamState::WeReset => data_counted(config, core, incoming),
+        StreamState::WeReset => data_counted(config, core, incoming, Ignored::DataOnReset),
     }
 }
 
@@ -222,15 +223,21 @@ fn data_refused(
     Reaction::Continues(with_outcome(change, outcome))
 }
 
-/// DATA that is counted on the connection alone.
+/// DATA that is counted on the connection alone, and ignored for this reason.
 #[tactic(auto, unfolding(h2_spec::specs::Data::data_counted))]
-fn data_counted(config: Config, core: ConnectionState, incoming: ReceivedData) -> Reaction
+fn data_counted(
+    config: Config,
+    core: ConnectionState,
+    incoming: ReceivedData,
+    reason: Ignored,
+) -> Reaction
     requires core { IsSoundConnectionState core }
-    ensures rule { result ≡ rule.data_counted config core incoming }
+    ensures rule { result ≡ rule.data_counted config core incoming reason }
     ensures sound { (book : List Entry) (r : Records) → r.last ≡ core.last → IsSound book r (in_force core) result }
 {
     if core.recv.is_below(incoming.octets) {
         return Reaction::ConnectionError(Cause::ConnectionWindowExceeded);
     }
-    Reaction::Continues(counted(config.credit, core, incoming.octets))
+    let change = counted(config.credit, core, incoming.octets);
+    Reaction::Continues(ignoring(reason, change))
 }

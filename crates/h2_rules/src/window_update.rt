@@ -1,16 +1,19 @@
 //! The rule for WINDOW_UPDATE (RFC 9113, 6.9 and 6.9.1). Definitions: h2_spec's `specs/WindowUpdate.antt`, and
 //! `on_window` of `specs/Effect.antt`.
 
-ghost use Rattle.std.specs.Prelude.{◌≡◌, ℕ, ◌≤◌, true, List};
+ghost use Rattle.std.specs.Prelude.{◌≡◌, ◌==◌, ℕ, ◌≤◌, true, List};
 ghost use Rattle.h2_spec.specs.WindowUpdate as rule;
 ghost use Rattle.h2_spec.specs.Effect as effect;
+ghost use Rattle.h2_spec.specs.ReactionTable.{unless_zero};
 ghost use Rattle.h2_spec.specs.Stream.{Records, stream_at};
 ghost use Rattle.h2_spec.specs.Answer.{Entry};
 ghost use Rattle.h2_rules.specs.Sound.{HasBody, InForce, IsSound, IsSoundConnectionState, IsSoundStream, in_force, is_recorded};
 
 use crate::change::{only_counts, outcome_without_frame, stream_error, with_outcome};
+use crate::control::ignore;
 use h2_spec::causes::Cause;
 use h2_spec::connection::ConnectionState;
+use h2_spec::ignored::Ignored;
 use h2_spec::reactions::{Reaction, StreamOutcome};
 use h2_spec::streams::{Numbers, Stream, StreamState};
 
@@ -37,6 +40,19 @@ fn window_outcome(increment: u32, stream: Stream) -> StreamOutcome
     outcome_without_frame(Stream { numbers, ..stream })
 }
 
+/// An increment that is ignored, for this reason unless it is 0 (RFC 9113, 6.9).
+fn increment_ignored(core: ConnectionState, increment: u32, reason: Ignored) -> Reaction
+    requires core { IsSoundConnectionState core }
+    ensures rule { result ≡ effect.ignore core (unless_zero (increment == 0) reason) }
+    ensures sound { (book : List Entry) (r : Records) → r.last ≡ core.last → IsSound book r (in_force core) result }
+{
+    if increment == 0 {
+        ignore(core, Ignored::WindowUpdateByZero)
+    } else {
+        ignore(core, reason)
+    }
+}
+
 /// WINDOW_UPDATE on a stream (RFC 9113, 6.9): its send window rises by `increment`, 0 to 2147483647; on a stream that
 /// is closed it is ignored.
 ///
@@ -54,8 +70,12 @@ pub fn on_window(core: ConnectionState, increment: u32, stream: Stream) -> React
 {
     match stream.kind {
         StreamState::Idle => Reaction::ConnectionError(Cause::WindowUpdateOnIdle),
-        StreamState::Skipped | StreamState::Ended | StreamState::PeerReset | StreamState::WeReset =>
-            { Reaction::Continues(only_counts(core)) }
+        StreamState::Skipped => increment_ignored(core, increment, Ignored::WindowUpdateOnSkipped),
+        StreamState::Ended => increment_ignored(core, increment, Ignored::WindowUpdateOnClosed),
+        StreamState::PeerReset => {
+            increment_ignored(core, increment, Ignored::WindowUpdateOnPeerReset)
+        }
+        StreamState::WeReset => increment_ignored(core, increment, Ignored::WindowUpdateOnReset),
         StreamState::BothOpen | StreamState::HalfLocal | StreamState::HalfRemote => {
             let outcome = window_outcome(increment, stream);
             Reaction::Continues(with_outcome(only_counts(core), outcome))

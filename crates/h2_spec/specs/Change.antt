@@ -4,6 +4,7 @@ use Rattle.h2_spec.specs.declared.causes.Cause.{Cause}
 use Rattle.h2_spec.specs.declared.connection.ConnectionState.{ConnectionState}
 use Rattle.h2_spec.specs.declared.connection.Phase.TheVariants as phase
 use Rattle.h2_spec.specs.declared.errors.ErrorCode.{ErrorCode}
+use Rattle.h2_spec.specs.declared.ignored.Ignored.{Ignored}
 use Rattle.h2_spec.specs.declared.reactions.Answering.{Answering}
 use Rattle.h2_spec.specs.declared.reactions.Change.{Change}
 use Rattle.h2_spec.specs.declared.reactions.ConnectionFrame.{ConnectionFrame}
@@ -46,7 +47,11 @@ unless_broken None id turn = turn
 
 -- nothing but the counts changes, and nothing is sent
 abbrev pub only_counts : ConnectionState → Change
-only_counts core = record { core = core; record_update = Unchanged; connection_frame = NoConnectionFrame; stream_frame = NoStreamFrame; answer = None }
+only_counts core = record { core = core; record_update = Unchanged; connection_frame = NoConnectionFrame; stream_frame = NoStreamFrame; answer = None; ignored = None }
+
+-- what changes for an item that is ignored for this reason
+abbrev pub ignoring : Ignored → Change → Change
+ignoring reason c = record c { ignored = Some reason }
 
 -- whether the next response begins with a table size update (RFC 7541, 4.2)
 abbrev pub with_size_update_pending : ConnectionState → Bool → ConnectionState
@@ -70,6 +75,7 @@ with_outcome c t = record {
   connection_frame = c.connection_frame;
   stream_frame = t.frame;
   answer = answer_begun c.core.peer.size_update_pending t.stream.id t.answer;
+  ignored = None;
 }
 
 -- streams whose send windows settings move (6.9.2)

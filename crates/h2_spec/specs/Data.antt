@@ -4,6 +4,7 @@ use Rattle.h2_spec.specs.declared.causes.Cause.{Cause}
 use Rattle.h2_spec.specs.declared.causes.Cause.TheVariants.{ConnectionWindowExceeded, StreamWindowExceeded, ContentTooLong, ContentTooShort}
 use Rattle.h2_spec.specs.declared.connection.Config.{Config}
 use Rattle.h2_spec.specs.declared.connection.ConnectionState.{ConnectionState}
+use Rattle.h2_spec.specs.declared.ignored.Ignored.{Ignored}
 use Rattle.h2_spec.specs.declared.reactions.ReceivedData.{ReceivedData}
 use Rattle.h2_spec.specs.declared.reactions.Change.{Change}
 use Rattle.h2_spec.specs.declared.reactions.ConnectionFrame.TheVariants.{Credit}
@@ -13,7 +14,7 @@ use Rattle.h2_spec.specs.declared.reactions.StreamFrame.TheVariants.{StreamCredi
 use Rattle.h2_spec.specs.declared.reactions.StreamOutcome.{StreamOutcome}
 use Rattle.h2_spec.specs.declared.streams.Stream.{Stream}
 use Rattle.h2_spec.specs.Window.{given_back}
-use Rattle.h2_spec.specs.Change.{only_counts, with_outcome, outcome_without_frame, stream_error, unless_broken}
+use Rattle.h2_spec.specs.Change.{only_counts, ignoring, with_outcome, outcome_without_frame, stream_error, unless_broken}
 use Rattle.h2_spec.specs.StreamEnds.{peer_ended}
 
 -- ---- on the connection
@@ -93,7 +94,7 @@ unfolding counted with_outcome
 data_refused config core d st cause =
     if_within core d.octets (with_outcome (counted config.credit core d.octets) (stream_error st.id cause))
 
--- DATA that is counted on the connection alone
-unfoldable pub data_counted : Config → ConnectionState → ReceivedData → Reaction
+-- DATA that is counted on the connection alone, and ignored for this reason
+unfoldable pub data_counted : Config → ConnectionState → ReceivedData → Ignored → Reaction
 unfolding counted
-data_counted config core d = if_within core d.octets (counted config.credit core d.octets)
+data_counted config core d reason = if_within core d.octets (ignoring reason (counted config.credit core d.octets))

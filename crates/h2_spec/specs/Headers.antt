@@ -8,6 +8,8 @@ use Rattle.h2_spec.specs.declared.connection.ConnectionState.{ConnectionState}
 use Rattle.h2_spec.specs.declared.connection.Purpose.{Purpose}
 use Rattle.h2_spec.specs.declared.connection.Purpose.TheVariants.{Request, Trailers, Closed, TableOnly}
 use Rattle.h2_spec.specs.declared.frames.Head.{Head}
+use Rattle.h2_spec.specs.declared.ignored.Ignored.{Ignored}
+use Rattle.h2_spec.specs.declared.ignored.Ignored.TheVariants.{TableOnlyBlock}
 use Rattle.h2_spec.specs.declared.reactions.Change.{Change}
 use Rattle.h2_spec.specs.declared.reactions.BlockSummary.{BlockSummary}
 use Rattle.h2_spec.specs.declared.reactions.Reaction.{Reaction}
@@ -24,7 +26,7 @@ use Rattle.h2_spec.specs.Request.{request_fault, trailers_fault, declared_length
 use Rattle.h2_spec.specs.Answer.{Entry, pick_of, picked}
 use Rattle.h2_spec.specs.Stream.{stream_at, live_count}
 use Rattle.h2_spec.specs.State.{State, OpenBlock, Decoding, is_due}
-use Rattle.h2_spec.specs.Change.{only_counts, with_outcome, outcome_without_frame, stream_error, unless_broken}
+use Rattle.h2_spec.specs.Change.{only_counts, ignoring, with_outcome, outcome_without_frame, stream_error, unless_broken}
 use Rattle.h2_spec.specs.StreamEnds.{answered, peer_ended}
 use Rattle.h2_spec.specs.Data.{length_broken}
 
@@ -103,7 +105,7 @@ abbrev pub block_ends : State → ℕ → Bool → List Field → Purpose → Ch
 block_ends s id ends fields Request = request_ends s id ends fields
 block_ends s id ends fields Trailers = trailers_end s id ends fields
 block_ends s id ends fields Closed = with_outcome (only_counts s.core) (stream_error id HeadersAfterEndStream)
-block_ends s id ends fields TableOnly = only_counts s.core
+block_ends s id ends fields TableOnly = ignoring TableOnlyBlock (only_counts s.core)
 
 -- ---- fragments
 
@@ -121,9 +123,20 @@ makes s (Continues c) = Makes s c
 abbrev pub with_block : State → Option OpenBlock → State
 with_block s b = record s { block = b }
 
+-- a fragment of a block that only the header table follows is ignored for that reason (4.3)
+abbrev pub fragment_ignored : Purpose → Option Ignored
+fragment_ignored Request = None
+fragment_ignored Trailers = None
+fragment_ignored Closed = None
+fragment_ignored TableOnly = Some TableOnlyBlock
+
+-- what changes for a fragment after which its block goes on
+abbrev pub goes_on : ConnectionState → Purpose → Change
+goes_on core purpose = record (only_counts core) { ignored = fragment_ignored purpose }
+
 -- the fragments so far are decoded, up to the beginning of an instruction
 abbrev pub fragment_read : State → BlockView → Decoding → Bool → FrameEffect
-fragment_read s b d false = Makes (with_block s (Some (record { shown = b; decoding = Some d }))) (only_counts s.core)
+fragment_read s b d false = Makes (with_block s (Some (record { shown = b; decoding = Some d }))) (goes_on s.core d.purpose)
 fragment_read s b d true =
     if not (length d.rest == 0) then Breaks BlockTruncated
     else if d.due then Breaks SizeUpdateMissing

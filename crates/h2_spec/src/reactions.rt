@@ -3,6 +3,7 @@
 
 use crate::causes::Cause;
 use crate::connection::ConnectionState;
+use crate::ignored::Ignored;
 use crate::streams::{Pick, Stream};
 
 /// What becomes of the streams' records.
@@ -74,6 +75,8 @@ pub struct Change {
     pub stream_frame: StreamFrame,
     /// The answer whose HEADERS are sent after both, if one begins.
     pub answer: Option<Answering>,
+    /// Why the item is ignored, if it is; nothing changes then but what the reason leaves to change.
+    pub ignored: Option<Ignored>,
 }
 
 /// What an item results in: a connection error, or a change (RFC 9113, 5.4).
@@ -81,6 +84,15 @@ pub struct Change {
 pub enum Reaction {
     ConnectionError(Cause),
     Continues(Change),
+}
+
+/// How an item was judged: an error for a cause, ignored for a reason, or neither (RFC 9113, 5.4).
+#[derive(Clone, Copy)]
+pub struct Verdict {
+    /// Why it is a connection error or a stream error, if it is one.
+    pub cause: Option<Cause>,
+    /// Why it is ignored, if it is.
+    pub ignored: Option<Ignored>,
 }
 
 /// DATA that comes: its octets, those of its content, and whether it ends the peer's side.
