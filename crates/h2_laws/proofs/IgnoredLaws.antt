@@ -34,10 +34,10 @@ use Rattle.h2_spec.specs.State.{State, OpenBlock, Decoding, configured}
 use Rattle.h2_spec.specs.Change.{Step, only_counts, ignoring, stream_error, with_outcome, frames_of}
 use Rattle.h2_spec.specs.Checks.{refusal}
 use Rattle.h2_spec.specs.ReactionTable.{Error, Rule, ResetRule, PeerResets, WindowRule, MoveWindow, data_cell, headers_cell, reset_cell, window_cell, run_cell}
-use Rattle.h2_spec.specs.SettingsFrame.{comes_into_force, settings_applied, settings_rule, settings_taken}
+use Rattle.h2_spec.specs.SettingsFrame.{comes_into_force, settings_applied, settings_taken}
 use Rattle.h2_spec.specs.WindowUpdate.{connection_window}
 use Rattle.h2_spec.specs.Data.{owed_as, owed_on_connection, counted, data_counted, data_outcome, data_refused, data_taken, if_within}
-use Rattle.h2_spec.specs.Headers.{FrameEffect, Breaks, Makes, makes, max_block, block_ends, block_opens, fragment_read, fragment_decoded, decoded_with, fragment, fresh_block, fresh_decoding, continued, continuation, fragment_ignored, goes_on}
+use Rattle.h2_spec.specs.Headers.{FrameEffect, Breaks, Makes, makes, max_block, block_ends, block_opens, fragment_read, fragment_decoded, decoded_with, fragment, fresh_block, fresh_decoding, continued, continuation, fragment_ignored}
 use Rattle.h2_spec.specs.Effect.{ignore, data_rule, on_data, on_reset, on_window, on_headers, reset_rule, window_rule, frame_effect, part_effect, checked_effect, block_stream, item_effect, concluded, effect, effect_cause, effect_ignored, cause_of}
 use Rattle.h2_spec.specs.Ignored.{ignored_of, changes_nothing}
 use Rattle.h2_laws.specs.IgnoredList.{reset_ignored, window_ignored, is_zero, where_reset, reason_if, decoding_ignored, block_ignored, kind_at, settings_ignored, frame_ignored, item_ignored, unless_caused, ignored_as_listed}

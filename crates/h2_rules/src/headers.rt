@@ -19,7 +19,7 @@ use h2_spec::reactions::{BlockSummary, StreamOutcome};
 use h2_spec::streams::{Numbers, Stream, StreamState};
 
 /// The largest list of fields, in octets (RFC 9113, 10.5.1).
-const MAX_LIST: u64 = 65_536;
+pub const MAX_LIST: u32 = 65_536;
 
 /// A stream that a request opens.
 #[tactic(auto, unfolding(h2_spec::specs::Stream::octets_waiting))]
@@ -58,7 +58,7 @@ fn is_full(config: Config, live: usize) -> bool
 pub fn is_too_large(size: u64) -> bool
     ensures { result ≡ nat_lt rule.max_list size }
 {
-    MAX_LIST < size
+    u64::from(MAX_LIST) < size
 }
 
 /// Whether a content-length other than 0 is declared.
