@@ -28,7 +28,7 @@ pub returns-in-TableOnly-clause-rule : goal.returns-in-TableOnly-clause-rule
 returns-in-TableOnly-clause-rule g c = λ b table.
     let a = c.args in
     let s = state_of a.book.now a.config a.core b table a.streams.now.streams in
-    c.only_counts.ensures ∙ ap (λ (p : Purpose). rule.block_ends s a.shown.now.stream a.shown.now.ends a.fields.now.fields p) (sym c.in-TableOnly.is)
+    c.goes_on.ensures ∙ ap (λ (p : Purpose). rule.goes_on a.core p) c.in-TableOnly.is ∙ ap (λ (p : Purpose). rule.block_ends s a.shown.now.stream a.shown.now.ends a.fields.now.fields p) (sym c.in-TableOnly.is)
 
 pub returns-in-Closed-clause-sound : goal.returns-in-Closed-clause-sound
 returns-in-Closed-clause-sound g c = c.closed_end.ensures.sound
@@ -37,4 +37,4 @@ pub returns-in-TableOnly-clause-sound : goal.returns-in-TableOnly-clause-sound
 returns-in-TableOnly-clause-sound g c =
     let a = c.args in
     let P : Change → Type 0 = λ x. IsSoundChange a.book.now a.streams.now (in_force a.core) x in
-    subst P (sym c.only_counts.ensures) (c.requires.sound.counts, (refl, sym c.requires.sound.last))
+    subst P (sym c.goes_on.ensures) (c.requires.sound.counts, (refl, sym c.requires.sound.last))
