@@ -181,11 +181,7 @@ impl<'b, A: Allocator + Copy> State<'b, A> {
 
     /// A connection error or a change, or nothing; no block is open that is still decoded.
     #[inline(always)]
-    fn conclude(
-        &mut self,
-        reaction: Reaction,
-        out: &mut Vec<u8, A>,
-    ) -> Result<Verdict, AllocError>
+    fn conclude(&mut self, reaction: Reaction, out: &mut Vec<u8, A>) -> Result<Verdict, AllocError>
         requires stopped { IsStopped self.old.block }
         requires sound { IsSound self.old.book (records self.old) (in_force self.old.core) reaction }
         ensures ok { OnOk result (Does (stepped (rule.concluded self.old (makes self.old reaction))) out.old.items self.new out.new.items) }
@@ -348,11 +344,7 @@ impl<'b, A: Allocator + Copy> State<'b, A> {
 
     /// A frame that is ignored for this reason is taken.
     #[inline(never)]
-    fn take_ignored(
-        &mut self,
-        reason: Ignored,
-        out: &mut Vec<u8, A>,
-    ) -> Result<Verdict, AllocError>
+    fn take_ignored(&mut self, reason: Ignored, out: &mut Vec<u8, A>) -> Result<Verdict, AllocError>
         requires stopped { IsStopped self.old.block }
         ensures ok { OnOk result (Does (stepped (rule.concluded self.old (makes self.old (rule.ignore self.old.core reason)))) out.old.items self.new out.new.items) }
         ensures verdict { IfOk result (λ verdict. verdict ≡ rule.effect_verdict (makes self.old (rule.ignore self.old.core reason))) }
@@ -459,11 +451,7 @@ impl<'b, A: Allocator + Copy> State<'b, A> {
 
     /// A frame: the checks of its head, the form of its payload, and then what it holds.
     #[tactic(auto, unfolding(h2_spec::specs::Effect::effect, h2_spec::specs::Effect::cause_of, h2_spec::specs::Ignored::ignored_of))]
-    fn on_frame(
-        &mut self,
-        frame: FrameRef<'_>,
-        out: &mut Vec<u8, A>,
-    ) -> Result<Verdict, AllocError>
+    fn on_frame(&mut self, frame: FrameRef<'_>, out: &mut Vec<u8, A>) -> Result<Verdict, AllocError>
         requires fits { length frame.payload.now < 2 ^ 24 }
         ensures ok { OnOk result (Does (stepped (rule.effect self.old (WholeFrame frame.entry.head frame.entry.payload.now))) out.old.items self.new out.new.items) }
         ensures verdict { IfOk result (λ verdict. verdict ≡ record { cause = rule.cause_of self.old (WholeFrame frame.entry.head frame.entry.payload.now); ignored = ignored_of self.old (WholeFrame frame.entry.head frame.entry.payload.now) }) }
@@ -499,11 +487,7 @@ impl<'b, A: Allocator + Copy> State<'b, A> {
     /// `AllocError` where memory was refused: the state, its open block included, and `out` are as before the item.
     #[inline(always)]
     #[tactic(auto, unfolding(h2_spec::specs::Effect::effect, h2_spec::specs::Effect::cause_of, h2_spec::specs::Ignored::ignored_of, h2_spec::specs::Trace::step))]
-    pub fn item(
-        &mut self,
-        item: &Item<'_>,
-        out: &mut Vec<u8, A>,
-    ) -> Result<Verdict, AllocError>
+    pub fn item(&mut self, item: &Item<'_>, out: &mut Vec<u8, A>) -> Result<Verdict, AllocError>
         requires short { IsShort (item_of item.now) }
         ensures ok { OnOk result (Does (step self.old (item_of item.now)) out.old.items self.new out.new.items) }
         ensures verdict { IfOk result (λ verdict. verdict ≡ record { cause = rule.cause_of self.old (item_of item.now); ignored = ignored_of self.old (item_of item.now) }) }

@@ -47,10 +47,25 @@ fn opening_payload<A: Allocator>(alloc: A, config: Config) -> Result<Vec<u8, A>,
     let first = LocalSettings::initial();
     // Space for five settings.
     let mut payload = Vec::with_capacity(alloc, 30)?;
-    append_unless(first.table, SETTINGS_HEADER_TABLE_SIZE, config.table, &mut payload)?;
+    append_unless(
+        first.table,
+        SETTINGS_HEADER_TABLE_SIZE,
+        config.table,
+        &mut payload,
+    )?;
     payload.extend_from_slice(&setting_of(SETTINGS_MAX_CONCURRENT_STREAMS, config.streams))?;
-    append_unless(first.window, SETTINGS_INITIAL_WINDOW_SIZE, config.window, &mut payload)?;
-    append_unless(first.frame, SETTINGS_MAX_FRAME_SIZE, config.frame, &mut payload)?;
+    append_unless(
+        first.window,
+        SETTINGS_INITIAL_WINDOW_SIZE,
+        config.window,
+        &mut payload,
+    )?;
+    append_unless(
+        first.frame,
+        SETTINGS_MAX_FRAME_SIZE,
+        config.frame,
+        &mut payload,
+    )?;
     payload.extend_from_slice(&setting_of(SETTINGS_MAX_HEADER_LIST_SIZE, MAX_LIST))?;
     Ok(payload)
 }

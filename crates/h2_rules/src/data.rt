@@ -102,12 +102,7 @@ fn exceeds(window: Window, octets: u32) -> bool
 
 /// DATA on a stream whose peer's side is open: the threshold, and the length of the answer's body.
 #[tactic(auto, unfolding(h2_spec::specs::Data::data_outcome))]
-fn data_outcome(
-    threshold: u32,
-    body: u64,
-    incoming: ReceivedData,
-    stream: Stream,
-) -> StreamOutcome
+fn data_outcome(threshold: u32, body: u64, incoming: ReceivedData, stream: Stream) -> StreamOutcome
     requires credit { IsCredit stream.numbers.recv stream.numbers.owed }
     requires least { IsWindow stream.numbers.recv }
     ensures rule { result ≡ rule.data_outcome threshold body incoming stream }

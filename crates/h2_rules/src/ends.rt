@@ -94,9 +94,7 @@ pub fn peer_ended(body: u64, stream: Stream) -> StreamOutcome
                 answered(body, half)
             }
         }
-        StreamState::HalfLocal => {
-            outcome_without_frame(not_live(stream.id, StreamState::Ended))
-        }
+        StreamState::HalfLocal => { outcome_without_frame(not_live(stream.id, StreamState::Ended)) }
         StreamState::Idle
         | StreamState::Skipped
         | StreamState::HalfRemote
