@@ -34,7 +34,7 @@ use Rattle.h2_spec.specs.State.{State, OpenBlock, Decoding, configured}
 use Rattle.h2_spec.specs.Change.{Step, only_counts, ignoring, stream_error, with_outcome, frames_of}
 use Rattle.h2_spec.specs.Checks.{refusal}
 use Rattle.h2_spec.specs.ReactionTable.{Error, Rule, ResetRule, PeerResets, WindowRule, MoveWindow, data_cell, headers_cell, reset_cell, window_cell, run_cell}
-use Rattle.h2_spec.specs.SettingsFrame.{comes_into_force, settings_applied, settings_taken}
+use Rattle.h2_spec.specs.SettingsFrame.{comes_into_force, settings_applied, settings_rule, settings_taken}
 use Rattle.h2_spec.specs.WindowUpdate.{connection_window}
 use Rattle.h2_spec.specs.Data.{owed_as, owed_on_connection, counted, data_counted, data_outcome, data_refused, data_taken, if_within}
 use Rattle.h2_spec.specs.Headers.{FrameEffect, Breaks, Makes, makes, max_block, block_ends, block_opens, fragment_read, fragment_decoded, decoded_with, fragment, fresh_block, fresh_decoding, continued, continuation, fragment_ignored}
@@ -314,6 +314,7 @@ module _ (s : State) where
   takes-settings (Ok peer) = refl
 
   of-settings : (h : Head) (p : List ℕ) (pairs : List (ℕ × ℕ)) (ack : Bool) → Allowed (frame_effect s h p (settings_or_ack ack pairs)) (settings_ignored ack s.core.acked)
+  unfolding settings_rule
   of-settings h p pairs true = acknowledges s.core.acked
   of-settings h p pairs false = no-reason _ (takes-settings (settings_applied s.streams s.core.peer s.core.peer pairs))
 
