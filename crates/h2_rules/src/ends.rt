@@ -66,10 +66,11 @@ pub fn answered(body: u64, stream: Stream) -> StreamOutcome
     ensures waits { (book : List Entry) → body ≡ length (picked book stream.pick).body → HasBody book stream → HasBody book result.stream }
     ensures recorded { is_recorded stream.kind ≡ true → is_recorded result.stream.kind ≡ true }
 {
+    let pick = stream.pick;
     StreamOutcome {
         stream: begun(body, stream),
         frame: StreamFrame::NoStreamFrame,
-        answer: Some(stream.pick),
+        answer: Some(pick),
     }
 }
 
