@@ -6,11 +6,10 @@ ghost use Rattle.std.specs.List.{filter};
 ghost use Rattle.h2_changes.specs.Changes.{are_same_numbers, are_same_windows, client_table, code_of, connection_changes, counts_table, header_table, is_other, is_same_kind, is_same_pick, is_same_stream, last_of, listed, listed_flag, listed_if_any, numbers_table, own_table, state_row, stops, stream_changes, stream_table};
 
 use crate::count::Count;
-use h2_describe::names::is_live;
 use h2_item::item::Moment;
 use h2_spec::connection::{BlockView, ConnectionState};
 use h2_spec::flow::{Credit, LocalSettings, Settings, Window};
-use h2_spec::streams::{Numbers, Pick, Stream, StreamState};
+use h2_spec::streams::{Numbers, Pick, Stream, StreamState, is_live};
 use std::alloc::{AllocError, Allocator};
 
 /// A value before an item and after it.

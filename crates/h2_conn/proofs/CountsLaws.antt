@@ -9,13 +9,15 @@ use Rattle.h2_spec.specs.declared.reactions.ConnectionFrame.TheVariants.{PingAck
 use Rattle.h2_spec.specs.declared.reactions.Reaction.{Reaction}
 use Rattle.h2_spec.specs.declared.reactions.Reaction.TheVariants.{ConnectionError, Continues}
 use Rattle.h2_spec.specs.declared.reactions.ReceivedData.{ReceivedData}
+use Rattle.h2_spec.specs.declared.ignored.Ignored.{Ignored}
+use Rattle.h2_spec.specs.declared.ignored.Ignored.TheVariants.{DataOnReset, PingAcknowledgement}
 use Rattle.h2_spec.specs.declared.reactions.StreamOutcome.{StreamOutcome}
 use Rattle.h2_spec.specs.declared.streams.StreamState.{StreamState}
 use Rattle.h2_spec.specs.declared.streams.StreamState.TheVariants.{Idle, Skipped, BothOpen, HalfRemote, HalfLocal, Ended, PeerReset, WeReset}
 use Rattle.h2_spec.specs.declared.streams.Stream.{Stream}
-use Rattle.h2_spec.specs.Change.{only_counts, stream_error, with_outcome, with_size_update_pending}
+use Rattle.h2_spec.specs.Change.{ignoring, only_counts, still_pending, stream_error, with_outcome, with_size_update_pending}
 use Rattle.h2_spec.specs.Data.{counted, data_counted, data_outcome, data_refused, data_taken, if_within, owed_as, owed_on_connection}
-use Rattle.h2_spec.specs.Effect.{data_rule, nothing, on_data, on_reset, on_window, reset_outcome, reset_rule, window_rule}
+use Rattle.h2_spec.specs.Effect.{data_rule, ignore, on_data, on_reset, on_window, reset_outcome, reset_rule, window_rule}
 use Rattle.h2_spec.specs.ReactionTable.{data_cell, reset_cell, run_cell, window_cell}
 use Rattle.h2_spec.specs.Window.{given_back, is_above_max}
 use Rattle.h2_spec.specs.WindowUpdate.{connection_window, window_outcome}
@@ -30,11 +32,11 @@ by-test core false r s first second = second
 pub counted-by : (core now : ConnectionState) (r s : Reaction) → r ≡ s → now ≡ core → IsCounted now s → IsCounted core r
 counted-by core now r s same is h = subst (λ (k : ConnectionState). IsCounted k r) is (subst (IsCounted now) (sym same) h)
 
-pub nothing-counted : (core : ConnectionState) → IsCounted core (nothing core)
-nothing-counted core = refl
+pub ignore-counted : (core : ConnectionState) (reason : Ignored) → IsCounted core (ignore core reason)
+ignore-counted core reason = refl
 
-pub ping-counted : (core : ConnectionState) (is_answer : Bool) (octets : List ℕ) → IsCounted core (if is_answer then nothing core else Continues (record (only_counts core) { connection_frame = PingAck octets }))
-ping-counted core is_answer octets = by-test core is_answer (nothing core) (Continues (record (only_counts core) { connection_frame = PingAck octets })) refl refl
+pub ping-counted : (core : ConnectionState) (is_answer : Bool) (octets : List ℕ) → IsCounted core (if is_answer then ignore core PingAcknowledgement else Continues (record (only_counts core) { connection_frame = PingAck octets }))
+ping-counted core is_answer octets = by-test core is_answer (ignore core PingAcknowledgement) (Continues (record (only_counts core) { connection_frame = PingAck octets })) refl refl
 
 pub window-counted : (core : ConnectionState) (n : ℕ) → IsCounted core (connection_window core n)
 unfolding connection_window
@@ -46,16 +48,16 @@ window-counted core n =
 -- a change that leaves them, and then what a rule does to one stream
 outcome-counted : (core : ConnectionState) (c : Change) (t : StreamOutcome) → c.core ≡ with_counts core c.core → (with_outcome c t).core ≡ with_counts core (with_outcome c t).core
 unfolding with_outcome
-outcome-counted core c t h = ap (λ (k : ConnectionState). with_size_update_pending k t.size_update_pending) h
+outcome-counted core c t h = ap (λ (k : ConnectionState). with_size_update_pending k (still_pending c.core.peer.size_update_pending t.answer)) h
 
 pub stream-window-counted : (core : ConnectionState) (n : ℕ) (st : Stream) → IsCounted core (on_window core n st)
 unfolding on_window
 stream-window-counted core n st = at st.kind
   where
-    moved : (with_outcome (only_counts core) (window_outcome core.peer.size_update_pending n st)).core ≡ with_counts core (with_outcome (only_counts core) (window_outcome core.peer.size_update_pending n st)).core
-    moved = outcome-counted core (only_counts core) (window_outcome core.peer.size_update_pending n st) refl
+    moved : (with_outcome (only_counts core) (window_outcome n st)).core ≡ with_counts core (with_outcome (only_counts core) (window_outcome n st)).core
+    moved = outcome-counted core (only_counts core) (window_outcome n st) refl
 
-    at : (kind : StreamState) → IsCounted core (run_cell ConnectionError (nothing core) (λ rule. window_rule rule core n st) (window_cell kind))
+    at : (kind : StreamState) → IsCounted core (run_cell ConnectionError (ignore core) (λ rule. window_rule rule core n st) (window_cell (n == 0) kind))
     at Idle = tt
     at Skipped = refl
     at BothOpen = moved
@@ -69,10 +71,10 @@ pub reset-counted : (core : ConnectionState) (st : Stream) → IsCounted core (o
 unfolding on_reset
 reset-counted core st = at st.kind
   where
-    moved : (with_outcome (only_counts core) (reset_outcome core.peer.size_update_pending st)).core ≡ with_counts core (with_outcome (only_counts core) (reset_outcome core.peer.size_update_pending st)).core
-    moved = outcome-counted core (only_counts core) (reset_outcome core.peer.size_update_pending st) refl
+    moved : (with_outcome (only_counts core) (reset_outcome st)).core ≡ with_counts core (with_outcome (only_counts core) (reset_outcome st)).core
+    moved = outcome-counted core (only_counts core) (reset_outcome st) refl
 
-    at : (kind : StreamState) → IsCounted core (run_cell ConnectionError (nothing core) (λ rule. reset_rule rule core st) (reset_cell kind))
+    at : (kind : StreamState) → IsCounted core (run_cell ConnectionError (ignore core) (λ rule. reset_rule rule core st) (reset_cell kind))
     at Idle = tt
     at Skipped = refl
     at BothOpen = moved
@@ -108,15 +110,15 @@ data-counted config core body d st = at st.kind
     with t = within-counted core d.octets (with_outcome change t) (outcome-counted core change t (counted-counted config.credit core d.octets))
 
     taken : IsCounted core (data_taken config core body d st)
-    taken = with (data_outcome config.credit core.peer.size_update_pending body d st)
+    taken = with (data_outcome config.credit body d st)
 
     refused : IsCounted core (data_refused config core d st DataAfterEndStream)
-    refused = with (stream_error core.peer.size_update_pending st.id DataAfterEndStream)
+    refused = with (stream_error st.id DataAfterEndStream)
 
-    counting : IsCounted core (data_counted config core d)
-    counting = within-counted core d.octets change (counted-counted config.credit core d.octets)
+    counting : IsCounted core (data_counted config core d DataOnReset)
+    counting = within-counted core d.octets (ignoring DataOnReset change) (counted-counted config.credit core d.octets)
 
-    at : (kind : StreamState) → IsCounted core (run_cell ConnectionError (nothing core) (λ rule. data_rule rule config core body d st) (data_cell kind))
+    at : (kind : StreamState) → IsCounted core (run_cell ConnectionError (ignore core) (λ rule. data_rule rule config core body d st) (data_cell kind))
     at Idle = tt
     at Skipped = tt
     at BothOpen = taken

@@ -22,17 +22,18 @@ use Rattle.h2_spec.specs.declared.reactions.Reaction.TheVariants.{ConnectionErro
 use Rattle.h2_spec.specs.declared.reactions.ReceivedData.{ReceivedData}
 use Rattle.h2_spec.specs.declared.reactions.RecordUpdate.{RecordUpdate}
 use Rattle.h2_spec.specs.declared.reactions.RecordUpdate.TheVariants.{Unchanged, Put, Shift, Receive}
+use Rattle.h2_spec.specs.declared.ignored.Ignored.TheVariants.{DataOnReset, PingAcknowledgement, SecondAcknowledgement}
 use Rattle.h2_spec.specs.declared.reactions.StreamOutcome.{StreamOutcome}
 use Rattle.h2_spec.specs.declared.streams.StreamState.{StreamState}
 use Rattle.h2_spec.specs.declared.streams.StreamState.TheVariants.{Idle, Skipped, BothOpen, HalfRemote, HalfLocal, Ended, PeerReset, WeReset}
 use Rattle.h2_spec.specs.declared.streams.Stream.{Stream}
 use Rattle.h2_spec.specs.Answer.{Entry}
 use Rattle.h2_spec.specs.Block.{Decoded, Outcome, Unfinished, Faulty, list_size}
-use Rattle.h2_spec.specs.Change.{after, follows_initial_window, made, moved_by, only_counts, received, received_one, shifted, shifted_one, stream_error, updated_streams, with_outcome, with_recv, with_send}
+use Rattle.h2_spec.specs.Change.{after, follows_initial_window, ignoring, made, moved_by, only_counts, received, received_one, shifted, shifted_one, stream_error, updated_streams, with_outcome, with_recv, with_send}
 use Rattle.h2_spec.specs.Checks.{refusal}
 use Rattle.h2_spec.specs.Data.{counted, owed_on_connection, owed_as, if_within, data_taken, data_refused, data_counted, data_outcome}
 use Rattle.h2_spec.specs.DynamicTable.{Table}
-use Rattle.h2_spec.specs.Effect.{block_stream, body_length, checked_effect, concluded, data_rule, effect, frame_effect, incoming, item_effect, nothing, on_data, on_headers, on_reset, on_window, part_effect, reset_outcome, reset_rule, window_rule}
+use Rattle.h2_spec.specs.Effect.{block_stream, body_length, checked_effect, concluded, data_rule, effect, frame_effect, incoming, item_effect, ignore, on_data, on_headers, on_reset, on_window, part_effect, reset_outcome, reset_rule, window_rule}
 use Rattle.h2_spec.specs.Field.{Field}
 use Rattle.h2_spec.specs.Frame.{Item, Preface, BadPreface, WholeFrame, Oversize}
 use Rattle.h2_spec.specs.FrameType.{ACK, END_HEADERS, has}
@@ -349,14 +350,14 @@ module _ (s : State) (j : ℕ) where
   data-result d = at st.kind refl
     where
       take : is_live st.kind ≡ true → MayResult s (makes s (data_taken s.config s.core (body_length s.book st) d st))
-      take l = within s d.octets (with_outcome (counted s.config.credit s.core d.octets) (data_outcome s.config.credit s.core.peer.size_update_pending (body_length s.book st) d st))
-          (outcome-update s (counted s.config.credit s.core d.octets) j (data_outcome s.config.credit s.core.peer.size_update_pending (body_length s.book st) d st) l (data_turn-proper s.book s.config.credit s.core.peer.size_update_pending d st))
+      take l = within s d.octets (with_outcome (counted s.config.credit s.core d.octets) (data_outcome s.config.credit (body_length s.book st) d st))
+          (outcome-update s (counted s.config.credit s.core d.octets) j (data_outcome s.config.credit (body_length s.book st) d st) l (data_turn-proper s.book s.config.credit d st))
 
       refuse : is_live st.kind ≡ true → MayResult s (makes s (data_refused s.config s.core d st DataAfterEndStream))
-      refuse l = within s d.octets (with_outcome (counted s.config.credit s.core d.octets) (stream_error s.core.peer.size_update_pending st.id DataAfterEndStream))
-          (outcome-update s (counted s.config.credit s.core d.octets) j (stream_error s.core.peer.size_update_pending st.id DataAfterEndStream) l (error-proper s.book s.core.peer.size_update_pending st DataAfterEndStream))
+      refuse l = within s d.octets (with_outcome (counted s.config.credit s.core d.octets) (stream_error st.id DataAfterEndStream))
+          (outcome-update s (counted s.config.credit s.core d.octets) j (stream_error st.id DataAfterEndStream) l (error-proper s.book st DataAfterEndStream))
 
-      at : (k : StreamState) → st.kind ≡ k → MayResult s (makes s (run_cell ConnectionError (nothing s.core) (λ rule. data_rule rule s.config s.core (body_length s.book st) d st) (data_cell k)))
+      at : (k : StreamState) → st.kind ≡ k → MayResult s (makes s (run_cell ConnectionError (ignore s.core) (λ rule. data_rule rule s.config s.core (body_length s.book st) d st) (data_cell k)))
       at Idle e = tt
       at Skipped e = tt
       at BothOpen e = take (ap is_live e)
@@ -364,41 +365,41 @@ module _ (s : State) (j : ℕ) where
       at HalfLocal e = take (ap is_live e)
       at Ended e = tt
       at PeerReset e = tt
-      at WeReset e = within s d.octets (counted s.config.credit s.core d.octets) (counted-update s s.config.credit d.octets)
+      at WeReset e = within s d.octets (ignoring DataOnReset (counted s.config.credit s.core d.octets)) (counted-update s s.config.credit d.octets)
 
   reset-result : MayResult s (makes s (on_reset s.core st))
   unfolding on_reset
   reset-result = at st.kind refl
     where
-      live : is_live st.kind ≡ true → MayResult s (makes s (Continues (with_outcome (only_counts s.core) (reset_outcome s.core.peer.size_update_pending st))))
-      live l = stays s (with_outcome (only_counts s.core) (reset_outcome s.core.peer.size_update_pending st)) (outcome-update s (only_counts s.core) j (reset_outcome s.core.peer.size_update_pending st) l (reset_turn-proper s.book s.core.peer.size_update_pending st))
+      live : is_live st.kind ≡ true → MayResult s (makes s (Continues (with_outcome (only_counts s.core) (reset_outcome st))))
+      live l = stays s (with_outcome (only_counts s.core) (reset_outcome st)) (outcome-update s (only_counts s.core) j (reset_outcome st) l (reset_turn-proper s.book st))
 
-      at : (k : StreamState) → st.kind ≡ k → MayResult s (makes s (run_cell ConnectionError (nothing s.core) (λ r. reset_rule r s.core st) (reset_cell k)))
+      at : (k : StreamState) → st.kind ≡ k → MayResult s (makes s (run_cell ConnectionError (ignore s.core) (λ r. reset_rule r s.core st) (reset_cell k)))
       at Idle e = tt
-      at Skipped e = stays s (only_counts s.core) tt
+      at Skipped e = stays s _ tt
       at BothOpen e = live (ap is_live e)
       at HalfRemote e = live (ap is_live e)
       at HalfLocal e = live (ap is_live e)
-      at Ended e = stays s (only_counts s.core) tt
-      at PeerReset e = stays s (only_counts s.core) tt
-      at WeReset e = stays s (only_counts s.core) tt
+      at Ended e = stays s _ tt
+      at PeerReset e = stays s _ tt
+      at WeReset e = stays s _ tt
 
   window-result : (i : ℕ) → MayResult s (makes s (on_window s.core i st))
   unfolding on_window
   window-result i = at st.kind refl
     where
-      live : is_live st.kind ≡ true → MayResult s (makes s (Continues (with_outcome (only_counts s.core) (window_outcome s.core.peer.size_update_pending i st))))
-      live l = stays s (with_outcome (only_counts s.core) (window_outcome s.core.peer.size_update_pending i st)) (outcome-update s (only_counts s.core) j (window_outcome s.core.peer.size_update_pending i st) l (window_turn-proper s.book s.core.peer.size_update_pending i st))
+      live : is_live st.kind ≡ true → MayResult s (makes s (Continues (with_outcome (only_counts s.core) (window_outcome i st))))
+      live l = stays s (with_outcome (only_counts s.core) (window_outcome i st)) (outcome-update s (only_counts s.core) j (window_outcome i st) l (window_turn-proper s.book i st))
 
-      at : (k : StreamState) → st.kind ≡ k → MayResult s (makes s (run_cell ConnectionError (nothing s.core) (λ r. window_rule r s.core i st) (window_cell k)))
+      at : (k : StreamState) → st.kind ≡ k → MayResult s (makes s (run_cell ConnectionError (ignore s.core) (λ r. window_rule r s.core i st) (window_cell (eqb i 0) k)))
       at Idle e = tt
-      at Skipped e = stays s (only_counts s.core) tt
+      at Skipped e = stays s _ tt
       at BothOpen e = live (ap is_live e)
       at HalfRemote e = live (ap is_live e)
       at HalfLocal e = live (ap is_live e)
-      at Ended e = stays s (only_counts s.core) tt
-      at PeerReset e = stays s (only_counts s.core) tt
-      at WeReset e = stays s (only_counts s.core) tt
+      at Ended e = stays s _ tt
+      at PeerReset e = stays s _ tt
+      at WeReset e = stays s _ tt
 
 connection-result : (s : State) (i : ℕ) → MayResult s (makes s (connection_window s.core i))
 unfolding connection_window
@@ -432,7 +433,7 @@ ends-update : (s : State) (table : Table) (id : ℕ) (ends : Bool) (fields : Lis
 ends-update s table id ends fields Request h =
     let f : BlockSummary = request_summary s.book fields in
     put-same s _ id _ (request_turn-proper s.book s.config (live_count s.streams) s.core id ends f).same_id h
-ends-update s table id ends fields Trailers h = outcome-update s _ id _ h (trailers_turn-proper s.book (list_size fields) _ s.core.peer.size_update_pending ends (stream_at s.core.last s.streams id))
+ends-update s table id ends fields Trailers h = outcome-update s _ id _ h (trailers_turn-proper s.book (list_size fields) _ ends (stream_at s.core.last s.streams id))
 ends-update s table id ends fields Closed h = put-same s _ id _ refl h
 ends-update s table id ends fields TableOnly h = tt
 
@@ -562,9 +563,9 @@ part-result s h p x (OfHeaders part) = headers-result s h part x
 part-result s h p x OfPriority = stays s _ tt
 part-result s h p x (OfRstStream code) = reset-result s h.stream
 part-result s h p x (OfSettings pairs) = settings-result s pairs
-part-result s h p x OfSettingsAck = either s s.core.acked (Continues (only_counts s.core)) (Continues (comes_into_force s.core (configured s.config))) (stays s _ tt) (stays s _ tt)
+part-result s h p x OfSettingsAck = either s s.core.acked (Continues (ignoring SecondAcknowledgement (only_counts s.core))) (Continues (comes_into_force s.core (configured s.config))) (stays s _ tt) (stays s _ tt)
 part-result s h p x OfPushPromise = tt
-part-result s h p x (OfPing octets) = either s (has h.flags ACK) (nothing s.core) (Continues (record (only_counts s.core) { connection_frame = PingAck octets })) (stays s _ tt) (stays s _ tt)
+part-result s h p x (OfPing octets) = either s (has h.flags ACK) (ignore s.core PingAcknowledgement) (Continues (record (only_counts s.core) { connection_frame = PingAck octets })) (stays s _ tt) (stays s _ tt)
 part-result s h p x (OfGoaway last code) = stays s _ tt
 part-result s h p x (OfWindowUpdate n) = at (eqb h.stream 0)
   where

@@ -1,6 +1,5 @@
 -- What a fragment that is decoded results in.
-use Rattle.std.proofs.Common.{◌≡◌, ◌≢◌, ℕ, Bool, true, false, cond, ◌+◌, nat_lt, List, ◌++◌, length, Some, None, not, refl, sym, ap, subst, ◌∙◌, ◌==◌, ◌≤◌, arith}
-use Rattle.std.proofs.lemmas.Bool.Decides.{nat_tests}
+use Rattle.std.proofs.Common.{◌≡◌, ◌≢◌, ℕ, Bool, true, false, cond, ◌+◌, nat_lt, List, ◌++◌, length, Some, None, not, refl, sym, ap, subst, ◌∙◌, ◌==◌}
 use Rattle.std.proofs.lemmas.Option.{none-some}
 use Rattle.h2_fields.specs.Blocks.{faulted}
 use Rattle.h2_fields.specs.declared.fault.BlockFault.{BlockFault}
@@ -12,16 +11,16 @@ use Rattle.h2_spec.specs.declared.causes.Cause.TheVariants.{BlockTooLarge, Block
 use Rattle.h2_fields.specs.Faults.{fault_of}
 use Rattle.h2_spec.specs.Block.{Fault, ZeroIndex, Index, Integer, Huffman, LateUpdate, LargeUpdate, MissingUpdate, Decoded, Faulty, Outcome, Unfinished, decoded, list_size}
 use Rattle.h2_spec.specs.declared.reactions.Change.{Change}
-use Rattle.h2_spec.specs.Change.{only_counts}
 use Rattle.h2_spec.specs.DynamicTable.{LimitedTable, Table}
 use Rattle.h2_spec.specs.Field.{Field}
 use Rattle.h2_spec.specs.Headers as headers
-use Rattle.h2_spec.specs.Headers.{FrameEffect, fragment_decoded, fragment_read, fault_cause}
+use Rattle.h2_spec.specs.Headers.{FrameEffect, fragment_decoded, fragment_read, fault_cause, goes_on}
 use Rattle.h2_spec.specs.State as state
 use Rattle.h2_spec.specs.Stream.{Records}
 use Rattle.h2_rules.specs.Sound.{IsSoundConnectionState, in_force}
 use Rattle.h2_table.specs.Edits.{EditOf, IsEdit}
-use Rattle.h2_conn.specs.Blocks.{IsOpenAt, IsSoundEffect, bad_end, block_after, cause_by}
+use Rattle.h2_rules.specs.Block.{cause_by}
+use Rattle.h2_conn.specs.Blocks.{IsOpenAt, IsSoundEffect, bad_end, block_after}
 use Rattle.h2_conn.specs.declared.block.FragmentEffect.TheVariants.{Makes}
 use Rattle.h2_conn.specs.Sending.{records}
 use Rattle.h2_conn.specs.Fragments.{HasFault, after_fragment, before_fragment}
@@ -109,21 +108,17 @@ read-ended s b d ends change purpose fields e h named is rule =
     ∙ sym (read-good s b d ends e h)
 
 -- a block that goes on
-pub read-begun : (s : state.State) (b : BlockView) (d : state.Decoding) (ends : Bool) (change : Change) → ends ≡ false → change ≡ only_counts s.core →
+pub read-begun : (s : state.State) (b : BlockView) (d : state.Decoding) (ends : Bool) (change : Change) → ends ≡ false → change ≡ goes_on s.core d.purpose →
     headers.Makes (headers.with_block s (block_after (Some b) d)) change ≡ fragment_read s b d ends
 read-begun s b d false change e is = ap (λ (c : Change). headers.Makes (headers.with_block s (block_after (Some b) d)) c) is
 read-begun s b d true change e is = cc
-
--- a block that is not too large
-pub few-octets : (n : ℕ) → n ≤ 65536 → nat_lt 65536 n ≡ false
-few-octets n most = grind (arith, nat_tests, most)
 
 -- with the last stream as the counts have it
 pub same-records : (r : Records) (last : ℕ) → r.last ≡ last → record { streams = r.streams; last = last } ≡ r
 same-records r last e = ap (λ (l : ℕ). record { streams = r.streams; last = l }) (sym e)
 
 -- it keeps what is true of every connection
-pub goes-on-sound : (s : state.State) (b : BlockView) (d : state.Decoding) (change : Change) (base : LimitedTable) (edit : EditOf) → change ≡ only_counts s.core → IsSoundConnectionState s.core → IsEdit base edit → IsOpenAt (records s) b.stream d.purpose →
+pub goes-on-sound : (s : state.State) (b : BlockView) (d : state.Decoding) (change : Change) (base : LimitedTable) (edit : EditOf) → change ≡ goes_on s.core d.purpose → IsSoundConnectionState s.core → IsEdit base edit → IsOpenAt (records s) b.stream d.purpose →
     IsSoundEffect s.book (records s) (in_force s.core) base edit d (Makes (Some b) change)
 goes-on-sound s b d change base edit is sound belongs opened =
     subst (λ (c : Change). IsSoundEffect s.book (records s) (in_force s.core) base edit d (Makes (Some b) c)) (sym is) ((sound, (refl, refl)), belongs, opened)

@@ -1,5 +1,6 @@
 mod AboveLaws
 mod AloneLaws
+mod BlockLaws
 mod CountsLaws
 mod FeedingLaws
 mod FinishLaws
@@ -16,6 +17,7 @@ pub mod Phases
 mod PiecesLaws
 mod PreparedLaws
 mod Plays
+mod RequestOutcomeLaws
 mod RestoreLaws
 mod RestLaws
 pub mod Runs

@@ -18,13 +18,15 @@ use Rattle.h2_spec.specs.declared.reactions.Change.{Change}
 use Rattle.h2_spec.specs.declared.reactions.ConnectionFrame.TheVariants.{PingAck}
 use Rattle.h2_spec.specs.declared.reactions.Reaction.{Reaction}
 use Rattle.h2_spec.specs.declared.reactions.Reaction.TheVariants.{ConnectionError, Continues}
+use Rattle.h2_spec.specs.declared.ignored.Ignored.{Ignored}
+use Rattle.h2_spec.specs.declared.ignored.Ignored.TheVariants.{PingAcknowledgement, SecondAcknowledgement}
 use Rattle.h2_spec.specs.declared.reactions.StreamOutcome.{StreamOutcome}
 use Rattle.h2_spec.specs.declared.streams.Stream.{Stream}
 use Rattle.h2_spec.specs.Block.{Decoded, Unfinished, Faulty, list_size}
-use Rattle.h2_spec.specs.Change.{Step, only_counts, stream_error, with_outcome}
+use Rattle.h2_spec.specs.Change.{Step, ignoring, only_counts, stream_error, with_outcome}
 use Rattle.h2_spec.specs.Checks.{refusal}
 use Rattle.h2_spec.specs.Data.{counted, data_counted, data_refused, data_taken, data_outcome, if_within, owed_as, owed_on_connection}
-use Rattle.h2_spec.specs.Effect.{block_stream, body_length, incoming, checked_effect, concluded, data_rule, effect, frame_effect, nothing, on_data, on_headers, on_reset, on_window, part_effect, reset_rule, window_rule}
+use Rattle.h2_spec.specs.Effect.{block_stream, body_length, incoming, checked_effect, concluded, data_rule, effect, frame_effect, ignore, on_data, on_headers, on_reset, on_window, part_effect, reset_rule, window_rule}
 use Rattle.h2_spec.specs.Field.{Field}
 use Rattle.h2_spec.specs.Frame.{Item, Preface, BadPreface, WholeFrame, Oversize}
 use Rattle.h2_spec.specs.FrameType.{ACK, END_HEADERS, has}
@@ -34,7 +36,7 @@ use Rattle.h2_spec.specs.SendPending.{send_pending}
 use Rattle.h2_spec.specs.SettingsFrame.{acknowledged, comes_into_force, settings_applied, settings_rule, settings_taken}
 use Rattle.h2_spec.specs.State.{Decoding, OpenBlock, State, configured}
 use Rattle.h2_spec.specs.Stream.{stream_at}
-use Rattle.h2_spec.specs.ReactionTable.{Cell, headers_cell, DataRule, Take, Refuse, Count, ResetRule, PeerResets, WindowRule, MoveWindow, Error, Nothing, Rule, run_cell}
+use Rattle.h2_spec.specs.ReactionTable.{Cell, headers_cell, DataRule, Take, Refuse, Count, ResetRule, PeerResets, WindowRule, MoveWindow, Error, Ignore, Rule, run_cell}
 use Rattle.h2_spec.specs.Trace.{step, then_sent}
 use Rattle.h2_spec.specs.Window.{given_back, is_above_max}
 use Rattle.h2_spec.specs.WindowUpdate.{connection_window}
@@ -60,11 +62,11 @@ outcome-past : (c : Change) (t : StreamOutcome) → Past c.core.phase → Past (
 unfolding with_outcome
 outcome-past c t h = h
 
-cell-past : {R X : Type 0} (P : X → Type 0) (error : Cause → X) (nothing : X) (rule : R → X) (cell : Cell R)
-    → ((cause : Cause) → P (error cause)) → P nothing → ((r : R) → P (rule r)) → P (run_cell error nothing rule cell)
-cell-past P error nothing rule (Error code) e n r = e code
-cell-past P error nothing rule Nothing e n r = n
-cell-past P error nothing rule (Rule x) e n r = r x
+cell-past : {R X : Type 0} (P : X → Type 0) (error : Cause → X) (ignored : Ignored → X) (rule : R → X) (cell : Cell R)
+    → ((cause : Cause) → P (error cause)) → ((reason : Ignored) → P (ignored reason)) → ((r : R) → P (rule r)) → P (run_cell error ignored rule cell)
+cell-past P error ignored rule (Error code) e n r = e code
+cell-past P error ignored rule (Ignore reason) e n r = n reason
+cell-past P error ignored rule (Rule x) e n r = r x
 
 -- ---- the rules
 
@@ -85,27 +87,27 @@ outcome-within config core d t h =
 
 data-past : (rule : DataRule) (config : Config) (core : ConnectionState) (body : ℕ) (d : ReceivedData) (st : Stream) → Past core.phase → PastIn (data_rule rule config core body d st)
 unfolding data_taken data_refused data_counted
-data-past Take config core body d st h = outcome-within config core d (data_outcome config.credit core.peer.size_update_pending body d st) h
-data-past (Refuse code) config core body d st h = outcome-within config core d (stream_error core.peer.size_update_pending st.id code) h
-data-past Count config core body d st h = within-past core d.octets (counted config.credit core d.octets) (counted-past config.credit core d.octets h)
+data-past Take config core body d st h = outcome-within config core d (data_outcome config.credit body d st) h
+data-past (Refuse code) config core body d st h = outcome-within config core d (stream_error st.id code) h
+data-past (Count reason) config core body d st h = within-past core d.octets (ignoring reason (counted config.credit core d.octets)) (counted-past config.credit core d.octets h)
 
 on_data-past : (config : Config) (core : ConnectionState) (body : ℕ) (d : ReceivedData) (st : Stream) → Past core.phase → PastIn (on_data config core body d st)
 unfolding on_data
-on_data-past config core body d st h = cell-past PastIn ConnectionError (nothing core) (λ rule. data_rule rule config core body d st) _ (λ code. tt) h (λ rule. data-past rule config core body d st h)
+on_data-past config core body d st h = cell-past PastIn ConnectionError (ignore core) (λ rule. data_rule rule config core body d st) _ (λ code. tt) (λ reason. h) (λ rule. data-past rule config core body d st h)
 
 reset-past : (rule : ResetRule) (core : ConnectionState) (st : Stream) → Past core.phase → PastIn (reset_rule rule core st)
 reset-past PeerResets core st h = outcome-past (only_counts core) _ h
 
 on_reset-past : (core : ConnectionState) (st : Stream) → Past core.phase → PastIn (on_reset core st)
 unfolding on_reset
-on_reset-past core st h = cell-past PastIn ConnectionError (nothing core) (λ rule. reset_rule rule core st) _ (λ code. tt) h (λ rule. reset-past rule core st h)
+on_reset-past core st h = cell-past PastIn ConnectionError (ignore core) (λ rule. reset_rule rule core st) _ (λ code. tt) (λ reason. h) (λ rule. reset-past rule core st h)
 
 window-past : (rule : WindowRule) (core : ConnectionState) (increment : ℕ) (st : Stream) → Past core.phase → PastIn (window_rule rule core increment st)
 window-past MoveWindow core increment st h = outcome-past (only_counts core) _ h
 
 on_window-past : (core : ConnectionState) (increment : ℕ) (st : Stream) → Past core.phase → PastIn (on_window core increment st)
 unfolding on_window
-on_window-past core increment st h = cell-past PastIn ConnectionError (nothing core) (λ rule. window_rule rule core increment st) _ (λ code. tt) h (λ rule. window-past rule core increment st h)
+on_window-past core increment st h = cell-past PastIn ConnectionError (ignore core) (λ rule. window_rule rule core increment st) _ (λ code. tt) (λ reason. h) (λ rule. window-past rule core increment st h)
 
 connection_window-past : (core : ConnectionState) (increment : ℕ) → Past core.phase → PastIn (connection_window core increment)
 unfolding connection_window
@@ -158,7 +160,7 @@ continuation-past s None octets end_headers h = tt
 continuation-past s (Some b) octets end_headers h = continued-past s b.shown b.decoding octets end_headers h
 
 headers-past : (s : State) (head : Head) (part : HeadersPart) (cell : Cell Purpose) → Past s.core.phase → PastBy (on_headers s head part cell)
-headers-past s head part cell h = cell-past PastBy Breaks (Makes s (only_counts s.core)) (λ purpose. block_opens s purpose head part) cell (λ code. tt) h (λ purpose. fragment-past s (fresh_block head) (fresh_decoding s purpose) part.fragment (has head.flags END_HEADERS) h)
+headers-past s head part cell h = cell-past PastBy Breaks (λ reason. Makes s (ignoring reason (only_counts s.core))) (λ purpose. block_opens s purpose head part) cell (λ code. tt) (λ reason. h) (λ purpose. fragment-past s (fresh_block head) (fresh_decoding s purpose) part.fragment (has head.flags END_HEADERS) h)
 
 -- ---- frames
 
@@ -170,11 +172,11 @@ frame-past s head p (OfHeaders part) h = headers-past s head part (headers_cell 
 frame-past s head p OfPriority h = h
 frame-past s head p (OfRstStream code) h = let st = stream_at s.core.last s.streams head.stream in makes-past s (on_reset s.core st) (on_reset-past s.core st h)
 frame-past s head p (OfSettings pairs) h = makes-past s (settings_rule s.streams s.core pairs) (settings-past s.streams s.core pairs)
-frame-past s head p OfSettingsAck h = makes-past s (acknowledged s.config s.core) (cond_both s.core.acked (Continues (only_counts s.core)) (Continues (comes_into_force s.core (configured s.config))) PastIn (λ e. h) (λ e. h))
+frame-past s head p OfSettingsAck h = makes-past s (acknowledged s.config s.core) (cond_both s.core.acked (Continues (ignoring SecondAcknowledgement (only_counts s.core))) (Continues (comes_into_force s.core (configured s.config))) PastIn (λ e. h) (λ e. h))
 frame-past s head p OfPushPromise h = tt
 frame-past s head p (OfPing octets) h =
-    makes-past s (if has head.flags ACK then nothing s.core else Continues (record (only_counts s.core) { connection_frame = PingAck octets }))
-    (cond_both (has head.flags ACK) (nothing s.core) (Continues (record (only_counts s.core) { connection_frame = PingAck octets })) PastIn (λ e. h) (λ e. h))
+    makes-past s (if has head.flags ACK then ignore s.core PingAcknowledgement else Continues (record (only_counts s.core) { connection_frame = PingAck octets }))
+    (cond_both (has head.flags ACK) (ignore s.core PingAcknowledgement) (Continues (record (only_counts s.core) { connection_frame = PingAck octets })) PastIn (λ e. h) (λ e. h))
 frame-past s head p (OfGoaway last code) h = h
 frame-past s head p (OfWindowUpdate increment) h =
     let st = stream_at s.core.last s.streams head.stream in

@@ -1,17 +1,13 @@
 -- Field blocks that are not at their end.
-use Rattle.std.specs.Prelude.{◌≡◌, ℕ, List, length, not, ◌==◌, if◌then◌else◌, Option, Some, None, Result, Ok, Err}
-use Rattle.h2_fields.specs.declared.fault.BlockFault.{BlockFault}
-use Rattle.h2_fields.specs.declared.fault.BlockFault.TheVariants as fault
+use Rattle.std.specs.Prelude.{◌≡◌, ℕ, List, length, ◌==◌, Option, Some, None}
 use Rattle.h2_spec.specs.declared.causes.Cause.{Cause}
-use Rattle.h2_spec.specs.declared.causes.Cause.TheVariants as cause
 use Rattle.h2_spec.specs.declared.connection.BlockView.{BlockView}
-use Rattle.h2_spec.specs.declared.connection.Purpose.{Purpose}
 use Rattle.h2_spec.specs.Answer.{Entry}
 use Rattle.h2_spec.specs.DynamicTable.{LimitedTable, Table}
 use Rattle.h2_spec.specs.Headers as headers
 use Rattle.h2_spec.specs.State.{Decoding, OpenBlock, State}
 use Rattle.h2_spec.specs.Stream.{Records}
-use Rattle.h2_spec.specs.ReactionTable.{Cell, Error, Rule}
+use Rattle.h2_rules.specs.Block.{refused_end}
 pub use Rattle.h2_rules.specs.Open.{IsOpenAt}
 use Rattle.h2_rules.specs.Sound.{InForce, IsSoundChange, updated_records}
 use Rattle.h2_table.specs.Edits.{EditOf, IsEdit, edited}
@@ -34,31 +30,11 @@ abbrev pub IsStopped : Option OpenBlock → Type 0
 IsStopped None = Unit {0}
 IsStopped (Some b) = b.decoding ≡ None
 
--- the cell of the table, by what HEADERS begins: the table has no cell in which HEADERS result in nothing
-abbrev pub cell_of : Result Purpose Cause → Cell Purpose
-cell_of (Ok purpose) = Rule purpose
-cell_of (Err cause) = Error cause
-
 -- ---- what a fragment results in
-
--- the cause of the connection error that a fault is; none where memory was refused
-abbrev pub cause_by : BlockFault → Option Cause
-cause_by fault.NoMemory = None
-cause_by fault.ZeroIndex = Some cause.IndexZero
-cause_by fault.Index = Some cause.IndexOutOfTables
-cause_by fault.Integer = Some cause.IntegerTooLong
-cause_by fault.Huffman = Some cause.HuffmanString
-cause_by fault.LateUpdate = Some cause.SizeUpdateLate
-cause_by fault.LargeUpdate = Some cause.SizeUpdateTooLarge
-cause_by fault.MissingUpdate = Some cause.SizeUpdateMissing
-cause_by fault.Truncated = Some cause.BlockTruncated
 
 -- why a block can't end here, if it can't (RFC 9113, 4.3)
 abbrev pub bad_end : Decoding → Option Cause
-bad_end d =
-    if not (length d.rest == 0) then Some cause.BlockTruncated
-    else if d.due then Some cause.SizeUpdateMissing
-    else None
+bad_end d = refused_end (length d.rest == 0) d.due
 
 -- the block that is open after it, as it is shown and decoded
 abbrev pub block_after : Option BlockView → Decoding → Option OpenBlock

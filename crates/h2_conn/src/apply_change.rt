@@ -2,7 +2,7 @@
 //! them then; where memory is refused, nothing (RFC 9113, 5.4). Definitions: h2_spec's `specs/Change.antt`,
 //! `specs/SendPending.antt`, and `specs/Sending.antt` here.
 
-ghost use Rattle.std.specs.Prelude.{◌≡◌, ◌<◌, ◌≤◌, ◌^◌, ◌++◌, length, slice_index, pos, ◌-ℤ◌, Some, IfOk, OnOk, OnErr, take, vec_len};
+ghost use Rattle.std.specs.Prelude.{◌≡◌, ◌<◌, ◌≤◌, ◌^◌, ◌++◌, length, slice_index, pos, ◌-ℤ◌, None, Some, IfOk, OnOk, OnErr, take, vec_len};
 ghost use Rattle.h2_spec.specs.Change as changes;
 ghost use Rattle.h2_spec.specs.Change.{updated_streams};
 ghost use Rattle.h2_spec.specs.Effect as effect;
@@ -24,12 +24,12 @@ use crate::state::{OpenBlock, State};
 use crate::write::{write_connection_frame, write_goaway, write_prepared, write_stream_frame};
 use h2_frame::append_frame;
 use h2_request::book::Book;
-use h2_rules::change::stream_cause;
+use h2_rules::change::verdict_of;
 use h2_spec::causes::Cause;
 use h2_spec::connection::{ConnectionState, Phase};
 use h2_spec::errors::ErrorCode;
 use h2_spec::frames::HEADERS;
-use h2_spec::reactions::{Answering, Change};
+use h2_spec::reactions::{Answering, Change, Verdict};
 use h2_streams::Streams;
 use std::alloc::{AllocError, Allocator};
 
@@ -202,24 +202,23 @@ fn ended_by(code: ErrorCode, core: ConnectionState) -> ConnectionState
 }
 
 impl<'b, A: Allocator + Copy> State<'b, A> {
-    /// Makes a change, and sends its frames and then the pending output; or does nothing. Answers the cause of a stream
-    /// error.
+    /// Makes a change, and sends its frames and then the pending output; or does nothing. Answers how its item is judged.
     #[inline(always)]
     pub fn apply_change(
         &mut self,
         change: Change,
         out: &mut Vec<u8, A>,
-    ) -> Result<Option<Cause>, AllocError>
+    ) -> Result<Verdict, AllocError>
         requires kept { IsOpenFor (updated_records change.record_update (records self.old)) self.old.block }
         requires sound { IsSoundChange self.old.book (records self.old) (in_force self.old.core) change }
         ensures ok { OnOk result (Does (then_sent change.core.phase (changes.made self.old change)) out.old.items self.new out.new.items) }
-        ensures cause { IfOk result (λ cause. cause ≡ effect.stream_cause change.stream_frame) }
+        ensures verdict { IfOk result (λ verdict. verdict ≡ record { cause = effect.stream_cause change.stream_frame; ignored = change.ignored }) }
         ensures err { OnErr result ((self.new ≡ self.old) × (out.new.items ≡ out.old.items)) }
     {
         match send_and_update(self.book, &mut self.streams, &change, out) {
             Ok(count) => {
                 self.core = with_sent(change.core, count);
-                Ok(stream_cause(change.stream_frame))
+                Ok(verdict_of(&change))
             }
             Err(error) => Err(error),
         }
@@ -228,24 +227,24 @@ impl<'b, A: Allocator + Copy> State<'b, A> {
 
 impl<'b, A: Allocator + Copy> State<'b, A> {
     /// Makes a change that leaves the phase, the settings and the last stream as they are, and sends its frames and
-    /// then the pending output; or does nothing. The counts change in place. Answers the cause of a stream error.
+    /// then the pending output; or does nothing. The counts change in place. Answers how its item is judged.
     #[inline(always)]
     pub fn apply_in_place(
         &mut self,
         change: &Change,
         out: &mut Vec<u8, A>,
-    ) -> Result<Option<Cause>, AllocError>
+    ) -> Result<Verdict, AllocError>
         requires kept { IsOpenFor (updated_records change.now.record_update (records self.old)) self.old.block }
         requires sound { IsSoundChange self.old.book (records self.old) (in_force self.old.core) change.now }
         requires same { change.now.core ≡ with_counts self.old.core change.now.core }
         ensures ok { OnOk result (Does (then_sent change.now.core.phase (changes.made self.old change.now)) out.old.items self.new out.new.items) }
-        ensures cause { IfOk result (λ cause. cause ≡ effect.stream_cause change.now.stream_frame) }
+        ensures verdict { IfOk result (λ verdict. verdict ≡ record { cause = effect.stream_cause change.now.stream_frame; ignored = change.now.ignored }) }
         ensures err { OnErr result ((self.new ≡ self.old) × (out.new.items ≡ out.old.items)) }
     {
         match send_and_update(self.book, &mut self.streams, change, out) {
             Ok(count) => {
                 set_counts(&mut self.core, &change.core, count);
-                Ok(stream_cause(change.stream_frame))
+                Ok(verdict_of(change))
             }
             Err(error) => Err(error),
         }
@@ -253,16 +252,20 @@ impl<'b, A: Allocator + Copy> State<'b, A> {
 }
 
 impl<'b, A: Allocator> State<'b, A> {
-    /// Ends the connection with a GOAWAY, or does nothing; an open block is decoded no more. Answers the cause.
-    pub fn fail(&mut self, cause: Cause, out: &mut Vec<u8, A>) -> Result<Option<Cause>, AllocError>
+    /// Ends the connection with a GOAWAY, or does nothing; an open block is decoded no more. Answers that the item is an error for
+    /// this cause.
+    pub fn fail(&mut self, cause: Cause, out: &mut Vec<u8, A>) -> Result<Verdict, AllocError>
         ensures ok { OnOk result (Does (changes.broken self.old cause) out.old.items self.new out.new.items) }
-        ensures cause { IfOk result (λ found. found ≡ Some cause) }
+        ensures verdict { IfOk result (λ verdict. verdict ≡ record { cause = Some cause; ignored = None }) }
         ensures err { OnErr result ((self.new ≡ self.old) × (out.new.items ≡ out.old.items)) }
     {
         let code = cause.code();
         write_goaway(self.core.last, code, out)?;
         self.core = ended_by(code, self.core);
         stop(&mut self.block);
-        Ok(Some(cause))
+        Ok(Verdict {
+            cause: Some(cause),
+            ignored: None,
+        })
     }
 }

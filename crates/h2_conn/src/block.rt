@@ -1,56 +1,31 @@
 //! Fragments of field blocks, from HEADERS and CONTINUATION (RFC 9113, 4.3, 6.2 and 6.10). Definition: `fragment` of
 //! h2_spec's `specs/Headers.antt`.
 
-ghost use Rattle.std.specs.Prelude.{◌≡◌, ◌≢◌, ◌==◌, ℕ, List, IfOk, OnOk, length};
-ghost use Rattle.h2_spec.specs.Answer.{Entry};
+ghost use Rattle.std.specs.Prelude.{◌≡◌, IfOk};
 ghost use Rattle.h2_spec.specs.DynamicTable.{LimitedTable, Table};
 ghost use Rattle.h2_spec.specs.Headers as rule;
-ghost use Rattle.h2_spec.specs.Stream.{Records, kind_of};
-ghost use Rattle.h2_spec.specs.ReactionTable.{headers_cell};
 ghost use Rattle.h2_table.specs.Edits.{EditOf, IsEdit};
-ghost use Rattle.h2_conn.specs.Blocks.{IsOpenAt, IsOpenFor, IsSoundEffect, block_after, cause_by, cell_of, effect_in, effect_seen, limited};
+ghost use Rattle.h2_conn.specs.Blocks.{IsOpenAt, IsSoundEffect, effect_in, effect_seen, limited};
 ghost use Rattle.h2_conn.specs.Fragments.{IsSized, after_of, before_of};
 ghost use Rattle.h2_conn.specs.Sending.{records};
-ghost use Rattle.h2_rules.specs.Sound.{AreSound, InForce, in_force};
+ghost use Rattle.h2_rules.specs.Sound.{in_force};
 
+use crate::block_end::block_ends;
 use crate::state::{Decoding, State};
 use crate::tentative::Tentative;
-use h2_fields::fault::BlockFault;
-use h2_rules::block_end::block_ends;
-use h2_rules::change::only_counts;
+use h2_rules::block::{fault_cause, goes_on, is_block_too_large};
 use h2_spec::causes::Cause;
-use h2_spec::connection::{BlockView, Purpose};
+use h2_spec::connection::BlockView;
 use h2_spec::frames::{END_STREAM, Head};
 use h2_spec::reactions::Change;
-use h2_spec::streams::StreamState;
 use h2_table::{Draft, Edit};
 use std::alloc::{AllocError, Allocator};
-
-/// The most octets of a block's fragments.
-const MAX_BLOCK: usize = 65_536;
 
 /// What a fragment results in: a connection error, or a change and the block that is open after it, as it is shown.
 #[derive(Clone, Copy)]
 pub enum FragmentEffect {
     Breaks(Cause),
     Makes(Option<BlockView>, Change),
-}
-
-/// Why a block with this fault is a connection error (RFC 9113, 4.3); none where it is out of memory.
-fn fault_cause(fault: BlockFault) -> Option<Cause>
-    ensures { result ≡ cause_by fault }
-{
-    match fault {
-        BlockFault::NoMemory => None,
-        BlockFault::ZeroIndex => Some(Cause::IndexZero),
-        BlockFault::Index => Some(Cause::IndexOutOfTables),
-        BlockFault::Integer => Some(Cause::IntegerTooLong),
-        BlockFault::Huffman => Some(Cause::HuffmanString),
-        BlockFault::LateUpdate => Some(Cause::SizeUpdateLate),
-        BlockFault::LargeUpdate => Some(Cause::SizeUpdateTooLarge),
-        BlockFault::MissingUpdate => Some(Cause::SizeUpdateMissing),
-        BlockFault::Truncated => Some(Cause::BlockTruncated),
-    }
 }
 
 impl<'b, A: Allocator + Copy> State<'b, A> {
@@ -67,7 +42,8 @@ impl<'b, A: Allocator + Copy> State<'b, A> {
         ensures sound { (base : LimitedTable) (edit : EditOf) → IsEdit base edit → IsSoundEffect self.now.book (records self.now) (in_force self.now.core) base edit (after_of decoding.now tentative.now) result }
     {
         if !end_headers {
-            return FragmentEffect::Makes(Some(shown), only_counts(self.core));
+            let change = goes_on(self.core, decoding.purpose);
+            return FragmentEffect::Makes(Some(shown), change);
         }
         match decoding.bad_end(tentative) {
             Some(cause) => FragmentEffect::Breaks(cause),
@@ -108,7 +84,7 @@ impl<'b, A: Allocator + Copy> State<'b, A> {
         ensures sound { IfOk result.2 (λ e. IsSoundEffect self.now.book (records self.now) (in_force self.now.core) (limited self.now.core.own.table self.now.table) result.0 (after_of decoding.new result.1) e) }
     {
         let count = shown.octets as usize + octets.len();
-        if MAX_BLOCK < count {
+        if is_block_too_large(count) {
             let none = Draft::start(&self.table, edit).into_edit();
             let breaks = FragmentEffect::Breaks(Cause::BlockTooLarge);
             return (none, decoding.unchanged(), Ok(breaks));
@@ -132,24 +108,6 @@ impl<'b, A: Allocator + Copy> State<'b, A> {
                 None => (edit, tentative, Err(AllocError)),
             },
         }
-    }
-}
-
-/// What HEADERS begins on a stream, by the stream's state: a block for this purpose, or a connection error (RFC 9113,
-/// 5.1 and 6.2).
-/// An idle stream that a client may open is above the last one that was opened.
-pub fn headers_purpose(id: u32, kind: StreamState) -> Result<Purpose, Cause>
-    ensures rule { cell_of result ≡ headers_cell id kind }
-    ensures known { (book : List Entry) (f : InForce) (r : Records) → AreSound book f r.streams → kind ≡ kind_of r.last r.streams id → IfOk result (λ purpose. IsOpenAt r id purpose) }
-{
-    match kind {
-        StreamState::Idle if id % 2 == 1 => Ok(Purpose::Request),
-        StreamState::Idle => Err(Cause::HeadersOnEven),
-        StreamState::Skipped => Err(Cause::HeadersOnSkipped),
-        StreamState::BothOpen | StreamState::HalfLocal => Ok(Purpose::Trailers),
-        StreamState::HalfRemote => Ok(Purpose::Closed),
-        StreamState::Ended | StreamState::PeerReset => Err(Cause::HeadersOnClosed),
-        StreamState::WeReset => Ok(Purpose::TableOnly),
     }
 }
 

@@ -35,8 +35,8 @@ use h2_spec::connection::{Config, Phase};
 use std::alloc::{AllocError, Allocator};
 use std::marker::Model;
 
-/// Whether a connection error has ended the connection.
-pub(crate) fn is_ended(phase: Phase) -> bool
+/// Whether a connection error has ended the connection (RFC 9113, 5.4.1).
+pub fn is_ended(phase: Phase) -> bool
     ensures { result ≡ is_ended phase }
 {
     matches!(phase, Phase::Ended(_))

@@ -1,7 +1,7 @@
 //! HEADERS and CONTINUATION on a connection: a block is opened or goes on, and what it results in is made (RFC 9113,
 //! 6.2 and 6.10). Definitions: `on_headers` of h2_spec's `specs/Effect.antt`, `continuation` of `specs/Headers.antt`.
 
-ghost use Rattle.std.specs.Prelude.{◌≡◌, ◌<◌, ◌^◌, length, Some, IfNone, IfOk, IfSome, OnOk, OnErr};
+ghost use Rattle.std.specs.Prelude.{◌≡◌, ◌<◌, ◌^◌, length, None, Some, IfNone, IfOk, IfSome, OnOk, OnErr};
 ghost use Rattle.h2_frame.specs.Parts.{headers_seen};
 ghost use Rattle.h2_spec.specs.Change.{broken};
 ghost use Rattle.h2_spec.specs.Effect as rule;
@@ -11,19 +11,22 @@ ghost use Rattle.h2_spec.specs.State.{is_due};
 ghost use Rattle.h2_spec.specs.Stream.{stream_at};
 ghost use Rattle.h2_spec.specs.ReactionTable.{headers_cell};
 ghost use Rattle.h2_spec.specs.declared.causes.Cause.TheVariants.{ContinuationOutsideBlock};
-ghost use Rattle.h2_conn.specs.Blocks.{IsOpenAt, IsSoundEffect, IsStopped, block_after, cell_of, decoding_of, effect_seen, limited};
+ghost use Rattle.h2_conn.specs.Blocks.{IsOpenAt, IsSoundEffect, IsStopped, block_after, decoding_of, effect_seen, limited};
 ghost use Rattle.h2_conn.specs.Does.{Does, stepped, stopped};
 ghost use Rattle.h2_conn.specs.Fragments.{IsSized, after_of, before_of};
 ghost use Rattle.h2_conn.specs.Sending.{records};
+ghost use Rattle.h2_rules.specs.Block.{cell_of};
 ghost use Rattle.h2_rules.specs.Sound.{in_force};
 
-use crate::block::{FragmentEffect, fresh_block, headers_purpose};
+use crate::block::{FragmentEffect, fresh_block};
 use crate::state::{Decoding, OpenBlock, State};
 use crate::tentative::Tentative;
 use h2_frame::HeadersPart;
+use h2_rules::block::headers_purpose;
 use h2_spec::causes::Cause;
 use h2_spec::connection::{BlockView, Purpose};
 use h2_spec::frames::{END_HEADERS, Head};
+use h2_spec::reactions::Verdict;
 use h2_table::Edit;
 use std::alloc::{AllocError, Allocator};
 use std::mem;
@@ -61,29 +64,29 @@ impl<'b, A: Allocator + Copy> State<'b, A> {
         tentative: Tentative<A>,
         edit: &mut Edit<A>,
         out: &mut Vec<u8, A>,
-    ) -> Result<Option<Cause>, AllocError>
+    ) -> Result<Verdict, AllocError>
         requires stopped { IsStopped self.old.block }
         requires sized { IsSized decoding.old tentative }
         requires sound { IsSoundEffect self.old.book (records self.old) (in_force self.old.core) (limited self.old.core.own.table self.old.table) edit.old (after_of decoding.old tentative) effect }
         ensures ok { OnOk result (Does (stepped (rule.concluded self.old (effect_seen self.old edit.old (after_of decoding.old tentative) effect))) out.old.items self.new out.new.items) }
-        ensures cause { IfOk result (λ cause. cause ≡ rule.effect_cause (effect_seen self.old edit.old (after_of decoding.old tentative) effect)) }
+        ensures verdict { IfOk result (λ verdict. verdict ≡ rule.effect_verdict (effect_seen self.old edit.old (after_of decoding.old tentative) effect)) }
         ensures err { OnErr result ((decoding.new ≡ before_of decoding.old tentative) × (self.new ≡ self.old) × (out.new.items ≡ out.old.items)) }
     {
         match effect {
             FragmentEffect::Breaks(cause) => match self.fail(cause, out) {
-                Ok(found) => Ok(found),
+                Ok(verdict) => Ok(verdict),
                 Err(_) => {
                     decoding.give_up(tentative);
                     Err(AllocError)
                 }
             },
             FragmentEffect::Makes(shown, change) => match self.apply_change(change, out) {
-                Ok(cause) => {
+                Ok(verdict) => {
                     decoding.take_over(tentative);
                     let block = block_after(shown, decoding);
                     self.block = block;
                     self.table.commit(edit);
-                    Ok(cause)
+                    Ok(verdict)
                 }
                 Err(_) => {
                     decoding.give_up(tentative);
@@ -191,11 +194,11 @@ impl<'b, A: Allocator + Copy> State<'b, A> {
         octets: &[u8],
         end_headers: bool,
         out: &mut Vec<u8, A>,
-    ) -> Result<Option<Cause>, AllocError>
+    ) -> Result<Verdict, AllocError>
         requires stopped { IsStopped self.old.block }
         requires known { IsOpenAt (records self.old) shown.stream decoding.old.purpose }
         ensures ok { OnOk result (Does (stepped (rule.concluded self.old (headers.fragment self.old shown decoding.old octets.now end_headers))) out.old.items self.new out.new.items) }
-        ensures cause { IfOk result (λ cause. cause ≡ rule.effect_cause (headers.fragment self.old shown decoding.old octets.now end_headers)) }
+        ensures verdict { IfOk result (λ verdict. verdict ≡ rule.effect_verdict (headers.fragment self.old shown decoding.old octets.now end_headers)) }
         ensures err { OnErr result ((decoding.new ≡ decoding.old) × (self.new ≡ self.old) × (out.new.items ≡ out.old.items)) }
     {
         let edit = self.take_edit(*out.allocator());
@@ -221,9 +224,9 @@ impl<'b, A: Allocator + Copy> State<'b, A> {
     }
 
     /// CONTINUATION where no block is open (RFC 9113, 6.10).
-    fn not_open(&mut self, out: &mut Vec<u8, A>) -> Result<Option<Cause>, AllocError>
+    fn not_open(&mut self, out: &mut Vec<u8, A>) -> Result<Verdict, AllocError>
         ensures ok { OnOk result (Does (broken self.old ContinuationOutsideBlock) out.old.items self.new out.new.items) }
-        ensures cause { IfOk result (λ cause. cause ≡ Some ContinuationOutsideBlock) }
+        ensures verdict { IfOk result (λ verdict. verdict ≡ record { cause = Some ContinuationOutsideBlock; ignored = None }) }
         ensures err { OnErr result ((self.new ≡ self.old) × (out.new.items ≡ out.old.items)) }
     {
         self.fail(Cause::ContinuationOutsideBlock, out)
@@ -236,9 +239,9 @@ impl<'b, A: Allocator + Copy> State<'b, A> {
         head: &Head,
         octets: &[u8],
         out: &mut Vec<u8, A>,
-    ) -> Result<Option<Cause>, AllocError>
+    ) -> Result<Verdict, AllocError>
         ensures ok { OnOk result (Does (stepped (rule.concluded self.old (headers.continuation self.old self.old.block octets.now (frames.has head.now.flags frames.END_HEADERS)))) out.old.items self.new out.new.items) }
-        ensures cause { IfOk result (λ cause. cause ≡ rule.effect_cause (headers.continuation self.old self.old.block octets.now (frames.has head.now.flags frames.END_HEADERS))) }
+        ensures verdict { IfOk result (λ verdict. verdict ≡ rule.effect_verdict (headers.continuation self.old self.old.block octets.now (frames.has head.now.flags frames.END_HEADERS))) }
         ensures err { OnErr result ((self.new ≡ self.old) × (out.new.items ≡ out.old.items)) }
     {
         match self.take_decoding() {
@@ -246,9 +249,9 @@ impl<'b, A: Allocator + Copy> State<'b, A> {
             Some((shown, mut decoding)) => {
                 let end_headers = head.has(END_HEADERS);
                 match self.on_fragment(shown, &mut decoding, octets, end_headers, out) {
-                    Ok(cause) => {
+                    Ok(verdict) => {
                         self.keep_decoding(decoding);
-                        Ok(cause)
+                        Ok(verdict)
                     }
                     Err(_) => {
                         self.put_back(shown, decoding);
@@ -275,10 +278,10 @@ impl<'b, A: Allocator + Copy> State<'b, A> {
         head: &Head,
         part: HeadersPart<'_>,
         out: &mut Vec<u8, A>,
-    ) -> Result<Option<Cause>, AllocError>
+    ) -> Result<Verdict, AllocError>
         requires stopped { IsStopped self.old.block }
         ensures ok { OnOk result (Does (stepped (rule.concluded self.old (rule.on_headers self.old head.now (headers_seen part.entry) (headers_cell head.now.stream (stream_at self.old.core.last self.old.streams head.now.stream).kind)))) out.old.items self.new out.new.items) }
-        ensures cause { IfOk result (λ cause. cause ≡ rule.effect_cause (rule.on_headers self.old head.now (headers_seen part.entry) (headers_cell head.now.stream (stream_at self.old.core.last self.old.streams head.now.stream).kind))) }
+        ensures verdict { IfOk result (λ verdict. verdict ≡ rule.effect_verdict (rule.on_headers self.old head.now (headers_seen part.entry) (headers_cell head.now.stream (stream_at self.old.core.last self.old.streams head.now.stream).kind))) }
         ensures err { OnErr result ((self.new ≡ self.old) × (out.new.items ≡ out.old.items)) }
     {
         match self.purpose_at(head.stream) {
@@ -288,9 +291,9 @@ impl<'b, A: Allocator + Copy> State<'b, A> {
                 let end_headers = head.has(END_HEADERS);
                 let shown = fresh_block(head);
                 match self.on_fragment(shown, &mut decoding, part.fragment, end_headers, out) {
-                    Ok(cause) => {
+                    Ok(verdict) => {
                         self.keep_decoding(decoding);
-                        Ok(cause)
+                        Ok(verdict)
                     }
                     Err(_) => {
                         self.keep_decoding(decoding);

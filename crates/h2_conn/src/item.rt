@@ -10,6 +10,7 @@ ghost use Rattle.h2_spec.specs.Checks as checks;
 ghost use Rattle.h2_spec.specs.Effect as rule;
 ghost use Rattle.h2_spec.specs.Frame.{WholeFrame};
 ghost use Rattle.h2_spec.specs.Headers.{makes};
+ghost use Rattle.h2_spec.specs.Ignored.{ignored_of};
 ghost use Rattle.h2_spec.specs.Payload.{OfData, part_of};
 ghost use Rattle.h2_spec.specs.SettingsFrame as settings;
 ghost use Rattle.h2_spec.specs.Stream.{stream_at};
@@ -17,6 +18,7 @@ ghost use Rattle.h2_spec.specs.WindowUpdate as window;
 ghost use Rattle.h2_spec.specs.Trace.{step};
 ghost use Rattle.h2_spec.specs.declared.connection.Phase.TheVariants as phase;
 ghost use Rattle.h2_spec.specs.declared.causes.Cause.TheVariants.{PushPromiseFromClient};
+ghost use Rattle.h2_spec.specs.declared.ignored.Ignored.TheVariants.{PingAcknowledgement};
 ghost use Rattle.h2_spec.specs.declared.reactions.ConnectionFrame.TheVariants as frames;
 ghost use Rattle.h2_spec.specs.declared.reactions.Reaction.TheVariants as reactions;
 ghost use Rattle.h2_spec.specs.declared.reactions.Reaction.TheVariants.{ConnectionError};
@@ -31,7 +33,7 @@ use crate::state::State;
 use h2_frame::{DataPart, FrameRef, Item, Part, SettingsPart, part_of};
 use h2_rules::change::only_counts;
 use h2_rules::checks::{oversize, refusal};
-use h2_rules::control::{nothing, on_goaway, on_ping};
+use h2_rules::control::{ignore, on_goaway, on_ping};
 use h2_rules::data::on_data;
 use h2_rules::reset::on_reset;
 use h2_rules::settings::settings_rule;
@@ -39,7 +41,8 @@ use h2_rules::window_update::{connection_window, on_window};
 use h2_spec::causes::Cause;
 use h2_spec::connection::{ConnectionState, Phase};
 use h2_spec::frames::{ACK, END_STREAM, Head};
-use h2_spec::reactions::{Reaction, ReceivedData};
+use h2_spec::ignored::Ignored;
+use h2_spec::reactions::{Reaction, ReceivedData, Verdict};
 use h2_spec::streams::Stream;
 use std::alloc::{AllocError, Allocator};
 
@@ -145,7 +148,7 @@ impl<'b, A: Allocator + Copy> State<'b, A> {
 
     /// PING.
     fn on_ping(&self, is_answer: bool, octets: [u8; 8]) -> Reaction
-        ensures rule { result ≡ (if is_answer then rule.nothing self.now.core else reactions.Continues (record (changes.only_counts self.now.core) { connection_frame = frames.PingAck octets })) }
+        ensures rule { result ≡ (if is_answer then rule.ignore self.now.core PingAcknowledgement else reactions.Continues (record (changes.only_counts self.now.core) { connection_frame = frames.PingAck octets })) }
         ensures counts { IsCounted self.now.core result }
         ensures sound { IsSound self.now.book (records self.now) (in_force self.now.core) result }
     {
@@ -160,13 +163,13 @@ impl<'b, A: Allocator + Copy> State<'b, A> {
         on_goaway(self.core(), last, code)
     }
 
-    /// PRIORITY and frames of unknown types.
-    fn on_ignored(&self) -> Reaction
-        ensures rule { result ≡ rule.nothing self.now.core }
+    /// PRIORITY and frames of unknown types: ignored for this reason.
+    fn on_ignored(&self, reason: Ignored) -> Reaction
+        ensures rule { result ≡ rule.ignore self.now.core reason }
         ensures counts { IsCounted self.now.core result }
         ensures sound { IsSound self.now.book (records self.now) (in_force self.now.core) result }
     {
-        nothing(self.core())
+        ignore(self.core(), reason)
     }
 
     /// PUSH_PROMISE, which a client may not send (RFC 9113, 8.4).
@@ -178,15 +181,11 @@ impl<'b, A: Allocator + Copy> State<'b, A> {
 
     /// A connection error or a change, or nothing; no block is open that is still decoded.
     #[inline(always)]
-    fn conclude(
-        &mut self,
-        reaction: Reaction,
-        out: &mut Vec<u8, A>,
-    ) -> Result<Option<Cause>, AllocError>
+    fn conclude(&mut self, reaction: Reaction, out: &mut Vec<u8, A>) -> Result<Verdict, AllocError>
         requires stopped { IsStopped self.old.block }
         requires sound { IsSound self.old.book (records self.old) (in_force self.old.core) reaction }
         ensures ok { OnOk result (Does (stepped (rule.concluded self.old (makes self.old reaction))) out.old.items self.new out.new.items) }
-        ensures cause { IfOk result (λ cause. cause ≡ rule.effect_cause (makes self.old reaction)) }
+        ensures verdict { IfOk result (λ verdict. verdict ≡ rule.effect_verdict (makes self.old reaction)) }
         ensures err { OnErr result ((self.new ≡ self.old) × (out.new.items ≡ out.old.items)) }
     {
         match reaction {
@@ -201,12 +200,12 @@ impl<'b, A: Allocator + Copy> State<'b, A> {
         &mut self,
         reaction: Reaction,
         out: &mut Vec<u8, A>,
-    ) -> Result<Option<Cause>, AllocError>
+    ) -> Result<Verdict, AllocError>
         requires stopped { IsStopped self.old.block }
         requires sound { IsSound self.old.book (records self.old) (in_force self.old.core) reaction }
         requires counts { IsCounted self.old.core reaction }
         ensures ok { OnOk result (Does (stepped (rule.concluded self.old (makes self.old reaction))) out.old.items self.new out.new.items) }
-        ensures cause { IfOk result (λ cause. cause ≡ rule.effect_cause (makes self.old reaction)) }
+        ensures verdict { IfOk result (λ verdict. verdict ≡ rule.effect_verdict (makes self.old reaction)) }
         ensures err { OnErr result ((self.new ≡ self.old) × (out.new.items ≡ out.old.items)) }
     {
         match &reaction {
@@ -233,12 +232,12 @@ impl<'b, A: Allocator + Copy> State<'b, A> {
         part: DataPart<'_>,
         payload: &[u8],
         out: &mut Vec<u8, A>,
-    ) -> Result<Option<Cause>, AllocError>
+    ) -> Result<Verdict, AllocError>
         requires fits { length payload.now < 2 ^ 24 }
         requires part { part_of head.now payload.now ≡ Ok (OfData (data_seen part)) }
         requires stopped { IsStopped self.old.block }
         ensures ok { OnOk result (Does (stepped (rule.concluded self.old (makes self.old (rule.on_data self.old.config self.old.core (rule.body_length self.old.book (stream_at self.old.core.last self.old.streams head.now.stream)) (rule.incoming head.now payload.now (data_seen part.entry)) (stream_at self.old.core.last self.old.streams head.now.stream))))) out.old.items self.new out.new.items) }
-        ensures cause { IfOk result (λ cause. cause ≡ rule.effect_cause (makes self.old (rule.on_data self.old.config self.old.core (rule.body_length self.old.book (stream_at self.old.core.last self.old.streams head.now.stream)) (rule.incoming head.now payload.now (data_seen part.entry)) (stream_at self.old.core.last self.old.streams head.now.stream)))) }
+        ensures verdict { IfOk result (λ verdict. verdict ≡ rule.effect_verdict (makes self.old (rule.on_data self.old.config self.old.core (rule.body_length self.old.book (stream_at self.old.core.last self.old.streams head.now.stream)) (rule.incoming head.now payload.now (data_seen part.entry)) (stream_at self.old.core.last self.old.streams head.now.stream)))) }
         ensures err { OnErr result ((self.new ≡ self.old) × (out.new.items ≡ out.old.items)) }
     {
         self.look_up(head.stream);
@@ -248,10 +247,10 @@ impl<'b, A: Allocator + Copy> State<'b, A> {
 
     /// RST_STREAM is taken.
     #[inline(never)]
-    fn take_reset(&mut self, id: u32, out: &mut Vec<u8, A>) -> Result<Option<Cause>, AllocError>
+    fn take_reset(&mut self, id: u32, out: &mut Vec<u8, A>) -> Result<Verdict, AllocError>
         requires stopped { IsStopped self.old.block }
         ensures ok { OnOk result (Does (stepped (rule.concluded self.old (makes self.old (rule.on_reset self.old.core (stream_at self.old.core.last self.old.streams id))))) out.old.items self.new out.new.items) }
-        ensures cause { IfOk result (λ cause. cause ≡ rule.effect_cause (makes self.old (rule.on_reset self.old.core (stream_at self.old.core.last self.old.streams id)))) }
+        ensures verdict { IfOk result (λ verdict. verdict ≡ rule.effect_verdict (makes self.old (rule.on_reset self.old.core (stream_at self.old.core.last self.old.streams id)))) }
         ensures err { OnErr result ((self.new ≡ self.old) × (out.new.items ≡ out.old.items)) }
     {
         self.look_up(id);
@@ -265,10 +264,10 @@ impl<'b, A: Allocator + Copy> State<'b, A> {
         &mut self,
         part: SettingsPart<'_>,
         out: &mut Vec<u8, A>,
-    ) -> Result<Option<Cause>, AllocError>
+    ) -> Result<Verdict, AllocError>
         requires stopped { IsStopped self.old.block }
         ensures ok { OnOk result (Does (stepped (rule.concluded self.old (makes self.old (settings.settings_rule self.old.streams self.old.core (settings_in part.entry))))) out.old.items self.new out.new.items) }
-        ensures cause { IfOk result (λ cause. cause ≡ rule.effect_cause (makes self.old (settings.settings_rule self.old.streams self.old.core (settings_in part.entry)))) }
+        ensures verdict { IfOk result (λ verdict. verdict ≡ rule.effect_verdict (makes self.old (settings.settings_rule self.old.streams self.old.core (settings_in part.entry)))) }
         ensures err { OnErr result ((self.new ≡ self.old) × (out.new.items ≡ out.old.items)) }
     {
         let reaction = self.on_settings(part);
@@ -282,10 +281,10 @@ impl<'b, A: Allocator + Copy> State<'b, A> {
         is_answer: bool,
         octets: [u8; 8],
         out: &mut Vec<u8, A>,
-    ) -> Result<Option<Cause>, AllocError>
+    ) -> Result<Verdict, AllocError>
         requires stopped { IsStopped self.old.block }
-        ensures ok { OnOk result (Does (stepped (rule.concluded self.old (makes self.old (if is_answer then rule.nothing self.old.core else reactions.Continues (record (changes.only_counts self.old.core) { connection_frame = frames.PingAck octets }))))) out.old.items self.new out.new.items) }
-        ensures cause { IfOk result (λ cause. cause ≡ rule.effect_cause (makes self.old (if is_answer then rule.nothing self.old.core else reactions.Continues (record (changes.only_counts self.old.core) { connection_frame = frames.PingAck octets })))) }
+        ensures ok { OnOk result (Does (stepped (rule.concluded self.old (makes self.old (if is_answer then rule.ignore self.old.core PingAcknowledgement else reactions.Continues (record (changes.only_counts self.old.core) { connection_frame = frames.PingAck octets }))))) out.old.items self.new out.new.items) }
+        ensures verdict { IfOk result (λ verdict. verdict ≡ rule.effect_verdict (makes self.old (if is_answer then rule.ignore self.old.core PingAcknowledgement else reactions.Continues (record (changes.only_counts self.old.core) { connection_frame = frames.PingAck octets })))) }
         ensures err { OnErr result ((self.new ≡ self.old) × (out.new.items ≡ out.old.items)) }
     {
         let reaction = self.on_ping(is_answer, octets);
@@ -299,10 +298,10 @@ impl<'b, A: Allocator + Copy> State<'b, A> {
         last: u32,
         code: u32,
         out: &mut Vec<u8, A>,
-    ) -> Result<Option<Cause>, AllocError>
+    ) -> Result<Verdict, AllocError>
         requires stopped { IsStopped self.old.block }
         ensures ok { OnOk result (Does (stepped (rule.concluded self.old (makes self.old (reactions.Continues (changes.only_counts (record self.old.core { goaway = Some (last, code) })))))) out.old.items self.new out.new.items) }
-        ensures cause { IfOk result (λ cause. cause ≡ rule.effect_cause (makes self.old (reactions.Continues (changes.only_counts (record self.old.core { goaway = Some (last, code) }))))) }
+        ensures verdict { IfOk result (λ verdict. verdict ≡ rule.effect_verdict (makes self.old (reactions.Continues (changes.only_counts (record self.old.core { goaway = Some (last, code) }))))) }
         ensures err { OnErr result ((self.new ≡ self.old) × (out.new.items ≡ out.old.items)) }
     {
         let reaction = self.on_goaway(last, code);
@@ -315,10 +314,10 @@ impl<'b, A: Allocator + Copy> State<'b, A> {
         &mut self,
         increment: u32,
         out: &mut Vec<u8, A>,
-    ) -> Result<Option<Cause>, AllocError>
+    ) -> Result<Verdict, AllocError>
         requires stopped { IsStopped self.old.block }
         ensures ok { OnOk result (Does (stepped (rule.concluded self.old (makes self.old (window.connection_window self.old.core increment)))) out.old.items self.new out.new.items) }
-        ensures cause { IfOk result (λ cause. cause ≡ rule.effect_cause (makes self.old (window.connection_window self.old.core increment))) }
+        ensures verdict { IfOk result (λ verdict. verdict ≡ rule.effect_verdict (makes self.old (window.connection_window self.old.core increment))) }
         ensures err { OnErr result ((self.new ≡ self.old) × (out.new.items ≡ out.old.items)) }
     {
         let reaction = self.on_connection_window(increment);
@@ -332,10 +331,10 @@ impl<'b, A: Allocator + Copy> State<'b, A> {
         id: u32,
         increment: u32,
         out: &mut Vec<u8, A>,
-    ) -> Result<Option<Cause>, AllocError>
+    ) -> Result<Verdict, AllocError>
         requires stopped { IsStopped self.old.block }
         ensures ok { OnOk result (Does (stepped (rule.concluded self.old (makes self.old (rule.on_window self.old.core increment (stream_at self.old.core.last self.old.streams id))))) out.old.items self.new out.new.items) }
-        ensures cause { IfOk result (λ cause. cause ≡ rule.effect_cause (makes self.old (rule.on_window self.old.core increment (stream_at self.old.core.last self.old.streams id)))) }
+        ensures verdict { IfOk result (λ verdict. verdict ≡ rule.effect_verdict (makes self.old (rule.on_window self.old.core increment (stream_at self.old.core.last self.old.streams id)))) }
         ensures err { OnErr result ((self.new ≡ self.old) × (out.new.items ≡ out.old.items)) }
     {
         self.look_up(id);
@@ -343,24 +342,24 @@ impl<'b, A: Allocator + Copy> State<'b, A> {
         self.conclude_in_place(reaction, out)
     }
 
-    /// A frame that changes nothing is taken.
+    /// A frame that is ignored for this reason is taken.
     #[inline(never)]
-    fn take_ignored(&mut self, out: &mut Vec<u8, A>) -> Result<Option<Cause>, AllocError>
+    fn take_ignored(&mut self, reason: Ignored, out: &mut Vec<u8, A>) -> Result<Verdict, AllocError>
         requires stopped { IsStopped self.old.block }
-        ensures ok { OnOk result (Does (stepped (rule.concluded self.old (makes self.old (rule.nothing self.old.core)))) out.old.items self.new out.new.items) }
-        ensures cause { IfOk result (λ cause. cause ≡ rule.effect_cause (makes self.old (rule.nothing self.old.core))) }
+        ensures ok { OnOk result (Does (stepped (rule.concluded self.old (makes self.old (rule.ignore self.old.core reason)))) out.old.items self.new out.new.items) }
+        ensures verdict { IfOk result (λ verdict. verdict ≡ rule.effect_verdict (makes self.old (rule.ignore self.old.core reason))) }
         ensures err { OnErr result ((self.new ≡ self.old) × (out.new.items ≡ out.old.items)) }
     {
-        let reaction = self.on_ignored();
+        let reaction = self.on_ignored(reason);
         self.conclude_in_place(reaction, out)
     }
 
     /// PUSH_PROMISE is taken.
     #[inline(never)]
-    fn take_push_promise(&mut self, out: &mut Vec<u8, A>) -> Result<Option<Cause>, AllocError>
+    fn take_push_promise(&mut self, out: &mut Vec<u8, A>) -> Result<Verdict, AllocError>
         requires stopped { IsStopped self.old.block }
         ensures ok { OnOk result (Does (stepped (rule.concluded self.old (makes self.old (ConnectionError PushPromiseFromClient)))) out.old.items self.new out.new.items) }
-        ensures cause { IfOk result (λ cause. cause ≡ rule.effect_cause (makes self.old (ConnectionError PushPromiseFromClient))) }
+        ensures verdict { IfOk result (λ verdict. verdict ≡ rule.effect_verdict (makes self.old (ConnectionError PushPromiseFromClient))) }
         ensures err { OnErr result ((self.new ≡ self.old) × (out.new.items ≡ out.old.items)) }
     {
         let reaction = self.on_push_promise();
@@ -374,10 +373,10 @@ impl<'b, A: Allocator + Copy> State<'b, A> {
         id: u32,
         increment: u32,
         out: &mut Vec<u8, A>,
-    ) -> Result<Option<Cause>, AllocError>
+    ) -> Result<Verdict, AllocError>
         requires stopped { IsStopped self.old.block }
         ensures ok { OnOk result (Does (stepped (rule.concluded self.old (makes self.old (if id == 0 then window.connection_window self.old.core increment else rule.on_window self.old.core increment (stream_at self.old.core.last self.old.streams id))))) out.old.items self.new out.new.items) }
-        ensures cause { IfOk result (λ cause. cause ≡ rule.effect_cause (makes self.old (if id == 0 then window.connection_window self.old.core increment else rule.on_window self.old.core increment (stream_at self.old.core.last self.old.streams id)))) }
+        ensures verdict { IfOk result (λ verdict. verdict ≡ rule.effect_verdict (makes self.old (if id == 0 then window.connection_window self.old.core increment else rule.on_window self.old.core increment (stream_at self.old.core.last self.old.streams id)))) }
         ensures err { OnErr result ((self.new ≡ self.old) × (out.new.items ≡ out.old.items)) }
     {
         if id == 0 {
@@ -394,13 +393,13 @@ impl<'b, A: Allocator + Copy> State<'b, A> {
         payload: &[u8],
         part: Part<'_>,
         out: &mut Vec<u8, A>,
-    ) -> Result<Option<Cause>, AllocError>
+    ) -> Result<Verdict, AllocError>
         requires fits { length payload.now < 2 ^ 24 }
         requires part { part_of head.now payload.now ≡ Ok (part_seen part) }
         requires plain { IsPlain part }
         requires stopped { IsStopped self.old.block }
         ensures ok { OnOk result (Does (stepped (rule.concluded self.old (rule.frame_effect self.old head.now payload.now (part_seen part.entry)))) out.old.items self.new out.new.items) }
-        ensures cause { IfOk result (λ cause. cause ≡ rule.effect_cause (rule.frame_effect self.old head.now payload.now (part_seen part.entry))) }
+        ensures verdict { IfOk result (λ verdict. verdict ≡ rule.effect_verdict (rule.frame_effect self.old head.now payload.now (part_seen part.entry))) }
         ensures err { OnErr result ((self.new ≡ self.old) × (out.new.items ≡ out.old.items)) }
     {
         match part {
@@ -412,7 +411,8 @@ impl<'b, A: Allocator + Copy> State<'b, A> {
             Part::WindowUpdate(increment) => {
                 self.take_window_update(head.stream, increment, out)
             }
-            Part::Priority | Part::Unknown => self.take_ignored(out),
+            Part::Priority => self.take_ignored(Ignored::Priority, out),
+            Part::Unknown => self.take_ignored(Ignored::UnknownType, out),
             Part::PushPromise => self.take_push_promise(out),
             Part::Headers(_) | Part::Continuation(_) | Part::SettingsAck => unreachable!(),
         }
@@ -425,12 +425,12 @@ impl<'b, A: Allocator + Copy> State<'b, A> {
         payload: &[u8],
         part: Part<'_>,
         out: &mut Vec<u8, A>,
-    ) -> Result<Option<Cause>, AllocError>
+    ) -> Result<Verdict, AllocError>
         requires fits { length payload.now < 2 ^ 24 }
         requires part { part_of head.now payload.now ≡ Ok (part_seen part) }
         requires passed { checks.refusal (rule.block_stream self.old.block) self.old.core.phase head.now ≡ None }
         ensures ok { OnOk result (Does (stepped (rule.concluded self.old (rule.frame_effect self.old head.now payload.now (part_seen part.entry)))) out.old.items self.new out.new.items) }
-        ensures cause { IfOk result (λ cause. cause ≡ rule.effect_cause (rule.frame_effect self.old head.now payload.now (part_seen part.entry))) }
+        ensures verdict { IfOk result (λ verdict. verdict ≡ rule.effect_verdict (rule.frame_effect self.old head.now payload.now (part_seen part.entry))) }
         ensures err { OnErr result ((self.new ≡ self.old) × (out.new.items ≡ out.old.items)) }
     {
         match part {
@@ -450,15 +450,11 @@ impl<'b, A: Allocator + Copy> State<'b, A> {
     }
 
     /// A frame: the checks of its head, the form of its payload, and then what it holds.
-    #[tactic(auto, unfolding(h2_spec::specs::Effect::effect, h2_spec::specs::Effect::cause_of))]
-    fn on_frame(
-        &mut self,
-        frame: FrameRef<'_>,
-        out: &mut Vec<u8, A>,
-    ) -> Result<Option<Cause>, AllocError>
+    #[tactic(auto, unfolding(h2_spec::specs::Effect::effect, h2_spec::specs::Effect::cause_of, h2_spec::specs::Ignored::ignored_of))]
+    fn on_frame(&mut self, frame: FrameRef<'_>, out: &mut Vec<u8, A>) -> Result<Verdict, AllocError>
         requires fits { length frame.payload.now < 2 ^ 24 }
         ensures ok { OnOk result (Does (stepped (rule.effect self.old (WholeFrame frame.entry.head frame.entry.payload.now))) out.old.items self.new out.new.items) }
-        ensures cause { IfOk result (λ cause. cause ≡ rule.cause_of self.old (WholeFrame frame.entry.head frame.entry.payload.now)) }
+        ensures verdict { IfOk result (λ verdict. verdict ≡ record { cause = rule.cause_of self.old (WholeFrame frame.entry.head frame.entry.payload.now); ignored = ignored_of self.old (WholeFrame frame.entry.head frame.entry.payload.now) }) }
         ensures err { OnErr result ((self.new ≡ self.old) × (out.new.items ≡ out.old.items)) }
     {
         match refusal(self.block_stream(), self.core.phase, &frame.head) {
@@ -471,9 +467,9 @@ impl<'b, A: Allocator + Copy> State<'b, A> {
     }
 
     /// The client's preface has arrived: SETTINGS is awaited (RFC 9113, 3.4).
-    fn on_preface(&mut self, out: &mut Vec<u8, A>) -> Result<Option<Cause>, AllocError>
+    fn on_preface(&mut self, out: &mut Vec<u8, A>) -> Result<Verdict, AllocError>
         ensures ok { OnOk result (Does (stepped (changes.made self.old (changes.only_counts (record self.old.core { phase = phase.Settings })))) out.old.items self.new out.new.items) }
-        ensures cause { IfOk result (λ cause. cause ≡ None) }
+        ensures verdict { IfOk result (λ verdict. verdict ≡ record { cause = None; ignored = None }) }
         ensures err { OnErr result ((self.new ≡ self.old) × (out.new.items ≡ out.old.items)) }
     {
         let change = only_counts(ConnectionState {
@@ -483,22 +479,18 @@ impl<'b, A: Allocator + Copy> State<'b, A> {
         self.apply_change(change, out)
     }
 
-    /// One item: what it does, and then the pending output is sent; all or nothing. Answers the cause of the connection
-    /// error or stream error that it results in, if it does.
+    /// One item: what it does, and then the pending output is sent; all or nothing. Answers how it is judged: for which
+    /// cause it is a connection error or a stream error, or for which reason it is ignored.
     ///
     /// # Errors
     ///
     /// `AllocError` where memory was refused: the state, its open block included, and `out` are as before the item.
     #[inline(always)]
-    #[tactic(auto, unfolding(h2_spec::specs::Effect::effect, h2_spec::specs::Effect::cause_of, h2_spec::specs::Trace::step))]
-    pub fn item(
-        &mut self,
-        item: &Item<'_>,
-        out: &mut Vec<u8, A>,
-    ) -> Result<Option<Cause>, AllocError>
+    #[tactic(auto, unfolding(h2_spec::specs::Effect::effect, h2_spec::specs::Effect::cause_of, h2_spec::specs::Ignored::ignored_of, h2_spec::specs::Trace::step))]
+    pub fn item(&mut self, item: &Item<'_>, out: &mut Vec<u8, A>) -> Result<Verdict, AllocError>
         requires short { IsShort (item_of item.now) }
         ensures ok { OnOk result (Does (step self.old (item_of item.now)) out.old.items self.new out.new.items) }
-        ensures cause { IfOk result (λ cause. cause ≡ rule.cause_of self.old (item_of item.now)) }
+        ensures verdict { IfOk result (λ verdict. verdict ≡ record { cause = rule.cause_of self.old (item_of item.now); ignored = ignored_of self.old (item_of item.now) }) }
         ensures err { OnErr result ((self.new ≡ self.old) × (out.new.items ≡ out.old.items)) }
     {
         match item {

@@ -4,6 +4,7 @@
 
 mod apply_change;
 mod block;
+mod block_end;
 mod checkpoint;
 mod conn;
 mod fault;
@@ -26,7 +27,7 @@ pub mod view;
 mod write;
 
 pub use checkpoint::Checkpoint;
-pub use conn::Conn;
+pub use conn::{Conn, is_ended};
 pub use fault::ConnFault;
 pub use h2_spec::connection::{BlockView, Config, Phase};
 pub use h2_spec::flow::Settings;

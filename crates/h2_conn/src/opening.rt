@@ -5,8 +5,12 @@ ghost use Rattle.std.specs.Prelude.{◌≡◌, ◌++◌, IfOk, OnOk, OnErr};
 ghost use Rattle.h2_spec.specs.Opening.{opening_octets, opening_payload, setting, setting_unless};
 
 use h2_frame::append_frame;
+use h2_rules::headers::MAX_LIST;
 use h2_spec::connection::Config;
-use h2_spec::flow::LocalSettings;
+use h2_spec::flow::{
+    LocalSettings, SETTINGS_HEADER_TABLE_SIZE, SETTINGS_INITIAL_WINDOW_SIZE,
+    SETTINGS_MAX_CONCURRENT_STREAMS, SETTINGS_MAX_FRAME_SIZE, SETTINGS_MAX_HEADER_LIST_SIZE,
+};
 use h2_spec::frames::SETTINGS;
 use std::alloc::{AllocError, Allocator};
 
@@ -43,11 +47,26 @@ fn opening_payload<A: Allocator>(alloc: A, config: Config) -> Result<Vec<u8, A>,
     let first = LocalSettings::initial();
     // Space for five settings.
     let mut payload = Vec::with_capacity(alloc, 30)?;
-    append_unless(first.table, 1, config.table, &mut payload)?;
-    payload.extend_from_slice(&setting_of(3, config.streams))?;
-    append_unless(first.window, 4, config.window, &mut payload)?;
-    append_unless(first.frame, 5, config.frame, &mut payload)?;
-    payload.extend_from_slice(&[0, 6, 0, 1, 0, 0])?;
+    append_unless(
+        first.table,
+        SETTINGS_HEADER_TABLE_SIZE,
+        config.table,
+        &mut payload,
+    )?;
+    payload.extend_from_slice(&setting_of(SETTINGS_MAX_CONCURRENT_STREAMS, config.streams))?;
+    append_unless(
+        first.window,
+        SETTINGS_INITIAL_WINDOW_SIZE,
+        config.window,
+        &mut payload,
+    )?;
+    append_unless(
+        first.frame,
+        SETTINGS_MAX_FRAME_SIZE,
+        config.frame,
+        &mut payload,
+    )?;
+    payload.extend_from_slice(&setting_of(SETTINGS_MAX_HEADER_LIST_SIZE, MAX_LIST))?;
     Ok(payload)
 }
 

@@ -13,22 +13,24 @@ ghost use Rattle.h2_conn.specs.Does.{Does, stepped};
 
 use crate::apply_change::{send_and_update, with_sent};
 use crate::state::State;
-use h2_rules::change::only_counts;
+use h2_rules::change::{ignoring, only_counts, verdict_of};
 use h2_rules::settings::comes_into_force;
-use h2_spec::causes::Cause;
+use h2_spec::ignored::Ignored;
+use h2_spec::reactions::Verdict;
 use std::alloc::{AllocError, Allocator};
 
 impl<'b, A: Allocator + Copy> State<'b, A> {
-    /// The peer has acknowledged the server's settings: the first time they come into force, later nothing changes.
+    /// The peer has acknowledged the server's settings: the first time they come into force, later it is ignored.
     #[inline(never)]
-    pub fn on_acknowledged(&mut self, out: &mut Vec<u8, A>) -> Result<Option<Cause>, AllocError>
+    pub fn on_acknowledged(&mut self, out: &mut Vec<u8, A>) -> Result<Verdict, AllocError>
         requires stopped { IsStopped self.old.block }
         ensures ok { OnOk result (Does (stepped (rule.concluded self.old (makes self.old (settings.acknowledged self.old.config self.old.core)))) out.old.items self.new out.new.items) }
-        ensures cause { IfOk result (λ cause. cause ≡ rule.effect_cause (makes self.old (settings.acknowledged self.old.config self.old.core))) }
+        ensures verdict { IfOk result (λ verdict. verdict ≡ rule.effect_verdict (makes self.old (settings.acknowledged self.old.config self.old.core))) }
         ensures err { OnErr result ((self.new ≡ self.old) × (out.new.items ≡ out.old.items)) }
     {
         if self.core.acked {
-            self.apply_change(only_counts(self.core), out)
+            let change = ignoring(Ignored::SecondAcknowledgement, only_counts(self.core));
+            self.apply_change(change, out)
         } else {
             self.come_into_force(out)
         }
@@ -40,10 +42,10 @@ impl<'b, A: Allocator + Copy> State<'b, A> {
     /// # Errors
     ///
     /// `AllocError` where memory was refused for the entries that a higher limit lets the table hold: nothing is done.
-    fn come_into_force(&mut self, out: &mut Vec<u8, A>) -> Result<Option<Cause>, AllocError>
+    fn come_into_force(&mut self, out: &mut Vec<u8, A>) -> Result<Verdict, AllocError>
         requires stopped { IsStopped self.old.block }
         ensures ok { OnOk result (Does (then_sent self.old.core.phase (changes.made self.old (settings.comes_into_force self.old.core (configured self.old.config)))) out.old.items self.new out.new.items) }
-        ensures cause { IfOk result (λ cause. cause ≡ None) }
+        ensures verdict { IfOk result (λ verdict. verdict ≡ record { cause = None; ignored = None }) }
         ensures err { OnErr result ((self.new ≡ self.old) × (out.new.items ≡ out.old.items)) }
     {
         let own = self.config.configured();
@@ -54,7 +56,7 @@ impl<'b, A: Allocator + Copy> State<'b, A> {
             Ok(count) => {
                 self.core = with_sent(change.core, count);
                 self.table.lower_limit(own.table);
-                Ok(None)
+                Ok(verdict_of(&change))
             }
             Err(error) => {
                 self.table.lower_limit(before);

@@ -2,11 +2,8 @@
 //! ignored (RFC 9113, 5.4). Definitions: `cause_of` and `ignored_of` of h2_spec, together `reported` of
 //! `specs/Reports.antt`.
 
-ghost use Rattle.std.specs.Prelude.{◌≡◌, ◌==◌, None, IfOk, OnErr, OnOk, if◌then◌else◌};
+ghost use Rattle.std.specs.Prelude.{◌≡◌, IfOk, OnErr, OnOk};
 ghost use Rattle.h2_frame.specs.Items.{item_of};
-ghost use Rattle.h2_spec.specs.FrameType as frame;
-ghost use Rattle.h2_spec.specs.Ignored as rule;
-ghost use Rattle.h2_spec.specs.Payload.{window_part};
 ghost use Rattle.h2_spec.specs.Trace.{next_item};
 ghost use Rattle.h2_conn.specs.First.{TakesIfAny};
 ghost use Rattle.h2_conn.specs.Follows.{Follows};
@@ -15,15 +12,10 @@ ghost use Rattle.h2_conn.specs.Reports.{item_head, reported, used_by};
 use crate::conn::is_ended;
 use crate::first::awaits_preface;
 use crate::state::State;
-use h2_frame::payload::is_zero_increment;
 use h2_frame::{Item, first_item};
-use h2_rules::ignored::{
-    fragment_ignored, reason_if, reset_ignored, unless_caused, where_reset, window_ignored,
-};
 use h2_spec::causes::Cause;
-use h2_spec::frames::{ACK, FrameType, Head, ItemHead};
+use h2_spec::frames::ItemHead;
 use h2_spec::ignored::Ignored;
-use h2_spec::streams::StreamState;
 use std::alloc::{AllocError, Allocator};
 
 /// An item that was taken.
@@ -51,81 +43,8 @@ fn item_head(item: &Item<'_>) -> ItemHead
     }
 }
 
-impl<'b, A: Allocator + Copy> State<'b, A> {
-    /// The state of the stream that a frame is on.
-    fn kind_at(&self, head: &Head) -> StreamState
-        ensures { result ≡ rule.kind_at self.now head.now }
-    {
-        self.stream_at(head.stream).kind
-    }
-
-    /// Why CONTINUATION is ignored, if it is, by the open block.
-    fn block_ignored(&self) -> Option<Ignored>
-        ensures { result ≡ rule.block_ignored self.now.block }
-    {
-        match &self.block {
-            None => None,
-            Some(block) => match &block.decoding {
-                None => None,
-                Some(decoding) => fragment_ignored(decoding.purpose),
-            },
-        }
-    }
-
-    /// Why a frame that is no error is ignored, if it is, by its type.
-    fn frame_ignored(&self, head: &Head, payload: &[u8]) -> Option<Ignored>
-        ensures { result ≡ rule.frame_ignored self.now head.now payload.now (frame.frame_type head.now.kind) }
-    {
-        match head.frame_type() {
-            FrameType::Data => where_reset(Ignored::DataOnReset, self.kind_at(head)),
-            FrameType::Headers => where_reset(Ignored::TableOnlyBlock, self.kind_at(head)),
-            FrameType::Priority => Some(Ignored::Priority),
-            FrameType::RstStream => reset_ignored(self.kind_at(head)),
-            FrameType::Settings => self.settings_ignored(head),
-            FrameType::Ping => reason_if(head.has(ACK), Ignored::PingAcknowledgement),
-            FrameType::WindowUpdate => self.window_ignored(head, payload),
-            FrameType::Continuation => self.block_ignored(),
-            FrameType::Unknown(_) => Some(Ignored::UnknownType),
-            FrameType::PushPromise | FrameType::Goaway => None,
-        }
-    }
-
-    /// Why SETTINGS is ignored, if it is.
-    fn settings_ignored(&self, head: &Head) -> Option<Ignored>
-        ensures { result ≡ rule.settings_ignored (frame.has head.now.flags frame.ACK) self.now.core.acked }
-    {
-        if head.has(ACK) {
-            reason_if(self.core.acked, Ignored::SecondAcknowledgement)
-        } else {
-            None
-        }
-    }
-
-    /// Why WINDOW_UPDATE is ignored, if it is.
-    fn window_ignored(&self, head: &Head, payload: &[u8]) -> Option<Ignored>
-        ensures { result ≡ (if head.now.stream == 0 then None else rule.window_ignored (rule.is_zero (window_part payload.now)) (rule.kind_at self.now head.now)) }
-    {
-        if head.stream == 0 {
-            None
-        } else {
-            window_ignored(is_zero_increment(payload), self.kind_at(head))
-        }
-    }
-
-    /// Why an item that is no error is ignored, if it is.
-    fn item_ignored(&self, item: &Item<'_>) -> Option<Ignored>
-        ensures { result ≡ rule.item_ignored self.now (item_of item.now) }
-    {
-        match item {
-            Item::Frame(frame) => self.frame_ignored(&frame.head, frame.payload),
-            Item::Preface | Item::BadPreface | Item::Oversize(_) => None,
-        }
-    }
-}
-
 /// Takes the item that octets begin with, if there is a whole one, and reports what it is, and why it is an error or is
 /// ignored; none after the end. Where memory is refused nothing of it is done.
-#[tactic(auto, unfolding(h2_spec::specs::Ignored::ignored_of))]
 fn report_first<'b, A: Allocator + Copy>(
     state: &mut State<'b, A>,
     octets: &[u8],
@@ -142,13 +61,12 @@ fn report_first<'b, A: Allocator + Copy>(
     match first_item(octets, awaits_preface(phase), state.limit()) {
         None => Ok(None),
         Some((item, used)) => {
-            let ignored = state.item_ignored(&item);
             match state.item(&item, out) {
-                Ok(cause) => Ok(Some(TakenItem {
+                Ok(verdict) => Ok(Some(TakenItem {
                     used,
                     item: item_head(&item),
-                    cause,
-                    ignored: unless_caused(cause, ignored),
+                    cause: verdict.cause,
+                    ignored: verdict.ignored,
                 })),
                 Err(error) => Err(error),
             }

@@ -14,6 +14,7 @@ use h2_fields::collected::Savepoint;
 use h2_fields::fault::BlockFault;
 use h2_fields::fragment::decode_piece;
 use h2_fields::rest::{Rest, RestChange};
+use h2_rules::block::refused_end;
 use h2_spec::causes::Cause;
 use h2_table::{DynTable, Edit};
 use std::alloc::Allocator;
@@ -100,12 +101,6 @@ impl<A: Allocator + Copy> Decoding<A> {
     pub fn bad_end(&self, tentative: &Tentative<A>) -> Option<Cause>
         ensures { result ≡ bad_end (after_of self.now tentative.now) }
     {
-        if !tentative.rest.is_whole() {
-            return Some(Cause::BlockTruncated);
-        }
-        if self.collected.is_due() {
-            return Some(Cause::SizeUpdateMissing);
-        }
-        None
+        refused_end(tentative.rest.is_whole(), self.collected.is_due())
     }
 }

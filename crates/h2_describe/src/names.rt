@@ -1,10 +1,9 @@
 //! Frame types, flags, settings, error codes and states of streams by name (RFC 9113, 5.1, 6 and 7). The names are
-//! defined in specs/Names.antt, and a live stream in `h2_spec`, specs/Stream.antt.
+//! defined in specs/Names.antt.
 
 ghost use Rattle.std.specs.Prelude.{◌≡◌, ℕ, List, map, option_map};
 ghost use Rattle.std.specs.Borrow.{Bor};
 ghost use Rattle.h2_describe.specs.Names as spec;
-ghost use Rattle.h2_spec.specs.Stream as stream;
 
 use crate::say::{HexOctet, Say, TextBuilder};
 use crate::say_all;
@@ -188,14 +187,4 @@ pub fn kind_name(kind: StreamState) -> &'static str
         StreamState::PeerReset => "closed, reset by the client",
         StreamState::WeReset => "closed, reset by the server",
     }
-}
-
-/// Whether a stream in this state is counted as live: open or half-closed (RFC 9113, 5.1.2).
-pub fn is_live(kind: StreamState) -> bool
-    ensures { result ≡ stream.is_live kind }
-{
-    matches!(
-        kind,
-        StreamState::BothOpen | StreamState::HalfRemote | StreamState::HalfLocal
-    )
 }

@@ -7,7 +7,7 @@ ghost use Rattle.h2_explain.specs.Explains.{EndsLineOrNone, IsRestOf, IsRestText
 ghost use Rattle.h2_account.specs.Lines.{EndsLine};
 ghost use Rattle.h2_account.specs.Rest.{rest_of};
 
-use crate::explainer::{Explainer, has_ended, opening_of};
+use crate::explainer::{Explainer, opening_of};
 use crate::run::Form;
 use crate::verdict::{Tally, verdict_at};
 use crate::verdict_words::{put_verdict, say_tally};
@@ -17,7 +17,7 @@ use h2_account::paint::{Paint, Role};
 use h2_account::rest::{InputRest, missing_of, put_end, rest_line, say_place};
 use h2_account::waits::{put_wait, say_wait, wait_of};
 use h2_account::warning_words::put_warnings;
-use h2_conn::Conn;
+use h2_conn::{Conn, is_ended};
 use h2_describe::say::TextBuilder;
 use h2_describe::say_all;
 use h2_device::{string_of, texts};
@@ -114,7 +114,7 @@ impl<A: Allocator + Copy> End<'_, '_, A> {
     /// Puts a line last for each live stream, unless the connection has ended.
     fn say_waits(&self, out: &mut TextBuilder<A>) {
         let (counts, config) = (self.conn.counts(), self.conn.config());
-        if has_ended(counts.phase) {
+        if is_ended(counts.phase) {
             return;
         }
         for stream in self.explainer.live.keys() {
@@ -166,7 +166,7 @@ impl<A: Allocator + Copy> End<'_, '_, A> {
     /// Puts what each live stream waits for, if there is one.
     fn put_waits(&self, out: &mut JsonWords<A>) {
         let (counts, config) = (self.conn.counts(), self.conn.config());
-        if has_ended(counts.phase) || self.explainer.live.is_empty() {
+        if is_ended(counts.phase) || self.explainer.live.is_empty() {
             return;
         }
         out.open_list("waits");

@@ -4,7 +4,6 @@
 ghost use Rattle.std.specs.Prelude.{◌≡◌, ◌++◌, IfOk, OnOk};
 ghost use Rattle.std.specs.BTreeMap.{IsEmpty};
 ghost use Rattle.std.specs.Option.{option_map};
-ghost use Rattle.h2_conn.specs.Connection.{is_ended};
 ghost use Rattle.h2_spec.specs.Payload.{part_of};
 ghost use Rattle.h2_spec.specs.Stream.{stream_at};
 ghost use Rattle.h2_item.specs.Item.{head_in};
@@ -15,7 +14,7 @@ ghost use Rattle.h2_facts.specs.Warnings.{AreWarnings};
 use crate::moved::{moved_by, note_moved};
 use h2_account::account::Account;
 use h2_changes::changes::{Changes, connection_changes, stream_changes};
-use h2_conn::{Conn, write_opening};
+use h2_conn::{Conn, is_ended, write_opening};
 use h2_describe::say::TextBuilder;
 use h2_describe::sent::next_frame;
 use h2_describe::spelled::BlockReader;
@@ -30,7 +29,6 @@ use h2_item::item::Explained;
 use h2_item::notes::Notes;
 use h2_sentence::sentence::say_sentence;
 use h2_spec::causes::Cause;
-use h2_spec::connection::Phase;
 use h2_spec::errors::ErrorCode;
 use h2_spec::frames::{CONTINUATION, END_HEADERS, END_STREAM, FrameType, HEADERS, Head};
 use h2_spec::streams::StreamState;
@@ -52,13 +50,6 @@ pub struct Explainer<A: Allocator = Global> {
     pub refused_ends: BTreeMap<u32, u64, A>,
     /// Whether long texts are shown whole.
     pub is_full: bool,
-}
-
-/// Whether a connection error ended the connection (RFC 9113, 5.4.1).
-pub(crate) fn has_ended(phase: Phase) -> bool
-    ensures { result ≡ is_ended phase }
-{
-    matches!(phase, Phase::Ended(_))
 }
 
 /// The fragment of a field block that a frame has, if its payload can be read as one (RFC 9113, 6.2 and 6.10).
@@ -121,7 +112,7 @@ fn reads_fields(item: &Explained<'_>) -> bool
 {
     match item.cause {
         None => true,
-        Some(cause) => !has_ended(item.after.counts.phase) || is_of_fields(cause),
+        Some(cause) => !is_ended(item.after.counts.phase) || is_of_fields(cause),
     }
 }
 
@@ -179,7 +170,7 @@ impl<A: Allocator + Copy> Explainer<A> {
         if let Some(fragment) = fragment_of(frame) {
             self.reader.read(alloc, fragment)?;
         }
-        Ok(head.has(END_HEADERS) || has_ended(item.after.counts.phase))
+        Ok(head.has(END_HEADERS) || is_ended(item.after.counts.phase))
     }
 
     /// The item that has the END_STREAM of the frame on hand: that of its HEADERS for a frame of a block.
@@ -396,7 +387,7 @@ impl<A: Allocator + Copy> Explainer<A> {
         if item.before.block.is_none() {
             self.table.begin();
         }
-        if has_ended(item.after.counts.phase) {
+        if is_ended(item.after.counts.phase) {
             return Ok(Vec::new(alloc));
         }
         self.table.follow(alloc, item, &self.reader)

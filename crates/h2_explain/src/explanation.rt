@@ -15,7 +15,7 @@ ghost use Rattle.h2_explain.specs.Verdicts.{TalliesItem, verdict_at};
 ghost use Rattle.h2_explain.specs.declared.run.ExplainFault.TheVariants as faults;
 
 use crate::end::{End, rest_of};
-use crate::explainer::{Explainer, has_ended};
+use crate::explainer::Explainer;
 use crate::recorder::Recorder;
 use crate::run::{ExplainFault, Form, Summary};
 use crate::taking::take_next;
@@ -23,7 +23,7 @@ use crate::verdict::{Tally, verdict_at};
 use h2_account::json::json_of;
 use h2_account::lines::lines_of;
 use h2_account::paint::Paint;
-use h2_conn::Conn;
+use h2_conn::{Conn, is_ended};
 use h2_describe::sent::first_of;
 use h2_device::Output;
 use h2_item::item::Explained;
@@ -313,7 +313,7 @@ impl<A: Allocator + Copy> Explanation<A> {
             Err(fault) => return Err(fault),
         };
         let rest = octets_from(piece, used);
-        if has_ended(conn.counts().phase) {
+        if is_ended(conn.counts().phase) {
             self.late += rest.len();
             return Ok(());
         }
@@ -363,7 +363,7 @@ impl<A: Allocator + Copy> Explanation<A> {
             Err(fault) => return Err(fault),
         };
         let rest = without_front(octets, used);
-        if has_ended(conn.counts().phase) {
+        if is_ended(conn.counts().phase) {
             self.late += rest.len();
         } else {
             self.held = rest;
@@ -397,7 +397,7 @@ impl<A: Allocator + Copy> Explanation<A> {
         ensures flag { O.has_failed output.new ≡ not_written result }
         ensures name { O.name output.new ≡ O.name output.old }
     {
-        if has_ended(conn.counts().phase) {
+        if is_ended(conn.counts().phase) {
             self.pass_by(piece.len());
             return Ok(());
         }

@@ -5,12 +5,11 @@
 use h2_changes::changes::Moved;
 use h2_changes::count::Count;
 use h2_conn::Conn;
-use h2_describe::names::is_live;
 use h2_describe::sent::next_frame;
 use h2_item::item::Explained;
 use h2_item::notes::Notes;
 use h2_spec::connection::BlockView;
-use h2_spec::streams::{Numbers, Stream};
+use h2_spec::streams::{Numbers, Stream, is_live};
 use std::alloc::{AllocError, Allocator};
 use std::collections::BTreeMap;
 

@@ -4,8 +4,7 @@
 ghost use Rattle.std.specs.Prelude.{◌≡◌, ◌==◌, false, OnOk};
 ghost use Rattle.h2_explain.specs.Verdicts.{is_limit, no_tally, strict_status, tally_with, verdict_at, breaks_rule};
 
-use crate::explainer::has_ended;
-use h2_conn::Conn;
+use h2_conn::{Conn, is_ended};
 use h2_facts::special::CaseFacts;
 use h2_facts::warning::{Warnings, duty_of_error, duty_of_reason, is_breach, is_unacknowledged};
 use h2_item::item::Explained;
@@ -134,6 +133,6 @@ pub(crate) fn verdict_at<A: Allocator + Copy>(
     ClientVerdict {
         broken: tally.broken || is_unacknowledged(&counts),
         limited: tally.limited,
-        unfinished: left > 0 && !has_ended(counts.phase),
+        unfinished: left > 0 && !is_ended(counts.phase),
     }
 }

@@ -4,7 +4,6 @@
 ghost use Rattle.std.specs.Prelude.{◌≡◌, ℕ, ◌+◌, ◌-◌, ◌*◌, ◌%◌, ◌≤◌, ◌<◌, List, length, slice_get, ◌==◌, if◌then◌else◌, Some, Ok, Err};
 ghost use Rattle.h2_spec.specs.FrameType.{DATA, HEADERS, RST_STREAM, SETTINGS, GOAWAY, WINDOW_UPDATE, ACK, PADDED, has};
 ghost use Rattle.h2_spec.specs.Payload as spec;
-ghost use Rattle.h2_spec.specs.Ignored.{is_zero};
 ghost use Rattle.h2_spec.specs.Payload.Part.{OfPriority};
 ghost use Rattle.h2_spec.specs.Payload.{octets_if, fixed_len, pad_or_0, pad_length, priority_of, data_part, headers_part, settings_part, window_part, goaway_part, reset_part, with_part, of_length, settings_or_ack};
 ghost use Rattle.h2_spec.specs.declared.causes.Cause.TheVariants.{PingLength, PriorityLength};
@@ -207,17 +206,6 @@ pub fn window_of(frame: FrameRef<'_>) -> Result<u32, Cause>
         return Err(Cause::WindowUpdateLength);
     }
     Ok(u31_at(frame.payload, 0))
-}
-
-/// Whether the payload of a WINDOW_UPDATE frame is an increment of 0 (RFC 9113, 6.9); false where it is not 4 octets.
-#[tactic(auto, unfolding(h2_spec::specs::Payload::window_part))]
-pub fn is_zero_increment(payload: &[u8]) -> bool
-    ensures { result ≡ is_zero (window_part payload.now) }
-{
-    if payload.len() != 4 {
-        return false;
-    }
-    u31_at(payload, 0) == 0
 }
 
 /// The last stream and the error code of a GOAWAY frame; what follows them is not looked at (RFC 9113, 6.8).

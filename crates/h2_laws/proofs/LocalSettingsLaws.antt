@@ -21,6 +21,7 @@ use Rattle.h2_spec.specs.declared.reactions.Change.{Change}
 use Rattle.h2_spec.specs.declared.reactions.ConnectionFrame.TheVariants.{PingAck}
 use Rattle.h2_spec.specs.declared.reactions.Reaction.{Reaction}
 use Rattle.h2_spec.specs.declared.reactions.Reaction.TheVariants.{ConnectionError, Continues}
+use Rattle.h2_spec.specs.declared.ignored.Ignored.TheVariants.{SecondAcknowledgement, PingAcknowledgement}
 use Rattle.h2_spec.specs.declared.reactions.StreamOutcome.{StreamOutcome}
 use Rattle.h2_spec.specs.declared.streams.Stream.{Stream}
 use Rattle.h2_spec.specs.FrameType.{END_HEADERS, ACK, has}
@@ -37,14 +38,14 @@ use Rattle.h2_spec.specs.Window.{is_above_max, given_back}
 use Rattle.h2_spec.specs.Settings.{initial_local_settings}
 use Rattle.h2_spec.specs.Answer.{Entry}
 use Rattle.h2_spec.specs.State.{State, OpenBlock, Decoding, configured, opening}
-use Rattle.h2_spec.specs.Change.{Step, only_counts, with_outcome, stream_error, made}
-use Rattle.h2_spec.specs.ReactionTable.{Cell, Error, Nothing, Rule, DataRule, Take, Refuse, Count, ResetRule, PeerResets, WindowRule, MoveWindow, run_cell, data_cell, reset_cell, window_cell}
+use Rattle.h2_spec.specs.Change.{Step, only_counts, ignoring, with_outcome, stream_error, made}
+use Rattle.h2_spec.specs.ReactionTable.{Cell, Error, Ignore, Rule, DataRule, Take, Refuse, Count, ResetRule, PeerResets, WindowRule, MoveWindow, run_cell, data_cell, reset_cell, window_cell}
 use Rattle.h2_spec.specs.Data.{owed_as, owed_on_connection, counted, if_within, data_outcome, data_taken, data_refused, data_counted}
 use Rattle.h2_spec.specs.WindowUpdate.{connection_window, window_outcome}
 use Rattle.h2_spec.specs.SettingsFrame.{acknowledged, comes_into_force, settings_taken, settings_applied, settings_rule}
 use Rattle.h2_spec.specs.Headers.{FrameEffect, Breaks, Makes, makes, block_ends, fragment_read, fragment_decoded, decoded_with, fragment, max_block, fresh_block, fresh_decoding, continued, continuation}
 use Rattle.h2_spec.specs.Checks.{refusal}
-use Rattle.h2_spec.specs.Effect.{nothing, data_rule, on_data, reset_rule, reset_outcome, on_reset, window_rule, on_window, on_headers, frame_effect, part_effect, checked_effect, block_stream, item_effect, concluded, effect}
+use Rattle.h2_spec.specs.Effect.{ignore, data_rule, on_data, reset_rule, reset_outcome, on_reset, window_rule, on_window, on_headers, frame_effect, part_effect, checked_effect, block_stream, item_effect, concluded, effect}
 use Rattle.h2_spec.specs.SendPending.{send_pending}
 use Rattle.h2_spec.specs.Trace.{then_sent, step, next_item, event_on, next_event, trace}
 use Rattle.h2_laws.specs.LocalSettings.{HasSettingsInForce, AllHaveSettingsInForce, KeepsLocalSettings, most_of_table, settings_in_force}
@@ -134,9 +135,9 @@ either-keeps : (core : ConnectionState) (b : Bool) (x y : Reaction) → Reaction
 either-keeps core true x y h k = h
 either-keeps core false x y h k = k
 
-cell-keeps : {R : Type 0} (core : ConnectionState) (rule : R → Reaction) → ((r : R) → ReactionKeeps core (rule r)) → (c : Cell R) → ReactionKeeps core (run_cell ConnectionError (nothing core) rule c)
+cell-keeps : {R : Type 0} (core : ConnectionState) (rule : R → Reaction) → ((r : R) → ReactionKeeps core (rule r)) → (c : Cell R) → ReactionKeeps core (run_cell ConnectionError (ignore core) rule c)
 cell-keeps core rule h (Error cause) = tt
-cell-keeps core rule h Nothing = (refl, refl)
+cell-keeps core rule h (Ignore reason) = (refl, refl)
 cell-keeps core rule h (Rule r) = h r
 
 counted-own : (threshold : ℕ) (core : ConnectionState) (n : ℕ) → AreSame (counted threshold core n).core core
@@ -165,23 +166,23 @@ data-keeps config core body d st = cell-keeps core _ by_rule (data_cell st.kind)
     outcome-within t = within (with_outcome (counted config.credit core d.octets) t) (same-twice (with_outcome (counted config.credit core d.octets) t).core (counted config.credit core d.octets).core core (outcome-own (counted config.credit core d.octets) t) (counted-own config.credit core d.octets))
 
     by_rule : (r : DataRule) → ReactionKeeps core (data_rule r config core body d st)
-    by_rule Take = outcome-within (data_outcome config.credit core.peer.size_update_pending body d st)
-    by_rule (Refuse cause) = outcome-within (stream_error core.peer.size_update_pending st.id cause)
-    by_rule Count = within (counted config.credit core d.octets) (counted-own config.credit core d.octets)
+    by_rule Take = outcome-within (data_outcome config.credit body d st)
+    by_rule (Refuse cause) = outcome-within (stream_error st.id cause)
+    by_rule (Count reason) = within (ignoring reason (counted config.credit core d.octets)) (counted-own config.credit core d.octets)
 
 reset-keeps : (core : ConnectionState) (st : Stream) → ReactionKeeps core (on_reset core st)
 unfolding on_reset
 reset-keeps core st = cell-keeps core _ by_rule (reset_cell st.kind)
   where
     by_rule : (r : ResetRule) → ReactionKeeps core (reset_rule r core st)
-    by_rule PeerResets = outcome-own (only_counts core) (reset_outcome core.peer.size_update_pending st)
+    by_rule PeerResets = outcome-own (only_counts core) (reset_outcome st)
 
 window-keeps : (core : ConnectionState) (n : ℕ) (st : Stream) → ReactionKeeps core (on_window core n st)
 unfolding on_window
-window-keeps core n st = cell-keeps core _ by_rule (window_cell st.kind)
+window-keeps core n st = cell-keeps core _ by_rule (window_cell (eqb n 0) st.kind)
   where
     by_rule : (r : WindowRule) → ReactionKeeps core (window_rule r core n st)
-    by_rule MoveWindow = outcome-own (only_counts core) (window_outcome core.peer.size_update_pending n st)
+    by_rule MoveWindow = outcome-own (only_counts core) (window_outcome n st)
 
 connection-keeps : (core : ConnectionState) (n : ℕ) → ReactionKeeps core (connection_window core n)
 unfolding connection_window
@@ -256,7 +257,7 @@ module _ (s : State) (most : ℕ) (low : s.core.own.table ≤ most) (within : s.
 
   headers-keeps : (h : Head) (part : HeadersPart) (c : Cell Purpose) → EffectKeeps s most (on_headers s h part c)
   headers-keeps h part (Error cause) = tt
-  headers-keeps h part Nothing = (refl, (refl, refl), within)
+  headers-keeps h part (Ignore reason) = (refl, (refl, refl), within)
   headers-keeps h part (Rule purpose) = fragment-keeps (fresh_block h) (fresh_decoding s purpose) part.fragment (has h.flags END_HEADERS)
 
 -- ---- what an item results in
@@ -294,7 +295,7 @@ module _ (config : Config) (s : State) (same : s.config ≡ config) (own : s.cor
   acknowledged-has = at s.core.acked own within
     where
       at : (b : Bool) → s.core.own ≡ settings_in_force config b → s.table.max ≤ most_of_table config b →
-          EffectHas config (makes s (cond b (Continues (only_counts (record s.core { acked = b }))) (Continues (comes_into_force s.core (configured s.config)))))
+          EffectHas config (makes s (cond b (Continues (ignoring SecondAcknowledgement (only_counts (record s.core { acked = b })))) (Continues (comes_into_force s.core (configured s.config)))))
       at true o w = (same, o, w)
       at false o w = (same, ap configured same, omega (arith, w))
 
@@ -306,7 +307,7 @@ module _ (config : Config) (s : State) (same : s.config ≡ config) (own : s.cor
   frame-has h p (OfSettings pairs) = reacts _ (settings-keeps s.streams s.core pairs)
   frame-has h p OfSettingsAck = acknowledged-has
   frame-has h p OfPushPromise = tt
-  frame-has h p (OfPing octets) = reacts _ (either-keeps s.core (has h.flags ACK) (nothing s.core) (Continues (record (only_counts s.core) { connection_frame = PingAck octets })) (refl, refl) (refl, refl))
+  frame-has h p (OfPing octets) = reacts _ (either-keeps s.core (has h.flags ACK) (ignore s.core PingAcknowledgement) (Continues (record (only_counts s.core) { connection_frame = PingAck octets })) (refl, refl) (refl, refl))
   frame-has h p (OfGoaway last code) = (same, own, within)
   frame-has h p (OfWindowUpdate n) = reacts _ (either-keeps s.core (eqb h.stream 0) (connection_window s.core n) _ (connection-keeps s.core n) (window-keeps s.core n _))
   frame-has h p (OfContinuation octets) = kept _ (continuation-keeps s most low within s.block octets (has h.flags END_HEADERS))

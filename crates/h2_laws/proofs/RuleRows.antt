@@ -136,7 +136,7 @@ window_and_frame outcome = (outcome.stream.numbers.send, outcome.frame)
 abbrev window_wanted : ℕ × ℤ × StreamFrame → ℤ × StreamFrame
 window_wanted row = (row.1, row.2)
 
-increments_of_a_stream : map (λ (row : ℕ × ℤ × StreamFrame). window_and_frame (window_outcome false row.0 (stream HalfRemote))) stream_windows ≡ map window_wanted stream_windows
+increments_of_a_stream : map (λ (row : ℕ × ℤ × StreamFrame). window_and_frame (window_outcome row.0 (stream HalfRemote))) stream_windows ≡ map window_wanted stream_windows
 unfolding window_outcome
 increments_of_a_stream = refl
 
@@ -235,7 +235,7 @@ trailers =
     (42, Some cause.TrailersPseudoField, false, refused cause.TrailersPseudoField) ∷
     (65537, None, true, refused cause.ListTooLarge) ∷ []
 
-trailers_end_the_side_of_the_peer : map (λ (row : ℕ × Option Cause × Bool × Outcome). told (trailers_outcome row.0 row.1 0 false row.2 (stream BothOpen))) trailers
+trailers_end_the_side_of_the_peer : map (λ (row : ℕ × Option Cause × Bool × Outcome). told (trailers_outcome row.0 row.1 0 row.2 (stream BothOpen))) trailers
     ≡ map (λ (row : ℕ × Option Cause × Bool × Outcome). row.3) trailers
 unfolding trailers_outcome
 trailers_end_the_side_of_the_peer = refl

@@ -4,6 +4,7 @@ pub mod ErrorCodes
 pub mod Forms
 pub mod Grants
 pub mod GrantsTest
+pub mod IgnoredList
 pub mod Ignoring
 pub mod Order
 pub mod LocalSettings

@@ -1,6 +1,7 @@
 //! Laws of causes, and of what is ignored.
 //! Each law is the contract of a function with an empty body; definitions: `h2_spec/specs/Cause.antt`,
-//! `h2_spec/specs/Effect.antt`, `h2_spec/specs/Ignored.antt`, `specs/ErrorCodes.antt`, `specs/Ignoring.antt`.
+//! `h2_spec/specs/Effect.antt`, `h2_spec/specs/Ignored.antt`, `specs/ErrorCodes.antt`, `specs/IgnoredList.antt`,
+//! `specs/Ignoring.antt`.
 
 ghost use Rattle.std.specs.Prelude.{◌≡◌, Some, None, [], true};
 ghost use Rattle.h2_spec.specs.declared.ignored.Ignored.{Ignored};
@@ -11,6 +12,7 @@ ghost use Rattle.h2_spec.specs.Effect.{cause_of, effect};
 ghost use Rattle.h2_spec.specs.Ignored.{ignored_of, changes_nothing};
 ghost use Rattle.h2_spec.specs.Trace.{step};
 ghost use Rattle.h2_laws.specs.ErrorCodes.{error_codes_in, error_codes_of};
+ghost use Rattle.h2_laws.specs.IgnoredList.{ignored_as_listed};
 ghost use Rattle.h2_laws.specs.Ignoring.{OnlyReceiveWindowChanges, OnlyHeaderTableChanges};
 
 /// The frames that are sent for an item have one error code where the item has a cause, which is the code of that
@@ -30,6 +32,12 @@ pub fn what_is_ignored_changes_nothing()
 pub fn what_is_ignored_changes_no_stream()
     ensures data { (s : State) (item : Item) → ignored_of s item ≡ Some DataOnReset → OnlyReceiveWindowChanges s (effect s item) }
     ensures block { (s : State) (item : Item) → ignored_of s item ≡ Some TableOnlyBlock → OnlyHeaderTableChanges s (effect s item) }
+{}
+
+/// What is ignored, and why, is what is listed by the type of a frame and the state of its stream, unless the frame
+/// results in an error (RFC 9113, 4.1, 5.1 and 6).
+pub fn what_is_ignored_is_listed()
+    ensures { (s : State) (item : Item) → ignored_of s item ≡ ignored_as_listed s item }
 {}
 
 /// What is ignored is no error.

@@ -1,4 +1,2 @@
-pub mod BlockLaws
-mod RequestOutcomeLaws
 mod SettingsLaws
 pub mod SoundLaws

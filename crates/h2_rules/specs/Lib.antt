@@ -1,3 +1,4 @@
+pub mod Block
 pub mod OneSetting
 pub mod Open
 pub mod Sound

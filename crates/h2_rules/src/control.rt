@@ -1,4 +1,4 @@
-//! The rules for PING and GOAWAY, and for frames that change nothing (RFC 9113, 6.3, 6.7 and 6.8). Definition:
+//! The rules for PING and GOAWAY, and for frames that are ignored (RFC 9113, 6.3, 6.7 and 6.8). Definition:
 //! `frame_effect` of h2_spec's `specs/Effect.antt`.
 
 ghost use Rattle.std.specs.Prelude.{◌≡◌, List, Some, if◌then◌else◌};
@@ -6,34 +6,36 @@ ghost use Rattle.h2_spec.specs.Answer.{Entry};
 ghost use Rattle.h2_spec.specs.Change as changes;
 ghost use Rattle.h2_spec.specs.Effect as rule;
 ghost use Rattle.h2_spec.specs.Stream.{Records};
+ghost use Rattle.h2_spec.specs.declared.ignored.Ignored.TheVariants.{PingAcknowledgement};
 ghost use Rattle.h2_spec.specs.declared.reactions.ConnectionFrame.TheVariants as frames;
 ghost use Rattle.h2_spec.specs.declared.reactions.Reaction.TheVariants as reactions;
 ghost use Rattle.h2_rules.specs.Sound.{IsSound, IsSoundConnectionState, in_force};
 
-use crate::change::only_counts;
+use crate::change::{ignoring, only_counts};
 use h2_spec::connection::ConnectionState;
+use h2_spec::ignored::Ignored;
 use h2_spec::reactions::{Change, ConnectionFrame, Reaction};
 
-/// A frame that changes nothing: PRIORITY, and types that are not known (RFC 9113, 4.1, 5.5 and 6.3).
-pub fn nothing(core: ConnectionState) -> Reaction
+/// A frame that is ignored for this reason: nothing changes (RFC 9113, 4.1, 5.1, 5.5 and 6.3).
+pub fn ignore(core: ConnectionState, reason: Ignored) -> Reaction
     requires core { IsSoundConnectionState core }
-    ensures rule { result ≡ rule.nothing core }
+    ensures rule { result ≡ rule.ignore core reason }
     ensures sound { (book : List Entry) (r : Records) → r.last ≡ core.last → IsSound book r (in_force core) result }
 {
-    Reaction::Continues(only_counts(core))
+    Reaction::Continues(ignoring(reason, only_counts(core)))
 }
 
 /// PING with these octets (RFC 9113, 6.7): they are sent back, unless it is an answer itself (`is_answer`), which is
 /// ignored. There is no error.
 pub fn on_ping(core: ConnectionState, is_answer: bool, octets: [u8; 8]) -> Reaction
     requires core { IsSoundConnectionState core }
-    ensures rule { result ≡ (if is_answer then rule.nothing core else reactions.Continues (record (changes.only_counts core) { connection_frame = frames.PingAck octets })) }
+    ensures rule { result ≡ (if is_answer then rule.ignore core PingAcknowledgement else reactions.Continues (record (changes.only_counts core) { connection_frame = frames.PingAck octets })) }
     ensures sound { (book : List Entry) (r : Records) → r.last ≡ core.last → IsSound book r (in_force core) result }
 {
-    let change = only_counts(core);
     if is_answer {
-        return Reaction::Continues(change);
+        return ignore(core, Ignored::PingAcknowledgement);
     }
+    let change = only_counts(core);
     Reaction::Continues(Change {
         connection_frame: ConnectionFrame::PingAck(octets),
         ..change

@@ -8,11 +8,12 @@ ghost use Rattle.h2_spec.specs.Effect as effect;
 ghost use Rattle.h2_spec.specs.Stream.{Records, is_live, stream_at};
 ghost use Rattle.h2_rules.specs.Sound.{HasBody, InForce, IsCalm, IsCredit, IsSound, IsSoundConnectionState, IsSoundStream, IsWindow, in_force, is_recorded};
 
-use crate::change::{only_counts, outcome_without_frame, stream_error, with_outcome};
+use crate::change::{ignoring, only_counts, outcome_without_frame, stream_error, with_outcome};
 use crate::ends::{length_broken, peer_ended};
 use h2_spec::causes::Cause;
 use h2_spec::connection::{Config, ConnectionState};
 use h2_spec::flow::{Credit, Window};
+use h2_spec::ignored::Ignored;
 use h2_spec::reactions::{
     Change, ConnectionFrame, Reaction, ReceivedData, StreamFrame, StreamOutcome,
 };
@@ -44,9 +45,9 @@ fn counted(threshold: u32, core: ConnectionState, count: u32) -> Change
 
 /// What is owed on the stream is given back once it reaches the threshold.
 #[tactic(auto, unfolding(h2_spec::specs::Data::returned, h2_spec::specs::Stream::octets_waiting))]
-fn returned(threshold: u32, size_update_pending: bool, stream: Stream) -> StreamOutcome
+fn returned(threshold: u32, stream: Stream) -> StreamOutcome
     requires credit { IsCredit stream.numbers.recv stream.numbers.owed }
-    ensures rule { result ≡ rule.returned threshold size_update_pending stream }
+    ensures rule { result ≡ rule.returned threshold stream }
     ensures id { result.stream.id ≡ stream.id }
     ensures sound { (f : InForce) → f.window ≤ 2147483647 → IsSoundStream f stream → IsSoundStream f result.stream }
     ensures waits { (book : List Entry) → HasBody book stream → HasBody book result.stream }
@@ -62,10 +63,10 @@ fn returned(threshold: u32, size_update_pending: bool, stream: Stream) -> Stream
         };
         return StreamOutcome {
             frame: StreamFrame::StreamCredit(stream.id, owed),
-            ..outcome_without_frame(size_update_pending, Stream { numbers, ..stream })
+            ..outcome_without_frame(Stream { numbers, ..stream })
         };
     }
-    outcome_without_frame(size_update_pending, stream)
+    outcome_without_frame(stream)
 }
 
 /// The stream has taken the octets.
@@ -101,16 +102,10 @@ fn exceeds(window: Window, octets: u32) -> bool
 
 /// DATA on a stream whose peer's side is open: the threshold, and the length of the answer's body.
 #[tactic(auto, unfolding(h2_spec::specs::Data::data_outcome))]
-fn data_outcome(
-    threshold: u32,
-    size_update_pending: bool,
-    body: u64,
-    incoming: ReceivedData,
-    stream: Stream,
-) -> StreamOutcome
+fn data_outcome(threshold: u32, body: u64, incoming: ReceivedData, stream: Stream) -> StreamOutcome
     requires credit { IsCredit stream.numbers.recv stream.numbers.owed }
     requires least { IsWindow stream.numbers.recv }
-    ensures rule { result ≡ rule.data_outcome threshold size_update_pending body incoming stream }
+    ensures rule { result ≡ rule.data_outcome threshold body incoming stream }
     ensures id { result.stream.id ≡ stream.id }
     ensures sound { (f : InForce) → f.window ≤ 2147483647 → IsSoundStream f stream → IsSoundStream f result.stream }
     ensures waits { (book : List Entry) → body ≡ length (picked book stream.pick).body → HasBody book stream → HasBody book result.stream }
@@ -118,19 +113,19 @@ fn data_outcome(
 {
     let numbers = stream.numbers;
     if exceeds(numbers.recv, incoming.octets) {
-        return stream_error(size_update_pending, stream.id, Cause::StreamWindowExceeded);
+        return stream_error(stream.id, Cause::StreamWindowExceeded);
     }
     let content_received = numbers
         .content_received
         .saturating_add(u64::from(incoming.content));
     if let Some(cause) = length_broken(numbers.declared, content_received, incoming.ends) {
-        return stream_error(size_update_pending, stream.id, cause);
+        return stream_error(stream.id, cause);
     }
     let after = taken(stream, incoming);
     if incoming.ends {
-        peer_ended(size_update_pending, body, after)
+        peer_ended(body, after)
     } else {
-        returned(threshold, size_update_pending, after)
+        returned(threshold, after)
     }
 }
 
@@ -148,7 +143,7 @@ fn data_outcome(
 ///   server's settings have made the window negative (6.9.2).
 /// - More content than `content-length` declared, or less at END_STREAM: stream error PROTOCOL_ERROR (8.1.1).
 ///
-/// On a stream that the server has reset, the octets count on the connection and nothing else happens.
+/// On a stream that the server has reset it is ignored, but that the octets count on the connection.
 #[tactic(auto, unfolding(h2_spec::specs::Effect::on_data))]
 pub fn on_data(
     config: Config,
@@ -174,7 +169,7 @@ pub fn on_data(
         StreamState::HalfRemote => {
             data_refused(config, core, incoming, stream, Cause::DataAfterEndStream)
         }
-        StreamState::WeReset => data_counted(config, core, incoming),
+        StreamState::WeReset => data_counted(config, core, incoming, Ignored::DataOnReset),
     }
 }
 
@@ -197,9 +192,8 @@ fn data_taken(
     if core.recv.is_below(incoming.octets) {
         return Reaction::ConnectionError(Cause::ConnectionWindowExceeded);
     }
-    let size_update_pending = core.peer.size_update_pending;
     let change = counted(threshold, core, incoming.octets);
-    let outcome = data_outcome(threshold, size_update_pending, body, incoming, stream);
+    let outcome = data_outcome(threshold, body, incoming, stream);
     Reaction::Continues(with_outcome(change, outcome))
 }
 
@@ -219,21 +213,26 @@ fn data_refused(
     if core.recv.is_below(incoming.octets) {
         return Reaction::ConnectionError(Cause::ConnectionWindowExceeded);
     }
-    let size_update_pending = core.peer.size_update_pending;
     let change = counted(config.credit, core, incoming.octets);
-    let outcome = stream_error(size_update_pending, stream.id, cause);
+    let outcome = stream_error(stream.id, cause);
     Reaction::Continues(with_outcome(change, outcome))
 }
 
-/// DATA that is counted on the connection alone.
+/// DATA that is counted on the connection alone, and ignored for this reason.
 #[tactic(auto, unfolding(h2_spec::specs::Data::data_counted))]
-fn data_counted(config: Config, core: ConnectionState, incoming: ReceivedData) -> Reaction
+fn data_counted(
+    config: Config,
+    core: ConnectionState,
+    incoming: ReceivedData,
+    reason: Ignored,
+) -> Reaction
     requires core { IsSoundConnectionState core }
-    ensures rule { result ≡ rule.data_counted config core incoming }
+    ensures rule { result ≡ rule.data_counted config core incoming reason }
     ensures sound { (book : List Entry) (r : Records) → r.last ≡ core.last → IsSound book r (in_force core) result }
 {
     if core.recv.is_below(incoming.octets) {
         return Reaction::ConnectionError(Cause::ConnectionWindowExceeded);
     }
-    Reaction::Continues(counted(config.credit, core, incoming.octets))
+    let change = counted(config.credit, core, incoming.octets);
+    Reaction::Continues(ignoring(reason, change))
 }

@@ -9,7 +9,7 @@ ghost use Rattle.h2_rules.specs.Sound.{HasBody, InForce, IsSoundStream, is_recor
 
 use crate::change::outcome_without_frame;
 use h2_spec::causes::Cause;
-use h2_spec::reactions::{Answering, StreamFrame, StreamOutcome};
+use h2_spec::reactions::{StreamFrame, StreamOutcome};
 use h2_spec::streams::{Numbers, Stream, StreamState};
 use h2_streams::not_live;
 
@@ -59,30 +59,25 @@ fn begun(body: u64, stream: Stream) -> Stream
 
 /// The answer begins, `body` being the length of its body in octets.
 #[tactic(auto, unfolding(h2_spec::specs::StreamEnds::answered))]
-pub fn answered(size_update_pending: bool, body: u64, stream: Stream) -> StreamOutcome
-    ensures rule { result ≡ rule.answered size_update_pending body stream }
+pub fn answered(body: u64, stream: Stream) -> StreamOutcome
+    ensures rule { result ≡ rule.answered body stream }
     ensures id { result.stream.id ≡ stream.id }
     ensures sound { (f : InForce) → f.window ≤ 2147483647 → IsSoundStream f stream → IsSoundStream f result.stream }
     ensures waits { (book : List Entry) → body ≡ length (picked book stream.pick).body → HasBody book stream → HasBody book result.stream }
     ensures recorded { is_recorded stream.kind ≡ true → is_recorded result.stream.kind ≡ true }
 {
-    let answer = Answering {
-        id: stream.id,
-        pick: stream.pick,
-        size_update_pending,
-    };
+    let pick = stream.pick;
     StreamOutcome {
         stream: begun(body, stream),
         frame: StreamFrame::NoStreamFrame,
-        answer: Some(answer),
-        size_update_pending: false,
+        answer: Some(pick),
     }
 }
 
 /// The peer's side ends: what was open is answered, with this length of the answer's body, unless that has begun.
 #[tactic(auto, unfolding(h2_spec::specs::StreamEnds::peer_ended, h2_spec::specs::Stream::octets_waiting))]
-pub fn peer_ended(size_update_pending: bool, body: u64, stream: Stream) -> StreamOutcome
-    ensures rule { result ≡ rule.peer_ended size_update_pending body stream }
+pub fn peer_ended(body: u64, stream: Stream) -> StreamOutcome
+    ensures rule { result ≡ rule.peer_ended body stream }
     ensures id { result.stream.id ≡ stream.id }
     ensures sound { (f : InForce) → f.window ≤ 2147483647 → IsSoundStream f stream → IsSoundStream f result.stream }
     ensures waits { (book : List Entry) → body ≡ length (picked book stream.pick).body → HasBody book stream → HasBody book result.stream }
@@ -95,21 +90,18 @@ pub fn peer_ended(size_update_pending: bool, body: u64, stream: Stream) -> Strea
                 ..stream
             };
             if stream.numbers.body_remaining.is_some() {
-                outcome_without_frame(size_update_pending, half)
+                outcome_without_frame(half)
             } else {
-                answered(size_update_pending, body, half)
+                answered(body, half)
             }
         }
-        StreamState::HalfLocal => outcome_without_frame(
-            size_update_pending,
-            not_live(stream.id, StreamState::Ended),
-        ),
+        StreamState::HalfLocal => { outcome_without_frame(not_live(stream.id, StreamState::Ended)) }
         StreamState::Idle
         | StreamState::Skipped
         | StreamState::HalfRemote
         | StreamState::Ended
         | StreamState::PeerReset
-        | StreamState::WeReset => outcome_without_frame(size_update_pending, stream),
+        | StreamState::WeReset => outcome_without_frame(stream),
     }
 }
 

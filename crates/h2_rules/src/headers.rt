@@ -19,7 +19,7 @@ use h2_spec::reactions::{BlockSummary, StreamOutcome};
 use h2_spec::streams::{Numbers, Stream, StreamState};
 
 /// The largest list of fields, in octets (RFC 9113, 10.5.1).
-const MAX_LIST: u64 = 65_536;
+pub const MAX_LIST: u32 = 65_536;
 
 /// A stream that a request opens.
 #[tactic(auto, unfolding(h2_spec::specs::Stream::octets_waiting))]
@@ -54,11 +54,11 @@ fn is_full(config: Config, live: usize) -> bool
     config.streams as usize <= live
 }
 
-/// Whether a list of fields of this size is too large.
-pub(crate) fn is_too_large(size: u64) -> bool
+/// Whether a list of fields of this size, in octets, is too large (RFC 9113, 10.5.1).
+pub fn is_too_large(size: u64) -> bool
     ensures { result ≡ nat_lt rule.max_list size }
 {
-    MAX_LIST < size
+    u64::from(MAX_LIST) < size
 }
 
 /// Whether a content-length other than 0 is declared.
@@ -137,23 +137,22 @@ pub fn request_outcome(
     ensures waits { (book : List Entry) → body ≡ length (picked book summary.pick).body → IsPickOf book summary.pick → HasBody book result.stream }
     ensures recorded { is_recorded result.stream.kind ≡ true }
 {
-    let size_update_pending = core.peer.size_update_pending;
     if is_full(config, live) {
-        return stream_error(size_update_pending, id, Cause::TooManyStreams);
+        return stream_error(id, Cause::TooManyStreams);
     }
     if is_too_large(summary.size) {
-        return stream_error(size_update_pending, id, Cause::ListTooLarge);
+        return stream_error(id, Cause::ListTooLarge);
     }
     if let Some(cause) = request_broken(ends, summary) {
-        return stream_error(size_update_pending, id, cause);
+        return stream_error(id, cause);
     }
     let stream = new_stream(core, id, summary);
     if ends {
-        peer_ended(size_update_pending, body, stream)
+        peer_ended(body, stream)
     } else if early {
-        answered(size_update_pending, body, stream)
+        answered(body, stream)
     } else {
-        outcome_without_frame(size_update_pending, stream)
+        outcome_without_frame(stream)
     }
 }
 
@@ -172,21 +171,20 @@ pub fn trailers_outcome(
     size: u64,
     malformed: Option<Cause>,
     body: u64,
-    size_update_pending: bool,
     ends: bool,
     stream: Stream,
 ) -> StreamOutcome
-    ensures rule { result ≡ rule.trailers_outcome size malformed body size_update_pending ends stream }
+    ensures rule { result ≡ rule.trailers_outcome size malformed body ends stream }
     ensures id { result.stream.id ≡ stream.id }
     ensures sound { (f : InForce) → f.window ≤ 2147483647 → IsSoundStream f stream → IsSoundStream f result.stream }
     ensures waits { (book : List Entry) → body ≡ length (picked book stream.pick).body → HasBody book stream → HasBody book result.stream }
     ensures recorded { is_recorded stream.kind ≡ true → is_recorded result.stream.kind ≡ true }
 {
     if is_too_large(size) {
-        return stream_error(size_update_pending, stream.id, Cause::ListTooLarge);
+        return stream_error(stream.id, Cause::ListTooLarge);
     }
     if let Some(cause) = trailers_broken(malformed, ends, stream.numbers) {
-        return stream_error(size_update_pending, stream.id, cause);
+        return stream_error(stream.id, cause);
     }
-    peer_ended(size_update_pending, body, stream)
+    peer_ended(body, stream)
 }

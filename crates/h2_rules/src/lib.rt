@@ -3,14 +3,14 @@
 //! specs/Sound.antt here.
 #![tactic(auto)]
 
-pub mod block_end;
+pub mod block;
 pub mod change;
 pub mod checks;
 pub mod control;
 pub mod data;
 pub mod ends;
 pub mod headers;
-pub mod ignored;
+pub mod malformed;
 pub mod reset;
 pub mod settings;
 pub mod window_update;

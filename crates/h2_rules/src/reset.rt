@@ -7,8 +7,10 @@ ghost use Rattle.h2_spec.specs.Answer.{Entry};
 ghost use Rattle.h2_rules.specs.Sound.{IsSound, IsSoundConnectionState, in_force};
 
 use crate::change::{only_counts, outcome_without_frame, with_outcome};
+use crate::control::ignore;
 use h2_spec::causes::Cause;
 use h2_spec::connection::ConnectionState;
+use h2_spec::ignored::Ignored;
 use h2_spec::reactions::Reaction;
 use h2_spec::streams::{Stream, StreamState};
 use h2_streams::not_live;
@@ -27,13 +29,12 @@ pub fn on_reset(core: ConnectionState, stream: Stream) -> Reaction
 {
     match stream.kind {
         StreamState::Idle => Reaction::ConnectionError(Cause::RstStreamOnIdle),
-        StreamState::Skipped | StreamState::Ended | StreamState::PeerReset | StreamState::WeReset =>
-            { Reaction::Continues(only_counts(core)) }
+        StreamState::Skipped => ignore(core, Ignored::RstStreamOnSkipped),
+        StreamState::Ended => ignore(core, Ignored::RstStreamOnClosed),
+        StreamState::PeerReset => ignore(core, Ignored::RstStreamOnPeerReset),
+        StreamState::WeReset => ignore(core, Ignored::RstStreamOnReset),
         StreamState::BothOpen | StreamState::HalfLocal | StreamState::HalfRemote => {
-            let outcome = outcome_without_frame(
-                core.peer.size_update_pending,
-                not_live(stream.id, StreamState::PeerReset),
-            );
+            let outcome = outcome_without_frame(not_live(stream.id, StreamState::PeerReset));
             Reaction::Continues(with_outcome(only_counts(core), outcome))
         }
     }

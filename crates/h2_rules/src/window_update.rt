@@ -1,40 +1,56 @@
 //! The rule for WINDOW_UPDATE (RFC 9113, 6.9 and 6.9.1). Definitions: h2_spec's `specs/WindowUpdate.antt`, and
 //! `on_window` of `specs/Effect.antt`.
 
-ghost use Rattle.std.specs.Prelude.{◌≡◌, ℕ, ◌≤◌, true, List};
+ghost use Rattle.std.specs.Prelude.{◌≡◌, ◌==◌, ℕ, ◌≤◌, true, List};
 ghost use Rattle.h2_spec.specs.WindowUpdate as rule;
 ghost use Rattle.h2_spec.specs.Effect as effect;
+ghost use Rattle.h2_spec.specs.ReactionTable.{unless_zero};
 ghost use Rattle.h2_spec.specs.Stream.{Records, stream_at};
 ghost use Rattle.h2_spec.specs.Answer.{Entry};
 ghost use Rattle.h2_rules.specs.Sound.{HasBody, InForce, IsSound, IsSoundConnectionState, IsSoundStream, in_force, is_recorded};
 
 use crate::change::{only_counts, outcome_without_frame, stream_error, with_outcome};
+use crate::control::ignore;
 use h2_spec::causes::Cause;
 use h2_spec::connection::ConnectionState;
+use h2_spec::ignored::Ignored;
 use h2_spec::reactions::{Reaction, StreamOutcome};
 use h2_spec::streams::{Numbers, Stream, StreamState};
 
 /// An increment of a live stream's send window.
 #[tactic(auto, unfolding(h2_spec::specs::WindowUpdate::window_outcome, h2_spec::specs::Stream::octets_waiting))]
-fn window_outcome(size_update_pending: bool, increment: u32, stream: Stream) -> StreamOutcome
-    ensures rule { result ≡ rule.window_outcome size_update_pending increment stream }
+fn window_outcome(increment: u32, stream: Stream) -> StreamOutcome
+    ensures rule { result ≡ rule.window_outcome increment stream }
     ensures id { result.stream.id ≡ stream.id }
     ensures sound { (f : InForce) → f.window ≤ 2147483647 → IsSoundStream f stream → IsSoundStream f result.stream }
     ensures waits { (book : List Entry) → HasBody book stream → HasBody book result.stream }
     ensures recorded { is_recorded stream.kind ≡ true → is_recorded result.stream.kind ≡ true }
 {
     if increment == 0 {
-        return stream_error(size_update_pending, stream.id, Cause::StreamIncrementZero);
+        return stream_error(stream.id, Cause::StreamIncrementZero);
     }
     let numbers = stream.numbers;
     if numbers.send.overflows(increment) {
-        return stream_error(size_update_pending, stream.id, Cause::StreamWindowOverflow);
+        return stream_error(stream.id, Cause::StreamWindowOverflow);
     }
     let numbers = Numbers {
         send: numbers.send.plus(increment),
         ..numbers
     };
-    outcome_without_frame(size_update_pending, Stream { numbers, ..stream })
+    outcome_without_frame(Stream { numbers, ..stream })
+}
+
+/// An increment that is ignored, for this reason unless it is 0 (RFC 9113, 6.9).
+fn increment_ignored(core: ConnectionState, increment: u32, reason: Ignored) -> Reaction
+    requires core { IsSoundConnectionState core }
+    ensures rule { result ≡ effect.ignore core (unless_zero (increment == 0) reason) }
+    ensures sound { (book : List Entry) (r : Records) → r.last ≡ core.last → IsSound book r (in_force core) result }
+{
+    if increment == 0 {
+        ignore(core, Ignored::WindowUpdateByZero)
+    } else {
+        ignore(core, reason)
+    }
 }
 
 /// WINDOW_UPDATE on a stream (RFC 9113, 6.9): its send window rises by `increment`, 0 to 2147483647; on a stream that
@@ -54,10 +70,14 @@ pub fn on_window(core: ConnectionState, increment: u32, stream: Stream) -> React
 {
     match stream.kind {
         StreamState::Idle => Reaction::ConnectionError(Cause::WindowUpdateOnIdle),
-        StreamState::Skipped | StreamState::Ended | StreamState::PeerReset | StreamState::WeReset =>
-            { Reaction::Continues(only_counts(core)) }
+        StreamState::Skipped => increment_ignored(core, increment, Ignored::WindowUpdateOnSkipped),
+        StreamState::Ended => increment_ignored(core, increment, Ignored::WindowUpdateOnClosed),
+        StreamState::PeerReset => {
+            increment_ignored(core, increment, Ignored::WindowUpdateOnPeerReset)
+        }
+        StreamState::WeReset => increment_ignored(core, increment, Ignored::WindowUpdateOnReset),
         StreamState::BothOpen | StreamState::HalfLocal | StreamState::HalfRemote => {
-            let outcome = window_outcome(core.peer.size_update_pending, increment, stream);
+            let outcome = window_outcome(increment, stream);
             Reaction::Continues(with_outcome(only_counts(core), outcome))
         }
     }

@@ -4,6 +4,7 @@ use Rattle.h2_spec.specs.declared.causes.Cause.{Cause}
 use Rattle.h2_spec.specs.declared.connection.ConnectionState.{ConnectionState}
 use Rattle.h2_spec.specs.declared.connection.Phase.TheVariants as phase
 use Rattle.h2_spec.specs.declared.errors.ErrorCode.{ErrorCode}
+use Rattle.h2_spec.specs.declared.ignored.Ignored.{Ignored}
 use Rattle.h2_spec.specs.declared.reactions.Answering.{Answering}
 use Rattle.h2_spec.specs.declared.reactions.Change.{Change}
 use Rattle.h2_spec.specs.declared.reactions.ConnectionFrame.{ConnectionFrame}
@@ -13,6 +14,7 @@ use Rattle.h2_spec.specs.declared.reactions.StreamFrame.TheVariants.{NoStreamFra
 use Rattle.h2_spec.specs.declared.reactions.RecordUpdate.{RecordUpdate}
 use Rattle.h2_spec.specs.declared.reactions.RecordUpdate.TheVariants.{Unchanged, Put, Shift, Receive}
 use Rattle.h2_spec.specs.declared.reactions.StreamOutcome.{StreamOutcome}
+use Rattle.h2_spec.specs.declared.streams.Pick.{Pick}
 use Rattle.h2_spec.specs.declared.streams.StreamState.{StreamState}
 use Rattle.h2_spec.specs.declared.streams.StreamState.TheVariants.{Idle, Skipped, BothOpen, HalfRemote, HalfLocal, Ended, PeerReset, WeReset}
 use Rattle.h2_spec.specs.declared.streams.Stream.{Stream}
@@ -29,31 +31,52 @@ use Rattle.h2_spec.specs.Answer.{Answer, Entry, picked, response_block}
 -- ---- rules of one stream
 
 -- the stream's record, with nothing sent
-abbrev pub outcome_without_frame : Bool → Stream → StreamOutcome
-outcome_without_frame size_update_pending st = record { stream = st; frame = NoStreamFrame; answer = None; size_update_pending = size_update_pending }
+abbrev pub outcome_without_frame : Stream → StreamOutcome
+outcome_without_frame st = record { stream = st; frame = NoStreamFrame; answer = None }
 
 -- a stream error (5.4.2)
-abbrev pub stream_error : Bool → ℕ → Cause → StreamOutcome
-stream_error size_update_pending id cause = record { stream = not_live id WeReset; frame = Reset id cause; answer = None; size_update_pending = size_update_pending }
+abbrev pub stream_error : ℕ → Cause → StreamOutcome
+stream_error id cause = record { stream = not_live id WeReset; frame = Reset id cause; answer = None }
 
 -- a stream error where there is a cause for one
-abbrev pub unless_broken : Option Cause → Bool → ℕ → StreamOutcome → StreamOutcome
-unless_broken (Some cause) size_update_pending id turn = stream_error size_update_pending id cause
-unless_broken None size_update_pending id turn = turn
+abbrev pub unless_broken : Option Cause → ℕ → StreamOutcome → StreamOutcome
+unless_broken (Some cause) id turn = stream_error id cause
+unless_broken None id turn = turn
 
 -- ---- changes
 
 -- nothing but the counts changes, and nothing is sent
 abbrev pub only_counts : ConnectionState → Change
-only_counts core = record { core = core; record_update = Unchanged; connection_frame = NoConnectionFrame; stream_frame = NoStreamFrame; answer = None }
+only_counts core = record { core = core; record_update = Unchanged; connection_frame = NoConnectionFrame; stream_frame = NoStreamFrame; answer = None; ignored = None }
+
+-- what changes for an item that is ignored for this reason
+abbrev pub ignoring : Ignored → Change → Change
+ignoring reason c = record c { ignored = Some reason }
 
 -- whether the next response begins with a table size update (RFC 7541, 4.2)
 abbrev pub with_size_update_pending : ConnectionState → Bool → ConnectionState
 with_size_update_pending core size_update_pending = record core { peer = record core.peer { size_update_pending = size_update_pending } }
 
+-- the answer that begins on a stream, if one does: its block begins with a table size update where one is pending
+abbrev pub answer_begun : Bool → ℕ → Option Pick → Option Answering
+answer_begun pending id None = None
+answer_begun pending id (Some pick) = Some (record { id = id; pick = pick; size_update_pending = pending })
+
+-- whether one is still pending after it
+abbrev pub still_pending : Bool → Option Pick → Bool
+still_pending pending None = pending
+still_pending pending (Some pick) = false
+
 -- a change, and then what a rule does to one stream
 unfoldable pub with_outcome : Change → StreamOutcome → Change
-with_outcome c t = record { core = with_size_update_pending c.core t.size_update_pending; record_update = Put t.stream; connection_frame = c.connection_frame; stream_frame = t.frame; answer = t.answer }
+with_outcome c t = record {
+  core = with_size_update_pending c.core (still_pending c.core.peer.size_update_pending t.answer);
+  record_update = Put t.stream;
+  connection_frame = c.connection_frame;
+  stream_frame = t.frame;
+  answer = answer_begun c.core.peer.size_update_pending t.stream.id t.answer;
+  ignored = None;
+}
 
 -- streams whose send windows settings move (6.9.2)
 abbrev pub follows_initial_window : StreamState → Bool

@@ -4,6 +4,7 @@ use Rattle.h2_spec.specs.declared.causes.Cause.{Cause}
 use Rattle.h2_spec.specs.declared.causes.Cause.TheVariants.{ConnectionWindowExceeded, StreamWindowExceeded, ContentTooLong, ContentTooShort}
 use Rattle.h2_spec.specs.declared.connection.Config.{Config}
 use Rattle.h2_spec.specs.declared.connection.ConnectionState.{ConnectionState}
+use Rattle.h2_spec.specs.declared.ignored.Ignored.{Ignored}
 use Rattle.h2_spec.specs.declared.reactions.ReceivedData.{ReceivedData}
 use Rattle.h2_spec.specs.declared.reactions.Change.{Change}
 use Rattle.h2_spec.specs.declared.reactions.ConnectionFrame.TheVariants.{Credit}
@@ -13,7 +14,7 @@ use Rattle.h2_spec.specs.declared.reactions.StreamFrame.TheVariants.{StreamCredi
 use Rattle.h2_spec.specs.declared.reactions.StreamOutcome.{StreamOutcome}
 use Rattle.h2_spec.specs.declared.streams.Stream.{Stream}
 use Rattle.h2_spec.specs.Window.{given_back}
-use Rattle.h2_spec.specs.Change.{only_counts, with_outcome, outcome_without_frame, stream_error, unless_broken}
+use Rattle.h2_spec.specs.Change.{only_counts, ignoring, with_outcome, outcome_without_frame, stream_error, unless_broken}
 use Rattle.h2_spec.specs.StreamEnds.{peer_ended}
 
 -- ---- on the connection
@@ -39,13 +40,13 @@ abbrev pub with_returned : Stream → ℕ → Stream
 with_returned st n = record st { numbers = record st.numbers { recv = st.numbers.recv +ℤ pos n; owed = 0 } }
 
 -- what is owed on the stream is given back, or stays owed
-abbrev pub returned_as : Option ℕ → Bool → Stream → StreamOutcome
-returned_as (Some n) size_update_pending st = record (outcome_without_frame size_update_pending (with_returned st n)) { frame = StreamCredit st.id n }
-returned_as None size_update_pending st = outcome_without_frame size_update_pending st
+abbrev pub returned_as : Option ℕ → Stream → StreamOutcome
+returned_as (Some n) st = record (outcome_without_frame (with_returned st n)) { frame = StreamCredit st.id n }
+returned_as None st = outcome_without_frame st
 
 -- what is owed on the stream is given back once it reaches the threshold
-unfoldable pub returned : ℕ → Bool → Stream → StreamOutcome
-returned threshold size_update_pending st = returned_as (given_back threshold st.numbers.owed) size_update_pending st
+unfoldable pub returned : ℕ → Stream → StreamOutcome
+returned threshold st = returned_as (given_back threshold st.numbers.owed) st
 
 -- why the content does not fit what was declared (8.1.1)
 abbrev pub length_broken : Option ℕ → ℕ → Bool → Option Cause
@@ -67,13 +68,13 @@ taken st d = record st {
 }
 
 -- DATA on a stream whose peer's side is open: the threshold, and the length of the answer's body
-unfoldable pub data_outcome : ℕ → Bool → ℕ → ReceivedData → Stream → StreamOutcome
+unfoldable pub data_outcome : ℕ → ℕ → ReceivedData → Stream → StreamOutcome
 unfolding peer_ended returned taken
-data_outcome threshold size_update_pending body d st =
-    if nat_lt 0 d.octets && int_lt st.numbers.recv (pos d.octets) then stream_error size_update_pending st.id StreamWindowExceeded
-    else unless_broken (length_broken st.numbers.declared (content_with st.numbers.content_received d.content) d.ends) size_update_pending st.id
-    (if d.ends then peer_ended size_update_pending body (taken st d)
-    else returned threshold size_update_pending (taken st d))
+data_outcome threshold body d st =
+    if nat_lt 0 d.octets && int_lt st.numbers.recv (pos d.octets) then stream_error st.id StreamWindowExceeded
+    else unless_broken (length_broken st.numbers.declared (content_with st.numbers.content_received d.content) d.ends) st.id
+    (if d.ends then peer_ended body (taken st d)
+    else returned threshold (taken st d))
 
 -- ---- the rule
 
@@ -85,15 +86,15 @@ if_within core n c = if int_lt core.recv (pos n) then ConnectionError Connection
 unfoldable pub data_taken : Config → ConnectionState → ℕ → ReceivedData → Stream → Reaction
 unfolding data_outcome counted with_outcome
 data_taken config core body d st =
-    if_within core d.octets (with_outcome (counted config.credit core d.octets) (data_outcome config.credit core.peer.size_update_pending body d st))
+    if_within core d.octets (with_outcome (counted config.credit core d.octets) (data_outcome config.credit body d st))
 
 -- DATA that is refused on its stream, and counted
 unfoldable pub data_refused : Config → ConnectionState → ReceivedData → Stream → Cause → Reaction
 unfolding counted with_outcome
 data_refused config core d st cause =
-    if_within core d.octets (with_outcome (counted config.credit core d.octets) (stream_error core.peer.size_update_pending st.id cause))
+    if_within core d.octets (with_outcome (counted config.credit core d.octets) (stream_error st.id cause))
 
--- DATA that is counted on the connection alone
-unfoldable pub data_counted : Config → ConnectionState → ReceivedData → Reaction
+-- DATA that is counted on the connection alone, and ignored for this reason
+unfoldable pub data_counted : Config → ConnectionState → ReceivedData → Ignored → Reaction
 unfolding counted
-data_counted config core d = if_within core d.octets (counted config.credit core d.octets)
+data_counted config core d reason = if_within core d.octets (ignoring reason (counted config.credit core d.octets))

@@ -1,5 +1,5 @@
 -- What one item does to a connection (RFC 9113, 5 and 6).
-use Rattle.std.specs.Prelude.{ℕ, Bool, List, length, ◌==◌, if◌then◌else◌, Option, Some, None, Result, Ok, Err}
+use Rattle.std.specs.Prelude.{ℕ, List, length, ◌==◌, if◌then◌else◌, Option, Some, None, Result, Ok, Err}
 use Rattle.h2_spec.specs.declared.causes.Cause.{Cause}
 use Rattle.h2_spec.specs.declared.causes.Cause.TheVariants as cause
 use Rattle.h2_spec.specs.declared.connection.Config.{Config}
@@ -7,6 +7,8 @@ use Rattle.h2_spec.specs.declared.connection.ConnectionState.{ConnectionState}
 use Rattle.h2_spec.specs.declared.connection.Phase.TheVariants as phase
 use Rattle.h2_spec.specs.declared.connection.Purpose.{Purpose}
 use Rattle.h2_spec.specs.declared.frames.Head.{Head}
+use Rattle.h2_spec.specs.declared.ignored.Ignored.{Ignored}
+use Rattle.h2_spec.specs.declared.ignored.Ignored.TheVariants.{Priority, UnknownType, PingAcknowledgement}
 use Rattle.h2_spec.specs.declared.reactions.ReceivedData.{ReceivedData}
 use Rattle.h2_spec.specs.declared.reactions.ConnectionFrame.TheVariants.{PingAck}
 use Rattle.h2_spec.specs.declared.reactions.Reaction.{Reaction}
@@ -14,6 +16,7 @@ use Rattle.h2_spec.specs.declared.reactions.Reaction.TheVariants.{ConnectionErro
 use Rattle.h2_spec.specs.declared.reactions.StreamFrame.{StreamFrame}
 use Rattle.h2_spec.specs.declared.reactions.StreamFrame.TheVariants.{NoStreamFrame, Reset, StreamCredit}
 use Rattle.h2_spec.specs.declared.reactions.StreamOutcome.{StreamOutcome}
+use Rattle.h2_spec.specs.declared.reactions.Verdict.{Verdict}
 use Rattle.h2_spec.specs.declared.streams.StreamState.TheVariants.{PeerReset}
 use Rattle.h2_spec.specs.declared.streams.Stream.{Stream}
 use Rattle.h2_spec.specs.FrameType.{ACK, END_STREAM, END_HEADERS, has}
@@ -24,7 +27,7 @@ use Rattle.h2_spec.specs.Request.{malformed, malformed_trailers, declared_length
 use Rattle.h2_spec.specs.Answer.{Entry, picked, pick_of, response_block}
 use Rattle.h2_spec.specs.Stream.{not_live, stream_at}
 use Rattle.h2_spec.specs.State.{State, OpenBlock}
-use Rattle.h2_spec.specs.Change.{Step, only_counts, with_outcome, outcome_without_frame, broken, made, frames_of, shifted, received}
+use Rattle.h2_spec.specs.Change.{Step, only_counts, ignoring, with_outcome, outcome_without_frame, broken, made, frames_of, shifted, received}
 use Rattle.h2_spec.specs.Checks.{refusal, oversize}
 use Rattle.h2_spec.specs.ReactionTable.{Cell, DataRule, Take, Refuse, Count, ResetRule, PeerResets, WindowRule, MoveWindow, data_cell, headers_cell, reset_cell, window_cell, run_cell}
 use Rattle.h2_spec.specs.Data.{data_taken, data_refused, data_counted}
@@ -32,9 +35,9 @@ use Rattle.h2_spec.specs.WindowUpdate.{window_outcome, connection_window}
 use Rattle.h2_spec.specs.SettingsFrame.{settings_rule, acknowledged}
 use Rattle.h2_spec.specs.Headers.{FrameEffect, Breaks, Makes, makes, request_outcome, trailers_outcome, block_opens, continuation}
 
--- nothing happens
-abbrev pub nothing : ConnectionState → Reaction
-nothing core = Continues (only_counts core)
+-- a frame is ignored for this reason, and nothing changes
+abbrev pub ignore : ConnectionState → Ignored → Reaction
+ignore core reason = Continues (ignoring reason (only_counts core))
 
 -- ---- DATA
 
@@ -42,12 +45,12 @@ nothing core = Continues (only_counts core)
 abbrev pub data_rule : DataRule → Config → ConnectionState → ℕ → ReceivedData → Stream → Reaction
 data_rule Take config core body d st = data_taken config core body d st
 data_rule (Refuse cause) config core body d st = data_refused config core d st cause
-data_rule Count config core body d st = data_counted config core d
+data_rule (Count reason) config core body d st = data_counted config core d reason
 
 -- DATA that comes on a stream, with the length of the body of the stream's answer
 unfoldable pub on_data : Config → ConnectionState → ℕ → ReceivedData → Stream → Reaction
 unfolding data_taken data_refused data_counted
-on_data config core body d st = run_cell ConnectionError (nothing core) (λ rule. data_rule rule config core body d st) (data_cell st.kind)
+on_data config core body d st = run_cell ConnectionError (ignore core) (λ rule. data_rule rule config core body d st) (data_cell st.kind)
 
 -- what a frame of DATA brings
 abbrev pub incoming : Head → List ℕ → DataPart → ReceivedData
@@ -60,32 +63,32 @@ body_length book st = length (picked book st.pick).body
 -- ---- RST_STREAM and WINDOW_UPDATE
 
 -- a live stream that the peer resets (6.4)
-abbrev pub reset_outcome : Bool → Stream → StreamOutcome
-reset_outcome size_update_pending st = outcome_without_frame size_update_pending (not_live st.id PeerReset)
+abbrev pub reset_outcome : Stream → StreamOutcome
+reset_outcome st = outcome_without_frame (not_live st.id PeerReset)
 
 -- RST_STREAM by the rule that the table names
 abbrev pub reset_rule : ResetRule → ConnectionState → Stream → Reaction
-reset_rule PeerResets core st = Continues (with_outcome (only_counts core) (reset_outcome core.peer.size_update_pending st))
+reset_rule PeerResets core st = Continues (with_outcome (only_counts core) (reset_outcome st))
 
 -- RST_STREAM that comes on a stream (6.4)
 unfoldable pub on_reset : ConnectionState → Stream → Reaction
 unfolding with_outcome
-on_reset core st = run_cell ConnectionError (nothing core) (λ rule. reset_rule rule core st) (reset_cell st.kind)
+on_reset core st = run_cell ConnectionError (ignore core) (λ rule. reset_rule rule core st) (reset_cell st.kind)
 
 -- WINDOW_UPDATE by the rule that the table names
 abbrev pub window_rule : WindowRule → ConnectionState → ℕ → Stream → Reaction
-window_rule MoveWindow core increment st = Continues (with_outcome (only_counts core) (window_outcome core.peer.size_update_pending increment st))
+window_rule MoveWindow core increment st = Continues (with_outcome (only_counts core) (window_outcome increment st))
 
 -- WINDOW_UPDATE that comes on a stream (6.9)
 unfoldable pub on_window : ConnectionState → ℕ → Stream → Reaction
 unfolding with_outcome window_outcome
-on_window core increment st = run_cell ConnectionError (nothing core) (λ rule. window_rule rule core increment st) (window_cell st.kind)
+on_window core increment st = run_cell ConnectionError (ignore core) (λ rule. window_rule rule core increment st) (window_cell (increment == 0) st.kind)
 
 -- ---- HEADERS
 
 -- HEADERS by their cell of the table (6.2)
 abbrev pub on_headers : State → Head → HeadersPart → Cell Purpose → FrameEffect
-on_headers s h part cell = run_cell Breaks (Makes s (only_counts s.core)) (λ purpose. block_opens s purpose h part) cell
+on_headers s h part cell = run_cell Breaks (λ reason. Makes s (ignoring reason (only_counts s.core))) (λ purpose. block_opens s purpose h part) cell
 
 -- ---- a frame that has passed the checks, by what it holds
 
@@ -93,16 +96,16 @@ on_headers s h part cell = run_cell Breaks (Makes s (only_counts s.core)) (λ pu
 abbrev pub frame_effect : State → Head → List ℕ → Part → FrameEffect
 frame_effect s h p (OfData part) = let st = stream_at s.core.last s.streams h.stream in makes s (on_data s.config s.core (body_length s.book st) (incoming h p part) st)
 frame_effect s h p (OfHeaders part) = on_headers s h part (headers_cell h.stream (stream_at s.core.last s.streams h.stream).kind)
-frame_effect s h p OfPriority = makes s (nothing s.core)
+frame_effect s h p OfPriority = makes s (ignore s.core Priority)
 frame_effect s h p (OfRstStream code) = makes s (on_reset s.core (stream_at s.core.last s.streams h.stream))
 frame_effect s h p (OfSettings pairs) = makes s (settings_rule s.streams s.core pairs)
 frame_effect s h p OfSettingsAck = makes s (acknowledged s.config s.core)
 frame_effect s h p OfPushPromise = Breaks cause.PushPromiseFromClient
-frame_effect s h p (OfPing octets) = makes s (if has h.flags ACK then nothing s.core else Continues (record (only_counts s.core) { connection_frame = PingAck octets }))
+frame_effect s h p (OfPing octets) = makes s (if has h.flags ACK then ignore s.core PingAcknowledgement else Continues (record (only_counts s.core) { connection_frame = PingAck octets }))
 frame_effect s h p (OfGoaway last code) = makes s (Continues (only_counts (record s.core { goaway = Some (last, code) })))
 frame_effect s h p (OfWindowUpdate increment) = makes s (if h.stream == 0 then connection_window s.core increment else on_window s.core increment (stream_at s.core.last s.streams h.stream))
 frame_effect s h p (OfContinuation fragment) = continuation s s.block fragment (has h.flags END_HEADERS)
-frame_effect s h p OfUnknown = makes s (nothing s.core)
+frame_effect s h p OfUnknown = makes s (ignore s.core UnknownType)
 
 -- ---- an item
 
@@ -150,6 +153,15 @@ stream_cause (StreamCredit id n) = None
 abbrev pub effect_cause : FrameEffect → Option Cause
 effect_cause (Breaks cause) = Some cause
 effect_cause (Makes t c) = stream_cause c.stream_frame
+
+-- why the frame is ignored, if it is
+abbrev pub effect_ignored : FrameEffect → Option Ignored
+effect_ignored (Breaks cause) = None
+effect_ignored (Makes t c) = c.ignored
+
+-- how the frame is judged
+abbrev pub effect_verdict : FrameEffect → Verdict
+effect_verdict e = record { cause = effect_cause e; ignored = effect_ignored e }
 
 -- why an item results in a connection error or a stream error, if it does (5.4)
 unfoldable pub cause_of : State → Item → Option Cause

@@ -8,6 +8,8 @@ use Rattle.h2_spec.specs.declared.connection.ConnectionState.{ConnectionState}
 use Rattle.h2_spec.specs.declared.connection.Purpose.{Purpose}
 use Rattle.h2_spec.specs.declared.connection.Purpose.TheVariants.{Request, Trailers, Closed, TableOnly}
 use Rattle.h2_spec.specs.declared.frames.Head.{Head}
+use Rattle.h2_spec.specs.declared.ignored.Ignored.{Ignored}
+use Rattle.h2_spec.specs.declared.ignored.Ignored.TheVariants.{TableOnlyBlock}
 use Rattle.h2_spec.specs.declared.reactions.Change.{Change}
 use Rattle.h2_spec.specs.declared.reactions.BlockSummary.{BlockSummary}
 use Rattle.h2_spec.specs.declared.reactions.Reaction.{Reaction}
@@ -24,7 +26,7 @@ use Rattle.h2_spec.specs.Request.{request_fault, trailers_fault, declared_length
 use Rattle.h2_spec.specs.Answer.{Entry, pick_of, picked}
 use Rattle.h2_spec.specs.Stream.{stream_at, live_count}
 use Rattle.h2_spec.specs.State.{State, OpenBlock, Decoding, is_due}
-use Rattle.h2_spec.specs.Change.{only_counts, with_outcome, outcome_without_frame, stream_error, unless_broken}
+use Rattle.h2_spec.specs.Change.{only_counts, ignoring, with_outcome, outcome_without_frame, stream_error, unless_broken}
 use Rattle.h2_spec.specs.StreamEnds.{answered, peer_ended}
 use Rattle.h2_spec.specs.Data.{length_broken}
 
@@ -65,12 +67,12 @@ missing ends declared = if ends && declares_content declared then Some ContentMi
 unfoldable pub request_outcome : Config → ℕ → ℕ → Bool → ConnectionState → ℕ → Bool → BlockSummary → StreamOutcome
 unfolding answered peer_ended
 request_outcome config live body early core id ends f =
-    if nat_le config.streams live then stream_error core.peer.size_update_pending id TooManyStreams
-    else if nat_lt max_list f.size then stream_error core.peer.size_update_pending id ListTooLarge
-    else unless_broken (first_of f.malformed (missing ends f.declared)) core.peer.size_update_pending id
-    (if ends then peer_ended core.peer.size_update_pending body (new_stream core id f)
-    else if early then answered core.peer.size_update_pending body (new_stream core id f)
-    else outcome_without_frame core.peer.size_update_pending (new_stream core id f))
+    if nat_le config.streams live then stream_error id TooManyStreams
+    else if nat_lt max_list f.size then stream_error id ListTooLarge
+    else unless_broken (first_of f.malformed (missing ends f.declared)) id
+    (if ends then peer_ended body (new_stream core id f)
+    else if early then answered body (new_stream core id f)
+    else outcome_without_frame (new_stream core id f))
 
 -- trailers end the peer's side (8.1)
 abbrev pub unended : Bool → Option Cause
@@ -79,11 +81,11 @@ unended false = Some TrailersWithoutEndStream
 
 -- what trailers do to their stream: the size of their list, why they are malformed, if they are, and the length of
 -- the answer's body
-unfoldable pub trailers_outcome : ℕ → Option Cause → ℕ → Bool → Bool → Stream → StreamOutcome
+unfoldable pub trailers_outcome : ℕ → Option Cause → ℕ → Bool → Stream → StreamOutcome
 unfolding peer_ended
-trailers_outcome size malformed body size_update_pending ends st =
-    if nat_lt max_list size then stream_error size_update_pending st.id ListTooLarge
-    else unless_broken (first_of malformed (first_of (unended ends) (length_broken st.numbers.declared st.numbers.content_received true))) size_update_pending st.id (peer_ended size_update_pending body st)
+trailers_outcome size malformed body ends st =
+    if nat_lt max_list size then stream_error st.id ListTooLarge
+    else unless_broken (first_of malformed (first_of (unended ends) (length_broken st.numbers.declared st.numbers.content_received true))) st.id (peer_ended body st)
 
 -- the end of a request's block
 abbrev pub request_ends : State → ℕ → Bool → List Field → Change
@@ -96,14 +98,14 @@ request_ends s id ends fields =
 abbrev pub trailers_end : State → ℕ → Bool → List Field → Change
 trailers_end s id ends fields =
     let st = stream_at s.core.last s.streams id in
-    with_outcome (only_counts s.core) (trailers_outcome (list_size fields) (trailers_fault fields) (length (picked s.book st.pick).body) s.core.peer.size_update_pending ends st)
+    with_outcome (only_counts s.core) (trailers_outcome (list_size fields) (trailers_fault fields) (length (picked s.book st.pick).body) ends st)
 
 -- the end of a block, by its purpose
 abbrev pub block_ends : State → ℕ → Bool → List Field → Purpose → Change
 block_ends s id ends fields Request = request_ends s id ends fields
 block_ends s id ends fields Trailers = trailers_end s id ends fields
-block_ends s id ends fields Closed = with_outcome (only_counts s.core) (stream_error s.core.peer.size_update_pending id HeadersAfterEndStream)
-block_ends s id ends fields TableOnly = only_counts s.core
+block_ends s id ends fields Closed = with_outcome (only_counts s.core) (stream_error id HeadersAfterEndStream)
+block_ends s id ends fields TableOnly = ignoring TableOnlyBlock (only_counts s.core)
 
 -- ---- fragments
 
@@ -121,9 +123,20 @@ makes s (Continues c) = Makes s c
 abbrev pub with_block : State → Option OpenBlock → State
 with_block s b = record s { block = b }
 
+-- a fragment of a block that only the header table follows is ignored for that reason (4.3)
+abbrev pub fragment_ignored : Purpose → Option Ignored
+fragment_ignored Request = None
+fragment_ignored Trailers = None
+fragment_ignored Closed = None
+fragment_ignored TableOnly = Some TableOnlyBlock
+
+-- what changes for a fragment after which its block goes on
+abbrev pub goes_on : ConnectionState → Purpose → Change
+goes_on core purpose = record (only_counts core) { ignored = fragment_ignored purpose }
+
 -- the fragments so far are decoded, up to the beginning of an instruction
 abbrev pub fragment_read : State → BlockView → Decoding → Bool → FrameEffect
-fragment_read s b d false = Makes (with_block s (Some (record { shown = b; decoding = Some d }))) (only_counts s.core)
+fragment_read s b d false = Makes (with_block s (Some (record { shown = b; decoding = Some d }))) (goes_on s.core d.purpose)
 fragment_read s b d true =
     if not (length d.rest == 0) then Breaks BlockTruncated
     else if d.due then Breaks SizeUpdateMissing

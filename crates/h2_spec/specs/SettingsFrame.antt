@@ -7,6 +7,7 @@ use Rattle.h2_spec.specs.declared.connection.ConnectionState.{ConnectionState}
 use Rattle.h2_spec.specs.declared.connection.Phase.TheVariants.{Running}
 use Rattle.h2_spec.specs.declared.flow.LocalSettings.{LocalSettings}
 use Rattle.h2_spec.specs.declared.flow.Settings.{Settings}
+use Rattle.h2_spec.specs.declared.ignored.Ignored.TheVariants.{SecondAcknowledgement}
 use Rattle.h2_spec.specs.declared.reactions.Change.{Change}
 use Rattle.h2_spec.specs.declared.reactions.ConnectionFrame.TheVariants.{SettingsAck}
 use Rattle.h2_spec.specs.declared.reactions.Reaction.{Reaction}
@@ -15,7 +16,7 @@ use Rattle.h2_spec.specs.declared.reactions.RecordUpdate.TheVariants.{Shift, Rec
 use Rattle.h2_spec.specs.declared.streams.Stream.{Stream}
 use Rattle.h2_spec.specs.Settings.{with_setting}
 use Rattle.h2_spec.specs.State.{configured}
-use Rattle.h2_spec.specs.Change.{only_counts, overflows, moved_by}
+use Rattle.h2_spec.specs.Change.{only_counts, ignoring, overflows, moved_by}
 
 -- the settings in order after one of them, unless that is refused or takes a stream's window too far
 abbrev pub setting_next : List Stream → Settings → Result Settings Cause → (Settings → Result Settings Cause) → Result Settings Cause
@@ -44,6 +45,6 @@ settings_rule streams core pairs = settings_taken core (settings_applied streams
 abbrev pub comes_into_force : ConnectionState → LocalSettings → Change
 comes_into_force core own = record (only_counts (record core { acked = true; own = own })) { record_update = Receive core.own.window own.window }
 
--- the peer has acknowledged the server's settings: the first time they come into force (6.5.3)
+-- the peer has acknowledged the server's settings: the first time they come into force, later it is ignored (6.5.3)
 abbrev pub acknowledged : Config → ConnectionState → Reaction
-acknowledged config core = if core.acked then Continues (only_counts core) else Continues (comes_into_force core (configured config))
+acknowledged config core = if core.acked then Continues (ignoring SecondAcknowledgement (only_counts core)) else Continues (comes_into_force core (configured config))

@@ -37,27 +37,27 @@ unfolding server_ended
 begun body st = if body == 0 then server_ended st else with_body_remaining st body
 
 -- the answer begins: HEADERS is sent, and the body waits
-unfoldable pub answered : Bool → ℕ → Stream → StreamOutcome
+unfoldable pub answered : ℕ → Stream → StreamOutcome
 unfolding begun
-answered size_update_pending body st = record { stream = begun body st; frame = NoStreamFrame; answer = Some (record { id = st.id; pick = st.pick; size_update_pending = size_update_pending }); size_update_pending = false }
+answered body st = record { stream = begun body st; frame = NoStreamFrame; answer = Some st.pick }
 
 -- unless it has begun
-abbrev pub answered_unless : Bool → Bool → ℕ → Stream → StreamOutcome
-answered_unless true size_update_pending body st = outcome_without_frame size_update_pending st
-answered_unless false size_update_pending body st = answered size_update_pending body st
+abbrev pub answered_unless : Bool → ℕ → Stream → StreamOutcome
+answered_unless true body st = outcome_without_frame st
+answered_unless false body st = answered body st
 
 -- a stream whose peer's side ends, by its state before
-abbrev pub peer_ended_as : StreamState → Bool → ℕ → Stream → StreamOutcome
-peer_ended_as BothOpen size_update_pending body st = answered_unless (is_some st.numbers.body_remaining) size_update_pending body (with_kind st HalfRemote)
-peer_ended_as HalfLocal size_update_pending body st = outcome_without_frame size_update_pending (not_live st.id Ended)
-peer_ended_as HalfRemote size_update_pending body st = outcome_without_frame size_update_pending st
-peer_ended_as Idle size_update_pending body st = outcome_without_frame size_update_pending st
-peer_ended_as Skipped size_update_pending body st = outcome_without_frame size_update_pending st
-peer_ended_as Ended size_update_pending body st = outcome_without_frame size_update_pending st
-peer_ended_as PeerReset size_update_pending body st = outcome_without_frame size_update_pending st
-peer_ended_as WeReset size_update_pending body st = outcome_without_frame size_update_pending st
+abbrev pub peer_ended_as : StreamState → ℕ → Stream → StreamOutcome
+peer_ended_as BothOpen body st = answered_unless (is_some st.numbers.body_remaining) body (with_kind st HalfRemote)
+peer_ended_as HalfLocal body st = outcome_without_frame (not_live st.id Ended)
+peer_ended_as HalfRemote body st = outcome_without_frame st
+peer_ended_as Idle body st = outcome_without_frame st
+peer_ended_as Skipped body st = outcome_without_frame st
+peer_ended_as Ended body st = outcome_without_frame st
+peer_ended_as PeerReset body st = outcome_without_frame st
+peer_ended_as WeReset body st = outcome_without_frame st
 
 -- the peer's side ends: what was open is answered, with this length of the answer's body
-unfoldable pub peer_ended : Bool → ℕ → Stream → StreamOutcome
+unfoldable pub peer_ended : ℕ → Stream → StreamOutcome
 unfolding answered
-peer_ended size_update_pending body st = peer_ended_as st.kind size_update_pending body st
+peer_ended body st = peer_ended_as st.kind body st

@@ -1,5 +1,5 @@
 -- The rule for WINDOW_UPDATE (RFC 9113, 6.9 and 6.9.1).
-use Rattle.std.specs.Prelude.{ℕ, Bool, ◌==◌, if◌then◌else◌, pos, ◌+ℤ◌}
+use Rattle.std.specs.Prelude.{ℕ, ◌==◌, if◌then◌else◌, pos, ◌+ℤ◌}
 use Rattle.h2_spec.specs.declared.causes.Cause.TheVariants.{ConnectionIncrementZero, StreamIncrementZero, ConnectionWindowOverflow, StreamWindowOverflow}
 use Rattle.h2_spec.specs.declared.connection.ConnectionState.{ConnectionState}
 use Rattle.h2_spec.specs.declared.reactions.Reaction.{Reaction}
@@ -10,11 +10,11 @@ use Rattle.h2_spec.specs.Window.{is_above_max}
 use Rattle.h2_spec.specs.Change.{only_counts, outcome_without_frame, stream_error, with_send}
 
 -- an increment of a live stream's send window
-unfoldable pub window_outcome : Bool → ℕ → Stream → StreamOutcome
-window_outcome size_update_pending increment st =
-    if increment == 0 then stream_error size_update_pending st.id StreamIncrementZero
-    else if is_above_max (st.numbers.send +ℤ pos increment) then stream_error size_update_pending st.id StreamWindowOverflow
-    else outcome_without_frame size_update_pending (with_send st (st.numbers.send +ℤ pos increment))
+unfoldable pub window_outcome : ℕ → Stream → StreamOutcome
+window_outcome increment st =
+    if increment == 0 then stream_error st.id StreamIncrementZero
+    else if is_above_max (st.numbers.send +ℤ pos increment) then stream_error st.id StreamWindowOverflow
+    else outcome_without_frame (with_send st (st.numbers.send +ℤ pos increment))
 
 -- an increment of the connection's send window
 unfoldable pub connection_window : ConnectionState → ℕ → Reaction

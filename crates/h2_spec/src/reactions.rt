@@ -3,6 +3,7 @@
 
 use crate::causes::Cause;
 use crate::connection::ConnectionState;
+use crate::ignored::Ignored;
 use crate::streams::{Pick, Stream};
 
 /// What becomes of the streams' records.
@@ -46,22 +47,19 @@ pub struct Answering {
     pub id: u32,
     /// The answer.
     pub pick: Pick,
-    /// Whether the block begins with a table size update to 0.
+    /// Whether the block begins with a table size update to 0 (RFC 7541, 4.2).
     pub size_update_pending: bool,
 }
 
-/// What a rule of one stream answers: its record, what is sent on it, and whether a table size update is still to be
-/// sent.
+/// What a rule of one stream answers: its record, what is sent on it, and the answer that begins.
 #[derive(Clone, Copy)]
 pub struct StreamOutcome {
     /// The record after it.
     pub stream: Stream,
     /// The frame that is sent on the stream, before an answer.
     pub frame: StreamFrame,
-    /// The answer that begins, if one does.
-    pub answer: Option<Answering>,
-    /// Whether the next response's field block has to begin with a table size update (RFC 7541, 4.2).
-    pub size_update_pending: bool,
+    /// The answer that begins on it, if one does.
+    pub answer: Option<Pick>,
 }
 
 /// What an item changes, and what is sent for it.
@@ -77,6 +75,8 @@ pub struct Change {
     pub stream_frame: StreamFrame,
     /// The answer whose HEADERS are sent after both, if one begins.
     pub answer: Option<Answering>,
+    /// Why the item is ignored, if it is; nothing changes then but what the reason leaves to change.
+    pub ignored: Option<Ignored>,
 }
 
 /// What an item results in: a connection error, or a change (RFC 9113, 5.4).
@@ -84,6 +84,15 @@ pub struct Change {
 pub enum Reaction {
     ConnectionError(Cause),
     Continues(Change),
+}
+
+/// How an item was judged: an error for a cause, ignored for a reason, or neither (RFC 9113, 5.4).
+#[derive(Clone, Copy)]
+pub struct Verdict {
+    /// Why it is a connection error or a stream error, if it is one.
+    pub cause: Option<Cause>,
+    /// Why it is ignored, if it is.
+    pub ignored: Option<Ignored>,
 }
 
 /// DATA that comes: its octets, those of its content, and whether it ends the peer's side.

@@ -1,5 +1,8 @@
 //! Streams: their states, what is counted on them, and their records (RFC 9113, 5.1). Definitions: `specs/Stream.antt`.
 
+ghost use Rattle.std.specs.Prelude.{◌≡◌};
+ghost use Rattle.h2_spec.specs.Stream.{is_live};
+
 use crate::flow::{Credit, Window};
 
 /// The states of a stream (RFC 9113, 5.1). Client streams alone have records.
@@ -20,6 +23,21 @@ pub enum StreamState {
     PeerReset,
     /// The server has reset it.
     WeReset,
+}
+
+/// Whether a stream in this state is live: open or half-closed, and so counted for the limit of streams (RFC 9113, 5.1.2).
+#[inline(always)]
+pub fn is_live(kind: StreamState) -> bool
+    ensures { result ≡ is_live kind }
+{
+    match kind {
+        StreamState::BothOpen | StreamState::HalfRemote | StreamState::HalfLocal => true,
+        StreamState::Idle
+        | StreamState::Skipped
+        | StreamState::Ended
+        | StreamState::PeerReset
+        | StreamState::WeReset => false,
+    }
 }
 
 /// What is counted on a live stream; all 0 and `None` on one that is not live.

@@ -7,22 +7,7 @@ ghost use Rattle.h2_spec.specs.StreamEnds as ends;
 ghost use Rattle.h2_streams.specs.Kept as kept;
 
 use h2_spec::flow::{Credit, Window};
-use h2_spec::streams::{Numbers, Pick, Stream, StreamState};
-
-/// Whether one side of the stream or both are open.
-#[inline(always)]
-pub fn is_live(kind: StreamState) -> bool
-    ensures { result ≡ spec.is_live kind }
-{
-    match kind {
-        StreamState::BothOpen | StreamState::HalfRemote | StreamState::HalfLocal => true,
-        StreamState::Idle
-        | StreamState::Skipped
-        | StreamState::Ended
-        | StreamState::PeerReset
-        | StreamState::WeReset => false,
-    }
-}
+use h2_spec::streams::{Numbers, Pick, Stream, StreamState, is_live};
 
 /// The octets of its answer that a stream still has to send: 0 where it is not live or nothing waits.
 #[tactic(auto, unfolding(h2_spec::specs::Stream::octets_waiting))]

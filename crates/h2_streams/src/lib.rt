@@ -15,6 +15,6 @@ mod shift;
 mod walks;
 
 pub use h2_spec::errors::FlowFault;
-pub use h2_spec::streams::{Numbers, Pick, Stream, StreamState};
-pub use kinds::{is_live, not_live, octets_waiting, server_ended};
+pub use h2_spec::streams::{Numbers, Pick, Stream, StreamState, is_live};
+pub use kinds::{not_live, octets_waiting, server_ended};
 pub use records::Streams;

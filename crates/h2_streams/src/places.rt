@@ -5,8 +5,7 @@ ghost use Rattle.std.specs.Option.{option_copied, option_map_or, is_some};
 ghost use Rattle.h2_spec.specs.Stream as spec;
 ghost use Rattle.h2_streams.specs.Kept as kept;
 
-use crate::kinds::is_live;
-use h2_spec::streams::Stream;
+use h2_spec::streams::{Stream, is_live};
 use std::alloc::Allocator;
 
 /// How many records are below this identifier.

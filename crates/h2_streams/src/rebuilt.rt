@@ -11,10 +11,9 @@ ghost use Rattle.h2_streams.specs.Kept as kept;
 ghost use Rattle.h2_streams.specs.Rebuilt as spec;
 
 use crate::hash::IdHash;
-use crate::kinds::is_live;
 use crate::live::enter;
 use crate::places::{place_of, record_at, write};
-use h2_spec::streams::Stream;
+use h2_spec::streams::{Stream, is_live};
 use indexmap::IndexMap;
 use std::alloc::{AllocError, Allocator};
 

@@ -7,9 +7,8 @@ ghost use Rattle.h2_spec.specs.Change as changes;
 ghost use Rattle.h2_streams.specs.Shift as shift;
 
 use crate::hash::IdHash;
-use crate::kinds::is_live;
 use h2_spec::flow::Window;
-use h2_spec::streams::{Stream, StreamState};
+use h2_spec::streams::{Stream, StreamState, is_live};
 use indexmap::IndexMap;
 use std::alloc::Allocator;
 

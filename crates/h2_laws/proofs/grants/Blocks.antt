@@ -8,6 +8,7 @@ use Rattle.h2_spec.specs.declared.connection.BlockView.{BlockView}
 use Rattle.h2_spec.specs.declared.connection.ConnectionState.{ConnectionState}
 use Rattle.h2_spec.specs.declared.connection.Purpose.{Purpose}
 use Rattle.h2_spec.specs.declared.connection.Purpose.TheVariants.{Request, Trailers, Closed, TableOnly}
+use Rattle.h2_spec.specs.declared.ignored.Ignored.TheVariants.{TableOnlyBlock}
 use Rattle.h2_spec.specs.declared.reactions.Change.{Change}
 use Rattle.h2_spec.specs.declared.reactions.ConnectionFrame.TheVariants.{NoConnectionFrame}
 use Rattle.h2_spec.specs.declared.reactions.BlockSummary.{BlockSummary}
@@ -21,14 +22,14 @@ use Rattle.h2_spec.specs.Answer.{Entry, picked}
 use Rattle.h2_spec.specs.Stream.{stream_at, octets_waiting, live_count, put}
 use Rattle.h2_spec.specs.State.{State, OpenBlock, Decoding}
 use Rattle.h2_spec.specs.Change.{only_counts, with_outcome, stream_error}
-use Rattle.h2_spec.specs.Headers.{FrameEffect, Breaks, request_summary, new_stream, request_outcome, trailers_outcome, block_ends, fragment_decoded, decoded_with, fragment}
+use Rattle.h2_spec.specs.Headers.{FrameEffect, Breaks, request_summary, new_stream, request_outcome, trailers_outcome, block_ends, fragment_decoded, decoded_with, fragment, fragment_ignored}
 use Rattle.h2_spec.specs.Effect.{body_length}
 use Rattle.h2_laws.specs.Grants.{StreamTally, Tally, When, with_tally_on, body_promised, with_fields, fields_at_end}
 use Rattle.h2_laws.specs.Order.{Rise}
 use Rattle.h2_laws.proofs.grants.Agreement.{Fits, IsRecorded, IsBlock, FitsBlock, Agreement}
 use Rattle.h2_laws.proofs.grants.Turns.{Proper, Good, just_asked, error-proper, error-good, Uncut-live, trailers_turn-proper, trailers_turn-good, request_turn-proper, request_turn-good}
 use Rattle.h2_laws.proofs.grants.Records.{at-id, put-last}
-use Rattle.h2_laws.proofs.grants.Rules.{Moves, Kept, stays, outcome-kept, record-kept}
+use Rattle.h2_laws.proofs.grants.Rules.{Moves, Kept, because, stays, outcome-kept, record-kept}
 
 -- ---- what is promised
 
@@ -130,17 +131,17 @@ block-kept id s t j ends fields purpose pos_id x none b = at purpose b
     at Trailers b =
         let for : (e : eqb j id ≡ true) → (is_some t.on_stream.promised ≡ true) × (t.on_stream.reset ≡ false) = λ e. whenever _ (eqb j id) e b.1 in
         promised _ (λ e. (for e).0)
-        (on_record (trailers_outcome (list_size fields) (trailers_fault fields) (body_length s.book st) s.core.peer.size_update_pending ends st) b.0
-        (trailers_turn-proper s.book (list_size fields) (trailers_fault fields) s.core.peer.size_update_pending ends st)
-        (λ e f. trailers_turn-good s.book t.window t.on_stream (list_size fields) (trailers_fault fields) s.core.peer.size_update_pending ends st f (for e).1))
+        (on_record (trailers_outcome (list_size fields) (trailers_fault fields) (body_length s.book st) ends st) b.0
+        (trailers_turn-proper s.book (list_size fields) (trailers_fault fields) ends st)
+        (λ e f. trailers_turn-good s.book t.window t.on_stream (list_size fields) (trailers_fault fields) ends st f (for e).1))
     at Closed b =
         let for : (e : eqb j id ≡ true) → (is_some t.on_stream.promised ≡ true) × (t.on_stream.reset ≡ false) = λ e. whenever _ (eqb j id) e b.1 in
         let same : st.id ≡ j = at-id s.core.last s.streams j in
         promised _ (λ e. (for e).0)
-        (on_record (stream_error s.core.peer.size_update_pending j HeadersAfterEndStream) b.0
-        (subst (λ i. Proper s.book st (stream_error s.core.peer.size_update_pending i HeadersAfterEndStream)) same (error-proper s.book s.core.peer.size_update_pending st HeadersAfterEndStream))
-        (λ e f. error-good s.book t.window t.on_stream s.core.peer.size_update_pending j HeadersAfterEndStream (Uncut-live st.kind (picked s.book st.pick).body t.window st.numbers.send st.numbers.body_remaining t.on_stream f (for e).1)))
-    at TableOnly b = promised _ (λ e. whenever _ (eqb j id) e b.1) (stays s.book id t s s.core NoConnectionFrame pos_id x)
+        (on_record (stream_error j HeadersAfterEndStream) b.0
+        (subst (λ i. Proper s.book st (stream_error i HeadersAfterEndStream)) same (error-proper s.book st HeadersAfterEndStream))
+        (λ e f. error-good s.book t.window t.on_stream j HeadersAfterEndStream (Uncut-live st.kind (picked s.book st.pick).body t.window st.numbers.send st.numbers.body_remaining t.on_stream f (for e).1)))
+    at TableOnly b = promised _ (λ e. whenever _ (eqb j id) e b.1) (because s.book id t s (only_counts s.core) (Some TableOnlyBlock) (stays s.book id t s s.core NoConnectionFrame pos_id x))
 
 -- ---- a fragment
 
@@ -180,7 +181,7 @@ fragment-kept id s t b d octets ends pos_id x of = over _ (cases ends)
 
     more : (o : Outcome) → Kept s.book id t (fragment_decoded s c d.purpose false (record r { outcome = o }))
     more (Faulty fault) = tt
-    more (Unfinished rest) = stays s.book id t _ s.core NoConnectionFrame pos_id (with_table r.progress.table _ of)
+    more (Unfinished rest) = because s.book id t _ (only_counts s.core) (fragment_ignored d.purpose) (stays s.book id t _ s.core NoConnectionFrame pos_id (with_table r.progress.table _ of))
 
     last : (o : Outcome) → Kept s.book id (with_tally_on id b.stream t (with_fields s.book t.on_stream (Some r.progress.fields))) (fragment_decoded s c d.purpose true (record r { outcome = o }))
     last (Faulty fault) = tt

@@ -20,19 +20,20 @@ use Rattle.h2_spec.specs.Payload.{HeadersPart, Part, OfData, OfHeaders, OfPriori
 use Rattle.h2_spec.specs.Answer.{Entry, picked}
 use Rattle.h2_spec.specs.Stream.{record_of, stream_at}
 use Rattle.h2_spec.specs.State.{State, OpenBlock, Decoding}
+use Rattle.h2_spec.specs.declared.ignored.Ignored.TheVariants.{Priority, UnknownType, PingAcknowledgement}
 use Rattle.h2_spec.specs.Change.{only_counts}
 use Rattle.h2_spec.specs.Cause.{first_of}
 use Rattle.h2_spec.specs.Checks.{interrupts, early, misplaced, refusal}
 use Rattle.h2_spec.specs.ReactionTable.{Rule, Error, headers_cell}
 use Rattle.h2_spec.specs.WindowUpdate.{connection_window}
 use Rattle.h2_spec.specs.Headers.{makes, fresh_block, fresh_decoding, block_opens, continued}
-use Rattle.h2_spec.specs.Effect.{nothing, incoming, on_headers, on_window, frame_effect, part_effect, checked_effect, block_stream, item_effect}
+use Rattle.h2_spec.specs.Effect.{ignore, incoming, on_headers, on_window, frame_effect, part_effect, checked_effect, block_stream, item_effect}
 use Rattle.h2_laws.specs.Grants.{Tally, When, with_tally_on, with_fields, with_fragment, fields_at_end, received_part, received_frame, received}
 use Rattle.h2_laws.proofs.grants.Tallies.{always}
 use Rattle.h2_laws.proofs.grants.Agreement.{FitsAs, IsRecorded, IsBlock, IsDecoding, FitsBlock, Agreement}
 use Rattle.h2_laws.proofs.grants.Turns.{granted_more, Uncut-live}
 use Rattle.h2_laws.proofs.grants.Records.{at-found, at-idle, found-fits}
-use Rattle.h2_laws.proofs.grants.Rules.{Kept, either-kept, stays, IsLive, live-reset, data-kept, reset-kept, window-kept, connection-kept}
+use Rattle.h2_laws.proofs.grants.Rules.{Kept, because, either-kept, stays, IsLive, live-reset, data-kept, reset-kept, window-kept, connection-kept}
 use Rattle.h2_laws.proofs.grants.SettingsRule.{settings-kept, acknowledged-kept}
 use Rattle.h2_laws.proofs.grants.Blocks.{fragment-kept}
 
@@ -92,14 +93,14 @@ module _ (id : ℕ) (s : State) (t : Tally) (h : Head) (p : List ℕ) (pos_id : 
   part-kept : (part : Part) → Kept s.book id (received_part s.book id s t h part) (frame_effect s h p part)
   part-kept (OfData part) = data-kept id s t h.stream (incoming h p part) pos_id x none
   part-kept (OfHeaders part) = headers-kept part
-  part-kept OfPriority = stays s.book id t s s.core NoConnectionFrame pos_id x
+  part-kept OfPriority = because s.book id t s (only_counts s.core) (Some Priority) (stays s.book id t s s.core NoConnectionFrame pos_id x)
   part-kept (OfRstStream code) = reset-kept id s t h.stream pos_id x none
   part-kept (OfSettings pairs) = settings-kept id s t pairs pos_id x none
   part-kept OfSettingsAck = acknowledged-kept id s t pos_id x none
   part-kept OfPushPromise = tt
   part-kept (OfPing octets) =
-      either-kept s.book id t s (has h.flags ACK) (nothing s.core) (Continues (record (only_counts s.core) { connection_frame = PingAck octets }))
-      (stays s.book id t s s.core NoConnectionFrame pos_id x) (stays s.book id t s s.core (PingAck octets) pos_id x)
+      either-kept s.book id t s (has h.flags ACK) (ignore s.core PingAcknowledgement) (Continues (record (only_counts s.core) { connection_frame = PingAck octets }))
+      (because s.book id t s (only_counts s.core) (Some PingAcknowledgement) (stays s.book id t s s.core NoConnectionFrame pos_id x)) (stays s.book id t s s.core (PingAck octets) pos_id x)
   part-kept (OfGoaway last code) = stays s.book id t s (record s.core { goaway = Some (last, code) }) NoConnectionFrame pos_id x
   part-kept (OfWindowUpdate n) = at (eqb h.stream 0)
     where
@@ -107,7 +108,7 @@ module _ (id : ℕ) (s : State) (t : Tally) (h : Head) (p : List ℕ) (pos_id : 
       at true = connection-kept id s t n pos_id x
       at false = window-kept id s t h.stream pos_id x none n
   part-kept (OfContinuation fragment) = rw none tt
-  part-kept OfUnknown = stays s.book id t s s.core NoConnectionFrame pos_id x
+  part-kept OfUnknown = because s.book id t s (only_counts s.core) (Some UnknownType) (stays s.book id t s s.core NoConnectionFrame pos_id x)
 
 -- ---- a frame that does not interrupt a block
 

@@ -12,6 +12,8 @@ use Rattle.h2_spec.specs.declared.reactions.ConnectionFrame.{ConnectionFrame}
 use Rattle.h2_spec.specs.declared.reactions.ConnectionFrame.TheVariants.{NoConnectionFrame, SettingsAck, PingAck, Credit}
 use Rattle.h2_spec.specs.declared.reactions.Reaction.{Reaction}
 use Rattle.h2_spec.specs.declared.reactions.Reaction.TheVariants.{ConnectionError, Continues}
+use Rattle.h2_spec.specs.declared.ignored.Ignored.{Ignored}
+use Rattle.h2_spec.specs.declared.ignored.Ignored.TheVariants.{DataOnReset, RstStreamOnSkipped, RstStreamOnClosed, RstStreamOnPeerReset, RstStreamOnReset, WindowUpdateOnSkipped, WindowUpdateOnClosed, WindowUpdateOnPeerReset, WindowUpdateOnReset}
 use Rattle.h2_spec.specs.declared.reactions.StreamOutcome.{StreamOutcome}
 use Rattle.h2_spec.specs.declared.streams.StreamState.{StreamState}
 use Rattle.h2_spec.specs.declared.streams.StreamState.TheVariants.{Idle, Skipped, BothOpen, HalfRemote, HalfLocal, Ended, PeerReset, WeReset}
@@ -21,12 +23,12 @@ use Rattle.h2_spec.specs.Answer.{Entry, picked}
 use Rattle.h2_spec.specs.Window.{is_above_max, given_back}
 use Rattle.h2_spec.specs.Stream.{record_of, stream_at, put}
 use Rattle.h2_spec.specs.State.{State}
-use Rattle.h2_spec.specs.Change.{only_counts, with_outcome, after, connection_frames, stream_frames, answer_frames, frames_of, stream_error}
-use Rattle.h2_spec.specs.ReactionTable.{run_cell, data_cell, reset_cell, window_cell}
+use Rattle.h2_spec.specs.Change.{answer_begun, only_counts, ignoring, with_outcome, after, connection_frames, stream_frames, answer_frames, frames_of, stream_error}
+use Rattle.h2_spec.specs.ReactionTable.{run_cell, data_cell, reset_cell, unless_zero, window_cell}
 use Rattle.h2_spec.specs.Data.{counted, owed_on_connection, owed_as, if_within, data_taken, data_refused, data_counted, data_outcome}
 use Rattle.h2_spec.specs.WindowUpdate.{connection_window, window_outcome}
 use Rattle.h2_spec.specs.Headers.{FrameEffect, Breaks, Makes, makes}
-use Rattle.h2_spec.specs.Effect.{nothing, data_rule, on_data, body_length, reset_rule, reset_outcome, on_reset, window_rule, on_window}
+use Rattle.h2_spec.specs.Effect.{ignore, data_rule, on_data, body_length, reset_rule, reset_outcome, on_reset, window_rule, on_window}
 use Rattle.h2_laws.specs.Grants.{StreamTally, Tally, with_tally_on, sends_data}
 use Rattle.h2_laws.specs.Order.{Rise}
 use Rattle.h2_laws.proofs.grants.Tallies.{Leads, Leads-append, quiet-append}
@@ -81,11 +83,16 @@ stays book id t s core first h x =
     let only = only-append 0 (connection_frames first ++ []) [] (only-append 0 (connection_frames first) [] (first-only first) tt) tt in
     record { tally = t; leads = other-leads id 0 t _ (not_zero id h) only; quiet = quiet-only id 0 _ only; agrees = x }
 
+-- why an item is ignored changes nothing of it
+pub because : (book : List Entry) (id : ℕ) (t : Tally) (s : State) (c : Change) (reason : Option Ignored) → Moves book id t s c → Moves book id t s (record c { ignored = reason })
+unfolding frames_of
+because book id t s c reason m = record { tally = m.tally; leads = m.leads; quiet = m.quiet; agrees = m.agrees }
+
 -- ---- a turn of one stream
 
-frames-turned : (book : List Entry) (c : Change) (outcome : StreamOutcome) → frames_of book (with_outcome c outcome) ≡ connection_frames c.connection_frame ++ outcome_frames book outcome
+frames-turned : (book : List Entry) (c : Change) (outcome : StreamOutcome) → frames_of book (with_outcome c outcome) ≡ connection_frames c.connection_frame ++ outcome_frames book c.core.peer.size_update_pending outcome
 unfolding frames_of with_outcome
-frames-turned book c outcome = append_assoc (connection_frames c.connection_frame) (stream_frames outcome.frame) (answer_frames book outcome.answer)
+frames-turned book c outcome = append_assoc (connection_frames c.connection_frame) (stream_frames outcome.frame) (answer_frames book (answer_begun c.core.peer.size_update_pending outcome.stream.id outcome.answer))
 
 -- m: the stream's tally with what the item brought
 module _ (id : ℕ) (s : State) (t : Tally) (m : StreamTally) (c : Change) (st : Stream) (outcome : StreamOutcome)
@@ -100,13 +107,13 @@ module _ (id : ℕ) (s : State) (t : Tally) (m : StreamTally) (c : Change) (st :
   abbrev streams : List Stream
   streams = put outcome.stream s.streams
 
-  joined : (u : Tally) → Leads id brought (outcome_frames s.book outcome) u → Leads id brought (frames_of s.book (with_outcome c outcome)) u
+  joined : (u : Tally) → Leads id brought (outcome_frames s.book c.core.peer.size_update_pending outcome) u → Leads id brought (frames_of s.book (with_outcome c outcome)) u
   joined u l =
       let front : Leads id brought (connection_frames c.connection_frame) brought = other-leads id 0 brought (connection_frames c.connection_frame) (not_zero id pos_id) (first-only c.connection_frame) in
-      rw (frames-turned s.book c outcome) (Leads-append id brought brought u (connection_frames c.connection_frame) (outcome_frames s.book outcome) front l)
+      rw (frames-turned s.book c outcome) (Leads-append id brought brought u (connection_frames c.connection_frame) (outcome_frames s.book c.core.peer.size_update_pending outcome) front l)
 
   silent : sends_data id (frames_of s.book (with_outcome c outcome)) ≡ false
-  silent = rw (frames-turned s.book c outcome) (quiet-append id (connection_frames c.connection_frame) (outcome_frames s.book outcome) (quiet-only id 0 (connection_frames c.connection_frame) (first-only c.connection_frame)) (quiet-only id st.id (outcome_frames s.book outcome) proper.only))
+  silent = rw (frames-turned s.book c outcome) (quiet-append id (connection_frames c.connection_frame) (outcome_frames s.book c.core.peer.size_update_pending outcome) (quiet-only id 0 (connection_frames c.connection_frame) (first-only c.connection_frame)) (quiet-only id st.id (outcome_frames s.book c.core.peer.size_update_pending outcome) (proper.only c.core.peer.size_update_pending)))
 
   -- the state after it agrees with another tally
   agrees-with : (n : StreamTally) → FitsStreams s.book t.window id streams n → (c.core.last < id → (n ≡ t.on_stream) × Absent id streams) → Agreement s.book id (after s (with_outcome c outcome)) (record t { on_stream = n })
@@ -129,12 +136,12 @@ module _ (id : ℕ) (s : State) (t : Tally) (m : StreamTally) (c : Change) (st :
   outcome-own : eqb st.id id ≡ true → Moves s.book id brought s (with_outcome c outcome)
   outcome-own e =
       let g : Good s.book t.window m outcome = good e in
-      let n : StreamTally = tallied_all m (outcome_frames s.book outcome) in
+      let n : StreamTally = tallied_all m (outcome_frames s.book c.core.peer.size_update_pending outcome) in
       record {
         tally = record t { on_stream = n };
-        leads = joined (record t { on_stream = n }) (own-leads id st.id brought (outcome_frames s.book outcome) e proper.only g.in_turn);
+        leads = joined (record t { on_stream = n }) (own-leads id st.id brought (outcome_frames s.book c.core.peer.size_update_pending outcome) e (proper.only c.core.peer.size_update_pending) (g.in_turn c.core.peer.size_update_pending));
         quiet = silent;
-        agrees = agrees-with n (put-own s.book t.window id outcome.stream s.streams t.on_stream n (proper.same_id ∙ eqb-true st.id id e) x.agreed g.fits) (λ h. absurd (not_idle e h));
+        agrees = agrees-with n (put-own s.book t.window id outcome.stream s.streams t.on_stream n (proper.same_id ∙ eqb-true st.id id e) x.agreed (g.fits c.core.peer.size_update_pending)) (λ h. absurd (not_idle e h));
       }
 
   outcome-other : eqb st.id id ≡ false → Moves s.book id brought s (with_outcome c outcome)
@@ -142,7 +149,7 @@ module _ (id : ℕ) (s : State) (t : Tally) (m : StreamTally) (c : Change) (st :
       let outcome_id : eqb outcome.stream.id id ≡ false = rw proper.same_id e in
       record {
         tally = brought;
-        leads = joined brought (other-leads id st.id brought (outcome_frames s.book outcome) e proper.only);
+        leads = joined brought (other-leads id st.id brought (outcome_frames s.book c.core.peer.size_update_pending outcome) e (proper.only c.core.peer.size_update_pending));
         quiet = silent;
         agrees = agrees-with m (subst (FitsStreams s.book t.window id streams) (sym (other e)) (put-other s.book t.window id outcome.stream s.streams t.on_stream outcome_id x.agreed))
             (λ h. (other e, put-absent id outcome.stream s.streams outcome_id (x.idle h).1));
@@ -239,19 +246,19 @@ data-kept id s t j d pos_id x none = at st.kind refl
 
     take : (k : StreamState) → IsLive k → IsRecorded k → st.kind ≡ k → Kept s.book id t (makes s (data_taken s.config s.core (body_length s.book st) d st))
     take k l r e = within-kept id s t d.octets _
-        (on_record (data_outcome s.config.credit s.core.peer.size_update_pending (body_length s.book st) d st) (subst IsRecorded (sym e) r) (data_turn-proper s.book s.config.credit s.core.peer.size_update_pending d st)
-        (λ f. data_turn-good s.book t.window t.on_stream s.config.credit s.core.peer.size_update_pending d st f (live-reset st.kind (picked s.book st.pick).body t.window st.numbers.send st.numbers.body_remaining t.on_stream (subst IsLive (sym e) l) f)))
+        (on_record (data_outcome s.config.credit (body_length s.book st) d st) (subst IsRecorded (sym e) r) (data_turn-proper s.book s.config.credit d st)
+        (λ f. data_turn-good s.book t.window t.on_stream s.config.credit d st f (live-reset st.kind (picked s.book st.pick).body t.window st.numbers.send st.numbers.body_remaining t.on_stream (subst IsLive (sym e) l) f)))
 
     refuse : st.kind ≡ HalfRemote → Kept s.book id t (makes s (data_refused s.config s.core d st DataAfterEndStream))
     refuse e = within-kept id s t d.octets _
-        (on_record (stream_error s.core.peer.size_update_pending st.id DataAfterEndStream) (subst IsRecorded (sym e) tt) (error-proper s.book s.core.peer.size_update_pending st DataAfterEndStream)
-        (λ f. error-good s.book t.window t.on_stream s.core.peer.size_update_pending st.id DataAfterEndStream
+        (on_record (stream_error st.id DataAfterEndStream) (subst IsRecorded (sym e) tt) (error-proper s.book st DataAfterEndStream)
+        (λ f. error-good s.book t.window t.on_stream st.id DataAfterEndStream
         (Uncut-live st.kind (picked s.book st.pick).body t.window st.numbers.send st.numbers.body_remaining t.on_stream f (live-reset st.kind (picked s.book st.pick).body t.window st.numbers.send st.numbers.body_remaining t.on_stream (subst IsLive (sym e) tt) f))))
 
-    count : Kept s.book id t (makes s (data_counted s.config s.core d))
-    count = within-kept id s t d.octets c (counted-moves id s t s.config.credit d.octets pos_id x)
+    count : Kept s.book id t (makes s (data_counted s.config s.core d DataOnReset))
+    count = within-kept id s t d.octets _ (because s.book id t s c (Some DataOnReset) (counted-moves id s t s.config.credit d.octets pos_id x))
 
-    at : (k : StreamState) → st.kind ≡ k → Kept s.book id t (makes s (run_cell ConnectionError (nothing s.core) (λ rule. data_rule rule s.config s.core (body_length s.book st) d st) (data_cell k)))
+    at : (k : StreamState) → st.kind ≡ k → Kept s.book id t (makes s (run_cell ConnectionError (ignore s.core) (λ rule. data_rule rule s.config s.core (body_length s.book st) d st) (data_cell k)))
     at Idle e = tt
     at Skipped e = tt
     at BothOpen e = take BothOpen tt tt e
@@ -284,8 +291,8 @@ re-agrees id s t n x none f busy = record {
 -- live, and none where it is not
 record ByState (id : ℕ) (s : State) (t : Tally) (j : ℕ) (n : StreamTally) (rule : Stream → StreamOutcome) : Type 0 where
   live : (k : StreamState) → IsLive k → IsRecorded k → (stream_at s.core.last s.streams j).kind ≡ k → Moves s.book id (with_tally_on id j t n) s (with_outcome (only_counts s.core) (rule (stream_at s.core.last s.streams j)))
-  over : (k : StreamState) → IsOver k → IsRecorded k → (stream_at s.core.last s.streams j).kind ≡ k → Moves s.book id (with_tally_on id j t n) s (only_counts s.core)
-  skipped : (stream_at s.core.last s.streams j).kind ≡ Skipped → Moves s.book id (with_tally_on id j t n) s (only_counts s.core)
+  over : (k : StreamState) → IsOver k → IsRecorded k → (stream_at s.core.last s.streams j).kind ≡ k → (reason : Ignored) → Moves s.book id (with_tally_on id j t n) s (ignoring reason (only_counts s.core))
+  skipped : (stream_at s.core.last s.streams j).kind ≡ Skipped → (reason : Ignored) → Moves s.book id (with_tally_on id j t n) s (ignoring reason (only_counts s.core))
 
 module _ (id : ℕ) (s : State) (t : Tally) (j : ℕ) (n : StreamTally) (rule : Stream → StreamOutcome)
     (pos_id : 1 ≤ id) (x : Agreement s.book id s t) (none : s.block ≡ None)
@@ -322,7 +329,11 @@ module _ (id : ℕ) (s : State) (t : Tally) (j : ℕ) (n : StreamTally) (rule : 
       (λ other. rw other refl)
 
   by-state : ByState id s t j n rule
-  by-state = record { live = rule-live; over = nothing-over; skipped = nothing-skipped }
+  by-state = record {
+    live = rule-live;
+    over = λ k o r e reason. because s.book id tallied s (only_counts s.core) (Some reason) (nothing-over k o r e);
+    skipped = λ e reason. because s.book id tallied s (only_counts s.core) (Some reason) (nothing-skipped e);
+  }
 
 -- by the state of the stream, with the table of RST_STREAM and that of WINDOW_UPDATE, which are alike
 module _ (id : ℕ) (s : State) (t : Tally) (j : ℕ) (pos_id : 1 ≤ id) (x : Agreement s.book id s t) (none : s.block ≡ None) where
@@ -336,37 +347,37 @@ module _ (id : ℕ) (s : State) (t : Tally) (j : ℕ) (pos_id : 1 ≤ id) (x : A
   unfolding on_reset
   reset-kept = at on.kind refl
     where
-      rules : ByState id s t j (now_reset t.on_stream) (reset_outcome s.core.peer.size_update_pending)
-      rules = by-state id s t j (now_reset t.on_stream) (reset_outcome s.core.peer.size_update_pending) pos_id x none (reset_turn-proper s.book s.core.peer.size_update_pending) (reset_turn-good s.book t.window t.on_stream s.core.peer.size_update_pending)
+      rules : ByState id s t j (now_reset t.on_stream) reset_outcome
+      rules = by-state id s t j (now_reset t.on_stream) reset_outcome pos_id x none (reset_turn-proper s.book) (reset_turn-good s.book t.window t.on_stream)
           (λ st. over-reset st.kind (picked s.book st.pick).body t.window st.numbers.send st.numbers.body_remaining t.on_stream) (unasked-more (now_reset t.on_stream) refl refl refl refl)
 
-      at : (k : StreamState) → on.kind ≡ k → Kept s.book id (with_tally_on id j t (now_reset t.on_stream)) (makes s (run_cell ConnectionError (nothing s.core) (λ r. reset_rule r s.core on) (reset_cell k)))
+      at : (k : StreamState) → on.kind ≡ k → Kept s.book id (with_tally_on id j t (now_reset t.on_stream)) (makes s (run_cell ConnectionError (ignore s.core) (λ r. reset_rule r s.core on) (reset_cell k)))
       at Idle e = tt
-      at Skipped e = rules.skipped e
+      at Skipped e = rules.skipped e RstStreamOnSkipped
       at BothOpen e = rules.live BothOpen tt tt e
       at HalfRemote e = rules.live HalfRemote tt tt e
       at HalfLocal e = rules.live HalfLocal tt tt e
-      at Ended e = rules.over Ended tt tt e
-      at PeerReset e = rules.over PeerReset tt tt e
-      at WeReset e = rules.over WeReset tt tt e
+      at Ended e = rules.over Ended tt tt e RstStreamOnClosed
+      at PeerReset e = rules.over PeerReset tt tt e RstStreamOnPeerReset
+      at WeReset e = rules.over WeReset tt tt e RstStreamOnReset
 
   pub window-kept : (i : ℕ) → Kept s.book id (with_tally_on id j t (granted_more i t.on_stream)) (makes s (on_window s.core i on))
   unfolding on_window
   window-kept i = at on.kind refl
     where
-      rules : ByState id s t j (granted_more i t.on_stream) (window_outcome s.core.peer.size_update_pending i)
-      rules = by-state id s t j (granted_more i t.on_stream) (window_outcome s.core.peer.size_update_pending i) pos_id x none (window_turn-proper s.book s.core.peer.size_update_pending i) (window_turn-good s.book t.window t.on_stream s.core.peer.size_update_pending i)
+      rules : ByState id s t j (granted_more i t.on_stream) (window_outcome i)
+      rules = by-state id s t j (granted_more i t.on_stream) (window_outcome i) pos_id x none (window_turn-proper s.book i) (window_turn-good s.book t.window t.on_stream i)
           (λ st. over-granted st.kind (picked s.book st.pick).body t.window st.numbers.send st.numbers.body_remaining t.on_stream i) (unasked-more (granted_more i t.on_stream) refl refl refl refl)
 
-      at : (k : StreamState) → on.kind ≡ k → Kept s.book id (with_tally_on id j t (granted_more i t.on_stream)) (makes s (run_cell ConnectionError (nothing s.core) (λ r. window_rule r s.core i on) (window_cell k)))
+      at : (k : StreamState) → on.kind ≡ k → Kept s.book id (with_tally_on id j t (granted_more i t.on_stream)) (makes s (run_cell ConnectionError (ignore s.core) (λ r. window_rule r s.core i on) (window_cell (eqb i 0) k)))
       at Idle e = tt
-      at Skipped e = rules.skipped e
+      at Skipped e = rules.skipped e (unless_zero (eqb i 0) WindowUpdateOnSkipped)
       at BothOpen e = rules.live BothOpen tt tt e
       at HalfRemote e = rules.live HalfRemote tt tt e
       at HalfLocal e = rules.live HalfLocal tt tt e
-      at Ended e = rules.over Ended tt tt e
-      at PeerReset e = rules.over PeerReset tt tt e
-      at WeReset e = rules.over WeReset tt tt e
+      at Ended e = rules.over Ended tt tt e (unless_zero (eqb i 0) WindowUpdateOnClosed)
+      at PeerReset e = rules.over PeerReset tt tt e (unless_zero (eqb i 0) WindowUpdateOnPeerReset)
+      at WeReset e = rules.over WeReset tt tt e (unless_zero (eqb i 0) WindowUpdateOnReset)
 
 -- ---- the connection
 

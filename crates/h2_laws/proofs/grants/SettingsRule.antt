@@ -1,5 +1,5 @@
 -- SETTINGS keep the tests: the windows of the streams move with the initial window of the tally.
-use Rattle.std.proofs.Common.{◌≡◌, ℕ, ◌≤◌, Bool, true, false, cond, List, [], ◌∷◌, refl, sym, subst, arith, eqb, leb, Option, None, Result, Ok, Err}
+use Rattle.std.proofs.Common.{◌≡◌, ℕ, ◌≤◌, Bool, true, false, cond, List, [], ◌∷◌, refl, sym, subst, arith, eqb, leb, Option, Some, None, Result, Ok, Err}
 use Rattle.std.proofs.lemmas.Bool.{eqb-true, and_parts, leb-true}
 use Rattle.std.proofs.lemmas.Int.{ints}
 use Rattle.std.specs.Prelude.{◌&&◌, ℤ, ◌+ℤ◌}
@@ -17,14 +17,15 @@ use Rattle.h2_spec.specs.SettingsFrame.{acknowledged, comes_into_force, setting_
 use Rattle.h2_spec.specs.Answer.{Entry, picked}
 use Rattle.h2_spec.specs.Stream.{is_live, octets_waiting}
 use Rattle.h2_spec.specs.State.{State, configured}
-use Rattle.h2_spec.specs.Change.{frames_of, only_counts, follows_initial_window, received, received_one, with_recv, shifted, shifted_one, overflows, moved_by}
+use Rattle.h2_spec.specs.declared.ignored.Ignored.TheVariants.{SecondAcknowledgement}
+use Rattle.h2_spec.specs.Change.{frames_of, ignoring, only_counts, follows_initial_window, received, received_one, with_recv, shifted, shifted_one, overflows, moved_by}
 use Rattle.h2_spec.specs.Headers.{makes}
 use Rattle.h2_laws.specs.Grants.{StreamTally, Tally, with_settings}
 use Rattle.h2_laws.specs.Grants as tally
 use Rattle.h2_laws.specs.Order.{Rise}
 use Rattle.h2_laws.proofs.grants.Agreement.{Sends, Fits, Absent, Either, FitsStreams, HasBody, Bodies, FitsBlock, Agreement}
 use Rattle.h2_laws.proofs.grants.Turns.{other-leads}
-use Rattle.h2_laws.proofs.grants.Rules.{Kept, either-kept, not_zero, stays}
+use Rattle.h2_laws.proofs.grants.Rules.{Kept, because, either-kept, not_zero, stays}
 
 -- ---- the settings
 
@@ -205,7 +206,7 @@ received-agreed book window id d (x ∷ sts) m f = rw (received-id d x) (at (λ 
 pub acknowledged-kept : (id : ℕ) (s : State) (t : Tally) → 1 ≤ id → Agreement s.book id s t → s.block ≡ None → Kept s.book id t (makes s (acknowledged s.config s.core))
 unfolding frames_of
 acknowledged-kept id s t pos_id x none =
-    either-kept s.book id t s s.core.acked (Continues (only_counts s.core)) (Continues (comes_into_force s.core own)) (stays s.book id t s s.core NoConnectionFrame pos_id x)
+    either-kept s.book id t s s.core.acked (Continues (ignoring SecondAcknowledgement (only_counts s.core))) (Continues (comes_into_force s.core own)) (because s.book id t s (only_counts s.core) (Some SecondAcknowledgement) (stays s.book id t s s.core NoConnectionFrame pos_id x))
     (record {
       tally = t;
       leads = other-leads id 0 t _ (not_zero id pos_id) tt;

@@ -21,7 +21,7 @@ use Rattle.h2_spec.specs.Frame.{Frame}
 use Rattle.h2_spec.specs.Answer.{Entry, picked}
 use Rattle.h2_spec.specs.Window.{given_back}
 use Rattle.h2_spec.specs.Stream.{octets_waiting}
-use Rattle.h2_spec.specs.Change.{outcome_without_frame, stream_error, unless_broken, stream_frames, answer_frames, with_send}
+use Rattle.h2_spec.specs.Change.{answer_begun, outcome_without_frame, stream_error, unless_broken, stream_frames, answer_frames, with_send}
 use Rattle.h2_spec.specs.StreamEnds.{server_ended, begun, with_body_remaining, with_kind, answered, answered_unless, peer_ended}
 use Rattle.h2_spec.specs.Data.{returned, returned_as, taken, data_outcome}
 use Rattle.h2_spec.specs.WindowUpdate.{window_outcome}
@@ -73,20 +73,20 @@ own-leads id j t (f ∷ fs) e o h =
 
 -- ---- what holds of a turn
 
--- what a turn sends
-abbrev pub outcome_frames : List Entry → StreamOutcome → List Frame
-outcome_frames book outcome = stream_frames outcome.frame ++ answer_frames book outcome.answer
+-- what a turn sends, by whether a table size update is pending
+abbrev pub outcome_frames : List Entry → Bool → StreamOutcome → List Frame
+outcome_frames book pending outcome = stream_frames outcome.frame ++ answer_frames book (answer_begun pending outcome.stream.id outcome.answer)
 
 -- of any stream: it keeps the identifier, sends on it alone, and waits for no more than the body
 pub record Proper (book : List Entry) (st : Stream) (outcome : StreamOutcome) : Type 0 where
   pub same_id : outcome.stream.id ≡ st.id
-  pub only : OnlyOn st.id (outcome_frames book outcome)
+  pub only : (pending : Bool) → OnlyOn st.id (outcome_frames book pending outcome)
   pub has_body : HasBody book st → HasBody book outcome.stream
 
 -- of the stream that is followed, m being its tally before the frames
 pub record Good (book : List Entry) (window : ℕ) (m : StreamTally) (outcome : StreamOutcome) : Type 0 where
-  pub in_turn : InTurn m (outcome_frames book outcome)
-  pub fits : Fits book window outcome.stream (tallied_all m (outcome_frames book outcome))
+  pub in_turn : (pending : Bool) → InTurn m (outcome_frames book pending outcome)
+  pub fits : (pending : Bool) → Fits book window outcome.stream (tallied_all m (outcome_frames book pending outcome))
 
 -- tests are gone through without a look at what they say
 either-proper : (book : List Entry) (st : Stream) (b : Bool) (x y : StreamOutcome) → Proper book st x → Proper book st y → Proper book st (cond b x y)
@@ -99,15 +99,15 @@ either-good book window m false x y p q = q
 
 -- ---- a turn that changes nothing, and a stream error
 
-quiet-proper : (book : List Entry) (size_update_pending : Bool) (st : Stream) → Proper book st (outcome_without_frame size_update_pending st)
-quiet-proper book size_update_pending st = record { same_id = refl; only = tt; has_body = λ h. h }
+quiet-proper : (book : List Entry) (st : Stream) → Proper book st (outcome_without_frame st)
+quiet-proper book st = record { same_id = refl; only = λ pending. tt; has_body = λ h. h }
 
-quiet-good : (book : List Entry) (window : ℕ) (m : StreamTally) (size_update_pending : Bool) (st : Stream) → Fits book window st m → Good book window m (outcome_without_frame size_update_pending st)
-quiet-good book window m size_update_pending st f = record { in_turn = tt; fits = f }
+quiet-good : (book : List Entry) (window : ℕ) (m : StreamTally) (st : Stream) → Fits book window st m → Good book window m (outcome_without_frame st)
+quiet-good book window m st f = record { in_turn = λ pending. tt; fits = λ pending. f }
 
-pub error-proper : (book : List Entry) (size_update_pending : Bool) (st : Stream) (cause : Cause) → Proper book st (stream_error size_update_pending st.id cause)
+pub error-proper : (book : List Entry) (st : Stream) (cause : Cause) → Proper book st (stream_error st.id cause)
 unfolding octets_waiting
-error-proper book size_update_pending st cause = record { same_id = refl; only = (refl, refl, tt); has_body = λ h. (omega arith, tt) }
+error-proper book st cause = record { same_id = refl; only = λ pending. (refl, refl, tt); has_body = λ h. (omega arith, tt) }
 
 -- the stream has a request and was not reset
 pub record Uncut (m : StreamTally) : Type 0 where
@@ -115,8 +115,8 @@ pub record Uncut (m : StreamTally) : Type 0 where
   pub of_body : IsOfBody m
   pub reset : m.reset ≡ false
 
-pub error-good : (book : List Entry) (window : ℕ) (m : StreamTally) (size_update_pending : Bool) (id : ℕ) (cause : Cause) → Uncut m → Good book window m (stream_error size_update_pending id cause)
-error-good book window m size_update_pending id cause u = record { in_turn = ((tt, u.reset), tt); fits = record { promised = u.promised; of_body = u.of_body; reset = refl } }
+pub error-good : (book : List Entry) (window : ℕ) (m : StreamTally) (id : ℕ) (cause : Cause) → Uncut m → Good book window m (stream_error id cause)
+error-good book window m id cause u = record { in_turn = λ pending. ((tt, u.reset), tt); fits = λ pending. record { promised = u.promised; of_body = u.of_body; reset = refl } }
 
 pub Uncut-sends : (body : List ℕ) (window : ℕ) (send : ℤ) (left : Option ℕ) (m : StreamTally) → Sends body window send left m → Uncut m
 Uncut-sends body window send left m f = record {
@@ -149,31 +149,31 @@ Uncut-live WeReset body window send left m f r = record { promised = f.promised;
 
 -- ---- the answer begins
 
-answered-proper : (book : List Entry) (size_update_pending : Bool) (st : Stream) → Proper book st (answered size_update_pending (body_length book st) st)
+answered-proper : (book : List Entry) (st : Stream) → Proper book st (answered (body_length book st) st)
 unfolding answered begun server_ended octets_waiting
-answered-proper book size_update_pending st = at (eqb (body_length book st) 0) st.kind
+answered-proper book st = at (eqb (body_length book st) 0) st.kind
   where
     -- the record with another state
     in_state : StreamState → Stream
     in_state k = record st { kind = k }
 
-    at : (b : Bool) (k : StreamState) → Proper book (in_state k) (record (answered size_update_pending (body_length book st) (in_state k)) { stream = cond b (server_ended (in_state k)) (with_body_remaining (in_state k) (body_length book st)) })
-    at false Idle = record { same_id = refl; only = (refl, refl, tt); has_body = λ h. (omega arith, h.1) }
-    at false Skipped = record { same_id = refl; only = (refl, refl, tt); has_body = λ h. (omega arith, h.1) }
-    at false BothOpen = record { same_id = refl; only = (refl, refl, tt); has_body = λ h. (omega arith, h.1) }
-    at false HalfRemote = record { same_id = refl; only = (refl, refl, tt); has_body = λ h. (omega arith, h.1) }
-    at false HalfLocal = record { same_id = refl; only = (refl, refl, tt); has_body = λ h. (omega arith, h.1) }
-    at false Ended = record { same_id = refl; only = (refl, refl, tt); has_body = λ h. (omega arith, h.1) }
-    at false PeerReset = record { same_id = refl; only = (refl, refl, tt); has_body = λ h. (omega arith, h.1) }
-    at false WeReset = record { same_id = refl; only = (refl, refl, tt); has_body = λ h. (omega arith, h.1) }
-    at true Idle = record { same_id = refl; only = (refl, refl, tt); has_body = λ h. h }
-    at true Skipped = record { same_id = refl; only = (refl, refl, tt); has_body = λ h. h }
-    at true BothOpen = record { same_id = refl; only = (refl, refl, tt); has_body = λ h. (omega arith, tt) }
-    at true HalfRemote = record { same_id = refl; only = (refl, refl, tt); has_body = λ h. (omega arith, tt) }
-    at true HalfLocal = record { same_id = refl; only = (refl, refl, tt); has_body = λ h. h }
-    at true Ended = record { same_id = refl; only = (refl, refl, tt); has_body = λ h. h }
-    at true PeerReset = record { same_id = refl; only = (refl, refl, tt); has_body = λ h. h }
-    at true WeReset = record { same_id = refl; only = (refl, refl, tt); has_body = λ h. h }
+    at : (b : Bool) (k : StreamState) → Proper book (in_state k) (record (answered (body_length book st) (in_state k)) { stream = cond b (server_ended (in_state k)) (with_body_remaining (in_state k) (body_length book st)) })
+    at false Idle = record { same_id = refl; only = λ pending. (refl, refl, tt); has_body = λ h. (omega arith, h.1) }
+    at false Skipped = record { same_id = refl; only = λ pending. (refl, refl, tt); has_body = λ h. (omega arith, h.1) }
+    at false BothOpen = record { same_id = refl; only = λ pending. (refl, refl, tt); has_body = λ h. (omega arith, h.1) }
+    at false HalfRemote = record { same_id = refl; only = λ pending. (refl, refl, tt); has_body = λ h. (omega arith, h.1) }
+    at false HalfLocal = record { same_id = refl; only = λ pending. (refl, refl, tt); has_body = λ h. (omega arith, h.1) }
+    at false Ended = record { same_id = refl; only = λ pending. (refl, refl, tt); has_body = λ h. (omega arith, h.1) }
+    at false PeerReset = record { same_id = refl; only = λ pending. (refl, refl, tt); has_body = λ h. (omega arith, h.1) }
+    at false WeReset = record { same_id = refl; only = λ pending. (refl, refl, tt); has_body = λ h. (omega arith, h.1) }
+    at true Idle = record { same_id = refl; only = λ pending. (refl, refl, tt); has_body = λ h. h }
+    at true Skipped = record { same_id = refl; only = λ pending. (refl, refl, tt); has_body = λ h. h }
+    at true BothOpen = record { same_id = refl; only = λ pending. (refl, refl, tt); has_body = λ h. (omega arith, tt) }
+    at true HalfRemote = record { same_id = refl; only = λ pending. (refl, refl, tt); has_body = λ h. (omega arith, tt) }
+    at true HalfLocal = record { same_id = refl; only = λ pending. (refl, refl, tt); has_body = λ h. h }
+    at true Ended = record { same_id = refl; only = λ pending. (refl, refl, tt); has_body = λ h. h }
+    at true PeerReset = record { same_id = refl; only = λ pending. (refl, refl, tt); has_body = λ h. h }
+    at true WeReset = record { same_id = refl; only = λ pending. (refl, refl, tt); has_body = λ h. h }
 
 -- where the server's side is open
 abbrev pub IsAnswerable : StreamState → Type 0
@@ -187,11 +187,11 @@ IsAnswerable PeerReset = ⊥
 IsAnswerable WeReset = ⊥
 
 -- on a stream that nothing was sent on
-answered-good : (book : List Entry) (window : ℕ) (m : StreamTally) (size_update_pending : Bool) (k : StreamState) (i : ℕ) (x : Numbers) (pick : Pick) → IsAnswerable k → Sends (picked book pick).body window x.send None m →
+answered-good : (book : List Entry) (window : ℕ) (m : StreamTally) (k : StreamState) (i : ℕ) (x : Numbers) (pick : Pick) → IsAnswerable k → Sends (picked book pick).body window x.send None m →
     let st : Stream = record { id = i; kind = k; numbers = x; pick = pick } in
-    Good book window m (answered size_update_pending (body_length book st) st)
+    Good book window m (answered (body_length book st) st)
 unfolding answered begun server_ended
-answered-good book window m size_update_pending k i x pick may f = at k may (eqb (length body) 0) refl
+answered-good book window m k i x pick may f = at k may (eqb (length body) 0) refl
   where
     body : List ℕ
     body = (picked book pick).body
@@ -224,11 +224,11 @@ answered-good book window m size_update_pending k i x pick may f = at k may (eqb
     st : StreamState → Stream
     st k = record { id = i; kind = k; numbers = x; pick = pick }
 
-    at : (k : StreamState) → IsAnswerable k → (b : Bool) → eqb (length body) 0 ≡ b → Good book window m (record (answered size_update_pending (length body) (st k)) { stream = cond b (server_ended (st k)) (with_body_remaining (st k) (length body)) })
-    at HalfRemote o true e = record { in_turn = (((f.waits.0, f.ended), f.reset), tt); fits = rw e (ends e) }
-    at HalfRemote o false e = record { in_turn = (((f.waits.0, f.ended), f.reset), tt); fits = rw e (goes_on e) }
-    at BothOpen o true e = record { in_turn = (((f.waits.0, f.ended), f.reset), tt); fits = rw e (ends e, f.reset, refl) }
-    at BothOpen o false e = record { in_turn = (((f.waits.0, f.ended), f.reset), tt); fits = rw e (goes_on e) }
+    at : (k : StreamState) → IsAnswerable k → (b : Bool) → eqb (length body) 0 ≡ b → Good book window m (record (answered (length body) (st k)) { stream = cond b (server_ended (st k)) (with_body_remaining (st k) (length body)) })
+    at HalfRemote o true e = record { in_turn = λ pending. (((f.waits.0, f.ended), f.reset), tt); fits = λ pending. rw e (ends e) }
+    at HalfRemote o false e = record { in_turn = λ pending. (((f.waits.0, f.ended), f.reset), tt); fits = λ pending. rw e (goes_on e) }
+    at BothOpen o true e = record { in_turn = λ pending. (((f.waits.0, f.ended), f.reset), tt); fits = λ pending. rw e (ends e, f.reset, refl) }
+    at BothOpen o false e = record { in_turn = λ pending. (((f.waits.0, f.ended), f.reset), tt); fits = λ pending. rw e (goes_on e) }
     at Idle o b e = absurd o
     at Skipped o b e = absurd o
     at HalfLocal o b e = absurd o
@@ -240,94 +240,94 @@ answered-good book window m size_update_pending k i x pick may f = at k may (eqb
 
 -- what is right for the record after a change is right for the record before it
 moved-proper : (book : List Entry) (st after : Stream) (outcome : StreamOutcome) → after.id ≡ st.id → (HasBody book st → HasBody book after) → Proper book after outcome → Proper book st outcome
-moved-proper book st after outcome e h p = record { same_id = p.same_id ∙ e; only = subst (λ j. OnlyOn j (outcome_frames book outcome)) e p.only; has_body = λ b. p.has_body (h b) }
+moved-proper book st after outcome e h p = record { same_id = p.same_id ∙ e; only = λ pending. subst (λ j. OnlyOn j (outcome_frames book pending outcome)) e (p.only pending); has_body = λ b. p.has_body (h b) }
 
-peer_ended-proper : (book : List Entry) (size_update_pending : Bool) (st : Stream) → Proper book st (peer_ended size_update_pending (body_length book st) st)
+peer_ended-proper : (book : List Entry) (st : Stream) → Proper book st (peer_ended (body_length book st) st)
 unfolding peer_ended octets_waiting
-peer_ended-proper book size_update_pending st = at st.kind
+peer_ended-proper book st = at st.kind
   where
     after : Stream
     after = with_kind st HalfRemote
 
-    begins : (b : Bool) → Proper book (record st { kind = BothOpen }) (answered_unless b size_update_pending (body_length book st) after)
-    begins true = record { same_id = refl; only = tt; has_body = λ h. h }
-    begins false = moved-proper book (record st { kind = BothOpen }) after (answered size_update_pending (body_length book st) after) refl (λ h. h) (answered-proper book size_update_pending after)
+    begins : (b : Bool) → Proper book (record st { kind = BothOpen }) (answered_unless b (body_length book st) after)
+    begins true = record { same_id = refl; only = λ pending. tt; has_body = λ h. h }
+    begins false = moved-proper book (record st { kind = BothOpen }) after (answered (body_length book st) after) refl (λ h. h) (answered-proper book after)
 
-    at : (k : StreamState) → Proper book (record st { kind = k }) (peer_ended size_update_pending (body_length book st) (record st { kind = k }))
-    at Idle = quiet-proper book size_update_pending (record st { kind = Idle })
-    at Skipped = quiet-proper book size_update_pending (record st { kind = Skipped })
+    at : (k : StreamState) → Proper book (record st { kind = k }) (peer_ended (body_length book st) (record st { kind = k }))
+    at Idle = quiet-proper book (record st { kind = Idle })
+    at Skipped = quiet-proper book (record st { kind = Skipped })
     at BothOpen = begins (is_some st.numbers.body_remaining)
-    at HalfRemote = quiet-proper book size_update_pending (record st { kind = HalfRemote })
-    at HalfLocal = record { same_id = refl; only = tt; has_body = λ h. (omega arith, tt) }
-    at Ended = quiet-proper book size_update_pending (record st { kind = Ended })
-    at PeerReset = quiet-proper book size_update_pending (record st { kind = PeerReset })
-    at WeReset = quiet-proper book size_update_pending (record st { kind = WeReset })
+    at HalfRemote = quiet-proper book (record st { kind = HalfRemote })
+    at HalfLocal = record { same_id = refl; only = λ pending. tt; has_body = λ h. (omega arith, tt) }
+    at Ended = quiet-proper book (record st { kind = Ended })
+    at PeerReset = quiet-proper book (record st { kind = PeerReset })
+    at WeReset = quiet-proper book (record st { kind = WeReset })
 
-peer_ended-good : (book : List Entry) (window : ℕ) (m : StreamTally) (size_update_pending : Bool) (st : Stream) → Fits book window st m → Good book window m (peer_ended size_update_pending (body_length book st) st)
+peer_ended-good : (book : List Entry) (window : ℕ) (m : StreamTally) (st : Stream) → Fits book window st m → Good book window m (peer_ended (body_length book st) st)
 unfolding peer_ended
-peer_ended-good book window m size_update_pending st f = at st.kind f
+peer_ended-good book window m st f = at st.kind f
   where
     begins : (o : Option ℕ) → Sends (picked book st.pick).body window st.numbers.send o m →
         let after : Stream = record st { kind = HalfRemote; numbers = record st.numbers { body_remaining = o } } in
-        Good book window m (answered_unless (is_some o) size_update_pending (body_length book st) after)
-    begins None f = answered-good book window m size_update_pending HalfRemote st.id (record st.numbers { body_remaining = None }) st.pick tt f
-    begins (Some l) f = record { in_turn = tt; fits = f }
+        Good book window m (answered_unless (is_some o) (body_length book st) after)
+    begins None f = answered-good book window m HalfRemote st.id (record st.numbers { body_remaining = None }) st.pick tt f
+    begins (Some l) f = record { in_turn = λ pending. tt; fits = λ pending. f }
 
-    at : (k : StreamState) → Fits book window (record st { kind = k }) m → Good book window m (peer_ended size_update_pending (body_length book st) (record st { kind = k }))
+    at : (k : StreamState) → Fits book window (record st { kind = k }) m → Good book window m (peer_ended (body_length book st) (record st { kind = k }))
     at Idle f = absurd f
     at Skipped f = absurd f
     at BothOpen f = begins st.numbers.body_remaining f
-    at HalfRemote f = quiet-good book window m size_update_pending (record st { kind = HalfRemote }) f
-    at HalfLocal f = record { in_turn = tt; fits = f.0 }
-    at Ended f = quiet-good book window m size_update_pending (record st { kind = Ended }) f
-    at PeerReset f = quiet-good book window m size_update_pending (record st { kind = PeerReset }) f
-    at WeReset f = quiet-good book window m size_update_pending (record st { kind = WeReset }) f
+    at HalfRemote f = quiet-good book window m (record st { kind = HalfRemote }) f
+    at HalfLocal f = record { in_turn = λ pending. tt; fits = λ pending. f.0 }
+    at Ended f = quiet-good book window m (record st { kind = Ended }) f
+    at PeerReset f = quiet-good book window m (record st { kind = PeerReset }) f
+    at WeReset f = quiet-good book window m (record st { kind = WeReset }) f
 
 -- ---- a stream error where there is a cause
 
-unless-proper : (book : List Entry) (size_update_pending : Bool) (st : Stream) (o : Option Cause) (turn : StreamOutcome) → Proper book st turn → Proper book st (unless_broken o size_update_pending st.id turn)
-unless-proper book size_update_pending st (Some cause) turn h = error-proper book size_update_pending st cause
-unless-proper book size_update_pending st None turn h = h
+unless-proper : (book : List Entry) (st : Stream) (o : Option Cause) (turn : StreamOutcome) → Proper book st turn → Proper book st (unless_broken o st.id turn)
+unless-proper book st (Some cause) turn h = error-proper book st cause
+unless-proper book st None turn h = h
 
-unless-good : (book : List Entry) (window : ℕ) (m : StreamTally) (size_update_pending : Bool) (id : ℕ) (o : Option Cause) (turn : StreamOutcome) → Uncut m → Good book window m turn → Good book window m (unless_broken o size_update_pending id turn)
-unless-good book window m size_update_pending id (Some cause) turn u h = error-good book window m size_update_pending id cause u
-unless-good book window m size_update_pending id None turn u h = h
+unless-good : (book : List Entry) (window : ℕ) (m : StreamTally) (id : ℕ) (o : Option Cause) (turn : StreamOutcome) → Uncut m → Good book window m turn → Good book window m (unless_broken o id turn)
+unless-good book window m id (Some cause) turn u h = error-good book window m id cause u
+unless-good book window m id None turn u h = h
 
 -- ---- DATA
 
-returned-proper : (book : List Entry) (threshold : ℕ) (size_update_pending : Bool) (st : Stream) → Proper book st (returned threshold size_update_pending st)
+returned-proper : (book : List Entry) (threshold : ℕ) (st : Stream) → Proper book st (returned threshold st)
 unfolding returned octets_waiting
-returned-proper book threshold size_update_pending st = at (given_back threshold st.numbers.owed)
+returned-proper book threshold st = at (given_back threshold st.numbers.owed)
   where
-    at : (o : Option ℕ) → Proper book st (returned_as o size_update_pending st)
-    at (Some n) = record { same_id = refl; only = (refl, refl, tt); has_body = λ h. h }
-    at None = quiet-proper book size_update_pending st
+    at : (o : Option ℕ) → Proper book st (returned_as o st)
+    at (Some n) = record { same_id = refl; only = λ pending. (refl, refl, tt); has_body = λ h. h }
+    at None = quiet-proper book st
 
-returned-good : (book : List Entry) (window : ℕ) (m : StreamTally) (threshold : ℕ) (size_update_pending : Bool) (st : Stream) → Fits book window st m → m.reset ≡ false → Good book window m (returned threshold size_update_pending st)
+returned-good : (book : List Entry) (window : ℕ) (m : StreamTally) (threshold : ℕ) (st : Stream) → Fits book window st m → m.reset ≡ false → Good book window m (returned threshold st)
 unfolding returned
-returned-good book window m threshold size_update_pending st f r = at (given_back threshold st.numbers.owed)
+returned-good book window m threshold st f r = at (given_back threshold st.numbers.owed)
   where
-    at : (o : Option ℕ) → Good book window m (returned_as o size_update_pending st)
-    at (Some n) = record { in_turn = ((tt, r), tt); fits = f }
-    at None = quiet-good book window m size_update_pending st f
+    at : (o : Option ℕ) → Good book window m (returned_as o st)
+    at (Some n) = record { in_turn = λ pending. ((tt, r), tt); fits = λ pending. f }
+    at None = quiet-good book window m st f
 
-pub data_turn-proper : (book : List Entry) (threshold : ℕ) (size_update_pending : Bool) (d : ReceivedData) (st : Stream) → Proper book st (data_outcome threshold size_update_pending (body_length book st) d st)
+pub data_turn-proper : (book : List Entry) (threshold : ℕ) (d : ReceivedData) (st : Stream) → Proper book st (data_outcome threshold (body_length book st) d st)
 unfolding data_outcome taken octets_waiting
-data_turn-proper book threshold size_update_pending d st =
+data_turn-proper book threshold d st =
     let after : Stream = taken st d in
-    either-proper book st _ _ _ (error-proper book size_update_pending st StreamWindowExceeded)
-    (unless-proper book size_update_pending st _ _
+    either-proper book st _ _ _ (error-proper book st StreamWindowExceeded)
+    (unless-proper book st _ _
     (either-proper book st d.ends _ _
-    (moved-proper book st after _ refl (λ h. h) (peer_ended-proper book size_update_pending after))
-    (moved-proper book st after _ refl (λ h. h) (returned-proper book threshold size_update_pending after))))
+    (moved-proper book st after _ refl (λ h. h) (peer_ended-proper book after))
+    (moved-proper book st after _ refl (λ h. h) (returned-proper book threshold after))))
 
-pub data_turn-good : (book : List Entry) (window : ℕ) (m : StreamTally) (threshold : ℕ) (size_update_pending : Bool) (d : ReceivedData) (st : Stream) → Fits book window st m → m.reset ≡ false → Good book window m (data_outcome threshold size_update_pending (body_length book st) d st)
+pub data_turn-good : (book : List Entry) (window : ℕ) (m : StreamTally) (threshold : ℕ) (d : ReceivedData) (st : Stream) → Fits book window st m → m.reset ≡ false → Good book window m (data_outcome threshold (body_length book st) d st)
 unfolding data_outcome taken
-data_turn-good book window m threshold size_update_pending d st f r =
+data_turn-good book window m threshold d st f r =
     let u : Uncut m = Uncut-live st.kind (picked book st.pick).body window st.numbers.send st.numbers.body_remaining m f r in
-    either-good book window m _ _ _ (error-good book window m size_update_pending st.id StreamWindowExceeded u)
-    (unless-good book window m size_update_pending st.id _ _ u
-    (either-good book window m d.ends _ _ (peer_ended-good book window m size_update_pending (taken st d) f) (returned-good book window m threshold size_update_pending (taken st d) f r)))
+    either-good book window m _ _ _ (error-good book window m st.id StreamWindowExceeded u)
+    (unless-good book window m st.id _ _ u
+    (either-good book window m d.ends _ _ (peer_ended-good book window m (taken st d) f) (returned-good book window m threshold (taken st d) f r)))
 
 -- ---- WINDOW_UPDATE and RST_STREAM
 
@@ -394,56 +394,56 @@ over-reset BothOpen body window send left m o f = absurd o
 over-reset HalfRemote body window send left m o f = absurd o
 over-reset HalfLocal body window send left m o f = absurd o
 
-pub window_turn-proper : (book : List Entry) (size_update_pending : Bool) (i : ℕ) (st : Stream) → Proper book st (window_outcome size_update_pending i st)
+pub window_turn-proper : (book : List Entry) (i : ℕ) (st : Stream) → Proper book st (window_outcome i st)
 unfolding window_outcome octets_waiting
-window_turn-proper book size_update_pending i st =
-    either-proper book st _ _ _ (error-proper book size_update_pending st StreamIncrementZero)
-    (either-proper book st _ _ _ (error-proper book size_update_pending st StreamWindowOverflow) (record { same_id = refl; only = tt; has_body = λ h. h }))
+window_turn-proper book i st =
+    either-proper book st _ _ _ (error-proper book st StreamIncrementZero)
+    (either-proper book st _ _ _ (error-proper book st StreamWindowOverflow) (record { same_id = refl; only = λ pending. tt; has_body = λ h. h }))
 
-pub window_turn-good : (book : List Entry) (window : ℕ) (m : StreamTally) (size_update_pending : Bool) (i : ℕ) (st : Stream) → Fits book window st m → m.reset ≡ false → Good book window (granted_more i m) (window_outcome size_update_pending i st)
+pub window_turn-good : (book : List Entry) (window : ℕ) (m : StreamTally) (i : ℕ) (st : Stream) → Fits book window st m → m.reset ≡ false → Good book window (granted_more i m) (window_outcome i st)
 unfolding window_outcome
-window_turn-good book window m size_update_pending i st f r =
+window_turn-good book window m i st f r =
     let more : StreamTally = granted_more i m in
     let g : FitsAs st.kind (picked book st.pick).body window (st.numbers.send +ℤ pos i) st.numbers.body_remaining more = granted-fits st.kind (picked book st.pick).body window st.numbers.send st.numbers.body_remaining m i f in
     let u : Uncut more = Uncut-live st.kind (picked book st.pick).body window (st.numbers.send +ℤ pos i) st.numbers.body_remaining more g r in
-    either-good book window more _ _ _ (error-good book window more size_update_pending st.id StreamIncrementZero u)
-    (either-good book window more _ _ _ (error-good book window more size_update_pending st.id StreamWindowOverflow u) (quiet-good book window more size_update_pending (with_send st (st.numbers.send +ℤ pos i)) g))
+    either-good book window more _ _ _ (error-good book window more st.id StreamIncrementZero u)
+    (either-good book window more _ _ _ (error-good book window more st.id StreamWindowOverflow u) (quiet-good book window more (with_send st (st.numbers.send +ℤ pos i)) g))
 
-pub reset_turn-proper : (book : List Entry) (size_update_pending : Bool) (st : Stream) → Proper book st (reset_outcome size_update_pending st)
+pub reset_turn-proper : (book : List Entry) (st : Stream) → Proper book st (reset_outcome st)
 unfolding octets_waiting
-reset_turn-proper book size_update_pending st = record { same_id = refl; only = tt; has_body = λ h. (omega arith, tt) }
+reset_turn-proper book st = record { same_id = refl; only = λ pending. tt; has_body = λ h. (omega arith, tt) }
 
-pub reset_turn-good : (book : List Entry) (window : ℕ) (m : StreamTally) (size_update_pending : Bool) (st : Stream) → Fits book window st m → m.reset ≡ false → Good book window (now_reset m) (reset_outcome size_update_pending st)
-reset_turn-good book window m size_update_pending st f r =
+pub reset_turn-good : (book : List Entry) (window : ℕ) (m : StreamTally) (st : Stream) → Fits book window st m → m.reset ≡ false → Good book window (now_reset m) (reset_outcome st)
+reset_turn-good book window m st f r =
     let u : Uncut m = Uncut-live st.kind (picked book st.pick).body window st.numbers.send st.numbers.body_remaining m f r in
-    record { in_turn = tt; fits = record { promised = u.promised; of_body = u.of_body; reset = refl } }
+    record { in_turn = λ pending. tt; fits = λ pending. record { promised = u.promised; of_body = u.of_body; reset = refl } }
 
 -- ---- the ends of blocks
 
-pub trailers_turn-proper : (book : List Entry) (size : ℕ) (malformed : Option Cause) (size_update_pending ends : Bool) (st : Stream) → Proper book st (trailers_outcome size malformed (body_length book st) size_update_pending ends st)
+pub trailers_turn-proper : (book : List Entry) (size : ℕ) (malformed : Option Cause) (ends : Bool) (st : Stream) → Proper book st (trailers_outcome size malformed (body_length book st) ends st)
 unfolding trailers_outcome
-trailers_turn-proper book size malformed size_update_pending ends st =
-    either-proper book st _ _ _ (error-proper book size_update_pending st ListTooLarge)
-    (unless-proper book size_update_pending st _ _ (peer_ended-proper book size_update_pending st))
+trailers_turn-proper book size malformed ends st =
+    either-proper book st _ _ _ (error-proper book st ListTooLarge)
+    (unless-proper book st _ _ (peer_ended-proper book st))
 
-pub trailers_turn-good : (book : List Entry) (window : ℕ) (m : StreamTally) (size : ℕ) (malformed : Option Cause) (size_update_pending ends : Bool) (st : Stream) → Fits book window st m → m.reset ≡ false →
-    Good book window m (trailers_outcome size malformed (body_length book st) size_update_pending ends st)
+pub trailers_turn-good : (book : List Entry) (window : ℕ) (m : StreamTally) (size : ℕ) (malformed : Option Cause) (ends : Bool) (st : Stream) → Fits book window st m → m.reset ≡ false →
+    Good book window m (trailers_outcome size malformed (body_length book st) ends st)
 unfolding trailers_outcome
-trailers_turn-good book window m size malformed size_update_pending ends st f r =
+trailers_turn-good book window m size malformed ends st f r =
     let u : Uncut m = Uncut-live st.kind (picked book st.pick).body window st.numbers.send st.numbers.body_remaining m f r in
-    either-good book window m _ _ _ (error-good book window m size_update_pending st.id ListTooLarge u)
-    (unless-good book window m size_update_pending st.id _ _ u (peer_ended-good book window m size_update_pending st f))
+    either-good book window m _ _ _ (error-good book window m st.id ListTooLarge u)
+    (unless-good book window m st.id _ _ u (peer_ended-good book window m st f))
 
 pub request_turn-proper : (book : List Entry) (config : Config) (live : ℕ) (core : ConnectionState) (id : ℕ) (ends : Bool) (f : BlockSummary) →
     Proper book (new_stream core id f) (request_outcome config live (body_length book (new_stream core id f)) (picked book f.pick).early core id ends f)
 unfolding request_outcome
 request_turn-proper book config live core id ends f =
     let st : Stream = new_stream core id f in
-    either-proper book st _ _ _ (error-proper book core.peer.size_update_pending st TooManyStreams)
-    (either-proper book st _ _ _ (error-proper book core.peer.size_update_pending st ListTooLarge)
-    (unless-proper book core.peer.size_update_pending st _ _
-    (either-proper book st ends _ _ (peer_ended-proper book core.peer.size_update_pending st)
-    (either-proper book st (picked book f.pick).early _ _ (answered-proper book core.peer.size_update_pending st) (quiet-proper book core.peer.size_update_pending st)))))
+    either-proper book st _ _ _ (error-proper book st TooManyStreams)
+    (either-proper book st _ _ _ (error-proper book st ListTooLarge)
+    (unless-proper book st _ _
+    (either-proper book st ends _ _ (peer_ended-proper book st)
+    (either-proper book st (picked book f.pick).early _ _ (answered-proper book st) (quiet-proper book st)))))
 
 -- the tally of a stream whose request has just come
 abbrev pub just_asked : List ℕ → StreamTally
@@ -459,8 +459,8 @@ request_turn-good book config live core id ends f =
     let w : ℕ = core.peer.window in
     let g : Sends body w (pos w) None m = record { promised = refl; send_is = omega (arith, ints); waits = (refl, refl); ended = refl; reset = refl } in
     let u : Uncut m = Uncut-sends body w (pos w) None m g in
-    either-good book w m _ _ _ (error-good book w m core.peer.size_update_pending id TooManyStreams u)
-    (either-good book w m _ _ _ (error-good book w m core.peer.size_update_pending id ListTooLarge u)
-    (unless-good book w m core.peer.size_update_pending id _ _ u
-    (either-good book w m ends _ _ (peer_ended-good book w m core.peer.size_update_pending st g)
-    (either-good book w m (picked book f.pick).early _ _ (answered-good book w m core.peer.size_update_pending BothOpen id st.numbers f.pick tt g) (quiet-good book w m core.peer.size_update_pending st g)))))
+    either-good book w m _ _ _ (error-good book w m id TooManyStreams u)
+    (either-good book w m _ _ _ (error-good book w m id ListTooLarge u)
+    (unless-good book w m id _ _ u
+    (either-good book w m ends _ _ (peer_ended-good book w m st g)
+    (either-good book w m (picked book f.pick).early _ _ (answered-good book w m BothOpen id st.numbers f.pick tt g) (quiet-good book w m st g)))))

@@ -1,6 +1,5 @@
 use Rattle.std.proofs.Common.{◌≡◌, ◌∙◌, false, true, refl, sym, ap}
 use Rattle.h2_frame.specs.Items.{item_of}
-use Rattle.h2_spec.specs.Ignored.{ignored_of, unless_caused}
 use Rattle.h2_conn.specs.Connection.{is_ended}
 use Rattle.h2_conn.specs.Reports.{reported}
 use Rattle.h2_conn.proofs.FirstLaws.{first-none, first-short, first-taken, item-is, item-over}
@@ -39,8 +38,7 @@ returns-in-Ok-clause-ok g c =
     first-taken c.args.state.now c.item.new.self c.args.octets.now c.args.out.now.items c.item.new.out.items (item_of c.in-Some.item) c.in-Some.used goes found c.in-Ok.ensures.ok
 
 pub returns-in-Ok-clause-report : goal.returns-in-Ok-clause-report
-unfolding ignored_of
 returns-in-Ok-clause-report g c =
     let goes : is_ended c.args.state.now.core.phase ≡ false = rw c.phase-phase.ensures at (sym c.is_ended.ensures ∙ c.if-is_ended.false) in
     let found = rw (c.awaits_preface.ensures, c.phase-phase.ensures, c.limit.ensures.value) at c.in-Some.ensures.item in
-    rw (item-is c.args.state.now c.args.octets.now goes, ← found, c.unless_caused.ensures, c.item_ignored-ignored.ensures, c.item_head.ensures, c.in-Ok.ensures.cause) refl
+    rw (item-is c.args.state.now c.args.octets.now goes, ← found, c.item_head.ensures, c.in-Ok.ensures.verdict) refl

@@ -26,19 +26,19 @@ pub returns-then-ends-clause-rule : goal.returns-then-ends-clause-rule
 unfolding request_outcome
 returns-then-ends-clause-rule c =
     rw (← c.is_full.ensures, c.if-is_full.false, ← c.is_too_large.ensures, c.if-is_too_large.false, ← c.request_broken.ensures, c.in_default.is, c.if-ends.true)
-    (c.peer_ended.ensures.rule ∙ ap (peer_ended c.args.core.peer.size_update_pending c.args.body) c.new_stream-stream.ensures.rule)
+    (c.peer_ended.ensures.rule ∙ ap (peer_ended c.args.body) c.new_stream-stream.ensures.rule)
 
 pub returns-then-early-clause-rule : goal.returns-then-early-clause-rule
 unfolding request_outcome
 returns-then-early-clause-rule c =
     rw (← c.is_full.ensures, c.if-is_full.false, ← c.is_too_large.ensures, c.if-is_too_large.false, ← c.request_broken.ensures, c.in_default.is, c.if-ends.false, c.if-early.true)
-    (c.answered.ensures.rule ∙ ap (answered c.args.core.peer.size_update_pending c.args.body) c.new_stream-stream.ensures.rule)
+    (c.answered.ensures.rule ∙ ap (answered c.args.body) c.new_stream-stream.ensures.rule)
 
 pub returns-else-early-clause-rule : goal.returns-else-early-clause-rule
 unfolding request_outcome
 returns-else-early-clause-rule c =
     rw (← c.is_full.ensures, c.if-is_full.false, ← c.is_too_large.ensures, c.if-is_too_large.false, ← c.request_broken.ensures, c.in_default.is, c.if-ends.false, c.if-early.false)
-    (c.outcome_without_frame.ensures.rule ∙ ap (outcome_without_frame c.args.core.peer.size_update_pending) c.new_stream-stream.ensures.rule)
+    (c.outcome_without_frame.ensures.rule ∙ ap outcome_without_frame c.new_stream-stream.ensures.rule)
 
 pub returns-then-ends-clause-sound : goal.returns-then-ends-clause-sound
 returns-then-ends-clause-sound c = c.peer_ended.ensures.sound (in_force c.args.core) c.requires.core.1 c.new_stream-stream.ensures.sound

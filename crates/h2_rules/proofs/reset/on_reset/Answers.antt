@@ -15,7 +15,7 @@ returns-in-BothOpen-clause-sound c = λ book r found last.
     let outcome = c.outcome_without_frame-outcome in
     let is : outcome.result.stream ≡ not_live st.id PeerReset = ap (λ (t : StreamOutcome). t.stream) outcome.ensures.rule ∙ c.not_live.ensures in
     let put = live-put r st outcome.result.stream found (is-live st.kind c.in-BothOpen.is) (ap (λ (x : Stream). x.id) is) in
-    let calm = subst (IsCalm c.args.core) (sym c.only_counts-in-BothOpen.ensures) (c.requires.core, refl, refl) in
+    let calm = subst (IsCalm c.args.core) (sym c.only_counts.ensures) (c.requires.core, refl, refl) in
     c.with_outcome.ensures.sound book r c.args.core calm
     (sym last ∙ put.1) (subst (IsSoundStream f) (sym is) (not-live-sound f st.id PeerReset refl)) (subst (HasBody book) (sym is) (not-live-body book st.id PeerReset)) put.0 (ap (λ (x : Stream). is_recorded x.kind) is)
 

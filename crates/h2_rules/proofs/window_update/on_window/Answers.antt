@@ -11,7 +11,7 @@ returns-in-BothOpen-clause-sound c = λ book r has found last.
     let outcome = c.window_outcome-outcome in
     let live = is-live st.kind c.in-BothOpen.is in
     let put = live-put r st outcome.result.stream found live outcome.ensures.id in
-    let calm = subst (IsCalm c.args.core) (sym c.only_counts-in-BothOpen.ensures) (c.requires.core, refl, refl) in
+    let calm = subst (IsCalm c.args.core) (sym c.only_counts.ensures) (c.requires.core, refl, refl) in
     c.with_outcome.ensures.sound book r c.args.core calm
     (sym last ∙ put.1) (outcome.ensures.sound f c.requires.core.1 c.requires.stream) (outcome.ensures.waits book has) put.0 (outcome.ensures.recorded (live-recorded st.kind live))
 

@@ -4,9 +4,10 @@ use Rattle.h2_spec.specs.Block.{decoded, list_size}
 use Rattle.h2_spec.specs.State.{State}
 use Rattle.h2_table.specs.Edits.{Drafted, IsEdit, edited}
 use Rattle.h2_fields.specs.declared.fault.BlockFault.TheVariants.{NoMemory}
-use Rattle.h2_conn.specs.Blocks.{cause_by, limited}
+use Rattle.h2_rules.specs.Block.{cause_by}
+use Rattle.h2_conn.specs.Blocks.{limited}
 use Rattle.h2_conn.specs.Fragments.{HasFault, after_fragment, after_of, before_fragment}
-use Rattle.h2_conn.proofs.FragmentLaws.{few-octets, fragment-faulty, fragment-read, not-memory}
+use Rattle.h2_conn.proofs.FragmentLaws.{fragment-faulty, fragment-read, not-memory}
 use Rattle.h2_conn.proofs.state.State.fragment.Goals as goal
 
 pub returns-in-Ok-clause-effect : goal.returns-in-Ok-clause-effect
@@ -17,7 +18,7 @@ returns-in-Ok-clause-effect g c =
     let now = after_of decoded_is.new.self decoded_is.result.1 in
     let edit = decoded_is.result.0 in
     let s = a.self.now in
-    let few : nat_lt 65536 (a.shown.octets + length a.octets.now) ≡ false = few-octets _ c.if-count-gt-MAX_BLOCK.false in
+    let few : nat_lt 65536 (a.shown.octets + length a.octets.now) ≡ false = sym c.is_block_too_large.ensures ∙ c.if-is_block_too_large.false in
     let done = subst (λ r. OnOk r (decoded table.limit (before_fragment table.table a.decoding.now) (a.decoding.now.rest ++ a.octets.now) ≡ after_fragment (edited table.table.entries edit) now)) c.in-Ok.is decoded_is.ensures.decoded in
     let held = subst (λ (l : ℕ). decoded l (before_fragment table.table a.decoding.now) (a.decoding.now.rest ++ a.octets.now) ≡ after_fragment (edited table.table.entries edit) now) c.self.invariant.1 done in
     let is = subst (λ (x : State). decoded x.core.own.table (before_fragment x.table a.decoding.now) (a.decoding.now.rest ++ a.octets.now) ≡ after_fragment (edited x.table.entries edit) now) c.self.view_is held in
@@ -40,8 +41,8 @@ returns-in-Some-clause-sound g c =
     let held = subst (λ (l : ℕ). IsEdit (limited l table.table) edit) c.self.invariant.1 c.decode-edit.ensures.belongs in
     subst (λ (x : State). IsEdit (limited x.core.own.table x.table) edit) c.self.view_is held
 
-pub returns-then-count-gt-MAX_BLOCK-clause-sound : goal.returns-then-count-gt-MAX_BLOCK-clause-sound
-returns-then-count-gt-MAX_BLOCK-clause-sound g c =
+pub returns-then-is_block_too_large-clause-sound : goal.returns-then-is_block_too_large-clause-sound
+returns-then-is_block_too_large-clause-sound g c =
     let table = c.self.inside.table in
     let edit = c.into_edit-none.result in
     let belongs = subst (λ (d : Drafted). IsEdit d.base edit) c.start.ensures c.into_edit-none.ensures.belongs in
@@ -54,7 +55,7 @@ returns-in-Some-clause-effect g c =
     let table = c.self.inside.table in
     let decoded_is = c.decode-edit in
     let s = a.self.now in
-    let few : nat_lt 65536 (a.shown.octets + length a.octets.now) ≡ false = few-octets _ c.if-count-gt-MAX_BLOCK.false in
+    let few : nat_lt 65536 (a.shown.octets + length a.octets.now) ≡ false = sym c.is_block_too_large.ensures ∙ c.if-is_block_too_large.false in
     let named : cause_by c.in-Err.fault ≡ Some c.in-Some.cause = sym c.fault_cause.ensures ∙ c.in-Some.is in
     let found = subst (λ r. IfErr r (λ fault. fault ≢ NoMemory → HasFault fault (decoded table.limit (before_fragment table.table a.decoding.now) (a.decoding.now.rest ++ a.octets.now)))) c.in-Err.is decoded_is.ensures.faulty in
     let held = subst (λ (l : ℕ). HasFault c.in-Err.fault (decoded l (before_fragment table.table a.decoding.now) (a.decoding.now.rest ++ a.octets.now))) c.self.invariant.1 (found (not-memory c.in-Err.fault c.in-Some.cause named)) in

@@ -29,9 +29,9 @@ concluded-stopped : (s : State) (e : FrameEffect) → rule.concluded (stopped s)
 concluded-stopped s (Breaks cause) = ap (λ (b : Option OpenBlock). record (broken s cause) { state = record (ended s (code_of cause)) { block = b } }) (shown-alone s.block)
 concluded-stopped s (Makes t c) = refl
 
--- with the block only shown, a fragment has the same cause
-cause-stopped : (s : State) (shown : BlockView) (d : Decoding) (octets : List ℕ) (ends : Bool) → rule.effect_cause (headers.fragment (stopped s) shown d octets ends) ≡ rule.effect_cause (headers.fragment s shown d octets ends)
-cause-stopped s shown d octets ends = refl
+-- with the block only shown, a fragment is judged as with the block
+verdict-stopped : (s : State) (shown : BlockView) (d : Decoding) (octets : List ℕ) (ends : Bool) → rule.effect_verdict (headers.fragment (stopped s) shown d octets ends) ≡ rule.effect_verdict (headers.fragment s shown d octets ends)
+verdict-stopped s shown d octets ends = refl
 
 pub returns-in-Ok-clause-ok : goal.returns-in-Ok-clause-ok
 returns-in-Ok-clause-ok g c =
@@ -46,14 +46,14 @@ returns-in-Ok-clause-ok g c =
     let done = subst (λ (e : FrameEffect). Q s e) (sym (goes-on s s.block x octets ends c.in-Some.ensures.taken)) whole in
     subst (λ (t : State). Does (stepped (rule.concluded s (headers.continuation s s.block octets ends))) c.args.out.now.items t c.on_fragment.new.out.items) (sym c.keep_decoding.ensures) done
 
--- the cause is that of the block that was taken out
-pub returns-in-Ok-clause-cause : goal.returns-in-Ok-clause-cause
-returns-in-Ok-clause-cause g c =
+-- the verdict is that of the block that was taken out
+pub returns-in-Ok-clause-verdict : goal.returns-in-Ok-clause-verdict
+returns-in-Ok-clause-verdict g c =
     let s = c.args.self.now in
     let octets = c.args.octets.now in
     let x : BlockView × Decoding = (c.in-Some.shown, c.in-Some.decoding) in
-    let Q : FrameEffect → Type 0 = λ e. c.in-Ok.cause ≡ rule.effect_cause e in
-    let taken = subst (λ (t : State). Q (headers.fragment t x.0 x.1 octets c.has-end_headers.result)) c.take_decoding.ensures.stopped c.in-Ok.ensures.cause in
+    let Q : FrameEffect → Type 0 = λ e. c.in-Ok.verdict ≡ rule.effect_verdict e in
+    let taken = subst (λ (t : State). Q (headers.fragment t x.0 x.1 octets c.has-end_headers.result)) c.take_decoding.ensures.stopped c.in-Ok.ensures.verdict in
     let flagged = subst (λ (b : Bool). Q (headers.fragment (stopped s) x.0 x.1 octets b)) c.has-end_headers.ensures taken in
-    let whole = flagged ∙ cause-stopped s x.0 x.1 octets (has c.args.head.now.flags END_HEADERS) in
+    let whole = flagged ∙ verdict-stopped s x.0 x.1 octets (has c.args.head.now.flags END_HEADERS) in
     subst Q (sym (goes-on s s.block x octets (has c.args.head.now.flags END_HEADERS) c.in-Some.ensures.taken)) whole

@@ -23,13 +23,13 @@ returns-in-Ok-clause-ok g c =
     (subst (λ (s : State). P s (frag s) c.finish-result.new.self) c.take_edit-edit.ensures
     (subst (λ (e : FrameEffect). P mid e c.finish-result.new.self) is c.finish-result.ensures.ok))
 
-pub returns-in-Ok-clause-cause : goal.returns-in-Ok-clause-cause
-returns-in-Ok-clause-cause g c =
+pub returns-in-Ok-clause-verdict : goal.returns-in-Ok-clause-verdict
+returns-in-Ok-clause-verdict g c =
     let a = c.args in
     let after = after_of c.fragment-edit.new.decoding c.fragment-edit.result.1 in
     let edit = c.fragment-edit.result.0 in
     let mid = c.take_edit-edit.new.self in
     let frag : State → FrameEffect = λ s. headers.fragment s a.shown a.decoding.now a.octets.now a.end_headers in
     let is = subst (λ r. IfOk r (λ e. effect_seen mid edit after e ≡ frag mid)) c.in-Ok.is c.fragment-edit.ensures.effect in
-    let Q : FrameEffect → Type 0 = λ e. IfOk c.finish-result.result (λ cause. cause ≡ rule.effect_cause e) in
-    subst (λ (s : State). Q (frag s)) c.take_edit-edit.ensures (subst Q is c.finish-result.ensures.cause)
+    let Q : FrameEffect → Type 0 = λ e. IfOk c.finish-result.result (λ verdict. verdict ≡ rule.effect_verdict e) in
+    subst (λ (s : State). Q (frag s)) c.take_edit-edit.ensures (subst Q is c.finish-result.ensures.verdict)

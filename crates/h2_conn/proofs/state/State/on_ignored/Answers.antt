@@ -2,14 +2,14 @@ use Rattle.std.proofs.Common.{sym, subst, ap}
 use Rattle.h2_spec.specs.declared.connection.ConnectionState.{ConnectionState}
 use Rattle.h2_conn.specs.Sending.{records}
 use Rattle.h2_rules.specs.Sound.{IsSound, in_force}
-use Rattle.h2_conn.proofs.CountsLaws.{counted-by, nothing-counted}
+use Rattle.h2_conn.proofs.CountsLaws.{counted-by, ignore-counted}
 use Rattle.h2_conn.proofs.state.State.on_ignored.Goals as goal
 
 pub returns-clause-sound : goal.returns-clause-sound
 returns-clause-sound g c =
     let s = c.args.self.now in
     let counts = c.core.ensures.counts in
-    subst (λ (k : ConnectionState). IsSound s.book (records s) (in_force k) c.nothing.result) counts (c.nothing.ensures.sound s.book (records s) (sym (ap (λ (k : ConnectionState). k.last) counts)))
+    subst (λ (k : ConnectionState). IsSound s.book (records s) (in_force k) c.ignore.result) counts (c.ignore.ensures.sound s.book (records s) (sym (ap (λ (k : ConnectionState). k.last) counts)))
 
 pub returns-clause-counts : goal.returns-clause-counts
-returns-clause-counts g c = counted-by c.args.self.now.core c.core.result c.nothing.result _ c.nothing.ensures.rule c.core.ensures.counts (nothing-counted _)
+returns-clause-counts g c = counted-by c.args.self.now.core c.core.result c.ignore.result _ c.ignore.ensures.rule c.core.ensures.counts (ignore-counted _ _)

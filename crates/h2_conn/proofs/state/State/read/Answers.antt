@@ -1,6 +1,6 @@
 use Rattle.std.proofs.Common.{◌≡◌, ◌∙◌, ap, subst, sym}
-use Rattle.h2_spec.specs.Change.{only_counts}
 use Rattle.h2_spec.specs.Headers as headers
+use Rattle.h2_spec.specs.Headers.{goes_on}
 use Rattle.h2_spec.specs.State.{Decoding, State}
 use Rattle.h2_spec.specs.Stream.{Records}
 use Rattle.h2_conn.specs.Blocks.{IsOpenAt}
@@ -20,15 +20,19 @@ block_ends-change-requires-clause-open g c =
 pub returns-then-not-end_headers-clause-effect : goal.returns-then-not-end_headers-clause-effect
 returns-then-not-end_headers-clause-effect g c = λ table.
     let a = c.args in
-    let counts : c.only_counts.result ≡ only_counts a.self.now.core = c.only_counts.ensures ∙ ap (λ (s : State). only_counts s.core) c.self.view_is in
-    read-begun (record a.self.now { table = table }) a.shown (after_of a.decoding.now a.tentative.now) a.end_headers c.only_counts.result c.if-not-end_headers.true counts
+    let now = after_of a.decoding.now a.tentative.now in
+    let change = c.goes_on-change.result in
+    let counts : change ≡ goes_on a.self.now.core now.purpose = c.goes_on-change.ensures ∙ ap (λ (s : State). goes_on s.core c.decoding.inside.purpose) c.self.view_is ∙ ap (λ (d : Decoding). goes_on a.self.now.core d.purpose) c.decoding.view_is in
+    read-begun (record a.self.now { table = table }) a.shown (after_of a.decoding.now a.tentative.now) a.end_headers change c.if-not-end_headers.true counts
 
 pub returns-then-not-end_headers-clause-sound : goal.returns-then-not-end_headers-clause-sound
 returns-then-not-end_headers-clause-sound g c = λ base edit belongs.
     let a = c.args in
-    let counts : c.only_counts.result ≡ only_counts a.self.now.core = c.only_counts.ensures ∙ ap (λ (s : State). only_counts s.core) c.self.view_is in
+    let now = after_of a.decoding.now a.tentative.now in
+    let change = c.goes_on-change.result in
+    let counts : change ≡ goes_on a.self.now.core now.purpose = c.goes_on-change.ensures ∙ ap (λ (s : State). goes_on s.core c.decoding.inside.purpose) c.self.view_is ∙ ap (λ (d : Decoding). goes_on a.self.now.core d.purpose) c.decoding.view_is in
     let sound = subst (λ (s : State). IsSoundConnectionState s.core) c.self.view_is c.self.invariant.0.counts in
-    goes-on-sound a.self.now a.shown (after_of a.decoding.now a.tentative.now) c.only_counts.result base edit counts sound belongs c.requires.open
+    goes-on-sound a.self.now a.shown (after_of a.decoding.now a.tentative.now) change base edit counts sound belongs c.requires.open
 
 pub returns-in-Some-clause-effect : goal.returns-in-Some-clause-effect
 returns-in-Some-clause-effect g c = λ table.

@@ -16,8 +16,8 @@ returns-clause-ok g c =
     let P : State → Reaction → Type 0 = λ s r. OnOk c.conclude_in_place.result (Does (stepped (rule.concluded s (makes s r))) c.args.out.now.items c.conclude_in_place.new.self out) in
     subst (λ (s : State). P s (reaction s)) c.look_up.ensures (subst (λ (r : Reaction). P c.look_up.new.self r) c.on_stream_window-reaction.ensures.rule c.conclude_in_place.ensures.ok)
 
-pub returns-clause-cause : goal.returns-clause-cause
-returns-clause-cause g c =
+pub returns-clause-verdict : goal.returns-clause-verdict
+returns-clause-verdict g c =
     let reaction : State → Reaction = λ s. rule.on_window s.core c.args.increment (stream_at s.core.last s.streams c.args.id) in
-    let P : State → Reaction → Type 0 = λ s r. IfOk c.conclude_in_place.result (λ cause. cause ≡ rule.effect_cause (makes s r)) in
-    subst (λ (s : State). P s (reaction s)) c.look_up.ensures (subst (λ (r : Reaction). P c.look_up.new.self r) c.on_stream_window-reaction.ensures.rule c.conclude_in_place.ensures.cause)
+    let P : State → Reaction → Type 0 = λ s r. IfOk c.conclude_in_place.result (λ verdict. verdict ≡ rule.effect_verdict (makes s r)) in
+    subst (λ (s : State). P s (reaction s)) c.look_up.ensures (subst (λ (r : Reaction). P c.look_up.new.self r) c.on_stream_window-reaction.ensures.rule c.conclude_in_place.ensures.verdict)

@@ -19,53 +19,53 @@ returns-in-Err-take_items-clause-cut g c = λ well.
     let all : c.as_slice.result.now ≡ c.args.self.now.held.items ++ c.args.piece.now = c.as_slice.ensures.value ∙ items in
     rw all at c.in-Err-take_items.ensures.cut well
 
-pub returns-then-has_ended-clause-ok : goal.returns-then-has_ended-clause-ok
-returns-then-has_ended-clause-ok g c =
+pub returns-then-is_ended-clause-ok : goal.returns-then-is_ended-clause-ok
+returns-then-is_ended-clause-ok g c =
     let e = c.args.self.now in
     let b : List ℕ = e.held.items ++ c.args.piece.now in
     let rest : List ℕ = drop c.in-Ok-take_items.used b in
     let items : c.extend_from_slice.new.self.items ≡ b = rw c.replace-octets.ensures.value at c.in-Ok.ensures.items in
     let all : c.as_slice.result.now ≡ b = c.as_slice.ensures.value ∙ items in
     let left : c.without_front-rest.result.items ≡ rest = c.without_front-rest.ensures ∙ ap (λ (l : List ℕ). drop c.in-Ok-take_items.used l) items in
-    let over : is_ended c.take_items.new.conn.state.core.phase ≡ true = rw c.counts.ensures at (sym c.has_ended.ensures ∙ c.if-has_ended.true) in
+    let over : is_ended c.take_items.new.conn.state.core.phase ≡ true = rw c.counts.ensures at (sym c.is_ended.ensures ∙ c.if-is_ended.true) in
     let empty : c.take_items.new.self.held.items ≡ [] = rw (c.in-Ok-take_items.ensures.held.0, c.replace-octets.ensures.after) c.new.ensures.items in
     handles e c.take_items.new.self _ c.args.conn.now.state c.take_items.new.conn.state b rest _ _
     (all-from e _ c.take_items.new.self c.args.conn.now.state c.take_items.new.conn.state b rest _ _ (rw all at c.in-Ok-take_items.ensures.ok) refl refl refl refl)
     refl refl refl refl (empty ∙ sym (left-ended c.take_items.new.conn.state.core.phase rest over))
     (omega (arith, ap length empty, c.in-Ok-take_items.ensures.held.1, c.len.ensures, ap length left))
 
-pub returns-then-has_ended-clause-fed : goal.returns-then-has_ended-clause-fed
-returns-then-has_ended-clause-fed g c = λ keeps.
+pub returns-then-is_ended-clause-fed : goal.returns-then-is_ended-clause-fed
+returns-then-is_ended-clause-fed g c = λ keeps.
     let b : List ℕ = c.args.self.now.held.items ++ c.args.piece.now in
     let rest : List ℕ = drop c.in-Ok-take_items.used b in
     let items : c.extend_from_slice.new.self.items ≡ b = rw c.replace-octets.ensures.value at c.in-Ok.ensures.items in
     let all : c.as_slice.result.now ≡ b = c.as_slice.ensures.value ∙ items in
-    let over : is_ended c.take_items.new.conn.state.core.phase ≡ true = rw c.counts.ensures at (sym c.has_ended.ensures ∙ c.if-has_ended.true) in
+    let over : is_ended c.take_items.new.conn.state.core.phase ≡ true = rw c.counts.ensures at (sym c.is_ended.ensures ∙ c.if-is_ended.true) in
     let empty : c.take_items.new.self.held.items ≡ [] = rw (c.in-Ok-take_items.ensures.held.0, c.replace-octets.ensures.after) c.new.ensures.items in
     fed-all c.args.conn.now.state c.take_items.new.conn.state c.args.self.now.held.items c.args.piece.now c.args.out.now.items c.take_items.new.out.items rest c.take_items.new.self.held.items
     (rw all at c.in-Ok-take_items.ensures.sent keeps) (empty ∙ sym (left-ended c.take_items.new.conn.state.core.phase rest over))
 
-pub returns-else-has_ended-clause-ok : goal.returns-else-has_ended-clause-ok
-returns-else-has_ended-clause-ok g c =
+pub returns-else-is_ended-clause-ok : goal.returns-else-is_ended-clause-ok
+returns-else-is_ended-clause-ok g c =
     let e = c.args.self.now in
     let b : List ℕ = e.held.items ++ c.args.piece.now in
     let rest : List ℕ = drop c.in-Ok-take_items.used b in
     let items : c.extend_from_slice.new.self.items ≡ b = rw c.replace-octets.ensures.value at c.in-Ok.ensures.items in
     let all : c.as_slice.result.now ≡ b = c.as_slice.ensures.value ∙ items in
     let left : c.without_front-rest.result.items ≡ rest = c.without_front-rest.ensures ∙ ap (λ (l : List ℕ). drop c.in-Ok-take_items.used l) items in
-    let goes : is_ended c.take_items.new.conn.state.core.phase ≡ false = rw c.counts.ensures at (sym c.has_ended.ensures ∙ c.if-has_ended.false) in
+    let goes : is_ended c.take_items.new.conn.state.core.phase ≡ false = rw c.counts.ensures at (sym c.is_ended.ensures ∙ c.if-is_ended.false) in
     handles e c.take_items.new.self _ c.args.conn.now.state c.take_items.new.conn.state b rest _ _
     (all-from e _ c.take_items.new.self c.args.conn.now.state c.take_items.new.conn.state b rest _ _ (rw all at c.in-Ok-take_items.ensures.ok) refl refl refl refl)
     refl refl refl refl (left ∙ sym (left-going c.take_items.new.conn.state.core.phase rest goes))
     (omega (arith, c.in-Ok-take_items.ensures.held.1, ap length left))
 
-pub returns-else-has_ended-clause-fed : goal.returns-else-has_ended-clause-fed
-returns-else-has_ended-clause-fed g c = λ keeps.
+pub returns-else-is_ended-clause-fed : goal.returns-else-is_ended-clause-fed
+returns-else-is_ended-clause-fed g c = λ keeps.
     let b : List ℕ = c.args.self.now.held.items ++ c.args.piece.now in
     let rest : List ℕ = drop c.in-Ok-take_items.used b in
     let items : c.extend_from_slice.new.self.items ≡ b = rw c.replace-octets.ensures.value at c.in-Ok.ensures.items in
     let all : c.as_slice.result.now ≡ b = c.as_slice.ensures.value ∙ items in
     let left : c.without_front-rest.result.items ≡ rest = c.without_front-rest.ensures ∙ ap (λ (l : List ℕ). drop c.in-Ok-take_items.used l) items in
-    let goes : is_ended c.take_items.new.conn.state.core.phase ≡ false = rw c.counts.ensures at (sym c.has_ended.ensures ∙ c.if-has_ended.false) in
+    let goes : is_ended c.take_items.new.conn.state.core.phase ≡ false = rw c.counts.ensures at (sym c.is_ended.ensures ∙ c.if-is_ended.false) in
     fed-all c.args.conn.now.state c.take_items.new.conn.state c.args.self.now.held.items c.args.piece.now c.args.out.now.items c.take_items.new.out.items rest c.without_front-rest.result.items
     (rw all at c.in-Ok-take_items.ensures.sent keeps) (left ∙ sym (left-going c.take_items.new.conn.state.core.phase rest goes))

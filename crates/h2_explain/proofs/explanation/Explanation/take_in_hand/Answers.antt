@@ -11,10 +11,10 @@ returns-in-Err-clause-halted g c = λ keeps.
 pub returns-in-Err-clause-cut : goal.returns-in-Err-clause-cut
 returns-in-Err-clause-cut g c = λ well. rw c.requires.empty (c.in-Err.ensures.cut well)
 
-pub returns-then-has_ended-clause-fed : goal.returns-then-has_ended-clause-fed
-returns-then-has_ended-clause-fed g c = λ keeps.
+pub returns-then-is_ended-clause-fed : goal.returns-then-is_ended-clause-fed
+returns-then-is_ended-clause-fed g c = λ keeps.
     let rest : List ℕ = drop c.in-Ok.used c.args.piece.now in
-    let over : is_ended c.take_items.new.conn.state.core.phase ≡ true = rw c.counts.ensures at (sym c.has_ended.ensures ∙ c.if-has_ended.true) in
+    let over : is_ended c.take_items.new.conn.state.core.phase ≡ true = rw c.counts.ensures at (sym c.is_ended.ensures ∙ c.if-is_ended.true) in
     let empty : c.take_items.new.self.held.items ≡ [] = rw c.in-Ok.ensures.held.0 c.requires.empty in
     fed-all c.args.conn.now.state c.take_items.new.conn.state c.args.self.now.held.items c.args.piece.now c.args.out.now.items c.take_items.new.out.items rest c.take_items.new.self.held.items
     (rw c.requires.empty (c.in-Ok.ensures.sent keeps)) (empty ∙ sym (left-ended c.take_items.new.conn.state.core.phase rest over))
@@ -22,7 +22,7 @@ returns-then-has_ended-clause-fed g c = λ keeps.
 pub returns-in-Ok-extend_from_slice-clause-fed : goal.returns-in-Ok-extend_from_slice-clause-fed
 returns-in-Ok-extend_from_slice-clause-fed g c = λ keeps.
     let rest : List ℕ = drop c.in-Ok.used c.args.piece.now in
-    let goes : is_ended c.take_items.new.conn.state.core.phase ≡ false = rw c.counts.ensures at (sym c.has_ended.ensures ∙ c.if-has_ended.false) in
+    let goes : is_ended c.take_items.new.conn.state.core.phase ≡ false = rw c.counts.ensures at (sym c.is_ended.ensures ∙ c.if-is_ended.false) in
     let empty : c.take_items.new.self.held.items ≡ [] = rw c.in-Ok.ensures.held.0 c.requires.empty in
     let left : c.take_items.new.self.held.items ++ c.octets_from-rest.result.now ≡ rest = rw empty c.octets_from-rest.ensures in
     fed-all c.args.conn.now.state c.take_items.new.conn.state c.args.self.now.held.items c.args.piece.now c.args.out.now.items c.take_items.new.out.items rest c.extend_from_slice.new.self.items
