@@ -6,6 +6,6 @@ use Rattle.h2_check.proofs.walk.Walk.pass_octets.Goals as goal
 pub returns-clause-place : goal.returns-clause-place
 returns-clause-place c =
     on_ok_weaker c.feed.result
-    (λ octets. λ start is. let_played start c.args.self.now c.pass.new.self c.feed.new.self c.args.more.now (sym c.is_empty.ensures ∙ c.if-is_empty.false) is.seen c.pass.ensures
-    octets c.feed.ensures.place.0 c.feed.ensures.place.1)
+    (λ octets. λ start is. let_played start c.args.self.now c.pass.new.self c.leave.new.self c.feed.new.self c.args.more.now (sym c.is_empty.ensures ∙ c.if-is_empty.false) is.seen c.pass.ensures c.leave.ensures
+    octets c.feed.ensures.place.0 c.feed.ensures.place.1 c.feed.ensures.debugger)
     c.feed.ensures.octets
