@@ -43,7 +43,10 @@ fn is_memory_fault(fault: Option<u8>) -> bool
 }
 
 /// Gives a debugger a line, and says with which fault it is refused, if it is.
-pub(crate) fn give_line(debugger: &mut Debugger<'_, Global>, line: &[u8]) -> Result<Option<u8>, AllocError>
+pub(crate) fn give_line(
+    debugger: &mut Debugger<'_, Global>,
+    line: &[u8],
+) -> Result<Option<u8>, AllocError>
     ensures { IfOk result (λ fault. (is_some fault ≡ is_refusal (answered debugger.old line.now).text) × (debugger.new ≡ (answered debugger.old line.now).after)) }
 {
     let fault = fault_in(obey(debugger, command_of(line)));
