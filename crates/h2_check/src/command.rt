@@ -6,7 +6,8 @@ ghost use Rattle.h2_check.specs.Commands.{answered, fault_in, is_memory_fault, i
 
 use h2_debug::Debugger;
 use h2_request::book::Book;
-use h2_session::{Reply, command_of, obey};
+use h2_session::obey::obey;
+use h2_session::{Reply, command_of};
 use h2_spec::connection::Config;
 use std::alloc::{AllocError, Global};
 

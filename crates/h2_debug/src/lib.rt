@@ -13,6 +13,5 @@ mod place;
 mod reasons;
 mod source;
 
-pub use breakpoints::Break;
 pub use debugger::Debugger;
 pub use fault::DebugFault;

@@ -7,12 +7,11 @@
 mod command;
 mod fault;
 mod line;
-mod obey;
+pub mod obey;
 mod reader;
 mod reply;
 pub mod session;
 
-pub use command::{Command, command_of};
-pub use obey::obey;
+pub use command::command_of;
 pub use reply::{Reply, ReplyText};
 pub use session::debug_session;

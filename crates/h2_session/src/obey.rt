@@ -3,13 +3,12 @@
 ghost use Rattle.std.specs.Prelude.{◌≡◌, option_map, Some};
 ghost use Rattle.h2_session.specs.Commands.{Back, BreakOn, Run, Step};
 ghost use Rattle.h2_session.specs.Replies.{Obeys, moved_reply, reply_text, set_reply};
-ghost use Rattle.h2_debug.specs.Breakpoints.{break_of};
-ghost use Rattle.h2_session.specs.Words.{asked_by};
+ghost use Rattle.h2_session.specs.Words.{asked_by, break_on};
 
-use crate::command::Command;
+use crate::command::{Command, Stop};
 use crate::fault::SessionFault;
 use crate::reply::Reply;
-use h2_debug::{Break, DebugFault, Debugger};
+use h2_debug::{DebugFault, Debugger};
 use std::alloc::Global;
 
 /// The reply to a move.
@@ -54,14 +53,14 @@ fn set(answer: Result<(), DebugFault>) -> Reply
 }
 
 /// Lets later runs stop there.
-fn break_on(debugger: &mut Debugger<'_, Global>, stop: Break) -> Reply
-    ensures { Obeys debugger.old (Some (BreakOn (break_of stop))) (reply_text debugger.new result) debugger.new }
+fn break_on(debugger: &mut Debugger<'_, Global>, stop: Stop) -> Reply
+    ensures { Obeys debugger.old (Some (BreakOn (break_on stop))) (reply_text debugger.new result) debugger.new }
 {
     match stop {
-        Break::Position(position) => set(debugger.break_at(position)),
-        Break::Type(kind) => set(debugger.break_type(kind)),
-        Break::Stream(id) => set(debugger.break_stream(id)),
-        Break::Sent(kind) => set(debugger.break_sent(kind)),
+        Stop::At(position) => set(debugger.break_at(position as usize)),
+        Stop::Type(kind) => set(debugger.break_type(kind)),
+        Stop::Stream(id) => set(debugger.break_stream(id)),
+        Stop::Sent(kind) => set(debugger.break_sent(kind)),
     }
 }
 
