@@ -18,7 +18,7 @@ use Rattle.h2_check.specs.Cases.{Start, closes, commanded, debugger_at, sight_ab
 use Rattle.h2_check.specs.Commands.{answered, debugger_or, fault_in, is_memory_fault, is_refusal}
 use Rattle.h2_check.specs.Lines as line
 use Rattle.h2_check.specs.Seen.{seen_by}
-use Rattle.h2_check.specs.Walks.{Begins, Closes, Commands, Finds, Passes, debugger_for, place_of}
+use Rattle.h2_check.specs.Walks.{Begins, Closes, Commands, Finds, Loads, Passes, debugger_for, place_of}
 use Rattle.h2_check.specs.declared.command.Given.{Given}
 use Rattle.h2_check.specs.declared.walk.Walk.{Walk}
 use Rattle.h2_check.proofs.Going.{closes_is}
@@ -84,6 +84,21 @@ both false b e = absurd (true≢false (sym e))
 grouped : (a b c : Bool) → ((a && b) && c) ≡ (a && (b && c))
 grouped true b c = refl
 grouped false b c = refl
+
+-- a line was given to it
+pub command_given : (given : Given) (w one : Walk) (text : List ℕ) (d after : Debugging) (fault : Option ℕ) → Loads given w one → one.debugger ≡ Some d
+    → (is_some fault ≡ is_refusal (answered d text).text) × (after ≡ (answered d text).after) → Commands given text fault w (record one { spoken = 0; debugger = Some after })
+command_given given w one text d after fault l is x =
+    let same : d ≡ debugger_for given w = cc (is, l.debugger) in record {
+      found = l.found;
+      octets = l.octets;
+      at = l.at;
+      seen = l.seen;
+      speaks = l.speaks;
+      spoken = refl;
+      debugger = ap (λ (e : Debugging). Some e) x.1 ∙ ap (λ (e : Debugging). Some (answered e text).after) same;
+      refused = x.0 ∙ ap (λ (e : Debugging). is_refusal (answered e text).text) same;
+    }
 
 -- a command was given
 pub goes_commanded : (start : Start) (given : Given) (w one two three : Walk) (text : List ℕ) (fault : Option ℕ) → Begins start given → seen_by w.seen ≡ sight_above start (place_of w)

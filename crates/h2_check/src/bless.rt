@@ -1,7 +1,7 @@
 //! A case written anew: what its lines say of frames that are sent, and of errors, is replaced by what the run of its
 //! octets has. All other lines stay, as do those after a command of a debugger, up to the next octets. Definition: `specs/Blessed.antt`.
 
-ghost use Rattle.std.specs.Prelude.{◌≡◌, ◌≤◌, ◌+◌, ◌⊎◌, [], ◌++◌, true, false, Some, codes, drop, flat_map, if◌then◌else◌, length, map, nat_lt, IfOk, IfErr, OnOk};
+ghost use Rattle.std.specs.Prelude.{◌≡◌, ◌≤◌, ◌+◌, ◌⊎◌, ◌&&◌, List, [], ◌++◌, true, false, Some, codes, drop, flat_map, if◌then◌else◌, length, map, nat_lt, IfOk, IfErr, OnOk};
 ghost use Rattle.h2_conn.specs.Connection.{going};
 ghost use Rattle.h2_spec.specs.State.{is_allowed};
 ghost use Rattle.h2_check.specs.Blessed.{blessed, blessed_at, cause_line, error_text, filled, filled_line, filled_place, filled_place_script, filled_script, have_renewed, is_renewed, kept_line, kept_place, left_text, may_move, more_say, renewed, renewed_cause, renewed_line, renewed_place, renewed_sent, renewed_sent_place, says_sent, sent_line, sent_lines, stays_after, told_place, written_line, written_place};

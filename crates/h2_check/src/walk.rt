@@ -238,7 +238,8 @@ impl<'t, 'b> Walk<'t, 'b> {
 
     /// The octets that were sent, of which lines speak: those for all items, or for the item of a debugger's position.
     pub(crate) fn sent(&self) -> &[u8]
-        ensures { result.now ≡ sent_here self.now }
+        ensures octets { result.now ≡ sent_here self.now }
+        ensures few { length (sent_here self.now) < 2 ^ 64 }
     {
         match &self.debugger {
             Some(debugger) => debugger.sent(),
@@ -248,7 +249,8 @@ impl<'t, 'b> Walk<'t, 'b> {
 
     /// Those of them that no line has spoken about.
     pub(crate) fn unspoken(&self) -> &[u8]
-        ensures { result.now ≡ left_by self.now }
+        ensures octets { result.now ≡ left_by self.now }
+        ensures few { length (sent_here self.now) < 2 ^ 64 }
     {
         left_from(self.sent(), self.spoken)
     }

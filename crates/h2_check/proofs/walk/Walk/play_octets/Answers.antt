@@ -1,7 +1,13 @@
 use Rattle.std.proofs.Common.{◌∙◌, sym}
 use Rattle.std.proofs.lemmas.Result.{on_ok_weaker}
-use Rattle.h2_check.proofs.Going.{goes_played}
+use Rattle.h2_check.proofs.Going.{goes_played, walks_same}
 use Rattle.h2_check.proofs.walk.Walk.play_octets.Goals as goal
+
+pub returns-clause-walks : goal.returns-clause-walks
+returns-clause-walks c =
+    on_ok_weaker c.feed.result
+    (λ walks. λ start is. walks start (walks_same start c.args.self.now c.leave.new.self c.args.conn.now (c.leave.ensures.octets ∙ c.in-Ok.ensures.octets) (c.leave.ensures.at ∙ c.in-Ok.ensures.at) (c.leave.ensures.seen ∙ c.in-Ok.ensures.seen) is))
+    c.feed.ensures.walks
 
 pub returns-clause-goes : goal.returns-clause-goes
 returns-clause-goes c =
