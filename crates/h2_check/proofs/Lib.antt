@@ -1,5 +1,6 @@
 pub mod Blessing
 pub mod CaseLists
+pub mod Commanding
 pub mod Feeds
 pub mod Gains
 pub mod Going

@@ -12,6 +12,7 @@ use Rattle.h2_spec.specs.declared.connection.Config.{Config}
 use Rattle.h2_check.specs.Cases.{Place, Start, cause_text, first_place, played, sight_at, start_of, unspoken}
 use Rattle.h2_check.specs.Files.{is_empty_or_comment}
 use Rattle.h2_check.specs.Frames.{is_none, octets_at, sends, spoken_by}
+use Rattle.h2_check.specs.ItemTexts.{octets_or_none}
 use Rattle.h2_check.specs.Lines as line
 use Rattle.h2_check.specs.Lines.{Said, line_said}
 use Rattle.h2_check.specs.Seen.{Sight}
@@ -61,26 +62,26 @@ is_renewed (line.Reason text) = false
 is_renewed (line.Explained text) = false
 is_renewed (line.Command text) = false
 
--- a line may have octets: it is one of the script, neither empty nor a comment
-abbrev pub may_play : Said → Bool
-may_play (line.Script text) = not (is_empty_or_comment text)
-may_play (line.Title text) = false
-may_play (line.Words text) = false
-may_play (line.Sent text) = false
-may_play (line.Shown text) = false
-may_play (line.Cause text) = false
-may_play (line.Reason text) = false
-may_play (line.Explained text) = false
-may_play (line.Command text) = false
+-- the place may be another after a line: it is one of the script, neither empty nor a comment, or a command
+abbrev pub may_move : Said → Bool
+may_move (line.Script text) = not (is_empty_or_comment text)
+may_move (line.Command text) = true
+may_move (line.Title text) = false
+may_move (line.Words text) = false
+may_move (line.Sent text) = false
+may_move (line.Shown text) = false
+may_move (line.Cause text) = false
+may_move (line.Reason text) = false
+may_move (line.Explained text) = false
 
 -- some of these lines are to be renewed
 abbrev pub have_renewed : List (List ℕ) → Bool
 have_renewed lines = list_any (λ l. is_renewed (line_said l)) lines
 
--- before the next line that may have octets, one says what is sent
+-- before the next line that may have octets, or is a command, one says what is sent
 abbrev pub more_say : List (List ℕ) → Bool
 more_say [] = false
-more_say (l ∷ ls) = says_sent (line_said l) || (not (may_play (line_said l)) && more_say ls)
+more_say (l ∷ ls) = says_sent (line_said l) || (not (may_move (line_said l)) && more_say ls)
 
 -- ---- a case that has such lines: each is renewed
 
@@ -98,7 +99,7 @@ held_text text left = if sends text left then held_line text (frame_said text) e
 
 abbrev pub held_place : Start → Place → List ℕ → Place
 held_place start here text =
-    if sends text (unspoken start here) then record { above = here.above; spoken = spoken_by text (length (sight_at start here).sent) here.spoken; speaks = true }
+    if sends text (unspoken start here) then record { above = here.above; spoken = spoken_by text (length (sight_at start here).sent) here.spoken; speaks = true; debugging = here.debugging }
     else here
 
 -- after the last of them up to the next octets, all that is left is written; where nothing is, and no line says so, that
@@ -107,7 +108,7 @@ abbrev pub left_text : (speaks : Bool) → List ℕ → List ℕ
 left_text speaks left = if is_none left then (if speaks then [] else codes ";< -\n") else sent_lines left
 
 abbrev pub left_place : Start → Place → Place
-left_place start here = record { above = here.above; spoken = length (sight_at start here).sent; speaks = true }
+left_place start here = record { above = here.above; spoken = length (sight_at start here).sent; speaks = true; debugging = here.debugging }
 
 -- the rest after a line, unless more of them follow
 abbrev pub rest_text : Bool → Start → Place → List ℕ
@@ -131,6 +132,10 @@ renewed_cause first (Some cause) = cause_line (cause_text (Some cause))
 renewed_cause None None = cause_line (cause_text None)
 renewed_cause (Some other) None = []
 
+-- what was sent is spoken about
+abbrev pub told_place : Start → Place → Place
+told_place start here = record { above = here.above; spoken = length (sight_at start here).sent; speaks = here.speaks; debugging = here.debugging }
+
 -- what is written for a line, and the place after it; `more` says whether another line says what is sent here
 abbrev pub renewed_line : Start → Place → (more : Bool) → List ℕ → Said → List ℕ
 renewed_line start here more l (line.Script text) = kept_line l
@@ -152,13 +157,47 @@ renewed_place start here more (line.Shown text) = here
 renewed_place start here more (line.Cause text) = here
 renewed_place start here more (line.Reason text) = here
 renewed_place start here more (line.Explained text) = here
-renewed_place start here more (line.Command text) = here
+renewed_place start here more (line.Command text) = told_place start here
 
--- the lines from a place on, each with a line feed
-abbrev pub renewed : Start → Place → List (List ℕ) → List ℕ
-renewed start here [] = []
-renewed start here (l ∷ ls) =
-    renewed_line start here (more_say ls) l (line_said l) ++ renewed start (renewed_place start here (more_say ls) (line_said l)) ls
+-- after a command lines stay as they are, up to the next octets
+abbrev pub stays_after : Bool → Said → Bool
+stays_after stays (line.Script text) = stays && is_none (octets_or_none (octets_at text))
+stays_after stays (line.Command text) = true
+stays_after stays (line.Title text) = stays
+stays_after stays (line.Words text) = stays
+stays_after stays (line.Sent text) = stays
+stays_after stays (line.Shown text) = stays
+stays_after stays (line.Cause text) = stays
+stays_after stays (line.Reason text) = stays
+stays_after stays (line.Explained text) = stays
+
+-- the place after such a line
+abbrev pub kept_place : Start → Place → Said → Place
+kept_place start here (line.Script text) = played start here (octets_at text)
+kept_place start here (line.Title text) = here
+kept_place start here (line.Words text) = here
+kept_place start here (line.Sent text) = here
+kept_place start here (line.Shown text) = here
+kept_place start here (line.Cause text) = here
+kept_place start here (line.Reason text) = here
+kept_place start here (line.Explained text) = here
+kept_place start here (line.Command text) = here
+
+-- the same of both
+abbrev pub written_line : Start → Place → (stays more : Bool) → List ℕ → Said → List ℕ
+written_line start here true more l said = kept_line l
+written_line start here false more l said = renewed_line start here more l said
+
+abbrev pub written_place : Start → Place → (stays more : Bool) → Said → Place
+written_place start here true more said = kept_place start here said
+written_place start here false more said = renewed_place start here more said
+
+-- the lines from a place on, each with a line feed; `stays` says whether they stay as they are
+abbrev pub renewed : Start → Place → (stays : Bool) → List (List ℕ) → List ℕ
+renewed start here stays [] = []
+renewed start here stays (l ∷ ls) =
+    written_line start here stays (more_say ls) l (line_said l)
+    ++ renewed start (written_place start here stays (more_say ls) (line_said l)) (stays_after stays (line_said l)) ls
 
 -- ---- a case that has none: they are written after each line of the script
 
@@ -176,9 +215,6 @@ error_text false cause = []
 abbrev pub outcome_text : Start → (here there : Place) → List ℕ
 outcome_text start here there =
     sent_lines (unspoken start there) ++ error_text (nat_lt (taken_at start here) (taken_at start there)) (sight_at start there).cause
-
-abbrev pub told_place : Start → Place → Place
-told_place start here = record { above = here.above; spoken = length (sight_at start here).sent; speaks = here.speaks }
 
 abbrev pub filled_script : Start → Place → Option (List ℕ) → List ℕ
 filled_script start here None = []
@@ -221,7 +257,7 @@ filled start here (l ∷ ls) = kept_line l ++ (filled_line start here (line_said
 
 -- the lines of a case that are below a place, each with a line feed
 abbrev pub blessed_at : Start → Place → List (List ℕ) → List ℕ
-blessed_at start here lines = if have_renewed lines then renewed start here lines else filled start here lines
+blessed_at start here lines = if have_renewed lines then renewed start here false lines else filled start here lines
 
 -- the lines of a case with this book, these limits and these settings
 unfoldable pub blessed : List Entry → Config → List (List ℕ) → List ℕ

@@ -1,6 +1,7 @@
 pub mod Blessed
 pub mod CaseWords
 pub mod Cases
+pub mod Commands
 pub mod Files
 pub mod Frames
 pub mod ItemTexts

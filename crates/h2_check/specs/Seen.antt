@@ -8,6 +8,8 @@ use Rattle.h2_spec.specs.Parse.{Stop, One}
 use Rattle.h2_spec.specs.Trace.{Event, next_event, trace}
 use Rattle.h2_spec.specs.declared.causes.Cause.{Cause}
 use Rattle.h2_spec.specs.declared.ignored.Ignored.{Ignored}
+use Rattle.h2_debug.specs.Debugging.{Debugging}
+use Rattle.h2_debug.specs.Places.{cause_at, ignored_at, sent_octets_at}
 use Rattle.h2_check.specs.declared.run.Seen.{Seen}
 
 -- how many items there were, the octets that were sent, why the first error was one, and why the last item is an error or
@@ -47,6 +49,22 @@ no_item sent = record { items = 0; sent = sent; first = None; cause = None; igno
 unfoldable pub sight : State → List ℕ → List ℕ → Sight
 unfolding trace
 sight s sent octets = with_items s (no_item sent) (trace s octets).events
+
+-- what is seen at the position of a debugger: the item that leads there, what was sent for it, and why it is an error or
+-- is ignored
+abbrev pub sight_in : Debugging → Sight
+sight_in d = record {
+  items = d.position;
+  sent = sent_octets_at d.run d.position;
+  first = cause_at d.run d.position;
+  cause = cause_at d.run d.position;
+  ignored = ignored_at d.run d.position;
+}
+
+-- where there is a debugger, what is seen at its position
+abbrev pub sight_by : Option Debugging → Sight → Sight
+sight_by None seen = seen
+sight_by (Some d) seen = sight_in d
 
 -- the sight that a value has
 abbrev pub seen_by : Seen → Sight

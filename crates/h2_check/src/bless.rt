@@ -1,16 +1,19 @@
 //! A case written anew: what its lines say of frames that are sent, and of errors, is replaced by what the run of its
-//! octets has. All other lines stay. Definition: `specs/Blessed.antt`.
+//! octets has. All other lines stay, as do those after a command of a debugger, up to the next octets. Definition: `specs/Blessed.antt`.
 
-ghost use Rattle.std.specs.Prelude.{◌≡◌, ◌≤◌, ◌+◌, ◌⊎◌, [], ◌++◌, true, false, Some, codes, drop, flat_map, if◌then◌else◌, length, map, nat_lt, IfOk, IfErr, OnOk};
+ghost use Rattle.std.specs.Prelude.{◌≡◌, ◌≤◌, ◌+◌, ◌⊎◌, ◌&&◌, List, [], ◌++◌, true, false, Some, codes, drop, flat_map, if◌then◌else◌, length, map, nat_lt, IfOk, IfErr, OnOk};
 ghost use Rattle.h2_conn.specs.Connection.{going};
 ghost use Rattle.h2_spec.specs.State.{is_allowed};
-ghost use Rattle.h2_check.specs.Blessed.{blessed, blessed_at, cause_line, error_text, filled, filled_line, filled_place, filled_place_script, filled_script, have_renewed, is_renewed, kept_line, left_text, may_play, more_say, renewed, renewed_cause, renewed_line, renewed_place, renewed_sent, renewed_sent_place, says_sent, sent_line, sent_lines};
-ghost use Rattle.h2_check.specs.Cases.{Start, cause_text, first_place, played, sight_at};
-ghost use Rattle.h2_check.specs.Frames.{octets_at};
+ghost use Rattle.h2_check.specs.Blessed.{blessed, blessed_at, cause_line, error_text, filled, filled_line, filled_place, filled_place_script, filled_script, have_renewed, is_renewed, kept_line, kept_place, left_text, may_move, more_say, renewed, renewed_cause, renewed_line, renewed_place, renewed_sent, renewed_sent_place, says_sent, sent_line, sent_lines, stays_after, told_place, written_line, written_place};
+ghost use Rattle.h2_spec.specs.Answer.{Entry};
+ghost use Rattle.h2_spec.specs.declared.connection.Config.{Config};
+ghost use Rattle.h2_check.specs.Cases.{Start, cause_text, first_place, played, sight_above};
+ghost use Rattle.h2_check.specs.Frames.{is_none, octets_at};
+ghost use Rattle.h2_check.specs.ItemTexts.{octets_or_none};
 ghost use Rattle.h2_check.specs.Lines.{line_said};
 ghost use Rattle.h2_check.specs.Seen.{seen_by};
 ghost use Rattle.h2_check.specs.Tap.{Gains};
-ghost use Rattle.h2_check.specs.Walks.{IsWithin, Keeps, KeepsFrame, KeepsNone, Lets, Tells, Walks, Writes, left_by, place_of};
+ghost use Rattle.h2_check.specs.Walks.{IsWithin, Keeps, KeepsFrame, KeepsNone, Lets, Leaves, Tells, Walks, Writes, left_by, place_of, sight_here};
 ghost use Rattle.h2_check.specs.declared.verdict.CaseFault.TheVariants.{BadConfig, NoMemory};
 
 use crate::cases::lines_in;
@@ -58,20 +61,20 @@ fn is_renewed(line: &[u8]) -> bool
     }
 }
 
-/// Whether a line may have octets: it is one of the script, neither empty nor a comment.
-fn may_play(line: &[u8]) -> bool
-    ensures { result ≡ may_play (line_said line.now) }
+/// Whether the place may be another after a line: it is one of the script, neither empty nor a comment, or a command.
+fn may_move(line: &[u8]) -> bool
+    ensures { result ≡ may_move (line_said line.now) }
 {
     match line_of(line) {
         Line::Script(text) => !(text.is_empty() || text[0] == b';'),
+        Line::Command(_) => true,
         Line::Title(_)
         | Line::Words(_)
         | Line::Sent(_)
         | Line::Shown(_)
         | Line::Cause(_)
         | Line::Reason(_)
-        | Line::Explained(_)
-        | Line::Command(_) => false,
+        | Line::Explained(_) => false,
     }
 }
 
@@ -82,7 +85,7 @@ fn have_renewed(lines: &[&[u8]]) -> bool
     lines.iter().any(|line| is_renewed(line))
 }
 
-/// Whether one of these lines says what is sent, before the next that may have octets.
+/// Whether one of these lines says what is sent, before the next that may have octets or is a command.
 fn more_say(lines: &[&[u8]]) -> bool
     ensures { result ≡ more_say (map (λ l. l.now) lines.now) }
 {
@@ -90,7 +93,7 @@ fn more_say(lines: &[&[u8]]) -> bool
         if says_sent(line) {
             return true;
         }
-        if may_play(line) {
+        if may_move(line) {
             return false;
         }
     }
@@ -187,13 +190,13 @@ fn put_error(came: bool, cause: Option<Cause>, out: &mut Growing)
     }
 }
 
-impl<'t> Walk<'t> {
+impl<'t, 'b> Walk<'t, 'b> {
     /// More octets come: nothing is compared.
     fn pass(&mut self)
         ensures { Lets self.old self.new }
     {
         if !self.speaks && self.octets.is_empty() {
-            self.spoken = self.seen.sent.len();
+            self.spoken = self.sent().len();
         }
         self.speaks = false;
     }
@@ -212,6 +215,7 @@ impl<'t> Walk<'t> {
             return Ok(());
         }
         self.pass();
+        self.leave();
         self.feed(conn, more)
     }
 
@@ -239,7 +243,7 @@ impl<'t> Walk<'t> {
     }
 }
 
-impl<'t> Walk<'t> {
+impl<'t, 'b> Walk<'t, 'b> {
     /// A frame that is said to be sent stays, where it is the next one.
     fn keep_frame(
         &mut self,
@@ -281,7 +285,7 @@ impl<'t> Walk<'t> {
     fn keep_any(&mut self, text: &[u8], out: &mut Growing)
         ensures { Tells true (codes ";< " ++ kept_line text.now) self.old self.new out.old out.new }
     {
-        self.spoken = self.seen.sent.len();
+        self.spoken = self.sent().len();
         self.speaks = true;
         out.text(";< ");
         put_line(text, out);
@@ -317,7 +321,7 @@ impl<'t> Walk<'t> {
     fn end_none(&mut self, out: &mut Growing)
         ensures { Tells true (if self.old.speaks then [] else codes ";< -\n") self.old self.new out.old out.new }
     {
-        self.spoken = self.seen.sent.len();
+        self.spoken = self.sent().len();
         if self.speaks {
             return;
         }
@@ -333,7 +337,7 @@ impl<'t> Walk<'t> {
             Ok(()) => {}
             Err(error) => return Err(error),
         }
-        self.spoken = self.seen.sent.len();
+        self.spoken = self.sent().len();
         self.speaks = true;
         Ok(())
     }
@@ -350,7 +354,7 @@ impl<'t> Walk<'t> {
     }
 }
 
-impl<'t> Walk<'t> {
+impl<'t, 'b> Walk<'t, 'b> {
     /// A line that says what is sent: it stays where it holds; where no other such line follows before the next octets, all
     /// that is left is written.
     fn renew_sent(
@@ -361,7 +365,7 @@ impl<'t> Walk<'t> {
         out: &mut Growing,
     ) -> Result<(), AllocError>
         ensures same { OnOk result ((self.new.octets ≡ self.old.octets) × ((self.new.at ≡ self.old.at) × (self.new.seen ≡ self.old.seen))) }
-        ensures text { OnOk result ((start : Start) → seen_by self.old.seen ≡ sight_at start (place_of self.old)
+        ensures text { OnOk result ((start : Start) → seen_by self.old.seen ≡ sight_above start (place_of self.old)
             → Writes (renewed_sent start (place_of self.old) more text.now) (renewed_sent_place start (place_of self.old) more text.now) self.new out.old out.new) }
     {
         match self.keep_sent(alloc, text, out) {
@@ -394,6 +398,14 @@ impl<'t> Walk<'t> {
         self.pass_line(alloc, conn, text)
     }
 
+    /// Writes a command, before which what was sent is not looked at any more.
+    fn tell_command(&mut self, line: &[u8], out: &mut Growing)
+        ensures { Tells self.old.speaks (kept_line line.now) self.old self.new out.old out.new }
+    {
+        self.spoken = self.sent().len();
+        put_line(line, out);
+    }
+
     /// Writes a line of a case anew; `more` says whether another line says what is sent before the next octets.
     fn renew_line(
         &mut self,
@@ -415,57 +427,152 @@ impl<'t> Walk<'t> {
             Line::Script(text) => self.renew_script(alloc, conn, text, out),
             Line::Sent(text) => self.renew_sent(alloc, text, more, out),
             Line::Cause(_) => {
-                renew_cause(self.seen.first, self.seen.cause, out);
+                renew_cause(self.first_cause(), self.cause(), out);
+                Ok(())
+            }
+            Line::Command(_) => {
+                self.tell_command(line, out);
                 Ok(())
             }
             Line::Title(_)
             | Line::Words(_)
             | Line::Shown(_)
             | Line::Reason(_)
-            | Line::Explained(_)
-            | Line::Command(_) => {
+            | Line::Explained(_) => {
                 put_line(line, out);
                 Ok(())
             }
         }
     }
+
+    /// Writes a line of a case as it is.
+    fn keep_line(
+        &mut self,
+        alloc: Global,
+        conn: &mut Conn<'_, Global>,
+        line: &[u8],
+        out: &mut Growing,
+    ) -> Result<(), AllocError>
+        requires ready { conn.old ≡ going conn.old.state [] }
+        requires within { IsWithin self.old }
+        ensures ready { conn.new ≡ going conn.new.state [] }
+        ensures within { OnOk result (IsWithin self.new) }
+        ensures walks { OnOk result ((start : Start) → Walks start self.old conn.old → Walks start self.new conn.new) }
+        ensures text { OnOk result ((start : Start) → Walks start self.old conn.old
+            → Writes (kept_line line.now) (kept_place start (place_of self.old) (line_said line.now)) self.new out.old out.new) }
+    {
+        put_line(line, out);
+        match line_of(line) {
+            Line::Script(text) => self.pass_line(alloc, conn, text),
+            Line::Title(_)
+            | Line::Words(_)
+            | Line::Sent(_)
+            | Line::Shown(_)
+            | Line::Cause(_)
+            | Line::Reason(_)
+            | Line::Explained(_)
+            | Line::Command(_) => Ok(()),
+        }
+    }
+
+    /// Writes a line of a case as it is where it stays so, else anew.
+    fn write_line(
+        &mut self,
+        alloc: Global,
+        conn: &mut Conn<'_, Global>,
+        line: &[u8],
+        stays: bool,
+        more: bool,
+        out: &mut Growing,
+    ) -> Result<(), AllocError>
+        requires ready { conn.old ≡ going conn.old.state [] }
+        requires within { IsWithin self.old }
+        ensures ready { conn.new ≡ going conn.new.state [] }
+        ensures within { OnOk result (IsWithin self.new) }
+        ensures walks { OnOk result ((start : Start) → Walks start self.old conn.old → Walks start self.new conn.new) }
+        ensures text { OnOk result ((start : Start) → Walks start self.old conn.old
+            → Writes (written_line start (place_of self.old) stays more line.now (line_said line.now)) (written_place start (place_of self.old) stays more (line_said line.now)) self.new out.old out.new) }
+    {
+        if stays {
+            return self.keep_line(alloc, conn, line, out);
+        }
+        self.renew_line(alloc, conn, line, more, out)
+    }
 }
 
-/// Writes the lines of a case anew that say what is sent or why an item is an error; all others as they are.
+/// Whether lines stay as they are after a line of the script.
+fn stays_after_script(alloc: Global, stays: bool, text: &[u8]) -> Result<bool, AllocError>
+    ensures { IfOk result (λ after. after ≡ (stays && is_none (octets_or_none (octets_at text.now)))) }
+{
+    if !stays {
+        return Ok(false);
+    }
+    let mut more = Vec::new(alloc);
+    match add_line(alloc, text, &mut more) {
+        Ok(()) => Ok(more.is_empty()),
+        Err(LineFault::Bad(_)) => Ok(true),
+        Err(LineFault::NoMemory) => Err(AllocError),
+    }
+}
+
+/// Whether lines stay as they are after a line.
+fn stays_after(alloc: Global, stays: bool, line: &[u8]) -> Result<bool, AllocError>
+    ensures { IfOk result (λ after. after ≡ stays_after stays (line_said line.now)) }
+{
+    match line_of(line) {
+        Line::Script(text) => stays_after_script(alloc, stays, text),
+        Line::Command(_) => Ok(true),
+        Line::Title(_)
+        | Line::Words(_)
+        | Line::Sent(_)
+        | Line::Shown(_)
+        | Line::Cause(_)
+        | Line::Reason(_)
+        | Line::Explained(_) => Ok(stays),
+    }
+}
+
+/// Writes the lines of a case anew that say what is sent or why an item is an error; all others as they are, and those
+/// after a command up to the next octets.
 fn renew(
     alloc: Global,
     conn: &mut Conn<'_, Global>,
     lines: &[&[u8]],
-    walk: &mut Walk<'_>,
+    walk: &mut Walk<'_, '_>,
     out: &mut Growing,
 ) -> Result<(), AllocError>
     requires ready { conn.old ≡ going conn.old.state [] }
     requires within { IsWithin walk.old }
     ensures { OnOk result ((start : Start) → Walks start walk.old conn.old
-        → Gains (renewed start (place_of walk.old) (map (λ l. l.now) lines.now)) out.old out.new) }
+        → Gains (renewed start (place_of walk.old) false (map (λ l. l.now) lines.now)) out.old out.new) }
 {
+    let mut stays = false;
     for (place, line) in lines.iter().enumerate() {
         let more = more_say_after(lines, place);
-        match walk.renew_line(alloc, conn, line, more, out) {
+        match walk.write_line(alloc, conn, line, stays, more, out) {
             Ok(()) => {}
+            Err(error) => return Err(error),
+        }
+        match stays_after(alloc, stays, line) {
+            Ok(after) => stays = after,
             Err(error) => return Err(error),
         }
     }
     Ok(())
 }
 
-impl<'t> Walk<'t> {
+impl<'t, 'b> Walk<'t, 'b> {
     /// Writes what is sent, and why the last item is an error, where one was taken after this many octets.
     fn tell(&mut self, alloc: Global, before: usize, out: &mut Growing) -> Result<(), AllocError>
-        ensures { OnOk result (Tells self.old.speaks (sent_lines (left_by self.old) ++ error_text (nat_lt before self.old.at) self.old.seen.cause)
+        ensures { OnOk result (Tells self.old.speaks (sent_lines (left_by self.old) ++ error_text (nat_lt before self.old.at) (sight_here self.old).cause)
             self.old self.new out.old out.new) }
     {
         match put_sent(alloc, self.unspoken(), out) {
             Ok(()) => {}
             Err(error) => return Err(error),
         }
-        self.spoken = self.seen.sent.len();
-        put_error(before < self.at, self.seen.cause, out);
+        self.spoken = self.sent().len();
+        put_error(before < self.at, self.cause(), out);
         Ok(())
     }
 
@@ -554,7 +661,7 @@ fn fill(
     alloc: Global,
     conn: &mut Conn<'_, Global>,
     lines: &[&[u8]],
-    walk: &mut Walk<'_>,
+    walk: &mut Walk<'_, '_>,
     out: &mut Growing,
 ) -> Result<(), AllocError>
     requires ready { conn.old ≡ going conn.old.state [] }
@@ -577,7 +684,7 @@ fn write_anew(
     alloc: Global,
     conn: &mut Conn<'_, Global>,
     lines: &[&[u8]],
-    walk: &mut Walk<'_>,
+    walk: &mut Walk<'_, '_>,
     out: &mut Growing,
 ) -> Result<(), AllocError>
     requires ready { conn.old ≡ going conn.old.state [] }
@@ -599,7 +706,7 @@ fn bless_on(
     lines: &[&[u8]],
 ) -> Result<Vec<u8>, AllocError>
     requires ready { conn.old ≡ going conn.old.state [] }
-    ensures text { let start : Start = record { state = conn.old.state; sent = sent.items; texts = [] } in
+    ensures text { (book : List Entry) (config : Config) → let start : Start = record { state = conn.old.state; sent = sent.items; texts = []; book = book; config = config } in
         IfOk result (λ text. text.items ≡ blessed_at start first_place (map (λ l. l.now) lines.now)) }
 {
     let mut walk = Walk::new(alloc, sent);
@@ -611,7 +718,7 @@ fn bless_on(
 }
 
 /// The lines of a case written anew, each with a line feed: with this book, these limits and these settings, lines `;<`
-/// and `;!` say what is sent and what is an error; all others stay. A case that has some keeps their places, and one that
+/// and `;!` say what is sent and what is an error; all others stay, and after a command all do up to the next octets. A case that has some keeps their places, and one that
 /// has none gets them after each line of the script that leads to such.
 ///
 /// # Errors

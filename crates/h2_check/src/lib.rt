@@ -6,6 +6,7 @@
 mod bless;
 mod case_words;
 mod cases;
+mod command;
 mod growing;
 mod item_texts;
 mod line;

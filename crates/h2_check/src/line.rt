@@ -23,7 +23,7 @@ pub enum Line<'t> {
     Reason(&'t [u8]),
     /// `;> LINE`: a line of `explain`.
     Explained(&'t [u8]),
-    /// `;& COMMAND`: a command of `debug`, which is not obeyed yet.
+    /// `;& COMMAND`: a command of `debug`.
     Command(&'t [u8]),
 }
 

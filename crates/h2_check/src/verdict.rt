@@ -9,6 +9,7 @@ ghost use Rattle.h2_check.specs.Lines.{line_said};
 ghost use Rattle.h2_check.specs.Walks.{outcome_by};
 ghost use Rattle.h2_check.specs.declared.verdict.CaseFault.TheVariants.{BadConfig, NoMemory};
 
+use crate::command::Given;
 use crate::item_texts::item_texts;
 use crate::walk::{Walk, check_lines};
 use h2_conn::{Conn, ConnFault};
@@ -47,23 +48,23 @@ pub enum CaseFault {
     NoMemory,
 }
 
-/// The verdict on a case whose connection is new, and of whose items these are the texts.
+/// The verdict on a case whose connection is new.
 fn check_on<'t>(
     alloc: Global,
     conn: &mut Conn<'_, Global>,
     sent: Vec<u8>,
-    texts: &[String],
+    given: &Given<'_, '_>,
     lines: &[&'t [u8]],
     number: usize,
 ) -> Result<Verdict<'t>, CaseFault>
     requires ready { conn.old ≡ going conn.old.state [] }
-    ensures verdict { let start : Start = record { state = conn.old.state; sent = sent.items; texts = map string_bytes texts.now } in
+    ensures verdict { let start : Start = record { state = conn.old.state; sent = sent.items; texts = map string_bytes given.now.texts.now; book = given.now.book.now; config = given.now.config } in
         IfOk result (λ verdict. outcome_by verdict
         ≡ outcome (all_hold start first_place (map line_said (map (λ l. l.now) lines.now))) (expect_something (map (λ l. l.now) lines.now))) }
     ensures fault { IfErr result (λ fault. fault ≡ NoMemory) }
 {
     let mut walk = Walk::new(alloc, sent);
-    match check_lines(alloc, conn, texts, lines, number, &mut walk) {
+    match check_lines(alloc, conn, given, lines, number, &mut walk) {
         Ok(()) => Ok(walk.into_verdict(lines)),
         Err(_) => Err(CaseFault::NoMemory),
     }
@@ -82,9 +83,14 @@ fn check_with<'t>(
     ensures allowed { OnOk result (is_allowed config ≡ true) }
     ensures fault { IfErr result (λ fault. (fault ≡ NoMemory) ⊎ ((fault ≡ BadConfig) × (is_allowed config ≡ false))) }
 {
+    let given = Given {
+        texts,
+        book,
+        config,
+    };
     let mut sent = Vec::new(alloc);
     match Conn::new(book, config, &mut sent) {
-        Ok(mut conn) => check_on(alloc, &mut conn, sent, texts, lines, number),
+        Ok(mut conn) => check_on(alloc, &mut conn, sent, &given, lines, number),
         Err(ConnFault::BadConfig) => Err(CaseFault::BadConfig),
         Err(_) => Err(CaseFault::NoMemory),
     }

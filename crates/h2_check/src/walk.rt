@@ -1,44 +1,52 @@
 //! The lines of a case, one after another: those of the script are played, and the others are compared with what is
-//! seen of the run so far. Definitions: `specs/Cases.antt`, `specs/Walks.antt`.
+//! seen of the run so far, or of the position of a debugger. Definitions: `specs/Cases.antt`, `specs/Walks.antt`.
 
-ghost use Rattle.std.specs.Prelude.{◌≡◌, ◌≤◌, ◌<◌, ◌^◌, ◌++◌, ◌&&◌, Bool, true, false, List, [], ℕ, length, drop, map, string_bytes, OnOk, IfOk};
+ghost use Rattle.std.specs.Prelude.{◌≡◌, ◌≤◌, ◌<◌, ◌^◌, ◌++◌, ◌&&◌, Bool, true, false, List, [], ℕ, length, drop, map, string_bytes, if◌then◌else◌, None, OnOk, IfOk};
 ghost use Rattle.h2_conn.specs.Connection.{going};
 ghost use Rattle.h2_spec.specs.Assemble.{statement_at};
 ghost use Rattle.h2_spec.specs.Show.{show};
 ghost use Rattle.h2_spec.specs.View.{view};
-ghost use Rattle.h2_check.specs.Cases.{Start, all_hold, cause_text, closes, errs, ignores, outcome, passed, plays, played, reason_text};
+ghost use Rattle.h2_check.specs.Cases.{Start, all_hold, cause_text, closes, errs, ignores, outcome, passed, plays, played, reason_text, sight_above};
+ghost use Rattle.h2_check.specs.Commands.{text_by};
 ghost use Rattle.h2_check.specs.Files.{expect_something};
 ghost use Rattle.h2_check.specs.Frames.{is_next, is_none, octets_at, sends, spoken_by};
 ghost use Rattle.h2_check.specs.ItemTexts.{text_before};
+ghost use Rattle.h2_check.specs.Lines as said;
 ghost use Rattle.h2_check.specs.Lines.{line_said, said_by, Said};
 ghost use Rattle.h2_check.specs.Seen.{no_item, seen_by};
 ghost use Rattle.h2_check.specs.Texts.{explains, shows};
-ghost use Rattle.h2_check.specs.Walks.{Closes, Compares, Finds, Goes, IsWithin, Passes, Speaks, Walks, outcome_by, place_of};
+ghost use Rattle.h2_check.specs.Walks.{Begins, Closes, Commands, Compares, Finds, Goes, IsWithin, Leaves, Loads, Passes, Speaks, Walks, left_by, outcome_by, place_of, sent_here, sight_here};
 
 use crate::cases::expect_something;
+use crate::command::{Given, debugger_over, fault_line, give_line, is_obeyed};
 use crate::item_texts::text_before;
 use crate::line::{Line, line_of};
 use crate::pattern::{closest, explains, shows};
 use crate::run::{Seen, take_items};
 use crate::verdict::{Verdict, Wrong};
 use h2_conn::Conn;
+use h2_debug::Debugger;
 use h2_describe::sent::next_frame;
+use h2_device::string_of;
 use h2_script::{LineFault, SyntaxKind, add_line, disassemble};
+use h2_session::{Reply, ReplyText};
 use h2_spec::causes::Cause;
 use h2_spec::ignored::Ignored;
 use std::alloc::{AllocError, Global};
 use std::str;
 
 /// How far the lines of a case have got.
-pub(crate) struct Walk<'t> {
+pub(crate) struct Walk<'t, 'b> {
     /// The octets of the lines of the script.
     pub octets: Vec<u8>,
     /// How many of them were taken as items.
     pub at: usize,
     pub seen: Seen,
-    /// How many of the octets sent lines have spoken about.
+    /// The debugger, where a command came after the octets.
+    pub debugger: Option<Debugger<'b, Global>>,
+    /// How many of the octets sent lines have spoken about; with a debugger, of those for the item of its position.
     pub spoken: usize,
-    /// Whether a line has spoken about them since the last octets, and the number of that line.
+    /// Whether a line has spoken about them since the last octets or the last command, and the number of that line.
     pub speaks: bool,
     speaker: usize,
     /// Whether all lines hold.
@@ -48,12 +56,13 @@ pub(crate) struct Walk<'t> {
 }
 
 /// By hand, so that a function that drops a walk makes one call.
-impl<'t> Drop for Walk<'t> {
+impl<'t, 'b> Drop for Walk<'t, 'b> {
     fn drop(self) {
         let Self {
             octets: _,
             at: _,
             seen: _,
+            debugger: _,
             spoken: _,
             speaks: _,
             speaker: _,
@@ -130,12 +139,13 @@ fn first_line(alloc: Global, octets: &[u8]) -> Result<String, AllocError> {
     }
 }
 
-impl<'t> Walk<'t> {
+impl<'t, 'b> Walk<'t, 'b> {
     /// No line yet, of a connection for which these octets were sent.
-    pub(crate) fn new(alloc: Global, sent: Vec<u8>) -> Walk<'t>
+    pub(crate) fn new(alloc: Global, sent: Vec<u8>) -> Walk<'t, 'b>
         ensures octets { (result.octets.items ≡ []) × (result.at ≡ 0) }
         ensures seen { seen_by result.seen ≡ no_item sent.items }
         ensures place { (result.spoken ≡ 0) × (result.speaks ≡ false) }
+        ensures debugger { result.debugger ≡ None }
         ensures holds { result.holds ≡ true }
     {
         Walk {
@@ -148,6 +158,7 @@ impl<'t> Walk<'t> {
                 cause: None,
                 ignored: None,
             },
+            debugger: None,
             spoken: 0,
             speaks: false,
             speaker: 0,
@@ -164,6 +175,7 @@ impl<'t> Walk<'t> {
             octets: _,
             at: _,
             seen: _,
+            debugger: _,
             spoken: _,
             speaks: _,
             speaker: _,
@@ -224,11 +236,23 @@ impl<'t> Walk<'t> {
         self.refuse(line, wanted, String::from_str(alloc, words))
     }
 
-    /// The octets that were sent and that no line has spoken about.
-    pub(crate) fn unspoken(&self) -> &[u8]
-        ensures { result.now ≡ drop self.now.spoken self.now.seen.sent.items }
+    /// The octets that were sent, of which lines speak: those for all items, or for the item of a debugger's position.
+    pub(crate) fn sent(&self) -> &[u8]
+        ensures octets { result.now ≡ sent_here self.now }
+        ensures few { length (sent_here self.now) < 2 ^ 64 }
     {
-        left_from(self.seen.sent.as_slice(), self.spoken)
+        match &self.debugger {
+            Some(debugger) => debugger.sent(),
+            None => self.seen.sent.as_slice(),
+        }
+    }
+
+    /// Those of them that no line has spoken about.
+    pub(crate) fn unspoken(&self) -> &[u8]
+        ensures octets { result.now ≡ left_by self.now }
+        ensures few { length (sent_here self.now) < 2 ^ 64 }
+    {
+        left_from(self.sent(), self.spoken)
     }
 
     /// Refuses the first frame that is left, where one is: no other may be sent.
@@ -238,18 +262,18 @@ impl<'t> Walk<'t> {
         number: usize,
         wanted: &'t [u8],
     ) -> Result<(), AllocError>
-        ensures { OnOk result (Finds (is_none (drop self.old.spoken self.old.seen.sent.items)) self.old self.new) }
+        ensures { OnOk result (Finds (is_none (left_by self.old)) self.old self.new) }
     {
         if self.unspoken().is_empty() {
             return Ok(());
         }
         let found = first_line(alloc, self.unspoken());
-        self.spoken = self.seen.sent.len();
+        self.spoken = self.sent().len();
         self.refuse(number, wanted, found)
     }
 }
 
-impl<'t> Walk<'t> {
+impl<'t, 'b> Walk<'t, 'b> {
     /// More octets come, or the case ends. Where a line has spoken about what was sent since the last octets, nothing
     /// else may have been sent; what was sent before the first octets counts only where a line has spoken about it.
     fn close(&mut self, alloc: Global) -> Result<(), AllocError>
@@ -260,9 +284,19 @@ impl<'t> Walk<'t> {
             return self.expect_none(alloc, self.speaker, b"-");
         }
         if self.octets.is_empty() {
-            self.spoken = self.seen.sent.len();
+            self.spoken = self.sent().len();
         }
         Ok(())
+    }
+
+    /// Where there is a debugger it ends: what was sent before is not looked at any more.
+    pub(crate) fn leave(&mut self)
+        ensures { Leaves self.old self.new }
+    {
+        if self.debugger.is_some() {
+            self.debugger = None;
+            self.spoken = self.seen.sent.len();
+        }
     }
 
     /// More octets of the client: the items that they complete are taken.
@@ -278,6 +312,7 @@ impl<'t> Walk<'t> {
         ensures walks { OnOk result ((start : Start) → Walks start self.old conn.old → Walks start self.new conn.new) }
         ensures octets { OnOk result (self.new.octets.items ≡ self.old.octets.items ++ more.now) }
         ensures place { (self.new.spoken ≡ self.old.spoken) × (self.new.speaks ≡ self.old.speaks) }
+        ensures debugger { self.new.debugger ≡ self.old.debugger }
         ensures holds { self.new.holds ≡ self.old.holds }
     {
         self.octets.extend_from_slice(more)?;
@@ -304,9 +339,11 @@ impl<'t> Walk<'t> {
             return Ok(());
         }
         match self.close(alloc) {
-            Ok(()) => self.feed(conn, more),
-            Err(error) => Err(error),
+            Ok(()) => {}
+            Err(error) => return Err(error),
         }
+        self.leave();
+        self.feed(conn, more)
     }
 
     /// A line of the script.
@@ -391,13 +428,26 @@ impl<'t> Walk<'t> {
         self.speaks = true;
         self.speaker = number;
         if text == b"...".as_slice() {
-            self.spoken = self.seen.sent.len();
+            self.spoken = self.sent().len();
             return Ok(());
         }
         if text == b"-".as_slice() {
             return self.expect_none(alloc, number, text);
         }
         self.expect_frame(alloc, number, text)
+    }
+
+    /// The text of the state; with a debugger what `show` prints at its position.
+    fn shown(&self, alloc: Global, conn: &Conn<'_, Global>) -> Result<String, AllocError>
+        ensures { IfOk result (λ text. string_bytes text ≡ text_by self.now.debugger (show (view conn.now.state))) }
+    {
+        match &self.debugger {
+            Some(debugger) => {
+                let reply = Reply::Shown;
+                string_of(alloc, &ReplyText { reply, debugger })
+            }
+            None => conn.show(alloc),
+        }
     }
 
     /// A line of the state, or `! ` and one that it has not.
@@ -408,9 +458,9 @@ impl<'t> Walk<'t> {
         number: usize,
         text: &'t [u8],
     ) -> Result<(), AllocError>
-        ensures { OnOk result (Finds (shows (show (view conn.now.state)) text.now) self.old self.new) }
+        ensures { OnOk result (Finds (shows (text_by self.old.debugger (show (view conn.now.state))) text.now) self.old self.new) }
     {
-        let state = match conn.show(alloc) {
+        let state = match self.shown(alloc, conn) {
             Ok(state) => state,
             Err(error) => return Err(error),
         };
@@ -419,6 +469,115 @@ impl<'t> Walk<'t> {
         self.find(alloc, shows(shown, text), number, text, found)
     }
 
+    /// Why the first error is one; with a debugger why the item of its position is one.
+    pub(crate) fn first_cause(&self) -> Option<Cause>
+        ensures { result ≡ (sight_here self.now).first }
+    {
+        match &self.debugger {
+            Some(debugger) => debugger.cause(),
+            None => self.seen.first,
+        }
+    }
+
+    /// Why the item before is an error.
+    pub(crate) fn cause(&self) -> Option<Cause>
+        ensures { result ≡ (sight_here self.now).cause }
+    {
+        match &self.debugger {
+            Some(debugger) => debugger.cause(),
+            None => self.seen.cause,
+        }
+    }
+
+    /// Why the item before is an error; for a dash why any item is one.
+    fn cause_for(&self, is_dash: bool) -> Option<Cause>
+        ensures { result ≡ (if is_dash then (sight_here self.now).first else (sight_here self.now).cause) }
+    {
+        if is_dash {
+            return self.first_cause();
+        }
+        self.cause()
+    }
+
+    /// Why the item before is ignored.
+    fn ignored(&self) -> Option<Ignored>
+        ensures { result ≡ (sight_here self.now).ignored }
+    {
+        match &self.debugger {
+            Some(debugger) => debugger.ignored(),
+            None => self.seen.ignored,
+        }
+    }
+
+    /// How many items there are up to the place.
+    fn items(&self) -> usize
+        ensures { result ≡ (sight_here self.now).items }
+    {
+        match &self.debugger {
+            Some(debugger) => debugger.pos(),
+            None => self.seen.items,
+        }
+    }
+}
+
+impl<'t, 'b> Walk<'t, 'b> {
+    /// Loads the octets of the lines above into a debugger, where there is none.
+    fn load(&mut self, given: &Given<'_, 'b>) -> Result<(), AllocError>
+        ensures { OnOk result (Loads given.now self.old self.new) }
+    {
+        if self.debugger.is_some() {
+            return Ok(());
+        }
+        match debugger_over(given, &self.octets) {
+            Ok(debugger) => {
+                self.debugger = Some(debugger);
+                Ok(())
+            }
+            Err(error) => Err(error),
+        }
+    }
+
+    /// Gives the debugger a line, and says with which fault it is refused, if it is. Nothing is spoken about then.
+    fn give(&mut self, given: &Given<'_, 'b>, line: &[u8]) -> Result<Option<u8>, AllocError>
+        ensures { IfOk result (λ fault. Commands given.now line.now fault self.old self.new) }
+    {
+        match self.load(given) {
+            Ok(()) => {}
+            Err(error) => return Err(error),
+        }
+        self.spoken = 0;
+        match &mut self.debugger {
+            Some(debugger) => give_line(debugger, line),
+            None => Err(AllocError),
+        }
+    }
+
+    /// A command of the debugger, which has to be one and not to be refused.
+    fn command(
+        &mut self,
+        alloc: Global,
+        given: &Given<'_, 'b>,
+        number: usize,
+        text: &'t [u8],
+    ) -> Result<(), AllocError>
+        ensures same { OnOk result ((self.new.octets ≡ self.old.octets) × ((self.new.at ≡ self.old.at) × (self.new.seen ≡ self.old.seen))) }
+        ensures goes { OnOk result ((start : Start) → Begins start given.now → seen_by self.old.seen ≡ sight_above start (place_of self.old)
+            → Passes start (said.Command text.now) self.old self.new) }
+    {
+        match self.close(alloc) {
+            Ok(()) => {}
+            Err(error) => return Err(error),
+        }
+        let fault = match self.give(given, text) {
+            Ok(fault) => fault,
+            Err(error) => return Err(error),
+        };
+        let found = fault_line(fault).as_bytes();
+        self.find(alloc, is_obeyed(fault), number, text, found)
+    }
+}
+
+impl<'t, 'b> Walk<'t, 'b> {
     /// Why the item before is an error; a dash: no item so far is one.
     fn expect_cause(
         &mut self,
@@ -426,15 +585,10 @@ impl<'t> Walk<'t> {
         number: usize,
         text: &'t [u8],
     ) -> Result<(), AllocError>
-        ensures { OnOk result (Finds (errs (seen_by self.old.seen) text.now) self.old self.new) }
+        ensures { OnOk result (Finds (errs (sight_here self.old) text.now) self.old self.new) }
     {
-        let none = text == b"-".as_slice();
-        let cause = if none {
-            self.seen.first
-        } else {
-            self.seen.cause
-        };
-        let found = cause_name(cause).as_bytes();
+        let is_dash = text == b"-".as_slice();
+        let found = cause_name(self.cause_for(is_dash)).as_bytes();
         self.find(alloc, text == found, number, text, found)
     }
 
@@ -445,9 +599,9 @@ impl<'t> Walk<'t> {
         number: usize,
         text: &'t [u8],
     ) -> Result<(), AllocError>
-        ensures { OnOk result (Finds (ignores (seen_by self.old.seen) text.now) self.old self.new) }
+        ensures { OnOk result (Finds (ignores (sight_here self.old) text.now) self.old self.new) }
     {
-        let found = reason_name(self.seen.ignored).as_bytes();
+        let found = reason_name(self.ignored()).as_bytes();
         self.find(alloc, text == found, number, text, found)
     }
 
@@ -459,9 +613,9 @@ impl<'t> Walk<'t> {
         number: usize,
         text: &'t [u8],
     ) -> Result<(), AllocError>
-        ensures { OnOk result (Finds (explains (text_before (map string_bytes texts.now) self.old.seen.items) text.now) self.old self.new) }
+        ensures { OnOk result (Finds (explains (text_before (map string_bytes texts.now) (sight_here self.old).items) text.now) self.old self.new) }
     {
-        let said = text_before(texts, self.seen.items).as_bytes();
+        let said = text_before(texts, self.items()).as_bytes();
         let found = closest(said, line_in(text));
         self.find(alloc, explains(said, text), number, text, found)
     }
@@ -471,7 +625,7 @@ impl<'t> Walk<'t> {
         &mut self,
         alloc: Global,
         conn: &mut Conn<'_, Global>,
-        texts: &[String],
+        given: &Given<'_, 'b>,
         number: usize,
         line: &'t [u8],
     ) -> Result<(), AllocError>
@@ -480,7 +634,7 @@ impl<'t> Walk<'t> {
         ensures ready { conn.new ≡ going conn.new.state [] }
         ensures within { OnOk result (IsWithin self.new) }
         ensures walks { OnOk result ((start : Start) → Walks start self.old conn.old → Walks start self.new conn.new) }
-        ensures goes { OnOk result ((start : Start) → start.texts ≡ map string_bytes texts.now → Walks start self.old conn.old
+        ensures goes { OnOk result ((start : Start) → Begins start given.now → Walks start self.old conn.old
             → Passes start (line_said line.now) self.old self.new) }
     {
         match line_of(line) {
@@ -490,11 +644,8 @@ impl<'t> Walk<'t> {
             Line::Shown(text) => self.expect_shown(alloc, conn, number, text),
             Line::Cause(text) => self.expect_cause(alloc, number, text),
             Line::Reason(text) => self.expect_reason(alloc, number, text),
-            Line::Explained(text) => self.expect_explained(alloc, texts, number, text),
-            Line::Command(text) => {
-                let found = b"lines `;& ` are not obeyed by this version";
-                self.find(alloc, false, number, text, found)
-            }
+            Line::Explained(text) => self.expect_explained(alloc, given.texts, number, text),
+            Line::Command(text) => self.command(alloc, given, number, text),
         }
     }
 }
@@ -507,25 +658,24 @@ fn line_in(text: &[u8]) -> &[u8] {
     }
 }
 
-/// Goes over the lines of a case, the first of which has this number in the file, and of whose items these are the
-/// texts.
+/// Goes over the lines of a case, the first of which has this number in the file.
 ///
 /// `AllocError` where memory is refused.
-pub(crate) fn check_lines<'t>(
+pub(crate) fn check_lines<'t, 'b>(
     alloc: Global,
     conn: &mut Conn<'_, Global>,
-    texts: &[String],
+    given: &Given<'_, 'b>,
     lines: &[&'t [u8]],
     number: usize,
-    walk: &mut Walk<'t>,
+    walk: &mut Walk<'t, 'b>,
 ) -> Result<(), AllocError>
     requires ready { conn.old ≡ going conn.old.state [] }
     requires within { IsWithin walk.old }
-    ensures { OnOk result ((start : Start) → start.texts ≡ map string_bytes texts.now → Walks start walk.old conn.old
+    ensures { OnOk result ((start : Start) → Begins start given.now → Walks start walk.old conn.old
         → walk.new.holds ≡ (walk.old.holds && all_hold start (place_of walk.old) (map (λ l. line_said l.now) lines.now))) }
 {
     for (place, line) in lines.iter().enumerate() {
-        match walk.take_line(alloc, conn, texts, number.saturating_add(place), line) {
+        match walk.take_line(alloc, conn, given, number.saturating_add(place), line) {
             Ok(()) => {}
             Err(error) => return Err(error),
         }

@@ -11,5 +11,5 @@ invariant-loop-place l = record {
   within : IsWithin l.walk;
   walks : (start : Start) → Walks start l.fn.walk l.fn.conn → Walks start l.walk l.conn;
   text : (start : Start) → Walks start l.fn.walk l.fn.conn → l.out.refused ≡ false
-      → (l.fn.out.refused ≡ false) × (l.out.octets.items ++ renewed start (place_of l.walk) (map (λ t. t.now) (drop l.place l.lines)) ≡ l.fn.out.octets.items ++ renewed start (place_of l.fn.walk) (map (λ t. t.now) l.lines));
+      → (l.fn.out.refused ≡ false) × (l.out.octets.items ++ renewed start (place_of l.walk) l.stays (map (λ t. t.now) (drop l.place l.lines)) ≡ l.fn.out.octets.items ++ renewed start (place_of l.fn.walk) false (map (λ t. t.now) l.lines));
 }

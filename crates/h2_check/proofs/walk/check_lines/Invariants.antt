@@ -1,9 +1,8 @@
 use Rattle.std.proofs.Common.{◌≡◌, ◌≤◌, ◌&&◌, [], drop, length, map}
-use Rattle.std.specs.String.{string_bytes}
 use Rattle.h2_conn.specs.Connection.{going}
 use Rattle.h2_check.specs.Cases.{Start, all_hold}
 use Rattle.h2_check.specs.Lines.{line_said}
-use Rattle.h2_check.specs.Walks.{IsWithin, Walks, place_of}
+use Rattle.h2_check.specs.Walks.{Begins, IsWithin, Walks, place_of}
 use Rattle.h2_check.proofs.walk.check_lines.Given as goal
 
 abbrev pub invariant-loop-place : goal.invariant-loop-place
@@ -11,7 +10,7 @@ invariant-loop-place l = record {
   ready : l.conn ≡ going l.conn.state [];
   within : IsWithin l.walk;
   walks : (start : Start) → Walks start l.fn.walk l.fn.conn → Walks start l.walk l.conn;
-  holds : (start : Start) → start.texts ≡ map string_bytes l.texts → Walks start l.fn.walk l.fn.conn
+  holds : (start : Start) → Begins start l.given → Walks start l.fn.walk l.fn.conn
       → (l.walk.holds && all_hold start (place_of l.walk) (map (λ t. line_said t.now) (drop l.place l.lines)))
       ≡ (l.fn.walk.holds && all_hold start (place_of l.fn.walk) (map (λ t. line_said t.now) l.lines));
 }
