@@ -64,7 +64,7 @@ line_given d after text command reply fault is (inl x) said few well = (
 )
 line_given d after text command reply fault is (inr x) said few well =
     let small = subst (λ (f : Option ℕ). IfSome f (λ n. n < 256)) said few in
-    absurd (true≢false (sym (memory_is after reply small x.1.0) ∙ ap is_memory_fault (sym said) ∙ well))
+    absurd (true≢false (sym (memory_is after reply small x.1) ∙ ap is_memory_fault (sym said) ∙ well))
 
 -- ---- the debugger of a walk
 
