@@ -1,16 +1,16 @@
 -- A walk that writes a case anew, in the words of the definitions.
-use Rattle.std.proofs.Common.{◌≡◌, ◌∙◌, ◌≤◌, ◌+◌, ◌-◌, ◌++◌, ◌&&◌, ◌==◌, ℕ, nat_lt, Bool, true, false, not, cond, List, [], ◌∷◌, Option, Some, None, is_some, length, drop, length-drop, refl, sym, ap, ap₂, subst, append_assoc, arith}
+use Rattle.std.proofs.Common.{◌≡◌, ◌∙◌, ◌++◌, ◌==◌, ℕ, nat_lt, Bool, true, false, cond, List, [], ◌∷◌, Option, Some, None, length, length-drop, refl, sym, ap, ap₂, subst, append_assoc, arith}
 use Rattle.std.proofs.lemmas.List.{append-nil}
 use Rattle.h2_conn.specs.Connection.{Connection}
 use Rattle.h2_spec.specs.declared.causes.Cause.{Cause}
 use Rattle.h2_debug.specs.Debugging.{Debugging}
-use Rattle.h2_check.specs.Blessed.{blessed_at, error_text, filled, filled_line, filled_place, filled_place_script, filled_script, held_place, held_text, kept_line, left_place, left_text, more_say, outcome_text, renewed, renewed_cause, renewed_line, renewed_place, renewed_sent, renewed_sent_place, sent_lines, stays_after, taken_at, told_place, written_line, written_place}
+use Rattle.h2_check.specs.Blessed.{blessed_at, error_text, filled, filled_line, filled_place, filled_place_script, filled_script, held_place, held_text, kept_line, left_place, left_text, more_say, outcome_text, renewed, renewed_cause, renewed_sent, renewed_sent_place, sent_lines, stays_after, taken_at, told_place, written_line, written_place}
 use Rattle.h2_check.specs.Cases.{Place, Start, first_place, played, sight_above, sight_at, unspoken}
-use Rattle.h2_check.specs.Frames.{is_none, sends, spoken_by}
+use Rattle.h2_check.specs.Frames.{sends, spoken_by}
 use Rattle.h2_check.specs.Lines.{line_said}
-use Rattle.h2_check.specs.Seen.{Sight, seen_by, sight_by}
+use Rattle.h2_check.specs.Seen.{Sight, seen_by}
 use Rattle.h2_check.specs.Tap.{Gains}
-use Rattle.h2_check.specs.Walks.{Keeps, Leaves, Lets, Tells, Walks, Writes, left_by, place_of, sent_here, sight_here}
+use Rattle.h2_check.specs.Walks.{Keeps, Leaves, Lets, Tells, Walks, Writes, left_by, place_of, sight_here}
 use Rattle.h2_check.specs.declared.growing.Growing.{Growing}
 use Rattle.h2_check.specs.declared.walk.Walk.{Walk}
 use Rattle.h2_check.proofs.Gains.{gains_both}

@@ -2,7 +2,7 @@
 use Rattle.std.proofs.Common.{◌≡◌, ◌∙◌, ◌+◌, ◌<◌, ◌≤◌, ◌&&◌, ℕ, suc, Bool, true, false, not, cond, ltb, is_some, Bor, List, [], ◌∷◌, length, map, take, drop, refl, sym, ap, ap₂, arith, length-drop}
 use Rattle.std.proofs.lemmas.List.{drop-drop, drop-map, drop_all, length-map, take-map}
 use Rattle.std.proofs.lemmas.Bool.{le-ltb, lt-ltb}
-use Rattle.std.specs.List.{list_all, position_or_len, prefix_len}
+use Rattle.std.specs.List.{list_all, position_or_len}
 use Rattle.h2_check.specs.Files.{case_length, cases_from, in_front, is_silent_line, preamble_length, title_in}
 use Rattle.h2_check.specs.Lines.{begins, line_said}
 

@@ -1,20 +1,19 @@
 -- Commands of a debugger in a case, in the words of the definitions.
-use Rattle.std.proofs.Common.{◌≡◌, ◌∙◌, ◌⊎◌, ◌&&◌, ◌==◌, ◌<◌, ℕ, Bool, true, false, true≢false, not, List, Option, Some, None, IfSome, is_some, drop, refl, sym, ap, ap₂, subst, eq-eqb, inl, inr, arith}
+use Rattle.std.proofs.Common.{◌≡◌, ◌∙◌, ◌&&◌, ◌<◌, ℕ, Bool, true, false, true≢false, not, List, Option, Some, None, IfSome, is_some, drop, refl, sym, ap, ap₂, subst, eq-eqb, inl, inr, arith}
 use Rattle.std.specs.Prelude.{codes, decimal}
 use Rattle.std.proofs.lemmas.Fmt.{decimal_injective}
 use Rattle.std.proofs.lemmas.List.{append_cancel_right}
 use Rattle.h2_debug.specs.Debugging.{Debugging}
 use Rattle.h2_debug.specs.Places.{at, cause_at, ignored_at}
 use Rattle.h2_session.specs.Commands.{Command, command_of}
-use Rattle.h2_session.specs.Replies.{Answer, Obeys, answer, fault_line, number_line, place_text, reply_text}
-use Rattle.h2_session.specs.Session.{loaded}
+use Rattle.h2_session.specs.Replies.{Obeys, answer, fault_line, number_line, place_text, reply_text}
 use Rattle.h2_session.specs.declared.reply.Reply.{Reply}
 use Rattle.h2_session.specs.declared.reply.Reply.TheVariants as code
 use Rattle.h2_spec.specs.State.{ended_code}
 use Rattle.h2_spec.specs.declared.causes.Cause.{Cause}
 use Rattle.h2_spec.specs.declared.ignored.Ignored.{Ignored}
 use Rattle.h2_why.specs.Why.{error_lines, ignored_lines, why_lines}
-use Rattle.h2_check.specs.Cases.{Start, closes, commanded, debugger_at, sight_above}
+use Rattle.h2_check.specs.Cases.{Start, closes, debugger_at, sight_above}
 use Rattle.h2_check.specs.Commands.{answered, debugger_or, fault_in, is_memory_fault, is_refusal}
 use Rattle.h2_check.specs.Lines as line
 use Rattle.h2_check.specs.Seen.{seen_by}
@@ -64,7 +63,7 @@ line_given d after text command reply fault is (inl x) said few well = (
 )
 line_given d after text command reply fault is (inr x) said few well =
     let small = subst (λ (f : Option ℕ). IfSome f (λ n. n < 256)) said few in
-    absurd (true≢false (sym (memory_is after reply small x.1.0) ∙ ap is_memory_fault (sym said) ∙ well))
+    absurd (true≢false (sym (memory_is after reply small x.1) ∙ ap is_memory_fault (sym said) ∙ well))
 
 -- ---- the debugger of a walk
 

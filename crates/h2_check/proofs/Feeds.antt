@@ -1,11 +1,11 @@
 -- More octets after those of a run: what is seen then.
-use Rattle.std.proofs.Common.{◌≡◌, ◌∙◌, ◌++◌, ◌+◌, ◌<◌, ◌≤◌, ℕ, zero, suc, List, [], ◌∷◌, length, drop, refl, sym, ap, ap₂, arith, length-drop}
+use Rattle.std.proofs.Common.{◌≡◌, ◌∙◌, ◌++◌, ◌≤◌, ℕ, zero, suc, List, [], ◌∷◌, length, drop, refl, sym, ap, ap₂, arith, length-drop}
 use Rattle.std.proofs.lemmas.List.{drop-append-le}
 use Rattle.h2_spec.specs.Frame.{Next, NoItem, Got}
 use Rattle.h2_spec.specs.Parse.{Front, Stop, One, Parsed, parse_all}
 use Rattle.h2_spec.specs.State.{State}
 use Rattle.h2_spec.specs.Trace.{Event, event_on, next_event, next_item, trace}
-use Rattle.h2_spec.proofs.ParseLaws.{Uses, parse_all-step}
+use Rattle.h2_spec.proofs.ParseLaws.{Uses}
 use Rattle.h2_spec.proofs.TraceLaws.{event-uses, events-append}
 use Rattle.h2_check.specs.Seen.{Sight, no_item, sight, with_item, with_items}
 use Rattle.h2_check.proofs.Items.{front}

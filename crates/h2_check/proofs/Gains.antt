@@ -1,5 +1,5 @@
 -- A text that gained one part and then another.
-use Rattle.std.proofs.Common.{◌≡◌, ◌∙◌, ◌++◌, false, List, ℕ, sym, ap, append_assoc}
+use Rattle.std.proofs.Common.{◌∙◌, ◌++◌, List, ℕ, ap, append_assoc}
 use Rattle.h2_check.specs.Tap.{Gains, GainsSome}
 use Rattle.h2_check.specs.declared.growing.Growing.{Growing}
 

@@ -1,13 +1,13 @@
 -- What a walk has found over a line, in the words of the definitions.
-use Rattle.std.proofs.Common.{◌≡◌, ◌∙◌, ◌≤◌, ◌+◌, ◌++◌, ◌&&◌, ◌||◌, ◌==◌, ℕ, Bool, true, false, not, cond, List, [], ◌∷◌, Option, Some, None, is_some, length, drop, map, refl, sym, ap, ap₂, subst, arith, Bor}
+use Rattle.std.proofs.Common.{◌≡◌, ◌∙◌, ◌++◌, ◌&&◌, ◌||◌, ◌==◌, ℕ, Bool, true, false, not, cond, List, [], ◌∷◌, Option, Some, None, is_some, length, drop, map, refl, sym, ap, ap₂, subst, arith, Bor}
 use Rattle.h2_conn.specs.Connection.{Connection, going}
-use Rattle.h2_spec.specs.Parse.{Parsed, parse_all}
+use Rattle.h2_spec.specs.Parse.{parse_all}
 use Rattle.h2_spec.specs.State.{State}
 use Rattle.h2_spec.specs.Show.{show}
-use Rattle.h2_spec.specs.Trace.{Event, next_event, trace}
+use Rattle.h2_spec.specs.Trace.{trace}
 use Rattle.h2_spec.specs.View.{view}
 use Rattle.h2_debug.specs.Debugging.{Debugging}
-use Rattle.h2_check.specs.Cases.{Place, Start, all_hold, behind, closes, errs, first_place, holds, ignores, passed, played, plays, sight_above, sight_at, text_at, unspoken}
+use Rattle.h2_check.specs.Cases.{Start, all_hold, closes, errs, first_place, ignores, passed, played, plays, sight_above, sight_at, unspoken}
 use Rattle.h2_check.specs.Commands.{text_by}
 use Rattle.h2_check.specs.Frames.{is_none, sends, spoken_by}
 use Rattle.h2_check.specs.ItemTexts.{text_before}

@@ -1,5 +1,5 @@
 -- The next item of a run, and what is seen of it.
-use Rattle.std.proofs.Common.{◌≡◌, ◌∙◌, ◌++◌, ◌+◌, ◌<◌, ◌≤◌, ℕ, List, [], ◌∷◌, Option, Some, None, length, drop, refl, sym, ap, subst, arith, length-drop}
+use Rattle.std.proofs.Common.{◌≡◌, ◌∙◌, ◌++◌, ◌+◌, ◌<◌, ◌≤◌, ℕ, List, ◌∷◌, Option, Some, length, drop, refl, sym, ap, subst, arith, length-drop}
 use Rattle.std.proofs.lemmas.List.{drop-drop}
 use Rattle.h2_spec.specs.Effect.{cause_of}
 use Rattle.h2_spec.specs.Frame.{Item, Next, NoItem, Got, frames_octets}

@@ -1,6 +1,6 @@
 -- The texts of items, one after another.
-use Rattle.std.proofs.Common.{◌≡◌, ◌∙◌, ◌+◌, ◌-◌, ◌<◌, ◌≤◌, ◌++◌, ℕ, zero, suc, List, [], ◌∷◌, Option, Some, None, length, get_or, map, drop, refl, sym, ap, subst, append_assoc, length-append, arith}
-use Rattle.std.proofs.lemmas.List.{append-nil, drop-drop, get_or-map, get_or_past, length-map}
+use Rattle.std.proofs.Common.{◌≡◌, ◌∙◌, ◌+◌, ◌-◌, ◌<◌, ◌≤◌, ◌++◌, ℕ, zero, suc, List, [], ◌∷◌, length, get_or, map, drop, refl, sym, ap, subst, append_assoc, length-append, arith}
+use Rattle.std.proofs.lemmas.List.{append-nil, drop-drop, get_or-map, get_or_past}
 use Rattle.std.specs.String.{string_bytes}
 use Rattle.std.specs.declared.alloc.Global.{Global}
 use Rattle.std.specs.declared.string.String.{String}

@@ -1,5 +1,5 @@
 -- A case written anew: what it says of frames that are sent, and of errors, is replaced by what the run of its octets has.
-use Rattle.std.specs.Prelude.{ℕ, ◌-◌, nat_lt, Bool, true, false, ◌||◌, ◌&&◌, not, List, [], ◌∷◌, ◌++◌, length, drop, flat_map, codes, if◌then◌else◌, Option, Some, None}
+use Rattle.std.specs.Prelude.{ℕ, ◌-◌, nat_lt, Bool, true, false, ◌||◌, ◌&&◌, not, List, [], ◌∷◌, ◌++◌, length, flat_map, codes, if◌then◌else◌, Option, Some, None}
 use Rattle.std.specs.List.{list_any}
 use Rattle.std.specs.Str.{bytes_eq}
 use Rattle.h2_spec.specs.Answer.{Entry}
@@ -15,7 +15,6 @@ use Rattle.h2_check.specs.Frames.{is_none, octets_at, sends, spoken_by}
 use Rattle.h2_check.specs.ItemTexts.{octets_or_none}
 use Rattle.h2_check.specs.Lines as line
 use Rattle.h2_check.specs.Lines.{Said, line_said}
-use Rattle.h2_check.specs.Seen.{Sight}
 
 -- ---- the lines that are written
 

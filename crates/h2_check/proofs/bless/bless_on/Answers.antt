@@ -1,6 +1,4 @@
 use Rattle.std.proofs.Common.{List, [], ℕ, map}
-use Rattle.h2_spec.specs.Answer.{Entry}
-use Rattle.h2_spec.specs.declared.connection.Config.{Config}
 use Rattle.std.proofs.lemmas.Result.{IfOk-weaker}
 use Rattle.h2_check.specs.Cases.{Start}
 use Rattle.h2_check.proofs.Blessing.{whole}

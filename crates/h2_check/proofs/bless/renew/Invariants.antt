@@ -1,4 +1,4 @@
-use Rattle.std.proofs.Common.{◌≡◌, ◌≤◌, ◌++◌, [], false, drop, length, map}
+use Rattle.std.proofs.Common.{◌≡◌, ◌++◌, [], false, drop, map}
 use Rattle.h2_conn.specs.Connection.{going}
 use Rattle.h2_check.specs.Blessed.{renewed}
 use Rattle.h2_check.specs.Cases.{Start}

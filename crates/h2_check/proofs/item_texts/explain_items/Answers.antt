@@ -1,4 +1,4 @@
-use Rattle.std.proofs.Common.{◌≡◌, ℕ, List, map, drop, subst, sym, arith}
+use Rattle.std.proofs.Common.{◌≡◌, ℕ, map, drop, subst, sym, arith}
 use Rattle.std.specs.String.{string_bytes}
 use Rattle.h2_spec.specs.Parse.{One}
 use Rattle.h2_spec.specs.Trace.{next_event}

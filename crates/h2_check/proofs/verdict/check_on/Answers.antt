@@ -1,4 +1,4 @@
-use Rattle.std.proofs.Common.{◌≡◌, ◌∙◌, Bool, List, ℕ, ap, map, refl}
+use Rattle.std.proofs.Common.{◌∙◌, Bool, ap, map, refl}
 use Rattle.std.specs.String.{string_bytes}
 use Rattle.h2_check.specs.Cases.{Start, outcome}
 use Rattle.h2_check.specs.Files.{expect_something}

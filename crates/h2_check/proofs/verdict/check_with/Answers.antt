@@ -1,4 +1,4 @@
-use Rattle.std.proofs.Common.{inl, rules}
+use Rattle.std.proofs.Common.{inl}
 use Rattle.std.proofs.lemmas.Result.{IfErr-weaker, IfOk-weaker}
 use Rattle.h2_check.specs.Cases.{case_holds}
 use Rattle.h2_check.proofs.verdict.check_with.Goals as goal

@@ -1,4 +1,4 @@
-use Rattle.std.proofs.Common.{◌≡◌, ◌≤◌, ◌&&◌, [], drop, length, map}
+use Rattle.std.proofs.Common.{◌≡◌, ◌&&◌, [], drop, map}
 use Rattle.h2_conn.specs.Connection.{going}
 use Rattle.h2_check.specs.Cases.{Start, all_hold}
 use Rattle.h2_check.specs.Lines.{line_said}

@@ -1,4 +1,4 @@
-use Rattle.std.proofs.Common.{◌≡◌, ◌∙◌, ◌≤◌, ◌++◌, length}
+use Rattle.std.proofs.Common.{◌≡◌, ◌∙◌, ◌++◌}
 use Rattle.h2_check.specs.Seen.{seen_by}
 use Rattle.h2_check.proofs.Feeds.{rest_fed, seen_fed, state_fed}
 use Rattle.h2_check.proofs.walk.Walk.feed.Goals as goal
