@@ -122,10 +122,21 @@ fn is_dump_line(line: &[u8]) -> bool {
     is_marked && digits.len() >= 5 && digits.iter().all(|octet| octet.is_ascii_hexdigit())
 }
 
+/// How many octets a line is looked at for its offset: 15 digits, a colon, and the blank after it.
+const OFFSET: usize = 17;
+
+/// Whether the first line that is not empty begins with the offset 0, as it does in a dump. Only then are lines read to
+/// their ends: a line of hex may have all octets of an input.
+fn begins_at_zero(text: &[u8]) -> bool {
+    let start = text.iter().position(|octet| *octet != b'\n');
+    let front = first_of(text.get(start.unwrap_or(0)..).unwrap_or(text), OFFSET);
+    offset_in(first_word(first_line(front)), 16) == Some(0)
+}
+
 /// Whether each line of a text begins with its offset, which grows by 16, in hex or in octal digits. A line of a dump
 /// has 16 octets; the last line may be a bare offset.
 pub fn has_offsets(text: &[u8]) -> bool {
-    grows(text, 16) || grows(text, 8)
+    begins_at_zero(text) && (grows(text, 16) || grows(text, 8))
 }
 
 /// The same for digits of this base.

@@ -47,6 +47,11 @@ pub fn digit_count(text: &[u8]) -> usize {
     text.iter().filter(|octet| !is_space(**octet)).count()
 }
 
+/// Whether an octet of a text is no white space.
+pub fn has_digits(text: &[u8]) -> bool {
+    text.iter().any(|octet| !is_space(*octet))
+}
+
 /// The place of the first octet that is neither a hex digit nor white space.
 fn bad_digit(text: &[u8]) -> Option<usize> {
     text.iter()
