@@ -4,13 +4,73 @@ use h2_describe::say::{Say, TextBuilder};
 use h2_describe::say_all;
 use std::alloc::{AllocError, Allocator};
 
+/// What was put last. Where something of it is not written yet, that is written with what is put next: so few parts make
+/// up the text.
+#[derive(Clone, Copy)]
+enum Last {
+    /// Nothing of a line, of an object or of a list.
+    Nothing,
+    /// A number, a flag or null, all of which is written.
+    Value,
+    /// A string, but for its last quote.
+    Text,
+    /// An object, but for its last brace.
+    Object,
+    /// A list, but for its last bracket.
+    List,
+}
+
+impl Last {
+    /// What is not written yet.
+    fn rest(self) -> &'static str {
+        match self {
+            Last::Nothing | Last::Value => "",
+            Last::Text => "\"",
+            Last::Object => "}",
+            Last::List => "]",
+        }
+    }
+
+    /// The same, and what is before another element.
+    fn before_element(self) -> &'static str {
+        match self {
+            Last::Nothing => "",
+            Last::Value => ",",
+            Last::Text => "\",",
+            Last::Object => "},",
+            Last::List => "],",
+        }
+    }
+
+    /// The same before an object.
+    fn before_object(self) -> &'static str {
+        match self {
+            Last::Nothing => "{",
+            Last::Value => ",{",
+            Last::Text => "\",{",
+            Last::Object => "},{",
+            Last::List => "],{",
+        }
+    }
+
+    /// The same before a string, as is the name of a member.
+    fn before_text(self) -> &'static str {
+        match self {
+            Last::Nothing => "\"",
+            Last::Value => ",\"",
+            Last::Text => "\",\"",
+            Last::Object => "},\"",
+            Last::List => "],\"",
+        }
+    }
+}
+
 /// A JSON text that grows. Members are put into the object that was opened last. As a text in words, it takes nothing
 /// more once memory was refused.
 #[derive(Drop)]
 pub struct JsonWords<A: Allocator> {
     words: TextBuilder<A>,
-    /// Whether a member or an element is before the next one.
-    is_behind: bool,
+    last: Last,
 }
 
 /// Whether a character is written as it is in a string (RFC 8259, 7).
@@ -68,7 +128,7 @@ impl<A: Allocator> JsonWords<A> {
     pub fn over(words: TextBuilder<A>) -> JsonWords<A> {
         JsonWords {
             words,
-            is_behind: false,
+            last: Last::Nothing,
         }
     }
 
@@ -84,60 +144,56 @@ impl<A: Allocator> JsonWords<A> {
 
     /// The text. `AllocError` where memory for it was refused.
     pub fn finish(self) -> Result<String<A>, AllocError> {
-        self.words.finish()
+        let mut json = self;
+        json.settle();
+        json.words.finish()
     }
 
-    /// Puts the comma before a member or an element.
-    fn part(&mut self) {
-        if self.is_behind {
-            say_all!(&mut self.words; ",");
-        }
-        self.is_behind = true;
+    /// Writes what is not written yet of what was put last.
+    fn settle(&mut self) {
+        say_all!(&mut self.words; self.last.rest());
+        self.last = Last::Nothing;
     }
 
-    /// Puts the name of a member.
-    fn name(&mut self, name: &str) {
-        self.part();
-        say_all!(&mut self.words; "\"", name, "\":");
+    /// Puts the name of a member, and what is after it: its last quote first.
+    fn name(&mut self, name: &str, after: &str) {
+        say_all!(&mut self.words; self.last.before_text(), name, after);
     }
 
     /// Opens an object, as an element or as the whole.
     pub fn open_element(&mut self) {
-        self.part();
-        say_all!(&mut self.words; "{");
-        self.is_behind = false;
+        say_all!(&mut self.words; self.last.before_object());
+        self.last = Last::Nothing;
     }
 
     /// Opens the object that is a member.
     pub fn open(&mut self, name: &str) {
-        self.name(name);
-        say_all!(&mut self.words; "{");
-        self.is_behind = false;
+        self.name(name, "\":{");
+        self.last = Last::Nothing;
     }
 
     /// Closes an object.
     pub fn close(&mut self) {
-        say_all!(&mut self.words; "}");
-        self.is_behind = true;
+        self.settle();
+        self.last = Last::Object;
     }
 
     /// Opens the list that is a member.
     pub fn open_list(&mut self, name: &str) {
-        self.name(name);
-        say_all!(&mut self.words; "[");
-        self.is_behind = false;
+        self.name(name, "\":[");
+        self.last = Last::Nothing;
     }
 
     /// Closes a list.
     pub fn close_list(&mut self) {
-        say_all!(&mut self.words; "]");
-        self.is_behind = true;
+        self.settle();
+        self.last = Last::List;
     }
 
     /// Ends a line: another text begins.
     pub fn end_line(&mut self) {
+        self.settle();
         say_all!(&mut self.words; "\n");
-        self.is_behind = false;
     }
 
     /// Memory for what belongs into the text was refused.
@@ -147,32 +203,34 @@ impl<A: Allocator> JsonWords<A> {
 
     /// Puts a number, as an element.
     pub(crate) fn element(&mut self, number: u64) {
-        self.part();
-        say_all!(&mut self.words; number);
+        say_all!(&mut self.words; self.last.before_element(), number);
+        self.last = Last::Value;
     }
 
     /// Puts a text that has no character to escape, as an element.
     pub(crate) fn text_element(&mut self, text: &str) {
-        self.part();
-        say_all!(&mut self.words; "\"", text, "\"");
+        say_all!(&mut self.words; self.last.before_text(), text);
+        self.last = Last::Text;
     }
 
     /// Puts a number.
     pub fn number(&mut self, name: &str, number: u64) {
-        self.name(name);
+        self.name(name, "\":");
         say_all!(&mut self.words; number);
+        self.last = Last::Value;
     }
 
     /// Puts a number that may be below 0.
     pub fn signed(&mut self, name: &str, number: i64) {
-        self.name(name);
+        self.name(name, "\":");
         say_all!(&mut self.words; number);
+        self.last = Last::Value;
     }
 
     /// Puts that a value is missing.
     pub fn null(&mut self, name: &str) {
-        self.name(name);
-        say_all!(&mut self.words; "null");
+        self.name(name, "\":null");
+        self.last = Last::Value;
     }
 
     /// Puts a number that may be missing.
@@ -185,24 +243,22 @@ impl<A: Allocator> JsonWords<A> {
 
     /// Puts a flag.
     pub fn flag(&mut self, name: &str, flag: bool) {
-        self.name(name);
-        say_all!(&mut self.words; if flag { "true" } else { "false" });
+        self.name(name, if flag { "\":true" } else { "\":false" });
+        self.last = Last::Value;
     }
 
     /// Puts a text that has no character to escape.
     pub fn plain<S: Say>(&mut self, name: &str, part: S) {
-        self.name(name);
-        say_all!(&mut self.words; "\"");
+        self.name(name, "\":\"");
         part.say(&mut self.words);
-        say_all!(&mut self.words; "\"");
+        self.last = Last::Text;
     }
 
     /// Puts a text.
     pub fn text(&mut self, name: &str, text: &str) {
-        self.name(name);
-        say_all!(&mut self.words; "\"");
+        self.name(name, "\":\"");
         say_string(text, &mut self.words);
-        say_all!(&mut self.words; "\"");
+        self.last = Last::Text;
     }
 
     /// Puts a text in words.

@@ -204,80 +204,49 @@ impl Text for ReasonLines {
     }
 }
 
-/// The words of an item that no definition has.
+/// The words of an item that no definition has, one part after another in one text, and where each part but the last
+/// ends.
 #[derive(Drop)]
 struct ItemWords<A: Allocator> {
-    item: String<A>,
-    /// The lines of its fields, if they are shown with it.
-    fields: String<A>,
-    /// The line of the other causes that hold of its block, if there are any.
-    also: String<A>,
-    /// The lines of the warnings, and of the frames that were sent.
-    sent: String<A>,
-    /// The lines of what changed.
-    changes: String<A>,
+    text: String<A>,
+    /// The end of the item in words.
+    item: usize,
+    /// The end of the lines of its fields, which are empty unless they are shown with it.
+    fields: usize,
+    /// The end of the line of the other causes that hold of its block, which is empty if there are none.
+    also: usize,
+    /// The end of the lines of the warnings, and of the frames that were sent. After it are those of what changed.
+    sent: usize,
 }
 
-/// The item in words.
-fn item_words<A: Allocator + Copy>(
-    alloc: A,
-    item: &Explained<'_>,
-    account: &Account<A>,
-) -> Result<String<A>, AllocError> {
-    let mut words = account.words(alloc);
-    say_item(item, &mut words);
-    words.finish()
+impl<A: Allocator> ItemWords<A> {
+    /// What is between two ends of parts.
+    fn part(&self, from: usize, to: usize) -> &str {
+        self.text.as_str().get(from..to).unwrap_or("")
+    }
 }
 
-/// The lines of the fields of the block that ends with an item, if they are shown with it.
-fn fields_text<A: Allocator + Copy>(
-    alloc: A,
+/// Puts the lines of the fields of the block that ends with an item last, if they are shown with it.
+fn say_shown_fields<A: Allocator + Copy>(
     account: &Account<A>,
     reader: &BlockReader<A>,
     paint: Paint,
-) -> Result<String<A>, AllocError> {
-    let mut fields = account.words(alloc);
+    out: &mut TextBuilder<A>,
+) {
     if account.shows_fields {
-        say_fields(reader, paint, &mut fields);
+        say_fields(reader, paint, out);
     }
-    fields.finish()
 }
 
-/// The line of the other causes that hold of a block, empty without one.
-fn also_text<A: Allocator + Copy>(
-    alloc: A,
-    also: &[Cause],
-    paint: Paint,
-) -> Result<String<A>, AllocError> {
-    let mut words = TextBuilder::new(alloc);
-    say_also(also, paint, &mut words);
-    words.finish()
-}
-
-/// The lines of the warnings, and of the frames that were sent.
-fn sent_text<A: Allocator + Copy>(
-    alloc: A,
-    account: &Account<A>,
-    sent: &[u8],
-    paint: Paint,
-) -> Result<String<A>, AllocError> {
-    let mut words = account.words(alloc);
-    say_warnings(account.warnings, paint, &mut words);
-    say_sent(alloc, sent, paint, &mut words);
-    words.finish()
-}
-
-/// The lines of what an item changed.
-fn changes_text<A: Allocator + Copy>(
-    alloc: A,
+/// Puts the lines of what an item changed last.
+fn say_all_changes<A: Allocator + Copy>(
     account: &Account<A>,
     paint: Paint,
-) -> Result<String<A>, AllocError> {
-    let mut words = account.words(alloc);
-    say_changes(account.changes.as_slice(), paint, &mut words);
-    say_all_moved(account.moved.as_slice(), paint, &mut words);
-    say_entries(account.entries.as_slice(), paint, &mut words);
-    words.finish()
+    out: &mut TextBuilder<A>,
+) {
+    say_changes(account.changes.as_slice(), paint, out);
+    say_all_moved(account.moved.as_slice(), paint, out);
+    say_entries(account.entries.as_slice(), paint, out);
 }
 
 /// The lines of what the server sent before the first item, empty for the others.
@@ -299,12 +268,23 @@ fn words_of<A: Allocator + Copy>(
     reader: &BlockReader<A>,
     paint: Paint,
 ) -> Result<ItemWords<A>, AllocError> {
+    let mut words = account.words(alloc);
+    say_item(item, &mut words);
+    let item_end = words.len();
+    say_shown_fields(account, reader, paint, &mut words);
+    let fields = words.len();
+    say_also(account.also.as_slice(), paint, &mut words);
+    let also = words.len();
+    say_warnings(account.warnings, paint, &mut words);
+    say_sent(alloc, item.sent, paint, &mut words);
+    let sent = words.len();
+    say_all_changes(account, paint, &mut words);
     Ok(ItemWords {
-        item: item_words(alloc, item, account)?,
-        fields: fields_text(alloc, account, reader, paint)?,
-        also: also_text(alloc, account.also.as_slice(), paint)?,
-        sent: sent_text(alloc, account, item.sent, paint)?,
-        changes: changes_text(alloc, account, paint)?,
+        text: words.finish()?,
+        item: item_end,
+        fields,
+        also,
+        sent,
     })
 }
 
@@ -323,7 +303,7 @@ fn lines_with<A: Allocator + Copy>(
         paint,
         number: item.number,
         offset: item.offset as u64,
-        words: words.item.as_str(),
+        words: words.part(0, words.item),
     };
     let sentence = account.sentence.as_str();
     let cause = CauseLines {
@@ -338,9 +318,10 @@ fn lines_with<A: Allocator + Copy>(
         ignored: item.ignored,
         case: case_of_reason(item, account.facts),
     };
-    let fields = words.fields.as_str();
-    let (sent, changes) = (words.sent.as_str(), words.changes.as_str());
-    let also = words.also.as_str();
+    let fields = words.part(words.item, words.fields);
+    let also = words.part(words.fields, words.also);
+    let sent = words.part(words.also, words.sent);
+    let changes = words.part(words.sent, words.text.len());
     string_of(
         alloc,
         &texts!(opening, first, fields, cause, also, reason, sent, changes),

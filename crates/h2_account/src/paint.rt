@@ -62,12 +62,15 @@ impl Paint {
 
     /// Begins a line at its left end.
     pub fn start<A: Allocator>(self, role: Role, out: &mut TextBuilder<A>) {
-        say_all!(out; self.started(role));
+        if self.0 {
+            say_all!(out; colour(role));
+        }
     }
 
     /// Begins a line below the first one of an item.
     pub fn begin<A: Allocator>(self, role: Role, out: &mut TextBuilder<A>) {
-        say_all!(out; "        ", self.started(role));
+        say_all!(out; "        ");
+        self.start(role, out);
     }
 
     /// Ends a line.

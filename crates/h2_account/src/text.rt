@@ -95,8 +95,9 @@ pub(crate) fn say_fields<A: Allocator + Copy>(
     }
 }
 
-/// The most octets of a header table, as this server takes it; an answer enters no field into one.
-const ANSWER_TABLE: u32 = 4096;
+/// The most octets of the header table of answers. Their fields are literals that do not enter it, and the only table
+/// size update that they begin with is one to 0 (RFC 7541, 4.2 and 6.2.2): so a table without space reads them all.
+const ANSWER_TABLE: u32 = 0;
 
 /// The fields of an answer.
 pub(crate) fn read_answer<A: Allocator + Copy>(

@@ -2,7 +2,7 @@
 //! that of the faults.
 
 use h2_reasons::{
-    InputSource, TextBuilder, has_offsets, is_blank, is_hex, range_of, say_bad_line, say_limits,
+    InputSource, TextBuilder, has_digits, has_offsets, is_hex, range_of, say_bad_line, say_limits,
     say_more_octets, say_no_file, say_no_hex, say_no_memory, say_no_octets, say_no_text,
     say_offsets, say_port, say_range, say_table_faults, say_too_long, say_unread, say_unwritten,
 };
@@ -67,7 +67,7 @@ impl Outcome<'_> {
         if self.failure.is_some() || self.is_cut {
             return;
         }
-        if is_blank(self.seen) {
+        if !has_digits(self.seen) {
             say_no_octets(self.source, out);
         } else if has_offsets(self.seen) {
             say_offsets(self.source, out);

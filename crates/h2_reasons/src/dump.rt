@@ -27,9 +27,6 @@ pub(crate) enum Look {
 /// How many lines of a text are looked at.
 const LINES: usize = 100;
 
-/// The most octets of an offset and its `:`, and one more.
-const OFFSET: usize = 17;
-
 /// What a text looks like in which the octet at a place is no hex digit.
 pub(crate) fn look_of(text: &[u8], at: usize) -> Look {
     if has_mark(text) {
@@ -125,16 +122,21 @@ fn is_dump_line(line: &[u8]) -> bool {
     is_marked && digits.len() >= 5 && digits.iter().all(|octet| octet.is_ascii_hexdigit())
 }
 
+/// How many octets a line is looked at for its offset: 15 digits, a colon, and the blank after it.
+const OFFSET: usize = 17;
+
+/// Whether the first line that is not empty begins with the offset 0, as it does in a dump. Only then are lines read to
+/// their ends: a line of hex may have all octets of an input.
+fn begins_at_zero(text: &[u8]) -> bool {
+    let start = text.iter().position(|octet| *octet != b'\n');
+    let front = first_of(text.get(start.unwrap_or(0)..).unwrap_or(text), OFFSET);
+    offset_in(first_word(first_line(front)), 16) == Some(0)
+}
+
 /// Whether each line of a text begins with its offset, which grows by 16, in hex or in octal digits. A line of a dump
 /// has 16 octets; the last line may be a bare offset.
 pub fn has_offsets(text: &[u8]) -> bool {
-    may_have_offsets(text) && (grows(text, 16) || grows(text, 8))
-}
-
-/// Whether a text begins with an offset, or with an empty line. Most texts don't, so their lines are not looked for.
-fn may_have_offsets(text: &[u8]) -> bool {
-    let start = first_line(first_of(text, OFFSET));
-    text.starts_with(b"\n".as_slice()) || offset_in(first_word(start), 16).is_some()
+    begins_at_zero(text) && (grows(text, 16) || grows(text, 8))
 }
 
 /// The same for digits of this base.

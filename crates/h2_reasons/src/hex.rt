@@ -42,14 +42,14 @@ fn advice(look: Look) -> &'static str {
     }
 }
 
-/// Whether a text is white space alone.
-pub fn is_blank(text: &[u8]) -> bool {
-    text.iter().all(|octet| is_space(*octet))
+/// How many octets of a text are no white space.
+pub fn digit_count(text: &[u8]) -> usize {
+    text.iter().filter(|octet| !is_space(**octet)).count()
 }
 
-/// How many octets of a text are no white space.
-pub(crate) fn digit_count(text: &[u8]) -> usize {
-    text.iter().filter(|octet| !is_space(**octet)).count()
+/// Whether an octet of a text is no white space.
+pub fn has_digits(text: &[u8]) -> bool {
+    text.iter().any(|octet| !is_space(*octet))
 }
 
 /// The place of the first octet that is neither a hex digit nor white space.

@@ -19,7 +19,7 @@ pub use answer::{say_answer, say_no_answer};
 pub use dump::{has_offsets, type_number};
 pub use entry::{EntryRefusal, field_reason, say_entry};
 pub use h2_describe::say::{Cut, Say, TextBuilder};
-pub use hex::{is_blank, is_hex, say_no_hex, say_no_octets, say_offsets};
+pub use hex::{has_digits, is_hex, say_no_hex, say_no_octets, say_offsets};
 pub use limits::{Range, range_of, say_limits, say_no_file, say_range};
 pub use place::{InputSource, TextPlace, place_at};
 pub use read::{file_reason, say_no_text, say_too_long, say_unread};

@@ -6,7 +6,7 @@ use Rattle.h2_account.proofs.lines.lines_with.Goals as goal
 
 pub returns : goal.returns
 returns g c =
-    let w : Words = record { opening = c.args.opening.now; item = c.as_str.result.now; facts = c.args.account.now.facts; fields = c.as_str-fields.result.now; sentence = c.as_str-sentence.result.now; also = c.as_str-also.result.now; sent = c.as_str-sent.result.now; changes = c.as_str-changes.result.now } in
+    let w : Words = record { opening = c.args.opening.now; item = c.part.result.now; facts = c.args.account.now.facts; fields = c.part-fields.result.now; sentence = c.as_str-sentence.result.now; also = c.part-also.result.now; sent = c.part-sent.result.now; changes = c.part-changes.result.now } in
     IfOk-weaker c.string_of.result _ _
     (λ text h. (
       w,
