@@ -12,4 +12,4 @@ returns-clause-sound g c =
     subst (λ (k : ConnectionState). IsSound s.book (records s) (in_force k) c.ignore.result) counts (c.ignore.ensures.sound s.book (records s) (sym (ap (λ (k : ConnectionState). k.last) counts)))
 
 pub returns-clause-counts : goal.returns-clause-counts
-returns-clause-counts g c = counted-by c.args.self.now.core c.core.result c.ignore.result _ c.ignore.ensures.rule c.core.ensures.counts (ignore-counted _ _)
+returns-clause-counts g c = counted-by c.args.self.now.core c.core.result c.ignore.result _ c.ignore.ensures.rule c.core.ensures.counts (ignore-counted _ c.args.reason)
