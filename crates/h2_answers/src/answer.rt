@@ -12,6 +12,7 @@ use h2_fields::field::Field;
 use h2_fields::octets::Octets;
 use h2_hex::{is_hex, octets_of};
 use h2_request::book::Entry;
+use h2_request::entry_fields::EntryFields;
 use std::alloc::{AllocError, Allocator};
 
 /// The first four parts of an answer's words, and the further ones, each after its bar.
@@ -77,7 +78,7 @@ fn entry_from<A: Allocator + Copy>(
         method: Octets::new(parts.method.to_vec(alloc)?),
         path: Octets::new(parts.path.to_vec(alloc)?),
         status,
-        fields: read_fields(alloc, parts.further)?,
+        fields: EntryFields::new(read_fields(alloc, parts.further)?),
         body: read_body(alloc, parts.body)?,
         early,
     })

@@ -19,6 +19,7 @@ use crate::files::Files;
 use crate::header::{headers_in, read_headers};
 use crate::table::value_at;
 use h2_request::book::Entry;
+use h2_request::entry_fields::EntryFields;
 use std::alloc::Global;
 use toml::{Table, Value};
 
@@ -77,7 +78,7 @@ fn entry_from<F: Files>(
         method: copy_of(alloc, said.method)?,
         path: copy_of(alloc, said.path)?,
         status: said.status,
-        fields: read_headers(alloc, said.headers)?,
+        fields: EntryFields::new(read_headers(alloc, said.headers)?),
         body,
         early: said.early,
     })

@@ -14,6 +14,7 @@ ghost use Rattle.h2_request.specs.Lent.{answered, AreFramesOf, block_of_answer, 
 ghost use Rattle.h2_spec.specs.declared.streams.Pick.TheVariants.{Listed};
 
 use crate::block_length::is_block_too_long;
+use crate::entry_fields::EntryFields;
 use crate::fault::{BookFault, EntryFault};
 use crate::firsts::Firsts;
 use crate::well_formed::Request;
@@ -44,7 +45,7 @@ pub struct Entry<A: Allocator> {
     /// The status of the answer, 200 to 599.
     pub status: u16,
     /// The fields of the answer besides its status, in their order.
-    pub fields: Vec<Field<A>, A>,
+    pub fields: EntryFields<A>,
     /// The body of the answer; may be empty.
     pub body: Octets<A>,
     /// Whether the answer begins at the end of the request's fields, although the request may go on (RFC 9113, 8.1);
@@ -57,7 +58,7 @@ impl<A: Allocator> Model for Entry<A> {
 
     ghost Value = { spec.Entry };
 
-    ghost view = { λ e. record { method = e.method; path = e.path; answer = record (spec.answer e.status e.fields.items e.body) { early = e.early } } };
+    ghost view = { λ e. record { method = e.method; path = e.path; answer = record (spec.answer e.status e.fields e.body) { early = e.early } } };
 }
 
 /// An answer, lent by its book.
@@ -80,7 +81,7 @@ struct Stored<A: Allocator> {
     method: Octets<A>,
     path: Octets<A>,
     status: u16,
-    fields: Vec<Field<A>, A>,
+    fields: EntryFields<A>,
     early: bool,
     headers: Vec<u8, A>,
     body_frame: Vec<u8, A>,
@@ -93,9 +94,9 @@ impl<A: Allocator> Model for Stored<A> {
 
     ghost Value = { spec.Entry };
 
-    ghost view = { λ s. record { method = s.method; path = s.path; answer = record (spec.answer s.status s.fields.items (drop 9 s.body_frame.items)) { early = s.early } } };
+    ghost view = { λ s. record { method = s.method; path = s.path; answer = record (spec.answer s.status s.fields (drop 9 s.body_frame.items)) { early = s.early } } };
 
-    ghost invariant = { λ s. AreFramesOf (record (spec.answer s.status s.fields.items (drop 9 s.body_frame.items)) { early = s.early }) s.headers.items s.body_frame.items };
+    ghost invariant = { λ s. AreFramesOf (record (spec.answer s.status s.fields (drop 9 s.body_frame.items)) { early = s.early }) s.headers.items s.body_frame.items };
 }
 
 /// A list of entries, each of which may be answered with.

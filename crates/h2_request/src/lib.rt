@@ -4,6 +4,7 @@
 
 mod block_length;
 pub mod book;
+pub mod entry_fields;
 pub mod fault;
 pub mod fields;
 mod firsts;

@@ -6,6 +6,7 @@ use h2_conn::{Conn, ConnFault};
 use h2_device::string_of;
 use h2_fields::octets::Octets;
 use h2_request::book::{Book, Entry};
+use h2_request::entry_fields::EntryFields;
 use h2_request::fault::BookFault;
 use h2_spec::connection::Config;
 use std::alloc::{AllocError, Allocator, Global};
@@ -36,7 +37,7 @@ fn entry_of<A: Allocator + Copy>(
         method,
         path,
         status: 200,
-        fields: Vec::new(alloc),
+        fields: EntryFields::new(Vec::new(alloc)),
         body,
         early,
     })

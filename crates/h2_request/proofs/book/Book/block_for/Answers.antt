@@ -13,7 +13,7 @@ response_block-requires-clause-status g c =
 
 pub response_block-requires-clause-fields : goal.response_block-requires-clause-fields
 response_block-requires-clause-fields g c =
-    subst (λ (fields : List Field). AllByRecursion IsWritableField fields) (sym c.as_slice.ensures.value)
+    subst (λ (fields : List Field). AllByRecursion IsWritableField fields) (sym c.as_slice.ensures)
     (subst (λ (e : Entry). AllByRecursion IsWritableField e.answer.fields) (sym c.entry.view_is) (allowed-fields c.args.self.now c.args.entry.now c.in-None.ensures))
 
 pub returns-in_ok-block-in-None-clause-within : goal.returns-in_ok-block-in-None-clause-within
