@@ -2,8 +2,8 @@
 """run.py [--program FILE] [--only WORD] [--parts]: instructions of an item, of `play` and of a session of nghttp2, on the same octets.
 
 The program is the proved one of this repository unless another is named; it is measured as it ships. Counts are callgrind's, of two numbers of items: their
-difference over the items between them. Of those of `play` the inclusive counts of the functions that read the input and hex and write hex and the state are
-taken off; --parts prints them too. nghttp2 reads and writes no hex. Both take the octets in pieces of 8,000 and answer with two octets. Before a row is
+difference over the items between them. Of `play` the inclusive count of the function that plays the octets is taken: nghttp2 reads and writes no hex, no state and
+no sentence; --parts prints what these take. Both take the octets in pieces of 8,000 and answer with two octets. Before a row is
 counted both servers run, and the numbers of frames of each type that they send have to be the same; where they are not, the row says how they differ.
 With --only the rows that have this word in their name. It prints a table in Markdown for docs/PERFORMANCE.md, and is no part of the gate. It needs
 libnghttp2-dev, python3-hpack and valgrind (Debian).
@@ -24,12 +24,13 @@ ANSWERS = ["GET|/|200|6869", "POST|/|200|6869", "GET|/index.html?page=12&sort=na
 OTHERS = [f"GET|/{place}|200|6869" for place in range(997)]
 PIECE = "8000"
 
-# What is not the connection's, by the names of the functions.
+# What `play` does, by the names of functions; the first is the connection's. A function that the compiler put into its caller counts there.
 PARTS = {
+    "connection": r"h2_commands::play::played\b",
     "text in": r"h2_commands::input::read_all\b",
     "hex in": r"h2_commands::input::read_hex\b",
     "hex out": r"h2_device::hex_text::HexTextText::write_to\b",
-    "state": r"h2_conn::\w+::ConnText::write_to\b",
+    "sentences": r"h2_console::second_look::say_outcome\b",
 }
 
 # Name, kind of octets.py, items (or fields of each of 200 requests) of the first and of the second run, streams that are open or wait, entries of the book in
@@ -96,13 +97,10 @@ def counted(command, made, text=b""):
 
 
 def parts_of(counts):
-    """The counts of what is not the connection's."""
-    found = {}
-    for part, name in PARTS.items():
-        matching = [count for function, count in counts.items() if re.match(name, function)]
-        if not matching:
-            sys.exit(f"run.py: the program has no function {name}")
-        found[part] = sum(matching)
+    """The counts of the connection and of what else `play` does."""
+    found = {part: sum(count for function, count in counts.items() if re.match(name, function)) for part, name in PARTS.items()}
+    if not found["connection"]:
+        sys.exit(f"run.py: the program has no function {PARTS['connection']}")
     return found
 
 
@@ -154,9 +152,9 @@ def cells(servers, kind, few, many, opened, book, show_parts):
         return ["-", "-", f"they differ: {differs}"]
     items = (many - few) * (FIELDS_REQUESTS if kind.startswith("fields-") else 1)
     each = {part: (ours_many[part] - ours_few[part]) / items for part in ours_many}
-    ours = each["all"] - sum(each[part] for part in PARTS)
+    ours = each["connection"]
     theirs = (theirs_many - theirs_few) / items
-    shown = [f"{each[part]:,.0f}" for part in ("all", *PARTS)] if show_parts else []
+    shown = [f"{each[part]:,.0f}" for part in ("all", *list(PARTS)[1:])] if show_parts else []
     return [f"{ours:,.0f}", f"{theirs:,.0f}", f"{ours / theirs:.2f}", *shown]
 
 
@@ -167,7 +165,7 @@ def main():
     parser.add_argument("--parts", action="store_true")
     words = parser.parse_args()
     program = words.program or subprocess.run([sys.executable, "-B", f"{TOP}/tools/program.py", "proved"], check=True, stdout=subprocess.PIPE, text=True).stdout.strip()
-    columns = ["Item", "h2_bench", "nghttp2", "Ratio", *(["all of `play`", *PARTS] if words.parts else [])]
+    columns = ["Item", "h2_bench", "nghttp2", "Ratio", *(["all of `play`", *list(PARTS)[1:]] if words.parts else [])]
     print("|".join(["", *(f" {column} " for column in columns), ""]))
     print("|" + "---|" * len(columns), flush=True)
     with tempfile.TemporaryDirectory() as made:
