@@ -8,6 +8,7 @@ ghost use Rattle.h2_account.specs.Lines.{Words as Said, blanks, cause_lines, err
 ghost use Rattle.h2_facts.specs.Special.{rule_of_cause, rule_of_reason};
 
 use crate::account::Account;
+use crate::line_text::string_with;
 use crate::paint::{Paint, Role};
 use crate::text::{
     say_all_moved, say_also, say_changes, say_entries, say_fields, say_item, say_opening, say_sent,
@@ -16,7 +17,7 @@ use crate::warning_words::say_warnings;
 use h2_describe::names::{error_name, scope_word};
 use h2_describe::say::TextBuilder;
 use h2_describe::spelled::BlockReader;
-use h2_device::{DeviceFault, Number, Output, Text, string_of, texts};
+use h2_device::{DeviceFault, Number, Output, Text, texts};
 use h2_facts::special::{case_of_error, case_of_reason, rule_of_cause, rule_of_reason};
 use h2_item::item::Explained;
 use h2_spec::causes::Cause;
@@ -288,6 +289,17 @@ fn words_of<A: Allocator + Copy>(
     })
 }
 
+/// How many octets the lines of an item take, about: those of its words and of `others`, some for its number and its
+/// offset, and those of the rule, where it is an error or ignored.
+fn room_for<A: Allocator>(item: &Explained<'_>, words: &ItemWords<A>, others: usize) -> usize {
+    let rule = if item.cause.is_some() || item.ignored.is_some() {
+        400
+    } else {
+        40
+    };
+    words.text.len().saturating_add(others).saturating_add(rule)
+}
+
 /// The lines of an item with these words.
 fn lines_with<A: Allocator + Copy>(
     alloc: A,
@@ -322,8 +334,10 @@ fn lines_with<A: Allocator + Copy>(
     let also = words.part(words.fields, words.also);
     let sent = words.part(words.also, words.sent);
     let changes = words.part(words.sent, words.text.len());
-    string_of(
+    let room = room_for(item, words, opening.len().saturating_add(sentence.len()));
+    string_with(
         alloc,
+        room,
         &texts!(opening, first, fields, cause, also, reason, sent, changes),
     )
 }
