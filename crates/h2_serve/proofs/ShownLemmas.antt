@@ -1,5 +1,5 @@
 -- What is printed of connections that are explained, one after another.
-use Rattle.std.proofs.Common.{◌≡◌, ◌∙◌, ◌⊎◌, inl, inr, ℕ, zero, suc, ◌+◌, Bool, true, false, List, [], ◌++◌, Option, Some, None, Result, Ok, Err, IfErr, IfOk, IsOk, OnOk, refl, sym, ap, subst, arith, append_assoc}
+use Rattle.std.proofs.Common.{◌≡◌, ◌∙◌, ℕ, zero, suc, ◌+◌, Bool, true, false, List, [], ◌++◌, Option, Some, None, Result, Ok, Err, IfErr, IfOk, IsOk, OnOk, refl, sym, ap, subst, arith, append_assoc}
 use Rattle.std.proofs.lemmas.Bool.{false≢true}
 use Rattle.std.proofs.lemmas.List.{append-nil}
 use Rattle.std.specs.Io.KnownBytes.{Appends}
@@ -11,13 +11,13 @@ use Rattle.h2_explain.specs.declared.run.Summary.{Summary}
 use Rattle.h2_serve.specs.Faults.{faults_limits}
 use Rattle.h2_serve.specs.Lines.{end_line, listening_line, open_line}
 use Rattle.h2_serve.specs.Numbered.{prefix_of, prefixed}
-use Rattle.h2_serve.specs.Serves.{Gains, opening_fault}
+use Rattle.h2_serve.specs.Serves.{Gains}
 use Rattle.h2_serve.specs.Shown.{AreShown, FaultsNoLimits, GainsAllShown, GainsShown, IsShown, no_clients, with_client}
 use Rattle.h2_serve.specs.Watched.{Shows}
 use Rattle.h2_serve.specs.declared.explained.Clients.{Clients}
 use Rattle.h2_serve.specs.declared.explained.ExplainedEnd.{ExplainedEnd}
 use Rattle.h2_serve.specs.declared.fault.ServeFault.{ServeFault}
-use Rattle.h2_serve.specs.declared.fault.ServeFault.TheVariants.{BadConfig, NoMemory, Socket, Write}
+use Rattle.h2_serve.specs.declared.fault.ServeFault.TheVariants.{BadConfig, NoMemory}
 
 appended : (l m : Option (List ℕ)) (xs b : List ℕ) → Appends l m b → l ≡ Some xs → m ≡ Some (xs ++ b)
 appended None m xs b h e = cc
@@ -129,16 +129,6 @@ pub explained-limits : (result : Result ExplainedEnd ServeFault) → IfOk result
     → IfErr result (λ fault. fault ≡ NoMemory) → FaultsNoLimits result
 explained-limits (Ok x) told none = told
 explained-limits (Err fault) told none = ap faults_limits none
-
--- a connection can't be opened with them
-pub opening-limits : (allowed : Bool) (fault : ServeFault) → fault ≡ opening_fault allowed → faults_limits fault ≡ true → allowed ≡ false
-opening-limits true fault is limits = absurd (false≢true (sym (ap faults_limits is) ∙ limits))
-opening-limits false fault is limits = refl
-
--- a port that can't be listened on says nothing of them
-pub listening-limits : {P : Type 0} (fault : ServeFault) → (fault ≡ Write) ⊎ ((fault ≡ Socket) × P) → faults_limits fault ≡ true → ⊥
-listening-limits fault (inl is) limits = false≢true (sym (ap faults_limits is) ∙ limits)
-listening-limits fault (inr x) limits = false≢true (sym (ap faults_limits x.0) ∙ limits)
 
 -- after the line of the port
 pub listens-limits : (allowed : Bool) (front : List ℕ) (k l n : Option (List ℕ)) (result : Result Clients ServeFault) → Gains k l front
