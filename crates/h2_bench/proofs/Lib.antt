@@ -1,3 +1,4 @@
 mod InMemory
 mod Parsed
+mod Served
 mod Shown

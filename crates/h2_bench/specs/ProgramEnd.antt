@@ -1,5 +1,5 @@
 -- How a run of the program ends, whatever the words ask for.
-use Rattle.std.specs.Prelude.{◌≡◌, ◌⊎◌, ℕ, Bool, true, false, if◌then◌else◌, List, Option, Some, None, Result, Ok, Err}
+use Rattle.std.specs.Prelude.{◌≡◌, ◌⊎◌, ◌≤◌, ℕ, Bool, true, false, if◌then◌else◌, List, [], ◌++◌, length, Option, Some, None, Result, Ok, Err}
 use Rattle.std.specs.String.{string_bytes}
 use Rattle.h2_spec.specs.Answer.{Entry}
 use Rattle.h2_spec.specs.declared.connection.Config.{Config}
@@ -7,16 +7,22 @@ use Rattle.h2_book.specs.Entries.{Directory}
 use Rattle.h2_explain.specs.Verdicts.{strict_status}
 use Rattle.h2_explain.specs.declared.run.Form.{Form}
 use Rattle.h2_spec.specs.State.{is_allowed, opening}
-use Rattle.h2_serve.specs.Lines.{listening_line}
-use Rattle.h2_serve.specs.Serves.{GainsLines}
+use Rattle.h2_drive.specs.declared.fault.DriveEnd.{DriveEnd}
+use Rattle.h2_drive.specs.declared.fault.DriveFault.{DriveFault}
+use Rattle.h2_serve.specs.Faults as serving
+use Rattle.h2_serve.specs.Lines.{end_lines, listening_line}
+use Rattle.h2_serve.specs.Serves.{Gains, GainsLines}
 use Rattle.h2_serve.specs.Shown.{GainsAllShown}
 use Rattle.h2_serve.specs.declared.explained.Clients.{Clients}
+use Rattle.h2_serve.specs.declared.fault.ServeFault.{ServeFault}
+use Rattle.h2_serve.specs.declared.fault.ServeFault.TheVariants as server
 use Rattle.h2_session.specs.Session as session
 use Rattle.h2_words.specs.Grammar.{Asked, BatchAsked, BookAsked, batch, debug, serve, explain, check}
 use Rattle.h2_words.specs.declared.command.Refusal.{Refusal}
 use Rattle.h2_words.specs.declared.command.Refusal.TheVariants as words
 use Rattle.h2_commands.specs.Books.{book_said}
 use Rattle.h2_commands.specs.CommandEnd.{Prints, PrintsSome, asks_why_batch}
+use Rattle.h2_commands.specs.Faults.{fault_line}
 use Rattle.h2_commands.specs.Printed.{Printed, cut_short, failed, places_within, refused, printed_within}
 use Rattle.h2_commands.specs.declared.fault.BenchFault.TheVariants.{NoMemory, Read}
 
@@ -61,6 +67,22 @@ EndsServe before after status = ((status ≡ 2) × (after ≡ before)) ⊎ Print
 -- that many connections were served: the line of the port was printed, and then a line for each of them
 abbrev pub IsServed : Config → (port count : ℕ) → Option (List ℕ) → Option (List ℕ) → Type 0
 IsServed config port count before after = (is_allowed config ≡ true) × GainsLines (listening_line port) count before after
+
+-- the line of the fault that ended a server was printed
+abbrev pub IsReported : Result (Unit {0}) ServeFault → Option (List ℕ) → Option (List ℕ) → Type 0
+IsReported (Ok u) before after = ⊥
+IsReported (Err server.NoMemory) before after = Gains before after (fault_line (serving.fault_number server.NoMemory))
+IsReported (Err server.BadConfig) before after = Gains before after (fault_line (serving.fault_number server.BadConfig))
+IsReported (Err server.Write) before after = ⊥
+IsReported (Err server.Socket) before after = Gains before after (fault_line (serving.fault_number server.Socket))
+
+-- a fault ended it: its line was printed, after nothing else, or after the line of the port and those of at most `count`
+-- connections
+pub record EndsInFault (port count : ℕ) (before after : Option (List ℕ)) : Type 0 where
+  pub fault : ℕ
+  pub text : List ℕ
+  pub front : (text ≡ []) ⊎ ((ends : List (Result DriveEnd DriveFault)) × (length ends ≤ count) × (text ≡ listening_line port ++ end_lines 1 ends))
+  pub printed : Gains before after (text ++ fault_line fault)
 
 -- that many connections were served and explained: the line of the port was printed, and then what is printed of each of
 -- them; the status is 0, or with `--strict` that of the verdict on all clients

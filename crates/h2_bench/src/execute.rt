@@ -163,6 +163,9 @@ pub fn run<R: Read, W: Write>(alloc: Global, words: &Words, input: &mut R, outpu
     ensures explains { (config : Config) → (view : View) → (file : List ℕ) → (book : BookAsked)
         → asked_of words.now ≡ Some (explain config view file book) → (result ≡ 3)
         ⊎ ((failed : Bool) × EndsExplain (form_of view) no_files config file book (R.remaining input.old) failed (W.contents output.old) (W.contents output.new) result) }
+    ensures checks { (config : Config) → (book : BookAsked) → (in_place : Bool) → (names : List (List ℕ))
+        → asked_of words.now ≡ Some (check config book false in_place names) → (result ≡ 3)
+        ⊎ EndsCheck no_files config book names (W.contents output.old) (W.contents output.new) result }
     ensures serves { is_serve (asked_of words.now) ≡ true → (result ≡ 3)
         ⊎ EndsServe (W.contents output.old) (W.contents output.new) result }
     ensures refused { asked_of words.now ≡ None → (result ≡ 3)

@@ -5,7 +5,9 @@ ghost use Rattle.std.specs.Prelude.{◌≡◌, ◌⊎◌, true, false, if◌then
 ghost use Rattle.h2_words.specs.Plans.{book_asked};
 ghost use Rattle.h2_commands.specs.Books.{book_said};
 ghost use Rattle.h2_commands.specs.CommandEnd.{KnowsFile};
-ghost use Rattle.h2_bench.specs.ProgramEnd.{EndsShown, IsServed};
+ghost use Rattle.h2_bench.specs.ProgramEnd.{EndsInFault, EndsShown, IsReported, IsServed};
+ghost use Rattle.h2_commands.specs.Faults.{fault_line, fault_number};
+ghost use Rattle.h2_serve.specs.Serves.{Gains};
 ghost use Rattle.h2_commands.specs.ExplainProgram.{form_of};
 ghost use Rattle.h2_explain.specs.Verdicts.{strict_status};
 ghost use Rattle.h2_words.specs.Plans.{watched_asked};
@@ -23,7 +25,8 @@ use std::net::{Net, TcpListener, TcpStream};
 
 /// Writes the line of a fault, and gives status 1, or 3 where that failed.
 fn refuse<W: Write>(output: &mut W, fault: BenchFault) -> u8
-    ensures { (result ≡ 1) ⊎ (result ≡ 3) }
+    ensures status { (result ≡ 1) ⊎ (result ≡ 3) }
+    ensures line { result ≡ 1 → Gains (W.contents output.old) (W.contents output.new) (fault_line (fault_number fault)) }
 {
     match output.write_all(fault.line().as_bytes()) {
         Ok(()) => 1,
@@ -35,6 +38,7 @@ fn refuse<W: Write>(output: &mut W, fault: BenchFault) -> u8
 fn status_of<W: Write>(output: &mut W, ended: Result<(), ServeFault>) -> u8
     ensures ok { OnOk ended (W.contents output.new ≡ W.contents output.old) }
     ensures err { OnErr ended ((result ≡ 1) ⊎ (result ≡ 3)) }
+    ensures line { result ≡ 1 → IsReported ended (W.contents output.old) (W.contents output.new) }
     ensures status { (result ≡ 0) ⊎ ((result ≡ 1) ⊎ (result ≡ 3)) }
 {
     match ended {
@@ -132,6 +136,8 @@ pub fn serve<
     ensures made { result ≡ 0 → KnowsFile plan.now.book.file.now (F.is_printed files.old)
         → IsOk (book_said (F.file files.old) (book_asked plan.now.book)) }
     ensures status { plan.now.watch.explain ≡ false → (result ≡ 0) ⊎ ((result ≡ 1) ⊎ (result ≡ 3)) }
+    ensures refused { plan.now.watch.explain ≡ false → result ≡ 1
+        → EndsInFault plan.now.port plan.now.count (W.contents output.old) (W.contents output.new) }
     ensures quiet { plan.now.book.why ≡ false → errors.new ≡ errors.old }
 {
     let book = match book_for_words(alloc, &plan.book, files, errors) {

@@ -1,5 +1,5 @@
 -- What is printed of connections that are explained, one after another.
-use Rattle.std.proofs.Common.{◌≡◌, ◌∙◌, ℕ, zero, suc, ◌+◌, Bool, true, false, List, [], ◌++◌, Option, Some, None, Result, Ok, Err, IfOk, IsOk, OnOk, refl, sym, ap, subst, arith, append_assoc}
+use Rattle.std.proofs.Common.{◌≡◌, ◌∙◌, ℕ, zero, suc, ◌+◌, Bool, true, false, List, [], ◌++◌, Option, Some, None, Result, Ok, Err, IfErr, IfOk, IsOk, OnOk, refl, sym, ap, subst, arith, append_assoc}
 use Rattle.std.proofs.lemmas.Bool.{false≢true}
 use Rattle.std.proofs.lemmas.List.{append-nil}
 use Rattle.std.specs.Io.KnownBytes.{Appends}
@@ -8,15 +8,16 @@ use Rattle.h2_drive.specs.declared.fault.DriveEnd.{DriveEnd}
 use Rattle.h2_drive.specs.declared.fault.DriveFault.{DriveFault}
 use Rattle.h2_explain.specs.declared.run.Form.{Form}
 use Rattle.h2_explain.specs.declared.run.Summary.{Summary}
+use Rattle.h2_serve.specs.Faults.{faults_limits}
 use Rattle.h2_serve.specs.Lines.{end_line, listening_line, open_line}
 use Rattle.h2_serve.specs.Numbered.{prefix_of, prefixed}
 use Rattle.h2_serve.specs.Serves.{Gains}
-use Rattle.h2_serve.specs.Shown.{AreShown, GainsAllShown, GainsShown, IsShown, no_clients, with_client}
+use Rattle.h2_serve.specs.Shown.{AreShown, FaultsNoLimits, GainsAllShown, GainsShown, IsShown, no_clients, with_client}
 use Rattle.h2_serve.specs.Watched.{Shows}
 use Rattle.h2_serve.specs.declared.explained.Clients.{Clients}
 use Rattle.h2_serve.specs.declared.explained.ExplainedEnd.{ExplainedEnd}
 use Rattle.h2_serve.specs.declared.fault.ServeFault.{ServeFault}
-use Rattle.h2_serve.specs.declared.fault.ServeFault.TheVariants.{BadConfig}
+use Rattle.h2_serve.specs.declared.fault.ServeFault.TheVariants.{BadConfig, NoMemory}
 
 appended : (l m : Option (List ℕ)) (xs b : List ℕ) → Appends l m b → l ≡ Some xs → m ≡ Some (xs ++ b)
 appended None m xs b h e = cc
@@ -121,3 +122,19 @@ listens-shown true form s port count k l n (Ok clients) first refused lines =
     (refl, shown-after form s (listening_line port) count clients k l n first lines)
 listens-shown false form s port count k l n (Ok clients) first refused lines = let differ = refused refl in cc
 listens-shown allowed form s port count k l n (Err fault) first refused lines = tt
+
+-- ---- limits that are out of range
+
+pub explained-limits : (result : Result ExplainedEnd ServeFault) → IfOk result (λ x. IfErr x.summary (λ fault. faults_limits fault ≡ false))
+    → IfErr result (λ fault. fault ≡ NoMemory) → FaultsNoLimits result
+explained-limits (Ok x) told none = told
+explained-limits (Err fault) told none = ap faults_limits none
+
+-- after the line of the port
+pub listens-limits : (allowed : Bool) (front : List ℕ) (k l n : Option (List ℕ)) (result : Result Clients ServeFault) → Gains k l front
+    → IfErr result (λ fault. faults_limits fault ≡ true → (allowed ≡ false) × (n ≡ l))
+    → IfErr result (λ fault. faults_limits fault ≡ true → (allowed ≡ false) × Gains k n front)
+listens-limits allowed front k l n (Ok clients) first told = tt
+listens-limits allowed front k l n (Err fault) first told = λ limits.
+    let is = told limits in
+    (is.0, subst (λ (t : Option (List ℕ)). Gains k t front) (sym is.1) first)

@@ -17,6 +17,7 @@ use Rattle.h2_explain.specs.declared.explanation.Explanation.{Explanation}
 use Rattle.h2_explain.specs.declared.run.Summary.{Summary}
 use Rattle.h2_explain.proofs.Steps.{new-begins, new-explains}
 use Rattle.h2_serve.specs.declared.fault.ServeFault.{ServeFault}
+use Rattle.h2_serve.specs.declared.fault.TextFault.{TextFault}
 use Rattle.h2_serve.specs.Numbered.{PrintsPrefixed, fresh_after, gathered_text, prefix_of, prefixed}
 use Rattle.h2_serve.specs.Watched.{Concludes, GoesOn, IsWatched, Said, Shows, whole}
 use Rattle.h2_serve.specs.Passes.{prints-then}
@@ -144,7 +145,7 @@ ends-gathered P c e begun items false empty ends p = λ form s b text said.
 -- ---- all of it
 
 shown : {A : Type 0} (form : Form) (number : ℕ) (refused : Bool) (summary : Option Summary) (s : State) (octets : List ℕ) (c c' : Connection)
-    (e e' : Explanation A) (p q : List ℕ) (j k f g : Bool) (x y : Option ServeFault) (l m n : Option (List ℕ))
+    (e e' : Explanation A) (p q : List ℕ) (j k f g : Bool) (x y : Option TextFault) (l m n : Option (List ℕ))
     → p ≡ prefix_of form.json number → j ≡ form.json → f ≡ true → q ≡ p → k ≡ j
     → Said false form s [] c e [] → GoesOn refused c e (λ more. PrintsPrefixed p j f x l more g y m) octets c' e'
     → Concludes refused summary c' e' (λ more. (y ≡ None) × Appends m n (prefixed q k g more))
@@ -165,7 +166,7 @@ shown form number refused summary s octets c c' e e' p q j k f g x y l m n pe je
 
 -- the same of what was read, where its end was printed
 pub shown-read : {A : Type 0} (form : Form) (number : ℕ) (result : Result (Option Summary) ServeFault) (refused failed : Bool) (s : State)
-    (octets : List ℕ) (c c' : Connection) (e e' : Explanation A) (p q : List ℕ) (j k f g : Bool) (x y : Option ServeFault)
+    (octets : List ℕ) (c c' : Connection) (e e' : Explanation A) (p q : List ℕ) (j k f g : Bool) (x y : Option TextFault)
     (l m n before after read read' : Option (List ℕ)) → l ≡ before → n ≡ after → read' ≡ grown read octets → failed ≡ refused
     → p ≡ prefix_of form.json number → j ≡ form.json → f ≡ true → q ≡ p → k ≡ j
     → Said false form s [] c e [] → GoesOn refused c e (λ more. PrintsPrefixed p j f x l more g y m) octets c' e'

@@ -1,5 +1,5 @@
 -- The numbers of the faults that stop a server.
-use Rattle.std.specs.Prelude.{ℕ}
+use Rattle.std.specs.Prelude.{ℕ, Bool, true, false}
 use Rattle.h2_serve.specs.declared.fault.ServeFault.{ServeFault}
 use Rattle.h2_serve.specs.declared.fault.ServeFault.TheVariants.{NoMemory, BadConfig, Write, Socket}
 
@@ -8,3 +8,10 @@ fault_number NoMemory = 0
 fault_number BadConfig = 16
 fault_number Write = 23
 fault_number Socket = 28
+
+-- whether a fault says that a limit or a setting is out of range
+abbrev pub faults_limits : ServeFault → Bool
+faults_limits NoMemory = false
+faults_limits BadConfig = true
+faults_limits Write = false
+faults_limits Socket = false

@@ -2,7 +2,7 @@
 use Rattle.std.specs.Prelude.{◌≡◌, ℕ, ◌++◌, ◌==◌, Bool, true, false, List, [], ◌∷◌, Option, None, codes, decimal}
 use Rattle.std.specs.Io.KnownBytes.{Appends}
 use Rattle.h2_spec.specs.Show.{joined}
-use Rattle.h2_serve.specs.declared.fault.ServeFault.{ServeFault}
+use Rattle.h2_serve.specs.declared.fault.TextFault.{TextFault}
 
 -- what each line of a connection begins with: its number; in JSON its first member
 unfoldable pub prefix_of : (json : Bool) → (number : ℕ) → List ℕ
@@ -26,8 +26,8 @@ fresh_after fresh [] = fresh
 fresh_after fresh (c ∷ t) = fresh_after (c == 10) t
 
 -- unless something was not printed, the output gained this text, its lines after the prefix
-abbrev pub PrintsPrefixed : (prefix : List ℕ) → (json fresh : Bool) → (fault : Option ServeFault) → (before : Option (List ℕ))
-    → List ℕ → (fresh' : Bool) → (fault' : Option ServeFault) → (after : Option (List ℕ)) → Type 0
+abbrev pub PrintsPrefixed : (prefix : List ℕ) → (json fresh : Bool) → (fault : Option TextFault) → (before : Option (List ℕ))
+    → List ℕ → (fresh' : Bool) → (fault' : Option TextFault) → (after : Option (List ℕ)) → Type 0
 PrintsPrefixed prefix json fresh fault before t fresh' fault' after =
     fault' ≡ None → (fault ≡ None) × (fresh' ≡ fresh_after fresh t) × Appends before after (prefixed prefix json fresh t)
 

@@ -7,7 +7,7 @@ use Rattle.h2_conn.specs.Connection.{Connection}
 use Rattle.h2_explain.specs.declared.explanation.Explanation.{Explanation}
 use Rattle.h2_serve.specs.Numbered.{PrintsPrefixed, fresh_after, prefixed, prefixed_octet}
 use Rattle.h2_serve.specs.Watched.{GoesOn, Said}
-use Rattle.h2_serve.specs.declared.fault.ServeFault.{ServeFault}
+use Rattle.h2_serve.specs.declared.fault.TextFault.{TextFault}
 
 pub prefixed-append : (p : List ℕ) (json fresh : Bool) (a b : List ℕ)
     → prefixed p json fresh (a ++ b) ≡ prefixed p json fresh a ++ prefixed p json (fresh_after fresh a) b
@@ -25,12 +25,12 @@ appends-none None = tt
 appends-none (Some xs) = sym (append-nil xs)
 
 -- nothing was printed
-pub prints-none : (p : List ℕ) (json fresh : Bool) (fault : Option ServeFault) (known : Option (List ℕ))
+pub prints-none : (p : List ℕ) (json fresh : Bool) (fault : Option TextFault) (known : Option (List ℕ))
     → PrintsPrefixed p json fresh fault known [] fresh fault known
 prints-none p json fresh fault known e = (e, refl, appends-none known)
 
 -- a text was printed, and then another
-pub prints-more : (p : List ℕ) (json f g h : Bool) (x y z : Option ServeFault) (k l m : Option (List ℕ)) (a b : List ℕ)
+pub prints-more : (p : List ℕ) (json f g h : Bool) (x y z : Option TextFault) (k l m : Option (List ℕ)) (a b : List ℕ)
     → PrintsPrefixed p json f x k a g y l → PrintsPrefixed p json g y l b h z m → PrintsPrefixed p json f x k (a ++ b) h z m
 prints-more p json f g h x y z k l m a b one two e =
     let second = two e in
@@ -43,7 +43,7 @@ prints-more p json f g h x y z k l m a b one two e =
     )
 
 -- the same, where the second has the same prefix
-pub prints-then : (p q : List ℕ) (json other f g h : Bool) (x y z : Option ServeFault) (k l m : Option (List ℕ)) (a b : List ℕ)
+pub prints-then : (p q : List ℕ) (json other f g h : Bool) (x y z : Option TextFault) (k l m : Option (List ℕ)) (a b : List ℕ)
     → q ≡ p → other ≡ json → PrintsPrefixed p json f x k a g y l → PrintsPrefixed q other g y l b h z m
     → PrintsPrefixed p json f x k (a ++ b) h z m
 prints-then p q json other f g h x y z k l m a b same also one two =

@@ -1,16 +1,19 @@
 -- What a server prints of connections that are explained, where the octets that its output holds are known; and the
 -- verdict on their clients.
-use Rattle.std.specs.Prelude.{◌≡◌, ℕ, zero, suc, ◌+◌, ◌++◌, ◌||◌, true, false, List, [], Option, Some, None, is_some, Result}
+use Rattle.std.specs.Prelude.{◌≡◌, ℕ, zero, suc, ◌+◌, ◌++◌, ◌||◌, true, false, List, [], Option, Some, None, is_some, Result, Ok, Err, IfErr}
 use Rattle.h2_spec.specs.State.{State}
 use Rattle.h2_drive.specs.declared.fault.DriveEnd.{DriveEnd}
 use Rattle.h2_drive.specs.declared.fault.DriveFault.{DriveFault}
 use Rattle.h2_explain.specs.declared.run.Form.{Form}
 use Rattle.h2_explain.specs.declared.run.Summary.{Summary}
+use Rattle.h2_serve.specs.Faults.{faults_limits}
 use Rattle.h2_serve.specs.Lines.{end_line, open_line}
 use Rattle.h2_serve.specs.Numbered.{prefix_of, prefixed}
 use Rattle.h2_serve.specs.Serves.{Gains}
 use Rattle.h2_serve.specs.Watched.{Explains}
 use Rattle.h2_serve.specs.declared.explained.Clients.{Clients}
+use Rattle.h2_serve.specs.declared.explained.ExplainedEnd.{ExplainedEnd}
+use Rattle.h2_serve.specs.declared.fault.ServeFault.{ServeFault}
 
 -- what is printed of the connection with this number, which begins in this state: that it is open, the explanation of some
 -- octets, each line after the number, and how it ended
@@ -53,3 +56,8 @@ AreShown form s number (suc count) c c' all =
 abbrev pub GainsAllShown : Form → State → List ℕ → (count : ℕ) → Clients → Option (List ℕ) → Option (List ℕ) → Type 0
 GainsAllShown form s front count clients before after =
     (all : List ℕ) × AreShown form s 1 count no_clients clients all × Gains before after (front ++ all)
+
+-- a connection was explained, or not, and no fault of it says that a limit is out of range
+abbrev pub FaultsNoLimits : Result ExplainedEnd ServeFault → Type 0
+FaultsNoLimits (Ok x) = IfErr x.summary (λ fault. faults_limits fault ≡ false)
+FaultsNoLimits (Err fault) = faults_limits fault ≡ false

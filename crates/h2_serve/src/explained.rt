@@ -6,9 +6,10 @@ ghost use Rattle.h2_conn.specs.Connection.{Connection, going};
 ghost use Rattle.h2_drive.specs.Drives.{Drives, HasRead, drive_state};
 ghost use Rattle.h2_explain.specs.Verdicts.{strict_status};
 ghost use Rattle.h2_spec.specs.State.{is_allowed, opening};
+ghost use Rattle.h2_serve.specs.Faults.{faults_limits};
 ghost use Rattle.h2_serve.specs.Lines.{end_line, listening_line};
 ghost use Rattle.h2_serve.specs.Serves.{Gains};
-ghost use Rattle.h2_serve.specs.Shown.{GainsAllShown, GainsShown, no_clients, with_client};
+ghost use Rattle.h2_serve.specs.Shown.{FaultsNoLimits, GainsAllShown, GainsShown, no_clients, with_client};
 ghost use Rattle.h2_serve.specs.Watched.{Shows};
 
 use crate::fault::ServeFault;
@@ -61,6 +62,7 @@ pub fn explain_over<W: Write, K: Keeper, S: Wire>(
     ensures shows { IfOk result (λ shown. IfOk shown.summary (λ summary.
         HasRead (Shows form number summary conn.entry.state (W.contents output.old) (W.contents output.new))
         (S.octets_read wire.old) (S.octets_read wire.new))) }
+    ensures fault { IfOk result (λ shown. IfErr shown.summary (λ fault. faults_limits fault ≡ false)) }
     ensures err { IfErr result (λ fault. fault ≡ ServeFault.NoMemory) }
     ensures unchanged { OnErr result ((wire.new ≡ wire.old) × (out.new ≡ out.old)) }
     ensures not_printed { OnErr result (W.contents output.new ≡ W.contents output.old) }
@@ -104,8 +106,9 @@ fn explain_to_end<W: Write, K: Keeper>(
     output: &mut W,
 ) -> Result<ExplainedEnd, ServeFault>
     requires new { conn ≡ going conn.state [] }
-    ensures { IfOk result (λ shown. IfOk shown.summary (λ summary. (octets : List ℕ)
+    ensures shows { IfOk result (λ shown. IfOk shown.summary (λ summary. (octets : List ℕ)
         × Shows form number summary conn.entry.state (W.contents output.old) (W.contents output.new) octets)) }
+    ensures fault { FaultsNoLimits result }
 {
     // As for a connection that is not explained.
     let _unset = stream.set_nodelay(true);
@@ -134,6 +137,7 @@ fn print_end<W: Write>(
     ensures ok { OnOk result (IfOk shown (λ s. Gains (W.contents output.old) (W.contents output.new) (end_line number s.end))) }
     ensures summary { IfOk result (λ summary. IfOk shown (λ s. s.summary ≡ Ok summary)) }
     ensures known { OnOk result (IsOk shown) }
+    ensures fault { FaultsNoLimits shown → IfErr result (λ fault. faults_limits fault ≡ false) }
 {
     let shown = match shown {
         Ok(shown) => shown,
@@ -157,8 +161,9 @@ fn explain_next<W: Write, K: Keeper>(
     keeper: &mut K,
     output: &mut W,
 ) -> Result<Option<Summary>, ServeFault>
-    ensures { IfOk result (λ summary. GainsShown form (opening book.now config) number summary
+    ensures shown { IfOk result (λ summary. GainsShown form (opening book.now config) number summary
         (W.contents output.old) (W.contents output.new)) }
+    ensures fault { is_allowed config ≡ true → IfErr result (λ fault. faults_limits fault ≡ false) }
 {
     let stream = match accept(listener) {
         Ok(stream) => stream,
@@ -246,6 +251,8 @@ pub fn explain_on<W: Write, K: Keeper>(
     output: &mut W,
 ) -> Result<Clients, ServeFault>
     ensures refused { is_allowed config ≡ false → result ≡ Err ServeFault.BadConfig }
+    ensures allowed { IfErr result (λ fault. faults_limits fault ≡ true → (is_allowed config ≡ false)
+        × (W.contents output.new ≡ W.contents output.old)) }
     ensures shown { IfOk result (λ clients. GainsAllShown form (opening book.now config) [] count clients
         (W.contents output.old) (W.contents output.new)) }
 {
@@ -290,8 +297,10 @@ pub fn listen_and_explain<N: Net<Listener = TcpListener, Stream = TcpStream>, W:
     keeper: &mut K,
     output: &mut W,
 ) -> Result<Clients, ServeFault>
-    ensures { IfOk result (λ clients. (is_allowed config ≡ true)
+    ensures shown { IfOk result (λ clients. (is_allowed config ≡ true)
         × GainsAllShown form (opening book.now config) (listening_line port) count clients (W.contents output.old) (W.contents output.new)) }
+    ensures allowed { IfErr result (λ fault. faults_limits fault ≡ true → (is_allowed config ≡ false)
+        × Gains (W.contents output.old) (W.contents output.new) (listening_line port)) }
 {
     let listener = match listen(net, port, output) {
         Ok(listener) => listener,

@@ -1,7 +1,7 @@
 //! Why a server stops, numbered as the faults of all crates are. Definitions: `specs/Serves.antt`.
 
-ghost use Rattle.std.specs.Prelude.{◌≡◌};
-ghost use Rattle.h2_serve.specs.Faults.{fault_number};
+ghost use Rattle.std.specs.Prelude.{◌≡◌, false};
+ghost use Rattle.h2_serve.specs.Faults.{fault_number, faults_limits};
 
 use thiserror::Error;
 
@@ -32,6 +32,27 @@ impl ServeFault {
             ServeFault::BadConfig => 16,
             ServeFault::Write => 23,
             ServeFault::Socket => 28,
+        }
+    }
+}
+
+/// Why a text was not printed.
+#[derive(Clone, Copy)]
+pub(crate) enum TextFault {
+    /// Out of memory for the text.
+    NoMemory,
+    /// The output could not be written.
+    Write,
+}
+
+impl TextFault {
+    /// The same, as a fault of a server.
+    pub(crate) fn of_server(self) -> ServeFault
+        ensures { faults_limits result ≡ false }
+    {
+        match self {
+            TextFault::NoMemory => ServeFault::NoMemory,
+            TextFault::Write => ServeFault::Write,
         }
     }
 }

@@ -5,7 +5,7 @@ ghost use Rattle.std.specs.Prelude.{◌≡◌, ◌++◌, true, None, OnOk, IfOk}
 ghost use Rattle.std.specs.Io.KnownBytes.{Appends};
 ghost use Rattle.h2_serve.specs.Numbered.{PrintsPrefixed, fresh_after, gathered_text, prefix_of, prefixed, prefixed_octet};
 
-use crate::fault::ServeFault;
+use crate::fault::TextFault;
 use h2_device::{Gathered, Number, Text, texts};
 use std::alloc::{AllocError, Global};
 use std::io::Write;
@@ -73,11 +73,11 @@ fn put_text(
 }
 
 /// Writes octets so that the reader of the output sees them at once; says why not, where that failed.
-fn write_now<W: Write>(output: &mut W, octets: &[u8]) -> Option<ServeFault>
+fn write_now<W: Write>(output: &mut W, octets: &[u8]) -> Option<TextFault>
     ensures { result ≡ None → Appends (W.contents output.old) (W.contents output.new) octets.now }
 {
     if output.write_all(octets).is_err() || output.flush().is_err() {
-        return Some(ServeFault::Write);
+        return Some(TextFault::Write);
     }
     None
 }
@@ -91,7 +91,7 @@ pub(crate) struct Printer<'o, W> {
     json: bool,
     /// Whether a line begins.
     fresh: bool,
-    fault: Option<ServeFault>,
+    fault: Option<TextFault>,
 }
 
 impl<'o, W: Write> Printer<'o, W> {
@@ -111,7 +111,7 @@ impl<'o, W: Write> Printer<'o, W> {
     }
 
     /// The output, and why something was not printed, if it was not.
-    pub(crate) fn into_parts(self) -> (&'o mut W, Option<ServeFault>)
+    pub(crate) fn into_parts(self) -> (&'o mut W, Option<TextFault>)
         ensures fault { result.1 ≡ self.entry.fault }
         ensures output { result.0.now ≡ self.entry.output.now }
         ensures same_reference { result.0.ghost_name ≡ self.entry.output.ghost_name }
@@ -138,7 +138,7 @@ impl<'o, W: Write> Printer<'o, W> {
             &mut lines,
         ) {
             Ok(()) => self.fault = write_now(self.output, lines.as_slice()),
-            Err(_) => self.fault = Some(ServeFault::NoMemory),
+            Err(_) => self.fault = Some(TextFault::NoMemory),
         }
     }
     /// Prints what was gathered, each line after the prefix; nothing where memory for some of it was refused.

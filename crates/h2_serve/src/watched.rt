@@ -1,8 +1,9 @@
 //! A connection that is explained while it is driven over a wire.
 //! Definitions: `specs/Watched.antt`.
 
-ghost use Rattle.std.specs.Prelude.{◌≡◌, ℕ, List, [], ◌++◌, Bool, true, false, None, IfOk};
+ghost use Rattle.std.specs.Prelude.{◌≡◌, ℕ, List, [], ◌++◌, Bool, true, false, None, IfErr, IfOk};
 ghost use Rattle.std.specs.Io.KnownBytes.{Appends};
+ghost use Rattle.h2_serve.specs.Faults.{faults_limits};
 ghost use Rattle.h2_serve.specs.Numbered.{PrintsPrefixed, prefixed};
 ghost use Rattle.h2_serve.specs.Watched.{Concludes, GoesOn, IsWatched, whole};
 ghost use Rattle.std.proofs.Common.{refl, ◌∙◌};
@@ -124,6 +125,7 @@ impl<'b, 'o, W: Write, K: Keeper> WatchedConn<'b, 'o, W, K> {
         ensures ended { IfOk result.0 (λ summary. Concludes self.entry.failed summary self.entry.conn self.entry.explanation
             (λ more. (self.entry.printer.fault ≡ None) × Appends (W.contents self.entry.printer.output.now) (W.contents result.1.now)
             (prefixed self.entry.printer.prefix.items self.entry.printer.json self.entry.printer.fresh more))) }
+        ensures fault { IfErr result.0 (λ fault. faults_limits fault ≡ false) }
         ensures same_reference { result.1.ghost_name ≡ self.entry.printer.output.ghost_name }
     {
         let mut watched = self;
@@ -132,7 +134,7 @@ impl<'b, 'o, W: Write, K: Keeper> WatchedConn<'b, 'o, W, K> {
         let (output, fault) = printer.into_parts();
         match fault {
             None => (Ok(summary), output),
-            Some(fault) => (Err(fault), output),
+            Some(fault) => (Err(fault.of_server()), output),
         }
     }
 }

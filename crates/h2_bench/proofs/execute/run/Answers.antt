@@ -3,6 +3,7 @@ use Rattle.h2_spec.specs.Answer.{Entry}
 use Rattle.h2_spec.specs.declared.connection.Config.{Config}
 use Rattle.h2_words.specs.Grammar.{BatchAsked, BookAsked}
 use Rattle.h2_commands.specs.Books.{book_in}
+use Rattle.h2_commands.specs.CheckProgram.{EndsCheck}
 use Rattle.h2_commands.specs.ExplainProgram.{EndsExplain, form_of}
 use Rattle.h2_explain.specs.declared.run.Form.{Form}
 use Rattle.h2_commands.specs.CommandEnd.{AnswersAs, EndsBatch, Prints, no_files}
@@ -84,3 +85,17 @@ returns-clause-explains g c = λ config view file book planned.
     (g.W.Write.contents c.new-into.result.inner.now) (g.W.Write.contents c.args.output.now) (g.W.Write.contents c.run_on-status.new.output.inner.now) _
     c.run_on-status.result c.run_on-status.new.output.failed c.run_on-status.new.input.failed _
     (search rules) (search rules) (search rules) c.run_on-status.ensures.flag refl (c.run_on-status.ensures.explains config view file book planned (inr refl) (inr refl))
+
+checked-or-three : (config : Config) (book : BookAsked) (names : List (List ℕ)) (before before' after after' : Option (List ℕ)) (status : ℕ) (broken b : Bool)
+    → before ≡ before' → after ≡ after' → broken ≡ (status == 3) → (status == 3) ≡ b
+    → (broken ≡ false → EndsCheck no_files config book names before after status)
+    → (status ≡ 3) ⊎ EndsCheck no_files config book names before' after' status
+checked-or-three config book names before before' after after' status broken true w o flag e printed = inl (eqb-true status 3 e)
+checked-or-three config book names before before' after after' status broken false w o flag e printed = inr (rw (← w, ← o) (printed (flag ∙ e)))
+
+pub returns-clause-checks : goal.returns-clause-checks
+returns-clause-checks g c = λ config book in_place names planned.
+    let into = c.into_inner-writer.ensures.same_reference ∙ c.run_on-status.ensures.name ∙ c.new-into.ensures.same_reference in
+    checked-or-three config book names (g.W.Write.contents c.new-into.result.inner.now) (g.W.Write.contents c.args.output.now)
+    (g.W.Write.contents c.run_on-status.new.output.inner.now) _ c.run_on-status.result c.run_on-status.new.output.failed _
+    (search rules) (search rules) c.run_on-status.ensures.flag refl (c.run_on-status.ensures.checks config book in_place names planned refl)

@@ -10,4 +10,4 @@ pub loop-served-preserved : goal.loop-served-preserved
 loop-served-preserved g c =
     rw c.with-clients.ensures
     (more-shown _ _ [] c.loop-served.served _ _ _ _ _ (g.W.Write.contents c.loop-served.output) _ refl refl
-    c.loop-served.invariant c.in-Ok-explain_next.ensures)
+    c.loop-served.invariant c.in-Ok-explain_next.ensures.shown)

@@ -1,7 +1,12 @@
-use Rattle.h2_serve.proofs.ShownLemmas.{listens-shown}
+use Rattle.h2_serve.specs.Lines.{listening_line}
+use Rattle.h2_serve.proofs.ShownLemmas.{listens-limits, listens-shown}
 use Rattle.h2_serve.proofs.explained.listen_and_explain.Goals as goal
 
-pub returns : goal.returns
-returns g c =
+pub returns-clause-shown : goal.returns-clause-shown
+returns-clause-shown g c =
     listens-shown _ _ _ c.args.port c.args.count _ (g.W.Write.contents c.listen.new.output) _ _ c.in-Ok.ensures.ok
     c.explain_on.ensures.refused c.explain_on.ensures.shown
+
+pub returns-clause-allowed : goal.returns-clause-allowed
+returns-clause-allowed g c =
+    listens-limits _ (listening_line c.args.port) _ (g.W.Write.contents c.listen.new.output) _ c.explain_on.result c.in-Ok.ensures.ok c.explain_on.ensures.allowed
