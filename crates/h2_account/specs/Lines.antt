@@ -73,6 +73,12 @@ scope Settings = scope_word false
 scope Running = scope_word false
 scope (Ended code) = scope_word true
 
+-- what follows the name of a cause, or of a reason, in its two lines: its rule in words, and a sentence
+abbrev pub rule_lines : Bool → Role → (section server client client_section sentence : List ℕ) → List ℕ
+rule_lines color role section server client client_section sentence =
+    joined (codes ", " ∷ section ∷ codes ", " ∷ server ∷ codes "; broken: " ∷ client ∷ codes ", " ∷ client_section ∷ ended color
+    ∷ indent ∷ started color role ∷ sentence ∷ ended color ∷ [])
+
 -- the two lines of an error: its code, its cause, the section of its rule, how far the RFC decides what the server does,
 -- what the client broke, with the section that says so, and a sentence
 unfoldable pub error_lines : Bool → Phase → Cause → Row → (sentence : List ℕ) → List ℕ

@@ -9,7 +9,6 @@ use h2_spec::causes::Cause;
 use std::alloc::{Allocator, Global};
 
 /// What there is to say of an item, beside the item itself.
-#[derive(Drop)]
 pub struct Account<A: Allocator = Global> {
     /// The sentence of its cause, empty where it is no error.
     pub sentence: String<A>,
@@ -31,6 +30,24 @@ pub struct Account<A: Allocator = Global> {
     pub opening: Vec<u8, A>,
     /// Whether long texts are shown whole; else the first 100 octets of each.
     pub is_full: bool,
+}
+
+/// By hand, so that a function that drops an account makes one call, where a derived `Drop` would drop each list there.
+impl<A: Allocator> Drop for Account<A> {
+    fn drop(self) {
+        let Self {
+            sentence: _,
+            also: _,
+            facts: _,
+            warnings: _,
+            shows_fields: _,
+            changes: _,
+            moved: _,
+            entries: _,
+            opening: _,
+            is_full: _,
+        } = self;
+    }
 }
 
 impl<A: Allocator + Copy> Account<A> {

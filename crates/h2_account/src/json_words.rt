@@ -215,15 +215,13 @@ impl<A: Allocator> JsonWords<A> {
 
     /// Puts a number.
     pub fn number(&mut self, name: &str, number: u64) {
-        self.name(name, "\":");
-        say_all!(&mut self.words; number);
+        say_all!(&mut self.words; self.last.before_text(), name, "\":", number);
         self.last = Last::Value;
     }
 
     /// Puts a number that may be below 0.
     pub fn signed(&mut self, name: &str, number: i64) {
-        self.name(name, "\":");
-        say_all!(&mut self.words; number);
+        say_all!(&mut self.words; self.last.before_text(), name, "\":", number);
         self.last = Last::Value;
     }
 
@@ -249,8 +247,7 @@ impl<A: Allocator> JsonWords<A> {
 
     /// Puts a text that has no character to escape.
     pub fn plain<S: Say>(&mut self, name: &str, part: S) {
-        self.name(name, "\":\"");
-        part.say(&mut self.words);
+        say_all!(&mut self.words; self.last.before_text(), name, "\":\"", part);
         self.last = Last::Text;
     }
 

@@ -4,11 +4,10 @@
 
 ghost use Rattle.std.specs.Prelude.{◌≡◌, IfOk};
 ghost use Rattle.std.specs.String.{string_bytes};
-ghost use Rattle.h2_account.specs.Lines.{Words as Said, blanks, cause_lines, error_lines, first_line, ignored_lines, is_silent, lines, lines_of, reason_lines, scope};
+ghost use Rattle.h2_account.specs.Lines.{Words as Said, blanks, cause_lines, error_lines, first_line, ignored_lines, is_silent, lines, lines_of, reason_lines, rule_lines, scope};
 ghost use Rattle.h2_facts.specs.Special.{rule_of_cause, rule_of_reason};
 
 use crate::account::Account;
-use crate::line_text::string_with;
 use crate::paint::{Paint, Role};
 use crate::text::{
     say_all_moved, say_also, say_changes, say_entries, say_fields, say_item, say_opening, say_sent,
@@ -17,8 +16,8 @@ use crate::warning_words::say_warnings;
 use h2_describe::names::{error_name, scope_word};
 use h2_describe::say::TextBuilder;
 use h2_describe::spelled::BlockReader;
-use h2_device::{DeviceFault, Number, Output, Text, texts};
-use h2_facts::special::{case_of_error, case_of_reason, rule_of_cause, rule_of_reason};
+use h2_device::{DeviceFault, Number, Output, Text, string_with, texts};
+use h2_facts::special::{Rule, case_of_error, case_of_reason, rule_of_cause, rule_of_reason};
 use h2_item::item::Explained;
 use h2_spec::causes::Cause;
 use h2_spec::connection::Phase;
@@ -73,6 +72,42 @@ fn scope(phase: Phase) -> &'static str
     }
 }
 
+/// What follows the name of a cause, or of a reason, in its two lines: its rule, and a sentence on a line of its own.
+#[derive(Clone, Copy)]
+struct RuleLines<'w> {
+    paint: Paint,
+    role: Role,
+    rule: Rule,
+    sentence: &'w str,
+}
+
+impl Text for RuleLines<'_> {
+    ghost text = { λ l. rule_lines l.paint.0 l.role l.rule.section.now l.rule.server.now l.rule.client.now l.rule.client_section.now l.sentence.now };
+
+    fn write_to<O: Output>(&self, output: &mut O) -> Result<(), DeviceFault> {
+        let start = self.paint.started(self.role);
+        let end = self.paint.ended();
+        let (section, server) = (self.rule.section, self.rule.server);
+        let (client, client_section) = (self.rule.client, self.rule.client_section);
+        texts!(
+            ", ",
+            section,
+            ", ",
+            server,
+            "; broken: ",
+            client,
+            ", ",
+            client_section,
+            end,
+            INDENT,
+            start,
+            self.sentence,
+            end
+        )
+        .write_to(output)
+    }
+}
+
 /// The two lines of an error: its code, its cause, its rule, and a sentence.
 #[derive(Clone, Copy)]
 struct ErrorLines<'w> {
@@ -90,29 +125,16 @@ impl Text for ErrorLines<'_> {
     fn write_to<O: Output>(&self, output: &mut O) -> Result<(), DeviceFault> {
         let cause = self.cause;
         let start = self.paint.started(Role::Error);
-        let end = self.paint.ended();
         let scope = scope(self.phase);
         let code = error_name(cause.code());
         let rule = rule_of_cause(cause, self.case);
-        texts!(
-            INDENT,
-            start,
-            scope,
-            code,
-            ": ",
-            cause.name(),
-            ", ",
-            rule.section,
-            ", ",
-            rule.server,
-            "; broken: ",
-            rule.client,
-            ", ",
-            rule.client_section,
-            end
-        )
-        .write_to(output)?;
-        texts!(INDENT, start, self.sentence, end).write_to(output)
+        let rest = RuleLines {
+            paint: self.paint,
+            role: Role::Error,
+            rule,
+            sentence: self.sentence,
+        };
+        texts!(INDENT, start, scope, code, ": ", cause.name(), rest).write_to(output)
     }
 }
 
@@ -131,25 +153,14 @@ impl Text for IgnoredLines {
     fn write_to<O: Output>(&self, output: &mut O) -> Result<(), DeviceFault> {
         let reason = self.reason;
         let start = self.paint.started(Role::Ignored);
-        let end = self.paint.ended();
         let rule = rule_of_reason(reason, self.case);
-        texts!(
-            INDENT,
-            start,
-            "ignored: ",
-            reason.name(),
-            ", ",
-            rule.section,
-            ", ",
-            rule.server,
-            "; broken: ",
-            rule.client,
-            ", ",
-            rule.client_section,
-            end
-        )
-        .write_to(output)?;
-        texts!(INDENT, start, rule.sentence, end).write_to(output)
+        let rest = RuleLines {
+            paint: self.paint,
+            role: Role::Ignored,
+            rule,
+            sentence: rule.sentence,
+        };
+        texts!(INDENT, start, "ignored: ", reason.name(), rest).write_to(output)
     }
 }
 
@@ -289,15 +300,14 @@ fn words_of<A: Allocator + Copy>(
     })
 }
 
-/// How many octets the lines of an item take, about: those of its words and of `others`, some for its number and its
-/// offset, and those of the rule, where it is an error or ignored.
-fn room_for<A: Allocator>(item: &Explained<'_>, words: &ItemWords<A>, others: usize) -> usize {
-    let rule = if item.cause.is_some() || item.ignored.is_some() {
-        400
-    } else {
-        40
-    };
-    words.text.len().saturating_add(others).saturating_add(rule)
+/// How many octets the lines of an item take, about: those of its words, of its opening and of its sentence, some for its
+/// number and its offset, and those of the rule, where it is an error or ignored.
+fn room_for(has_rule: bool, words: usize, opening: &str, sentence: &str) -> usize {
+    let rule = if has_rule { 400 } else { 40 };
+    words
+        .saturating_add(opening.len())
+        .saturating_add(sentence.len())
+        .saturating_add(rule)
 }
 
 /// The lines of an item with these words.
@@ -334,7 +344,8 @@ fn lines_with<A: Allocator + Copy>(
     let also = words.part(words.fields, words.also);
     let sent = words.part(words.also, words.sent);
     let changes = words.part(words.sent, words.text.len());
-    let room = room_for(item, words, opening.len().saturating_add(sentence.len()));
+    let has_rule = item.cause.is_some() || item.ignored.is_some();
+    let room = room_for(has_rule, words.text.len(), opening, sentence);
     string_with(
         alloc,
         room,

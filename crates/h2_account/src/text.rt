@@ -6,7 +6,7 @@ use h2_changes::changes::{Moved, ShownChange};
 use h2_changes::count::Count;
 use h2_describe::frame_words::{say_frame, say_frame_in, say_head};
 use h2_describe::names::kind_name;
-use h2_describe::say::{Cut, OctetCount, TextBuilder};
+use h2_describe::say::{Cut, OctetCount, Say, TextBuilder};
 use h2_describe::say_all;
 use h2_describe::sent::next_frame;
 use h2_describe::spelled::{BlockReader, SpelledField, Spelling};
@@ -15,6 +15,7 @@ use h2_frame::FrameRef;
 use h2_item::header_table::EntryChange;
 use h2_item::item::Explained;
 use h2_spec::causes::Cause;
+use h2_spec::connection::BlockView;
 use h2_spec::frames::{FrameType, ItemHead};
 use std::alloc::{AllocError, Allocator};
 
@@ -150,12 +151,27 @@ pub(crate) fn say_sent<A: Allocator + Copy>(
     }
 }
 
-/// Puts a number last, `none` where it is absent.
-fn say_number<A: Allocator>(what: Count, value: i64, out: &mut TextBuilder<A>) {
-    if value == -1 && what.may_be_absent() {
-        say_all!(out; "none");
-    } else {
-        say_all!(out; value);
+/// A stream that a change is of, as `stream 1: `.
+#[derive(Clone, Copy)]
+struct OnStream(u32);
+
+impl Say for OnStream {
+    fn say<A: Allocator>(self, out: &mut TextBuilder<A>) {
+        say_all!(out; "stream ", self.0, ": ");
+    }
+}
+
+/// A number of a change, `none` where it is absent.
+#[derive(Clone, Copy)]
+struct Counted(Count, i64);
+
+impl Say for Counted {
+    fn say<A: Allocator>(self, out: &mut TextBuilder<A>) {
+        if self.1 == -1 && self.0.may_be_absent() {
+            say_all!(out; "none");
+        } else {
+            say_all!(out; self.1);
+        }
     }
 }
 
@@ -180,15 +196,12 @@ fn say_change<A: Allocator>(change: &ShownChange, out: &mut TextBuilder<A>) {
     match change {
         ShownChange::Number(stream, what, before, after) => {
             if *stream != 0 {
-                say_all!(out; "stream ", *stream, ": ");
+                say_all!(out; OnStream(*stream));
             }
-            say_all!(out; what.name(), " ");
-            say_number(*what, *before, out);
-            say_all!(out; " -> ");
-            say_number(*what, *after, out);
+            say_all!(out; what.name(), " ", Counted(*what, *before), " -> ", Counted(*what, *after));
         }
         ShownChange::State(stream, before, after) => say_all!(out;
-            "stream ", *stream, ": ", kind_name(*before), " -> ", kind_name(*after)),
+            OnStream(*stream), kind_name(*before), " -> ", kind_name(*after)),
         ShownChange::Acknowledged(_, _) => say_all!(out; "the server's settings are acknowledged"),
         ShownChange::Stops(stream, remaining, own, connection) => {
             let verb = if *remaining == 1 {
@@ -196,10 +209,26 @@ fn say_change<A: Allocator>(change: &ShownChange, out: &mut TextBuilder<A>) {
             } else {
                 " of its body remain"
             };
-            say_all!(out; "stream ", *stream, ": ", OctetCount(*remaining), verb);
+            say_all!(out; OnStream(*stream), OctetCount(*remaining), verb);
             say_spent(*own, *connection, out);
         }
     }
+}
+
+/// A number before and after, as `65535 -> 0`.
+#[derive(Clone, Copy)]
+struct Moving(i64, i64);
+
+impl Say for Moving {
+    fn say<A: Allocator>(self, out: &mut TextBuilder<A>) {
+        say_all!(out; self.0, " -> ", self.1);
+    }
+}
+
+/// Puts last how far an open block has got.
+fn say_block<A: Allocator>(block: &BlockView, out: &mut TextBuilder<A>) {
+    let octets = OctetCount(u64::from(block.octets));
+    say_all!(out; "the block of stream ", block.stream, " is open: ", octets, ", a list of ", block.list_size);
 }
 
 /// Puts a change of a stream last that is not among the changes.
@@ -207,18 +236,16 @@ fn say_moved<A: Allocator>(moved: &Moved, out: &mut TextBuilder<A>) {
     match moved {
         Moved::Opened(stream, recv, send, declared) => {
             say_all!(out;
-                "stream ", *stream, ": begins with a receive window of ", *recv,
+                OnStream(*stream), "begins with a receive window of ", *recv,
                 " and a send window of ", *send);
             if let Some(declared) = declared {
                 say_all!(out; ", content-length ", *declared);
             }
         }
         Moved::Number(stream, what, before, after) => say_all!(out;
-            "stream ", *stream, ": ", what.name(), " ", *before, " -> ", *after),
-        Moved::BodySent(stream) => say_all!(out; "stream ", *stream, ": its body is sent"),
-        Moved::Block(block) => say_all!(out;
-            "the block of stream ", block.stream, " is open: ", OctetCount(u64::from(block.octets)),
-            ", a list of ", block.list_size),
+            OnStream(*stream), what.name(), " ", Moving(*before, *after)),
+        Moved::BodySent(stream) => say_all!(out; OnStream(*stream), "its body is sent"),
+        Moved::Block(block) => say_block(block, out),
         Moved::BlockEnds(stream) => say_all!(out; "the block of stream ", *stream, " ends"),
     }
 }
@@ -232,6 +259,21 @@ pub(crate) fn say_all_moved<A: Allocator>(moved: &[Moved], paint: Paint, out: &m
     }
 }
 
+/// Puts an entry that was entered or evicted last.
+fn say_entry<A: Allocator + Copy>(change: &EntryChange<A>, out: &mut TextBuilder<A>) {
+    let entry = &change.entry;
+    let front = if change.is_entered {
+        "table + 62 "
+    } else {
+        "table - "
+    };
+    let (name, value) = (Cut(entry.name.as_slice()), Cut(entry.value.as_slice()));
+    say_all!(out; front, name, ": \"", value, "\"");
+    if change.is_entered {
+        say_all!(out; " (", entry.size(), ")");
+    }
+}
+
 /// Puts the lines of entries that were entered or evicted last: `table + 62 NAME: VALUE (SIZE)`, `table - NAME: VALUE`.
 pub(crate) fn say_entries<A: Allocator + Copy>(
     entries: &[EntryChange<A>],
@@ -239,14 +281,8 @@ pub(crate) fn say_entries<A: Allocator + Copy>(
     out: &mut TextBuilder<A>,
 ) {
     for change in entries {
-        let entry = &change.entry;
-        let (name, value) = (Cut(entry.name.as_slice()), Cut(entry.value.as_slice()));
         paint.begin(Role::Change, out);
-        if change.is_entered {
-            say_all!(out; "table + 62 ", name, ": \"", value, "\" (", entry.size(), ")");
-        } else {
-            say_all!(out; "table - ", name, ": \"", value, "\"");
-        }
+        say_entry(change, out);
         paint.end(out);
     }
 }

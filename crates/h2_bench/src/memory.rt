@@ -1,12 +1,12 @@
 //! A command over memory: words, files and an input as octets, and what is printed for them, whole. The program does
-//! not call it, nor `run_on` and `run` of `execute`: `main` calls `carry_out`, which all three do. Definitions:
+//! not call it, nor `run_on` and `run` of `execute`: h2_host calls `carry_out`, which all three do. Definitions:
 //! `specs/Memory.antt`, over `specs/Printed.antt`.
 
 ghost use Rattle.std.specs.Prelude.{◌≡◌, ◌⊎◌, ℕ, Bool, List, [], Some, None, true, false, IfOk};
 ghost use Rattle.h2_spec.specs.declared.connection.Config.{Config};
 ghost use Rattle.h2_book.specs.Files.{file_in};
 ghost use Rattle.h2_words.specs.Grammar.{BatchAsked, BookAsked, View, asked_of, batch, check, debug, explain};
-ghost use Rattle.h2_commands.specs.CheckProgram.{IsCheck};
+ghost use Rattle.h2_check_command.specs.CheckProgram.{IsCheck};
 ghost use Rattle.h2_commands.specs.ExplainProgram.{IsExplained, form_of};
 ghost use Rattle.h2_bench.specs.Memory.{IsDebugged, printed_in, unserved};
 ghost use Rattle.h2_commands.specs.Printed.{OrCutShort, failed, places_within, printed_within};

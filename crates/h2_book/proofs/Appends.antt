@@ -3,7 +3,7 @@ use Rattle.std.proofs.Common.{◌≡◌, ◌∙◌, ℕ, Bool, true, false, List
 use Rattle.toml.specs.Data.{Items, no_items, item, Members}
 use Rattle.h2_spec.specs.Answer.{Entry}
 use Rattle.h2_spec.specs.Book.{entry_fault}
-use Rattle.h2_book.specs.Entries.{Directory, Appended, added, answers_of, book_with, book_of_answers, book_of_document, book_of_file, book_of_octets, document_in, entries_of, entry_of, max_book_file, unless_refused, with_entry}
+use Rattle.h2_book.specs.Entries.{Directory, Appended, added, answers_of, book_with, book_of_answers, book_of_document, book_of_file, book_of_octets, document_in, entries_of, entry_of, most, unless_refused, with_entry}
 
 -- entries of answers after a book
 abbrev pub Extends : Directory → List ℕ → List Entry → List Entry → Items → Type 0
@@ -48,4 +48,4 @@ book_of_file-appends directory path old new e = in_file (directory path) refl e
 
     in_file : (o : Option (List ℕ)) → directory path ≡ o → book_of_octets directory path old o ≡ Ok new → Appended directory path old new
     in_file None s e = cc
-    in_file (Some octets) s e = in_octets octets (nat_lt max_book_file (length octets)) s e
+    in_file (Some octets) s e = in_octets octets (nat_lt most (length octets)) s e

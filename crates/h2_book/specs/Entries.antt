@@ -4,6 +4,7 @@ use Rattle.std.specs.Option.{option_and_then}
 use Rattle.std.specs.Str.{is_utf8}
 use Rattle.toml.specs.Parse.{parse_document}
 use Rattle.toml.specs.Data.{Data, Items, no_items, item, Members, as_array, as_table, get_member}
+pub use Rattle.h2_device.specs.Limit.{most}
 use Rattle.h2_spec.specs.Answer.{Entry, answer}
 use Rattle.h2_spec.specs.Book.{entry_fault}
 use Rattle.h2_book.specs.Contents.{octets_of}
@@ -70,10 +71,6 @@ abbrev pub book_of_document : Directory → List ℕ → List Entry → Option M
 book_of_document directory path book None = Err 26
 book_of_document directory path book (Some ms) = book_of_answers directory path book (answers_of ms)
 
--- the longest file of a book
-abbrev pub max_book_file : ℕ
-max_book_file = 16777216
-
 -- the document that octets are: UTF-8 that is TOML
 abbrev pub document_in : List ℕ → Option Members
 document_in octets = if is_utf8 octets then parse_document octets else None
@@ -82,7 +79,7 @@ document_in octets = if is_utf8 octets then parse_document octets else None
 abbrev pub book_of_octets : Directory → List ℕ → List Entry → Option (List ℕ) → Result (List Entry) ℕ
 book_of_octets directory path book None = Err 22
 book_of_octets directory path book (Some octets) =
-    if nat_lt max_book_file (length octets) then Err 22 else book_of_document directory path book (document_in octets)
+    if nat_lt most (length octets) then Err 22 else book_of_document directory path book (document_in octets)
 
 abbrev pub book_of_file : Directory → List ℕ → List Entry → Result (List Entry) ℕ
 book_of_file directory path book = book_of_octets directory path book (directory path)

@@ -18,13 +18,11 @@ use crate::files::{Files, FilesFault};
 use crate::line::line_at;
 use crate::sentence::Where;
 use crate::table::value_at;
+use h2_device::MAX_INPUT;
 use h2_request::book::Book;
 use h2_request::fault::BookFault;
 use std::alloc::Global;
 use toml::{Table, Value};
-
-/// The most octets of a book's file.
-pub const MAX_BOOK_FILE: usize = 16_777_216;
 
 /// Puts the entries of the file at `path` after those of the book, in the order of the file.
 ///
@@ -49,7 +47,7 @@ pub fn add_book<F: Files>(
     ensures same_printed { F.is_printed files.new ≡ F.is_printed files.old }
     ensures same_files { F.file files.new ≡ F.file files.old }
 {
-    let octets = match files.read(alloc, path, MAX_BOOK_FILE) {
+    let octets = match files.read(alloc, path, MAX_INPUT) {
         Ok(octets) => octets,
         Err(FilesFault::NoMemory) => return Err(BookFileFault::of_file(
             alloc,

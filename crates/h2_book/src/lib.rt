@@ -14,7 +14,7 @@ mod sentence;
 mod standard;
 mod table;
 
-pub use book_file::{MAX_BOOK_FILE, add_book};
+pub use book_file::add_book;
 pub use fault::{BookFileFault, BookRefusal, Key};
 pub use files::{Files, FilesFault};
 pub use memory::FilesInMemory;

@@ -1,6 +1,8 @@
 //! The system's files, of which contracts know nothing.
 
-ghost use Rattle.std.specs.Prelude.{◌≤◌, IfOk, None, false, vec_len};
+ghost use Rattle.std.specs.Prelude.{◌≡◌, ◌<◌, ◌≤◌, IfErr, IfOk, IfSome, None, OnOk, false, length, vec_len};
+ghost use Rattle.std.specs.Io.KnownBytes.{IsAtEnd};
+ghost use Rattle.h2_book.specs.declared.files.FilesFault.TheVariants.{TooLong};
 
 use crate::files::{Files, FilesFault};
 use std::alloc::Global;
@@ -112,13 +114,17 @@ fn replace_file<R: rt::Files>(
 ///
 /// # Errors
 ///
-/// `Failed`: a read failed. `TooLong`: the reader has more than `most` octets. `NoMemory`: memory was refused.
+/// `Failed`: a read failed. `TooLong`: the reader has more than `most` octets. `NoMemory`: memory was refused; the reader may have
+/// more than `most` octets then too.
 pub fn read_whole<R: Read>(alloc: Global, input: &mut R, most: usize) -> Result<Vec<u8>, FilesFault>
-    ensures { IfOk result (λ octets. vec_len octets ≤ most) }
+    ensures whole { IfOk result (λ octets. IfSome (R.remaining input.old) (λ known. octets.items ≡ known)) }
+    ensures end { OnOk result (IsAtEnd (R.remaining input.new)) }
+    ensures within { IfOk result (λ octets. vec_len octets ≤ most) }
+    ensures long { IfErr result (λ fault. fault ≡ TooLong → IfSome (R.remaining input.old) (λ known. most < length known)) }
 {
     let mut octets = Vec::new(alloc);
     let mut buffer = [0; 16384];
-    for _ in 0..u64::MAX {
+    loop {
         let Ok(count) = input.read(&mut buffer) else {
             return Err(FilesFault::Failed);
         };
@@ -132,5 +138,4 @@ pub fn read_whole<R: Read>(alloc: Global, input: &mut R, most: usize) -> Result<
             return Err(FilesFault::NoMemory);
         };
     }
-    Err(FilesFault::TooLong)
 }

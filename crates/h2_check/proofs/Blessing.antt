@@ -7,7 +7,7 @@ use Rattle.h2_debug.specs.Debugging.{Debugging}
 use Rattle.h2_check.specs.Blessed.{blessed_at, error_text, filled, filled_line, filled_place, filled_place_script, filled_script, held_place, held_text, kept_line, left_place, left_text, more_say, outcome_text, renewed, renewed_cause, renewed_sent, renewed_sent_place, sent_lines, stays_after, taken_at, told_place, written_line, written_place}
 use Rattle.h2_check.specs.Cases.{Place, Start, first_place, played, sight_above, sight_at, unspoken}
 use Rattle.h2_check.specs.Frames.{sends, spoken_by}
-use Rattle.h2_check.specs.Lines.{line_said}
+use Rattle.h2_cases.specs.Lines.{line_said}
 use Rattle.h2_check.specs.Seen.{Sight, seen_by}
 use Rattle.h2_check.specs.Tap.{Gains}
 use Rattle.h2_check.specs.Walks.{Keeps, Leaves, Lets, Tells, Walks, Writes, left_by, place_of, sight_here}

@@ -15,7 +15,7 @@ use Rattle.h2_spec.specs.declared.ignored.Ignored.{Ignored}
 use Rattle.h2_why.specs.Why.{error_lines, ignored_lines, why_lines}
 use Rattle.h2_check.specs.Cases.{Start, closes, debugger_at, sight_above}
 use Rattle.h2_check.specs.Commands.{answered, debugger_or, fault_in, is_memory_fault, is_refusal}
-use Rattle.h2_check.specs.Lines as line
+use Rattle.h2_cases.specs.Lines as line
 use Rattle.h2_check.specs.Seen.{seen_by}
 use Rattle.h2_check.specs.Walks.{Begins, Closes, Commands, Finds, Loads, Passes, debugger_for, place_of}
 use Rattle.h2_check.specs.declared.command.Given.{Given}

@@ -11,7 +11,7 @@ use Rattle.h2_check.specs.Cases.{Start, all_hold, closes, errs, first_place, ign
 use Rattle.h2_check.specs.Commands.{text_by}
 use Rattle.h2_check.specs.Frames.{is_none, sends, spoken_by}
 use Rattle.h2_check.specs.ItemTexts.{text_before}
-use Rattle.h2_check.specs.Lines as line
+use Rattle.h2_cases.specs.Lines as line
 use Rattle.h2_check.specs.Seen.{Sight, no_item, seen_by, sight, sight_by}
 use Rattle.h2_check.specs.Texts.{explains, shows}
 use Rattle.h2_check.specs.Walks.{Closes, Finds, Goes, Leaves, Passes, Speaks, Walks, left_by, place_of, sent_here, sight_here}

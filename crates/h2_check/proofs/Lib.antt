@@ -1,10 +1,7 @@
 pub mod Blessing
-pub mod CaseLists
 pub mod Commanding
 pub mod Feeds
 pub mod Gains
 pub mod Going
 pub mod Items
-pub mod Lists
-pub mod Readings
 pub mod Texts

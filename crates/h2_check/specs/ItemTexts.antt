@@ -11,8 +11,8 @@ use Rattle.h2_spec.specs.State.{State, opening}
 use Rattle.h2_spec.specs.Trace.{next_event}
 use Rattle.h2_spec.specs.declared.connection.Config.{Config}
 use Rattle.h2_check.specs.Frames.{octets_at}
-use Rattle.h2_check.specs.Lines as line
-use Rattle.h2_check.specs.Lines.{Said, line_said}
+use Rattle.h2_cases.specs.Lines as line
+use Rattle.h2_cases.specs.Lines.{Said, line_said}
 
 -- ---- the octets of a case
 

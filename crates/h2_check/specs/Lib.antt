@@ -1,13 +1,9 @@
 pub mod Blessed
-pub mod CaseWords
 pub mod Cases
 pub mod Commands
-pub mod Files
 pub mod Frames
 pub mod ItemTexts
-pub mod Lines
 pub mod Seen
-pub mod Shell
 pub mod Texts
 pub mod Tap
 pub mod Walks

@@ -4,7 +4,7 @@ use Rattle.std.specs.List.{list_any, starts_with}
 use Rattle.std.specs.Str.{bytes_eq}
 use Rattle.h2_account.specs.Lines.{indent}
 use Rattle.h2_spec.specs.Script.{lines_of}
-use Rattle.h2_check.specs.Lines.{behind}
+use Rattle.h2_cases.specs.Lines.{behind}
 
 -- what precedes an end of a text
 abbrev pub before : List ℕ → List ℕ → Option (List ℕ)

@@ -9,7 +9,7 @@ use Rattle.h2_check.specs.Blessed.{held_line, held_text, kept_line}
 use Rattle.h2_check.specs.Cases.{Outcome, Place, Start, Skipped, Holds, Fails, behind, holds, sight_above}
 use Rattle.h2_check.specs.Commands.{answered, debugger_or, is_refusal}
 use Rattle.h2_check.specs.Frames.{frame_length, is_next, is_none, sends, spoken_by}
-use Rattle.h2_check.specs.Lines.{Said}
+use Rattle.h2_cases.specs.Lines.{Said}
 use Rattle.h2_check.specs.Seen.{Sight, seen_by, sight_by}
 use Rattle.h2_check.specs.declared.command.Given.{Given}
 use Rattle.h2_check.specs.declared.walk.Walk.{Walk}

@@ -7,13 +7,13 @@ ghost use Rattle.h2_explain.specs.Explains.{IsTextOf};
 ghost use Rattle.h2_spec.specs.State.{is_allowed, opening};
 ghost use Rattle.h2_check.specs.ItemTexts.{AreTexts, AreTextsOf, TakesText, have_explained, octets_of_lines, octets_or_none, octets_said, says_explained, text_before};
 ghost use Rattle.h2_check.specs.Frames.{octets_at};
-ghost use Rattle.h2_check.specs.Lines.{line_said};
+ghost use Rattle.h2_cases.specs.Lines.{line_said};
 ghost use Rattle.h2_check.specs.declared.verdict.CaseFault.TheVariants.{BadConfig, NoMemory};
 
-use crate::line::{Line, line_of};
 use crate::verdict::CaseFault;
 use h2_account::lines::lines_of;
 use h2_account::paint::Paint;
+use h2_cases::{Line, line_of};
 use h2_conn::{Conn, ConnFault};
 use h2_describe::sent::first_of;
 use h2_explain::{Explained, Explainer, take_next};

@@ -4,8 +4,8 @@ ghost use Rattle.std.specs.Prelude.{◌≡◌, ◌⊎◌, [], map, string_bytes,
 ghost use Rattle.h2_conn.specs.Connection.{going};
 ghost use Rattle.h2_spec.specs.State.{is_allowed};
 ghost use Rattle.h2_check.specs.Cases.{IsOutcome, Start, all_hold, first_place, outcome, outcome_of};
-ghost use Rattle.h2_check.specs.Files.{expect_something};
-ghost use Rattle.h2_check.specs.Lines.{line_said};
+ghost use Rattle.h2_cases.specs.Files.{expect_something};
+ghost use Rattle.h2_cases.specs.Lines.{line_said};
 ghost use Rattle.h2_check.specs.Walks.{outcome_by};
 ghost use Rattle.h2_check.specs.declared.verdict.CaseFault.TheVariants.{BadConfig, NoMemory};
 

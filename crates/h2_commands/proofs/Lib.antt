@@ -1,9 +1,7 @@
 pub mod Assembled
-pub mod Checked
 pub mod Explained
 pub mod Inputs
 pub mod Played
 pub mod RefusedWords
-pub mod Setups
 pub mod Tables
 pub mod Written

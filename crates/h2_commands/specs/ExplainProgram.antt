@@ -19,8 +19,8 @@ use Rattle.h2_commands.specs.Input.{most}
 use Rattle.h2_hex.specs.HexText.{octets_spelled}
 use Rattle.h2_commands.specs.Printing.{Printed, failed, failed_as, failed_after_as, refused_as}
 use Rattle.h2_commands.specs.CommandEnd.{PrintsSome}
-use Rattle.h2_commands.specs.declared.explain.ExplainEnd.{ExplainEnd}
-use Rattle.h2_commands.specs.declared.explain.ExplainEnd.TheVariants.{Fault, NotWritten}
+use Rattle.h2_commands.specs.declared.each.PrintFault.{PrintFault}
+use Rattle.h2_commands.specs.declared.each.PrintFault.TheVariants.{Fault, NotWritten}
 use Rattle.h2_commands.specs.declared.explain.ExplainOutcome.{ExplainOutcome}
 use Rattle.h2_commands.specs.declared.fault.BenchFault.TheVariants.{BadConfig, BadHex, NoMemory, Read}
 
@@ -120,18 +120,18 @@ abbrev pub outcome_status : ExplainOutcome → ℕ
 outcome_status o = if o.strict then strict_status o.verdict o.ended else if o.ended then 4 else 0
 
 -- whether a write failed
-abbrev pub cut_off : Result ExplainOutcome ExplainEnd → Bool
+abbrev pub cut_off : Result ExplainOutcome PrintFault → Bool
 cut_off (Ok outcome) = false
 cut_off (Err (Fault fault)) = false
 cut_off (Err NotWritten) = true
 
 -- what is reported in all, where a text was written and then it ended so
-abbrev pub explained_after : (json : Bool) → List ℕ → Result ExplainOutcome ExplainEnd → Printed
+abbrev pub explained_after : (json : Bool) → List ℕ → Result ExplainOutcome PrintFault → Printed
 explained_after json text (Ok outcome) = record { text = text; status = outcome_status outcome }
 explained_after json text (Err (Fault fault)) = failed_after_as json text fault
 explained_after json text (Err NotWritten) = record { text = text; status = 3 }
 
 -- the end of an explanation that was cut short
-abbrev pub end_of : ExplainFault → ExplainEnd
+abbrev pub end_of : ExplainFault → PrintFault
 end_of explained.NoMemory = Fault NoMemory
 end_of explained.NotWritten = NotWritten

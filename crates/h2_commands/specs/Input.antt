@@ -1,11 +1,8 @@
 -- The input of a program: when it isn't read, and why it is no hex text.
 use Rattle.std.specs.Prelude.{◌≡◌, ◌⊎◌, ◌<◌, ℕ, Bool, true, false, List, Option, Some, None, is_some, length}
+pub use Rattle.h2_device.specs.Limit.{most}
 use Rattle.h2_commands.specs.declared.fault.BenchFault.{BenchFault}
 use Rattle.h2_commands.specs.declared.fault.BenchFault.TheVariants.{NoMemory, Read, BadHex}
-
--- the most octets that an input may have
-abbrev pub most : ℕ
-most = 16777216
 
 -- memory was refused, or a read failed, or there are too many octets
 abbrev pub IsUnread : Option (List ℕ) → Bool → BenchFault → Type 0

@@ -1,8 +1,6 @@
+pub mod Advice
 pub mod Answers
-pub mod BlessProgram
 pub mod Books
-pub mod CaseSetups
-pub mod CheckProgram
 pub mod CommandEnd
 pub mod Commands
 pub mod Each

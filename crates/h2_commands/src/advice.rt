@@ -1,8 +1,10 @@
-//! Advice about the words of a command, on standard error. No definition speaks of its text.
+//! Advice about the words of a command, on standard error. Definitions: `specs/Advice.antt`.
 
-ghost use Rattle.std.specs.Prelude.{◌≡◌, false};
+ghost use Rattle.std.specs.Prelude.{◌≡◌, ◌⊎◌, IfOk, false, string_bytes};
+ghost use Rattle.std.specs.Io.KnownBytes.{Appends};
 ghost use Rattle.h2_words.specs.Plans.{batch_asked};
 ghost use Rattle.h2_commands.specs.CommandEnd.{asks_why_batch};
+ghost use Rattle.h2_commands.specs.Advice.{is_advised, window_sentence};
 
 use h2_device::Output;
 use h2_spec::connection::Config;
@@ -10,7 +12,9 @@ use h2_words::command::Batch;
 use std::alloc::{AllocError, Global};
 
 /// What there is to say of a window that is below the credit, as a sentence on its own line.
-fn window_sentence(alloc: Global, config: Config) -> Result<String, AllocError> {
+fn window_sentence(alloc: Global, config: Config) -> Result<String, AllocError>
+    ensures { IfOk result (λ text. string_bytes text ≡ window_sentence config) }
+{
     let (window, credit) = (config.window, config.credit);
     format!(in alloc;
         "--window {window} is below --credit {credit}: a longer upload stops, since octets are returned only once {credit} of them are owed.\n"
@@ -23,6 +27,8 @@ fn window_sentence(alloc: Global, config: Config) -> Result<String, AllocError> 
 /// Nothing is written unless sentences are asked for, or where a limit or a setting is out of range.
 pub fn advise<E: Output>(alloc: Global, config: Config, why: bool, errors: &mut E)
     ensures quiet { why ≡ false → errors.new ≡ errors.old }
+    ensures fits { is_advised config ≡ false → errors.new ≡ errors.old }
+    ensures text { E.has_failed errors.new ≡ false → (errors.new ≡ errors.old) ⊎ Appends (E.written errors.old) (E.written errors.new) (window_sentence config) }
     ensures name { E.name errors.new ≡ E.name errors.old }
 {
     if !why || config.window >= config.credit || !config.is_allowed() {

@@ -20,7 +20,7 @@ use crate::asm::asm_report;
 use crate::books::book_for_words;
 use crate::dis::dis_text;
 use crate::each::{PrintFault, write_text};
-use crate::explain::{ExplainEnd, ExplainOutcome, explain_text, read_text};
+use crate::explain::{ExplainOutcome, explain_text, read_text};
 use crate::fault::{BenchFault, FaultText};
 use crate::input::read_all;
 use crate::play::write_play;
@@ -216,7 +216,7 @@ pub fn respond<F: Files, I: Input, O: Output, E: Output>(
 fn print_explained<O: Output>(
     output: &mut O,
     json: bool,
-    ended: Result<ExplainOutcome, ExplainEnd>,
+    ended: Result<ExplainOutcome, PrintFault>,
 ) -> u8
     requires { O.has_failed output.old ≡ cut_off ended }
     ensures printed { O.has_failed output.new ≡ false → (held text : List ℕ) → O.written output.old ≡ Some (held ++ text)
@@ -228,8 +228,8 @@ fn print_explained<O: Output>(
     match ended {
         Ok(outcome) => outcome.status(),
         Err(end) => match end {
-            ExplainEnd::Fault(fault) => print_fault_as(output, json, fault),
-            ExplainEnd::NotWritten => 3,
+            PrintFault::Fault(fault) => print_fault_as(output, json, fault),
+            PrintFault::NotWritten => 3,
         },
     }
 }

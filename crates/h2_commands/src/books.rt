@@ -102,7 +102,7 @@ fn add_file<F: Files>(
 }
 
 /// Writes a text where it is there and asked for. What can't be written is left out.
-pub(crate) fn explain<E: Output>(errors: &mut E, why: bool, text: Result<String, AllocError>)
+pub fn write_reason<E: Output>(errors: &mut E, why: bool, text: Result<String, AllocError>)
     ensures quiet { why ≡ false → errors.new ≡ errors.old }
     ensures name { E.name errors.new ≡ E.name errors.old }
 {
@@ -169,14 +169,14 @@ pub fn book_for_words<F: Files, E: Output>(
 {
     let mut book = Book::new(alloc);
     if let Err(fault) = add_file(alloc, files, words.file, &mut book) {
-        explain(errors, words.why, file_sentence(alloc, &fault));
+        write_reason(errors, words.why, file_sentence(alloc, &fault));
         return Err(file_refused(&fault));
     }
     match add_answers(alloc, &mut book, words.answers.as_slice()) {
         Ok(()) => Ok(book),
         Err(refused) => {
             let said = words.answers.as_slice();
-            explain(errors, words.why, answer_sentence(alloc, refused, said));
+            write_reason(errors, words.why, answer_sentence(alloc, refused, said));
             Err(refused.fault)
         }
     }

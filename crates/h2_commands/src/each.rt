@@ -16,7 +16,7 @@ use h2_device::{Output, Text};
 use h2_places::ShownPlaces;
 use std::alloc::Global;
 
-/// Why places were not all written.
+/// Why what a command prints was not all written.
 #[derive(Clone, Copy)]
 pub enum PrintFault {
     /// A fault, whose line is still to be written.

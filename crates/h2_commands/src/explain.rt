@@ -14,26 +14,18 @@ ghost use Rattle.h2_commands.specs.Printing.{Printed, failed_as};
 ghost use Rattle.h2_commands.specs.CommandEnd.{KnowsFile};
 ghost use Rattle.h2_commands.specs.declared.fault.BenchFault.TheVariants.{NoMemory};
 
+use crate::each::PrintFault;
 use crate::fault::BenchFault;
-use crate::input::{LIMIT, read_all, read_hex};
+use crate::input::{read_all, read_hex};
 use crate::play::refused_limits;
 use h2_book::{Files, FilesFault};
 use h2_conn::Conn;
-use h2_device::{Input, Output};
+use h2_device::{Input, MAX_INPUT, Output};
 use h2_explain::{ClientVerdict, ExplainFault, Form, explain};
 use h2_request::book::Book;
 use h2_spec::connection::Config;
 use h2_words::command::Explain;
 use std::alloc::Global;
-
-/// Why a connection was not explained to its end.
-#[derive(Clone, Copy)]
-pub enum ExplainEnd {
-    /// A fault, whose line is still to be written.
-    Fault(BenchFault),
-    /// A write of the output failed.
-    NotWritten,
-}
 
 /// How an explanation ended that was written whole.
 #[derive(Clone, Copy)]
@@ -70,7 +62,7 @@ fn read_file<F: Files>(alloc: Global, files: &mut F, path: &str) -> Result<Vec<u
     ensures err { F.is_printed files.old ≡ true → IfErr result (λ fault. (fault ≡ NoMemory)
         ⊎ ((form : ExplainForm) → (book : List Entry) → (config : Config) → ReportsFile form book config (F.file files.old path.now) (failed_as form.json fault))) }
 {
-    match files.read(alloc, path, LIMIT) {
+    match files.read(alloc, path, MAX_INPUT) {
         Ok(octets) => Ok(octets),
         Err(FilesFault::NoMemory) => Err(BenchFault::NoMemory),
         Err(FilesFault::Failed) | Err(FilesFault::TooLong) => Err(BenchFault::Read),
@@ -104,12 +96,12 @@ pub fn read_text<F: Files, I: Input>(
 }
 
 /// The end of an explanation that was cut short.
-fn end_of(fault: ExplainFault) -> ExplainEnd
+fn end_of(fault: ExplainFault) -> PrintFault
     ensures { result ≡ end_of fault }
 {
     match fault {
-        ExplainFault::NoMemory => ExplainEnd::Fault(BenchFault::NoMemory),
-        ExplainFault::NotWritten => ExplainEnd::NotWritten,
+        ExplainFault::NoMemory => PrintFault::Fault(BenchFault::NoMemory),
+        ExplainFault::NotWritten => PrintFault::NotWritten,
     }
 }
 
@@ -120,7 +112,7 @@ fn explain_conn<O: Output>(
     conn: &mut Conn<'_, Global>,
     octets: &[u8],
     output: &mut O,
-) -> Result<ExplainOutcome, ExplainEnd>
+) -> Result<ExplainOutcome, PrintFault>
     requires new { conn.old ≡ going conn.old.state [] }
     requires few { length octets.now < 2 ^ 63 }
     requires writer { O.has_failed output.old ≡ false }
@@ -148,7 +140,7 @@ fn explain_octets<O: Output>(
     book: &Book<Global>,
     octets: &[u8],
     output: &mut O,
-) -> Result<ExplainOutcome, ExplainEnd>
+) -> Result<ExplainOutcome, PrintFault>
     requires allowed { is_allowed config ≡ true }
     requires few { length octets.now < 2 ^ 63 }
     requires writer { O.has_failed output.old ≡ false }
@@ -161,7 +153,7 @@ fn explain_octets<O: Output>(
     let mut opening = Vec::new(alloc);
     match Conn::new(book, config, &mut opening) {
         Ok(mut conn) => explain_conn(alloc, form, &mut conn, octets, output),
-        Err(_) => Err(ExplainEnd::Fault(BenchFault::NoMemory)),
+        Err(_) => Err(PrintFault::Fault(BenchFault::NoMemory)),
     }
 }
 
@@ -177,7 +169,7 @@ pub fn explain_text<O: Output>(
     book: &Book<Global>,
     text: &[u8],
     output: &mut O,
-) -> Result<ExplainOutcome, ExplainEnd>
+) -> Result<ExplainOutcome, PrintFault>
     requires few { length text.now ≤ most }
     requires writer { O.has_failed output.old ≡ false }
     ensures printed { O.has_failed output.new ≡ false → (held : List ℕ) → O.written output.old ≡ Some held
@@ -187,10 +179,10 @@ pub fn explain_text<O: Output>(
     ensures name { O.name output.new ≡ O.name output.old }
 {
     if !config.is_allowed() {
-        return Err(ExplainEnd::Fault(refused_limits(text)));
+        return Err(PrintFault::Fault(refused_limits(text)));
     }
     match read_hex(alloc, text) {
         Ok(octets) => explain_octets(alloc, form, config, book, octets.as_slice(), output),
-        Err(fault) => Err(ExplainEnd::Fault(fault)),
+        Err(fault) => Err(PrintFault::Fault(fault)),
     }
 }

@@ -6,18 +6,15 @@ ghost use Rattle.h2_commands.specs.Input.{IsNoHex, IsUnread};
 ghost use Rattle.h2_hex.specs.HexText.{octets_spelled};
 
 use crate::fault::BenchFault;
-use h2_device::Input;
+use h2_device::{Input, MAX_INPUT};
 use std::alloc::Global;
-
-/// The most octets that an input may have.
-pub const LIMIT: usize = 16777216;
 
 /// All that an input has left.
 ///
 /// `Read` where a read failed, or where there is more than the limit. `NoMemory` may come before either.
 pub fn read_all<I: Input>(alloc: Global, input: &mut I) -> Result<Vec<u8>, BenchFault>
     ensures ok { IfOk result (λ octets. (known : List ℕ) → I.remaining input.old ≡ Some known → octets.items ≡ known) }
-    ensures within { IfOk result (λ octets. length octets.items ≤ LIMIT) }
+    ensures within { IfOk result (λ octets. length octets.items ≤ MAX_INPUT) }
     ensures well { OnOk result (I.has_failed input.new ≡ false) }
     ensures name { I.name input.new ≡ I.name input.old }
     ensures err { IfErr result (λ fault. IsUnread (I.remaining input.old) (I.has_failed input.new) fault) }
@@ -31,7 +28,7 @@ pub fn read_all<I: Input>(alloc: Global, input: &mut I) -> Result<Vec<u8>, Bench
         if count == 0 {
             return Ok(octets);
         }
-        if octets.len() + count > LIMIT {
+        if octets.len() + count > MAX_INPUT {
             return Err(BenchFault::Read);
         }
         let Ok(()) = octets.extend_from_slice(&buffer[..count]) else {

@@ -1,11 +1,12 @@
 //! The program `play`: a connection over the octets that hex text spells. Definitions: `specs/Printed.antt`.
 
-ghost use Rattle.std.specs.Prelude.{◌≡◌, ◌⊎◌, ◌<◌, ◌^◌, [], Ok, Err, Some, true, false, length, map, is_some, IfErr, IfOk, OnOk};
+ghost use Rattle.std.specs.Prelude.{◌≡◌, ◌⊎◌, ◌<◌, ◌^◌, [], Err, Some, true, false, length, is_err, is_some, IfErr, IfOk, OnOk};
 ghost use Rattle.h2_spec.specs.View.{view};
-ghost use Rattle.h2_conn.specs.Connection.{going};
+ghost use Rattle.std.specs.Io.KnownBytes.{Appends};
+ghost use Rattle.hex.specs.Hex.{encode_lower};
 ghost use Rattle.h2_spec.specs.State.{is_allowed};
 ghost use Rattle.h2_conn.specs.Runs.{Opens};
-ghost use Rattle.h2_commands.specs.Each.{PrintsRun, WritesSome, fed_first, not_written};
+ghost use Rattle.h2_commands.specs.Each.{WritesSome, not_written};
 ghost use Rattle.h2_commands.specs.Input.{IsNoHex};
 ghost use Rattle.h2_hex.specs.HexText.{octets_spelled};
 ghost use Rattle.h2_commands.specs.Limits.{limits_fault};
@@ -14,34 +15,18 @@ ghost use Rattle.h2_commands.specs.Pieces.{piece_lengths};
 ghost use Rattle.h2_commands.specs.Printed.{OrCutShort, done, places_play, places_played, sent_and_state, printed_play, printed_played};
 ghost use Rattle.h2_commands.specs.declared.fault.BenchFault.TheVariants.{BadConfig, NoMemory};
 
-use crate::each::{PrintFault, write_places, write_text};
+use crate::each::{PrintFault, write_places};
 use crate::fault::BenchFault;
 use crate::input::read_hex;
 use h2_conn::play::open_and_feed;
 use h2_conn::{Conn, ConnFault};
-use h2_device::{DeviceFault, HexText, Output, Text, texts};
+use h2_device::{DeviceFault, HexText, Output, Text};
+use h2_frame::{Outbox, Outgoing};
 use h2_hex::is_hex_text;
 use h2_request::book::Book;
 use h2_spec::connection::Config;
 use h2_words::command::Play;
 use std::alloc::{AllocError, Global};
-
-/// The line of the octets sent, and the text of the state.
-#[derive(Drop)]
-struct PlayedText<'p, 'b> {
-    sent: &'p [u8],
-    conn: &'p Conn<'b, Global>,
-}
-
-#[tactic(auto, using(h2_device::proofs::Appending::both), unfolding(crate::specs::Printed::sent_and_state))]
-impl Text for PlayedText<'_, '_> {
-    ghost text = { λ x. sent_and_state x.sent.now (view x.conn.now.state) };
-
-    fn write_to<O: Output>(&self, output: &mut O) -> Result<(), DeviceFault> {
-        texts!("sent ", HexText(self.sent), "\n").write_to(output)?;
-        self.conn.write_to(output)
-    }
-}
 
 /// How long a piece is where the words don't say it: a connection holds a copy of a piece, so a whole input is fed
 /// piece after piece.
@@ -56,23 +41,16 @@ fn piece_lengths(alloc: Global, cut: u32, total: usize) -> Result<Vec<usize>, Al
     vec![in alloc; length; total / length]
 }
 
-/// What is fed to a connection before it is reported: nothing where each of its places is.
-fn fed_first(each: bool, octets: &[u8]) -> &[u8]
-    ensures { result.now ≡ fed_first each octets.now }
-{
-    if each { &[] } else { octets }
-}
-
 /// A new connection that the octets were fed to, in pieces of this length, and what was sent.
-fn played<'b>(
+fn played<'b, S: Outgoing<'b, Global>>(
     alloc: Global,
     book: &'b Book<Global>,
     config: Config,
     cut: u32,
     octets: &[u8],
-    sent: &mut Vec<u8>,
+    sent: &mut S,
 ) -> Result<Conn<'b, Global>, BenchFault>
-    ensures ok { IfOk result (λ conn. Opens book.now config octets.now sent.old.items conn sent.new.items) }
+    ensures ok { IfOk result (λ conn. Opens book.now config octets.now (S.octets sent.old) conn (S.octets sent.new)) }
     ensures allowed { OnOk result (is_allowed config ≡ true) }
     ensures fault { IfErr result (λ fault. (fault ≡ NoMemory) ⊎ ((fault ≡ BadConfig) × (is_allowed config ≡ false))) }
 {
@@ -84,49 +62,110 @@ fn played<'b>(
     }
 }
 
-/// Writes the line of the octets sent, and the text of the state. Takes no memory.
+/// Writes octets that were sent in lower-case hex, and takes them out. Takes no memory.
+///
+/// `DeviceFault` where the output failed, and only then.
+fn write_hex<O: Output>(sent: &mut Outbox<'_, Global>, output: &mut O) -> Result<(), DeviceFault>
+    requires { O.has_failed output.old ≡ false }
+    ensures octets { OnOk result (Appends (O.written output.old) (O.written output.new) (encode_lower sent.old)) }
+    ensures flag { O.has_failed output.new ≡ is_err result }
+    ensures name { O.name output.new ≡ O.name output.old }
+{
+    while !sent.is_empty() {
+        let front = sent.front();
+        let count = front.len();
+        HexText(front).write_to(output)?;
+        sent.remove_front(count);
+    }
+    Ok(())
+}
+
+/// Writes the line of the octets sent, which are taken out, and the text of the state. Takes no memory.
+///
+/// `DeviceFault` where the output failed, and only then.
+#[tactic(auto, using(h2_device::proofs::Appending::both), unfolding(crate::specs::Printed::sent_and_state))]
+fn write_sent_and_state<O: Output>(
+    conn: &Conn<'_, Global>,
+    sent: &mut Outbox<'_, Global>,
+    output: &mut O,
+) -> Result<(), DeviceFault>
+    requires { O.has_failed output.old ≡ false }
+    ensures octets { OnOk result (Appends (O.written output.old) (O.written output.new) (sent_and_state sent.old (view conn.now.state))) }
+    ensures flag { O.has_failed output.new ≡ is_err result }
+    ensures name { O.name output.new ≡ O.name output.old }
+{
+    output.write(b"sent ".as_slice())?;
+    write_hex(sent, output)?;
+    output.write(b"\n".as_slice())?;
+    conn.write_to(output)
+}
+
+/// Writes what `play` prints of a connection to which the octets were fed: what was sent, and the state. Takes no
+/// memory.
 ///
 /// `NotWritten` where the output failed, and only then.
 fn write_sent<O: Output>(
     conn: &Conn<'_, Global>,
-    sent: &[u8],
+    sent: &mut Outbox<'_, Global>,
     output: &mut O,
 ) -> Result<(), PrintFault>
     requires { O.has_failed output.old ≡ false }
-    ensures printed { O.has_failed output.new ≡ false → WritesSome (λ t. t ≡ done (sent_and_state sent.now (view conn.now.state)))
+    ensures printed { O.has_failed output.new ≡ false → WritesSome (λ t. t ≡ done (sent_and_state sent.old (view conn.now.state)))
         result (O.written output.old) (O.written output.new) }
     ensures flag { O.has_failed output.new ≡ not_written result }
     ensures name { O.name output.new ≡ O.name output.old }
 {
-    write_text(output, &PlayedText { sent, conn })
-}
-
-/// Writes what `play` prints of a connection: each place of its run over the octets, for which items are taken one by
-/// one; or what was sent, and its state, for which no memory is needed.
-fn write_conn<O: Output>(
-    alloc: Global,
-    each: bool,
-    conn: &mut Conn<'_, Global>,
-    sent: &[u8],
-    octets: &[u8],
-    output: &mut O,
-) -> Result<(), PrintFault>
-    requires new { each ≡ true → conn.old ≡ going conn.old.state [] }
-    requires few { length octets.now < 2 ^ 63 }
-    requires writer { O.has_failed output.old ≡ false }
-    ensures printed { O.has_failed output.new ≡ false → WritesSome (PrintsRun each conn.old.state sent.now octets.now) result (O.written output.old) (O.written output.new) }
-    ensures flag { O.has_failed output.new ≡ not_written result }
-    ensures name { O.name output.new ≡ O.name output.old }
-{
-    if each {
-        write_places(alloc, conn, sent, octets, output)
-    } else {
-        write_sent(conn, sent, output)
+    match write_sent_and_state(conn, sent, output) {
+        Ok(()) => Ok(()),
+        Err(_) => Err(PrintFault::NotWritten),
     }
 }
 
-/// Writes what `play` prints of octets: of each place of their run, for which items are taken one by one, or of the
-/// whole.
+/// Writes what `play` prints of octets as a whole. The bodies that are sent are not copied: they lie in the book until
+/// they are written.
+fn write_whole<O: Output>(
+    alloc: Global,
+    play: &Play<'_>,
+    book: &Book<Global>,
+    octets: &[u8],
+    output: &mut O,
+) -> Result<(), PrintFault>
+    requires writer { O.has_failed output.old ≡ false }
+    ensures printed { O.has_failed output.new ≡ false → WritesSome (OrCutShort (places_played false book.now play.now.config octets.now) (printed_played false book.now play.now.config octets.now))
+        result (O.written output.old) (O.written output.new) }
+    ensures flag { O.has_failed output.new ≡ not_written result }
+    ensures name { O.name output.new ≡ O.name output.old }
+{
+    let mut sent = Outbox::new(alloc);
+    match played(alloc, book, play.config, play.cut, octets, &mut sent) {
+        Ok(conn) => write_sent(&conn, &mut sent, output),
+        Err(fault) => Err(PrintFault::Fault(fault)),
+    }
+}
+
+/// Writes what `play` prints of each place of the run of octets, for which items are taken one by one.
+fn write_each<O: Output>(
+    alloc: Global,
+    play: &Play<'_>,
+    book: &Book<Global>,
+    octets: &[u8],
+    output: &mut O,
+) -> Result<(), PrintFault>
+    requires few { length octets.now < 2 ^ 63 }
+    requires writer { O.has_failed output.old ≡ false }
+    ensures printed { O.has_failed output.new ≡ false → WritesSome (OrCutShort (places_played true book.now play.now.config octets.now) (printed_played true book.now play.now.config octets.now))
+        result (O.written output.old) (O.written output.new) }
+    ensures flag { O.has_failed output.new ≡ not_written result }
+    ensures name { O.name output.new ≡ O.name output.old }
+{
+    let mut sent = Vec::new(alloc);
+    match played(alloc, book, play.config, play.cut, &[], &mut sent) {
+        Ok(mut conn) => write_places(alloc, &mut conn, sent.as_slice(), octets, output),
+        Err(fault) => Err(PrintFault::Fault(fault)),
+    }
+}
+
+/// Writes what `play` prints of octets: of each place of their run, or of the whole.
 fn write_played<O: Output>(
     alloc: Global,
     play: &Play<'_>,
@@ -141,14 +180,10 @@ fn write_played<O: Output>(
     ensures flag { O.has_failed output.new ≡ not_written result }
     ensures name { O.name output.new ≡ O.name output.old }
 {
-    let mut sent = Vec::new(alloc);
-    let first = fed_first(play.each, octets);
-    match played(alloc, book, play.config, play.cut, first, &mut sent) {
-        Ok(mut conn) => {
-            let sent = sent.as_slice();
-            write_conn(alloc, play.each, &mut conn, sent, octets, output)
-        }
-        Err(fault) => Err(PrintFault::Fault(fault)),
+    if play.each {
+        write_each(alloc, play, book, octets, output)
+    } else {
+        write_whole(alloc, play, book, octets, output)
     }
 }
 

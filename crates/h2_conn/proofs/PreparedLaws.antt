@@ -20,13 +20,6 @@ pub frame-on_stream : (kind flags stream id : ℕ) (p : List ℕ) → on_stream 
 unfolding frame_octets
 frame-on_stream kind flags stream id p = refl
 
--- a frame after other octets, with its stream identifier written over
-pub behind-on_stream : (out octets now : List ℕ) (n id : ℕ) → length out ≡ n → now ≡ out ++ octets → take (n + 5) now ++ big_endian 4 id ++ drop (n + 9) now ≡ out ++ on_stream id octets
-behind-on_stream out octets now n id count is =
-    let P : ℕ → List ℕ → Type 0 = λ m xs. take (m + 5) xs ++ big_endian 4 id ++ drop (m + 9) xs ≡ out ++ on_stream id octets in
-    let counted : P (length out) (out ++ octets) = rw (take-append-add out octets 5, drop-append-add out octets 9) (simp append_assoc) in
-    subst (λ (xs : List ℕ). P n xs) (sym is) (subst (λ (m : ℕ). P m (out ++ octets)) count counted)
-
 -- a frame has its head
 pub head-length : (f : Frame) → 9 ≤ length (frame_octets f)
 unfolding frame_octets

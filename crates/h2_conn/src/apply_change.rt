@@ -2,7 +2,7 @@
 //! them then; where memory is refused, nothing (RFC 9113, 5.4). Definitions: h2_spec's `specs/Change.antt`,
 //! `specs/SendPending.antt`, and `specs/Sending.antt` here.
 
-ghost use Rattle.std.specs.Prelude.{◌≡◌, ◌<◌, ◌≤◌, ◌^◌, ◌++◌, length, slice_index, pos, ◌-ℤ◌, None, Some, IfOk, OnOk, OnErr, take, vec_len};
+ghost use Rattle.std.specs.Prelude.{◌≡◌, ◌<◌, ◌≤◌, ◌^◌, ◌++◌, length, slice_index, pos, ◌-ℤ◌, None, Some, IfOk, OnOk, OnErr, take};
 ghost use Rattle.h2_spec.specs.Change as changes;
 ghost use Rattle.h2_spec.specs.Change.{updated_streams};
 ghost use Rattle.h2_spec.specs.Effect as effect;
@@ -22,7 +22,7 @@ use crate::send_pending::{sendable, without};
 use crate::send_update::update_and_send;
 use crate::state::{OpenBlock, State};
 use crate::write::{write_connection_frame, write_goaway, write_prepared, write_stream_frame};
-use h2_frame::append_frame;
+use h2_frame::{Outgoing, append_frame};
 use h2_request::book::Book;
 use h2_rules::change::verdict_of;
 use h2_spec::causes::Cause;
@@ -36,14 +36,14 @@ use std::alloc::{AllocError, Allocator};
 /// Writes the HEADERS of an answer that begins, or nothing.
 #[tactic(auto, unfolding(h2_spec::specs::Answer::response_block))]
 #[inline(always)]
-fn write_answer<A: Allocator>(
-    book: &Book<A>,
+fn write_answer<'b, A: Allocator, O: Outgoing<'b, A>>(
+    book: &'b Book<A>,
     answer: Option<Answering>,
-    out: &mut Vec<u8, A>,
+    out: &mut O,
 ) -> Result<(), AllocError>
-    ensures ok { OnOk result (out.new.items ≡ out.old.items ++ frames_octets (changes.answer_frames book.now answer)) }
+    ensures ok { OnOk result (O.octets out.new ≡ O.octets out.old ++ frames_octets (changes.answer_frames book.now answer)) }
     ensures short { OnOk result (AreShort (changes.answer_frames book.now answer)) }
-    ensures err { OnErr result (out.new.items ≡ out.old.items) }
+    ensures err { OnErr result (O.octets out.new ≡ O.octets out.old) }
 {
     match answer {
         None => Ok(()),
@@ -53,14 +53,14 @@ fn write_answer<A: Allocator>(
 
 /// Writes the HEADERS of an answer, or nothing: those that the book has ready, or their field block after a table size
 /// update to 0 (RFC 7541, 4.2 and 6.3).
-fn write_headers<A: Allocator>(
-    book: &Book<A>,
+fn write_headers<'b, A: Allocator, O: Outgoing<'b, A>>(
+    book: &'b Book<A>,
     answer: Answering,
-    out: &mut Vec<u8, A>,
+    out: &mut O,
 ) -> Result<(), AllocError>
-    ensures ok { OnOk result (out.new.items ≡ out.old.items ++ frame_octets (changes.response answer.size_update_pending answer.id (picked book.now answer.pick))) }
+    ensures ok { OnOk result (O.octets out.new ≡ O.octets out.old ++ frame_octets (changes.response answer.size_update_pending answer.id (picked book.now answer.pick))) }
     ensures short { IsShortFrame (changes.response answer.size_update_pending answer.id (picked book.now answer.pick)) }
-    ensures err { OnErr result (out.new.items ≡ out.old.items) }
+    ensures err { OnErr result (O.octets out.new ≡ O.octets out.old) }
 {
     let headers = book.headers(answer.pick);
     if answer.size_update_pending {
@@ -82,14 +82,14 @@ fn flags_of(frame: &[u8]) -> u8
 /// Writes the frames of a change, whole or in part.
 #[tactic(auto, unfolding(h2_spec::specs::Change::frames_of))]
 #[inline(always)]
-fn write_change<A: Allocator>(
-    book: &Book<A>,
+fn write_change<'b, A: Allocator, O: Outgoing<'b, A>>(
+    book: &'b Book<A>,
     change: &Change,
-    out: &mut Vec<u8, A>,
+    out: &mut O,
 ) -> Result<(), AllocError>
-    ensures ok { OnOk result (out.new.items ≡ out.old.items ++ frames_octets (changes.frames_of book.now change.now)) }
+    ensures ok { OnOk result (O.octets out.new ≡ O.octets out.old ++ frames_octets (changes.frames_of book.now change.now)) }
     ensures short { OnOk result (AreShort (changes.frames_of book.now change.now)) }
-    ensures kept { take (vec_len out.old) out.new.items ≡ out.old.items }
+    ensures kept { take (length (O.octets out.old)) (O.octets out.new) ≡ O.octets out.old }
 {
     write_connection_frame(change.connection_frame, out)?;
     write_stream_frame(change.stream_frame, out)?;
@@ -110,20 +110,20 @@ fn open_window(core: &ConnectionState) -> u64
 /// The frames of a change, what becomes of the records, and what is sent from them then: whole, or in part and then the
 /// records stay. Answers how many octets are sent.
 #[inline(always)]
-fn write_and_update<A: Allocator + Copy>(
-    book: &Book<A>,
+fn write_and_update<'b, A: Allocator + Copy, O: Outgoing<'b, A>>(
+    book: &'b Book<A>,
     streams: &mut Streams<A>,
     change: &Change,
-    out: &mut Vec<u8, A>,
+    out: &mut O,
 ) -> Result<u64, AllocError>
     requires frame { (0 < change.now.core.peer.frame) × (change.now.core.peer.frame < 2 ^ 24) }
     requires sends { CanSend book.now streams.old change.now.record_update }
     ensures count { IfOk result (λ count. (count ≡ sent_count change.now.core (updated_streams change.now.record_update streams.old.streams)) × (count ≤ sendable change.now.core.send)) }
-    ensures sent { OnOk result (out.new.items ≡ out.old.items ++ frames_octets (all_frames book.now change.now streams.old.streams)) }
+    ensures sent { OnOk result (O.octets out.new ≡ O.octets out.old ++ frames_octets (all_frames book.now change.now streams.old.streams)) }
     ensures short { OnOk result (AreShort (all_frames book.now change.now streams.old.streams)) }
     ensures records { OnOk result (streams.new ≡ records_after change.now.core (updated_records change.now.record_update streams.old)) }
     ensures err { OnErr result (streams.new ≡ streams.old) }
-    ensures kept { take (vec_len out.old) out.new.items ≡ out.old.items }
+    ensures kept { take (length (O.octets out.old)) (O.octets out.new) ≡ O.octets out.old }
 {
     write_change(book, change, out)?;
     let window = open_window(&change.core);
@@ -133,25 +133,25 @@ fn write_and_update<A: Allocator + Copy>(
 
 /// Writes all frames and updates the records, or changes nothing.
 #[inline(always)]
-pub fn send_and_update<A: Allocator + Copy>(
-    book: &Book<A>,
+pub fn send_and_update<'b, A: Allocator + Copy, O: Outgoing<'b, A>>(
+    book: &'b Book<A>,
     streams: &mut Streams<A>,
     change: &Change,
-    out: &mut Vec<u8, A>,
+    out: &mut O,
 ) -> Result<u64, AllocError>
     requires frame { (0 < change.now.core.peer.frame) × (change.now.core.peer.frame < 2 ^ 24) }
     requires sends { CanSend book.now streams.old change.now.record_update }
     ensures count { IfOk result (λ count. (count ≡ sent_count change.now.core (updated_streams change.now.record_update streams.old.streams)) × (count ≤ sendable change.now.core.send)) }
-    ensures sent { OnOk result (out.new.items ≡ out.old.items ++ frames_octets (all_frames book.now change.now streams.old.streams)) }
+    ensures sent { OnOk result (O.octets out.new ≡ O.octets out.old ++ frames_octets (all_frames book.now change.now streams.old.streams)) }
     ensures short { OnOk result (AreShort (all_frames book.now change.now streams.old.streams)) }
     ensures records { OnOk result (streams.new ≡ records_after change.now.core (updated_records change.now.record_update streams.old)) }
-    ensures err { OnErr result ((streams.new ≡ streams.old) × (out.new.items ≡ out.old.items)) }
+    ensures err { OnErr result ((streams.new ≡ streams.old) × (O.octets out.new ≡ O.octets out.old)) }
 {
     let before = out.len();
     match write_and_update(book, streams, change, out) {
         Ok(count) => Ok(count),
         Err(error) => {
-            out.truncate(before);
+            out.keep_first(before);
             Err(error)
         }
     }
@@ -204,16 +204,16 @@ fn ended_by(code: ErrorCode, core: ConnectionState) -> ConnectionState
 impl<'b, A: Allocator + Copy> State<'b, A> {
     /// Makes a change, and sends its frames and then the pending output; or does nothing. Answers how its item is judged.
     #[inline(always)]
-    pub fn apply_change(
+    pub fn apply_change<O: Outgoing<'b, A>>(
         &mut self,
         change: Change,
-        out: &mut Vec<u8, A>,
+        out: &mut O,
     ) -> Result<Verdict, AllocError>
         requires kept { IsOpenFor (updated_records change.record_update (records self.old)) self.old.block }
         requires sound { IsSoundChange self.old.book (records self.old) (in_force self.old.core) change }
-        ensures ok { OnOk result (Does (then_sent change.core.phase (changes.made self.old change)) out.old.items self.new out.new.items) }
+        ensures ok { OnOk result (Does (then_sent change.core.phase (changes.made self.old change)) (O.octets out.old) self.new (O.octets out.new)) }
         ensures verdict { IfOk result (λ verdict. verdict ≡ record { cause = effect.stream_cause change.stream_frame; ignored = change.ignored }) }
-        ensures err { OnErr result ((self.new ≡ self.old) × (out.new.items ≡ out.old.items)) }
+        ensures err { OnErr result ((self.new ≡ self.old) × (O.octets out.new ≡ O.octets out.old)) }
     {
         match send_and_update(self.book, &mut self.streams, &change, out) {
             Ok(count) => {
@@ -229,17 +229,17 @@ impl<'b, A: Allocator + Copy> State<'b, A> {
     /// Makes a change that leaves the phase, the settings and the last stream as they are, and sends its frames and
     /// then the pending output; or does nothing. The counts change in place. Answers how its item is judged.
     #[inline(always)]
-    pub fn apply_in_place(
+    pub fn apply_in_place<O: Outgoing<'b, A>>(
         &mut self,
         change: &Change,
-        out: &mut Vec<u8, A>,
+        out: &mut O,
     ) -> Result<Verdict, AllocError>
         requires kept { IsOpenFor (updated_records change.now.record_update (records self.old)) self.old.block }
         requires sound { IsSoundChange self.old.book (records self.old) (in_force self.old.core) change.now }
         requires same { change.now.core ≡ with_counts self.old.core change.now.core }
-        ensures ok { OnOk result (Does (then_sent change.now.core.phase (changes.made self.old change.now)) out.old.items self.new out.new.items) }
+        ensures ok { OnOk result (Does (then_sent change.now.core.phase (changes.made self.old change.now)) (O.octets out.old) self.new (O.octets out.new)) }
         ensures verdict { IfOk result (λ verdict. verdict ≡ record { cause = effect.stream_cause change.now.stream_frame; ignored = change.now.ignored }) }
-        ensures err { OnErr result ((self.new ≡ self.old) × (out.new.items ≡ out.old.items)) }
+        ensures err { OnErr result ((self.new ≡ self.old) × (O.octets out.new ≡ O.octets out.old)) }
     {
         match send_and_update(self.book, &mut self.streams, change, out) {
             Ok(count) => {
@@ -254,10 +254,14 @@ impl<'b, A: Allocator + Copy> State<'b, A> {
 impl<'b, A: Allocator> State<'b, A> {
     /// Ends the connection with a GOAWAY, or does nothing; an open block is decoded no more. Answers that the item is an error for
     /// this cause.
-    pub fn fail(&mut self, cause: Cause, out: &mut Vec<u8, A>) -> Result<Verdict, AllocError>
-        ensures ok { OnOk result (Does (changes.broken self.old cause) out.old.items self.new out.new.items) }
+    pub fn fail<O: Outgoing<'b, A>>(
+        &mut self,
+        cause: Cause,
+        out: &mut O,
+    ) -> Result<Verdict, AllocError>
+        ensures ok { OnOk result (Does (changes.broken self.old cause) (O.octets out.old) self.new (O.octets out.new)) }
         ensures verdict { IfOk result (λ verdict. verdict ≡ record { cause = Some cause; ignored = None }) }
-        ensures err { OnErr result ((self.new ≡ self.old) × (out.new.items ≡ out.old.items)) }
+        ensures err { OnErr result ((self.new ≡ self.old) × (O.octets out.new ≡ O.octets out.old)) }
     {
         let code = cause.code();
         write_goaway(self.core.last, code, out)?;

@@ -29,7 +29,7 @@ use crate::report::{TakenItem, report_first_in_order};
 use crate::state::State;
 use crate::view::View;
 use h2_device::{DeviceFault, Output, Text, string_of};
-use h2_frame::Splitter;
+use h2_frame::{Outgoing, Splitter};
 use h2_request::book::Book;
 use h2_spec::connection::{Config, Phase};
 use std::alloc::{AllocError, Allocator};
@@ -107,17 +107,21 @@ impl<'b, A: Allocator + Copy> Conn<'b, A> {
     ///
     /// `BadConfig` where a limit or a setting is outside its range (`Config::is_allowed`); then `NoMemory`. Both leave
     /// `out` as it was.
-    pub fn new(book: &'b Book<A>, config: Config, out: &mut Vec<u8, A>) -> Result<Self, ConnFault>
+    pub fn new<O: Outgoing<'b, A>>(
+        book: &'b Book<A>,
+        config: Config,
+        out: &mut O,
+    ) -> Result<Self, ConnFault>
         ensures opened { IfOk result (λ conn. conn ≡ going (opening book.now config) []) }
-        ensures sent { OnOk result (out.new.items ≡ out.old.items ++ opening_octets config) }
+        ensures sent { OnOk result (O.octets out.new ≡ O.octets out.old ++ opening_octets config) }
         ensures allowed { OnOk result (is_allowed config ≡ true) }
         ensures fault { IfErr result (λ fault. fault ≡ refusal_for (is_allowed config)) }
-        ensures unchanged { OnErr result (out.new.items ≡ out.old.items) }
+        ensures unchanged { OnErr result (O.octets out.new ≡ O.octets out.old) }
     {
         if !config.is_allowed() {
             return Err(ConnFault::BadConfig);
         }
-        let alloc = *out.allocator();
+        let alloc = *out.memory();
         let state = State::new(book, config, alloc)?;
         write_opening(config, out)?;
         Ok(Conn {
@@ -135,11 +139,15 @@ impl<'b, A: Allocator + Copy> Conn<'b, A> {
     /// `Failed` where an earlier call was refused memory; nothing changes. `NoMemory` where memory is refused: the
     /// items before it are taken whole,
     /// `out` has gained what is sent for them and no more, and from then on the answer is `Failed`.
-    pub fn feed(&mut self, piece: &[u8], out: &mut Vec<u8, A>) -> Result<usize, ConnFault>
-        ensures ok { IfOk result (Feeds self.old piece.now out.old.items self.new out.new.items) }
+    pub fn feed<O: Outgoing<'b, A>>(
+        &mut self,
+        piece: &[u8],
+        out: &mut O,
+    ) -> Result<usize, ConnFault>
+        ensures ok { IfOk result (Feeds self.old piece.now (O.octets out.old) self.new (O.octets out.new)) }
         ensures fault { IfErr result (λ fault. fault ≡ refusal_after self.old.failed) }
-        ensures failed { self.old.failed ≡ true → (result ≡ Err Failed) × (self.new ≡ self.old) × (out.new.items ≡ out.old.items) }
-        ensures no_memory { OnErr result (self.old.failed ≡ false → Halts self.old piece.now out.old.items self.new out.new.items) }
+        ensures failed { self.old.failed ≡ true → (result ≡ Err Failed) × (self.new ≡ self.old) × (O.octets out.new ≡ O.octets out.old) }
+        ensures no_memory { OnErr result (self.old.failed ≡ false → Halts self.old piece.now (O.octets out.old) self.new (O.octets out.new)) }
         ensures over { self.old.failed ≡ false → is_ended self.old.state.core.phase ≡ true → IsOk result }
     {
         if self.failed {
@@ -158,11 +166,15 @@ impl<'b, A: Allocator + Copy> Conn<'b, A> {
     ///
     /// `Failed` where an earlier call was refused memory; nothing changes. `NoMemory` where memory is refused: the item
     /// is not taken, nothing is sent, and from then on the answer is `Failed`.
-    pub fn feed_one(&mut self, piece: &[u8], out: &mut Vec<u8, A>) -> Result<One, ConnFault>
-        ensures ok { IfOk result (FeedsOne self.old piece.now out.old.items self.new out.new.items) }
+    pub fn feed_one<O: Outgoing<'b, A>>(
+        &mut self,
+        piece: &[u8],
+        out: &mut O,
+    ) -> Result<One, ConnFault>
+        ensures ok { IfOk result (FeedsOne self.old piece.now (O.octets out.old) self.new (O.octets out.new)) }
         ensures fault { IfErr result (λ fault. fault ≡ refusal_after self.old.failed) }
-        ensures failed { self.old.failed ≡ true → (result ≡ Err Failed) × (self.new ≡ self.old) × (out.new.items ≡ out.old.items) }
-        ensures no_memory { OnErr result (self.old.failed ≡ false → (self.new ≡ halted self.old.state) × (out.new.items ≡ out.old.items)) }
+        ensures failed { self.old.failed ≡ true → (result ≡ Err Failed) × (self.new ≡ self.old) × (O.octets out.new ≡ O.octets out.old) }
+        ensures no_memory { OnErr result (self.old.failed ≡ false → (self.new ≡ halted self.old.state) × (O.octets out.new ≡ O.octets out.old)) }
         ensures over { self.old.failed ≡ false → is_ended self.old.state.core.phase ≡ true → IsOk result }
     {
         if self.failed {
@@ -181,17 +193,17 @@ impl<'b, A: Allocator + Copy> Conn<'b, A> {
     /// # Errors
     ///
     /// `AllocError` where memory is refused: nothing of the item is done, and the same item can be taken again.
-    pub fn take_and_report(
+    pub fn take_and_report<O: Outgoing<'b, A>>(
         &mut self,
         octets: &[u8],
-        out: &mut Vec<u8, A>,
+        out: &mut O,
     ) -> Result<Option<TakenItem>, AllocError>
         requires ready { self.old ≡ going self.old.state [] }
-        ensures ok { IfOk result (λ taken. TakesIfAny self.old.state octets.now out.old.items self.new.state out.new.items (used_by taken)) }
+        ensures ok { IfOk result (λ taken. TakesIfAny self.old.state octets.now (O.octets out.old) self.new.state (O.octets out.new) (used_by taken)) }
         ensures report { IfOk result (λ taken. taken ≡ reported self.old.state (next_item self.old.state octets.now)) }
         ensures ready { self.new ≡ going self.new.state [] }
         ensures follows { OnOk result (Follows self.old.state self.new.state) }
-        ensures unchanged { OnErr result ((self.new ≡ self.old) × (out.new.items ≡ out.old.items)) }
+        ensures unchanged { OnErr result ((self.new ≡ self.old) × (O.octets out.new ≡ O.octets out.old)) }
     {
         let taken = report_first_in_order(&mut self.state, octets, out)?;
         if taken.is_some() {

@@ -10,20 +10,20 @@ use crate::conn::is_ended;
 use crate::first::{awaits_preface, take_all, take_first};
 use crate::one::One;
 use crate::state::State;
-use h2_frame::Splitter;
+use h2_frame::{Outgoing, Splitter};
 use h2_spec::octets::{octets_from, octets_up_to};
 use std::alloc::{AllocError, Allocator};
 
 /// Takes the item that is held, if it is whole, and says whether. Where memory is refused nothing of it is done.
-fn advance<'b, A: Allocator + Copy>(
+fn advance<'b, A: Allocator + Copy, O: Outgoing<'b, A>>(
     splitter: &mut Splitter<A>,
     state: &mut State<'b, A>,
-    out: &mut Vec<u8, A>,
+    out: &mut O,
 ) -> Result<bool, AllocError>
     requires { Fits splitter.old state.old.core.phase }
-    ensures ok { IfOk result (Advances state.old splitter.old.octets out.old.items state.new splitter.new.octets out.new.items) }
+    ensures ok { IfOk result (Advances state.old splitter.old.octets (O.octets out.old) state.new splitter.new.octets (O.octets out.new)) }
     ensures fits { OnOk result (Fits splitter.new state.new.core.phase) }
-    ensures err { OnErr result ((state.new ≡ state.old) × (out.new.items ≡ out.old.items)) }
+    ensures err { OnErr result ((state.new ≡ state.old) × (O.octets out.new ≡ O.octets out.old)) }
 {
     if is_ended(state.phase()) {
         return Ok(false);
@@ -38,16 +38,16 @@ fn advance<'b, A: Allocator + Copy>(
 }
 
 /// Takes the item that octets complete after those held, if they do, and says whether.
-fn offer<'b, A: Allocator + Copy>(
+fn offer<'b, A: Allocator + Copy, O: Outgoing<'b, A>>(
     splitter: &mut Splitter<A>,
     state: &mut State<'b, A>,
     octets: &[u8],
-    out: &mut Vec<u8, A>,
+    out: &mut O,
 ) -> Result<bool, AllocError>
     requires { Fits splitter.old state.old.core.phase }
-    ensures ok { IfOk result (Advances state.old (splitter.old.octets ++ octets.now) out.old.items state.new splitter.new.octets out.new.items) }
+    ensures ok { IfOk result (Advances state.old (splitter.old.octets ++ octets.now) (O.octets out.old) state.new splitter.new.octets (O.octets out.new)) }
     ensures fits { OnOk result (Fits splitter.new state.new.core.phase) }
-    ensures err { OnErr result ((state.new ≡ state.old) × (out.new.items ≡ out.old.items)) }
+    ensures err { OnErr result ((state.new ≡ state.old) × (O.octets out.new ≡ O.octets out.old)) }
 {
     splitter.push(octets)?;
     advance(splitter, state, out)
@@ -55,19 +55,19 @@ fn offer<'b, A: Allocator + Copy>(
 
 /// Takes the item that is held with the octets that it lacks, and no octets after it; where these are not all there,
 /// all octets are held. Where memory is refused nothing of the item is done.
-fn complete<'b, A: Allocator + Copy>(
+fn complete<'b, A: Allocator + Copy, O: Outgoing<'b, A>>(
     splitter: &mut Splitter<A>,
     state: &mut State<'b, A>,
     piece: &[u8],
-    out: &mut Vec<u8, A>,
+    out: &mut O,
 ) -> Result<One, AllocError>
     requires rest { IsAtRest false state.old splitter.old }
     requires goes { is_ended state.old.core.phase ≡ false }
-    ensures ok { IfOk result (FeedsOne (going state.old (left_by state.old.core.phase splitter.old.octets)) piece.now out.old.items (going state.new (left_by state.new.core.phase splitter.new.octets)) out.new.items) }
+    ensures ok { IfOk result (FeedsOne (going state.old (left_by state.old.core.phase splitter.old.octets)) piece.now (O.octets out.old) (going state.new (left_by state.new.core.phase splitter.new.octets)) (O.octets out.new)) }
     ensures rest { OnOk result (IsAtRest false state.new splitter.new) }
     ensures empty { IfOk result (λ one. one.item ≡ true → splitter.new.octets ≡ []) }
     ensures within { IfOk result (λ one. one.used ≤ length piece.now) }
-    ensures err { OnErr result ((state.new ≡ state.old) × (out.new.items ≡ out.old.items)) }
+    ensures err { OnErr result ((state.new ≡ state.old) × (O.octets out.new ≡ O.octets out.old)) }
 {
     let limit = state.limit();
     let mut used = 0usize;
@@ -90,18 +90,18 @@ fn complete<'b, A: Allocator + Copy>(
 
 /// Takes the item that a piece begins with, where no octets are held, and no octets after it; where there is none, all
 /// octets are held. Where memory is refused nothing of the item is done.
-fn take_in_hand<'b, A: Allocator + Copy>(
+fn take_in_hand<'b, A: Allocator + Copy, O: Outgoing<'b, A>>(
     splitter: &mut Splitter<A>,
     state: &mut State<'b, A>,
     piece: &[u8],
-    out: &mut Vec<u8, A>,
+    out: &mut O,
 ) -> Result<One, AllocError>
     requires rest { IsAtRest false state.old splitter.old }
     requires goes { is_ended state.old.core.phase ≡ false }
     requires empty { splitter.old.octets ≡ [] }
-    ensures ok { IfOk result (FeedsOne (going state.old []) piece.now out.old.items (going state.new (left_by state.new.core.phase splitter.new.octets)) out.new.items) }
+    ensures ok { IfOk result (FeedsOne (going state.old []) piece.now (O.octets out.old) (going state.new (left_by state.new.core.phase splitter.new.octets)) (O.octets out.new)) }
     ensures rest { OnOk result (IsAtRest false state.new splitter.new) }
-    ensures err { OnErr result ((state.new ≡ state.old) × (out.new.items ≡ out.old.items)) }
+    ensures err { OnErr result ((state.new ≡ state.old) × (O.octets out.new ≡ O.octets out.old)) }
 {
     match take_first(state, piece, out) {
         Ok(Some(used)) => {
@@ -121,16 +121,16 @@ fn take_in_hand<'b, A: Allocator + Copy>(
 
 /// Takes the next item with more octets, if there is one, and no octets after it; none after the end. Where memory is
 /// refused nothing of it is done.
-pub(crate) fn take_one<'b, A: Allocator + Copy>(
+pub(crate) fn take_one<'b, A: Allocator + Copy, O: Outgoing<'b, A>>(
     splitter: &mut Splitter<A>,
     state: &mut State<'b, A>,
     piece: &[u8],
-    out: &mut Vec<u8, A>,
+    out: &mut O,
 ) -> Result<One, AllocError>
     requires { IsAtRest false state.old splitter.old }
-    ensures ok { IfOk result (FeedsOne (going state.old (left_by state.old.core.phase splitter.old.octets)) piece.now out.old.items (going state.new (left_by state.new.core.phase splitter.new.octets)) out.new.items) }
+    ensures ok { IfOk result (FeedsOne (going state.old (left_by state.old.core.phase splitter.old.octets)) piece.now (O.octets out.old) (going state.new (left_by state.new.core.phase splitter.new.octets)) (O.octets out.new)) }
     ensures rest { OnOk result (IsAtRest false state.new splitter.new) }
-    ensures err { OnErr result ((state.new ≡ state.old) × (out.new.items ≡ out.old.items)) }
+    ensures err { OnErr result ((state.new ≡ state.old) × (O.octets out.new ≡ O.octets out.old)) }
     ensures over { is_ended state.old.core.phase ≡ true → IsOk result }
 {
     let all = piece.len();
@@ -148,18 +148,18 @@ pub(crate) fn take_one<'b, A: Allocator + Copy>(
 
 /// Takes all items of octets, where none are held, and says how many; the rest of the octets is held. Where memory is
 /// refused, the items before it are taken.
-fn take_rest<'b, A: Allocator + Copy>(
+fn take_rest<'b, A: Allocator + Copy, O: Outgoing<'b, A>>(
     splitter: &mut Splitter<A>,
     state: &mut State<'b, A>,
     octets: &[u8],
-    out: &mut Vec<u8, A>,
+    out: &mut O,
 ) -> Result<usize, AllocError>
     requires fits { Fits splitter.old state.old.core.phase }
     requires empty { splitter.old.octets ≡ [] }
-    ensures ok { IfOk result (Feeds (going state.old []) octets.now out.old.items (going state.new (left_by state.new.core.phase splitter.new.octets)) out.new.items) }
+    ensures ok { IfOk result (Feeds (going state.old []) octets.now (O.octets out.old) (going state.new (left_by state.new.core.phase splitter.new.octets)) (O.octets out.new)) }
     ensures rest { OnOk result (IsAtRest false state.new splitter.new) }
     ensures few { IfOk result (λ count. count ≤ length octets.now) }
-    ensures err { OnErr result (Halts (going state.old []) octets.now out.old.items (halted state.new) out.new.items) }
+    ensures err { OnErr result (Halts (going state.old []) octets.now (O.octets out.old) (halted state.new) (O.octets out.new)) }
 {
     let all = take_all(state, octets, out)?;
     let phase = state.phase();
@@ -173,16 +173,16 @@ fn take_rest<'b, A: Allocator + Copy>(
 
 /// Takes all items that there are with more octets, and says how many; none after the end. Where memory is refused,
 /// those before it are taken.
-pub(crate) fn take_piece<'b, A: Allocator + Copy>(
+pub(crate) fn take_piece<'b, A: Allocator + Copy, O: Outgoing<'b, A>>(
     splitter: &mut Splitter<A>,
     state: &mut State<'b, A>,
     piece: &[u8],
-    out: &mut Vec<u8, A>,
+    out: &mut O,
 ) -> Result<usize, AllocError>
     requires { IsAtRest false state.old splitter.old }
-    ensures ok { IfOk result (Feeds (going state.old (left_by state.old.core.phase splitter.old.octets)) piece.now out.old.items (going state.new (left_by state.new.core.phase splitter.new.octets)) out.new.items) }
+    ensures ok { IfOk result (Feeds (going state.old (left_by state.old.core.phase splitter.old.octets)) piece.now (O.octets out.old) (going state.new (left_by state.new.core.phase splitter.new.octets)) (O.octets out.new)) }
     ensures rest { OnOk result (IsAtRest false state.new splitter.new) }
-    ensures err { OnErr result (Halts (going state.old (left_by state.old.core.phase splitter.old.octets)) piece.now out.old.items (halted state.new) out.new.items) }
+    ensures err { OnErr result (Halts (going state.old (left_by state.old.core.phase splitter.old.octets)) piece.now (O.octets out.old) (halted state.new) (O.octets out.new)) }
     ensures over { is_ended state.old.core.phase ≡ true → IsOk result }
 {
     if is_ended(state.phase()) {

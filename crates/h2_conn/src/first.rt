@@ -8,7 +8,7 @@ ghost use Rattle.h2_conn.specs.Runs.{Halted, Ran};
 
 use crate::conn::is_ended;
 use crate::state::State;
-use h2_frame::{Splitter, first_item};
+use h2_frame::{Outgoing, Splitter, first_item};
 use h2_spec::connection::Phase;
 use h2_spec::octets::octets_from;
 use std::alloc::{AllocError, Allocator};
@@ -33,13 +33,13 @@ pub(crate) fn empty_splitter<A: Allocator>(phase: Phase, alloc: A) -> Splitter<A
 /// Takes the item that octets begin with, if there is a whole one, and returns how many of them it takes; none after
 /// the end. Where memory is refused nothing of it is done.
 #[inline(always)]
-pub(crate) fn take_first<'b, A: Allocator + Copy>(
+pub(crate) fn take_first<'b, A: Allocator + Copy, O: Outgoing<'b, A>>(
     state: &mut State<'b, A>,
     octets: &[u8],
-    out: &mut Vec<u8, A>,
+    out: &mut O,
 ) -> Result<Option<usize>, AllocError>
-    ensures ok { IfOk result (λ used. TakesIfAny state.old octets.now out.old.items state.new out.new.items used) }
-    ensures err { OnErr result ((state.new ≡ state.old) × (out.new.items ≡ out.old.items)) }
+    ensures ok { IfOk result (λ used. TakesIfAny state.old octets.now (O.octets out.old) state.new (O.octets out.new) used) }
+    ensures err { OnErr result ((state.new ≡ state.old) × (O.octets out.new ≡ O.octets out.old)) }
 {
     let phase = state.phase();
     if is_ended(phase) {
@@ -64,14 +64,14 @@ pub(crate) struct Taken {
 }
 
 /// Takes all items of octets one after another. Where memory is refused, those before it are taken.
-pub(crate) fn take_all<'b, A: Allocator + Copy>(
+pub(crate) fn take_all<'b, A: Allocator + Copy, O: Outgoing<'b, A>>(
     state: &mut State<'b, A>,
     octets: &[u8],
-    out: &mut Vec<u8, A>,
+    out: &mut O,
 ) -> Result<Taken, AllocError>
-    ensures ok { IfOk result (λ all. Ran state.old octets.now out.old.items state.new (drop all.used octets.now) out.new.items all.items) }
+    ensures ok { IfOk result (λ all. Ran state.old octets.now (O.octets out.old) state.new (drop all.used octets.now) (O.octets out.new) all.items) }
     ensures few { IfOk result (λ all. (all.items ≤ all.used) × (all.used ≤ length octets.now)) }
-    ensures err { OnErr result (Halted state.old octets.now out.old.items state.new out.new.items) }
+    ensures err { OnErr result (Halted state.old octets.now (O.octets out.old) state.new (O.octets out.new)) }
 {
     let mut items = 0usize;
     let mut used = 0usize;

@@ -21,7 +21,7 @@ ghost use Rattle.h2_rules.specs.Sound.{in_force};
 use crate::block::{FragmentEffect, fresh_block};
 use crate::state::{Decoding, OpenBlock, State};
 use crate::tentative::Tentative;
-use h2_frame::HeadersPart;
+use h2_frame::{HeadersPart, Outgoing};
 use h2_rules::block::headers_purpose;
 use h2_spec::causes::Cause;
 use h2_spec::connection::{BlockView, Purpose};
@@ -57,20 +57,20 @@ impl<'b, A: Allocator + Copy> State<'b, A> {
     /// # Errors
     ///
     /// `AllocError` where memory was refused; the block is as it was before the fragment.
-    fn finish(
+    fn finish<O: Outgoing<'b, A>>(
         &mut self,
         effect: FragmentEffect,
         decoding: &mut Decoding<A>,
         tentative: Tentative<A>,
         edit: &mut Edit<A>,
-        out: &mut Vec<u8, A>,
+        out: &mut O,
     ) -> Result<Verdict, AllocError>
         requires stopped { IsStopped self.old.block }
         requires sized { IsSized decoding.old tentative }
         requires sound { IsSoundEffect self.old.book (records self.old) (in_force self.old.core) (limited self.old.core.own.table self.old.table) edit.old (after_of decoding.old tentative) effect }
-        ensures ok { OnOk result (Does (stepped (rule.concluded self.old (effect_seen self.old edit.old (after_of decoding.old tentative) effect))) out.old.items self.new out.new.items) }
+        ensures ok { OnOk result (Does (stepped (rule.concluded self.old (effect_seen self.old edit.old (after_of decoding.old tentative) effect))) (O.octets out.old) self.new (O.octets out.new)) }
         ensures verdict { IfOk result (λ verdict. verdict ≡ rule.effect_verdict (effect_seen self.old edit.old (after_of decoding.old tentative) effect)) }
-        ensures err { OnErr result ((decoding.new ≡ before_of decoding.old tentative) × (self.new ≡ self.old) × (out.new.items ≡ out.old.items)) }
+        ensures err { OnErr result ((decoding.new ≡ before_of decoding.old tentative) × (self.new ≡ self.old) × (O.octets out.new ≡ O.octets out.old)) }
     {
         match effect {
             FragmentEffect::Breaks(cause) => match self.fail(cause, out) {
@@ -187,21 +187,21 @@ impl<'b, A: Allocator + Copy> State<'b, A> {
     /// # Errors
     ///
     /// `AllocError` where memory was refused; the block is as it was before the fragment.
-    fn on_fragment(
+    fn on_fragment<O: Outgoing<'b, A>>(
         &mut self,
         shown: BlockView,
         decoding: &mut Decoding<A>,
         octets: &[u8],
         end_headers: bool,
-        out: &mut Vec<u8, A>,
+        out: &mut O,
     ) -> Result<Verdict, AllocError>
         requires stopped { IsStopped self.old.block }
         requires known { IsOpenAt (records self.old) shown.stream decoding.old.purpose }
-        ensures ok { OnOk result (Does (stepped (rule.concluded self.old (headers.fragment self.old shown decoding.old octets.now end_headers))) out.old.items self.new out.new.items) }
+        ensures ok { OnOk result (Does (stepped (rule.concluded self.old (headers.fragment self.old shown decoding.old octets.now end_headers))) (O.octets out.old) self.new (O.octets out.new)) }
         ensures verdict { IfOk result (λ verdict. verdict ≡ rule.effect_verdict (headers.fragment self.old shown decoding.old octets.now end_headers)) }
-        ensures err { OnErr result ((decoding.new ≡ decoding.old) × (self.new ≡ self.old) × (out.new.items ≡ out.old.items)) }
+        ensures err { OnErr result ((decoding.new ≡ decoding.old) × (self.new ≡ self.old) × (O.octets out.new ≡ O.octets out.old)) }
     {
-        let edit = self.take_edit(*out.allocator());
+        let edit = self.take_edit(*out.memory());
         let (mut edit, tentative, effect) = self.fragment(
             edit,
             shown,
@@ -224,25 +224,25 @@ impl<'b, A: Allocator + Copy> State<'b, A> {
     }
 
     /// CONTINUATION where no block is open (RFC 9113, 6.10).
-    fn not_open(&mut self, out: &mut Vec<u8, A>) -> Result<Verdict, AllocError>
-        ensures ok { OnOk result (Does (broken self.old ContinuationOutsideBlock) out.old.items self.new out.new.items) }
+    fn not_open<O: Outgoing<'b, A>>(&mut self, out: &mut O) -> Result<Verdict, AllocError>
+        ensures ok { OnOk result (Does (broken self.old ContinuationOutsideBlock) (O.octets out.old) self.new (O.octets out.new)) }
         ensures verdict { IfOk result (λ verdict. verdict ≡ record { cause = Some ContinuationOutsideBlock; ignored = None }) }
-        ensures err { OnErr result ((self.new ≡ self.old) × (out.new.items ≡ out.old.items)) }
+        ensures err { OnErr result ((self.new ≡ self.old) × (O.octets out.new ≡ O.octets out.old)) }
     {
         self.fail(Cause::ContinuationOutsideBlock, out)
     }
 
     /// CONTINUATION: the open block goes on; an error where there is none.
     #[inline(never)]
-    pub fn on_continuation(
+    pub fn on_continuation<O: Outgoing<'b, A>>(
         &mut self,
         head: &Head,
         octets: &[u8],
-        out: &mut Vec<u8, A>,
+        out: &mut O,
     ) -> Result<Verdict, AllocError>
-        ensures ok { OnOk result (Does (stepped (rule.concluded self.old (headers.continuation self.old self.old.block octets.now (frames.has head.now.flags frames.END_HEADERS)))) out.old.items self.new out.new.items) }
+        ensures ok { OnOk result (Does (stepped (rule.concluded self.old (headers.continuation self.old self.old.block octets.now (frames.has head.now.flags frames.END_HEADERS)))) (O.octets out.old) self.new (O.octets out.new)) }
         ensures verdict { IfOk result (λ verdict. verdict ≡ rule.effect_verdict (headers.continuation self.old self.old.block octets.now (frames.has head.now.flags frames.END_HEADERS))) }
-        ensures err { OnErr result ((self.new ≡ self.old) × (out.new.items ≡ out.old.items)) }
+        ensures err { OnErr result ((self.new ≡ self.old) × (O.octets out.new ≡ O.octets out.old)) }
     {
         match self.take_decoding() {
             None => self.not_open(out),
@@ -273,21 +273,21 @@ impl<'b, A: Allocator + Copy> State<'b, A> {
 
     /// HEADERS: a block is opened for what the written table says of the stream, or an error.
     #[inline(never)]
-    pub fn on_headers(
+    pub fn on_headers<O: Outgoing<'b, A>>(
         &mut self,
         head: &Head,
         part: HeadersPart<'_>,
-        out: &mut Vec<u8, A>,
+        out: &mut O,
     ) -> Result<Verdict, AllocError>
         requires stopped { IsStopped self.old.block }
-        ensures ok { OnOk result (Does (stepped (rule.concluded self.old (rule.on_headers self.old head.now (headers_seen part.entry) (headers_cell head.now.stream (stream_at self.old.core.last self.old.streams head.now.stream).kind)))) out.old.items self.new out.new.items) }
+        ensures ok { OnOk result (Does (stepped (rule.concluded self.old (rule.on_headers self.old head.now (headers_seen part.entry) (headers_cell head.now.stream (stream_at self.old.core.last self.old.streams head.now.stream).kind)))) (O.octets out.old) self.new (O.octets out.new)) }
         ensures verdict { IfOk result (λ verdict. verdict ≡ rule.effect_verdict (rule.on_headers self.old head.now (headers_seen part.entry) (headers_cell head.now.stream (stream_at self.old.core.last self.old.streams head.now.stream).kind))) }
-        ensures err { OnErr result ((self.new ≡ self.old) × (out.new.items ≡ out.old.items)) }
+        ensures err { OnErr result ((self.new ≡ self.old) × (O.octets out.new ≡ O.octets out.old)) }
     {
         match self.purpose_at(head.stream) {
             Err(cause) => self.fail(cause, out),
             Ok(purpose) => {
-                let mut decoding = self.begin_decoding(*out.allocator(), purpose);
+                let mut decoding = self.begin_decoding(*out.memory(), purpose);
                 let end_headers = head.has(END_HEADERS);
                 let shown = fresh_block(head);
                 match self.on_fragment(shown, &mut decoding, part.fragment, end_headers, out) {

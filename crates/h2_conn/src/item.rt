@@ -30,7 +30,7 @@ ghost use Rattle.h2_conn.specs.Sending.{records};
 ghost use Rattle.h2_rules.specs.Sound.{HasBody, IsSound, IsSoundState, IsSoundStream, in_force};
 
 use crate::state::State;
-use h2_frame::{DataPart, FrameRef, Item, Part, SettingsPart, part_of};
+use h2_frame::{DataPart, FrameRef, Item, Outgoing, Part, SettingsPart, part_of};
 use h2_rules::change::only_counts;
 use h2_rules::checks::{oversize, refusal};
 use h2_rules::control::{ignore, on_goaway, on_ping};
@@ -181,12 +181,16 @@ impl<'b, A: Allocator + Copy> State<'b, A> {
 
     /// A connection error or a change, or nothing; no block is open that is still decoded.
     #[inline(always)]
-    fn conclude(&mut self, reaction: Reaction, out: &mut Vec<u8, A>) -> Result<Verdict, AllocError>
+    fn conclude<O: Outgoing<'b, A>>(
+        &mut self,
+        reaction: Reaction,
+        out: &mut O,
+    ) -> Result<Verdict, AllocError>
         requires stopped { IsStopped self.old.block }
         requires sound { IsSound self.old.book (records self.old) (in_force self.old.core) reaction }
-        ensures ok { OnOk result (Does (stepped (rule.concluded self.old (makes self.old reaction))) out.old.items self.new out.new.items) }
+        ensures ok { OnOk result (Does (stepped (rule.concluded self.old (makes self.old reaction))) (O.octets out.old) self.new (O.octets out.new)) }
         ensures verdict { IfOk result (λ verdict. verdict ≡ rule.effect_verdict (makes self.old reaction)) }
-        ensures err { OnErr result ((self.new ≡ self.old) × (out.new.items ≡ out.old.items)) }
+        ensures err { OnErr result ((self.new ≡ self.old) × (O.octets out.new ≡ O.octets out.old)) }
     {
         match reaction {
             Reaction::ConnectionError(cause) => self.fail(cause, out),
@@ -196,17 +200,17 @@ impl<'b, A: Allocator + Copy> State<'b, A> {
 
     /// A connection error, or a change that leaves most counts as they are, or nothing; no block is open that is still decoded.
     #[inline(always)]
-    fn conclude_in_place(
+    fn conclude_in_place<O: Outgoing<'b, A>>(
         &mut self,
         reaction: Reaction,
-        out: &mut Vec<u8, A>,
+        out: &mut O,
     ) -> Result<Verdict, AllocError>
         requires stopped { IsStopped self.old.block }
         requires sound { IsSound self.old.book (records self.old) (in_force self.old.core) reaction }
         requires counts { IsCounted self.old.core reaction }
-        ensures ok { OnOk result (Does (stepped (rule.concluded self.old (makes self.old reaction))) out.old.items self.new out.new.items) }
+        ensures ok { OnOk result (Does (stepped (rule.concluded self.old (makes self.old reaction))) (O.octets out.old) self.new (O.octets out.new)) }
         ensures verdict { IfOk result (λ verdict. verdict ≡ rule.effect_verdict (makes self.old reaction)) }
-        ensures err { OnErr result ((self.new ≡ self.old) × (out.new.items ≡ out.old.items)) }
+        ensures err { OnErr result ((self.new ≡ self.old) × (O.octets out.new ≡ O.octets out.old)) }
     {
         match &reaction {
             Reaction::ConnectionError(cause) => self.fail(*cause, out),
@@ -226,19 +230,19 @@ impl<'b, A: Allocator + Copy> State<'b, A> {
 
     /// DATA is taken.
     #[inline(never)]
-    fn take_data(
+    fn take_data<O: Outgoing<'b, A>>(
         &mut self,
         head: &Head,
         part: DataPart<'_>,
         payload: &[u8],
-        out: &mut Vec<u8, A>,
+        out: &mut O,
     ) -> Result<Verdict, AllocError>
         requires fits { length payload.now < 2 ^ 24 }
         requires part { part_of head.now payload.now ≡ Ok (OfData (data_seen part)) }
         requires stopped { IsStopped self.old.block }
-        ensures ok { OnOk result (Does (stepped (rule.concluded self.old (makes self.old (rule.on_data self.old.config self.old.core (rule.body_length self.old.book (stream_at self.old.core.last self.old.streams head.now.stream)) (rule.incoming head.now payload.now (data_seen part.entry)) (stream_at self.old.core.last self.old.streams head.now.stream))))) out.old.items self.new out.new.items) }
+        ensures ok { OnOk result (Does (stepped (rule.concluded self.old (makes self.old (rule.on_data self.old.config self.old.core (rule.body_length self.old.book (stream_at self.old.core.last self.old.streams head.now.stream)) (rule.incoming head.now payload.now (data_seen part.entry)) (stream_at self.old.core.last self.old.streams head.now.stream))))) (O.octets out.old) self.new (O.octets out.new)) }
         ensures verdict { IfOk result (λ verdict. verdict ≡ rule.effect_verdict (makes self.old (rule.on_data self.old.config self.old.core (rule.body_length self.old.book (stream_at self.old.core.last self.old.streams head.now.stream)) (rule.incoming head.now payload.now (data_seen part.entry)) (stream_at self.old.core.last self.old.streams head.now.stream)))) }
-        ensures err { OnErr result ((self.new ≡ self.old) × (out.new.items ≡ out.old.items)) }
+        ensures err { OnErr result ((self.new ≡ self.old) × (O.octets out.new ≡ O.octets out.old)) }
     {
         self.look_up(head.stream);
         let reaction = self.on_data(head, payload, part);
@@ -247,11 +251,15 @@ impl<'b, A: Allocator + Copy> State<'b, A> {
 
     /// RST_STREAM is taken.
     #[inline(never)]
-    fn take_reset(&mut self, id: u32, out: &mut Vec<u8, A>) -> Result<Verdict, AllocError>
+    fn take_reset<O: Outgoing<'b, A>>(
+        &mut self,
+        id: u32,
+        out: &mut O,
+    ) -> Result<Verdict, AllocError>
         requires stopped { IsStopped self.old.block }
-        ensures ok { OnOk result (Does (stepped (rule.concluded self.old (makes self.old (rule.on_reset self.old.core (stream_at self.old.core.last self.old.streams id))))) out.old.items self.new out.new.items) }
+        ensures ok { OnOk result (Does (stepped (rule.concluded self.old (makes self.old (rule.on_reset self.old.core (stream_at self.old.core.last self.old.streams id))))) (O.octets out.old) self.new (O.octets out.new)) }
         ensures verdict { IfOk result (λ verdict. verdict ≡ rule.effect_verdict (makes self.old (rule.on_reset self.old.core (stream_at self.old.core.last self.old.streams id)))) }
-        ensures err { OnErr result ((self.new ≡ self.old) × (out.new.items ≡ out.old.items)) }
+        ensures err { OnErr result ((self.new ≡ self.old) × (O.octets out.new ≡ O.octets out.old)) }
     {
         self.look_up(id);
         let reaction = self.on_reset(id);
@@ -260,15 +268,15 @@ impl<'b, A: Allocator + Copy> State<'b, A> {
 
     /// SETTINGS without ACK is taken.
     #[inline(never)]
-    fn take_settings(
+    fn take_settings<O: Outgoing<'b, A>>(
         &mut self,
         part: SettingsPart<'_>,
-        out: &mut Vec<u8, A>,
+        out: &mut O,
     ) -> Result<Verdict, AllocError>
         requires stopped { IsStopped self.old.block }
-        ensures ok { OnOk result (Does (stepped (rule.concluded self.old (makes self.old (settings.settings_rule self.old.streams self.old.core (settings_in part.entry))))) out.old.items self.new out.new.items) }
+        ensures ok { OnOk result (Does (stepped (rule.concluded self.old (makes self.old (settings.settings_rule self.old.streams self.old.core (settings_in part.entry))))) (O.octets out.old) self.new (O.octets out.new)) }
         ensures verdict { IfOk result (λ verdict. verdict ≡ rule.effect_verdict (makes self.old (settings.settings_rule self.old.streams self.old.core (settings_in part.entry)))) }
-        ensures err { OnErr result ((self.new ≡ self.old) × (out.new.items ≡ out.old.items)) }
+        ensures err { OnErr result ((self.new ≡ self.old) × (O.octets out.new ≡ O.octets out.old)) }
     {
         let reaction = self.on_settings(part);
         self.conclude(reaction, out)
@@ -276,16 +284,16 @@ impl<'b, A: Allocator + Copy> State<'b, A> {
 
     /// PING is taken.
     #[inline(always)]
-    fn take_ping(
+    fn take_ping<O: Outgoing<'b, A>>(
         &mut self,
         is_answer: bool,
         octets: [u8; 8],
-        out: &mut Vec<u8, A>,
+        out: &mut O,
     ) -> Result<Verdict, AllocError>
         requires stopped { IsStopped self.old.block }
-        ensures ok { OnOk result (Does (stepped (rule.concluded self.old (makes self.old (if is_answer then rule.ignore self.old.core PingAcknowledgement else reactions.Continues (record (changes.only_counts self.old.core) { connection_frame = frames.PingAck octets }))))) out.old.items self.new out.new.items) }
+        ensures ok { OnOk result (Does (stepped (rule.concluded self.old (makes self.old (if is_answer then rule.ignore self.old.core PingAcknowledgement else reactions.Continues (record (changes.only_counts self.old.core) { connection_frame = frames.PingAck octets }))))) (O.octets out.old) self.new (O.octets out.new)) }
         ensures verdict { IfOk result (λ verdict. verdict ≡ rule.effect_verdict (makes self.old (if is_answer then rule.ignore self.old.core PingAcknowledgement else reactions.Continues (record (changes.only_counts self.old.core) { connection_frame = frames.PingAck octets })))) }
-        ensures err { OnErr result ((self.new ≡ self.old) × (out.new.items ≡ out.old.items)) }
+        ensures err { OnErr result ((self.new ≡ self.old) × (O.octets out.new ≡ O.octets out.old)) }
     {
         let reaction = self.on_ping(is_answer, octets);
         self.conclude_in_place(reaction, out)
@@ -293,16 +301,16 @@ impl<'b, A: Allocator + Copy> State<'b, A> {
 
     /// GOAWAY is taken.
     #[inline(never)]
-    fn take_goaway(
+    fn take_goaway<O: Outgoing<'b, A>>(
         &mut self,
         last: u32,
         code: u32,
-        out: &mut Vec<u8, A>,
+        out: &mut O,
     ) -> Result<Verdict, AllocError>
         requires stopped { IsStopped self.old.block }
-        ensures ok { OnOk result (Does (stepped (rule.concluded self.old (makes self.old (reactions.Continues (changes.only_counts (record self.old.core { goaway = Some (last, code) })))))) out.old.items self.new out.new.items) }
+        ensures ok { OnOk result (Does (stepped (rule.concluded self.old (makes self.old (reactions.Continues (changes.only_counts (record self.old.core { goaway = Some (last, code) })))))) (O.octets out.old) self.new (O.octets out.new)) }
         ensures verdict { IfOk result (λ verdict. verdict ≡ rule.effect_verdict (makes self.old (reactions.Continues (changes.only_counts (record self.old.core { goaway = Some (last, code) }))))) }
-        ensures err { OnErr result ((self.new ≡ self.old) × (out.new.items ≡ out.old.items)) }
+        ensures err { OnErr result ((self.new ≡ self.old) × (O.octets out.new ≡ O.octets out.old)) }
     {
         let reaction = self.on_goaway(last, code);
         self.conclude(reaction, out)
@@ -310,15 +318,15 @@ impl<'b, A: Allocator + Copy> State<'b, A> {
 
     /// WINDOW_UPDATE on the connection is taken.
     #[inline(always)]
-    fn take_connection_window(
+    fn take_connection_window<O: Outgoing<'b, A>>(
         &mut self,
         increment: u32,
-        out: &mut Vec<u8, A>,
+        out: &mut O,
     ) -> Result<Verdict, AllocError>
         requires stopped { IsStopped self.old.block }
-        ensures ok { OnOk result (Does (stepped (rule.concluded self.old (makes self.old (window.connection_window self.old.core increment)))) out.old.items self.new out.new.items) }
+        ensures ok { OnOk result (Does (stepped (rule.concluded self.old (makes self.old (window.connection_window self.old.core increment)))) (O.octets out.old) self.new (O.octets out.new)) }
         ensures verdict { IfOk result (λ verdict. verdict ≡ rule.effect_verdict (makes self.old (window.connection_window self.old.core increment))) }
-        ensures err { OnErr result ((self.new ≡ self.old) × (out.new.items ≡ out.old.items)) }
+        ensures err { OnErr result ((self.new ≡ self.old) × (O.octets out.new ≡ O.octets out.old)) }
     {
         let reaction = self.on_connection_window(increment);
         self.conclude_in_place(reaction, out)
@@ -326,16 +334,16 @@ impl<'b, A: Allocator + Copy> State<'b, A> {
 
     /// WINDOW_UPDATE on a stream is taken.
     #[inline(never)]
-    fn take_stream_window(
+    fn take_stream_window<O: Outgoing<'b, A>>(
         &mut self,
         id: u32,
         increment: u32,
-        out: &mut Vec<u8, A>,
+        out: &mut O,
     ) -> Result<Verdict, AllocError>
         requires stopped { IsStopped self.old.block }
-        ensures ok { OnOk result (Does (stepped (rule.concluded self.old (makes self.old (rule.on_window self.old.core increment (stream_at self.old.core.last self.old.streams id))))) out.old.items self.new out.new.items) }
+        ensures ok { OnOk result (Does (stepped (rule.concluded self.old (makes self.old (rule.on_window self.old.core increment (stream_at self.old.core.last self.old.streams id))))) (O.octets out.old) self.new (O.octets out.new)) }
         ensures verdict { IfOk result (λ verdict. verdict ≡ rule.effect_verdict (makes self.old (rule.on_window self.old.core increment (stream_at self.old.core.last self.old.streams id)))) }
-        ensures err { OnErr result ((self.new ≡ self.old) × (out.new.items ≡ out.old.items)) }
+        ensures err { OnErr result ((self.new ≡ self.old) × (O.octets out.new ≡ O.octets out.old)) }
     {
         self.look_up(id);
         let reaction = self.on_stream_window(id, increment);
@@ -344,11 +352,15 @@ impl<'b, A: Allocator + Copy> State<'b, A> {
 
     /// A frame that is ignored for this reason is taken.
     #[inline(never)]
-    fn take_ignored(&mut self, reason: Ignored, out: &mut Vec<u8, A>) -> Result<Verdict, AllocError>
+    fn take_ignored<O: Outgoing<'b, A>>(
+        &mut self,
+        reason: Ignored,
+        out: &mut O,
+    ) -> Result<Verdict, AllocError>
         requires stopped { IsStopped self.old.block }
-        ensures ok { OnOk result (Does (stepped (rule.concluded self.old (makes self.old (rule.ignore self.old.core reason)))) out.old.items self.new out.new.items) }
+        ensures ok { OnOk result (Does (stepped (rule.concluded self.old (makes self.old (rule.ignore self.old.core reason)))) (O.octets out.old) self.new (O.octets out.new)) }
         ensures verdict { IfOk result (λ verdict. verdict ≡ rule.effect_verdict (makes self.old (rule.ignore self.old.core reason))) }
-        ensures err { OnErr result ((self.new ≡ self.old) × (out.new.items ≡ out.old.items)) }
+        ensures err { OnErr result ((self.new ≡ self.old) × (O.octets out.new ≡ O.octets out.old)) }
     {
         let reaction = self.on_ignored(reason);
         self.conclude_in_place(reaction, out)
@@ -356,11 +368,11 @@ impl<'b, A: Allocator + Copy> State<'b, A> {
 
     /// PUSH_PROMISE is taken.
     #[inline(never)]
-    fn take_push_promise(&mut self, out: &mut Vec<u8, A>) -> Result<Verdict, AllocError>
+    fn take_push_promise<O: Outgoing<'b, A>>(&mut self, out: &mut O) -> Result<Verdict, AllocError>
         requires stopped { IsStopped self.old.block }
-        ensures ok { OnOk result (Does (stepped (rule.concluded self.old (makes self.old (ConnectionError PushPromiseFromClient)))) out.old.items self.new out.new.items) }
+        ensures ok { OnOk result (Does (stepped (rule.concluded self.old (makes self.old (ConnectionError PushPromiseFromClient)))) (O.octets out.old) self.new (O.octets out.new)) }
         ensures verdict { IfOk result (λ verdict. verdict ≡ rule.effect_verdict (makes self.old (ConnectionError PushPromiseFromClient))) }
-        ensures err { OnErr result ((self.new ≡ self.old) × (out.new.items ≡ out.old.items)) }
+        ensures err { OnErr result ((self.new ≡ self.old) × (O.octets out.new ≡ O.octets out.old)) }
     {
         let reaction = self.on_push_promise();
         self.conclude(reaction, out)
@@ -368,16 +380,16 @@ impl<'b, A: Allocator + Copy> State<'b, A> {
 
     /// WINDOW_UPDATE is taken.
     #[inline(always)]
-    fn take_window_update(
+    fn take_window_update<O: Outgoing<'b, A>>(
         &mut self,
         id: u32,
         increment: u32,
-        out: &mut Vec<u8, A>,
+        out: &mut O,
     ) -> Result<Verdict, AllocError>
         requires stopped { IsStopped self.old.block }
-        ensures ok { OnOk result (Does (stepped (rule.concluded self.old (makes self.old (if id == 0 then window.connection_window self.old.core increment else rule.on_window self.old.core increment (stream_at self.old.core.last self.old.streams id))))) out.old.items self.new out.new.items) }
+        ensures ok { OnOk result (Does (stepped (rule.concluded self.old (makes self.old (if id == 0 then window.connection_window self.old.core increment else rule.on_window self.old.core increment (stream_at self.old.core.last self.old.streams id))))) (O.octets out.old) self.new (O.octets out.new)) }
         ensures verdict { IfOk result (λ verdict. verdict ≡ rule.effect_verdict (makes self.old (if id == 0 then window.connection_window self.old.core increment else rule.on_window self.old.core increment (stream_at self.old.core.last self.old.streams id)))) }
-        ensures err { OnErr result ((self.new ≡ self.old) × (out.new.items ≡ out.old.items)) }
+        ensures err { OnErr result ((self.new ≡ self.old) × (O.octets out.new ≡ O.octets out.old)) }
     {
         if id == 0 {
             return self.take_connection_window(increment, out);
@@ -387,20 +399,20 @@ impl<'b, A: Allocator + Copy> State<'b, A> {
 
     /// A frame that is no HEADERS, no CONTINUATION and no acknowledgement of settings, by what it holds.
     #[inline(always)]
-    fn on_plain(
+    fn on_plain<O: Outgoing<'b, A>>(
         &mut self,
         head: &Head,
         payload: &[u8],
         part: Part<'_>,
-        out: &mut Vec<u8, A>,
+        out: &mut O,
     ) -> Result<Verdict, AllocError>
         requires fits { length payload.now < 2 ^ 24 }
         requires part { part_of head.now payload.now ≡ Ok (part_seen part) }
         requires plain { IsPlain part }
         requires stopped { IsStopped self.old.block }
-        ensures ok { OnOk result (Does (stepped (rule.concluded self.old (rule.frame_effect self.old head.now payload.now (part_seen part.entry)))) out.old.items self.new out.new.items) }
+        ensures ok { OnOk result (Does (stepped (rule.concluded self.old (rule.frame_effect self.old head.now payload.now (part_seen part.entry)))) (O.octets out.old) self.new (O.octets out.new)) }
         ensures verdict { IfOk result (λ verdict. verdict ≡ rule.effect_verdict (rule.frame_effect self.old head.now payload.now (part_seen part.entry))) }
-        ensures err { OnErr result ((self.new ≡ self.old) × (out.new.items ≡ out.old.items)) }
+        ensures err { OnErr result ((self.new ≡ self.old) × (O.octets out.new ≡ O.octets out.old)) }
     {
         match part {
             Part::Data(part) => self.take_data(head, part, payload, out),
@@ -419,19 +431,19 @@ impl<'b, A: Allocator + Copy> State<'b, A> {
     }
 
     /// A frame that has passed the checks, by what it holds.
-    fn on_part(
+    fn on_part<O: Outgoing<'b, A>>(
         &mut self,
         head: &Head,
         payload: &[u8],
         part: Part<'_>,
-        out: &mut Vec<u8, A>,
+        out: &mut O,
     ) -> Result<Verdict, AllocError>
         requires fits { length payload.now < 2 ^ 24 }
         requires part { part_of head.now payload.now ≡ Ok (part_seen part) }
         requires passed { checks.refusal (rule.block_stream self.old.block) self.old.core.phase head.now ≡ None }
-        ensures ok { OnOk result (Does (stepped (rule.concluded self.old (rule.frame_effect self.old head.now payload.now (part_seen part.entry)))) out.old.items self.new out.new.items) }
+        ensures ok { OnOk result (Does (stepped (rule.concluded self.old (rule.frame_effect self.old head.now payload.now (part_seen part.entry)))) (O.octets out.old) self.new (O.octets out.new)) }
         ensures verdict { IfOk result (λ verdict. verdict ≡ rule.effect_verdict (rule.frame_effect self.old head.now payload.now (part_seen part.entry))) }
-        ensures err { OnErr result ((self.new ≡ self.old) × (out.new.items ≡ out.old.items)) }
+        ensures err { OnErr result ((self.new ≡ self.old) × (O.octets out.new ≡ O.octets out.old)) }
     {
         match part {
             Part::Headers(part) => self.on_headers(head, part, out),
@@ -451,11 +463,15 @@ impl<'b, A: Allocator + Copy> State<'b, A> {
 
     /// A frame: the checks of its head, the form of its payload, and then what it holds.
     #[tactic(auto, unfolding(h2_spec::specs::Effect::effect, h2_spec::specs::Effect::cause_of, h2_spec::specs::Ignored::ignored_of))]
-    fn on_frame(&mut self, frame: FrameRef<'_>, out: &mut Vec<u8, A>) -> Result<Verdict, AllocError>
+    fn on_frame<O: Outgoing<'b, A>>(
+        &mut self,
+        frame: FrameRef<'_>,
+        out: &mut O,
+    ) -> Result<Verdict, AllocError>
         requires fits { length frame.payload.now < 2 ^ 24 }
-        ensures ok { OnOk result (Does (stepped (rule.effect self.old (WholeFrame frame.entry.head frame.entry.payload.now))) out.old.items self.new out.new.items) }
+        ensures ok { OnOk result (Does (stepped (rule.effect self.old (WholeFrame frame.entry.head frame.entry.payload.now))) (O.octets out.old) self.new (O.octets out.new)) }
         ensures verdict { IfOk result (λ verdict. verdict ≡ record { cause = rule.cause_of self.old (WholeFrame frame.entry.head frame.entry.payload.now); ignored = ignored_of self.old (WholeFrame frame.entry.head frame.entry.payload.now) }) }
-        ensures err { OnErr result ((self.new ≡ self.old) × (out.new.items ≡ out.old.items)) }
+        ensures err { OnErr result ((self.new ≡ self.old) × (O.octets out.new ≡ O.octets out.old)) }
     {
         match refusal(self.block_stream(), self.core.phase, &frame.head) {
             Some(cause) => self.fail(cause, out),
@@ -467,10 +483,10 @@ impl<'b, A: Allocator + Copy> State<'b, A> {
     }
 
     /// The client's preface has arrived: SETTINGS is awaited (RFC 9113, 3.4).
-    fn on_preface(&mut self, out: &mut Vec<u8, A>) -> Result<Verdict, AllocError>
-        ensures ok { OnOk result (Does (stepped (changes.made self.old (changes.only_counts (record self.old.core { phase = phase.Settings })))) out.old.items self.new out.new.items) }
+    fn on_preface<O: Outgoing<'b, A>>(&mut self, out: &mut O) -> Result<Verdict, AllocError>
+        ensures ok { OnOk result (Does (stepped (changes.made self.old (changes.only_counts (record self.old.core { phase = phase.Settings })))) (O.octets out.old) self.new (O.octets out.new)) }
         ensures verdict { IfOk result (λ verdict. verdict ≡ record { cause = None; ignored = None }) }
-        ensures err { OnErr result ((self.new ≡ self.old) × (out.new.items ≡ out.old.items)) }
+        ensures err { OnErr result ((self.new ≡ self.old) × (O.octets out.new ≡ O.octets out.old)) }
     {
         let change = only_counts(ConnectionState {
             phase: Phase::Settings,
@@ -487,11 +503,15 @@ impl<'b, A: Allocator + Copy> State<'b, A> {
     /// `AllocError` where memory was refused: the state, its open block included, and `out` are as before the item.
     #[inline(always)]
     #[tactic(auto, unfolding(h2_spec::specs::Effect::effect, h2_spec::specs::Effect::cause_of, h2_spec::specs::Ignored::ignored_of, h2_spec::specs::Trace::step))]
-    pub fn item(&mut self, item: &Item<'_>, out: &mut Vec<u8, A>) -> Result<Verdict, AllocError>
+    pub fn item<O: Outgoing<'b, A>>(
+        &mut self,
+        item: &Item<'_>,
+        out: &mut O,
+    ) -> Result<Verdict, AllocError>
         requires short { IsShort (item_of item.now) }
-        ensures ok { OnOk result (Does (step self.old (item_of item.now)) out.old.items self.new out.new.items) }
+        ensures ok { OnOk result (Does (step self.old (item_of item.now)) (O.octets out.old) self.new (O.octets out.new)) }
         ensures verdict { IfOk result (λ verdict. verdict ≡ record { cause = rule.cause_of self.old (item_of item.now); ignored = ignored_of self.old (item_of item.now) }) }
-        ensures err { OnErr result ((self.new ≡ self.old) × (out.new.items ≡ out.old.items)) }
+        ensures err { OnErr result ((self.new ≡ self.old) × (O.octets out.new ≡ O.octets out.old)) }
     {
         match item {
             Item::Preface => self.on_preface(out),

@@ -4,7 +4,7 @@
 ghost use Rattle.std.specs.Prelude.{◌≡◌, ◌++◌, IfOk, OnOk, OnErr};
 ghost use Rattle.h2_spec.specs.Opening.{opening_octets, opening_payload, setting, setting_unless};
 
-use h2_frame::append_frame;
+use h2_frame::{Outgoing, append_frame};
 use h2_rules::headers::MAX_LIST;
 use h2_spec::connection::Config;
 use h2_spec::flow::{
@@ -72,13 +72,13 @@ fn opening_payload<A: Allocator>(alloc: A, config: Config) -> Result<Vec<u8, A>,
 
 /// Appends the opening SETTINGS, or nothing where memory is refused.
 #[tactic(auto, unfolding(h2_spec::specs::Opening::opening_octets))]
-pub fn write_opening<A: Allocator + Copy>(
+pub fn write_opening<'b, A: Allocator + Copy, O: Outgoing<'b, A>>(
     config: Config,
-    out: &mut Vec<u8, A>,
+    out: &mut O,
 ) -> Result<(), AllocError>
-    ensures ok { OnOk result (out.new.items ≡ out.old.items ++ opening_octets config) }
-    ensures no_memory { OnErr result (out.new.items ≡ out.old.items) }
+    ensures ok { OnOk result (O.octets out.new ≡ O.octets out.old ++ opening_octets config) }
+    ensures no_memory { OnErr result (O.octets out.new ≡ O.octets out.old) }
 {
-    let payload = opening_payload(*out.allocator(), config)?;
+    let payload = opening_payload(*out.memory(), config)?;
     append_frame(SETTINGS, 0, 0, payload.as_slice(), &[], out)
 }

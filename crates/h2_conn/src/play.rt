@@ -16,22 +16,23 @@ use crate::conn::Conn;
 use crate::fault::ConnFault;
 use crate::pieces::octets_at;
 use crate::view::View;
+use h2_frame::Outgoing;
 use h2_request::book::Book;
 use h2_spec::connection::Config;
 use h2_spec::octets::octets_from;
 use std::alloc::Allocator;
 
 /// Feeds a connection the octets in pieces of these lengths, then what remains.
-fn feed_pieces<'b, A: Allocator + Copy>(
+fn feed_pieces<'b, A: Allocator + Copy, O: Outgoing<'b, A>>(
     conn: &mut Conn<'b, A>,
     octets: &[u8],
     lengths: &[usize],
-    out: &mut Vec<u8, A>,
+    out: &mut O,
 ) -> Result<(), ConnFault>
     requires { conn.old ≡ going conn.old.state [] }
-    ensures ok { OnOk result (Fed conn.old octets.now out.old.items conn.new out.new.items) }
+    ensures ok { OnOk result (Fed conn.old octets.now (O.octets out.old) conn.new (O.octets out.new)) }
     ensures fault { IfErr result (λ fault. fault ≡ NoMemory) }
-    ensures kept { take (length out.old.items) out.new.items ≡ out.old.items }
+    ensures kept { take (length (O.octets out.old)) (O.octets out.new) ≡ O.octets out.old }
 {
     let mut at = 0usize;
     for length in lengths {
@@ -50,23 +51,23 @@ fn feed_pieces<'b, A: Allocator + Copy>(
 
 /// Feeds a connection the octets in pieces of these lengths, then what remains; where memory is refused, `out` is cut
 /// to a length.
-fn feed_or_cut<'b, A: Allocator + Copy>(
+fn feed_or_cut<'b, A: Allocator + Copy, O: Outgoing<'b, A>>(
     conn: &mut Conn<'b, A>,
     octets: &[u8],
     lengths: &[usize],
     before: usize,
-    out: &mut Vec<u8, A>,
+    out: &mut O,
 ) -> Result<(), ConnFault>
     requires new { conn.old ≡ going conn.old.state [] }
-    requires within { before ≤ length out.old.items }
-    ensures ok { OnOk result (Fed conn.old octets.now out.old.items conn.new out.new.items) }
+    requires within { before ≤ length (O.octets out.old) }
+    ensures ok { OnOk result (Fed conn.old octets.now (O.octets out.old) conn.new (O.octets out.new)) }
     ensures fault { IfErr result (λ fault. fault ≡ NoMemory) }
-    ensures cut { OnErr result (out.new.items ≡ take before out.old.items) }
+    ensures cut { OnErr result (O.octets out.new ≡ take before (O.octets out.old)) }
 {
     match feed_pieces(conn, octets, lengths, out) {
         Ok(()) => Ok(()),
         Err(fault) => {
-            out.truncate(before);
+            out.keep_first(before);
             Err(fault)
         }
     }
@@ -81,20 +82,20 @@ fn feed_or_cut<'b, A: Allocator + Copy>(
 ///
 /// `BadConfig` where a limit or a setting is outside its range (`Config::is_allowed`); then `NoMemory`. Both leave
 /// `out` as it was.
-pub fn open_and_feed<'b, A: Allocator + Copy>(
+pub fn open_and_feed<'b, A: Allocator + Copy, O: Outgoing<'b, A>>(
     book: &'b Book<A>,
     config: Config,
     octets: &[u8],
     lengths: &[usize],
-    out: &mut Vec<u8, A>,
+    out: &mut O,
 ) -> Result<Conn<'b, A>, ConnFault>
-    ensures ok { IfOk result (λ conn. Opens book.now config octets.now out.old.items conn out.new.items) }
-    ensures grants { OnOk result (SendsWithinGrants book.now config octets.now out.old.items out.new.items) }
+    ensures ok { IfOk result (λ conn. Opens book.now config octets.now (O.octets out.old) conn (O.octets out.new)) }
+    ensures grants { OnOk result (SendsWithinGrants book.now config octets.now (O.octets out.old) (O.octets out.new)) }
     ensures allowed { OnOk result (is_allowed config ≡ true) }
     ensures fault { IfErr result (λ fault. fault ≡ refusal_for (is_allowed config)) }
-    ensures unchanged { OnErr result (out.new.items ≡ out.old.items) }
+    ensures unchanged { OnErr result (O.octets out.new ≡ O.octets out.old) }
 {
-    let before = out.as_slice().len();
+    let before = out.len();
     let mut conn = Conn::new(book, config, out)?;
     match feed_or_cut(&mut conn, octets, lengths, before, out) {
         Ok(()) => Ok(conn),
@@ -103,19 +104,19 @@ pub fn open_and_feed<'b, A: Allocator + Copy>(
 }
 
 /// The view of a connection's state; where memory for it is refused, `out` is cut to a length.
-fn view_or_cut<A: Allocator + Copy>(
+fn view_or_cut<'b, A: Allocator + Copy, O: Outgoing<'b, A>>(
     conn: &Conn<'_, A>,
     length: usize,
-    out: &mut Vec<u8, A>,
+    out: &mut O,
 ) -> Result<View<A>, ConnFault>
-    ensures ok { IfOk result (λ shown. (shown ≡ view conn.now.state) × (out.new.items ≡ out.old.items)) }
+    ensures ok { IfOk result (λ shown. (shown ≡ view conn.now.state) × (O.octets out.new ≡ O.octets out.old)) }
     ensures fault { IfErr result (λ fault. fault ≡ NoMemory) }
-    ensures cut { OnErr result (out.new.items ≡ take length out.old.items) }
+    ensures cut { OnErr result (O.octets out.new ≡ take length (O.octets out.old)) }
 {
-    match conn.state(*out.allocator()) {
+    match conn.state(*out.memory()) {
         Ok(view) => Ok(view),
         Err(_) => {
-            out.truncate(length);
+            out.keep_first(length);
             Err(ConnFault::NoMemory)
         }
     }
@@ -131,20 +132,20 @@ fn view_or_cut<A: Allocator + Copy>(
 ///
 /// `BadConfig` where a limit or a setting is outside its range (`Config::is_allowed`); then `NoMemory`. Both leave
 /// `out` as it was.
-pub fn play<A: Allocator + Copy>(
-    book: &Book<A>,
+pub fn play<'b, A: Allocator + Copy, O: Outgoing<'b, A>>(
+    book: &'b Book<A>,
     config: Config,
     octets: &[u8],
     lengths: &[usize],
-    out: &mut Vec<u8, A>,
+    out: &mut O,
 ) -> Result<View<A>, ConnFault>
-    ensures ok { IfOk result (λ shown. Plays book.now config octets.now out.old.items shown out.new.items) }
-    ensures grants { OnOk result (SendsWithinGrants book.now config octets.now out.old.items out.new.items) }
+    ensures ok { IfOk result (λ shown. Plays book.now config octets.now (O.octets out.old) shown (O.octets out.new)) }
+    ensures grants { OnOk result (SendsWithinGrants book.now config octets.now (O.octets out.old) (O.octets out.new)) }
     ensures allowed { OnOk result (is_allowed config ≡ true) }
     ensures fault { IfErr result (λ fault. fault ≡ refusal_for (is_allowed config)) }
-    ensures unchanged { OnErr result (out.new.items ≡ out.old.items) }
+    ensures unchanged { OnErr result (O.octets out.new ≡ O.octets out.old) }
 {
-    let length = out.as_slice().len();
+    let length = out.len();
     let conn = open_and_feed(book, config, octets, lengths, out)?;
     view_or_cut(&conn, length, out)
 }

@@ -13,6 +13,7 @@ ghost use Rattle.h2_conn.specs.Does.{Does, stepped};
 
 use crate::apply_change::{send_and_update, with_sent};
 use crate::state::State;
+use h2_frame::Outgoing;
 use h2_rules::change::{ignoring, only_counts, verdict_of};
 use h2_rules::settings::comes_into_force;
 use h2_spec::ignored::Ignored;
@@ -22,11 +23,14 @@ use std::alloc::{AllocError, Allocator};
 impl<'b, A: Allocator + Copy> State<'b, A> {
     /// The peer has acknowledged the server's settings: the first time they come into force, later it is ignored.
     #[inline(never)]
-    pub fn on_acknowledged(&mut self, out: &mut Vec<u8, A>) -> Result<Verdict, AllocError>
+    pub fn on_acknowledged<O: Outgoing<'b, A>>(
+        &mut self,
+        out: &mut O,
+    ) -> Result<Verdict, AllocError>
         requires stopped { IsStopped self.old.block }
-        ensures ok { OnOk result (Does (stepped (rule.concluded self.old (makes self.old (settings.acknowledged self.old.config self.old.core)))) out.old.items self.new out.new.items) }
+        ensures ok { OnOk result (Does (stepped (rule.concluded self.old (makes self.old (settings.acknowledged self.old.config self.old.core)))) (O.octets out.old) self.new (O.octets out.new)) }
         ensures verdict { IfOk result (λ verdict. verdict ≡ rule.effect_verdict (makes self.old (settings.acknowledged self.old.config self.old.core))) }
-        ensures err { OnErr result ((self.new ≡ self.old) × (out.new.items ≡ out.old.items)) }
+        ensures err { OnErr result ((self.new ≡ self.old) × (O.octets out.new ≡ O.octets out.old)) }
     {
         if self.core.acked {
             let change = ignoring(Ignored::SecondAcknowledgement, only_counts(self.core));
@@ -42,11 +46,11 @@ impl<'b, A: Allocator + Copy> State<'b, A> {
     /// # Errors
     ///
     /// `AllocError` where memory was refused for the entries that a higher limit lets the table hold: nothing is done.
-    fn come_into_force(&mut self, out: &mut Vec<u8, A>) -> Result<Verdict, AllocError>
+    fn come_into_force<O: Outgoing<'b, A>>(&mut self, out: &mut O) -> Result<Verdict, AllocError>
         requires stopped { IsStopped self.old.block }
-        ensures ok { OnOk result (Does (then_sent self.old.core.phase (changes.made self.old (settings.comes_into_force self.old.core (configured self.old.config)))) out.old.items self.new out.new.items) }
+        ensures ok { OnOk result (Does (then_sent self.old.core.phase (changes.made self.old (settings.comes_into_force self.old.core (configured self.old.config)))) (O.octets out.old) self.new (O.octets out.new)) }
         ensures verdict { IfOk result (λ verdict. verdict ≡ record { cause = None; ignored = None }) }
-        ensures err { OnErr result ((self.new ≡ self.old) × (out.new.items ≡ out.old.items)) }
+        ensures err { OnErr result ((self.new ≡ self.old) × (O.octets out.new ≡ O.octets out.old)) }
     {
         let own = self.config.configured();
         let change = comes_into_force(self.core, own);

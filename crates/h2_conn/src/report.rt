@@ -12,7 +12,7 @@ ghost use Rattle.h2_conn.specs.Reports.{item_head, reported, used_by};
 use crate::conn::is_ended;
 use crate::first::awaits_preface;
 use crate::state::State;
-use h2_frame::{Item, first_item};
+use h2_frame::{Item, Outgoing, first_item};
 use h2_spec::causes::Cause;
 use h2_spec::frames::ItemHead;
 use h2_spec::ignored::Ignored;
@@ -45,14 +45,14 @@ fn item_head(item: &Item<'_>) -> ItemHead
 
 /// Takes the item that octets begin with, if there is a whole one, and reports what it is, and why it is an error or is
 /// ignored; none after the end. Where memory is refused nothing of it is done.
-fn report_first<'b, A: Allocator + Copy>(
+fn report_first<'b, A: Allocator + Copy, O: Outgoing<'b, A>>(
     state: &mut State<'b, A>,
     octets: &[u8],
-    out: &mut Vec<u8, A>,
+    out: &mut O,
 ) -> Result<Option<TakenItem>, AllocError>
-    ensures ok { IfOk result (λ taken. TakesIfAny state.old octets.now out.old.items state.new out.new.items (used_by taken)) }
+    ensures ok { IfOk result (λ taken. TakesIfAny state.old octets.now (O.octets out.old) state.new (O.octets out.new) (used_by taken)) }
     ensures report { IfOk result (λ taken. taken ≡ reported state.old (next_item state.old octets.now)) }
-    ensures err { OnErr result ((state.new ≡ state.old) × (out.new.items ≡ out.old.items)) }
+    ensures err { OnErr result ((state.new ≡ state.old) × (O.octets out.new ≡ O.octets out.old)) }
 {
     let phase = state.phase();
     if is_ended(phase) {
@@ -75,15 +75,15 @@ fn report_first<'b, A: Allocator + Copy>(
 }
 
 /// The same, where it matters what the item leaves of the records of streams.
-pub(crate) fn report_first_in_order<'b, A: Allocator + Copy>(
+pub(crate) fn report_first_in_order<'b, A: Allocator + Copy, O: Outgoing<'b, A>>(
     state: &mut State<'b, A>,
     octets: &[u8],
-    out: &mut Vec<u8, A>,
+    out: &mut O,
 ) -> Result<Option<TakenItem>, AllocError>
-    ensures ok { IfOk result (λ taken. TakesIfAny state.old octets.now out.old.items state.new out.new.items (used_by taken)) }
+    ensures ok { IfOk result (λ taken. TakesIfAny state.old octets.now (O.octets out.old) state.new (O.octets out.new) (used_by taken)) }
     ensures report { IfOk result (λ taken. taken ≡ reported state.old (next_item state.old octets.now)) }
     ensures follows { OnOk result (Follows state.old state.new) }
-    ensures err { OnErr result ((state.new ≡ state.old) × (out.new.items ≡ out.old.items)) }
+    ensures err { OnErr result ((state.new ≡ state.old) × (O.octets out.new ≡ O.octets out.old)) }
 {
     let _rising = state.streams.last();
     report_first(state, octets, out)

@@ -2,7 +2,7 @@
 //! First the frames are written, and then the shares are taken, which takes no memory. Definition: h2_spec's
 //! `specs/SendPending.antt`.
 
-ghost use Rattle.std.specs.Prelude.{◌≡◌, ◌-◌, ◌<◌, ◌≤◌, ◌++◌, find, IfOk, IfSome, IsTrue, OnErr, OnOk, take, vec_len, ◌^◌, pos, ◌-ℤ◌, ◌≤ℤ◌};
+ghost use Rattle.std.specs.Prelude.{◌≡◌, ◌-◌, ◌<◌, ◌≤◌, ◌++◌, find, length, IfOk, IfSome, IsTrue, OnErr, OnOk, take, ◌^◌, pos, ◌-ℤ◌, ◌≤ℤ◌};
 ghost use Rattle.std.specs.List.{AllByRecursion};
 ghost use Rattle.h2_spec.specs.Frame.{frames_octets};
 ghost use Rattle.h2_spec.specs.SendPending as rule;
@@ -14,6 +14,7 @@ ghost use Rattle.h2_spec.specs.Window.{sendable};
 ghost use Rattle.h2_streams.specs.Kept.{ready_above};
 
 use crate::pieces::write_allowance;
+use h2_frame::Outgoing;
 use h2_request::book::Book;
 use h2_rules::ends::{server_ended, with_body_remaining};
 use h2_spec::flow::Window;
@@ -32,20 +33,20 @@ pub fn none_sends<A: Allocator>(streams: &Streams<A>, window: u64) -> bool
 /// Each stream that can send sends its share of this much of the connection's window: the frames are written whole, or
 /// in part and then the records stay. Answers how many octets are sent.
 #[inline(always)]
-pub fn send_ready<A: Allocator>(
-    book: &Book<A>,
+pub fn send_ready<'b, A: Allocator, O: Outgoing<'b, A>>(
+    book: &'b Book<A>,
     streams: &mut Streams<A>,
     size: usize,
     window: u64,
-    out: &mut Vec<u8, A>,
+    out: &mut O,
 ) -> Result<u64, AllocError>
     requires size { (0 < size) × (size < 2 ^ 24) }
     requires bodies { AllByRecursion (HasBody book.now) streams.old.streams }
     ensures count { IfOk result (λ count. (count ≡ window - rule.window_left window streams.old.streams) × (count ≤ window)) }
-    ensures sent { OnOk result (out.new.items ≡ out.old.items ++ frames_octets (rule.sent_frames book.now size window streams.old.streams)) }
+    ensures sent { OnOk result (O.octets out.new ≡ O.octets out.old ++ frames_octets (rule.sent_frames book.now size window streams.old.streams)) }
     ensures records { OnOk result (streams.new ≡ sent_records window streams.old) }
     ensures err { OnErr result (streams.new ≡ streams.old) }
-    ensures kept { take (vec_len out.old) out.new.items ≡ out.old.items }
+    ensures kept { take (length (O.octets out.old)) (O.octets out.new) ≡ O.octets out.old }
 {
     if none_sends(streams, window) {
         return Ok(0);
@@ -56,17 +57,17 @@ pub fn send_ready<A: Allocator>(
 
 /// Writes the frames of each stream's share, whole or in part.
 #[inline(never)]
-fn write_ready<A: Allocator>(
-    book: &Book<A>,
+fn write_ready<'b, A: Allocator, O: Outgoing<'b, A>>(
+    book: &'b Book<A>,
     streams: &Streams<A>,
     size: usize,
     window: u64,
-    out: &mut Vec<u8, A>,
+    out: &mut O,
 ) -> Result<(), AllocError>
     requires size { (0 < size) × (size < 2 ^ 24) }
     requires bodies { AllByRecursion (HasBody book.now) streams.now.streams }
-    ensures ok { OnOk result (out.new.items ≡ out.old.items ++ frames_octets (rule.sent_frames book.now size window streams.now.streams)) }
-    ensures kept { take (vec_len out.old) out.new.items ≡ out.old.items }
+    ensures ok { OnOk result (O.octets out.new ≡ O.octets out.old ++ frames_octets (rule.sent_frames book.now size window streams.now.streams)) }
+    ensures kept { take (length (O.octets out.old)) (O.octets out.new) ≡ O.octets out.old }
 {
     let _last = streams.last();
     let mut after = 0;
@@ -95,18 +96,18 @@ fn next_stream<A: Allocator>(streams: &Streams<A>, after: u32) -> Option<Stream>
 
 /// Writes the frames of one stream's share of the rest of the connection's window, whole or in part; answers the share.
 #[inline(always)]
-pub fn write_next<A: Allocator>(
-    book: &Book<A>,
+pub fn write_next<'b, A: Allocator, O: Outgoing<'b, A>>(
+    book: &'b Book<A>,
     stream: &Stream,
     size: usize,
     window: u64,
-    out: &mut Vec<u8, A>,
+    out: &mut O,
 ) -> Result<u64, AllocError>
     requires size { (0 < size) × (size < 2 ^ 24) }
     requires body { HasBody book.now stream.now }
     ensures allowance { IfOk result (λ allowance. (allowance ≡ rule.allowance window stream.now) × (allowance ≤ window)) }
-    ensures ok { OnOk result (out.new.items ≡ out.old.items ++ frames_octets (rule.allowance_frames book.now size (rule.allowance window stream.now) stream.now)) }
-    ensures kept { take (vec_len out.old) out.new.items ≡ out.old.items }
+    ensures ok { OnOk result (O.octets out.new ≡ O.octets out.old ++ frames_octets (rule.allowance_frames book.now size (rule.allowance window stream.now) stream.now)) }
+    ensures kept { take (length (O.octets out.old)) (O.octets out.new) ≡ O.octets out.old }
 {
     let allowance = allowance(window, stream);
     if allowance > 0 {

@@ -1,7 +1,7 @@
 //! What becomes of the records, and what is sent from them then (RFC 9113, 5.2 and 6.9): each whole, or else the
 //! records are as they were. Definitions: `specs/Sending.antt`, over h2_spec's `specs/Change.antt`.
 
-ghost use Rattle.std.specs.Prelude.{◌≡◌, ◌-◌, ◌<◌, ◌≤◌, ◌^◌, ◌++◌, IfOk, OnErr, OnOk, take, vec_len};
+ghost use Rattle.std.specs.Prelude.{◌≡◌, ◌-◌, ◌<◌, ◌≤◌, ◌^◌, ◌++◌, length, IfOk, OnErr, OnOk, take};
 ghost use Rattle.std.specs.List.{AllByRecursion};
 ghost use Rattle.h2_spec.specs.Change as changes;
 ghost use Rattle.h2_spec.specs.Frame.{frames_octets};
@@ -13,6 +13,7 @@ ghost use Rattle.h2_rules.specs.Sound.{HasBody, updated_records};
 ghost use Rattle.h2_streams.specs.Put.{CanPut};
 
 use crate::send_pending::{after_sending, none_sends, send_ready, write_next};
+use h2_frame::Outgoing;
 use h2_request::book::Book;
 use h2_spec::reactions::RecordUpdate;
 use h2_spec::streams::Stream;
@@ -22,22 +23,22 @@ use std::alloc::{AllocError, Allocator};
 /// The records change, and their pending output is then sent, as far as this much of the connection's window goes: the
 /// frames are written whole, or in part and then the records stay. Answers how many octets are sent.
 #[inline(always)]
-pub fn update_and_send<A: Allocator + Copy>(
-    book: &Book<A>,
+pub fn update_and_send<'b, A: Allocator + Copy, O: Outgoing<'b, A>>(
+    book: &'b Book<A>,
     streams: &mut Streams<A>,
     record_update: RecordUpdate,
     size: usize,
     window: u64,
-    out: &mut Vec<u8, A>,
+    out: &mut O,
 ) -> Result<u64, AllocError>
     requires size { (0 < size) × (size < 2 ^ 24) }
     requires few { window ≤ 2147483647 }
     requires sends { CanSend book.now streams.old record_update }
     ensures count { IfOk result (λ count. (count ≡ window - rule.window_left window (changes.updated_streams record_update streams.old.streams)) × (count ≤ window)) }
-    ensures sent { OnOk result (out.new.items ≡ out.old.items ++ frames_octets (rule.sent_frames book.now size window (changes.updated_streams record_update streams.old.streams))) }
+    ensures sent { OnOk result (O.octets out.new ≡ O.octets out.old ++ frames_octets (rule.sent_frames book.now size window (changes.updated_streams record_update streams.old.streams))) }
     ensures records { OnOk result (streams.new ≡ sent_records window (updated_records record_update streams.old)) }
     ensures err { OnErr result (streams.new ≡ streams.old) }
-    ensures kept { take (vec_len out.old) out.new.items ≡ out.old.items }
+    ensures kept { take (length (O.octets out.old)) (O.octets out.new) ≡ O.octets out.old }
 {
     match record_update {
         RecordUpdate::Unchanged => send_ready(book, streams, size, window, out),
@@ -53,23 +54,23 @@ pub fn update_and_send<A: Allocator + Copy>(
 
 /// A record is put, and the pending output is then sent.
 #[inline(always)]
-fn put_and_send<A: Allocator + Copy>(
-    book: &Book<A>,
+fn put_and_send<'b, A: Allocator + Copy, O: Outgoing<'b, A>>(
+    book: &'b Book<A>,
     streams: &mut Streams<A>,
     stream: Stream,
     size: usize,
     window: u64,
-    out: &mut Vec<u8, A>,
+    out: &mut O,
 ) -> Result<u64, AllocError>
     requires size { (0 < size) × (size < 2 ^ 24) }
     requires few { window ≤ 2147483647 }
     requires made { CanPut stream streams.old }
     requires bodies { AllByRecursion (HasBody book.now) (put stream streams.old.streams) }
     ensures count { IfOk result (λ count. (count ≡ window - rule.window_left window (put stream streams.old.streams)) × (count ≤ window)) }
-    ensures sent { OnOk result (out.new.items ≡ out.old.items ++ frames_octets (rule.sent_frames book.now size window (put stream streams.old.streams))) }
+    ensures sent { OnOk result (O.octets out.new ≡ O.octets out.old ++ frames_octets (rule.sent_frames book.now size window (put stream streams.old.streams))) }
     ensures records { OnOk result (streams.new ≡ sent_records window (with_record stream streams.old)) }
     ensures err { OnErr result (streams.new ≡ streams.old) }
-    ensures kept { take (vec_len out.old) out.new.items ≡ out.old.items }
+    ensures kept { take (length (O.octets out.old)) (O.octets out.new) ≡ O.octets out.old }
 {
     if none_sends(streams, window) {
         put_alone(book, streams, &stream, size, window, out)
@@ -80,13 +81,13 @@ fn put_and_send<A: Allocator + Copy>(
 
 /// A record is put where no other stream can send: its stream alone sends, and its record is put once, as it is then.
 #[inline(always)]
-fn put_alone<A: Allocator>(
-    book: &Book<A>,
+fn put_alone<'b, A: Allocator, O: Outgoing<'b, A>>(
+    book: &'b Book<A>,
     streams: &mut Streams<A>,
     stream: &Stream,
     size: usize,
     window: u64,
-    out: &mut Vec<u8, A>,
+    out: &mut O,
 ) -> Result<u64, AllocError>
     requires size { (0 < size) × (size < 2 ^ 24) }
     requires few { window ≤ 2147483647 }
@@ -94,10 +95,10 @@ fn put_alone<A: Allocator>(
     requires body { HasBody book.now stream.now }
     requires alone { NoneSends window streams.old.streams }
     ensures count { IfOk result (λ count. (count ≡ window - rule.window_left window (put stream.now streams.old.streams)) × (count ≤ window)) }
-    ensures sent { OnOk result (out.new.items ≡ out.old.items ++ frames_octets (rule.sent_frames book.now size window (put stream.now streams.old.streams))) }
+    ensures sent { OnOk result (O.octets out.new ≡ O.octets out.old ++ frames_octets (rule.sent_frames book.now size window (put stream.now streams.old.streams))) }
     ensures records { OnOk result (streams.new ≡ sent_records window (with_record stream.now streams.old)) }
     ensures err { OnErr result (streams.new ≡ streams.old) }
-    ensures kept { take (vec_len out.old) out.new.items ≡ out.old.items }
+    ensures kept { take (length (O.octets out.old)) (O.octets out.new) ≡ O.octets out.old }
 {
     let allowance = write_next(book, stream, size, window, out)?;
     streams.put(after_sending(allowance, stream))?;
@@ -107,23 +108,23 @@ fn put_alone<A: Allocator>(
 /// A record is put where other streams can send too. No item leads here: after each, no stream can send or the
 /// connection's window is used up, and no rule both puts a record and opens that window. So the records may be copied.
 #[inline(never)]
-fn put_among<A: Allocator + Copy>(
-    book: &Book<A>,
+fn put_among<'b, A: Allocator + Copy, O: Outgoing<'b, A>>(
+    book: &'b Book<A>,
     streams: &mut Streams<A>,
     stream: Stream,
     size: usize,
     window: u64,
-    out: &mut Vec<u8, A>,
+    out: &mut O,
 ) -> Result<u64, AllocError>
     requires size { (0 < size) × (size < 2 ^ 24) }
     requires few { window ≤ 2147483647 }
     requires made { CanPut stream streams.old }
     requires bodies { AllByRecursion (HasBody book.now) (put stream streams.old.streams) }
     ensures count { IfOk result (λ count. (count ≡ window - rule.window_left window (put stream streams.old.streams)) × (count ≤ window)) }
-    ensures sent { OnOk result (out.new.items ≡ out.old.items ++ frames_octets (rule.sent_frames book.now size window (put stream streams.old.streams))) }
+    ensures sent { OnOk result (O.octets out.new ≡ O.octets out.old ++ frames_octets (rule.sent_frames book.now size window (put stream streams.old.streams))) }
     ensures records { OnOk result (streams.new ≡ sent_records window (with_record stream streams.old)) }
     ensures err { OnErr result (streams.new ≡ streams.old) }
-    ensures kept { take (vec_len out.old) out.new.items ≡ out.old.items }
+    ensures kept { take (length (O.octets out.old)) (O.octets out.new) ≡ O.octets out.old }
 {
     let mut after = streams.try_clone()?;
     after.put(stream)?;
@@ -135,13 +136,13 @@ fn put_among<A: Allocator + Copy>(
 /// The send windows move, as the initial one goes from one value to another, and the pending output is then sent; where
 /// memory is refused they move back (RFC 9113, 6.9.2).
 #[inline(never)]
-fn shift_and_send<A: Allocator>(
-    book: &Book<A>,
+fn shift_and_send<'b, A: Allocator, O: Outgoing<'b, A>>(
+    book: &'b Book<A>,
     streams: &mut Streams<A>,
     initial: (u32, u32),
     size: usize,
     window: u64,
-    out: &mut Vec<u8, A>,
+    out: &mut O,
 ) -> Result<u64, AllocError>
     requires size { (0 < size) × (size < 2 ^ 24) }
     requires few { window ≤ 2147483647 }
@@ -149,10 +150,10 @@ fn shift_and_send<A: Allocator>(
     requires undone { CanUndo streams.old (update.Shift initial.0 initial.1) }
     requires bodies { AllByRecursion (HasBody book.now) (changes.shifted (changes.moved_by initial.0 initial.1) streams.old.streams) }
     ensures count { IfOk result (λ count. (count ≡ window - rule.window_left window (changes.shifted (changes.moved_by initial.0 initial.1) streams.old.streams)) × (count ≤ window)) }
-    ensures sent { OnOk result (out.new.items ≡ out.old.items ++ frames_octets (rule.sent_frames book.now size window (changes.shifted (changes.moved_by initial.0 initial.1) streams.old.streams))) }
+    ensures sent { OnOk result (O.octets out.new ≡ O.octets out.old ++ frames_octets (rule.sent_frames book.now size window (changes.shifted (changes.moved_by initial.0 initial.1) streams.old.streams))) }
     ensures records { OnOk result (streams.new ≡ sent_records window (updated_records (update.Shift initial.0 initial.1) streams.old)) }
     ensures err { OnErr result (streams.new ≡ streams.old) }
-    ensures kept { take (vec_len out.old) out.new.items ≡ out.old.items }
+    ensures kept { take (length (O.octets out.old)) (O.octets out.new) ≡ O.octets out.old }
 {
     let (from, to) = initial;
     shift(streams, from, to);
@@ -168,13 +169,13 @@ fn shift_and_send<A: Allocator>(
 /// The receive windows move, as the server's initial one goes from one value to another, and the pending output is then
 /// sent; where memory is refused they move back (RFC 9113, 6.5.3 and 6.9.2).
 #[inline(never)]
-fn receive_and_send<A: Allocator>(
-    book: &Book<A>,
+fn receive_and_send<'b, A: Allocator, O: Outgoing<'b, A>>(
+    book: &'b Book<A>,
     streams: &mut Streams<A>,
     initial: (u32, u32),
     size: usize,
     window: u64,
-    out: &mut Vec<u8, A>,
+    out: &mut O,
 ) -> Result<u64, AllocError>
     requires size { (0 < size) × (size < 2 ^ 24) }
     requires few { window ≤ 2147483647 }
@@ -182,10 +183,10 @@ fn receive_and_send<A: Allocator>(
     requires undone { CanUndo streams.old (update.Receive initial.0 initial.1) }
     requires bodies { AllByRecursion (HasBody book.now) (changes.received (changes.moved_by initial.0 initial.1) streams.old.streams) }
     ensures count { IfOk result (λ count. (count ≡ window - rule.window_left window (changes.received (changes.moved_by initial.0 initial.1) streams.old.streams)) × (count ≤ window)) }
-    ensures sent { OnOk result (out.new.items ≡ out.old.items ++ frames_octets (rule.sent_frames book.now size window (changes.received (changes.moved_by initial.0 initial.1) streams.old.streams))) }
+    ensures sent { OnOk result (O.octets out.new ≡ O.octets out.old ++ frames_octets (rule.sent_frames book.now size window (changes.received (changes.moved_by initial.0 initial.1) streams.old.streams))) }
     ensures records { OnOk result (streams.new ≡ sent_records window (updated_records (update.Receive initial.0 initial.1) streams.old)) }
     ensures err { OnErr result (streams.new ≡ streams.old) }
-    ensures kept { take (vec_len out.old) out.new.items ≡ out.old.items }
+    ensures kept { take (length (O.octets out.old)) (O.octets out.new) ≡ O.octets out.old }
 {
     let (from, to) = initial;
     receive(streams, from, to);

@@ -1,41 +1,42 @@
 //! The frames that are sent, as octets after `out` (RFC 9113, 4.1 and 6). Definitions: h2_spec's `specs/Change.antt`
 //! for what is sent, `specs/Frame.antt` for its octets.
 
-ghost use Rattle.std.specs.Prelude.{◌≡◌, ◌+◌, ◌<◌, ◌≤◌, ◌^◌, ◌++◌, ◌∷◌, [], length, take, drop, vec_len, OnOk, OnErr};
+ghost use Rattle.std.specs.Prelude.{◌≡◌, ◌+◌, ◌<◌, ◌≤◌, ◌^◌, ◌++◌, ◌∷◌, [], length, take, OnOk, OnErr};
 ghost use Rattle.h2_spec.specs.Change as changes;
 ghost use Rattle.h2_spec.specs.Frame.{frame, frame_octets, frames_octets};
 ghost use Rattle.h2_spec.specs.Octets.{big_endian};
 ghost use Rattle.h2_conn.specs.Does.{AreShort};
 ghost use Rattle.h2_conn.specs.Prepared.{on_stream};
 
-use h2_frame::append_frame;
+use h2_frame::{Outgoing, append_frame};
 use h2_spec::errors::ErrorCode;
 use h2_spec::frames::{ACK, GOAWAY, PING, RST_STREAM, SETTINGS, WINDOW_UPDATE};
+use h2_spec::octets::octets_from;
 use h2_spec::reactions::{ConnectionFrame, StreamFrame};
 use std::alloc::{AllocError, Allocator};
 
 /// Writes a frame whose payload is a number of four octets, or nothing.
-fn write_number<A: Allocator>(
+fn write_number<'b, A: Allocator, O: Outgoing<'b, A>>(
     kind: u8,
     stream: u32,
     number: u32,
-    out: &mut Vec<u8, A>,
+    out: &mut O,
 ) -> Result<(), AllocError>
-    ensures ok { OnOk result (out.new.items ≡ out.old.items ++ frame_octets (frame kind 0 stream (big_endian 4 number))) }
-    ensures err { OnErr result (out.new.items ≡ out.old.items) }
+    ensures ok { OnOk result (O.octets out.new ≡ O.octets out.old ++ frame_octets (frame kind 0 stream (big_endian 4 number))) }
+    ensures err { OnErr result (O.octets out.new ≡ O.octets out.old) }
 {
     append_frame(kind, 0, stream, &[], &number.to_be_bytes(), out)
 }
 
 /// Writes what is sent on the connection, or nothing.
 #[inline(always)]
-pub fn write_connection_frame<A: Allocator>(
+pub fn write_connection_frame<'b, A: Allocator, O: Outgoing<'b, A>>(
     connection_frame: ConnectionFrame,
-    out: &mut Vec<u8, A>,
+    out: &mut O,
 ) -> Result<(), AllocError>
-    ensures ok { OnOk result (out.new.items ≡ out.old.items ++ frames_octets (changes.connection_frames connection_frame)) }
+    ensures ok { OnOk result (O.octets out.new ≡ O.octets out.old ++ frames_octets (changes.connection_frames connection_frame)) }
     ensures short { AreShort (changes.connection_frames connection_frame) }
-    ensures err { OnErr result (out.new.items ≡ out.old.items) }
+    ensures err { OnErr result (O.octets out.new ≡ O.octets out.old) }
 {
     match connection_frame {
         ConnectionFrame::NoConnectionFrame => Ok(()),
@@ -47,12 +48,12 @@ pub fn write_connection_frame<A: Allocator>(
 
 /// Writes what is sent on a stream, or nothing.
 #[inline(always)]
-pub fn write_stream_frame<A: Allocator>(
+pub fn write_stream_frame<'b, A: Allocator, O: Outgoing<'b, A>>(
     stream_frame: StreamFrame,
-    out: &mut Vec<u8, A>,
+    out: &mut O,
 ) -> Result<(), AllocError>
-    ensures ok { OnOk result (out.new.items ≡ out.old.items ++ frames_octets (changes.stream_frames stream_frame)) }
-    ensures err { OnErr result (out.new.items ≡ out.old.items) }
+    ensures ok { OnOk result (O.octets out.new ≡ O.octets out.old ++ frames_octets (changes.stream_frames stream_frame)) }
+    ensures err { OnErr result (O.octets out.new ≡ O.octets out.old) }
 {
     match stream_frame {
         StreamFrame::NoStreamFrame => Ok(()),
@@ -64,13 +65,13 @@ pub fn write_stream_frame<A: Allocator>(
 }
 
 /// Writes the GOAWAY of a connection error, or nothing (RFC 9113, 6.8).
-pub fn write_goaway<A: Allocator>(
+pub fn write_goaway<'b, A: Allocator, O: Outgoing<'b, A>>(
     last: u32,
     code: ErrorCode,
-    out: &mut Vec<u8, A>,
+    out: &mut O,
 ) -> Result<(), AllocError>
-    ensures ok { OnOk result (out.new.items ≡ out.old.items ++ frames_octets (changes.goaway last code ∷ [])) }
-    ensures err { OnErr result (out.new.items ≡ out.old.items) }
+    ensures ok { OnOk result (O.octets out.new ≡ O.octets out.old ++ frames_octets (changes.goaway last code ∷ [])) }
+    ensures err { OnErr result (O.octets out.new ≡ O.octets out.old) }
 {
     let number = code.number();
     append_frame(
@@ -83,28 +84,38 @@ pub fn write_goaway<A: Allocator>(
     )
 }
 
-/// Writes a frame that was made for stream 0, on this stream, or nothing: its octets in one piece, and then the
-/// identifier over those of stream 0.
-pub fn write_prepared<A: Allocator>(
-    prepared: &[u8],
+/// Writes a frame that was made for stream 0, on this stream, or nothing: its head with the identifier, and its payload
+/// as it lies, by reference where `out` keeps it so.
+pub fn write_prepared<'b, A: Allocator, O: Outgoing<'b, A>>(
+    prepared: &'b [u8],
     id: u32,
-    out: &mut Vec<u8, A>,
+    out: &mut O,
 ) -> Result<(), AllocError>
     requires { 9 ≤ length prepared.now }
-    ensures ok { OnOk result (out.new.items ≡ out.old.items ++ on_stream id prepared.now) }
-    ensures err { OnErr result (out.new.items ≡ out.old.items) }
+    ensures ok { OnOk result (O.octets out.new ≡ O.octets out.old ++ on_stream id prepared.now) }
+    ensures err { OnErr result (O.octets out.new ≡ O.octets out.old) }
 {
-    let start = out.len();
-    out.extend_from_slice(prepared)?;
-    set_stream(out, start, id);
-    Ok(())
+    let head = head_on_stream(prepared, id);
+    out.append_lent(&head, octets_from(prepared, 9))
 }
 
-/// Writes the identifier into the head of the frame that begins at this place (RFC 9113, 4.1).
+/// The head of a frame that was made for stream 0, on this stream: its last four octets are the identifier (RFC 9113,
+/// 4.1).
 #[inline(always)]
-fn set_stream<A: Allocator>(out: &mut Vec<u8, A>, start: usize, id: u32)
-    requires { start + 9 ≤ vec_len out.old }
-    ensures { out.new.items ≡ take (start + 5) out.old.items ++ big_endian 4 id ++ drop (start + 9) out.old.items }
+fn head_on_stream(prepared: &[u8], id: u32) -> [u8; 9]
+    requires { 9 ≤ length prepared.now }
+    ensures { result ≡ take 5 prepared.now ++ big_endian 4 id }
 {
-    out[start + 5..start + 9].copy_from_slice(&id.to_be_bytes());
+    let stream = id.to_be_bytes();
+    [
+        prepared[0],
+        prepared[1],
+        prepared[2],
+        prepared[3],
+        prepared[4],
+        stream[0],
+        stream[1],
+        stream[2],
+        stream[3],
+    ]
 }

@@ -6,7 +6,7 @@ ghost use Rattle.std.specs.Prelude.{◌≤◌, length, IfOk};
 
 use crate::commands::{HELP, Meaning, meaning_of};
 use crate::copied::copy_from;
-use crate::items::{write_item, write_items};
+use crate::items::{put_item, put_items};
 use std::alloc::{AllocError, Global};
 use std::cell::Cell;
 use std::io;
@@ -98,112 +98,63 @@ impl<'c, R: Read, O: Write, E: Write, X: OctetsExplainer> Console<'c, R, O, E, X
         self.errors.write_all(text.as_bytes())
     }
 
-    /// Takes the first line of what was read to `line`, without its line feed; says whether there was a whole one.
-    fn take_held(&mut self, line: &mut Vec<u8>) -> io::Result<bool> {
-        let held = self.held.as_slice();
-        let Some(end) = held.iter().position(|octet| *octet == b'\n') else {
-            return Ok(false);
-        };
-        line.extend_from_slice(part(held, 0, end))?;
-        let rest = part(held, end.saturating_add(1), held.len()).to_vec(self.alloc)?;
-        self.held = rest;
-        Ok(true)
-    }
-
-    /// Takes the rest of what was read to `line`, at the end of the input; says whether there was any.
-    fn take_rest(&mut self, line: &mut Vec<u8>) -> io::Result<bool> {
-        let is_some = !self.held.is_empty();
-        line.extend_from_slice(self.held.as_slice())?;
-        self.held.clear();
-        Ok(is_some)
-    }
-
-    /// Reads a line, without its line feed, to `line`; says whether there was one.
-    fn read_line(&mut self, line: &mut Vec<u8>) -> io::Result<bool> {
-        let mut buffer = [0; 4096];
-        for _ in 0..u64::MAX {
-            if self.take_held(line)? {
-                return Ok(true);
-            }
-            let count = self.reader.read(&mut buffer)?;
-            if count == 0 {
-                return self.take_rest(line);
-            }
-            self.held.extend_from_slice(&buffer[..count])?;
-        }
-        Ok(false)
-    }
-
-    /// Makes a line the command that is given next.
-    fn set_command(&mut self, front: &[u8], number: Option<u8>) -> io::Result<()> {
-        let mut command = Vec::new(self.alloc);
-        command.extend_from_slice(front)?;
-        if let Some(number) = number {
-            let text = format!(in self.alloc; "{number}")?;
-            command.extend_from_slice(text.as_bytes())?;
-        }
-        command.push(b'\n')?;
-        self.command = command;
-        self.given = 0;
-        Ok(())
-    }
-
-    /// What `explain` prints of the octets, which is worked out once.
-    fn explanation(&mut self) -> io::Result<&[u8]> {
-        if self.explained.is_none() {
-            let text = self.explainer.explain(self.alloc, self.octets.as_slice())?;
-            self.explained = Some(text);
-        }
-        match &self.explained {
-            Some(text) => Ok(text.as_slice()),
-            None => Ok(&[]),
-        }
-    }
-
     /// Answers a line that is no command of the session.
     fn answer(&mut self, meaning: Meaning<'_>) -> io::Result<()> {
         let position = self.position.get();
+        let is_asked = matches!(meaning, Meaning::Explain | Meaning::List);
+        let text = explanation(
+            self.alloc,
+            &self.explainer,
+            self.octets.as_slice(),
+            is_asked,
+            &mut self.explained,
+        )?;
         let mut answer = Vec::new(self.alloc);
-        match meaning {
-            Meaning::Explain => write_item(&mut answer, self.explanation()?, position)?,
-            Meaning::List => write_items(&mut answer, self.explanation()?, position)?,
-            _ => answer.extend_from_slice(HELP.as_bytes())?,
-        }
-        if self.has_dots {
-            answer.extend_from_slice(b".\n".as_slice())?;
-        }
+        put_answer(meaning, text, position, self.has_dots, &mut answer)?;
         self.output.write_all(answer.as_slice())?;
         self.output.flush()
     }
 
     /// Takes a line; says whether there is a command to give, and whether the session goes on.
     fn take_line(&mut self, line: &[u8]) -> io::Result<Next> {
-        match meaning_of(line) {
-            Meaning::Command(command) => self.set_command(command, None)?,
-            Meaning::Typed(front, number) => self.set_command(front, Some(number))?,
-            Meaning::Again if self.command.is_empty() => self.set_command(line, None)?,
-            Meaning::Again => self.given = 0,
+        let (front, number) = match meaning_of(line) {
+            Meaning::Command(command) => (command, None),
+            Meaning::Typed(front, number) => (front, Some(number)),
+            Meaning::Again if self.command.is_empty() => (line, None),
+            Meaning::Again => {
+                self.given = 0;
+                return Ok(Next::Command);
+            }
             Meaning::Quit => return Ok(Next::End),
             other => {
                 self.answer(other)?;
                 return Ok(Next::Line);
             }
-        }
+        };
+        self.given = 0;
+        write_command(front, number, &mut self.command)?;
         Ok(Next::Command)
+    }
+
+    /// Reads a line to `line` and takes it; says what follows.
+    fn read_and_take(&mut self, line: &mut Vec<u8>) -> io::Result<Next> {
+        self.prompt()?;
+        if read_line(&mut self.reader, &mut self.held, line)? {
+            self.take_line(line.as_slice())
+        } else {
+            Ok(Next::End)
+        }
     }
 
     /// Reads lines until one is a command of the session; says whether there is one.
     fn next_command(&mut self) -> io::Result<bool> {
         for _ in 0..u64::MAX {
-            self.prompt()?;
             let mut line = Vec::new(self.alloc);
-            if !self.read_line(&mut line)? {
-                return Ok(false);
-            }
-            match self.take_line(line.as_slice())? {
-                Next::Command => return Ok(true),
-                Next::End => return Ok(false),
-                Next::Line => {}
+            match self.read_and_take(&mut line) {
+                Ok(Next::Command) => return Ok(true),
+                Ok(Next::End) => return Ok(false),
+                Ok(Next::Line) => {}
+                Err(error) => return Err(error),
             }
         }
         Ok(false)
@@ -224,19 +175,111 @@ impl<'c, R: Read, O: Write, E: Write, X: OctetsExplainer> Console<'c, R, O, E, X
     {
         let count = self.reader.read(buffer)?;
         let read = &buffer[..count];
-        match read.iter().position(|octet| *octet == b'\n') {
-            Some(end) => {
-                let taken = end.saturating_add(1).min(count);
-                self.is_first = false;
-                self.held.extend_from_slice(&buffer[taken..count])?;
-                self.octets.extend_from_slice(&buffer[..taken])?;
-                Ok(taken)
-            }
-            None => {
-                self.octets.extend_from_slice(read)?;
-                Ok(count)
-            }
+        let taken = line_length(read);
+        self.is_first = read[..taken].last().copied() != Some(b'\n');
+        self.held.extend_from_slice(&buffer[taken..count])?;
+        self.octets.extend_from_slice(&buffer[..taken])?;
+        Ok(taken)
+    }
+}
+
+/// Takes the first line of what was read to `line`, without its line feed; says whether there was a whole one.
+fn take_held(held: &mut Vec<u8>, line: &mut Vec<u8>) -> Result<bool, AllocError> {
+    let octets = held.as_slice();
+    let Some(end) = end_of_line(octets) else {
+        return Ok(false);
+    };
+    line.extend_from_slice(part(octets, 0, end))?;
+    let used = end.saturating_add(1).min(octets.len());
+    held.drain(..used);
+    Ok(true)
+}
+
+/// Takes the rest of what was read to `line`, at the end of the input; says whether there was any.
+fn take_rest(held: &mut Vec<u8>, line: &mut Vec<u8>) -> Result<bool, AllocError> {
+    let is_some = !held.is_empty();
+    line.extend_from_slice(held.as_slice())?;
+    held.clear();
+    Ok(is_some)
+}
+
+/// Reads a line, without its line feed, to `line`; says whether there was one. `held` has what was read and is in no
+/// line yet.
+fn read_line<R: Read>(reader: &mut R, held: &mut Vec<u8>, line: &mut Vec<u8>) -> io::Result<bool> {
+    let mut buffer = [0; 4096];
+    for _ in 0..u64::MAX {
+        if take_held(held, line)? {
+            return Ok(true);
         }
+        let count = reader.read(&mut buffer)?;
+        if count == 0 {
+            return Ok(take_rest(held, line)?);
+        }
+        held.extend_from_slice(&buffer[..count])?;
+    }
+    Ok(false)
+}
+
+/// Writes a command as it is given to the session: its front, a number, if it has one, and a line feed.
+fn write_command(front: &[u8], number: Option<u8>, command: &mut Vec<u8>) -> io::Result<()> {
+    command.clear();
+    command.extend_from_slice(front)?;
+    if let Some(number) = number {
+        write!(command, "{number}")?;
+    }
+    command.extend_from_slice(b"\n".as_slice())?;
+    Ok(())
+}
+
+/// What `explain` prints of the octets, which is worked out once, where it is asked for; nothing before.
+fn explanation<'e, X: OctetsExplainer>(
+    alloc: Global,
+    explainer: &X,
+    octets: &[u8],
+    is_asked: bool,
+    explained: &'e mut Option<Vec<u8>>,
+) -> Result<&'e [u8], AllocError> {
+    if is_asked && explained.is_none() {
+        *explained = Some(explainer.explain(alloc, octets)?);
+    }
+    match explained {
+        Some(text) => Ok(text.as_slice()),
+        None => Ok(&[]),
+    }
+}
+
+/// Puts the answer to a line last that is no command of the session; `text` is what `explain` prints of the octets, where
+/// that is asked for.
+fn put_answer(
+    meaning: Meaning<'_>,
+    text: &[u8],
+    position: usize,
+    has_dots: bool,
+    answer: &mut Vec<u8>,
+) -> Result<(), AllocError> {
+    match meaning {
+        Meaning::Explain => put_item(text, position, answer)?,
+        Meaning::List => put_items(text, position, answer)?,
+        _ => answer.extend_from_slice(HELP.as_bytes())?,
+    }
+    if has_dots {
+        answer.extend_from_slice(b".\n".as_slice())?;
+    }
+    Ok(())
+}
+
+/// The place of the first line feed.
+fn end_of_line(octets: &[u8]) -> Option<usize> {
+    octets.iter().position(|octet| *octet == b'\n')
+}
+
+/// How many octets a text has up to its first line feed, and with it; all where there is none.
+fn line_length(octets: &[u8]) -> usize
+    ensures { result ≤ length octets.now }
+{
+    match end_of_line(octets) {
+        Some(end) => end.saturating_add(1).min(octets.len()),
+        None => octets.len(),
     }
 }
 

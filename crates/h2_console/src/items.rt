@@ -1,7 +1,6 @@
 //! The items of an explanation, as lines of its text: `#N @OCTET ..` and the lines below it.
 
-use std::io;
-use std::io::Write;
+use std::alloc::AllocError;
 
 /// The number that digits spell; what follows them is passed over.
 pub(crate) fn number_in(digits: &[u8]) -> usize {
@@ -25,14 +24,14 @@ fn item_of(line: &[u8]) -> Option<usize> {
     }
 }
 
-fn write_line<W: Write>(output: &mut W, front: &[u8], line: &[u8]) -> io::Result<()> {
-    output.write_all(front)?;
-    output.write_all(line)?;
-    output.write_all(b"\n".as_slice())
+fn put_line(front: &[u8], line: &[u8], out: &mut Vec<u8>) -> Result<(), AllocError> {
+    out.extend_from_slice(front)?;
+    out.extend_from_slice(line)?;
+    out.extend_from_slice(b"\n".as_slice())
 }
 
-/// Writes the lines of an item.
-pub(crate) fn write_item<W: Write>(output: &mut W, text: &[u8], item: usize) -> io::Result<()> {
+/// Puts the lines of an item last. `AllocError` where memory is refused.
+pub(crate) fn put_item(text: &[u8], item: usize, out: &mut Vec<u8>) -> Result<(), AllocError> {
     let mut is_here = false;
     let mut is_found = false;
     for line in text.split(|octet| *octet == b'\n') {
@@ -42,24 +41,21 @@ pub(crate) fn write_item<W: Write>(output: &mut W, text: &[u8], item: usize) -> 
         }
         if is_here {
             is_found = true;
-            write_line(output, b"".as_slice(), line)?;
+            put_line(b"".as_slice(), line, out)?;
         }
     }
     if is_found {
         return Ok(());
     }
-    output.write_all(b"nothing to say of this item\n".as_slice())
+    out.extend_from_slice(b"nothing to say of this item\n".as_slice())
 }
 
 /// How many items are listed before a position and after it.
 const AROUND: usize = 3;
 
-/// Writes the first lines of the items around a position; `>` is in front of its own.
-pub(crate) fn write_items<W: Write>(
-    output: &mut W,
-    text: &[u8],
-    position: usize,
-) -> io::Result<()> {
+/// Puts the first lines of the items around a position last; `>` is in front of its own. `AllocError` where memory is
+/// refused.
+pub(crate) fn put_items(text: &[u8], position: usize, out: &mut Vec<u8>) -> Result<(), AllocError> {
     for line in text.split(|octet| *octet == b'\n') {
         let Some(item) = item_of(line) else {
             continue;
@@ -71,7 +67,7 @@ pub(crate) fn write_items<W: Write>(
             b"  ".as_slice()
         };
         if is_near {
-            write_line(output, front, line)?;
+            put_line(front, line, out)?;
         }
     }
     Ok(())

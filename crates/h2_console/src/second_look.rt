@@ -1,6 +1,7 @@
 //! What to say of a command that ended: a second look at its words and its input finds what was refused. The order is
 //! that of the faults.
 
+use h2_device::MAX_INPUT;
 use h2_reasons::{
     InputSource, TextBuilder, has_digits, has_offsets, is_hex, range_of, say_bad_line, say_limits,
     say_more_octets, say_no_file, say_no_hex, say_no_memory, say_no_octets, say_no_text,
@@ -12,9 +13,6 @@ use h2_words::command::{Batch, Plan, Refusal};
 use std::alloc::Global;
 use std::io::ErrorKind;
 use std::str;
-
-/// The most octets that an input may have.
-const LIMIT: usize = 16777216;
 
 /// How a command ended.
 #[derive(Clone, Copy)]
@@ -37,11 +35,11 @@ pub struct Outcome<'o> {
 
 impl Outcome<'_> {
     /// Says why the input was not read; says whether it was.
-    fn say_input(self, out: &mut TextBuilder) -> bool {
+    fn say_input(&self, out: &mut TextBuilder) -> bool {
         if let Some(kind) = self.failure {
             say_unread(self.source, kind, out);
-        } else if self.seen.len() > LIMIT {
-            say_too_long(self.source, LIMIT, out);
+        } else if self.seen.len() > MAX_INPUT {
+            say_too_long(self.source, MAX_INPUT, out);
         } else if self.is_cut {
             say_no_memory(out);
         } else {
@@ -51,7 +49,7 @@ impl Outcome<'_> {
     }
 
     /// Says what is wrong with octets as hex, or with the limits of a connection.
-    fn say_octets(self, config: Option<Config>, out: &mut TextBuilder) {
+    fn say_octets(&self, config: Option<Config>, out: &mut TextBuilder) {
         if !self.say_input(out) {
             return;
         }
@@ -63,7 +61,7 @@ impl Outcome<'_> {
     }
 
     /// Says what is strange about octets that were taken.
-    fn warn(self, out: &mut TextBuilder) {
+    fn warn(&self, out: &mut TextBuilder) {
         if self.failure.is_some() || self.is_cut {
             return;
         }
@@ -75,7 +73,7 @@ impl Outcome<'_> {
     }
 
     /// Says of octets that were refused why, and warns of others.
-    fn say_hex(self, config: Option<Config>, out: &mut TextBuilder) {
+    fn say_hex(&self, config: Option<Config>, out: &mut TextBuilder) {
         if self.status == 1 {
             self.say_octets(config, out);
         } else {
@@ -84,7 +82,7 @@ impl Outcome<'_> {
     }
 
     /// Says why a script was refused.
-    fn say_script(self, alloc: Global, out: &mut TextBuilder) {
+    fn say_script(&self, alloc: Global, out: &mut TextBuilder) {
         if self.status != 1 || !self.say_input(out) {
             return;
         }
@@ -105,7 +103,7 @@ impl Outcome<'_> {
     }
 
     /// Says which lines of `table` were refused.
-    fn say_table(self, limit: u32, out: &mut TextBuilder) {
+    fn say_table(&self, limit: u32, out: &mut TextBuilder) {
         if self.status == 1 {
             if self.say_input(out) {
                 say_no_memory(out);
@@ -115,7 +113,7 @@ impl Outcome<'_> {
         }
     }
 
-    fn say_batch(self, alloc: Global, batch: &Batch<'_>, out: &mut TextBuilder) {
+    fn say_batch(&self, alloc: Global, batch: &Batch<'_>, out: &mut TextBuilder) {
         match batch {
             Batch::Play(play) => self.say_hex(Some(play.config), out),
             Batch::Dis => self.say_hex(None, out),
@@ -125,19 +123,19 @@ impl Outcome<'_> {
     }
 
     /// The octets that a session was given: those of a file, or of the first line.
-    fn first(self) -> Self {
+    fn first(&self) -> Self {
         match self.source {
             InputSource::Input => Outcome {
                 seen: first_line(self.seen),
-                ..self
+                ..*self
             },
-            InputSource::File(_) => self,
+            InputSource::File(_) => *self,
         }
     }
 
     /// Says why a session did not begin, or that it was given more octets than it took. Its commands that were refused, and
     /// memory that was, have their sentences already.
-    fn say_session(self, config: Config, out: &mut TextBuilder) {
+    fn say_session(&self, config: Config, out: &mut TextBuilder) {
         if let (InputSource::Input, 0, false) = (self.source, self.status, self.is_cut) {
             say_more_octets(self.seen, out);
         }
@@ -150,7 +148,7 @@ impl Outcome<'_> {
     }
 
     /// Says why nothing was served.
-    fn say_served(self, config: Config, port: u32, out: &mut TextBuilder) {
+    fn say_served(&self, config: Config, port: u32, out: &mut TextBuilder) {
         if self.status != 1 {
             return;
         }
@@ -235,8 +233,10 @@ pub fn say_refused_words(refusal: &Refusal, words: &[String], out: &mut TextBuil
             say_option(option, value, out);
         }
     }
-    for (option, value) in words.iter().zip(words.iter().skip(1)) {
-        say_option(option.as_str(), value.as_str(), out);
+    let mut before = "";
+    for word in words {
+        say_option(before, word.as_str(), out);
+        before = word.as_str();
     }
     say_file(words, printed.as_str(), out);
 }

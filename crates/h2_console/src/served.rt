@@ -49,12 +49,62 @@ pub struct ServerOutput<'w, 't, 'c, W, E, C> {
     times: Option<&'t Stopwatch<'c, C>>,
     /// Whether a connection is open.
     is_open: bool,
+    seen: Seen,
+}
+
+/// What was seen of the line that is written.
+#[derive(Drop)]
+struct Seen {
+    alloc: Global,
     /// Whether a line begins.
     is_fresh: bool,
-    /// The first octets of the line that is written.
+    /// The first octets of the line.
     line: Vec<u8>,
     /// What is said once the line is flushed.
     sentence: String,
+}
+
+/// The sentence about a line, where it is that of a connection's fault.
+fn sentence_of(alloc: Global, line: &[u8]) -> Option<String> {
+    let rest = line.strip_prefix(b"connection ".as_slice())?;
+    let blank = rest.iter().position(|octet| *octet == b' ')?;
+    let fault = rest.get(blank..)?.strip_prefix(b" fault ".as_slice())?;
+    let reason = reason(number_in(fault))?;
+    let connection = number_in(rest);
+    format!(in alloc; "connection {connection}: {reason}.\n").ok()
+}
+
+impl Seen {
+    /// The line that was seen has ended.
+    fn end(&mut self) {
+        if let Some(sentence) = sentence_of(self.alloc, self.line.as_slice()) {
+            self.sentence = sentence;
+        }
+        self.line.clear();
+    }
+
+    /// Looks at octets of one line.
+    fn look(&mut self, octets: &[u8]) {
+        for octet in octets {
+            self.is_fresh = *octet == b'\n';
+            if self.is_fresh {
+                self.end();
+            } else if self.line.len() < LOOKED_AT {
+                // Without memory for it nothing is said.
+                let _ = self.line.push(*octet);
+            }
+        }
+    }
+}
+
+/// The time of a line that begins, as it is written before it: in JSON it is the first member.
+fn time_text(alloc: Global, millis: u64, is_json: bool) -> io::Result<String> {
+    let (before, after) = if is_json {
+        ("{\"time\":", ",")
+    } else {
+        ("+", " ")
+    };
+    Ok(format!(in alloc; "{before}{millis}{after}")?)
 }
 
 impl<'w, 't, 'c, W: Write, E: Write, C: Clock> ServerOutput<'w, 't, 'c, W, E, C> {
@@ -73,9 +123,12 @@ impl<'w, 't, 'c, W: Write, E: Write, C: Clock> ServerOutput<'w, 't, 'c, W, E, C>
             is_quiet,
             times,
             is_open: false,
-            is_fresh: true,
-            line: Vec::new(alloc),
-            sentence: String::new(alloc),
+            seen: Seen {
+                alloc,
+                is_fresh: true,
+                line: Vec::new(alloc),
+                sentence: String::new(alloc),
+            },
         }
     }
 
@@ -102,69 +155,32 @@ impl<'w, 't, 'c, W: Write, E: Write, C: Clock> ServerOutput<'w, 't, 'c, W, E, C>
         let Some(millis) = times.millis() else {
             return Ok(line);
         };
-        match line.strip_prefix(b"{".as_slice()) {
-            Some(rest) => {
-                let text = format!(in self.alloc; "{{\"time\":{millis},")?;
-                self.output.write_all(text.as_bytes())?;
-                Ok(rest)
-            }
-            None => {
-                let text = format!(in self.alloc; "+{millis} ")?;
-                self.output.write_all(text.as_bytes())?;
-                Ok(line)
-            }
-        }
-    }
-
-    /// The sentence about the line, where it is that of a connection's fault.
-    fn sentence_of_line(&self) -> Option<String> {
-        let rest = self
-            .line
-            .as_slice()
-            .strip_prefix(b"connection ".as_slice())?;
-        let blank = rest.iter().position(|octet| *octet == b' ')?;
-        let fault = rest.get(blank..)?.strip_prefix(b" fault ".as_slice())?;
-        let reason = reason(number_in(fault))?;
-        let connection = number_in(rest);
-        format!(in self.alloc; "connection {connection}: {reason}.\n").ok()
-    }
-
-    /// Looks at octets of one line.
-    fn look(&mut self, octets: &[u8]) {
-        for octet in octets {
-            self.is_fresh = *octet == b'\n';
-            if self.is_fresh {
-                if let Some(sentence) = self.sentence_of_line() {
-                    self.sentence = sentence;
-                }
-                self.line.clear();
-            } else if self.line.len() < LOOKED_AT {
-                // Without memory for it nothing is said.
-                let _ = self.line.push(*octet);
-            }
-        }
+        let rest = line.strip_prefix(b"{".as_slice());
+        let text = time_text(self.alloc, millis, rest.is_some())?;
+        self.output.write_all(text.as_bytes())?;
+        Ok(rest.unwrap_or(line))
     }
 }
 
 impl<W: Write, E: Write, C: Clock> Write for ServerOutput<'_, '_, '_, W, E, C> {
     fn write(&mut self, octets: &[u8]) -> io::Result<usize> {
         let line = first_line(octets);
-        let rest = if self.is_fresh && !line.is_empty() {
+        let rest = if self.seen.is_fresh && !line.is_empty() {
             self.write_time(line)?
         } else {
             line
         };
         self.output.write_all(rest)?;
-        self.look(line);
+        self.seen.look(line);
         Ok(line.len())
     }
 
     fn flush(&mut self) -> io::Result<()> {
         self.output.flush()?;
         if !self.is_quiet {
-            let _ = self.errors.write_all(self.sentence.as_bytes());
+            let _ = self.errors.write_all(self.seen.sentence.as_bytes());
         }
-        self.sentence.clear();
+        self.seen.sentence.clear();
         Ok(())
     }
 }

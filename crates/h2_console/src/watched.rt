@@ -53,6 +53,32 @@ impl<O: Output> Output for Noted<'_, O> {
 /// How many octets of an answer are looked at: more than its first line has, where that is a position or a fault.
 const LOOKED_AT: usize = 32;
 
+/// Keeps the first octets of an answer. Without memory for them nothing is said about it.
+fn note(octets: &[u8], front: &mut Vec<u8>) {
+    for octet in octets {
+        if front.len() < LOOKED_AT {
+            let _ = front.push(*octet);
+        }
+    }
+}
+
+/// The first line of a text, without its line feed.
+fn first_line(text: &[u8]) -> &[u8] {
+    match text.split(|octet| *octet == b'\n').next() {
+        Some(line) => line,
+        None => &[],
+    }
+}
+
+/// The sentence about the first line of an answer, where that is a fault; `line` is the number of the command's line, where
+/// it is known. None where memory was refused.
+fn sentence_of(alloc: Global, line: Option<usize>, answer: &[u8]) -> Option<String> {
+    let number = answer.strip_prefix(b"fault ".as_slice())?;
+    let mut words = TextBuilder::new(alloc);
+    say_session_fault(line, number, &mut words);
+    words.finish().ok()
+}
+
 /// The output of a session: it notes the position, writes a sentence for each command that was refused, and a line `.`
 /// after each answer where that is asked for.
 #[derive(Drop)]
@@ -96,32 +122,16 @@ impl<'w, O: Output, E: Write> Watched<'w, O, E> {
         }
     }
 
-    /// Keeps the first octets of an answer. Without memory for them nothing is said about it.
-    fn note(&mut self, octets: &[u8]) {
-        for octet in octets {
-            if self.front.len() < LOOKED_AT {
-                let _ = self.front.push(*octet);
-            }
-        }
-    }
-
     /// Looks at the answer that was written.
     fn look(&mut self) {
-        let line = match self.front.as_slice().split(|octet| *octet == b'\n').next() {
-            Some(line) => line,
-            None => &[],
-        };
+        let line = first_line(self.front.as_slice());
         if let Some(position) = line.strip_prefix(b"at ".as_slice()) {
             self.position.set(number_in(position));
         }
-        if let Some(number) = line.strip_prefix(b"fault ".as_slice())
-            && !self.is_quiet
+        if !self.is_quiet
+            && let Some(text) = sentence_of(self.alloc, self.line, line)
         {
-            let mut words = TextBuilder::new(self.alloc);
-            say_session_fault(self.line, number, &mut words);
-            if let Ok(text) = words.finish() {
-                let _ = self.errors.write_all(text.as_bytes());
-            }
+            let _ = self.errors.write_all(text.as_bytes());
         }
         self.front.clear();
         if let Some(line) = self.line {
@@ -145,7 +155,7 @@ impl<O: Output, E: Write> Output for Watched<'_, O, E> {
     ghost name = { λ _. 0 };
 
     fn write(&mut self, octets: &[u8]) -> Result<(), DeviceFault> {
-        self.note(octets);
+        note(octets, &mut self.front);
         let written = self.output.write(octets);
         self.failed = written.is_err();
         written

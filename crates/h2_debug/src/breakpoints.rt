@@ -18,9 +18,9 @@ use h2_spec::frames::Head;
 pub enum Break {
     /// At this position.
     Position(usize),
-    /// After an item of this type.
+    /// After an item whose head has this type (RFC 9113, 4.1); the preface has none.
     Type(u8),
-    /// After an item on this stream.
+    /// After an item whose head has this stream; the preface has none.
     Stream(u32),
     /// After an item for which a frame of this type is sent.
     Sent(u8),

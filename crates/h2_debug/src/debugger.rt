@@ -5,11 +5,12 @@
 //! `specs/Debug.antt` for positions and breakpoints, `specs/Debugging.antt` for what a debugger represents.
 
 ghost use Rattle.std.specs.Prelude.{◌≡◌, ◌⊎◌, ◌+◌, ◌-◌, ◌<◌, ◌≤◌, ◌==◌, [], ◌∷◌, nat_lt, ◌++◌, IfErr, IfOk, IfSome, OnErr, OnOk, length, min, slice_get, nat_le, ◌&&◌, false, true, None, Some, if◌then◌else◌};
-ghost use Rattle.h2_spec.specs.Debug.{AtPosition, OnSent, OnStream, OnType, stop};
+ghost use Rattle.h2_spec.specs.Debug.{stop};
 ghost use Rattle.h2_spec.specs.Show.{show};
 ghost use Rattle.h2_spec.specs.View.{view};
 ghost use Rattle.std.specs.String.{string_bytes};
 ghost use Rattle.h2_spec.specs.State.{is_allowed};
+ghost use Rattle.h2_debug.specs.Breakpoints.{break_of};
 ghost use Rattle.h2_debug.specs.Debugging as spec;
 ghost use Rattle.h2_debug.specs.Debugging.{farthest_or, moved, moved_by, moved_counting, replay_start};
 ghost use Rattle.h2_debug.specs.Faults.{IsRefused, end_fault, load_fault, start_fault};
@@ -392,46 +393,13 @@ impl<'b, A: Allocator + Copy> Debugger<'b, A> {
         Ok(position)
     }
 
-    /// Adds a breakpoint at a position. `NoMemory` leaves the debugger as it was.
-    pub fn break_at(&mut self, position: usize) -> Result<(), DebugFault>
-        ensures ok { OnOk result (self.new ≡ record self.old { breaks = self.old.breaks ++ AtPosition position ∷ [] }) }
+    /// Adds a breakpoint. `NoMemory` leaves the debugger as it was.
+    pub fn break_on(&mut self, stop: Break) -> Result<(), DebugFault>
+        ensures ok { OnOk result (self.new ≡ record self.old { breaks = self.old.breaks ++ break_of stop ∷ [] }) }
         ensures fault { IfErr result (λ fault. fault ≡ NoMemory) }
         ensures unchanged { OnErr result (self.new ≡ self.old) }
     {
-        self.breaks.push(Break::Position(position))?;
-        Ok(())
-    }
-
-    /// Adds a breakpoint after each item whose head has this type; the preface has none. `NoMemory` leaves the
-    /// debugger as it was.
-    pub fn break_type(&mut self, kind: u8) -> Result<(), DebugFault>
-        ensures ok { OnOk result (self.new ≡ record self.old { breaks = self.old.breaks ++ OnType kind ∷ [] }) }
-        ensures fault { IfErr result (λ fault. fault ≡ NoMemory) }
-        ensures unchanged { OnErr result (self.new ≡ self.old) }
-    {
-        self.breaks.push(Break::Type(kind))?;
-        Ok(())
-    }
-
-    /// Adds a breakpoint after each item whose head has this stream; the preface has none. `NoMemory` leaves the
-    /// debugger as it was.
-    pub fn break_stream(&mut self, id: u32) -> Result<(), DebugFault>
-        ensures ok { OnOk result (self.new ≡ record self.old { breaks = self.old.breaks ++ OnStream id ∷ [] }) }
-        ensures fault { IfErr result (λ fault. fault ≡ NoMemory) }
-        ensures unchanged { OnErr result (self.new ≡ self.old) }
-    {
-        self.breaks.push(Break::Stream(id))?;
-        Ok(())
-    }
-
-    /// Adds a breakpoint after each item for which a frame of this type is sent. `NoMemory` leaves the debugger as it
-    /// was.
-    pub fn break_sent(&mut self, kind: u8) -> Result<(), DebugFault>
-        ensures ok { OnOk result (self.new ≡ record self.old { breaks = self.old.breaks ++ OnSent kind ∷ [] }) }
-        ensures fault { IfErr result (λ fault. fault ≡ NoMemory) }
-        ensures unchanged { OnErr result (self.new ≡ self.old) }
-    {
-        self.breaks.push(Break::Sent(kind))?;
+        self.breaks.push(stop)?;
         Ok(())
     }
 

@@ -13,5 +13,6 @@ mod place;
 mod reasons;
 mod source;
 
+pub use breakpoints::Break;
 pub use debugger::Debugger;
 pub use fault::DebugFault;

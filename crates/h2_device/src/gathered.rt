@@ -6,20 +6,19 @@ ghost use Rattle.std.specs.String.{string_bytes};
 use crate::output::{DeviceFault, Output};
 use crate::text::Text;
 use std::alloc::{AllocError, Allocator, Global};
-use std::str;
 
 /// What was written, in memory.
 #[derive(Drop)]
-pub struct Gathered {
+pub struct Gathered<A: Allocator = Global> {
     /// The octets written so far.
-    pub octets: Vec<u8>,
+    pub octets: Vec<u8, A>,
     /// Whether the growth for the last write was refused.
     pub failed: bool,
 }
 
-impl Gathered {
+impl<A: Allocator> Gathered<A> {
     /// Nothing yet. Takes no memory.
-    pub fn new(alloc: Global) -> Gathered
+    pub fn new(alloc: A) -> Gathered<A>
         ensures { (result.octets.items ≡ []) × (result.failed ≡ false) }
     {
         Gathered {
@@ -29,7 +28,7 @@ impl Gathered {
     }
 }
 
-impl Output for Gathered {
+impl<A: Allocator> Output for Gathered<A> {
     ghost written = { λ g. Some g.octets.items };
 
     ghost has_failed = { λ g. g.failed };
@@ -56,54 +55,32 @@ impl Output for Gathered {
     }
 }
 
-/// UTF-8 text that was written, in memory. What is written piece by piece has to be UTF-8 in each piece.
-#[derive(Drop)]
-struct GatheredText<A: Allocator> {
-    text: String<A>,
-    /// Whether the growth for the last write was refused, or what was written is not UTF-8.
-    failed: bool,
-}
-
-impl<A: Allocator> Output for GatheredText<A> {
-    ghost written = { λ g. Some (string_bytes g.text) };
-
-    ghost has_failed = { λ g. g.failed };
-
-    ghost name = { λ _. 0 };
-
-    fn write(&mut self, octets: &[u8]) -> Result<(), DeviceFault> {
-        self.failed = true;
-        let Ok(piece) = str::from_utf8(octets) else {
-            return Err(DeviceFault);
-        };
-        match self.text.push_str(piece) {
-            Ok(()) => {
-                self.failed = false;
-                Ok(())
-            }
-            Err(_) => Err(DeviceFault),
-        }
-    }
-
-    /// Memory holds nothing back.
-    fn flush(&mut self) -> Result<(), DeviceFault> {
-        self.failed = false;
-        Ok(())
-    }
-}
-
-/// A text as a string.
+/// A text as a string, with memory for this many octets from the first on: where they suffice, it does not grow.
 ///
-/// `AllocError` where memory for it is refused. A text whose pieces are not each UTF-8 is refused so too.
+/// `AllocError` where memory for it is refused. A text that is not UTF-8 is refused so too.
+pub fn string_with<A: Allocator, T: Text>(
+    alloc: A,
+    room: usize,
+    text: &T,
+) -> Result<String<A>, AllocError>
+    ensures { IfOk result (λ string. string_bytes string ≡ T.text text.now) }
+{
+    let mut gathered = Gathered {
+        octets: Vec::with_capacity(alloc, room)?,
+        failed: false,
+    };
+    if text.write_to(&mut gathered).is_err() {
+        return Err(AllocError);
+    }
+    match String::from_utf8(gathered.octets) {
+        Ok(string) => Ok(string),
+        Err(_) => Err(AllocError),
+    }
+}
+
+/// A text as a string, which grows as the text does. Errors are those of `string_with`.
 pub fn string_of<A: Allocator, T: Text>(alloc: A, text: &T) -> Result<String<A>, AllocError>
     ensures { IfOk result (λ string. string_bytes string ≡ T.text text.now) }
 {
-    let mut gathered = GatheredText {
-        text: String::new(alloc),
-        failed: false,
-    };
-    match text.write_to(&mut gathered) {
-        Ok(()) => Ok(gathered.text),
-        Err(_) => Err(AllocError),
-    }
+    string_with(alloc, 0, text)
 }

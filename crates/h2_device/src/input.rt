@@ -1,9 +1,12 @@
-//! What a program reads from. What a read consumes: the standard library's `KnownBytes`.
+//! What a program reads from, and how much at most. What a read consumes: the standard library's `KnownBytes`.
 
 ghost use Rattle.std.specs.Prelude.{◌≡◌, ◌<◌, ◌≤◌, ℕ, List, Option, Bool, IfOk, OnErr, is_err, length, take};
 ghost use Rattle.std.specs.Io.KnownBytes.{Consumes, IsAtEnd, Keeps};
 
 use crate::output::DeviceFault;
+
+/// The most octets that an input may have, or a file that is read instead of one. Definition: `specs/Limit.antt`.
+pub const MAX_INPUT: usize = 16_777_216;
 
 /// What a program reads from. A contract sees the octets that are left, where the device reports them, whether its last
 /// call failed, and which device it is: a number that no call changes.

@@ -10,9 +10,9 @@ mod output;
 mod text;
 mod wrapped;
 
-pub use gathered::{Gathered, string_of};
+pub use gathered::{Gathered, string_of, string_with};
 pub use hex_text::HexText;
-pub use input::Input;
+pub use input::{Input, MAX_INPUT};
 pub use output::{DeviceFault, Output};
 pub use text::{Number, SignedNumber, Text};
 pub use wrapped::{FromRead, IntoWrite};

@@ -1,8 +1,8 @@
 -- Lists that grow at their end.
-use Rattle.std.proofs.Common.{◌≡◌, ◌∙◌, ℕ, ◌+◌, List, [], ◌++◌, take, drop, Option, Some, None, refl, ap, sym, append_assoc}
-use Rattle.std.proofs.lemmas.List.{append-nil}
+use Rattle.std.proofs.Common.{◌≡◌, ◌∙◌, ℕ, ◌+◌, ◌≤◌, length, List, [], ◌++◌, take, drop, Option, Some, None, refl, ap, sym, append_assoc}
+use Rattle.std.proofs.lemmas.List.{append-nil, take-append-drop, take-append-le}
 use Rattle.std.proofs.Math.Seq.{take-add}
-use Rattle.h2_drive.specs.Wires.{grown}
+use Rattle.h2_drive.specs.Wires.{Writes, grown}
 
 pub grown-nil : {X : Type 0} → (known : Option (List X)) → grown known [] ≡ known
 grown-nil None = refl
@@ -19,3 +19,31 @@ pub grown-take : (known : Option (List ℕ)) (xs : List ℕ) (i n : ℕ)
 grown-take known xs i n = grown-grown known (take i xs) (take n (drop i xs)) ∙ ap (grown known) (sym (take-add i n xs))
 
 pub ruleset growing = (grown-take, grown-nil)
+
+-- nothing is written
+pub writes-none : (known : Option (List ℕ)) (out : List ℕ) → Writes known out known out
+writes-none known out = record { octets = []; known_is = sym (grown-nil known); whole = refl }
+
+-- the first of the octets that are left are written
+pub writes-more : (known : Option (List ℕ)) (out : List ℕ) (mid : Option (List ℕ)) (left : List ℕ) (n : ℕ) (new : Option (List ℕ)) (rest : List ℕ)
+    → Writes known out mid left → new ≡ grown mid (take n left) → rest ≡ drop n left → Writes known out new rest
+writes-more known out mid left n new rest w e f = record {
+  octets = w.octets ++ take n left;
+  known_is = e ∙ ap (λ (k : Option (List ℕ)). grown k (take n left)) w.known_is ∙ grown-grown known w.octets (take n left);
+  whole =
+      ap (λ (xs : List ℕ). (w.octets ++ take n left) ++ xs) f
+      ∙ append_assoc w.octets (take n left) (drop n left)
+      ∙ ap (λ (xs : List ℕ). w.octets ++ xs) (take-append-drop n left)
+      ∙ w.whole;
+}
+
+-- the first octets of those in front
+pub front-take : (n : ℕ) (front all : List ℕ) → front ≡ take (length front) all → n ≤ length front → take n front ≡ take n all
+front-take n front all e h =
+    sym (take-append-le n front (drop (length front) all) h)
+    ∙ ap (λ (xs : List ℕ). take n (xs ++ drop (length front) all)) e
+    ∙ ap (take n) (take-append-drop (length front) all)
+
+-- nothing is written, and the wire reports the same
+pub writes-same : (known known' : Option (List ℕ)) (out : List ℕ) → known' ≡ known → Writes known out known' out
+writes-same known known' out e = record { octets = []; known_is = e ∙ sym (grown-nil known); whole = refl }

@@ -8,16 +8,18 @@ ghost use Rattle.h2_conn.specs.Connection.{Connection};
 ghost use Rattle.h2_conn.specs.Runs.{Fed, Halts};
 ghost use Rattle.h2_drive.specs.Drives.{HasNoItem};
 
+use crate::outgoing::Pending;
 use h2_conn::Conn;
+use h2_frame::Outbox;
 use std::alloc::{AllocError, Allocator};
 
-/// A connection that can be driven over a wire.
+/// A connection that can be driven over a wire, with its output in an `O`.
 ///
 /// A contract sees the connection, with the octets of an item that is not whole yet, and whether it can be driven
 /// (`is_ready`), which no call changes. It also sees what else became of octets that were taken (`passes`): whether
 /// memory was refused, the value before, the octets, the value after. That holds for no octets, and for octets in
 /// pieces it holds for all of them joined.
-pub trait Driven<A: Allocator> {
+pub trait Driven<O: Pending> {
     ghost connection: { Self → Connection };
 
     ghost is_ready: { Self → Type 0 };
@@ -29,12 +31,12 @@ pub trait Driven<A: Allocator> {
     ///
     /// `AllocError` where memory is refused: the items before it are taken whole, `out` has gained what is sent for
     /// them, and from then on nothing is taken.
-    fn take_octets(&mut self, piece: &[u8], out: &mut Vec<u8, A>) -> Result<(), AllocError>
+    fn take_octets(&mut self, piece: &[u8], out: &mut O) -> Result<(), AllocError>
         requires ready { is_ready self.old }
         requires going { (connection self.old).failed ≡ false }
         ensures ready { is_ready self.new }
-        ensures ok { OnOk result (Fed (connection self.old) piece.now out.old.items (connection self.new) out.new.items) }
-        ensures no_memory { OnErr result (Halts (connection self.old) piece.now out.old.items (connection self.new) out.new.items) }
+        ensures ok { OnOk result (Fed (connection self.old) piece.now (O.pending out.old) (connection self.new) (O.pending out.new)) }
+        ensures no_memory { OnErr result (Halts (connection self.old) piece.now (O.pending out.old) (connection self.new) (O.pending out.new)) }
         ensures passes { passes (is_err result) self.old piece.now self.new };
 
     /// The code of the connection error that ended the connection, if one did (RFC 9113, 5.4.1).
@@ -52,8 +54,8 @@ pub trait Driven<A: Allocator> {
     ghost passes_more: { (refused : Bool) (d e f : Self) (a b : List ℕ) → passes false d a e → passes refused e b f → passes refused d (a ++ b) f };
 }
 
-/// A connection by itself.
-impl<'b, A: Allocator + Copy> Driven<A> for Conn<'b, A> {
+/// A connection by itself, whose output is copied.
+impl<A: Allocator + Copy> Driven<Vec<u8, A>> for Conn<'_, A> {
     ghost connection = { λ c. c };
 
     ghost is_ready = { λ _. ⊤ };
@@ -61,6 +63,34 @@ impl<'b, A: Allocator + Copy> Driven<A> for Conn<'b, A> {
     ghost passes = { λ _ _ _ _. ⊤ };
 
     fn take_octets(&mut self, piece: &[u8], out: &mut Vec<u8, A>) -> Result<(), AllocError> {
+        match self.feed(piece, out) {
+            Ok(_) => Ok(()),
+            Err(_) => Err(AllocError),
+        }
+    }
+
+    fn end_code(&self) -> Option<u32> {
+        self.ended()
+    }
+
+    fn is_failed(&self) -> bool {
+        self.failed()
+    }
+
+    ghost passes_none = { λ _. tt };
+
+    ghost passes_more = { λ _ _ _ _ _ _ _ _. tt };
+}
+
+/// A connection by itself, whose bodies are lent.
+impl<'b, A: Allocator + Copy> Driven<Outbox<'b, A>> for Conn<'b, A> {
+    ghost connection = { λ c. c };
+
+    ghost is_ready = { λ _. ⊤ };
+
+    ghost passes = { λ _ _ _ _. ⊤ };
+
+    fn take_octets(&mut self, piece: &[u8], out: &mut Outbox<'b, A>) -> Result<(), AllocError> {
         match self.feed(piece, out) {
             Ok(_) => Ok(()),
             Err(_) => Err(AllocError),

@@ -1,43 +1,41 @@
 //! A connection driven over a wire: what is read is fed to it, and the frames that it sends are written before the next
 //! read. Definitions: `specs/Drives.antt`.
 
-ghost use Rattle.std.specs.Prelude.{◌≡◌, ◌<◌, ◌≤◌, [], take, length, false, vec_len, option_map};
+ghost use Rattle.std.specs.Prelude.{◌≡◌, ◌<◌, ◌≤◌, [], take, length, false, option_map};
 ghost use Rattle.h2_spec.specs.Errors.{code_number};
 ghost use Rattle.h2_spec.specs.State.{ended_code};
 ghost use Rattle.h2_drive.specs.Drives.{Drives, EndsAs, HasNoItem, HasRead, TakesTurn, TurnEndsAs, drive_state, is_out_of_memory, is_wire_fault};
 
 use crate::driven::Driven;
 use crate::fault::{DriveEnd, DriveFault};
-use crate::outgoing::write_all;
+use crate::outgoing::Pending;
 use crate::wire::Wire;
-use h2_conn::Conn;
 use h2_spec::octets::octets_up_to;
-use std::alloc::Allocator;
 
 /// The most octets of one read.
-const READ_SIZE: usize = 4096;
+const READ_SIZE: usize = 16_384;
 
 /// Reads once, feeds what was read to the connection, and writes the frames that it sends for that. Returns how many
 /// octets were read; 0 is the end of the input. What was in `buffer` does not matter.
-fn take_turn<A: Allocator + Copy, D: Driven<A>, S: Wire>(
+fn take_turn<O: Pending, D: Driven<O>, S: Wire>(
     driven: &mut D,
-    out: &mut Vec<u8, A>,
+    out: &mut O,
     wire: &mut S,
     buffer: &mut [u8; READ_SIZE],
 ) -> Result<usize, DriveFault>
     requires open { S.has_failed wire.old ≡ false }
-    requires empty { out.old.items ≡ [] }
+    requires empty { O.pending out.old ≡ [] }
     requires no_item { HasNoItem (D.connection driven.old) }
     requires ready { D.is_ready driven.old }
     requires going { (D.connection driven.old).failed ≡ false }
     ensures ready { D.is_ready driven.new }
     ensures turn { TakesTurn
         (drive_state (S.octets_read wire.old) (S.octets_written wire.old) (S.read_lengths wire.old)
-        out.old.items (D.connection driven.old))
+        (O.pending out.old) (D.connection driven.old))
         (drive_state (S.octets_read wire.new) (S.octets_written wire.new) (S.read_lengths wire.new)
-        out.new.items (D.connection driven.new))
+        (O.pending out.new) (D.connection driven.new))
         result }
-    ensures ends { TurnEndsAs result (D.connection driven.old) (D.connection driven.new) out.new.items }
+    ensures ends { TurnEndsAs result (D.connection driven.old) (D.connection driven.new) (O.pending out.new) }
     ensures flag { S.has_failed wire.new ≡ is_wire_fault result }
     ensures passes { HasRead (λ octets. D.passes (is_out_of_memory result) driven.old octets driven.new)
         (S.octets_read wire.old) (S.octets_read wire.new) }
@@ -53,7 +51,7 @@ fn take_turn<A: Allocator + Copy, D: Driven<A>, S: Wire>(
         Ok(()) => {}
         Err(_) => return Err(DriveFault::NoMemory),
     }
-    match write_all(wire, out) {
+    match out.write_all(wire) {
         Ok(()) => Ok(count),
         Err(_) => Err(DriveFault::Write),
     }
@@ -65,9 +63,9 @@ fn take_turn<A: Allocator + Copy, D: Driven<A>, S: Wire>(
 /// # Errors
 ///
 /// Those of `drive`.
-pub fn drive_with<A: Allocator + Copy, D: Driven<A>, S: Wire>(
+pub fn drive_with<O: Pending, D: Driven<O>, S: Wire>(
     driven: &mut D,
-    out: &mut Vec<u8, A>,
+    out: &mut O,
     wire: &mut S,
     turns: u32,
 ) -> Result<DriveEnd, DriveFault>
@@ -76,11 +74,11 @@ pub fn drive_with<A: Allocator + Copy, D: Driven<A>, S: Wire>(
     ensures ready { D.is_ready driven.new }
     ensures drives { Drives turns
         (drive_state (S.octets_read wire.old) (S.octets_written wire.old) (S.read_lengths wire.old)
-        out.old.items (D.connection driven.old))
+        (O.pending out.old) (D.connection driven.old))
         (drive_state (S.octets_read wire.new) (S.octets_written wire.new) (S.read_lengths wire.new)
-        out.new.items (D.connection driven.new))
+        (O.pending out.new) (D.connection driven.new))
         result }
-    ensures ends { EndsAs result (option_map code_number (ended_code (D.connection driven.new).state.core.phase)) out.new.items }
+    ensures ends { EndsAs result (option_map code_number (ended_code (D.connection driven.new).state.core.phase)) (O.pending out.new) }
     ensures flag { S.has_failed wire.new ≡ is_wire_fault result }
     ensures passes { HasRead (λ octets. D.passes (is_out_of_memory result) driven.old octets driven.new)
         (S.octets_read wire.old) (S.octets_read wire.new) }
@@ -88,7 +86,7 @@ pub fn drive_with<A: Allocator + Copy, D: Driven<A>, S: Wire>(
     if driven.is_failed() {
         return Err(DriveFault::Failed);
     }
-    match write_all(wire, out) {
+    match out.write_all(wire) {
         Ok(()) => {}
         Err(_) => return Err(DriveFault::Write),
     }
@@ -109,9 +107,9 @@ pub fn drive_with<A: Allocator + Copy, D: Driven<A>, S: Wire>(
     }
 }
 
-/// Drives a connection over a wire whose last call did not fail: writes the pending output `out`, and then takes at
-/// most `turns` turns. In each turn it reads once, at most 4,096 octets, feeds them to the connection, and writes the
-/// frames that the connection sends for them.
+/// Drives a connection, a `Conn` or what is `Driven`, over a wire whose last call did not fail: writes the pending
+/// output `out`, and then takes at most `turns` turns. In each turn it reads once, at most 16,384 octets, feeds them to
+/// the connection, and writes the frames that the connection sends for them.
 ///
 /// It ends with `Input` where a read returns 0 octets, and with `Goaway` where a connection error has ended the
 /// connection (RFC 9113, 5.4.1). All output was written then.
@@ -125,20 +123,22 @@ pub fn drive_with<A: Allocator + Copy, D: Driven<A>, S: Wire>(
 /// - `Write` where a write failed: `out` keeps what was not written.
 /// - `TurnLimit` where all turns were used and nothing has ended: all output was written, and the connection can be
 ///   driven further.
-pub fn drive<'b, A: Allocator + Copy, S: Wire>(
-    conn: &mut Conn<'b, A>,
-    out: &mut Vec<u8, A>,
+pub fn drive<O: Pending, D: Driven<O>, S: Wire>(
+    conn: &mut D,
+    out: &mut O,
     wire: &mut S,
     turns: u32,
 ) -> Result<DriveEnd, DriveFault>
-    requires { S.has_failed wire.old ≡ false }
+    requires open { S.has_failed wire.old ≡ false }
+    requires ready { D.is_ready conn.old }
+    ensures ready { D.is_ready conn.new }
     ensures drives { Drives turns
         (drive_state (S.octets_read wire.old) (S.octets_written wire.old) (S.read_lengths wire.old)
-        out.old.items conn.old)
+        (O.pending out.old) (D.connection conn.old))
         (drive_state (S.octets_read wire.new) (S.octets_written wire.new) (S.read_lengths wire.new)
-        out.new.items conn.new)
+        (O.pending out.new) (D.connection conn.new))
         result }
-    ensures ends { EndsAs result (option_map code_number (ended_code conn.new.state.core.phase)) out.new.items }
+    ensures ends { EndsAs result (option_map code_number (ended_code (D.connection conn.new).state.core.phase)) (O.pending out.new) }
     ensures flag { S.has_failed wire.new ≡ is_wire_fault result }
 {
     drive_with(conn, out, wire, turns)

@@ -11,5 +11,6 @@ mod wire;
 pub use driven::Driven;
 pub use driver::{drive, drive_with};
 pub use fault::{DriveEnd, DriveFault};
+pub use outgoing::Pending;
 pub use socket::Socket;
 pub use wire::{Wire, WireFault};

@@ -4,11 +4,14 @@ use Rattle.std.specs.List.{All}
 use Rattle.std.proofs.lemmas.Bool.{eqb-true, eqb-false}
 use Rattle.std.proofs.lemmas.List.{append-nil}
 use Rattle.std.proofs.lemmas.List.Elements.{All-append, All-nil}
+use Rattle.std.specs.BTreeMap.{get}
+use Rattle.std.specs.Ordering.{nat_cmp}
 use Rattle.h2_spec.specs.State.{State}
 use Rattle.h2_spec.specs.declared.streams.Stream.{Stream}
 use Rattle.h2_describe.specs.Sent.{FirstFrame, first_frame}
-use Rattle.h2_explain.specs.Account.{ListsChanges, changes_of_sent, changes_on, changes_since, noted_with, streams_of, streams_then}
+use Rattle.h2_explain.specs.Account.{KeepsBlocks, ListsChanges, NotesItem, begun_after, block_end_with, changes_of_sent, changes_on, changes_since, moves_windows, noted_with, notes_of_sent, notes_on, streams_of, streams_then}
 use Rattle.h2_changes.specs.Changes.{Differs, connection_changes, stream_changes}
+use Rattle.h2_item.specs.Item.{head_in}
 use Rattle.h2_item.specs.Notes.{AreNotes, Sees, is_noted, note_of, note_or, noted, with_later_note, with_note}
 use Rattle.h2_changes.specs.declared.changes.ShownChange.{ShownChange}
 use Rattle.h2_item.specs.declared.item.Explained.{Explained}
@@ -45,6 +48,14 @@ later_notes before after number stream st now note earlier is seen same =
     subst (λ (o : Option StreamNote). AreNotes after (with_later_note o number st (note_of before))) earlier
     (subst (λ (t : Stream). AreNotes after (with_note number number t (note_of before))) is (notes_after before after number number now seen same))
 
+-- and what is noted of blocks
+pub keeps_blocks : {A : Type 0} (before after : Notes A) (number ended : ℕ) (st : Stream) → (is_noted st ≡ true → Sees before number ended st after) → (is_noted st ≡ false → after ≡ before) → KeepsBlocks before after
+keeps_blocks {A = A} before after number ended st seen same = at (is_noted st) refl
+  where
+    at : (t : Bool) → is_noted st ≡ t → KeepsBlocks before after
+    at true e = ((seen e).block_same, (seen e).block_end_same)
+    at false e = (ap (λ (n : Notes A). n.block) (same e), ap (λ (n : Notes A). n.block_end) (same e))
+
 -- ---- changes of one stream after another
 
 -- notes that are equal lead to equal notes
@@ -62,6 +73,12 @@ changes_on-same number now connection f g [] same = refl
 changes_on-same number now connection f g (id ∷ ids) same =
     rw (same id) (ap (λ (l : List ShownChange). changes_since (g id) (now id) connection ++ l)
     (changes_on-same number now connection (with_later_note (g id) number (now id) f) (with_later_note (g id) number (now id) g) ids (with_later-same (g id) number (now id) f g same)))
+
+pub notes_on-same : (number : ℕ) (now : ℕ → Stream) (f g : ℕ → Option StreamNote) (ids : List ℕ) → ((id : ℕ) → f id ≡ g id) → (i : ℕ) → notes_on number now f ids i ≡ notes_on number now g ids i
+unfolding notes_on
+notes_on-same number now f g [] same i = same i
+notes_on-same number now f g (id ∷ ids) same i =
+    rw (same id) (notes_on-same number now (with_later_note (g id) number (now id) f) (with_later_note (g id) number (now id) g) ids (with_later-same (g id) number (now id) f g same) i)
 
 -- what differs on a stream since it was noted
 since_differ : (o : Option StreamNote) (st : Stream) (connection : ℤ) → All Differs (changes_since o st connection)
@@ -108,6 +125,23 @@ one_more all now next number at connection f g most left b frame e first is more
     ∙ sym (append_assoc now (changes_since (f id) (at id) connection) (changes_on number at connection later ids))
     ∙ ap (λ l. l ++ changes_on number at connection later ids) (sym more) ∙ ap (λ l. next ++ l) (sym others)
 
+-- and one stream more is noted
+pub one_noted : (all : ℕ → Option StreamNote) (number : ℕ) (at : ℕ → Stream) (f g : ℕ → Option StreamNote) (most left : ℕ) (b : List ℕ) (frame : FirstFrame)
+    → most ≡ suc left → first_frame b ≡ Some frame → ((i : ℕ) → all i ≡ notes_on number at f (streams_of most b) i)
+    → ((id : ℕ) → g id ≡ with_later_note (f frame.head.stream) number (at frame.head.stream) f id)
+    → (i : ℕ) → all i ≡ notes_on number at g (streams_of left frame.rest) i
+unfolding notes_on
+one_noted all number at f g most left b frame e first is same i =
+    let id = frame.head.stream in
+    let ids = streams_of left frame.rest in
+    let listed = ap (λ k. streams_of k b) e ∙ streams-next left b frame first in
+    is i ∙ ap (λ l. notes_on number at f l i) listed ∙ sym (notes_on-same number at g (with_later_note (f id) number (at id) f) ids same i)
+
+pub none_noted : (all : ℕ → Option StreamNote) (number : ℕ) (at : ℕ → Stream) (f : ℕ → Option StreamNote) (ids : List ℕ) → ids ≡ []
+    → ((i : ℕ) → all i ≡ notes_on number at f ids i) → (i : ℕ) → f i ≡ all i
+unfolding notes_on
+none_noted all number at f ids e is i = sym (is i ∙ ap (λ l. notes_on number at f l i) e)
+
 -- nothing is left
 pub none_left : (all now : List ShownChange) (number : ℕ) (at : ℕ → Stream) (connection : ℤ) (f : ℕ → Option StreamNote) (ids : List ℕ) → ids ≡ [] → all ≡ now ++ changes_on number at connection f ids → now ≡ all
 unfolding changes_on
@@ -126,3 +160,20 @@ lists x s begun note seen a b c d same none one two three = record {
   where
     others : changes_of_sent x s seen ≡ changes_of_sent x s (noted_with x begun note)
     others = changes_on-same x.number _ x.after.counts.send seen (noted_with x begun note) (streams_of _ x.sent.now) same
+
+-- ---- what an item is noted with
+
+-- its block is begun, the streams are looked at, its block is ended, and nothing is noted after that
+pub notes-item : {A : Type 0} (x : Explained) (s : State) (old begun seen ended new : Notes A) → begun ≡ record old { block = begun_after old.block x.number x.before.block x.what }
+    → KeepsBlocks begun seen → AreNotes seen (notes_of_sent x s (noted_with x begun.block (note_of begun)))
+    → ended.block ≡ seen.block → ended.block_end ≡ block_end_with seen.block_end x.number (head_in x.what)
+    → (moves_windows x ≡ false → ended.streams ≡ seen.streams) → new ≡ ended → NotesItem x s old new
+notes-item {A = A} x s old begun seen ended new first kept are block block_end still last = record {
+  block = ap (λ (n : Notes A). n.block) last ∙ block ∙ kept.0 ∙ ap (λ (n : Notes A). n.block) first;
+  block_end =
+      ap (λ (n : Notes A). n.block_end) last ∙ block_end
+      ∙ ap (λ (k : ℕ). block_end_with k x.number (head_in x.what)) (kept.1 ∙ ap (λ (n : Notes A). n.block_end) first);
+  streams = λ same id.
+      ap (λ (n : Notes A). note_of n id) last ∙ ap (λ m. get nat_cmp m id) (still same)
+      ∙ subst (λ (n : Notes A). AreNotes seen (notes_of_sent x s (noted_with x n.block (note_of n)))) first are id;
+}

@@ -20,11 +20,12 @@ use Rattle.h2_describe.specs.Sent.{FirstFrame, first_frame}
 use Rattle.h2_spec.specs.State.{State}
 use Rattle.h2_spec.specs.Stream.{stream_at}
 use Rattle.h2_item.specs.Item.{head_in}
-use Rattle.h2_item.specs.Notes.{with_later_note, with_note}
+use Rattle.h2_item.specs.Notes.{AreNotes, block_end_after, note_of, with_later_note, with_note}
 use Rattle.h2_changes.specs.Changes.{Differs, connection_changes, stream_changes}
 use Rattle.h2_changes.specs.declared.changes.ShownChange.{ShownChange}
 use Rattle.h2_item.specs.declared.item.Explained.{Explained}
 use Rattle.h2_item.specs.declared.item.Moment.{Moment}
+use Rattle.h2_item.specs.declared.notes.Notes.{Notes}
 use Rattle.h2_item.specs.declared.notes.StreamNote.{StreamNote}
 
 -- the fragment of a field block that a part of a payload is, if it is one: that of HEADERS or of CONTINUATION (6.2, 6.10)
@@ -124,6 +125,11 @@ changes_on number now connection note [] = []
 changes_on number now connection note (id ∷ ids) =
     changes_since (note id) (now id) connection ++ changes_on number now connection (with_later_note (note id) number (now id) note) ids
 
+-- what is noted once streams were looked at after an item, one after another; only one that has a note is noted again
+unfoldable pub notes_on : (number : ℕ) → (now : ℕ → Stream) → (note : ℕ → Option StreamNote) → List ℕ → ℕ → Option StreamNote
+notes_on number now note [] = note
+notes_on number now note (id ∷ ids) = notes_on number now (with_later_note (note id) number (now id) note) ids
+
 -- the streams of the frames in octets, in order, of that many frames at most (4.1)
 abbrev pub streams_then : (List ℕ → List ℕ) → Option FirstFrame → List ℕ
 streams_then more None = []
@@ -147,3 +153,30 @@ pub record ListsChanges (x : Explained) (s : State) (begun : ℕ) (note : ℕ �
   pub is :
       list ≡ connection_changes x.before x.after ++ stream_changes x.before.stream x.after.stream x.after.counts.send ++ changes_of_sent x s (noted_with x begun note)
   pub differ : All Differs (changes_of_sent x s (noted_with x begun note))
+
+-- ---- what is noted after an item
+
+-- what is noted of the open block and of the last one stays
+abbrev pub KeepsBlocks : {A : Type 0} → Notes A → Notes A → Type 0
+KeepsBlocks before after = (after.block ≡ before.block) × (after.block_end ≡ before.block_end)
+
+-- what is noted of streams once those of the frames were looked at that were sent for an item
+abbrev pub notes_of_sent : Explained → State → (ℕ → Option StreamNote) → ℕ → Option StreamNote
+notes_of_sent x s note = notes_on x.number (stream_at s.core.last s.streams) note (streams_of (length x.sent.now) x.sent.now)
+
+-- an initial window of one side is another after an item, which moves the windows of other streams too (6.9.2)
+abbrev pub moves_windows : Explained → Bool
+moves_windows x = not (x.before.counts.peer.window == x.after.counts.peer.window) || not (x.before.counts.own.window == x.after.counts.own.window)
+
+-- the item that ended the last field block, after an item
+abbrev pub block_end_with : ℕ → (number : ℕ) → Option Head → ℕ
+block_end_with before number None = before
+block_end_with before number (Some h) = block_end_after before number h
+
+-- an item was noted: where its field block began and ended, and, unless it moves the windows of other streams, its own stream and then
+-- those of the frames that were sent for it
+pub record NotesItem {A : Type 0} (x : Explained) (s : State) (before after : Notes A) : Type 0 where
+  pub block : after.block ≡ begun_after before.block x.number x.before.block x.what
+  pub block_end : after.block_end ≡ block_end_with before.block_end x.number (head_in x.what)
+  pub streams :
+      moves_windows x ≡ false → AreNotes after (notes_of_sent x s (noted_with x (begun_after before.block x.number x.before.block x.what) (note_of before)))

@@ -1,13 +1,13 @@
 //! What is known of a connection while it is explained, and the account of each item that it makes. Definitions:
 //! `specs/Account.antt`.
 
-ghost use Rattle.std.specs.Prelude.{◌≡◌, ◌++◌, IfOk, OnOk};
+ghost use Rattle.std.specs.Prelude.{◌≡◌, ◌++◌, false, IfOk, OnOk};
 ghost use Rattle.std.specs.BTreeMap.{IsEmpty};
 ghost use Rattle.std.specs.Option.{option_map};
 ghost use Rattle.h2_spec.specs.Payload.{part_of};
 ghost use Rattle.h2_spec.specs.Stream.{stream_at};
 ghost use Rattle.h2_item.specs.Item.{head_in};
-ghost use Rattle.h2_explain.specs.Account.{ListsChanges, begun_after, changes_of_sent, changes_since, ended_with, unread, fragment_in, is_compression, is_of_block, is_of_fields, reads_fields, shows_fields_with};
+ghost use Rattle.h2_explain.specs.Account.{KeepsBlocks, ListsChanges, NotesItem, begun_after, block_end_with, changes_of_sent, changes_since, ended_with, unread, fragment_in, is_compression, is_of_block, is_of_fields, moves_windows, noted_with, notes_of_sent, reads_fields, shows_fields_with};
 ghost use Rattle.h2_item.specs.Notes.{AreNotes, note_of, with_later_note};
 ghost use Rattle.h2_facts.specs.Warnings.{AreWarnings};
 
@@ -190,7 +190,9 @@ impl<A: Allocator + Copy> Explainer<A> {
         item: &Explained<'_>,
         out: &mut Changes<A>,
     ) -> Result<(), AllocError>
-        ensures { OnOk result (out.new.items ≡ out.old.items ++ changes_of_sent item.now conn.now.state (note_of self.old.notes)) }
+        ensures changes { OnOk result (out.new.items ≡ out.old.items ++ changes_of_sent item.now conn.now.state (note_of self.old.notes)) }
+        ensures notes { OnOk result (AreNotes self.new.notes (notes_of_sent item.now conn.now.state (note_of self.old.notes))) }
+        ensures blocks { OnOk result (KeepsBlocks self.old.notes self.new.notes) }
     {
         let mut rest = item.sent;
         for _frame in 0..item.sent.len() {
@@ -214,6 +216,7 @@ impl<A: Allocator + Copy> Explainer<A> {
     ) -> Result<(), AllocError>
         ensures changes { OnOk result (out.new.items ≡ out.old.items ++ changes_since (note_of self.old.notes stream) (stream_at conn.now.state.core.last conn.now.state.streams stream) item.now.after.counts.send) }
         ensures notes { OnOk result (AreNotes self.new.notes (with_later_note (note_of self.old.notes stream) item.now.number (stream_at conn.now.state.core.last conn.now.state.streams stream) (note_of self.old.notes))) }
+        ensures blocks { OnOk result (KeepsBlocks self.old.notes self.new.notes) }
     {
         let Some(note) = self.notes.of(stream) else {
             return Ok(());
@@ -304,7 +307,9 @@ impl<A: Allocator + Copy> Explainer<A> {
     }
 
     /// Notes that the server has reset a stream at an item that ended the client's side, if it is so.
-    fn note_refused_end(&mut self, item: &Explained<'_>) -> Result<(), AllocError> {
+    fn note_refused_end(&mut self, item: &Explained<'_>) -> Result<(), AllocError>
+        ensures { self.new.notes ≡ self.old.notes }
+    {
         let stream = item.after.stream.id;
         match (item.before.stream.kind, item.after.stream.kind) {
             (StreamState::WeReset, _) => {}
@@ -325,7 +330,11 @@ impl<A: Allocator + Copy> Explainer<A> {
         alloc: A,
         conn: &Conn<'_, A>,
         item: &Explained<'_>,
-    ) -> Result<(), AllocError> {
+    ) -> Result<(), AllocError>
+        ensures block { OnOk result (self.new.notes.block ≡ self.old.notes.block) }
+        ensures block_end { OnOk result (self.new.notes.block_end ≡ block_end_with self.old.notes.block_end item.now.number (head_in item.now.what)) }
+        ensures still { OnOk result (moves_windows item.now ≡ false → self.new.notes.streams ≡ self.old.notes.streams) }
+    {
         self.note_refused_end(item)?;
         note_moved(alloc, conn, item, &mut self.notes, &mut self.live)?;
         if let Some(head) = item.head() {
@@ -346,6 +355,7 @@ impl<A: Allocator + Copy> Explainer<A> {
         ensures fields { IfOk result (λ account. account.shows_fields ≡ shows_fields_with item.now) }
         ensures warnings { IfOk result (λ account. AreWarnings item.now account.facts account.warnings) }
         ensures changes { IfOk result (λ account. ListsChanges item.now conn.now.state (begun_after self.old.notes.block item.now.number item.now.before.block item.now.what) (note_of self.old.notes) account.changes.items) }
+        ensures notes { OnOk result (NotesItem item.now conn.now.state self.old.notes self.new.notes) }
     {
         let shows_fields = self.read_block(alloc, item)?;
         self.table.follow_refused(alloc, item, &self.reader)?;
@@ -377,7 +387,9 @@ impl<A: Allocator + Copy> Explainer<A> {
         &mut self,
         alloc: A,
         item: &Explained<'_>,
-    ) -> Result<Vec<EntryChange<A>, A>, AllocError> {
+    ) -> Result<Vec<EntryChange<A>, A>, AllocError>
+        ensures { self.new.notes ≡ self.old.notes }
+    {
         let Some(head) = item.head() else {
             return Ok(Vec::new(alloc));
         };
@@ -401,7 +413,9 @@ impl<A: Allocator + Copy> Explainer<A> {
         conn: &Conn<'_, A>,
         item: &Explained<'_>,
     ) -> Result<Changes<A>, AllocError>
-        ensures { IfOk result (λ list. ListsChanges item.now conn.now.state self.old.notes.block (note_of self.old.notes) list.items) }
+        ensures changes { IfOk result (λ list. ListsChanges item.now conn.now.state self.old.notes.block (note_of self.old.notes) list.items) }
+        ensures notes { OnOk result (AreNotes self.new.notes (notes_of_sent item.now conn.now.state (noted_with item.now self.old.notes.block (note_of self.old.notes)))) }
+        ensures blocks { OnOk result (KeepsBlocks self.old.notes self.new.notes) }
     {
         let mut list = Vec::new(alloc);
         let (before, after) = (&item.before, &item.after);

@@ -1,6 +1,9 @@
 //! What an item changes on streams beside what `changes` lists: the numbers that a stream begins with, the windows of
 //! other streams that settings move, bodies that are sent to their end, and the open field block. With these every
-//! state can be made again from the changes alone. No definition speaks of it.
+//! state can be made again from the changes alone. No definition speaks of it; what is noted: `specs/Account.antt`.
+
+ghost use Rattle.std.specs.Prelude.{◌≡◌, false, OnOk};
+ghost use Rattle.h2_explain.specs.Account.{KeepsBlocks, moves_windows};
 
 use h2_changes::changes::Moved;
 use h2_changes::count::Count;
@@ -33,7 +36,9 @@ fn sent_streams<A: Allocator + Copy>(alloc: A, sent: &[u8]) -> Result<Live<A>, A
 }
 
 /// Whether an item moves the windows of all streams: an initial window of one side is another after it (RFC 9113, 6.9.2).
-fn moves_windows(item: &Explained<'_>) -> bool {
+fn moves_windows(item: &Explained<'_>) -> bool
+    ensures { result ≡ moves_windows item.now }
+{
     let (before, after) = (&item.before.counts, &item.after.counts);
     before.peer.window != after.peer.window || before.own.window != after.own.window
 }
@@ -218,9 +223,12 @@ fn note_live<A: Allocator + Copy>(
     number: u64,
     notes: &mut Notes<A>,
     live: &Live<A>,
-) -> Result<(), AllocError> {
+) -> Result<(), AllocError>
+    ensures { OnOk result (KeepsBlocks notes.old notes.new) }
+{
     for stream in live.keys() {
-        notes.see(number, number, conn.stream(*stream))?;
+        let now = conn.stream(*stream);
+        notes.see(number, number, now)?;
     }
     Ok(())
 }
@@ -242,7 +250,10 @@ pub(crate) fn note_moved<A: Allocator + Copy>(
     item: &Explained<'_>,
     notes: &mut Notes<A>,
     live: &mut Live<A>,
-) -> Result<(), AllocError> {
+) -> Result<(), AllocError>
+    ensures blocks { OnOk result (KeepsBlocks notes.old notes.new) }
+    ensures still { moves_windows item.now ≡ false → notes.new ≡ notes.old }
+{
     if moves_windows(item) {
         note_live(conn, item.number, notes, live)?;
     }

@@ -67,7 +67,6 @@ fn explain_all<A: Allocator + Copy, O: Output>(
     ensures name { O.name output.new ≡ O.name output.old }
 {
     let mut sent = Vec::new(alloc);
-    let mut recorder = NoRecord;
     match explanation.take_piece(alloc, conn, octets, false, &mut sent, output, &mut NoRecord) {
         Ok(()) => explanation.end(alloc, conn, output),
         Err(fault) => Err(fault),

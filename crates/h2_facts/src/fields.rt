@@ -54,21 +54,26 @@ fn has_blank_end(value: &[u8]) -> bool {
     is_blank(value.first()) || is_blank(value.last())
 }
 
-/// Whether a name belongs to connections of HTTP/1.1 (RFC 9113, 8.2.2).
-fn is_connection_field(name: &[u8]) -> bool {
-    name == "connection".as_bytes()
-        || name == "proxy-connection".as_bytes()
-        || name == "keep-alive".as_bytes()
-        || name == "transfer-encoding".as_bytes()
-        || name == "upgrade".as_bytes()
-}
+/// The names that belong to connections of HTTP/1.1 (RFC 9113, 8.2.2).
+static OF_CONNECTIONS: [&str; 5] = [
+    "connection",
+    "proxy-connection",
+    "keep-alive",
+    "transfer-encoding",
+    "upgrade",
+];
 
-/// Whether a name is that of a pseudo-field of requests (RFC 9113, 8.3.1).
-fn is_of_request(name: &[u8]) -> bool {
-    name == ":method".as_bytes()
-        || name == ":scheme".as_bytes()
-        || name == ":authority".as_bytes()
-        || name == ":path".as_bytes()
+/// The names of the pseudo-fields of requests (RFC 9113, 8.3.1).
+static PSEUDO_FIELDS: [&str; 4] = [":method", ":scheme", ":authority", ":path"];
+
+/// Whether a name is one of these.
+fn is_one_of(name: &[u8], names: &[&str]) -> bool {
+    for other in names {
+        if other.as_bytes() == name {
+            return true;
+        }
+    }
+    false
 }
 
 /// What is wrong with a field.
@@ -97,11 +102,10 @@ fn is_wrong<A: Allocator>(wrong: FieldFault, field: &SpelledField<A>) -> bool {
     match wrong {
         FieldFault::Name => name.is_empty() || bad_octet_of_name(name).is_some(),
         FieldFault::Value => bad_octet_of_value(value).is_some() || has_blank_end(value),
-        FieldFault::Unknown => is_pseudo(name) && !is_of_request(name),
+        FieldFault::Unknown => is_pseudo(name) && !is_one_of(name, &PSEUDO_FIELDS),
         FieldFault::Pseudo => is_pseudo(name),
-        FieldFault::Connection => is_connection_field(name),
-        FieldFault::Te => name == "te".as_bytes()
-            && !value.eq_ignore_ascii_case("trailers".as_bytes()),
+        FieldFault::Connection => is_one_of(name, &OF_CONNECTIONS),
+        FieldFault::Te => name == "te".as_bytes() && !value.eq_ignore_ascii_case(b"trailers"),
         FieldFault::Length => name == "content-length".as_bytes(),
     }
 }
@@ -227,29 +231,37 @@ pub fn is_number(value: &[u8]) -> bool {
     !value.is_empty()
 }
 
-/// Whether each content-length is a number.
-fn are_numbers<A: Allocator>(fields: &[SpelledField<A>]) -> bool {
-    for field in fields {
-        if is_wrong(FieldFault::Length, field) && !is_number(field.value.as_slice()) {
-            return false;
-        }
-    }
-    true
+/// What the content-lengths of a block are.
+#[derive(Clone, Copy)]
+enum Lengths {
+    /// One is no number.
+    NoNumber,
+    /// All are numbers, and one has more than 18 digits.
+    Long,
+    /// All are numbers of at most 18 digits, if there are any.
+    Numbers,
 }
 
-/// Whether a content-length has more than 18 digits, or something else than digits.
-fn has_long_length<A: Allocator>(fields: &[SpelledField<A>]) -> bool {
+/// What the content-lengths of a block are.
+fn lengths_of<A: Allocator>(fields: &[SpelledField<A>]) -> Lengths {
+    let mut lengths = Lengths::Numbers;
     for field in fields {
-        if is_wrong(FieldFault::Length, field) && field.value.len() > 18 {
-            return true;
+        if is_wrong(FieldFault::Length, field) {
+            let value = field.value.as_slice();
+            if !is_number(value) {
+                return Lengths::NoNumber;
+            }
+            if value.len() > 18 {
+                lengths = Lengths::Long;
+            }
         }
     }
-    false
+    lengths
 }
 
 /// Whether all content-lengths are numbers, and one has more than 18 digits.
 pub fn is_length_long<A: Allocator>(fields: &[SpelledField<A>]) -> bool {
-    are_numbers(fields) && has_long_length(fields)
+    matches!(lengths_of(fields), Lengths::Long)
 }
 
 /// The value of a number of at most 18 digits.
@@ -265,24 +277,22 @@ fn number_in(value: &[u8]) -> u64 {
 
 /// Whether two content-lengths are different numbers, of at most 18 digits each.
 pub fn do_lengths_differ<A: Allocator>(fields: &[SpelledField<A>]) -> bool {
-    if !are_numbers(fields) || has_long_length(fields) {
-        return false;
-    }
-    match first_wrong(FieldFault::Length, 0, fields) {
-        Some(place) => differs_from(place, fields),
-        None => false,
+    match lengths_of(fields) {
+        Lengths::Numbers => has_other_length(fields),
+        Lengths::NoNumber | Lengths::Long => false,
     }
 }
 
-/// Whether a content-length is another number than that at a place.
-fn differs_from<A: Allocator>(place: usize, fields: &[SpelledField<A>]) -> bool {
-    let first = match fields.get(place) {
-        Some(field) => number_in(field.value.as_slice()),
-        None => 0,
-    };
+/// Whether a content-length is another number than the first.
+fn has_other_length<A: Allocator>(fields: &[SpelledField<A>]) -> bool {
+    let mut first = None;
     for field in fields {
-        if is_wrong(FieldFault::Length, field) && number_in(field.value.as_slice()) != first {
-            return true;
+        if is_wrong(FieldFault::Length, field) {
+            let number = number_in(field.value.as_slice());
+            match first {
+                Some(other) if other != number => return true,
+                _ => first = Some(number),
+            }
         }
     }
     false
@@ -320,17 +330,20 @@ pub fn other_length<'s, A: Allocator>(
     None
 }
 
-/// Whether the first field whose name is refused has an empty name.
-pub fn has_empty_name<A: Allocator>(fields: &[SpelledField<A>]) -> bool {
-    match first_wrong(FieldFault::Name, 0, fields) {
-        Some(place) => is_empty_at(place, fields),
-        None => false,
+/// The first field with which this is wrong.
+fn first_with<A: Allocator>(
+    wrong: FieldFault,
+    fields: &[SpelledField<A>],
+) -> Option<&SpelledField<A>> {
+    match first_wrong(wrong, 0, fields) {
+        Some(place) => fields.get(place),
+        None => None,
     }
 }
 
-/// Whether the name of the field at a place is empty.
-fn is_empty_at<A: Allocator>(place: usize, fields: &[SpelledField<A>]) -> bool {
-    match fields.get(place) {
+/// Whether the first field whose name is refused has an empty name.
+pub fn has_empty_name<A: Allocator>(fields: &[SpelledField<A>]) -> bool {
+    match first_with(FieldFault::Name, fields) {
         Some(field) => field.name.is_empty(),
         None => false,
     }
@@ -338,16 +351,16 @@ fn is_empty_at<A: Allocator>(place: usize, fields: &[SpelledField<A>]) -> bool {
 
 /// Whether a content-length is not taken: no number of 1 to 18 digits, or two that differ (RFC 9113, 8.1.1).
 fn is_bad_length<A: Allocator>(fields: &[SpelledField<A>]) -> bool {
-    !are_numbers(fields) || has_long_length(fields) || do_lengths_differ(fields)
+    match lengths_of(fields) {
+        Lengths::Numbers => has_other_length(fields),
+        Lengths::NoNumber | Lengths::Long => true,
+    }
 }
 
 /// Whether a block declares content other than none (RFC 9113, 8.1.1).
 fn declares_content<A: Allocator>(fields: &[SpelledField<A>]) -> bool {
-    match first_wrong(FieldFault::Length, 0, fields) {
-        Some(place) => match fields.get(place) {
-            Some(field) => !is_bad_length(fields) && number_in(field.value.as_slice()) > 0,
-            None => false,
-        },
+    match first_with(FieldFault::Length, fields) {
+        Some(field) => !is_bad_length(fields) && number_in(field.value.as_slice()) > 0,
         None => false,
     }
 }
@@ -400,31 +413,31 @@ impl<A: Allocator> Clone for Block<'_, A> {
 
 impl<A: Allocator> Copy for Block<'_, A> {}
 
+/// What is wrong with a field where a cause holds, if one field by itself shows that.
+fn fault_of(cause: Cause) -> Option<FieldFault> {
+    match cause {
+        Cause::BadName | Cause::TrailersBadName => Some(FieldFault::Name),
+        Cause::BadValue | Cause::TrailersBadValue => Some(FieldFault::Value),
+        Cause::UnknownPseudoField => Some(FieldFault::Unknown),
+        Cause::TrailersPseudoField => Some(FieldFault::Pseudo),
+        Cause::ConnectionField | Cause::TrailersConnectionField => Some(FieldFault::Connection),
+        Cause::BadTe | Cause::TrailersBadTe => Some(FieldFault::Te),
+        _ => None,
+    }
+}
+
 /// Whether a cause holds of a block.
 pub fn holds<A: Allocator>(cause: Cause, block: Block<'_, A>) -> bool {
     let fields = block.fields;
+    if let Some(fault) = fault_of(cause) {
+        return first_wrong(fault, 0, fields).is_some();
+    }
     match cause {
-        Cause::BadName | Cause::TrailersBadName => first_wrong(
-            FieldFault::Name,
-            0,
-            fields,
-        ).is_some(),
-        Cause::BadValue | Cause::TrailersBadValue => first_wrong(
-            FieldFault::Value,
-            0,
-            fields,
-        ).is_some(),
         Cause::LatePseudoField => late_pseudo(fields).is_some(),
-        Cause::UnknownPseudoField => first_wrong(FieldFault::Unknown, 0, fields).is_some(),
         Cause::DoublePseudoField => double_pseudo(fields).is_some(),
         Cause::LackingPseudoField => is_lacking(fields),
-        Cause::ConnectionField | Cause::TrailersConnectionField => {
-            first_wrong(FieldFault::Connection, 0, fields).is_some()
-        }
-        Cause::BadTe | Cause::TrailersBadTe => first_wrong(FieldFault::Te, 0, fields).is_some(),
         Cause::BadContentLength => is_bad_length(fields),
         Cause::ContentMissing => block.ends && declares_content(fields),
-        Cause::TrailersPseudoField => first_wrong(FieldFault::Pseudo, 0, fields).is_some(),
         Cause::TrailersWithoutEndStream => !block.ends,
         Cause::ContentTooShort => block.is_short,
         _ => false,

@@ -1,4 +1,6 @@
 mod Agreeing
+pub mod LoanLaws
 pub mod MissingLaws
 mod MissingRows
 mod Pairs
+mod Portions

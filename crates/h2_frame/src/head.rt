@@ -7,6 +7,7 @@ ghost use Rattle.h2_spec.specs.Frame.{head_at, head_of, frame, frame_octets, fra
 ghost use Rattle.h2_spec.specs.Octets.{big_endian};
 
 use crate::cuts::u31_at;
+use crate::outgoing::Outgoing;
 use h2_spec::frames::Head;
 use std::alloc::{AllocError, Allocator};
 
@@ -51,17 +52,17 @@ pub(crate) fn first_head(octets: &[u8]) -> Head
 /// The head's length is the payload's. The reserved bit is written as 0 whatever the head says, so what is read back
 /// is the head with that bit 0.
 /// `AllocError` where `out` could not grow; then `out` is as before.
-pub fn write_frame<A: Allocator>(
+pub fn write_frame<'b, A: Allocator, O: Outgoing<'b, A>>(
     head: &Head,
     payload: &[u8],
-    out: &mut Vec<u8, A>,
+    out: &mut O,
 ) -> Result<(), AllocError>
     requires length { head.now.length ≡ length payload.now }
     requires fits { head.now.length < 2 ^ 24 }
     requires stream { head.now.stream < 2 ^ 31 }
-    ensures ok { OnOk result (out.new.items ≡ out.old.items ++ frame_octets (frame_of head.now payload.now)) }
-    ensures read_back { OnOk result ((more : List ℕ) → head_at (drop (length out.old.items) out.new.items ++ more) ≡ Some (record head.now { reserved = false })) }
-    ensures no_memory { OnErr result (out.new.items ≡ out.old.items) }
+    ensures ok { OnOk result (O.octets out.new ≡ O.octets out.old ++ frame_octets (frame_of head.now payload.now)) }
+    ensures read_back { OnOk result ((more : List ℕ) → head_at (drop (length (O.octets out.old)) (O.octets out.new) ++ more) ≡ Some (record head.now { reserved = false })) }
+    ensures no_memory { OnErr result (O.octets out.new ≡ O.octets out.old) }
 {
     append_frame(head.kind, head.flags, head.stream, &[], payload, out)
 }
@@ -71,24 +72,40 @@ pub fn write_frame<A: Allocator>(
 /// The last four octets of its head write `stream`: an identifier, or 2^31 more where the reserved bit is to be set.
 /// `AllocError` where `out` could not grow; then `out` is as before.
 #[tactic(auto, unfolding(h2_spec::specs::Frame::frame_octets))]
-pub fn append_frame<A: Allocator>(
+pub fn append_frame<'b, A: Allocator, O: Outgoing<'b, A>>(
     kind: u8,
     flags: u8,
     stream: u32,
     front: &[u8],
     rest: &[u8],
-    out: &mut Vec<u8, A>,
+    out: &mut O,
 ) -> Result<(), AllocError>
     requires fits { length front.now + length rest.now < 2 ^ 24 }
-    ensures ok { OnOk result (out.new.items ≡ out.old.items ++ frame_octets (frame kind flags stream (front.now ++ rest.now))) }
-    ensures no_memory { OnErr result (out.new.items ≡ out.old.items) }
+    ensures ok { OnOk result (O.octets out.new ≡ O.octets out.old ++ frame_octets (frame kind flags stream (front.now ++ rest.now))) }
+    ensures no_memory { OnErr result (O.octets out.new ≡ O.octets out.old) }
 {
     let count = front.len() + rest.len();
     let head = head_octets(count as u32, kind, flags, stream);
-    out.reserve(9 + count)?;
-    out.extend_from_slice(&head)?;
-    out.extend_from_slice(front)?;
-    out.extend_from_slice(rest)
+    out.append_copied(&head, front, rest)
+}
+
+/// Appends a frame whose payload is lent: `out` may keep it by reference.
+///
+/// As `append_frame`, also where memory is refused.
+#[tactic(auto, unfolding(h2_spec::specs::Frame::frame_octets))]
+pub fn lend_frame<'b, A: Allocator, O: Outgoing<'b, A>>(
+    kind: u8,
+    flags: u8,
+    stream: u32,
+    payload: &'b [u8],
+    out: &mut O,
+) -> Result<(), AllocError>
+    requires fits { length payload.now < 2 ^ 24 }
+    ensures ok { OnOk result (O.octets out.new ≡ O.octets out.old ++ frame_octets (frame kind flags stream payload.now)) }
+    ensures no_memory { OnErr result (O.octets out.new ≡ O.octets out.old) }
+{
+    let head = head_octets(payload.len() as u32, kind, flags, stream);
+    out.append_lent(&head, payload)
 }
 
 /// The nine octets of a head; the last four write the number of its stream, with the reserved bit where that has it.

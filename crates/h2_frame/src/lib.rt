@@ -6,12 +6,17 @@
 mod cuts;
 pub mod fault;
 pub mod head;
+mod lending;
+mod outbox;
+mod outgoing;
 pub mod payload;
 pub mod splitter;
 
 pub use fault::PayloadFault;
 pub use h2_spec::frames::{FrameType, Head};
-pub use head::{FrameRef, append_frame, read_head, write_frame};
+pub use head::{FrameRef, append_frame, lend_frame, read_head, write_frame};
+pub use outbox::Outbox;
+pub use outgoing::Outgoing;
 pub use payload::{
     DataPart, HeadersPart, Part, SettingsPart, data_of, goaway_of, headers_of, part_of, reset_of,
     settings_of, window_of,

@@ -18,21 +18,15 @@ pub struct ShownEntry<A: Allocator = Global> {
     pub value: Vec<u8, A>,
 }
 
-impl<A: Allocator + Copy> ShownEntry<A> {
-    /// A copy of the entry.
-    fn copy(&self, alloc: A) -> Result<ShownEntry<A>, AllocError> {
-        Ok(ShownEntry {
-            name: Vec::from_slice(alloc, self.name.as_slice())?,
-            value: Vec::from_slice(alloc, self.value.as_slice())?,
-        })
-    }
+/// What an entry counts: its octets and 32 (RFC 7541, 4.1).
+fn size_of(name: &[u8], value: &[u8]) -> usize {
+    name.len().saturating_add(value.len()).saturating_add(32)
+}
 
+impl<A: Allocator + Copy> ShownEntry<A> {
     /// What it counts: its octets and 32 (RFC 7541, 4.1).
     pub fn size(&self) -> usize {
-        self.name
-            .len()
-            .saturating_add(self.value.len())
-            .saturating_add(32)
+        size_of(self.name.as_slice(), self.value.as_slice())
     }
 }
 
@@ -84,15 +78,42 @@ fn is_entered<A: Allocator>(field: &SpelledField<A>) -> bool {
     }
 }
 
+/// An entry with copies of these octets.
+fn entry_with<A: Allocator + Copy>(
+    alloc: A,
+    name: &[u8],
+    value: &[u8],
+) -> Result<ShownEntry<A>, AllocError> {
+    let name = Vec::from_slice(alloc, name)?;
+    match Vec::from_slice(alloc, value) {
+        Ok(value) => Ok(ShownEntry { name, value }),
+        Err(error) => Err(error),
+    }
+}
+
 /// The entry of a field.
 fn entry_of<A: Allocator + Copy>(
     alloc: A,
     field: &SpelledField<A>,
 ) -> Result<ShownEntry<A>, AllocError> {
-    Ok(ShownEntry {
-        name: Vec::from_slice(alloc, field.name.as_slice())?,
-        value: Vec::from_slice(alloc, field.value.as_slice())?,
-    })
+    entry_with(alloc, field.name.as_slice(), field.value.as_slice())
+}
+
+/// What is kept of an entry that was evicted at the item of this number.
+fn gone_of<A: Allocator + Copy>(
+    alloc: A,
+    entry: &ShownEntry<A>,
+    item: u64,
+    by: Option<&[u8]>,
+) -> Result<Gone<A>, AllocError> {
+    let by = match by {
+        Some(name) => Some(Vec::from_slice(alloc, name)?),
+        None => None,
+    };
+    match entry_with(alloc, entry.name.as_slice(), entry.value.as_slice()) {
+        Ok(entry) => Ok(Gone { entry, item, by }),
+        Err(error) => Err(error),
+    }
 }
 
 impl<A: Allocator + Copy> Followed<A> {
@@ -147,16 +168,7 @@ impl<A: Allocator + Copy> Followed<A> {
             return Ok(());
         };
         self.size = self.size.saturating_sub(entry.size());
-        let by = match by {
-            Some(name) => Some(Vec::from_slice(alloc, name)?),
-            None => None,
-        };
-        let copy = entry.copy(alloc)?;
-        self.keep(Gone {
-            entry: copy,
-            item,
-            by,
-        })?;
+        self.keep(gone_of(alloc, &entry, item, by)?)?;
         out.push(EntryChange {
             is_entered: false,
             entry,
@@ -191,14 +203,13 @@ impl<A: Allocator + Copy> Followed<A> {
         field: &SpelledField<A>,
         out: &mut Vec<EntryChange<A>, A>,
     ) -> Result<(), AllocError> {
-        let entry = entry_of(alloc, field)?;
-        let size = entry.size();
+        let size = size_of(field.name.as_slice(), field.value.as_slice());
         self.evict(alloc, size, item, Some(field.name.as_slice()), out)?;
         if size > self.maximum {
             self.gone.clear();
             return Ok(());
         }
-        self.entries.push_front(entry)?;
+        self.entries.push_front(entry_of(alloc, field)?)?;
         self.size = self.size.saturating_add(size);
         out.push(EntryChange {
             is_entered: true,

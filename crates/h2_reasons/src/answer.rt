@@ -1,7 +1,7 @@
 //! Which part of an ANSWER is at fault: METHOD|PATH|STATUS|BODYHEX, and further parts NAME=VALUE or early.
 
 use crate::entry::{EntryRefusal, field_reason, say_entry};
-use crate::place::Quoted;
+use crate::place::{Quoted, are_digits, are_hex_digits};
 use h2_describe::say::{Cut, Hex, Say, TextBuilder};
 use h2_describe::say_all;
 use h2_describe::sent::first_of;
@@ -19,23 +19,25 @@ fn part_of(word: &str, number: usize) -> &str {
 }
 
 fn is_status(part: &str) -> bool {
-    part.len() == 3 && part.as_bytes().iter().all(|octet| octet.is_ascii_digit())
+    part.len() == 3 && are_digits(part.as_bytes())
 }
 
 fn is_hex(part: &str) -> bool {
-    part.len() % 2 == 0
-        && part
-            .as_bytes()
-            .iter()
-            .all(|octet| octet.is_ascii_hexdigit())
+    part.len() % 2 == 0 && are_hex_digits(part.as_bytes())
 }
 
-/// How often a word is `early` after the first four parts.
-fn early_words(word: &str) -> usize {
-    word.split('|')
-        .skip(4)
-        .filter(|part| *part == "early")
-        .count()
+/// Whether more than one part after the first four is `early`.
+fn is_early_twice(word: &str) -> bool {
+    let mut is_early = false;
+    for part in word.split('|').skip(4) {
+        if part == "early" {
+            if is_early {
+                return true;
+            }
+            is_early = true;
+        }
+    }
+    false
 }
 
 /// Where a word of the command line is: `answer 1 of the command line`.
@@ -57,7 +59,7 @@ pub fn say_no_answer(place: usize, word: &str, out: &mut TextBuilder) {
         say_all!(out; AnswerPlace(place), ": ", Quoted(word.as_bytes()), " has ", parts, " parts; an answer has at least four: METHOD|PATH|STATUS|BODYHEX.\n");
     } else if !is_status(part_of(word, 3)) {
         say_all!(out; AnswerPlace(place), ", part 3, STATUS: ", Quoted(part_of(word, 3).as_bytes()), " is not three digits, 200 to 599.\n");
-    } else if early_words(word) > 1 {
+    } else if is_early_twice(word) {
         say_all!(out; AnswerPlace(place), ": the part early is there more than once.\n");
     } else if !is_hex(part_of(word, 4)) {
         say_no_body(place, part_of(word, 4), out);
@@ -83,14 +85,23 @@ fn say_no_body(place: usize, body: &str, out: &mut TextBuilder) {
     ".\n".say(out);
 }
 
+/// The first further part that is neither a field nor the word of an early answer, and its number.
+fn bad_part(word: &str) -> Option<(usize, &str)> {
+    let mut number = 4usize;
+    for part in word.split('|').skip(4) {
+        number = number.saturating_add(1);
+        if part != "early" && !part.as_bytes().contains(&b'=') {
+            return Some((number, part));
+        }
+    }
+    None
+}
+
 /// Says which further part is neither a field nor the word of an early answer.
 fn say_bad_part(place: usize, word: &str, out: &mut TextBuilder) {
-    for (before, part) in word.split('|').enumerate().skip(4) {
-        if part != "early" && !part.as_bytes().contains(&b'=') {
-            let number = before.saturating_add(1);
-            say_all!(out; AnswerPlace(place), ", part ", number, ": ", Quoted(part.as_bytes()), " is neither NAME=VALUE nor early.\n");
-            return;
-        }
+    if let Some((number, part)) = bad_part(word) {
+        let part = Quoted(part.as_bytes());
+        say_all!(out; AnswerPlace(place), ", part ", number, ": ", part, " is neither NAME=VALUE nor early.\n");
     }
 }
 
@@ -104,12 +115,17 @@ struct BadField<'w> {
 
 /// The first field of a word that is not allowed.
 fn bad_field(word: &str) -> Option<BadField<'_>> {
-    for (before, part) in word.split('|').enumerate().skip(4) {
+    let mut number = 4usize;
+    for part in word.split('|').skip(4) {
+        number = number.saturating_add(1);
         if let Some((name, value)) = part.split_once('=')
             && let Some(reason) = field_reason(name.as_bytes(), value.as_bytes())
         {
-            let part = before.saturating_add(1);
-            return Some(BadField { part, name, reason });
+            return Some(BadField {
+                part: number,
+                name,
+                reason,
+            });
         }
     }
     None

@@ -1,5 +1,6 @@
 //! What a text that is no hex looks like, as far as the ways are known in which people have octets at hand.
 
+use crate::place::{are_hex_digits, up_to};
 use h2_describe::sent::first_of;
 use h2_spec::frames::type_named;
 
@@ -94,20 +95,11 @@ fn is_script_word(word: &[u8]) -> bool {
 
 /// What precedes the first blank of a line.
 fn first_word(line: &[u8]) -> &[u8] {
-    match line
-        .iter()
-        .position(|octet| *octet == b' ' || *octet == b'\r')
-    {
-        Some(end) => first_of(line, end),
-        None => line,
-    }
+    up_to(up_to(line, b' '), b'\r')
 }
 
 fn first_line(text: &[u8]) -> &[u8] {
-    match text.iter().position(|octet| *octet == b'\n') {
-        Some(end) => first_of(text, end),
-        None => text,
-    }
+    up_to(text, b'\n')
 }
 
 /// Whether a line begins with an offset of a dump: five digits or more, and `:` where it is one of xxd; or shows its
@@ -119,7 +111,7 @@ fn is_dump_line(line: &[u8]) -> bool {
         Some(digits) => digits,
         None => word,
     };
-    is_marked && digits.len() >= 5 && digits.iter().all(|octet| octet.is_ascii_hexdigit())
+    is_marked && digits.len() >= 5 && are_hex_digits(digits)
 }
 
 /// How many octets a line is looked at for its offset: 15 digits, a colon, and the blank after it.

@@ -41,11 +41,11 @@ pub fn field_reason(name: &[u8], value: &[u8]) -> Option<&'static str> {
         Some("has an empty name")
     } else if name.first().copied() == Some(b':') {
         Some("is a pseudo-field, which the server writes itself")
-    } else if name.iter().any(|octet| octet.is_ascii_uppercase()) {
+    } else if has_upper_case(name) {
         Some("has an upper-case letter; names are lower case (RFC 9113, 8.2)")
-    } else if name.iter().any(|octet| is_bad_in_name(*octet)) {
+    } else if has_bad_octet(name) {
         Some("has an octet that no name may have (RFC 9113, 8.2.1)")
-    } else if REFUSED.iter().any(|refused| refused.as_bytes() == name) {
+    } else if is_refused(name) {
         Some(
             "is not allowed: it is one of a connection, or what the server writes itself (RFC 9113, 8.2.2)",
         )
@@ -54,8 +54,23 @@ pub fn field_reason(name: &[u8], value: &[u8]) -> Option<&'static str> {
     }
 }
 
-fn is_bad_in_name(octet: u8) -> bool {
-    octet <= 32 || octet >= 127 || octet == b':'
+fn has_upper_case(name: &[u8]) -> bool {
+    name.iter().any(|octet| octet.is_ascii_uppercase())
+}
+
+fn has_bad_octet(name: &[u8]) -> bool {
+    name.iter()
+        .any(|octet| *octet <= 32 || *octet >= 127 || *octet == b':')
+}
+
+/// Whether a name is one of `REFUSED`.
+fn is_refused(name: &[u8]) -> bool {
+    for refused in &REFUSED {
+        if refused.as_bytes() == name {
+            return true;
+        }
+    }
+    false
 }
 
 fn is_blank(octet: Option<u8>) -> bool {

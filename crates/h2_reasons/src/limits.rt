@@ -56,9 +56,14 @@ pub fn range_of(word: &str) -> Option<Range> {
     RANGES.iter().copied().find(|range| range.option == word)
 }
 
+/// Says that the number of an option is out of its range.
+fn say_outside<S: Say>(range: &Range, value: S, out: &mut TextBuilder) {
+    say_all!(out; range.option, " ", value, " is out of range: ", range.what, ", ", range.least, " to ", range.most, ".\n");
+}
+
 /// Says which number of an option is out of range.
 pub fn say_range(range: Range, value: &str, out: &mut TextBuilder) {
-    say_all!(out; range.option, " ", crate::place::Quoted(value.as_bytes()), " is out of range: ", range.what, ", ", range.least, " to ", range.most, ".\n");
+    say_outside(&range, crate::place::Quoted(value.as_bytes()), out);
 }
 
 /// Says of a command that takes no FILE that a word is none of its own.
@@ -82,7 +87,7 @@ pub fn say_limits(config: Config, out: &mut TextBuilder) {
     for (range, value) in RANGES.iter().zip(values(config).iter()) {
         let value = u64::from(*value);
         if value < range.least || value > range.most {
-            say_all!(out; range.option, " ", value, " is out of range: ", range.what, ", ", range.least, " to ", range.most, ".\n");
+            say_outside(range, value, out);
         }
     }
 }

@@ -38,6 +38,24 @@ impl Say for TextPlace {
     }
 }
 
+/// Whether all octets are decimal digits.
+pub(crate) fn are_digits(text: &[u8]) -> bool {
+    text.iter().all(|octet| octet.is_ascii_digit())
+}
+
+/// Whether all octets are hex digits.
+pub(crate) fn are_hex_digits(text: &[u8]) -> bool {
+    text.iter().all(|octet| octet.is_ascii_hexdigit())
+}
+
+/// What precedes the first octet of this value; all where there is none.
+pub(crate) fn up_to(text: &[u8], end: u8) -> &[u8] {
+    match text.iter().position(|octet| *octet == end) {
+        Some(place) => first_of(text, place),
+        None => text,
+    }
+}
+
 /// The place of an octet, by how many octets are before it.
 pub fn place_at(text: &[u8], before: usize) -> TextPlace {
     let mut line = 1usize;

@@ -1,20 +1,29 @@
 //! What is wrong with a line of a script: its kind in words, and the place in the line.
 
 use crate::hex::is_hex;
-use crate::place::{InputSource, Quoted};
+use crate::place::{InputSource, Quoted, up_to};
 use h2_describe::say::{Say, TextBuilder};
 use h2_describe::say_all;
-use h2_describe::sent::first_of;
 use h2_spec::scripts::SyntaxKind;
+use memchr::{memchr, memchr_iter};
 
-/// The line with this number, from 1.
-fn line_of(text: &[u8], number: usize) -> &[u8] {
-    match text
-        .split(|octet| *octet == b'\n')
-        .nth(number.saturating_sub(1))
-    {
-        Some(line) => line,
+/// What a text has after this many line feeds; nothing where there are fewer.
+fn after_lines(text: &[u8], count: usize) -> &[u8] {
+    if count == 0 {
+        return text;
+    }
+    match memchr_iter(b'\n', text).nth(count - 1) {
+        Some(end) => text.get(end.saturating_add(1)..).unwrap_or(&[]),
         None => &[],
+    }
+}
+
+/// The line with this number, from 1; empty where there are fewer.
+pub(crate) fn line_of(text: &[u8], number: usize) -> &[u8] {
+    let rest = after_lines(text, number.saturating_sub(1));
+    match memchr(b'\n', rest) {
+        Some(end) => rest.get(..end).unwrap_or(rest),
+        None => rest,
     }
 }
 
@@ -55,10 +64,7 @@ fn part_at(line: &[u8], part: usize) -> &[u8] {
     if part == 3 {
         return rest;
     }
-    match rest.iter().position(|octet| *octet == b' ') {
-        Some(end) => first_of(rest, end),
-        None => rest,
-    }
+    up_to(rest, b' ')
 }
 
 /// What a part has to be.

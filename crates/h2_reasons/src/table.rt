@@ -1,6 +1,6 @@
 //! Which lines of `table` are refused, and why.
 
-use crate::place::{InputSource, Quoted};
+use crate::place::{InputSource, Quoted, are_digits};
 use h2_describe::say::{Say, TextBuilder};
 use h2_describe::say_all;
 
@@ -15,10 +15,7 @@ enum Fault {
 
 /// The number that `max` is given.
 fn number_in(digits: &[u8]) -> Option<u32> {
-    if digits.is_empty()
-        || digits.len() > 10
-        || !digits.iter().all(|octet| octet.is_ascii_digit())
-    {
+    if digits.is_empty() || digits.len() > 10 || !are_digits(digits) {
         return None;
     }
     let mut number = 0u64;
@@ -73,9 +70,11 @@ pub fn say_table_faults(source: InputSource<'_>, text: &[u8], limit: u32, out: &
     if text.is_empty() {
         return;
     }
-    for (before, line) in text.split(|octet| *octet == b'\n').enumerate() {
+    let mut number = 0usize;
+    for line in text.split(|octet| *octet == b'\n') {
+        number = number.saturating_add(1);
         if let Some(fault) = fault_of(line, limit) {
-            say_line(source, before.saturating_add(1), line, fault, limit, out);
+            say_line(source, number, line, fault, limit, out);
         }
     }
 }

@@ -8,18 +8,8 @@ use h2_facts::fields::{
     FieldFault, bad_octet_of_name, bad_octet_of_value, double_pseudo, first_wrong, has,
     has_other_scheme, is_blank, is_connect, is_number, late_pseudo, other_length, refused_length,
 };
-use h2_item::error_context::ErrorContext;
 use h2_spec::causes::Cause;
 use std::alloc::Allocator;
-
-/// The first field of this kind.
-fn found<'s, A: Allocator + Copy>(
-    wrong: FieldFault,
-    context: ErrorContext<'s, '_, A>,
-) -> Option<&'s SpelledField<A>> {
-    let fields = context.reader.fields();
-    fields.get(first_wrong(wrong, 0, fields)?)
-}
 
 /// An octet by name, where it has one.
 fn octet_name(octet: u8) -> Option<&'static str> {
@@ -51,28 +41,6 @@ fn say_repair<A: Allocator>(octet: u8, out: &mut TextBuilder<A>) {
     }
 }
 
-fn say_bad_name<A: Allocator + Copy>(
-    context: ErrorContext<'_, '_, A>,
-    of: &'static str,
-    out: &mut TextBuilder<A>,
-) -> bool {
-    let Some(field) = found(FieldFault::Name, context) else {
-        return false;
-    };
-    let name = field.name.as_slice();
-    let bad = bad_octet_of_name(name);
-    match bad {
-        Some(_) => say_all!(out;
-            "the name \"", Cut(name), "\"", of, " has "),
-        None => say_all!(out; "a field", of, " has an empty name"),
-    }
-    if let Some(octet) = bad {
-        say_octet(octet, out);
-        say_repair(octet, out);
-    }
-    true
-}
-
 /// Puts last which end of a value has a blank, and which blank.
 fn say_blank_end<A: Allocator>(value: &[u8], out: &mut TextBuilder<A>) {
     let first = value.first().copied().unwrap_or(0);
@@ -84,25 +52,6 @@ fn say_blank_end<A: Allocator>(value: &[u8], out: &mut TextBuilder<A>) {
         say_all!(out; " ends with ");
         say_octet(last, out);
     }
-}
-
-fn say_bad_value<A: Allocator + Copy>(
-    context: ErrorContext<'_, '_, A>,
-    of: &'static str,
-    out: &mut TextBuilder<A>,
-) -> bool {
-    let Some(field) = found(FieldFault::Value, context) else {
-        return false;
-    };
-    say_all!(out; "the value of \"", Cut(field.name.as_slice()), "\"", of);
-    match bad_octet_of_value(field.value.as_slice()) {
-        Some(octet) => {
-            say_all!(out; " has ");
-            say_octet(octet, out);
-        }
-        None => say_blank_end(field.value.as_slice(), out),
-    }
-    true
 }
 
 /// Which pseudo-field of a request other than CONNECT is missing or empty (RFC 9113, 8.3.1).
@@ -149,67 +98,6 @@ fn say_connect<A: Allocator>(fields: &[SpelledField<A>], out: &mut TextBuilder<A
     say_all!(out; more);
 }
 
-/// Pseudo-fields (RFC 9113, 8.1 and 8.3).
-fn say_pseudo<A: Allocator + Copy>(
-    cause: Cause,
-    context: ErrorContext<'_, '_, A>,
-    out: &mut TextBuilder<A>,
-) -> bool {
-    let fields = context.reader.fields();
-    match cause {
-        Cause::LatePseudoField => {
-            let Some((field, before)) = late_pseudo(fields) else {
-                return false;
-            };
-            say_all!(out;
-                "\"", Cut(field.name.as_slice()), "\" comes after the field \"",
-                Cut(before.name.as_slice()), "\"");
-        }
-        Cause::UnknownPseudoField => {
-            let Some(field) = found(FieldFault::Unknown, context) else {
-                return false;
-            };
-            say_all!(out; "\"", Cut(field.name.as_slice()), "\" is no pseudo-field of a request");
-        }
-        Cause::DoublePseudoField => {
-            let Some(field) = double_pseudo(fields) else {
-                return false;
-            };
-            say_all!(out; "\"", Cut(field.name.as_slice()), "\" is there twice");
-        }
-        Cause::LackingPseudoField => say_lacking(fields, out),
-        _ => return false,
-    }
-    true
-}
-
-/// Fields of connections, and `te` (RFC 9113, 8.2.2).
-fn say_connection_field<A: Allocator + Copy>(
-    context: ErrorContext<'_, '_, A>,
-    of: &'static str,
-    out: &mut TextBuilder<A>,
-) -> bool {
-    let Some(field) = found(FieldFault::Connection, context) else {
-        return false;
-    };
-    say_all!(out;
-        "\"", Cut(field.name.as_slice()), "\"", of, " belongs to HTTP/1.1 connections");
-    true
-}
-
-fn say_te<A: Allocator + Copy>(
-    context: ErrorContext<'_, '_, A>,
-    of: &'static str,
-    out: &mut TextBuilder<A>,
-) -> bool {
-    let Some(field) = found(FieldFault::Te, context) else {
-        return false;
-    };
-    say_all!(out;
-        "te", of, " is \"", Cut(field.value.as_slice()), "\"; it may only be trailers");
-    true
-}
-
 /// Puts last what is wrong with the content-length that is shown: `other` is one of another number, if there is one.
 fn say_digits<A: Allocator>(
     value: &[u8],
@@ -226,12 +114,11 @@ fn say_digits<A: Allocator>(
 }
 
 /// The value or the values of content-length (RFC 9113, 8.1.1).
-fn say_content_length<A: Allocator + Copy>(
+fn say_content_length<A: Allocator>(
     cause: Cause,
-    context: ErrorContext<'_, '_, A>,
+    fields: &[SpelledField<A>],
     out: &mut TextBuilder<A>,
 ) -> bool {
-    let fields = context.reader.fields();
     let Some(field) = refused_length(fields) else {
         return false;
     };
@@ -245,45 +132,136 @@ fn say_content_length<A: Allocator + Copy>(
     true
 }
 
-/// Where a field is: in trailers, or else in the request.
-fn place_of(cause: Cause) -> &'static str {
+/// What is wrong with the field that a cause is about, if that tells which field it is.
+fn fault_of(cause: Cause) -> Option<FieldFault> {
     match cause {
-        Cause::TrailersBadName
-        | Cause::TrailersBadValue
-        | Cause::TrailersConnectionField
-        | Cause::TrailersBadTe => ", in the trailers,",
-        _ => "",
+        Cause::BadName | Cause::TrailersBadName => Some(FieldFault::Name),
+        Cause::BadValue | Cause::TrailersBadValue => Some(FieldFault::Value),
+        Cause::UnknownPseudoField => Some(FieldFault::Unknown),
+        Cause::TrailersPseudoField => Some(FieldFault::Pseudo),
+        Cause::ConnectionField | Cause::TrailersConnectionField => Some(FieldFault::Connection),
+        Cause::BadTe | Cause::TrailersBadTe => Some(FieldFault::Te),
+        _ => None,
     }
+}
+
+/// The field that a cause is about.
+fn found<A: Allocator>(cause: Cause, fields: &[SpelledField<A>]) -> Option<&SpelledField<A>> {
+    match fault_of(cause) {
+        Some(fault) => fields.get(first_wrong(fault, 0, fields)?),
+        None => double_pseudo(fields),
+    }
+}
+
+/// The words before and after the name of a field, or the value of te, that a cause is about (RFC 9113, 8.1 to 8.3).
+fn words_around(cause: Cause) -> &'static (&'static str, &'static str) {
+    match cause {
+        Cause::BadName => &("the name \"", "\" has "),
+        Cause::TrailersBadName => &("the name \"", "\", in the trailers, has "),
+        Cause::BadValue => &("the value of \"", "\""),
+        Cause::TrailersBadValue => &("the value of \"", "\", in the trailers,"),
+        Cause::UnknownPseudoField => &("\"", "\" is no pseudo-field of a request"),
+        Cause::DoublePseudoField => &("\"", "\" is there twice"),
+        Cause::TrailersPseudoField => &("trailers have no pseudo-field, and here is \"", "\""),
+        Cause::ConnectionField => &("\"", "\" belongs to HTTP/1.1 connections"),
+        Cause::TrailersConnectionField => {
+            &("\"", "\", in the trailers, belongs to HTTP/1.1 connections")
+        }
+        Cause::BadTe => &("te is \"", "\"; it may only be trailers"),
+        Cause::TrailersBadTe => &("te, in the trailers, is \"", "\"; it may only be trailers"),
+        _ => &("", ""),
+    }
+}
+
+/// What is shown of the field that a cause is about: the value of te, the name of others.
+fn shown_of<A: Allocator>(cause: Cause, field: &SpelledField<A>) -> &[u8] {
+    match cause {
+        Cause::BadTe | Cause::TrailersBadTe => field.value.as_slice(),
+        _ => field.name.as_slice(),
+    }
+}
+
+/// Puts the octet of a name last that may not be in it, and what would have been right.
+fn say_name_octet<A: Allocator>(name: &[u8], out: &mut TextBuilder<A>) {
+    if let Some(octet) = bad_octet_of_name(name) {
+        say_octet(octet, out);
+        say_repair(octet, out);
+    }
+}
+
+/// Puts last what is wrong with a value: an octet, or a blank at an end.
+fn say_value_octet<A: Allocator>(value: &[u8], out: &mut TextBuilder<A>) {
+    match bad_octet_of_value(value) {
+        Some(octet) => {
+            say_all!(out; " has ");
+            say_octet(octet, out);
+        }
+        None => say_blank_end(value, out),
+    }
+}
+
+/// Puts last that a field has an empty name.
+fn say_empty_name<A: Allocator>(cause: Cause, out: &mut TextBuilder<A>) {
+    let name = match cause {
+        Cause::TrailersBadName => "a field, in the trailers, has an empty name",
+        _ => "a field has an empty name",
+    };
+    say_all!(out; name);
+}
+
+/// The sentence of a field that a cause is about.
+fn say_found<A: Allocator>(cause: Cause, field: &SpelledField<A>, out: &mut TextBuilder<A>) {
+    let shown = shown_of(cause, field);
+    if shown.is_empty() && is_of_name(cause) {
+        say_empty_name(cause, out);
+        return;
+    }
+    let around = words_around(cause);
+    say_all!(out; around.0, Cut(shown), around.1);
+    if is_of_name(cause) {
+        say_name_octet(shown, out);
+    } else if is_of_value(cause) {
+        say_value_octet(field.value.as_slice(), out);
+    }
+}
+
+/// Whether a cause is about a name that may not be.
+fn is_of_name(cause: Cause) -> bool {
+    matches!(cause, Cause::BadName | Cause::TrailersBadName)
+}
+
+/// Whether a cause is about a value that may not be.
+fn is_of_value(cause: Cause) -> bool {
+    matches!(cause, Cause::BadValue | Cause::TrailersBadValue)
+}
+
+/// A pseudo-field after a regular field (RFC 9113, 8.3).
+fn say_late<A: Allocator>(fields: &[SpelledField<A>], out: &mut TextBuilder<A>) -> bool {
+    let Some((field, before)) = late_pseudo(fields) else {
+        return false;
+    };
+    let (late, regular) = (Cut(field.name.as_slice()), Cut(before.name.as_slice()));
+    say_all!(out; "\"", late, "\" comes after the field \"", regular, "\"");
+    true
 }
 
 /// The sentences of requests and trailers.
-pub(crate) fn say_field<A: Allocator + Copy>(
+pub(crate) fn say_field<A: Allocator>(
     cause: Cause,
-    context: ErrorContext<'_, '_, A>,
+    fields: &[SpelledField<A>],
     out: &mut TextBuilder<A>,
 ) -> bool {
-    let of = place_of(cause);
     match cause {
-        Cause::BadName | Cause::TrailersBadName => say_bad_name(context, of, out),
-        Cause::BadValue | Cause::TrailersBadValue => say_bad_value(context, of, out),
-        Cause::ConnectionField | Cause::TrailersConnectionField => {
-            say_connection_field(context, of, out)
+        Cause::LackingPseudoField => say_lacking(fields, out),
+        Cause::LatePseudoField => return say_late(fields, out),
+        Cause::BadContentLength | Cause::ContentMissing => {
+            return say_content_length(cause, fields, out);
         }
-        Cause::BadTe | Cause::TrailersBadTe => say_te(context, of, out),
-        Cause::BadContentLength | Cause::ContentMissing => say_content_length(cause, context, out),
-        Cause::TrailersPseudoField => say_trailers_pseudo(context, out),
-        _ => say_pseudo(cause, context, out),
+        _ if words_around(cause).1.is_empty() => return false,
+        _ => match found(cause, fields) {
+            Some(field) => say_found(cause, field, out),
+            None => return false,
+        },
     }
-}
-
-fn say_trailers_pseudo<A: Allocator + Copy>(
-    context: ErrorContext<'_, '_, A>,
-    out: &mut TextBuilder<A>,
-) -> bool {
-    let Some(field) = found(FieldFault::Pseudo, context) else {
-        return false;
-    };
-    say_all!(out;
-        "trailers have no pseudo-field, and here is \"", Cut(field.name.as_slice()), "\"");
     true
 }

@@ -6,7 +6,7 @@ ghost use Rattle.std.specs.Prelude.{◌≤◌};
 use h2_describe::say::{Cut, HexOctet, OctetCount, Ordinal, TextBuilder};
 use h2_describe::say_all;
 use h2_describe::sent::first_of;
-use h2_item::error_context::ErrorContext;
+use h2_describe::spelled::BlockReader;
 use h2_prim::{HuffFault, IntRead, StrAt, find_str, huff_read, read_int};
 use h2_spec::causes::Cause;
 use h2_spec::octets::octets_from;
@@ -119,9 +119,9 @@ fn say_flaw<A: Allocator>(flaw: Flaw, octets: &[u8], out: &mut TextBuilder<A>) {
 }
 
 /// Puts last which field it is, if the fields before it were all kept.
-fn say_place<A: Allocator + Copy>(context: ErrorContext<'_, '_, A>, out: &mut TextBuilder<A>) {
-    if context.reader.size() <= 65536 {
-        say_all!(out; " of the ", Ordinal(context.fields().len().saturating_add(1)), " field");
+fn say_place<A: Allocator + Copy>(reader: &BlockReader<A>, out: &mut TextBuilder<A>) {
+    if reader.size() <= 65536 {
+        say_all!(out; " of the ", Ordinal(reader.fields().len().saturating_add(1)), " field");
     }
 }
 
@@ -129,12 +129,12 @@ fn say_place<A: Allocator + Copy>(context: ErrorContext<'_, '_, A>, out: &mut Te
 fn say_name<A: Allocator + Copy>(
     alloc: A,
     name: NameIs<'_>,
-    context: ErrorContext<'_, '_, A>,
+    reader: &BlockReader<A>,
     out: &mut TextBuilder<A>,
 ) {
     match name {
         NameIs::Index(index) => {
-            if let Some((name, _)) = context.reader.field_at(index) {
+            if let Some((name, _)) = reader.field_at(index) {
                 say_all!(out; ", ", Cut(name), ",");
             }
         }
@@ -151,7 +151,7 @@ fn say_value<A: Allocator + Copy>(
     alloc: A,
     name: NameIs<'_>,
     octets: &[u8],
-    context: ErrorContext<'_, '_, A>,
+    reader: &BlockReader<A>,
     out: &mut TextBuilder<A>,
 ) -> bool {
     let StrAt::Whole(huffman, value, _) = find_str(octets) else {
@@ -160,8 +160,8 @@ fn say_value<A: Allocator + Copy>(
     match flaw_of(alloc, huffman, value) {
         Ok(Some(flaw)) => {
             say_all!(out; "the value");
-            say_place(context, out);
-            say_name(alloc, name, context, out);
+            say_place(reader, out);
+            say_name(alloc, name, reader, out);
             say_flaw(flaw, value, out);
             true
         }
@@ -173,7 +173,7 @@ fn say_value<A: Allocator + Copy>(
 fn say_named<A: Allocator + Copy>(
     alloc: A,
     octets: &[u8],
-    context: ErrorContext<'_, '_, A>,
+    reader: &BlockReader<A>,
     out: &mut TextBuilder<A>,
 ) -> bool {
     let StrAt::Whole(huffman, name, used) = find_str(octets) else {
@@ -182,13 +182,13 @@ fn say_named<A: Allocator + Copy>(
     match flaw_of(alloc, huffman, name) {
         Ok(Some(flaw)) => {
             say_all!(out; "the name");
-            say_place(context, out);
+            say_place(reader, out);
             say_flaw(flaw, name, out);
             true
         }
         Ok(None) => {
             let name = NameIs::Text(huffman, name);
-            say_value(alloc, name, behind(octets, used), context, out)
+            say_value(alloc, name, behind(octets, used), reader, out)
         }
         Err(_) => false,
     }
@@ -198,23 +198,23 @@ fn say_named<A: Allocator + Copy>(
 pub(crate) fn say_huffman<A: Allocator + Copy>(
     alloc: A,
     cause: Cause,
-    context: ErrorContext<'_, '_, A>,
+    reader: &BlockReader<A>,
     out: &mut TextBuilder<A>,
 ) -> bool {
     let Cause::HuffmanString = cause else {
         return false;
     };
-    let octets = context.reader.rest();
+    let octets = reader.rest();
     let Some(first) = octets.first() else {
         return false;
     };
     match read_int(prefix_of(*first), octets) {
-        IntRead::Whole(0, used) => say_named(alloc, behind(octets, used), context, out),
+        IntRead::Whole(0, used) => say_named(alloc, behind(octets, used), reader, out),
         IntRead::Whole(index, used) => say_value(
             alloc,
             NameIs::Index(index),
             behind(octets, used),
-            context,
+            reader,
             out,
         ),
         IntRead::More | IntRead::TooLong => false,

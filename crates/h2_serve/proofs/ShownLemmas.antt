@@ -1,5 +1,5 @@
 -- What is printed of connections that are explained, one after another.
-use Rattle.std.proofs.Common.{◌≡◌, ◌∙◌, ℕ, zero, suc, ◌+◌, Bool, true, false, List, [], ◌++◌, Option, Some, None, Result, Ok, Err, IfErr, IfOk, IsOk, OnOk, refl, sym, ap, subst, arith, append_assoc}
+use Rattle.std.proofs.Common.{◌≡◌, ◌<◌, ◌⊎◌, inr, ◌∙◌, ℕ, zero, suc, ◌+◌, Bool, true, false, List, [], ◌++◌, Option, Some, None, Result, Ok, Err, IfErr, IfOk, IsOk, OnOk, refl, sym, ap, subst, arith, append_assoc}
 use Rattle.std.proofs.lemmas.Bool.{false≢true}
 use Rattle.std.proofs.lemmas.List.{append-nil}
 use Rattle.std.specs.Io.KnownBytes.{Appends}
@@ -8,16 +8,16 @@ use Rattle.h2_drive.specs.declared.fault.DriveEnd.{DriveEnd}
 use Rattle.h2_drive.specs.declared.fault.DriveFault.{DriveFault}
 use Rattle.h2_explain.specs.declared.run.Form.{Form}
 use Rattle.h2_explain.specs.declared.run.Summary.{Summary}
-use Rattle.h2_serve.specs.Faults.{faults_limits}
+use Rattle.h2_serve.specs.Faults.{faults_limits, is_of_printing}
 use Rattle.h2_serve.specs.Lines.{end_line, listening_line, open_line}
 use Rattle.h2_serve.specs.Numbered.{prefix_of, prefixed}
-use Rattle.h2_serve.specs.Serves.{Gains}
-use Rattle.h2_serve.specs.Shown.{AreShown, FaultsNoLimits, GainsAllShown, GainsShown, IsShown, no_clients, with_client}
+use Rattle.h2_serve.specs.Serves.{Gains, opening_fault}
+use Rattle.h2_serve.specs.Shown.{AreShown, FaultsPrinting, GainsAllShown, GainsShown, GainsSomeShown, IsShown, no_clients, with_client}
 use Rattle.h2_serve.specs.Watched.{Shows}
 use Rattle.h2_serve.specs.declared.explained.Clients.{Clients}
 use Rattle.h2_serve.specs.declared.explained.ExplainedEnd.{ExplainedEnd}
 use Rattle.h2_serve.specs.declared.fault.ServeFault.{ServeFault}
-use Rattle.h2_serve.specs.declared.fault.ServeFault.TheVariants.{BadConfig, NoMemory}
+use Rattle.h2_serve.specs.declared.fault.ServeFault.TheVariants.{BadConfig, NoMemory, Socket, Write}
 
 appended : (l m : Option (List ℕ)) (xs b : List ℕ) → Appends l m b → l ≡ Some xs → m ≡ Some (xs ++ b)
 appended None m xs b h e = cc
@@ -125,10 +125,48 @@ listens-shown allowed form s port count k l n (Err fault) first refused lines = 
 
 -- ---- limits that are out of range
 
-pub explained-limits : (result : Result ExplainedEnd ServeFault) → IfOk result (λ x. IfErr x.summary (λ fault. faults_limits fault ≡ false))
-    → IfErr result (λ fault. fault ≡ NoMemory) → FaultsNoLimits result
+pub explained-limits : (result : Result ExplainedEnd ServeFault) → IfOk result (λ x. IfErr x.summary (λ fault. is_of_printing fault ≡ true))
+    → IfErr result (λ fault. fault ≡ NoMemory) → FaultsPrinting result
 explained-limits (Ok x) told none = told
-explained-limits (Err fault) told none = ap faults_limits none
+explained-limits (Err fault) told none = ap is_of_printing none
+
+-- a fault of printing says nothing of limits, and is none of the socket
+printing-limits : (fault : ServeFault) → is_of_printing fault ≡ true → faults_limits fault ≡ false
+printing-limits NoMemory is = refl
+printing-limits BadConfig is = absurd (false≢true is)
+printing-limits Write is = refl
+printing-limits Socket is = refl
+
+pub prints-no-limits : {X : Type 0} (result : Result X ServeFault) → IfErr result (λ fault. is_of_printing fault ≡ true) → IfErr result (λ fault. faults_limits fault ≡ false)
+prints-no-limits (Ok x) is = tt
+prints-no-limits (Err fault) is = printing-limits fault is
+
+printing-socket : (fault : ServeFault) (P : Type 0) → is_of_printing fault ≡ true → fault ≡ Socket → P
+printing-socket fault P is e = absurd (false≢true (sym (ap is_of_printing e) ∙ is))
+
+pub prints-no-socket : {X : Type 0} (result : Result X ServeFault) (P : Type 0) → IfErr result (λ fault. is_of_printing fault ≡ true) → IfErr result (λ fault. fault ≡ Socket → P)
+prints-no-socket (Ok x) P is = tt
+prints-no-socket (Err fault) P is = printing-socket fault P is
+
+-- nor is a fault of opening
+pub opens-no-socket : (allowed : Bool) (fault : ServeFault) (P : Type 0) → fault ≡ opening_fault allowed → fault ≡ Socket → P
+opens-no-socket true fault P is e = cc
+opens-no-socket false fault P is e = cc
+
+-- fewer connections were printed, where the next one was not accepted
+pub some-shown : (form : Form) (s : State) (front : List ℕ) (shown count : ℕ) (c : Clients) (before now after : Option (List ℕ)) → shown < count
+    → GainsAllShown form s front shown c before now → after ≡ now → GainsSomeShown form s front count before after
+some-shown form s front shown count c before now after few lines same =
+    (shown, few, (c, subst (λ (t : Option (List ℕ)). GainsAllShown form s front shown c before t) (sym same) lines))
+
+-- after the line of the port
+pub listens-some : (form : Form) (s : State) (front : List ℕ) (count : ℕ) (k l n : Option (List ℕ)) (result : Result Clients ServeFault) → Gains k l front
+    → IfErr result (λ fault. fault ≡ Socket → GainsSomeShown form s [] count l n)
+    → IfErr result (λ fault. fault ≡ Socket → (n ≡ k) ⊎ GainsSomeShown form s front count k n)
+listens-some form s front count k l n (Ok clients) first told = tt
+listens-some form s front count k l n (Err fault) first told = λ is.
+    let some = told is in
+    inr (some.0, some.1, (some.2.0, shown-after form s front some.0 some.2.0 k l n first some.2.1))
 
 -- after the line of the port
 pub listens-limits : (allowed : Bool) (front : List ℕ) (k l n : Option (List ℕ)) (result : Result Clients ServeFault) → Gains k l front

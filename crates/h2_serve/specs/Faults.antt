@@ -15,3 +15,10 @@ faults_limits NoMemory = false
 faults_limits BadConfig = true
 faults_limits Write = false
 faults_limits Socket = false
+
+-- whether a fault says that memory was refused, or that the output failed
+abbrev pub is_of_printing : ServeFault → Bool
+is_of_printing NoMemory = true
+is_of_printing BadConfig = false
+is_of_printing Write = true
+is_of_printing Socket = false

@@ -1,12 +1,12 @@
 -- What a server prints of connections that are explained, where the octets that its output holds are known; and the
 -- verdict on their clients.
-use Rattle.std.specs.Prelude.{◌≡◌, ℕ, zero, suc, ◌+◌, ◌++◌, ◌||◌, true, false, List, [], Option, Some, None, is_some, Result, Ok, Err, IfErr}
+use Rattle.std.specs.Prelude.{◌≡◌, ◌<◌, ℕ, zero, suc, ◌+◌, ◌++◌, ◌||◌, true, false, List, [], Option, Some, None, is_some, Result, Ok, Err, IfErr}
 use Rattle.h2_spec.specs.State.{State}
 use Rattle.h2_drive.specs.declared.fault.DriveEnd.{DriveEnd}
 use Rattle.h2_drive.specs.declared.fault.DriveFault.{DriveFault}
 use Rattle.h2_explain.specs.declared.run.Form.{Form}
 use Rattle.h2_explain.specs.declared.run.Summary.{Summary}
-use Rattle.h2_serve.specs.Faults.{faults_limits}
+use Rattle.h2_serve.specs.Faults.{is_of_printing}
 use Rattle.h2_serve.specs.Lines.{end_line, open_line}
 use Rattle.h2_serve.specs.Numbered.{prefix_of, prefixed}
 use Rattle.h2_serve.specs.Serves.{Gains}
@@ -57,7 +57,11 @@ abbrev pub GainsAllShown : Form → State → List ℕ → (count : ℕ) → Cli
 GainsAllShown form s front count clients before after =
     (all : List ℕ) × AreShown form s 1 count no_clients clients all × Gains before after (front ++ all)
 
--- a connection was explained, or not, and no fault of it says that a limit is out of range
-abbrev pub FaultsNoLimits : Result ExplainedEnd ServeFault → Type 0
-FaultsNoLimits (Ok x) = IfErr x.summary (λ fault. faults_limits fault ≡ false)
-FaultsNoLimits (Err fault) = faults_limits fault ≡ false
+-- the same of fewer than `count` connections
+abbrev pub GainsSomeShown : Form → State → List ℕ → (count : ℕ) → Option (List ℕ) → Option (List ℕ) → Type 0
+GainsSomeShown form s front count before after = (shown : ℕ) × (shown < count) × ((clients : Clients) × GainsAllShown form s front shown clients before after)
+
+-- a connection was explained, or not, and each fault of it is one of printing
+abbrev pub FaultsPrinting : Result ExplainedEnd ServeFault → Type 0
+FaultsPrinting (Ok x) = IfErr x.summary (λ fault. is_of_printing fault ≡ true)
+FaultsPrinting (Err fault) = is_of_printing fault ≡ true

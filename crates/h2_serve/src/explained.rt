@@ -1,15 +1,15 @@
 //! Connections of a TCP listener, one after another, that are explained as their octets come.
 //! Definitions: `specs/Watched.antt` and `specs/Shown.antt`.
 
-ghost use Rattle.std.specs.Prelude.{◌≡◌, ◌==◌, ℕ, List, [], false, true, IfErr, IfOk, IsOk, OnErr, OnOk, Ok, Err};
+ghost use Rattle.std.specs.Prelude.{◌≡◌, ◌⊎◌, ◌==◌, ℕ, List, [], false, true, IfErr, IfOk, IsOk, OnErr, OnOk, Ok, Err};
 ghost use Rattle.h2_conn.specs.Connection.{Connection, going};
 ghost use Rattle.h2_drive.specs.Drives.{Drives, HasRead, drive_state};
 ghost use Rattle.h2_explain.specs.Verdicts.{strict_status};
 ghost use Rattle.h2_spec.specs.State.{is_allowed, opening};
-ghost use Rattle.h2_serve.specs.Faults.{faults_limits};
+ghost use Rattle.h2_serve.specs.Faults.{faults_limits, is_of_printing};
 ghost use Rattle.h2_serve.specs.Lines.{end_line, listening_line};
 ghost use Rattle.h2_serve.specs.Serves.{Gains};
-ghost use Rattle.h2_serve.specs.Shown.{FaultsNoLimits, GainsAllShown, GainsShown, no_clients, with_client};
+ghost use Rattle.h2_serve.specs.Shown.{FaultsPrinting, GainsAllShown, GainsShown, GainsSomeShown, no_clients, with_client};
 ghost use Rattle.h2_serve.specs.Watched.{Shows};
 
 use crate::fault::ServeFault;
@@ -62,7 +62,7 @@ pub fn explain_over<W: Write, K: Keeper, S: Wire>(
     ensures shows { IfOk result (λ shown. IfOk shown.summary (λ summary.
         HasRead (Shows form number summary conn.entry.state (W.contents output.old) (W.contents output.new))
         (S.octets_read wire.old) (S.octets_read wire.new))) }
-    ensures fault { IfOk result (λ shown. IfErr shown.summary (λ fault. faults_limits fault ≡ false)) }
+    ensures fault { IfOk result (λ shown. IfErr shown.summary (λ fault. is_of_printing fault ≡ true)) }
     ensures err { IfErr result (λ fault. fault ≡ ServeFault.NoMemory) }
     ensures unchanged { OnErr result ((wire.new ≡ wire.old) × (out.new ≡ out.old)) }
     ensures not_printed { OnErr result (W.contents output.new ≡ W.contents output.old) }
@@ -108,7 +108,7 @@ fn explain_to_end<W: Write, K: Keeper>(
     requires new { conn ≡ going conn.state [] }
     ensures shows { IfOk result (λ shown. IfOk shown.summary (λ summary. (octets : List ℕ)
         × Shows form number summary conn.entry.state (W.contents output.old) (W.contents output.new) octets)) }
-    ensures fault { FaultsNoLimits result }
+    ensures fault { FaultsPrinting result }
 {
     // As for a connection that is not explained.
     let _unset = stream.set_nodelay(true);
@@ -137,7 +137,7 @@ fn print_end<W: Write>(
     ensures ok { OnOk result (IfOk shown (λ s. Gains (W.contents output.old) (W.contents output.new) (end_line number s.end))) }
     ensures summary { IfOk result (λ summary. IfOk shown (λ s. s.summary ≡ Ok summary)) }
     ensures known { OnOk result (IsOk shown) }
-    ensures fault { FaultsNoLimits shown → IfErr result (λ fault. faults_limits fault ≡ false) }
+    ensures fault { FaultsPrinting shown → IfErr result (λ fault. is_of_printing fault ≡ true) }
 {
     let shown = match shown {
         Ok(shown) => shown,
@@ -164,6 +164,7 @@ fn explain_next<W: Write, K: Keeper>(
     ensures shown { IfOk result (λ summary. GainsShown form (opening book.now config) number summary
         (W.contents output.old) (W.contents output.new)) }
     ensures fault { is_allowed config ≡ true → IfErr result (λ fault. faults_limits fault ≡ false) }
+    ensures socket { IfErr result (λ fault. fault ≡ ServeFault.Socket → W.contents output.new ≡ W.contents output.old) }
 {
     let stream = match accept(listener) {
         Ok(stream) => stream,
@@ -239,7 +240,8 @@ impl Clients {
 ///
 /// # Errors
 ///
-/// Those of `serve_on`; `Write` and `NoMemory` also where some of an explanation was not printed.
+/// Those of `serve_on`; `Write` and `NoMemory` also where some of an explanation was not printed. After `Socket` fewer connections
+/// are printed whole, and nothing else.
 pub fn explain_on<W: Write, K: Keeper>(
     alloc: Global,
     listener: &TcpListener,
@@ -254,6 +256,8 @@ pub fn explain_on<W: Write, K: Keeper>(
     ensures allowed { IfErr result (λ fault. faults_limits fault ≡ true → (is_allowed config ≡ false)
         × (W.contents output.new ≡ W.contents output.old)) }
     ensures shown { IfOk result (λ clients. GainsAllShown form (opening book.now config) [] count clients
+        (W.contents output.old) (W.contents output.new)) }
+    ensures socket { IfErr result (λ fault. fault ≡ ServeFault.Socket → GainsSomeShown form (opening book.now config) [] count
         (W.contents output.old) (W.contents output.new)) }
 {
     match open(book, config, &mut Vec::new(alloc)) {
@@ -301,6 +305,8 @@ pub fn listen_and_explain<N: Net<Listener = TcpListener, Stream = TcpStream>, W:
         × GainsAllShown form (opening book.now config) (listening_line port) count clients (W.contents output.old) (W.contents output.new)) }
     ensures allowed { IfErr result (λ fault. faults_limits fault ≡ true → (is_allowed config ≡ false)
         × Gains (W.contents output.old) (W.contents output.new) (listening_line port)) }
+    ensures socket { IfErr result (λ fault. fault ≡ ServeFault.Socket → (W.contents output.new ≡ W.contents output.old)
+        ⊎ GainsSomeShown form (opening book.now config) (listening_line port) count (W.contents output.old) (W.contents output.new)) }
 {
     let listener = match listen(net, port, output) {
         Ok(listener) => listener,

@@ -1,7 +1,7 @@
 //! Why a server stops, numbered as the faults of all crates are. Definitions: `specs/Serves.antt`.
 
-ghost use Rattle.std.specs.Prelude.{◌≡◌, false};
-ghost use Rattle.h2_serve.specs.Faults.{fault_number, faults_limits};
+ghost use Rattle.std.specs.Prelude.{◌≡◌, true};
+ghost use Rattle.h2_serve.specs.Faults.{fault_number, is_of_printing};
 
 use thiserror::Error;
 
@@ -48,7 +48,7 @@ pub(crate) enum TextFault {
 impl TextFault {
     /// The same, as a fault of a server.
     pub(crate) fn of_server(self) -> ServeFault
-        ensures { faults_limits result ≡ false }
+        ensures { is_of_printing result ≡ true }
     {
         match self {
             TextFault::NoMemory => ServeFault::NoMemory,

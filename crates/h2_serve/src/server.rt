@@ -10,6 +10,7 @@ use crate::fault::ServeFault;
 use crate::lines::{EndLine, ListeningLine};
 use h2_conn::{Conn, ConnFault};
 use h2_drive::{DriveEnd, DriveFault, Socket, drive};
+use h2_frame::{Outbox, Outgoing};
 use h2_request::book::Book;
 use h2_spec::connection::Config;
 use std::alloc::Global;
@@ -17,7 +18,7 @@ use std::fmt::Display;
 use std::io::{ErrorKind, Write};
 use std::net::{IpAddr, Ipv4Addr, Net, SocketAddr, TcpListener, TcpStream};
 
-/// The most turns of one connection; each is one read of at most 4,096 octets.
+/// The most turns of one connection; each is one read of at most 16,384 octets.
 pub(crate) const TURNS: u32 = 1_000_000;
 
 /// The most clients in a row that may go away before they are accepted.
@@ -39,10 +40,10 @@ pub(crate) fn print<W: Write, D: Display + Drop>(output: &mut W, line: D) -> Res
 }
 
 /// A new connection; its opening SETTINGS is appended to `out`.
-pub(crate) fn open<'b>(
+pub(crate) fn open<'b, O: Outgoing<'b, Global>>(
     book: &'b Book<Global>,
     config: Config,
-    out: &mut Vec<u8>,
+    out: &mut O,
 ) -> Result<Conn<'b, Global>, ServeFault>
     ensures ok { OnOk result (is_allowed config ≡ true) }
     ensures opened { IfOk result (λ conn. conn ≡ going (opening book.now config) []) }
@@ -83,9 +84,9 @@ pub(crate) fn accept(listener: &TcpListener) -> Result<TcpStream, ServeFault>
 }
 
 /// Drives a connection over a TCP connection to its end, and closes it.
-fn drive_to_end(
-    conn: &mut Conn<'_, Global>,
-    out: &mut Vec<u8>,
+fn drive_to_end<'b>(
+    conn: &mut Conn<'b, Global>,
+    out: &mut Outbox<'b, Global>,
     stream: TcpStream,
 ) -> Result<DriveEnd, DriveFault> {
     // Otherwise a small frame may be held back until the peer has acknowledged the one before. Where this fails, the
@@ -113,7 +114,7 @@ fn serve_next<W: Write>(
         Ok(stream) => stream,
         Err(fault) => return Err(fault),
     };
-    let mut out = Vec::new(alloc);
+    let mut out = Outbox::new(alloc);
     let mut conn = match open(book, config, &mut out) {
         Ok(conn) => conn,
         Err(fault) => return Err(fault),

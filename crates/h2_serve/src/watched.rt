@@ -3,7 +3,7 @@
 
 ghost use Rattle.std.specs.Prelude.{◌≡◌, ℕ, List, [], ◌++◌, Bool, true, false, None, IfErr, IfOk};
 ghost use Rattle.std.specs.Io.KnownBytes.{Appends};
-ghost use Rattle.h2_serve.specs.Faults.{faults_limits};
+ghost use Rattle.h2_serve.specs.Faults.{is_of_printing};
 ghost use Rattle.h2_serve.specs.Numbered.{PrintsPrefixed, prefixed};
 ghost use Rattle.h2_serve.specs.Watched.{Concludes, GoesOn, IsWatched, whole};
 ghost use Rattle.std.proofs.Common.{refl, ◌∙◌};
@@ -36,7 +36,7 @@ pub(crate) struct WatchedConn<'b, 'o, W, K> {
     pub(crate) failed: bool,
 }
 
-impl<W: Write, K: Keeper> Driven<Global> for WatchedConn<'_, '_, W, K> {
+impl<W: Write, K: Keeper> Driven<Vec<u8>> for WatchedConn<'_, '_, W, K> {
     ghost connection = { λ w. whole w.failed w.conn.state w.explanation.held.items };
 
     ghost is_ready = { λ w. IsWatched w.failed w.conn w.explanation w.came };
@@ -125,7 +125,7 @@ impl<'b, 'o, W: Write, K: Keeper> WatchedConn<'b, 'o, W, K> {
         ensures ended { IfOk result.0 (λ summary. Concludes self.entry.failed summary self.entry.conn self.entry.explanation
             (λ more. (self.entry.printer.fault ≡ None) × Appends (W.contents self.entry.printer.output.now) (W.contents result.1.now)
             (prefixed self.entry.printer.prefix.items self.entry.printer.json self.entry.printer.fresh more))) }
-        ensures fault { IfErr result.0 (λ fault. faults_limits fault ≡ false) }
+        ensures fault { IfErr result.0 (λ fault. is_of_printing fault ≡ true) }
         ensures same_reference { result.1.ghost_name ≡ self.entry.printer.output.ghost_name }
     {
         let mut watched = self;

@@ -1,5 +1,7 @@
 -- A line that is taken octet by octet.
-use Rattle.std.proofs.Common.{◌≡◌, ◌∙◌, ◌+◌, ◌<◌, ◌≤◌, ℕ, Bool, true, false, List, [], ◌∷◌, ◌++◌, Option, Some, None, length, take, nat_eq, nat_le, leb-true, leb-false, refl, ap, sym, arith}
+use Rattle.std.proofs.Common.{◌≡◌, ◌∙◌, ◌+◌, ◌<◌, ◌≤◌, ℕ, zero, suc, Bool, true, false, List, [], ◌∷◌, ◌++◌, Option, Some, None, length, take, nat_eq, nat_le, leb-true, leb-false, refl, ap, sym, append_assoc, arith}
+use Rattle.std.proofs.lemmas.List.Folds.{list_any-append}
+use Rattle.memchr.specs.Find.{Nowhere, Passes, is_byte}
 use Rattle.std.proofs.lemmas.List.{append-nil, length-append, take_all, take-append-le, length-take-le}
 use Rattle.std.specs.Io.KnownBytes.{Consumes, IsAtEnd}
 use Rattle.h2_session.specs.Commands.{longest}
@@ -85,3 +87,34 @@ no-octets (x ∷ xs) octets e n = absurd (cc (sym n ∙ e))
 pub some-octets : (line octets : List ℕ) → octets ≡ take longest line → 0 < length octets → 0 < length line
 some-octets [] octets e n = absurd (omega (arith, ap length e))
 some-octets (x ∷ xs) octets e n = omega arith
+
+-- the octets before the first line feed
+pub plain-front : (octets : List ℕ) (n : ℕ) → n ≤ length octets → Nowhere (Passes (is_byte 10) octets) 0 n → IsPlain (take n octets)
+plain-front octets zero le none = refl
+plain-front [] (suc n) le none = refl
+plain-front (x ∷ xs) (suc n) le none = go (nat_eq x 10) refl (plain-front xs n (omega arith) (λ k low high. none (suc k) (omega arith) (omega arith)))
+  where
+    go : (b : Bool) → nat_eq x 10 ≡ b → IsPlain (take n xs) → IsPlain (x ∷ take n xs)
+    go true e rest = absurd (none 0 (omega arith) (omega arith) e)
+    go false e rest = rw e rest
+
+pub plain-both : (xs ys : List ℕ) → IsPlain xs → IsPlain ys → IsPlain (xs ++ ys)
+plain-both xs ys p q = rw (list_any-append (λ octet. nat_eq octet 10) xs ys) (rw (p, q) refl)
+
+-- more octets of the line
+pub taken-part : (before mid after : Option (List ℕ)) (first last next : ℕ) (line part : List ℕ) → IsTaken before mid first last line → Consumes mid after part
+    → next ≡ last + length part → IsPlain part → IsTaken before after first next (line ++ part)
+taken-part before mid after first last next line part t c n p = record {
+  plain = plain-both line part t.plain p;
+  taken = takes-more before mid after line part t.taken c;
+  passed = omega (arith, t.passed, n, length-append line part);
+}
+
+-- its last octets, and its line feed
+pub taken-end : (before mid after : Option (List ℕ)) (first last next : ℕ) (line part : List ℕ) → IsTaken before mid first last line → Consumes mid after (part ++ 10 ∷ [])
+    → next ≡ last + length (part ++ 10 ∷ []) → IsPlain part → TakesLine before after first next (line ++ part)
+taken-end before mid after first last next line part t c n p = record {
+  plain = plain-both line part t.plain p;
+  taken = rw (append_assoc line part (10 ∷ [])) (takes-more before mid after line (part ++ 10 ∷ []) t.taken c);
+  passed = omega (arith, t.passed, n, length-append line part, length-append part (10 ∷ []));
+}

@@ -1,6 +1,5 @@
--- The lines of an input, and the octets that its first line spells in hex.
-use Rattle.std.specs.Prelude.{ℕ, ◌==◌, ◌||◌, Bool, not, List, [], ◌∷◌, if◌then◌else◌, filter, Option}
-use Rattle.h2_spec.specs.AnswerWords.{body_of}
+-- The lines of an input.
+use Rattle.std.specs.Prelude.{ℕ, ◌==◌, List, [], ◌∷◌, if◌then◌else◌}
 
 -- an octet at the front of the first of some lines
 abbrev pub onto_first : ℕ → List (List ℕ) → List (List ℕ)
@@ -20,11 +19,3 @@ onto_ended octet (line ∷ lines) = (octet ∷ line) ∷ lines
 abbrev pub ended_lines : List ℕ → List (List ℕ)
 ended_lines [] = []
 ended_lines (octet ∷ octets) = if octet == 10 then [] ∷ ended_lines octets else onto_ended octet (ended_lines octets)
-
--- what is no space, tab or carriage return
-abbrev pub is_digit : ℕ → Bool
-is_digit octet = not (octet == 32 || octet == 9 || octet == 13)
-
--- the octets that a line spells in hex, white space dropped
-abbrev pub octets_spelled : List ℕ → Option (List ℕ)
-octets_spelled line = body_of (filter is_digit line)

@@ -2,15 +2,12 @@
 use Rattle.std.specs.Prelude.{◌≡◌, ◌⊎◌, ◌<◌, ◌+◌, ◌++◌, ◌==◌, ℕ, Bool, true, false, List, [], ◌∷◌, length, Option, Some}
 use Rattle.std.specs.List.{list_any}
 use Rattle.std.specs.Io.KnownBytes.{Consumes, IsAtEnd, Keeps, prepend_known}
+pub use Rattle.h2_device.specs.Limit.{most}
 
 -- the octets that were read and not yet taken, and how many were taken
 pub record Reading : Type 0 where
   pub held : List ℕ
   pub passed : ℕ
-
--- the most octets that an input may have
-abbrev pub most : ℕ
-most = 16777216
 
 -- what is still to be taken, where the device reports what it has left
 abbrev pub ahead : Reading → Option (List ℕ) → Option (List ℕ)
@@ -31,6 +28,20 @@ pub record IsTaken (before after : Option (List ℕ)) (first last : ℕ) (line :
   pub plain : IsPlain line
   pub taken : Consumes before after line
   pub passed : last ≡ first + length line
+
+-- the line feed that ends a line
+abbrev pub feed_if : Bool → List ℕ
+feed_if true = 10 ∷ []
+feed_if false = []
+
+-- what is held of a line was taken, with the line feed that ends it, and put after what was before
+pub record TakesPart (before after : Reading) (line longer : List ℕ) (ended : Bool) : Type 0 where
+  pub part : List ℕ
+  pub plain : IsPlain part
+  pub longer_is : longer ≡ line ++ part
+  pub held : before.held ≡ (part ++ feed_if ended) ++ after.held
+  pub passed : after.passed ≡ before.passed + length (part ++ feed_if ended)
+  pub some : 0 < length (part ++ feed_if ended)
 
 -- a line was taken and its line feed, or the last line, which has none
 pub record TakesLine (before after : Option (List ℕ)) (first last : ℕ) (line : List ℕ) : Type 0 where

@@ -6,7 +6,8 @@ use Rattle.h2_spec.specs.declared.connection.Config.{Config}
 use Rattle.h2_spec.specs.Answer.{Entry}
 use Rattle.h2_debug.specs.Debugging.{Debugging}
 use Rattle.h2_session.specs.Commands.{Command, command_of}
-use Rattle.h2_session.specs.Lines.{ended_lines, lines_of, octets_spelled}
+use Rattle.h2_hex.specs.HexText.{octets_spelled}
+use Rattle.h2_session.specs.Lines.{ended_lines, lines_of}
 use Rattle.h2_session.specs.Reading.{most}
 use Rattle.h2_session.specs.Replies.{Obeys, fault_line}
 

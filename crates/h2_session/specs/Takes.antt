@@ -1,17 +1,16 @@
 -- What is taken of an input for a line, and why none is taken.
-use Rattle.std.specs.Prelude.{◌≡◌, ◌⊎◌, ◌<◌, ℕ, Bool, false, List, [], length, take, filter, Option, Some, None}
+use Rattle.std.specs.Prelude.{◌≡◌, ◌⊎◌, ◌<◌, ℕ, Bool, false, List, [], length, take, Option, Some, None}
 use Rattle.h2_session.specs.Commands.{longest}
-use Rattle.h2_session.specs.Lines.{is_digit}
 use Rattle.h2_session.specs.Reading.{TakesLast, TakesLine}
 use Rattle.h2_session.specs.declared.fault.SessionFault.{SessionFault}
 use Rattle.h2_session.specs.declared.fault.SessionFault.TheVariants.{BadHex, NoMemory, Read}
 use Rattle.h2_session.specs.declared.line.LineEnd.{LineEnd}
 use Rattle.h2_session.specs.declared.line.LineEnd.TheVariants.{Input, LineFeed}
 
--- the digits of a line that ends so
+-- a line that ends so
 abbrev pub TakesFirst : Option (List ℕ) → Option (List ℕ) → ℕ → ℕ → List ℕ → LineEnd → Type 0
-TakesFirst before after first last digits LineFeed = (line : List ℕ) × TakesLine before after first last line × (digits ≡ filter is_digit line)
-TakesFirst before after first last digits Input = (line : List ℕ) × TakesLast before after first last line × (digits ≡ filter is_digit line)
+TakesFirst before after first last line LineFeed = TakesLine before after first last line
+TakesFirst before after first last line Input = TakesLast before after first last line
 
 -- the first octets of a line that ends so; none where the input ended before
 abbrev pub TakesNext : Option (List ℕ) → Option (List ℕ) → ℕ → ℕ → List ℕ → Option LineEnd → Type 0

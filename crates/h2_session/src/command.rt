@@ -3,22 +3,11 @@
 
 ghost use Rattle.std.specs.Prelude.{◌≡◌, option_map};
 ghost use Rattle.h2_session.specs.Commands.{break_of, command_of, word_of};
-ghost use Rattle.h2_session.specs.Words.{asked_by, break_on};
+ghost use Rattle.h2_session.specs.Words.{asked_by};
+ghost use Rattle.h2_debug.specs.Breakpoints.{break_of as break_on};
 
+use h2_debug::Break;
 use h2_script::number_at;
-
-/// Where a run is to stop.
-#[derive(Clone, Copy)]
-pub enum Stop {
-    /// At this position.
-    At(u32),
-    /// After an item of this frame type (RFC 9113, 4.1).
-    Type(u8),
-    /// After an item on this stream.
-    Stream(u32),
-    /// After an item for which a frame of this type was sent.
-    Sent(u8),
-}
 
 /// What a line asks for.
 #[derive(Clone, Copy)]
@@ -32,7 +21,7 @@ pub enum Command {
     /// Go forward to the next breakpoint, or to the end.
     Run,
     /// Stop here in later runs.
-    Break(Stop),
+    Break(Break),
     /// Remove all breakpoints.
     Clear,
     /// Print the position, what its item sent, and the state.
@@ -42,20 +31,20 @@ pub enum Command {
 }
 
 /// Where `at N`, `type N`, `stream N` or `sent N` lets a run stop; `None` for any other text.
-fn break_of(text: &[u8]) -> Option<Stop>
+fn break_of(text: &[u8]) -> Option<Break>
     ensures { option_map break_on result ≡ break_of text.now }
 {
     if let Some(rest) = text.strip_prefix(b"at ".as_slice()) {
-        return Some(Stop::At(number_at(u32::MAX, rest)?));
+        return Some(Break::Position(number_at(u32::MAX, rest)? as usize));
     }
     if let Some(rest) = text.strip_prefix(b"type ".as_slice()) {
-        return Some(Stop::Type(number_at(255, rest)? as u8));
+        return Some(Break::Type(number_at(255, rest)? as u8));
     }
     if let Some(rest) = text.strip_prefix(b"stream ".as_slice()) {
-        return Some(Stop::Stream(number_at(u32::MAX, rest)?));
+        return Some(Break::Stream(number_at(u32::MAX, rest)?));
     }
     let rest = text.strip_prefix(b"sent ".as_slice())?;
-    Some(Stop::Sent(number_at(255, rest)? as u8))
+    Some(Break::Sent(number_at(255, rest)? as u8))
 }
 
 /// The command of one word that a line is; `None` for any other line.

@@ -1,10 +1,9 @@
 //! Lines that are taken from an input: the first one as the octets that it spells in hex, each other one as far as a
 //! command goes. Definitions: `specs/Lines.antt`, `specs/Reading.antt`.
 
-ghost use Rattle.std.specs.Prelude.{◌≡◌, ◌⊎◌, ◌<◌, ◌≤◌, false, [], ◌∷◌, ◌++◌, Some, None, filter, length, not, take, IfOk, IfErr, IfSome, OnOk, OnErr};
+ghost use Rattle.std.specs.Prelude.{◌≡◌, ◌⊎◌, ◌<◌, ◌≤◌, false, [], ◌∷◌, ◌++◌, Some, None, length, take, IfOk, IfErr, IfSome, OnOk, OnErr};
 ghost use Rattle.h2_session.specs.Commands.{longest};
-ghost use Rattle.h2_spec.specs.AnswerWords.{body_of};
-ghost use Rattle.h2_session.specs.Lines.{is_digit};
+ghost use Rattle.h2_hex.specs.HexText.{octets_spelled};
 ghost use Rattle.h2_session.specs.Reading.{IsCut, ahead, most};
 ghost use Rattle.h2_session.specs.declared.line.LineEnd.TheVariants.{Input};
 ghost use Rattle.h2_session.specs.Takes.{IsNoHex, IsRefused, TakesFirst, TakesNext};
@@ -13,8 +12,8 @@ use crate::fault::SessionFault;
 use crate::reader::{Reader, Unread};
 use arrayvec::ArrayVec;
 use h2_device::Input;
-use h2_hex::octets_of;
-use std::alloc::{AllocError, Global};
+use h2_hex::read_hex;
+use std::alloc::Global;
 
 /// More octets than any command has.
 pub const LONGEST: usize = 24;
@@ -31,63 +30,43 @@ pub enum LineEnd {
     Input,
 }
 
-/// Whether an octet is a space, a tab or a carriage return.
-fn is_space(octet: u8) -> bool
-    ensures { result ≡ not (is_digit octet) }
-{
-    octet == b' ' || octet == b'\t' || octet == b'\r'
-}
-
-/// Puts an octet after the others, unless it is a space, a tab or a carriage return.
-fn keep_digit(digits: &mut Vec<u8>, octet: u8) -> Result<(), AllocError>
-    ensures { OnOk result (digits.new.items ≡ digits.old.items ++ filter is_digit (octet ∷ [])) }
-{
-    if is_space(octet) {
-        return Ok(());
-    }
-    digits.push(octet)?;
-    Ok(())
-}
-
-/// Takes a line, and puts it after what is in `digits`, without its spaces, tabs and carriage returns. Says how it
-/// ends; where the input has ended it is empty.
+/// Takes a line, and puts it after what is in `line`, without its line feed. Says how it ends; where the input has ended
+/// it is empty.
 ///
 /// `Read` where nothing more can be taken, `NoMemory`.
-pub fn take_digits<I: Input>(
+pub fn take_line<I: Input>(
     reader: &mut Reader,
     input: &mut I,
-    digits: &mut Vec<u8>,
+    line: &mut Vec<u8>,
 ) -> Result<LineEnd, SessionFault>
     requires well { I.has_failed input.old ≡ false }
-    requires empty { digits.old.items ≡ [] }
-    ensures ok { IfOk result (λ end. TakesFirst (ahead reader.old (I.remaining input.old)) (ahead reader.new (I.remaining input.new)) reader.old.passed reader.new.passed digits.new.items end) }
+    requires empty { line.old.items ≡ [] }
+    ensures ok { IfOk result (λ end. TakesFirst (ahead reader.old (I.remaining input.old)) (ahead reader.new (I.remaining input.new)) reader.old.passed reader.new.passed line.new.items end) }
     ensures err { IfErr result (λ fault. IsRefused (I.has_failed input.new) (IsCut (ahead reader.old (I.remaining input.old)) (I.remaining input.new) reader.old.passed (I.has_failed input.new)) fault) }
     ensures within { OnOk result (reader.new.passed ≤ most) }
     ensures well { OnOk result (I.has_failed input.new ≡ false) }
     ensures name { I.name input.new ≡ I.name input.old }
 {
     loop {
-        let Ok(next) = reader.next(input) else {
-            return Err(SessionFault::Read);
-        };
-        let Some(octet) = next else {
-            return Ok(LineEnd::Input);
-        };
-        if octet == b'\n' {
-            return Ok(LineEnd::LineFeed);
+        match reader.fill(input) {
+            Ok(true) => {}
+            Ok(false) => return Ok(LineEnd::Input),
+            Err(_) => return Err(SessionFault::Read),
         }
-        let Ok(()) = keep_digit(digits, octet) else {
-            return Err(SessionFault::NoMemory);
-        };
+        match reader.take_part(line) {
+            Ok(false) => {}
+            Ok(true) => return Ok(LineEnd::LineFeed),
+            Err(_) => return Err(SessionFault::NoMemory),
+        }
     }
 }
 
-/// The octets that digits spell: `BadHex` where they spell none, and only elsewhere `NoMemory`.
-pub fn spelled(alloc: Global, digits: &[u8]) -> Result<Vec<u8>, SessionFault>
-    ensures ok { IfOk result (λ octets. body_of digits.now ≡ Some octets.items) }
-    ensures err { IfErr result (λ fault. IsNoHex (body_of digits.now) fault) }
+/// The octets that a line spells in hex: `BadHex` where it spells none, and only elsewhere `NoMemory`.
+pub fn spelled(alloc: Global, line: &[u8]) -> Result<Vec<u8>, SessionFault>
+    ensures ok { IfOk result (λ octets. octets_spelled line.now ≡ Some octets.items) }
+    ensures err { IfErr result (λ fault. IsNoHex (octets_spelled line.now) fault) }
 {
-    match octets_of(alloc, digits) {
+    match read_hex(alloc, line) {
         Ok(Some(octets)) => Ok(octets),
         Ok(None) => Err(SessionFault::BadHex),
         Err(_) => Err(SessionFault::NoMemory),

@@ -3,12 +3,13 @@
 ghost use Rattle.std.specs.Prelude.{◌≡◌, option_map, Some};
 ghost use Rattle.h2_session.specs.Commands.{Back, BreakOn, Run, Step};
 ghost use Rattle.h2_session.specs.Replies.{Obeys, moved_reply, reply_text, set_reply};
-ghost use Rattle.h2_session.specs.Words.{asked_by, break_on};
+ghost use Rattle.h2_session.specs.Words.{asked_by};
+ghost use Rattle.h2_debug.specs.Breakpoints.{break_of};
 
-use crate::command::{Command, Stop};
+use crate::command::Command;
 use crate::fault::SessionFault;
 use crate::reply::Reply;
-use h2_debug::{DebugFault, Debugger};
+use h2_debug::{Break, DebugFault, Debugger};
 use std::alloc::Global;
 
 /// The reply to a move.
@@ -53,15 +54,10 @@ fn set(answer: Result<(), DebugFault>) -> Reply
 }
 
 /// Lets later runs stop there.
-fn break_on(debugger: &mut Debugger<'_, Global>, stop: Stop) -> Reply
-    ensures { Obeys debugger.old (Some (BreakOn (break_on stop))) (reply_text debugger.new result) debugger.new }
+fn break_on(debugger: &mut Debugger<'_, Global>, stop: Break) -> Reply
+    ensures { Obeys debugger.old (Some (BreakOn (break_of stop))) (reply_text debugger.new result) debugger.new }
 {
-    match stop {
-        Stop::At(position) => set(debugger.break_at(position as usize)),
-        Stop::Type(kind) => set(debugger.break_type(kind)),
-        Stop::Stream(id) => set(debugger.break_stream(id)),
-        Stop::Sent(kind) => set(debugger.break_sent(kind)),
-    }
+    set(debugger.break_on(stop))
 }
 
 /// Does what a line asks for.

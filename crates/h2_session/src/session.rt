@@ -5,7 +5,7 @@ ghost use Rattle.std.specs.Prelude.{◌≡◌, ◌==◌, ◌-◌, ◌≤◌, ℕ
 ghost use Rattle.h2_spec.specs.State.{is_allowed};
 ghost use Rattle.h2_session.specs.Faults.{fault_number};
 ghost use Rattle.h2_session.specs.Commands.{command_of};
-ghost use Rattle.h2_spec.specs.AnswerWords.{body_of};
+ghost use Rattle.h2_hex.specs.HexText.{octets_spelled};
 ghost use Rattle.h2_session.specs.Reading.{ahead, most};
 ghost use Rattle.h2_session.specs.Replies.{Obeys, reply_text};
 ghost use Rattle.h2_session.specs.Session.{AnswersLine, IsFollowed, IsSession, Prints, Printed, failed};
@@ -15,13 +15,13 @@ ghost use Rattle.h2_session.specs.Loading.{Loads, load_fault};
 
 use crate::command::command_of;
 use crate::fault::SessionFault;
-use crate::line::{LineEnd, LineStart, next_line, spelled, take_digits};
+use crate::line::{LineEnd, LineStart, next_line, spelled, take_line};
 use crate::obey::obey;
 use crate::reader::Reader;
 use crate::reply::{FaultLine, Reply, ReplyText, write_flushed};
 use h2_debug::Debugger;
 use h2_device::{DeviceFault, Input, Output};
-use h2_hex::is_hex;
+use h2_hex::is_hex_text;
 use h2_request::book::Book;
 use h2_spec::connection::Config;
 use std::alloc::Global;
@@ -140,34 +140,33 @@ fn respond<I: Input, O: Output>(
     }
 }
 
-/// Why digits are not loaded where a limit or a setting is out of range: they are no hex, or it is for that. Takes no
-/// memory.
-fn refused_limits(digits: &[u8]) -> SessionFault
-    ensures { result ≡ load_fault (body_of digits.now) false }
+/// Why a line is not loaded where a limit or a setting is out of range: it is no hex, or it is for that. Takes no memory.
+fn refused_limits(line: &[u8]) -> SessionFault
+    ensures { result ≡ load_fault (octets_spelled line.now) false }
 {
-    if is_hex(digits) {
+    if is_hex_text(line) {
         SessionFault::BadConfig
     } else {
         SessionFault::BadHex
     }
 }
 
-/// A debugger over the octets that digits spell.
+/// A debugger over the octets that a line spells.
 ///
-/// `BadHex` where they spell none, then `BadConfig` where a limit or a setting is out of range; elsewhere `NoMemory`.
+/// `BadHex` where it spells none, then `BadConfig` where a limit or a setting is out of range; elsewhere `NoMemory`.
 fn load<'b>(
     alloc: Global,
     book: &'b Book<Global>,
     config: Config,
-    digits: Vec<u8>,
+    line: Vec<u8>,
 ) -> Result<Debugger<'b, Global>, SessionFault>
-    ensures ok { IfOk result (λ debugger. Loads book.now config (body_of digits.items) debugger) }
-    ensures err { IfErr result (λ fault. fault ≡ load_fault (body_of digits.items) (is_allowed config)) }
+    ensures ok { IfOk result (λ debugger. Loads book.now config (octets_spelled line.items) debugger) }
+    ensures err { IfErr result (λ fault. fault ≡ load_fault (octets_spelled line.items) (is_allowed config)) }
 {
     if !config.is_allowed() {
-        return Err(refused_limits(digits.as_slice()));
+        return Err(refused_limits(line.as_slice()));
     }
-    let octets = spelled(alloc, digits.as_slice())?;
+    let octets = spelled(alloc, line.as_slice())?;
     match Debugger::load(book, config, octets) {
         Ok(debugger) => Ok(debugger),
         Err(_) => Err(SessionFault::NoMemory),
@@ -196,10 +195,10 @@ pub fn debug_session<I: Input, O: Output>(
     ensures name { O.name output.new ≡ O.name output.old }
 {
     let mut reader = Reader::new();
-    let mut digits = Vec::new(alloc);
-    match take_digits(&mut reader, input, &mut digits) {
+    let mut line = Vec::new(alloc);
+    match take_line(&mut reader, input, &mut line) {
         Ok(end) => {
-            let mut loaded = load(alloc, book, config, digits);
+            let mut loaded = load(alloc, book, config, line);
             let status = respond(&mut loaded, end, &mut reader, input, output);
             drop(loaded);
             status

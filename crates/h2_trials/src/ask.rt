@@ -1,6 +1,6 @@
 //! What is asked of a debugger, as a word says it: `step=3`, `run`.
 
-use h2_debug::{DebugFault, Debugger};
+use h2_debug::{Break, DebugFault, Debugger};
 use std::alloc::Allocator;
 
 /// The name of a word, and its number; 0 where it has none.
@@ -42,10 +42,10 @@ fn set<A: Allocator + Copy>(
     number: u32,
 ) -> Result<(), DebugFault> {
     match name {
-        "at" => debugger.break_at(number as usize),
-        "type" => debugger.break_type(octet(number)),
-        "stream" => debugger.break_stream(number),
-        "sent" => debugger.break_sent(octet(number)),
+        "at" => debugger.break_on(Break::Position(number as usize)),
+        "type" => debugger.break_on(Break::Type(octet(number))),
+        "stream" => debugger.break_on(Break::Stream(number)),
+        "sent" => debugger.break_on(Break::Sent(octet(number))),
         _ => {
             debugger.clear();
             Ok(())

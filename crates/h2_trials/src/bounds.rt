@@ -1,19 +1,19 @@
 //! Bounds of memory: a connection and a splitter of frames in a heap that is no larger than they need.
 
-use crate::conns::{config_of, opened, taken};
+use crate::conns::{book_of, config_of, opened, taken};
 use crate::line::Call;
 use crate::trials::Answer;
 use h2_conn::Conn;
-use h2_frame::{Item, Splitter};
+use h2_frame::{Item, Outbox, Outgoing, Splitter};
 use h2_request::book::Book;
 use linked_list_allocator::LocalHeap;
 use std::alloc::{AllocError, Global};
 
 /// Whether a connection takes octets in pieces of 8,000 with the memory that is left, and goes on.
-fn takes_all<'h>(
-    conn: &mut Conn<'_, &'h LocalHeap>,
+fn takes_all<'b, 'h, O: Outgoing<'b, &'h LocalHeap>>(
+    conn: &mut Conn<'b, &'h LocalHeap>,
     octets: &[u8],
-    out: &mut Vec<u8, &'h LocalHeap>,
+    out: &mut O,
 ) -> bool {
     for piece in octets.chunks(8_000) {
         if taken(conn, piece, out).is_err() {
@@ -38,6 +38,43 @@ pub fn fits(alloc: Global, call: &Call<'_>) -> Result<Answer, AllocError> {
     let heap = LocalHeap::new(alloc, call.size(2))?;
     Ok(Answer {
         text: format!(in alloc; "{}", fits_in(&heap, call))?,
+        failed: false,
+    })
+}
+
+/// Whether a connection takes octets with this book and no more memory than the heap still has, and goes on.
+fn takes_with<'b, 'h, O: Outgoing<'b, &'h LocalHeap>>(
+    book: &'b Book<&'h LocalHeap>,
+    call: &Call<'_>,
+    out: &mut O,
+) -> bool {
+    match opened(book, config_of(call), out) {
+        Ok(mut conn) => takes_all(&mut conn, call.piece(0), out),
+        Err(_) => false,
+    }
+}
+
+/// As `fits_in` with the largest book of trials, where what is sent is kept by reference, or where it is copied.
+fn sends_in(heap: &LocalHeap, call: &Call<'_>, copies: bool) -> bool {
+    let Ok(book) = book_of(heap, 3) else {
+        return false;
+    };
+    if copies {
+        takes_with(&book, call, &mut Vec::new(heap))
+    } else {
+        takes_with(&book, call, &mut Outbox::new(heap))
+    }
+}
+
+/// Whether a connection takes octets with that much memory, the third number of the line, where bodies are lent by the
+/// book, and where they are copied.
+pub fn lends(alloc: Global, call: &Call<'_>) -> Result<Answer, AllocError> {
+    let heap = LocalHeap::new(alloc, call.size(2))?;
+    let lent = sends_in(&heap, call, false);
+    let other = LocalHeap::new(alloc, call.size(2))?;
+    let copied = sends_in(&other, call, true);
+    Ok(Answer {
+        text: format!(in alloc; "lent {lent}, copied {copied}")?,
         failed: false,
     })
 }

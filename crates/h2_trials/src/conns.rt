@@ -5,6 +5,7 @@ use crate::shown::Hex;
 use h2_conn::{Conn, ConnFault};
 use h2_device::string_of;
 use h2_fields::octets::Octets;
+use h2_frame::Outgoing;
 use h2_request::book::{Book, Entry};
 use h2_request::entry_fields::EntryFields;
 use h2_request::fault::BookFault;
@@ -53,7 +54,8 @@ fn add<A: Allocator + Copy>(
     book.add(entry_of(alloc, path, body, early)?)
 }
 
-/// Adds the answers of a trial: none at 0; at 1 `hi` to `GET /`; at 2 300 octets to `GET /`, and early `hi` to `GET /early`.
+/// Adds the answers of a trial: none at 0; at 1 `hi` to `GET /`; at 2 300 octets to `GET /`, and early `hi` to `GET /early`;
+/// at 3 60,000 octets to `GET /`.
 fn add_answers<A: Allocator + Copy>(
     alloc: A,
     book: &mut Book<A>,
@@ -62,10 +64,11 @@ fn add_answers<A: Allocator + Copy>(
     match which {
         0 => Ok(()),
         1 => add(alloc, book, b"/", b"hi", false),
-        _ => {
+        2 => {
             add(alloc, book, b"/", &[b'x'; 300], false)?;
             add(alloc, book, b"/early", b"hi", true)
         }
+        _ => add(alloc, book, b"/", &[b'x'; 60_000], false),
     }
 }
 
@@ -81,19 +84,19 @@ pub fn book_of<A: Allocator + Copy>(alloc: A, which: u64) -> Result<Book<A>, All
 // These have no clause, so that no proof above them carries the state of each call.
 
 /// A new connection.
-pub fn opened<'b, A: Allocator + Copy>(
+pub fn opened<'b, A: Allocator + Copy, O: Outgoing<'b, A>>(
     book: &'b Book<A>,
     config: Config,
-    out: &mut Vec<u8, A>,
+    out: &mut O,
 ) -> Result<Conn<'b, A>, ConnFault> {
     Conn::new(book, config, out)
 }
 
 /// Feeds octets: the number of items in them.
-pub fn taken<A: Allocator + Copy>(
-    conn: &mut Conn<'_, A>,
+pub fn taken<'b, A: Allocator + Copy, O: Outgoing<'b, A>>(
+    conn: &mut Conn<'b, A>,
     octets: &[u8],
-    out: &mut Vec<u8, A>,
+    out: &mut O,
 ) -> Result<usize, ConnFault> {
     conn.feed(octets, out)
 }

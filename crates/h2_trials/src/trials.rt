@@ -129,6 +129,7 @@ fn of_memory(alloc: Global, verb: &str, call: &Call<'_>, turn: u64) -> Result<An
         "grow" => heap::grown(alloc, turn),
         "room" => bounds::room(alloc, call),
         "fits" => bounds::fits(alloc, call),
+        "lends" => bounds::lends(alloc, call),
         _ => Err(AllocError),
     }
 }

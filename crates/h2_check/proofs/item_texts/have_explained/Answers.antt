@@ -2,8 +2,8 @@ use Rattle.std.proofs.Common.{◌∙◌, rules, tests}
 use Rattle.std.proofs.lemmas.Iterator.{YieldsList-from_slice}
 use Rattle.std.proofs.lemmas.Iterator.Search.{any_from_yields_List}
 use Rattle.h2_check.specs.ItemTexts.{says_explained}
-use Rattle.h2_check.specs.Lines.{line_said}
-use Rattle.h2_check.proofs.Lists.{any_lent}
+use Rattle.h2_cases.specs.Lines.{line_said}
+use Rattle.h2_cases.proofs.Lists.{any_lent}
 use Rattle.h2_check.proofs.item_texts.have_explained.Goals as goal
 
 pub returns : goal.returns

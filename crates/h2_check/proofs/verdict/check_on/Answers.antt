@@ -1,7 +1,7 @@
 use Rattle.std.proofs.Common.{◌∙◌, Bool, ap, map, refl}
 use Rattle.std.specs.String.{string_bytes}
 use Rattle.h2_check.specs.Cases.{Start, outcome}
-use Rattle.h2_check.specs.Files.{expect_something}
+use Rattle.h2_cases.specs.Files.{expect_something}
 use Rattle.h2_check.proofs.Going.{all_held, begun}
 use Rattle.h2_check.proofs.verdict.check_on.Goals as goal
 

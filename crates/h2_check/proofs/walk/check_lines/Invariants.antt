@@ -1,7 +1,7 @@
 use Rattle.std.proofs.Common.{◌≡◌, ◌&&◌, [], drop, map}
 use Rattle.h2_conn.specs.Connection.{going}
 use Rattle.h2_check.specs.Cases.{Start, all_hold}
-use Rattle.h2_check.specs.Lines.{line_said}
+use Rattle.h2_cases.specs.Lines.{line_said}
 use Rattle.h2_check.specs.Walks.{Begins, IsWithin, Walks, place_of}
 use Rattle.h2_check.proofs.walk.check_lines.Given as goal
 

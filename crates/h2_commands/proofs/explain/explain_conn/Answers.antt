@@ -3,7 +3,7 @@ use Rattle.h2_explain.specs.declared.run.Summary.{Summary}
 use Rattle.h2_explain.specs.declared.run.ExplainFault.{ExplainFault}
 use Rattle.h2_explain.specs.Explains.{IsExplanation, not_written}
 use Rattle.h2_commands.specs.ExplainProgram.{ReportsRun, explained_after}
-use Rattle.h2_commands.specs.declared.explain.ExplainEnd.{ExplainEnd}
+use Rattle.h2_commands.specs.declared.each.PrintFault.{PrintFault}
 use Rattle.h2_commands.proofs.Explained.{end-reports, status-of}
 use Rattle.h2_commands.proofs.explain.explain_conn.Goals as goal
 
@@ -20,6 +20,6 @@ returns-in-Err-clause-printed g c = λ well held is.
     let calm = sym (c.explain.ensures.flag ∙ ap (λ (r : Result Summary ExplainFault). not_written r) c.in-Err.is) ∙ well in (
       x.0,
       x.1,
-      subst (λ (e : ExplainEnd). ReportsRun c.args.form c.args.conn.now.state c.args.octets.now (explained_after c.args.form.json x.0 (Err e))) (sym c.end_of.ensures)
+      subst (λ (e : PrintFault). ReportsRun c.args.form c.args.conn.now.state c.args.octets.now (explained_after c.args.form.json x.0 (Err e))) (sym c.end_of.ensures)
           (end-reports c.args.form c.args.conn.now.state c.args.octets.now x.0 c.in-Err.fault explains calm),
     )

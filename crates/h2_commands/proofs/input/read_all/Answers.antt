@@ -14,12 +14,12 @@ returns-then-count-eq0-clause-ok g c = λ known is.
     sym (append-nil octets) ∙ ap (λ (t : List ℕ). octets ++ t) (sym none)
     ∙ read-whole (g.I.Input.remaining c.args.input.now) (g.I.Input.remaining c.read.new.self) (octets ++ last) known more (c.in-Ok.ensures.end c.if-count-eq0.true) is
 
-pub returns-then-len-count-gt-LIMIT-clause-err : goal.returns-then-len-count-gt-LIMIT-clause-err
-returns-then-len-count-gt-LIMIT-clause-err g c =
+pub returns-then-len-count-gt-MAX_INPUT-clause-err : goal.returns-then-len-count-gt-MAX_INPUT-clause-err
+returns-then-len-count-gt-MAX_INPUT-clause-err g c =
     let octets : List ℕ = c.loop-count.octets.items in
     let next : List ℕ = take c.in-Ok.count c.read.new.buffer in
     let more = read-more (g.I.Input.remaining c.args.input.now) (g.I.Input.remaining c.loop-count.input) (g.I.Input.remaining c.read.new.self) octets next c.loop-count.invariant.taken c.in-Ok.ensures.octets in
-    let long : most < length (octets ++ next) = omega (arith, length-append octets next, length-take-le c.in-Ok.count c.read.new.buffer c.in-Ok.ensures.bound, c.if-len-count-gt-LIMIT.true, c.len.ensures) in
+    let long : most < length (octets ++ next) = omega (arith, length-append octets next, length-take-le c.in-Ok.count c.read.new.buffer c.in-Ok.ensures.bound, c.if-len-count-gt-MAX_INPUT.true, c.len.ensures) in
     inr (
       refl,
       inr (
@@ -35,7 +35,7 @@ loop-count-preserved g c =
     let next : List ℕ = take c.in-Ok.count c.read.new.buffer in
     let items : c.extend_from_slice.new.self.items ≡ octets ++ next = c.in-Ok-extend_from_slice.ensures.items in
     record {
-      within = omega (arith, ap length items, length-append octets next, length-take-le c.in-Ok.count c.read.new.buffer c.in-Ok.ensures.bound, c.if-len-count-gt-LIMIT.false, c.len.ensures);
+      within = omega (arith, ap length items, length-append octets next, length-take-le c.in-Ok.count c.read.new.buffer c.in-Ok.ensures.bound, c.if-len-count-gt-MAX_INPUT.false, c.len.ensures);
       taken = rw items (read-more (g.I.Input.remaining c.args.input.now) (g.I.Input.remaining c.loop-count.input) (g.I.Input.remaining c.read.new.self) octets next c.loop-count.invariant.taken c.in-Ok.ensures.octets);
       name = c.read.ensures.name ∙ c.loop-count.invariant.name;
     }

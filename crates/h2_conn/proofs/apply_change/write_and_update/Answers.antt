@@ -14,8 +14,8 @@ returns-clause-sent g c =
     let a = c.args in
     let change = a.change.now in
     let now = updated_streams change.record_update a.streams.now.streams in
-    on_ok_weaker c.update_and_send.result (λ sent. in-outcome a.out.now.items c.write_change.new.out.items c.update_and_send.new.out.items (frames_of a.book.now change) (waiting_frames a.book.now change.core now) c.in_ok-write_change.ensures.ok
-    (sent ∙ ap (λ w. c.write_change.new.out.items ++ frames_octets (sent_frames a.book.now change.core.peer.frame w now)) c.open_window-window.ensures.window.0)) c.update_and_send.ensures.sent
+    on_ok_weaker c.update_and_send.result (λ sent. in-outcome (g.O.Outgoing.octets a.out.now) (g.O.Outgoing.octets c.write_change.new.out) (g.O.Outgoing.octets c.update_and_send.new.out) (frames_of a.book.now change) (waiting_frames a.book.now change.core now) c.in_ok-write_change.ensures.ok
+    (sent ∙ ap (λ w. (g.O.Outgoing.octets c.write_change.new.out) ++ frames_octets (sent_frames a.book.now change.core.peer.frame w now)) c.open_window-window.ensures.window.0)) c.update_and_send.ensures.sent
 
 pub returns-clause-short : goal.returns-clause-short
 returns-clause-short g c =

@@ -12,8 +12,8 @@ returns-clause-ok g c =
     let first = connection_frames change.connection_frame in
     let second = stream_frames change.stream_frame in
     let answer = answer_frames c.args.book.now change.answer in
-    let both = in-outcome c.args.out.now.items c.write_connection_frame.new.out.items c.write_stream_frame.new.out.items first second c.in_ok-write_connection_frame.ensures.ok c.in_ok-write_stream_frame.ensures.ok in
-    on_ok_weaker c.write_answer.result (λ e. in-outcome c.args.out.now.items c.write_stream_frame.new.out.items c.write_answer.new.out.items (first ++ second) answer both e) c.write_answer.ensures.ok
+    let both = in-outcome (g.O.Outgoing.octets c.args.out.now) (g.O.Outgoing.octets c.write_connection_frame.new.out) (g.O.Outgoing.octets c.write_stream_frame.new.out) first second c.in_ok-write_connection_frame.ensures.ok c.in_ok-write_stream_frame.ensures.ok in
+    on_ok_weaker c.write_answer.result (λ e. in-outcome (g.O.Outgoing.octets c.args.out.now) (g.O.Outgoing.octets c.write_stream_frame.new.out) (g.O.Outgoing.octets c.write_answer.new.out) (first ++ second) answer both e) c.write_answer.ensures.ok
 
 pub returns-clause-short : goal.returns-clause-short
 unfolding frames_of

@@ -11,7 +11,7 @@ returns-then-is_ended-clause-ok g c =
     (none-after c.args.state.now c.args.splitter.now.octets ended, refl, refl, refl)
 
 pub item-requires : goal.item-requires
-item-requires g c = record { short = item-short c.args.splitter.now c.limit.result (item_of c.in-Some.item) c.limit.ensures.few c.in-Some.ensures.item }
+item-requires g c = λ k. (search rules, item-short c.args.splitter.now c.limit.result (item_of c.in-Some.item) c.limit.ensures.few c.in-Some.ensures.item)
 
 pub returns-in-None-clause-ok : goal.returns-in-None-clause-ok
 returns-in-None-clause-ok g c =
@@ -28,7 +28,7 @@ returns-in-Ok-clause-ok g c =
     let left : c.next.follows.lender-at-none ≡ rest_after c.limit.result c.args.splitter.now = search rules in
     let goes : is_ended c.args.state.now.core.phase ≡ false = rw c.phase.ensures at (sym c.is_ended.ensures ∙ c.if-is_ended.false) in
     rw (left, c.limit.ensures.value)
-    (item-taken c.args.splitter.now c.args.state.now c.item.new.self (item_of c.in-Some.item) c.args.out.now.items c.item.new.out.items
+    (item-taken c.args.splitter.now c.args.state.now c.item.new.self (item_of c.in-Some.item) (g.O.Outgoing.octets c.args.out.now) (g.O.Outgoing.octets c.item.new.out)
     c.requires goes (rw c.limit.ensures.value at c.in-Some.ensures.item) c.in-Ok.ensures.ok)
 
 pub returns-in-Ok-clause-fits : goal.returns-in-Ok-clause-fits
@@ -36,5 +36,5 @@ returns-in-Ok-clause-fits g c =
     let left : c.next.follows.lender-at-none ≡ rest_after c.limit.result c.args.splitter.now = search rules in
     let goes : is_ended c.args.state.now.core.phase ≡ false = rw c.phase.ensures at (sym c.is_ended.ensures ∙ c.if-is_ended.false) in
     rw (left, c.limit.ensures.value)
-    (item-fits c.args.splitter.now c.args.state.now c.item.new.self (item_of c.in-Some.item) c.args.out.now.items c.item.new.out.items
+    (item-fits c.args.splitter.now c.args.state.now c.item.new.self (item_of c.in-Some.item) (g.O.Outgoing.octets c.args.out.now) (g.O.Outgoing.octets c.item.new.out)
     c.requires goes (rw c.limit.ensures.value at c.in-Some.ensures.item) c.in-Ok.ensures.ok)

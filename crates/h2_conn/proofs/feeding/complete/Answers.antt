@@ -12,7 +12,7 @@ use Rattle.h2_conn.proofs.feeding.complete.Goals as goal
 
 -- the item that the octets complete
 taken : (g : Over) (c : goal.Then-branch g)
-    → TakesOne (going c.args.state.now (left_by c.args.state.now.core.phase c.args.splitter.now.octets)) c.args.piece.now c.args.out.now.items (going c.offer.new.state (left_by c.offer.new.state.core.phase c.offer.new.splitter.octets)) c.offer.new.out.items (c.loop-splitter.used + c.missing-count.result)
+    → TakesOne (going c.args.state.now (left_by c.args.state.now.core.phase c.args.splitter.now.octets)) c.args.piece.now (g.O.Outgoing.octets c.args.out.now) (going c.offer.new.state (left_by c.offer.new.state.core.phase c.offer.new.splitter.octets)) (g.O.Outgoing.octets c.offer.new.out) (c.loop-splitter.used + c.missing-count.result)
     × (c.offer.new.splitter.octets ≡ [])
 taken g c =
     let i = c.loop-splitter.invariant in
@@ -22,7 +22,7 @@ taken g c =
     let fewer = rw c.limit-limit.ensures.value at c.missing-count.ensures.fewer in
     let some = rw (← value) at (some-missing c.args.state.now c.loop-splitter.splitter fits c.requires.goes none) in
     let takes = rw (c.if-branch.true, c.octets_up_to.ensures, c.octets_from-rest.ensures, i.same, i.quiet) at c.in_ok-offer.ensures.ok in
-    offered-taken c.args.state.now c.offer.new.state c.loop-splitter.splitter c.args.splitter.now.octets c.args.piece.now c.offer.new.splitter.octets c.args.out.now.items c.offer.new.out.items
+    offered-taken c.args.state.now c.offer.new.state c.loop-splitter.splitter c.args.splitter.now.octets c.args.piece.now c.offer.new.splitter.octets (g.O.Outgoing.octets c.args.out.now) (g.O.Outgoing.octets c.offer.new.out)
     c.loop-splitter.used c.missing-count.result c.missing-count.result fits c.requires.goes i.held some (omega arith)
     (omega (arith, i.within, c.if-rest-count.false, length-drop c.loop-splitter.used c.args.piece.now, ap length c.octets_from-rest.ensures)) fewer takes
 
@@ -51,7 +51,7 @@ held g c =
 pub returns-then-rest-count-clause-ok : goal.returns-then-rest-count-clause-ok
 returns-then-rest-count-clause-ok g c =
     rw (c.loop-splitter.invariant.same, c.loop-splitter.invariant.quiet, held g c)
-    (waits-all c.args.state.now c.args.splitter.now.octets c.args.piece.now c.args.out.now.items c.requires.goes (waits g c))
+    (waits-all c.args.state.now c.args.splitter.now.octets c.args.piece.now (g.O.Outgoing.octets c.args.out.now) c.requires.goes (waits g c))
 
 pub returns-then-rest-count-clause-rest : goal.returns-then-rest-count-clause-rest
 returns-then-rest-count-clause-rest g c = (

@@ -10,7 +10,7 @@ invariant-loop-splitter g l = record {
   fits : Fits l.splitter l.state.core.phase;
   held : l.splitter.octets ≡ l.fn.splitter.octets ++ take l.used l.piece;
   same : l.state ≡ l.fn.state;
-  quiet : l.out.items ≡ l.fn.out.items;
+  quiet : (g.O.Outgoing.octets l.out) ≡ (g.O.Outgoing.octets l.fn.out);
   none : next_item l.state l.splitter.octets ≡ NoItem;
   within : l.used ≤ length l.piece;
 }

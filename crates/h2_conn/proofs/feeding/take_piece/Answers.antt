@@ -8,12 +8,12 @@ use Rattle.h2_conn.proofs.feeding.take_piece.Goals as goal
 pub returns-then-is_ended-clause-ok : goal.returns-then-is_ended-clause-ok
 returns-then-is_ended-clause-ok g c =
     let ended : is_ended c.args.state.now.core.phase ≡ true = rw c.phase.ensures at (sym c.is_ended.ensures ∙ c.if-is_ended.true) in
-    ended-feeds c.args.state.now c.args.splitter.now.octets c.args.piece.now c.args.out.now.items ended
+    ended-feeds c.args.state.now c.args.splitter.now.octets c.args.piece.now (g.O.Outgoing.octets c.args.out.now) ended
 
 pub returns-in_err-one-clause-err : goal.returns-in_err-one-clause-err
 returns-in_err-one-clause-err g c =
     let same = c.in_err-one.ensures.err in
-    if_err c.from_residual.result (rw (same.0, same.1) (halts-at-once c.args.state.now _ c.args.piece.now c.args.out.now.items))
+    if_err c.from_residual.result (rw (same.0, same.1) (halts-at-once c.args.state.now _ c.args.piece.now (g.O.Outgoing.octets c.args.out.now)))
 
 pub returns-then-not-one-clause-ok : goal.returns-then-not-one-clause-ok
 returns-then-not-one-clause-ok g c = waits-feeds _ _ _ _ _ _ (one-waits _ _ _ _ _ c.in_ok-one.one (not-true c.in_ok-one.one.item c.if-not-one.true) c.in_ok-one.ensures.ok)

@@ -7,7 +7,7 @@ use Rattle.h2_conn.proofs.first.take_all.Goals as goal
 
 pub loop-used-init : goal.loop-used-init
 loop-used-init g c = record {
-  leads = leads-refl c.args.state.now c.args.octets.now c.args.out.now.items;
+  leads = leads-refl c.args.state.now c.args.octets.now (g.O.Outgoing.octets c.args.out.now);
   few = omega arith;
   within = omega arith;
 }

@@ -5,7 +5,7 @@ use Rattle.h2_conn.proofs.first.take_all.Given as goal
 
 abbrev pub invariant-loop-used : goal.invariant-loop-used
 invariant-loop-used g l = record {
-  leads : Leads l.fn.state l.octets l.fn.out.items l.items l.state (drop l.used l.octets) l.out.items;
+  leads : Leads l.fn.state l.octets (g.O.Outgoing.octets l.fn.out) l.items l.state (drop l.used l.octets) (g.O.Outgoing.octets l.out);
   few : l.items ≤ l.used;
   within : l.used ≤ length l.octets;
 }

@@ -1,4 +1,4 @@
-use Rattle.std.proofs.Common.{◌≡◌, ◌∙◌, false, true, refl, sym}
+use Rattle.std.proofs.Common.{◌≡◌, ◌∙◌, false, true, refl, sym, rules}
 use Rattle.h2_frame.specs.Items.{item_of}
 use Rattle.h2_conn.specs.Connection.{is_ended}
 use Rattle.h2_conn.proofs.FirstLaws.{first-none, first-short, first-taken}
@@ -11,7 +11,7 @@ returns-then-is_ended-clause-ok g c =
     record { none = none-after c.args.state.now c.args.octets.now ended; same = refl; quiet = refl }
 
 pub item-requires : goal.item-requires
-item-requires g c = record { short = first-short c.awaits_preface.result c.limit.result c.in-Some.used c.args.octets.now (item_of c.in-Some.item) c.limit.ensures.few c.in-Some.ensures.item }
+item-requires g c = λ k. (search rules, first-short c.awaits_preface.result c.limit.result c.in-Some.used c.args.octets.now (item_of c.in-Some.item) c.limit.ensures.few c.in-Some.ensures.item)
 
 pub returns-in-None-clause-ok : goal.returns-in-None-clause-ok
 returns-in-None-clause-ok g c =
@@ -23,4 +23,4 @@ pub returns-in-Ok-clause-ok : goal.returns-in-Ok-clause-ok
 returns-in-Ok-clause-ok g c =
     let goes : is_ended c.args.state.now.core.phase ≡ false = rw c.phase-phase.ensures at (sym c.is_ended.ensures ∙ c.if-is_ended.false) in
     let found = rw (c.awaits_preface.ensures, c.phase-phase.ensures, c.limit.ensures.value) at c.in-Some.ensures.item in
-    first-taken c.args.state.now c.item.new.self c.args.octets.now c.args.out.now.items c.item.new.out.items (item_of c.in-Some.item) c.in-Some.used goes found c.in-Ok.ensures.ok
+    first-taken c.args.state.now c.item.new.self c.args.octets.now (g.O.Outgoing.octets c.args.out.now) (g.O.Outgoing.octets c.item.new.out) (item_of c.in-Some.item) c.in-Some.used goes found c.in-Ok.ensures.ok

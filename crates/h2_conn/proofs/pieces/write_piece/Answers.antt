@@ -6,4 +6,4 @@ pub returns-clause-ok : goal.returns-clause-ok
 returns-clause-ok g c =
     let a = c.args in
     let more = octets_more a.id a.ends a.size a.at a.octets.now c.requires.size.0 c.requires.more in
-    rw (c.in_ok-append_frame.ensures.ok, c.octets_at.ensures, append_assoc, ← more) refl
+    rw (c.in_ok-lend_frame.ensures.ok, c.octets_at.ensures, append_assoc, ← more) refl

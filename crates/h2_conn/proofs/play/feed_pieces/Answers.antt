@@ -8,8 +8,8 @@ pub loop-length-init : goal.loop-length-init
 loop-length-init g c = record {
   within = omega arith;
   going = ap (λ (d : Connection). d.failed) c.requires;
-  fed = fed-none c.args.conn.now c.args.out.now.items c.requires;
-  kept = take-length c.args.out.now.items;
+  fed = fed-none c.args.conn.now (g.O.Outgoing.octets c.args.out.now) c.requires;
+  kept = take-length (g.O.Outgoing.octets c.args.out.now);
 }
 
 pub loop-length-preserved : goal.loop-length-preserved
@@ -18,7 +18,7 @@ loop-length-preserved g c = record {
   going = fed-going c.loop-length.conn c.feed.new.self _ _ _ (c.in-Ok.field-0, c.in-Ok.ensures.ok);
   fed = piece-fed c.args.conn.now c.loop-length.conn c.feed.new.self c.args.octets.now c.loop-length.at c.min-count.result _ _ _ _ c.octets_at.ensures c.loop-length.invariant.fed
       (c.in-Ok.field-0, c.in-Ok.ensures.ok);
-  kept = fed-kept c.loop-length.conn c.feed.new.self _ c.args.out.now.items c.loop-length.out.items c.feed.new.out.items (c.in-Ok.field-0, c.in-Ok.ensures.ok) c.loop-length.invariant.kept;
+  kept = fed-kept c.loop-length.conn c.feed.new.self _ (g.O.Outgoing.octets c.args.out.now) (g.O.Outgoing.octets c.loop-length.out) (g.O.Outgoing.octets c.feed.new.out) (c.in-Ok.field-0, c.in-Ok.ensures.ok) c.loop-length.invariant.kept;
 }
 
 pub returns-in-Ok-feed-clause-ok : goal.returns-in-Ok-feed-clause-ok
@@ -28,10 +28,10 @@ returns-in-Ok-feed-clause-ok g c =
 
 pub returns-in-Err-clause-kept : goal.returns-in-Err-clause-kept
 returns-in-Err-clause-kept g c =
-    halts-kept c.loop-length.conn c.feed.new.self _ c.args.out.now.items c.loop-length.out.items c.feed.new.out.items (c.in-Err.ensures.no_memory c.loop-length.invariant.going)
+    halts-kept c.loop-length.conn c.feed.new.self _ (g.O.Outgoing.octets c.args.out.now) (g.O.Outgoing.octets c.loop-length.out) (g.O.Outgoing.octets c.feed.new.out) (c.in-Err.ensures.no_memory c.loop-length.invariant.going)
     c.loop-length.invariant.kept
 
 pub returns-in-Err-feed-clause-kept : goal.returns-in-Err-feed-clause-kept
 returns-in-Err-feed-clause-kept g c =
-    halts-kept c.loop-length.conn c.feed-2.new.self _ c.args.out.now.items c.loop-length.out.items c.feed-2.new.out.items (c.in-Err-feed.ensures.no_memory c.loop-length.invariant.going)
+    halts-kept c.loop-length.conn c.feed-2.new.self _ (g.O.Outgoing.octets c.args.out.now) (g.O.Outgoing.octets c.loop-length.out) (g.O.Outgoing.octets c.feed-2.new.out) (c.in-Err-feed.ensures.no_memory c.loop-length.invariant.going)
     c.loop-length.invariant.kept

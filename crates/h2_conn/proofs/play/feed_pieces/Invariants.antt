@@ -6,6 +6,6 @@ abbrev pub invariant-loop-length : goal.invariant-loop-length
 invariant-loop-length g l = record {
   within : l.at ≤ length l.octets;
   going : l.conn.failed ≡ false;
-  fed : Fed l.fn.conn (take l.at l.octets) l.fn.out.items l.conn l.out.items;
-  kept : take (length l.fn.out.items) l.out.items ≡ l.fn.out.items;
+  fed : Fed l.fn.conn (take l.at l.octets) (g.O.Outgoing.octets l.fn.out) l.conn (g.O.Outgoing.octets l.out);
+  kept : take (length (g.O.Outgoing.octets l.fn.out)) (g.O.Outgoing.octets l.out) ≡ (g.O.Outgoing.octets l.fn.out);
 }

@@ -15,7 +15,7 @@ returns-clause-ok g c =
 pub returns-clause-grants : goal.returns-clause-grants
 returns-clause-grants g c =
     let a = c.args in
-    shown-within c.view_or_cut.result _ a.book.now a.config a.octets.now a.out.now.items c.open_and_feed.new.out.items c.view_or_cut.new.out.items c.view_or_cut.ensures.ok c.in_ok-conn.ensures.grants
+    shown-within c.view_or_cut.result _ a.book.now a.config a.octets.now (g.O.Outgoing.octets a.out.now) (g.O.Outgoing.octets c.open_and_feed.new.out) (g.O.Outgoing.octets c.view_or_cut.new.out) c.view_or_cut.ensures.ok c.in_ok-conn.ensures.grants
 
 pub returns-clause-unchanged : goal.returns-clause-unchanged
-returns-clause-unchanged g c = rw (c.as_slice-length.ensures.value, c.in_ok-conn.ensures.ok.sent, append_assoc, take-append_seam) at c.view_or_cut.ensures.cut
+returns-clause-unchanged g c = rw (c.len-length.ensures, c.in_ok-conn.ensures.ok.sent, append_assoc, take-append_seam) at c.view_or_cut.ensures.cut

@@ -1,4 +1,4 @@
-use Rattle.std.proofs.Common.{◌≡◌, ◌∙◌, false, true, refl, sym, ap}
+use Rattle.std.proofs.Common.{◌≡◌, ◌∙◌, false, true, refl, sym, ap, rules}
 use Rattle.h2_frame.specs.Items.{item_of}
 use Rattle.h2_conn.specs.Connection.{is_ended}
 use Rattle.h2_conn.specs.Reports.{reported}
@@ -17,7 +17,7 @@ returns-then-is_ended-clause-report g c =
     sym (ap (reported c.args.state.now) (item-over c.args.state.now c.args.octets.now ended))
 
 pub item-requires : goal.item-requires
-item-requires g c = record { short = first-short c.awaits_preface.result c.limit.result c.in-Some.used c.args.octets.now (item_of c.in-Some.item) c.limit.ensures.few c.in-Some.ensures.item }
+item-requires g c = λ k. (search rules, first-short c.awaits_preface.result c.limit.result c.in-Some.used c.args.octets.now (item_of c.in-Some.item) c.limit.ensures.few c.in-Some.ensures.item)
 
 pub returns-in-None-clause-ok : goal.returns-in-None-clause-ok
 returns-in-None-clause-ok g c =
@@ -35,7 +35,7 @@ pub returns-in-Ok-clause-ok : goal.returns-in-Ok-clause-ok
 returns-in-Ok-clause-ok g c =
     let goes : is_ended c.args.state.now.core.phase ≡ false = rw c.phase-phase.ensures at (sym c.is_ended.ensures ∙ c.if-is_ended.false) in
     let found = rw (c.awaits_preface.ensures, c.phase-phase.ensures, c.limit.ensures.value) at c.in-Some.ensures.item in
-    first-taken c.args.state.now c.item.new.self c.args.octets.now c.args.out.now.items c.item.new.out.items (item_of c.in-Some.item) c.in-Some.used goes found c.in-Ok.ensures.ok
+    first-taken c.args.state.now c.item.new.self c.args.octets.now (g.O.Outgoing.octets c.args.out.now) (g.O.Outgoing.octets c.item.new.out) (item_of c.in-Some.item) c.in-Some.used goes found c.in-Ok.ensures.ok
 
 pub returns-in-Ok-clause-report : goal.returns-in-Ok-clause-report
 returns-in-Ok-clause-report g c =

@@ -12,4 +12,4 @@ returns-clause-follows g c =
     (subst (λ (s : State). IsSoundState s.book s.core c.state.inside.streams) c.state.view_is c.state.invariant.0)
     c.last-rising.ensures.rising
     (subst (λ (s : State). IsOpenFor c.state.inside.streams s.block) c.state.view_is c.state.invariant.2) in
-    taken-follows c.report_first.result c.args.state.now c.report_first.new.state c.args.octets.now c.args.out.now.items c.report_first.new.out.items x c.report_first.ensures.ok
+    taken-follows c.report_first.result c.args.state.now c.report_first.new.state c.args.octets.now (g.O.Outgoing.octets c.args.out.now) (g.O.Outgoing.octets c.report_first.new.out) x c.report_first.ensures.ok

@@ -14,7 +14,7 @@ pub returns-then-none_sends-clause-sent : goal.returns-then-none_sends-clause-se
 returns-then-none_sends-clause-sent g c =
     let a = c.args in
     let none = sent-none a.book.now a.size a.window a.streams.now.streams (c.none_sends.ensures c.if-none_sends.true) in
-    sym (ap (λ fs. a.out.now.items ++ frames_octets fs) none ∙ append-nil a.out.now.items)
+    sym (ap (λ fs. (g.O.Outgoing.octets a.out.now) ++ frames_octets fs) none ∙ append-nil (g.O.Outgoing.octets a.out.now))
 
 pub returns-then-none_sends-clause-records : goal.returns-then-none_sends-clause-records
 returns-then-none_sends-clause-records g c =

@@ -1,4 +1,4 @@
-use Rattle.std.proofs.Common.{◌-◌, ◌++◌, ◌∙◌, ap, sym, arith, append_assoc}
+use Rattle.std.proofs.Common.{◌-◌, ◌++◌, ◌∙◌, ap, sym, arith, append_assoc, rules}
 use Rattle.std.proofs.lemmas.Grind.{common_steps, flat_map-append}
 use Rattle.std.proofs.lemmas.List.{append-nil}
 use Rattle.h2_spec.specs.Frame.{frame_octets, frames_octets}
@@ -14,7 +14,7 @@ loop-stream-init g c =
     let a = c.args in
     let s = a.streams.now in
     record {
-      sent = ap (λ fs. a.out.now.items ++ frames_octets fs) (all_frames a.book.now a.size 0 s.last a.window s.streams c.last-last.ensures.rising);
+      sent = ap (λ fs. (g.O.Outgoing.octets a.out.now) ++ frames_octets fs) (all_frames a.book.now a.size 0 s.last a.window s.streams c.last-last.ensures.rising);
       kept = grind (arith, common_steps);
     }
 
@@ -24,13 +24,19 @@ returns-then-left-eq0-clause-ok g c =
     let l = c.loop-stream in
     let ss = a.streams.now.streams in
     let none = ap (λ w. frames_above a.book.now a.size l.after w ss) c.if-left-eq0.true ∙ spent_frames a.book.now a.size l.after ss in
-    sym (append-nil l.out.items) ∙ ap (λ fs. l.out.items ++ frames_octets fs) (sym none) ∙ l.invariant.sent
+    sym (append-nil (g.O.Outgoing.octets l.out)) ∙ ap (λ fs. (g.O.Outgoing.octets l.out) ++ frames_octets fs) (sym none) ∙ l.invariant.sent
 
-pub write_next-requires-clause-body : goal.write_next-requires-clause-body
-write_next-requires-clause-body g c =
+pub write_next-requires : goal.write_next-requires
+write_next-requires g c =
     let a = c.args in
     let l = c.loop-stream in
-    found_all (HasBody a.book.now) (ready_above l.after) a.streams.now.streams c.in-Some.stream c.requires.bodies (sym c.next_stream.ensures.first ∙ c.in-Some.is)
+    λ k. (
+      search rules,
+      (
+        c.requires.size,
+        found_all (HasBody a.book.now) (ready_above l.after) a.streams.now.streams c.in-Some.stream c.requires.bodies (sym c.next_stream.ensures.first ∙ c.in-Some.is),
+      ),
+    )
 
 pub loop-stream-smaller : goal.loop-stream-smaller
 loop-stream-smaller g c =
@@ -55,11 +61,11 @@ loop-stream-preserved g c =
     let next = next_frames a.book.now a.size l.after 0 s.last l.left ss st c.last-last.ensures.rising found in
     record {
       sent =
-          ap (λ n. c.write_next.new.out.items ++ frames_octets (frames_above a.book.now a.size st.id (l.left - n) ss)) c.in_ok-left.ensures.allowance.0
+          ap (λ n. (g.O.Outgoing.octets c.write_next.new.out) ++ frames_octets (frames_above a.book.now a.size st.id (l.left - n) ss)) c.in_ok-left.ensures.allowance.0
           ∙ ap (λ xs. xs ++ frames_octets behind) c.in_ok-left.ensures.ok
-          ∙ append_assoc l.out.items (frames_octets here) (frames_octets behind)
-          ∙ ap (λ xs. l.out.items ++ xs) (sym (flat_map-append frame_octets here behind))
-          ∙ ap (λ fs. l.out.items ++ frames_octets fs) (sym next)
+          ∙ append_assoc (g.O.Outgoing.octets l.out) (frames_octets here) (frames_octets behind)
+          ∙ ap (λ xs. (g.O.Outgoing.octets l.out) ++ xs) (sym (flat_map-append frame_octets here behind))
+          ∙ ap (λ fs. (g.O.Outgoing.octets l.out) ++ frames_octets fs) (sym next)
           ∙ l.invariant.sent;
       kept = grind (arith, common_steps);
     }
@@ -70,4 +76,4 @@ returns-clause-ok g c =
     let l = c.loop-stream in
     let ss = a.streams.now.streams in
     let none = none_frames a.book.now a.size l.after l.left ss (sym c.next_stream.ensures.first ∙ c.in_default.is) in
-    sym (append-nil l.out.items) ∙ ap (λ fs. l.out.items ++ frames_octets fs) (sym none) ∙ l.invariant.sent
+    sym (append-nil (g.O.Outgoing.octets l.out)) ∙ ap (λ fs. (g.O.Outgoing.octets l.out) ++ frames_octets fs) (sym none) ∙ l.invariant.sent

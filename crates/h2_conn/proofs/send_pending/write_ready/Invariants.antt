@@ -1,4 +1,4 @@
-use Rattle.std.proofs.Common.{◌≡◌, ◌-◌, ◌++◌, take, vec_len}
+use Rattle.std.proofs.Common.{◌≡◌, ◌-◌, ◌++◌, take, length}
 use Rattle.h2_spec.specs.Frame.{frames_octets}
 use Rattle.h2_spec.specs.SendPending.{sent_frames}
 use Rattle.h2_conn.specs.Above.{frames_above}
@@ -8,8 +8,8 @@ abbrev pub invariant-loop-stream : goal.invariant-loop-stream
 invariant-loop-stream g l =
     let ss = l.streams.streams in
     record {
-      sent : l.out.items ++ frames_octets (frames_above l.book l.size l.after l.left ss) ≡ l.fn.out.items ++ frames_octets (sent_frames l.book l.size l.window ss);
-      kept : take (vec_len l.fn.out) l.out.items ≡ l.fn.out.items;
+      sent : (g.O.Outgoing.octets l.out) ++ frames_octets (frames_above l.book l.size l.after l.left ss) ≡ (g.O.Outgoing.octets l.fn.out) ++ frames_octets (sent_frames l.book l.size l.window ss);
+      kept : take (length (g.O.Outgoing.octets l.fn.out)) (g.O.Outgoing.octets l.out) ≡ (g.O.Outgoing.octets l.fn.out);
     }
 
 abbrev pub decreases-loop-stream : goal.decreases-loop-stream

@@ -35,7 +35,7 @@ returns-clause-count g c =
 pub returns-clause-sent : goal.returns-clause-sent
 returns-clause-sent g c =
     let a = c.args in
-    c.in_ok-allowance.ensures.ok ∙ ap (λ fs. a.out.now.items ++ frames_octets fs) (sym (sent-alone a.book.now a.size a.window a.stream.now a.streams.now.streams c.requires.alone))
+    c.in_ok-allowance.ensures.ok ∙ ap (λ fs. (g.O.Outgoing.octets a.out.now) ++ frames_octets fs) (sym (sent-alone a.book.now a.size a.window a.stream.now a.streams.now.streams c.requires.alone))
 
 pub returns-clause-records : goal.returns-clause-records
 returns-clause-records g c =

@@ -1,10 +1,14 @@
-use Rattle.std.proofs.Common.{◌≡◌, ◌∙◌, length, arith}
-use Rattle.h2_conn.proofs.PreparedLaws.{behind-on_stream}
+use Rattle.std.proofs.Common.{◌++◌, ◌∙◌, ℕ, List, ap, append_assoc, drop}
+use Rattle.std.proofs.lemmas.Result.{on_ok_weaker}
 use Rattle.h2_conn.proofs.write.write_prepared.Goals as goal
 
 pub returns-clause-ok : goal.returns-clause-ok
 returns-clause-ok g c =
     let a = c.args in
-    let n = c.len-start.result in
-    let count : length a.out.now.items ≡ n = omega arith in
-    c.set_stream.ensures ∙ behind-on_stream a.out.now.items a.prepared.now c.extend_from_slice.new.self.items n a.id count c.in_ok-extend_from_slice.ensures.items
+    let before = g.O.Outgoing.octets a.out.now in
+    let head = c.head_on_stream-head.result in
+    on_ok_weaker c.append_lent.result
+    (λ sent. sent ∙ append_assoc before head c.octets_from.result.now
+    ∙ ap (λ (xs : List ℕ). before ++ (head ++ xs)) c.octets_from.ensures
+    ∙ ap (λ (xs : List ℕ). before ++ (xs ++ drop 9 a.prepared.now)) c.head_on_stream-head.ensures)
+    c.append_lent.ensures.ok

@@ -8,9 +8,9 @@ invariant-loop-turn g l = record {
   exchanges : Exchanges false
       (drive_state (g.S.Wire.octets_read l.fn.wire) (g.S.Wire.octets_written l.fn.wire)
       (g.S.Wire.read_lengths l.fn.wire)
-      l.fn.out.items (g.D.Driven.connection l.fn.driven))
+      (g.O.Pending.pending l.fn.out) (g.D.Driven.connection l.fn.driven))
       (drive_state (g.S.Wire.octets_read l.wire) (g.S.Wire.octets_written l.wire) (g.S.Wire.read_lengths l.wire)
-      l.out.items (g.D.Driven.connection l.driven))
+      (g.O.Pending.pending l.out) (g.D.Driven.connection l.driven))
       lengths;
   count : length lengths ≡ l._turn;
   nonempty : AreNonempty lengths;
@@ -20,5 +20,5 @@ invariant-loop-turn g l = record {
   ready : g.D.Driven.is_ready l.driven;
   passes : HasRead (λ octets. g.D.Driven.passes false l.fn.driven octets l.driven) (g.S.Wire.octets_read l.fn.wire) (g.S.Wire.octets_read l.wire);
   flag : g.S.Wire.has_failed l.wire ≡ false;
-  empty : l.out.items ≡ [];
+  empty : g.O.Pending.pending l.out ≡ [];
 }

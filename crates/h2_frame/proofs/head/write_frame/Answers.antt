@@ -20,5 +20,5 @@ returns-clause-ok g c = c.append_frame.ensures.ok
 
 pub returns-clause-read_back : goal.returns-clause-read_back
 returns-clause-read_back g c =
-    read_back c.append_frame.result c.args.out.now.items c.append_frame.new.out.items c.args.head.now c.args.payload.now
+    read_back c.append_frame.result (g.O.Outgoing.octets c.args.out.now) (g.O.Outgoing.octets c.append_frame.new.out) c.args.head.now c.args.payload.now
     c.requires.length c.requires.fits c.requires.stream c.append_frame.ensures.ok

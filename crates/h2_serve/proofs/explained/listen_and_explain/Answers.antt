@@ -1,5 +1,5 @@
 use Rattle.h2_serve.specs.Lines.{listening_line}
-use Rattle.h2_serve.proofs.ShownLemmas.{listens-limits, listens-shown}
+use Rattle.h2_serve.proofs.ShownLemmas.{listens-limits, listens-shown, listens-some}
 use Rattle.h2_serve.proofs.explained.listen_and_explain.Goals as goal
 
 pub returns-clause-shown : goal.returns-clause-shown
@@ -10,3 +10,7 @@ returns-clause-shown g c =
 pub returns-clause-allowed : goal.returns-clause-allowed
 returns-clause-allowed g c =
     listens-limits _ (listening_line c.args.port) _ (g.W.Write.contents c.listen.new.output) _ c.explain_on.result c.in-Ok.ensures.ok c.explain_on.ensures.allowed
+
+pub returns-clause-socket : goal.returns-clause-socket
+returns-clause-socket g c =
+    listens-some _ _ (listening_line c.args.port) c.args.count _ (g.W.Write.contents c.listen.new.output) _ c.explain_on.result c.in-Ok.ensures.ok c.explain_on.ensures.socket

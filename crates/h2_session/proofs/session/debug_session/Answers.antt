@@ -23,7 +23,7 @@ pub returns-in-Ok-clause-printed : goal.returns-in-Ok-clause-printed
 returns-in-Ok-clause-printed g c = λ well octets held knows out.
     let start = none-held c.new-reader.result.held _ c.new-reader.ensures.0 ∙ knows in
     let rest = g.I.Input.remaining c.respond-status.new.input in
-    session-responded c.args.book.now c.args.config octets held c.take_digits.new.digits.items c.load-loaded.result c.in-Ok.end c.new-reader.result.passed c.take_digits.new.reader.passed
-    (ahead c.new-reader.result (g.I.Input.remaining c.args.input.now)) (ahead c.take_digits.new.reader (g.I.Input.remaining c.take_digits.new.input)) rest
+    session-responded c.args.book.now c.args.config octets held c.take_line.new.line.items c.load-loaded.result c.in-Ok.end c.new-reader.result.passed c.take_line.new.reader.passed
+    (ahead c.new-reader.result (g.I.Input.remaining c.args.input.now)) (ahead c.take_line.new.reader (g.I.Input.remaining c.take_line.new.input)) rest
     (g.I.Input.has_failed c.respond-status.new.input) (g.O.Output.written c.respond-status.new.output) c.respond-status.result start c.new-reader.ensures.1 c.in-Ok.ensures.within c.in-Ok.ensures.ok
     c.load-loaded.ensures.ok c.load-loaded.ensures.err (rw (well, out) at c.respond-status.ensures.ok) (rw (well, out) at c.respond-status.ensures.err) c.respond-status.ensures.unread c.respond-status.ensures.last

@@ -1,7 +1,7 @@
 use Rattle.std.proofs.Common.{◌≡◌, sym}
 use Rattle.std.proofs.lemmas.Result.{on_ok_weaker}
-use Rattle.h2_check.specs.Lines as line
-use Rattle.h2_check.specs.Lines.{line_said}
+use Rattle.h2_cases.specs.Lines as line
+use Rattle.h2_cases.specs.Lines.{line_said}
 use Rattle.h2_check.proofs.Going.{goes_cause, goes_explained, goes_reason, goes_shown}
 use Rattle.h2_check.proofs.walk.Walk.take_line.Goals as goal
 

@@ -1,4 +1,4 @@
-use Rattle.std.proofs.Common.{◌≡◌, ℕ, refl, sym, ap, subst, ◌∙◌}
+use Rattle.std.proofs.Common.{◌≡◌, ℕ, refl, sym, ap, subst, ◌∙◌, rules}
 use Rattle.h2_spec.specs.declared.connection.ConnectionState.{ConnectionState}
 use Rattle.h2_spec.specs.declared.flow.LocalSettings.{LocalSettings}
 use Rattle.h2_spec.specs.State.{State}
@@ -15,13 +15,19 @@ use Rattle.h2_conn.proofs.SentLaws.{sent-sound}
 use Rattle.h2_rules.proofs.SoundLaws.{changed-sound, same-own}
 use Rattle.h2_conn.proofs.state.State.apply_in_place.Goals as goal
 
-pub send_and_update-requires-clause-sends : goal.send_and_update-requires-clause-sends
-send_and_update-requires-clause-sends g c =
+pub send_and_update-requires : goal.send_and_update-requires
+send_and_update-requires g c =
     let inside = c.self.inside in
     let state = c.self.invariant.0 in
     let change = c.args.change.now in
     let sound = inside-sound inside.book.now inside.core inside.streams change state (subst (λ (s : State). IsSoundChange s.book (records s) (in_force s.core) change) (sym c.self.view_is) c.requires.sound) in
-    can-send inside.book.now inside.core inside.streams change state sound
+    λ k. (
+      search rules,
+      (
+        search rules,
+        can-send inside.book.now inside.core inside.streams change state sound,
+      ),
+    )
 
 pub invariant_of-self : goal.invariant_of-self
 invariant_of-self g c =
@@ -48,9 +54,9 @@ returns-in-Ok-clause-ok g c =
     let change = c.args.change.now in
     let held : State = record { book = inside.book.now; config = inside.config; core = inside.core; block = inside.block; table = inside.table.table; streams = inside.streams.streams } in
     let counts = counts-sent change.core (updated_streams change.record_update inside.streams.streams) c.in-Ok.count c.set_counts.new.core c.in-Ok.ensures.count.0 c.set_counts.ensures in
-    subst (λ (s : State). Does (then_sent change.core.phase (made s change)) c.args.out.now.items
-    (record held { core = c.set_counts.new.core; streams = c.send_and_update.new.streams.streams }) c.send_and_update.new.out.items) c.self.view_is
-    (did held change inside.streams c.send_and_update.new.streams c.set_counts.new.core c.args.out.now.items c.send_and_update.new.out.items
+    subst (λ (s : State). Does (then_sent change.core.phase (made s change)) (g.O.Outgoing.octets c.args.out.now)
+    (record held { core = c.set_counts.new.core; streams = c.send_and_update.new.streams.streams }) (g.O.Outgoing.octets c.send_and_update.new.out)) c.self.view_is
+    (did held change inside.streams c.send_and_update.new.streams c.set_counts.new.core (g.O.Outgoing.octets c.args.out.now) (g.O.Outgoing.octets c.send_and_update.new.out)
     refl counts c.in-Ok.ensures.records c.in-Ok.ensures.sent c.in-Ok.ensures.short)
 
 pub set_counts-requires-clause-same : goal.set_counts-requires-clause-same

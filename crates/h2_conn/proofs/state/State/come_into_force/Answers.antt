@@ -1,4 +1,4 @@
-use Rattle.std.proofs.Common.{◌≡◌, refl, sym, ap, subst, ◌∙◌}
+use Rattle.std.proofs.Common.{◌≡◌, refl, sym, ap, subst, ◌∙◌, rules}
 use Rattle.h2_spec.specs.declared.connection.ConnectionState.{ConnectionState}
 use Rattle.h2_spec.specs.declared.reactions.Change.{Change}
 use Rattle.h2_spec.specs.Change.{made, updated_streams}
@@ -16,12 +16,18 @@ use Rattle.h2_conn.proofs.SentLaws.{sent-sound}
 use Rattle.h2_rules.proofs.SoundLaws.{in-force-sound}
 use Rattle.h2_conn.proofs.state.State.come_into_force.Goals as goal
 
-pub send_and_update-requires-clause-sends : goal.send_and_update-requires-clause-sends
-send_and_update-requires-clause-sends g c =
+pub send_and_update-requires : goal.send_and_update-requires
+send_and_update-requires g c =
     let inside = c.self.inside in
     let own = c.configured-own.result in
     let range = subst AreInRange (sym c.configured-own.ensures) c.self.invariant.3 in
-    subst (λ (x : Change). CanSend inside.book.now inside.streams x.record_update) (sym c.comes_into_force-change.ensures) (can-come inside.book.now inside.core own inside.streams range c.self.invariant.0)
+    λ k. (
+      search rules,
+      (
+        search rules,
+        subst (λ (x : Change). CanSend inside.book.now inside.streams x.record_update) (sym c.comes_into_force-change.ensures) (can-come inside.book.now inside.core own inside.streams range c.self.invariant.0),
+      ),
+    )
 
 pub invariant_of-self-in-Ok : goal.invariant_of-self-in-Ok
 invariant_of-self-in-Ok g c =
@@ -46,14 +52,14 @@ returns-in-Ok-clause-ok g c =
     let inside = c.self.inside in
     let own = c.configured-own.result in
     let change = c.comes_into_force-change.result in
-    let out = c.args.out.now.items in
+    let out = (g.O.Outgoing.octets c.args.out.now) in
     let now = c.send_and_update.new in
     let held : State = record { book = inside.book.now; config = inside.config; core = inside.core; block = inside.block; table = inside.table.table; streams = inside.streams.streams } in
     let sent : State = record held { core = c.with_sent-self-inside.result; streams = now.streams.streams } in
     let counts = counts-sent change.core (updated_streams change.record_update inside.streams.streams) c.in-Ok.count c.with_sent-self-inside.result c.in-Ok.ensures.count.0 c.with_sent-self-inside.ensures in
-    let does = did held change inside.streams now.streams c.with_sent-self-inside.result out now.out.items refl counts c.in-Ok.ensures.records c.in-Ok.ensures.sent c.in-Ok.ensures.short in
+    let does = did held change inside.streams now.streams c.with_sent-self-inside.result out (g.O.Outgoing.octets now.out) refl counts c.in-Ok.ensures.records c.in-Ok.ensures.sent c.in-Ok.ensures.short in
     let is : change ≡ comes_into_force inside.core (configured inside.config) = c.comes_into_force-change.ensures ∙ ap (comes_into_force inside.core) c.configured-own.ensures in
-    let came = subst (λ (x : Change). Does (then_sent x.core.phase (made held x)) out sent now.out.items) is does in
+    let came = subst (λ (x : Change). Does (then_sent x.core.phase (made held x)) out sent (g.O.Outgoing.octets now.out)) is does in
     let kept : c.lower_limit.new.self.table ≡ inside.table.table = ap (λ (t : LimitedTable). t.table) c.lower_limit.ensures ∙ ap (λ (t : LimitedTable). t.table) c.in_ok-set_limit.ensures.limited in
-    let whole = subst (λ (t : Table). Does (then_sent inside.core.phase (made held (comes_into_force inside.core (configured inside.config)))) out (record sent { table = t }) now.out.items) (sym kept) came in
-    subst (λ (s : State). Does (then_sent s.core.phase (made s (comes_into_force s.core (configured s.config)))) out (record sent { table = c.lower_limit.new.self.table }) now.out.items) c.self.view_is whole
+    let whole = subst (λ (t : Table). Does (then_sent inside.core.phase (made held (comes_into_force inside.core (configured inside.config)))) out (record sent { table = t }) (g.O.Outgoing.octets now.out)) (sym kept) came in
+    subst (λ (s : State). Does (then_sent s.core.phase (made s (comes_into_force s.core (configured s.config)))) out (record sent { table = c.lower_limit.new.self.table }) (g.O.Outgoing.octets now.out)) c.self.view_is whole

@@ -20,8 +20,8 @@ commit-requires g c =
     let edit = c.args.edit.now in
     let table = c.self.inside.table in
     let effect = subst (λ e. IsSoundEffect s.book (records s) (in_force s.core) (limited s.core.own.table s.table) edit (after_of c.args.decoding.now c.args.tentative) e) c.in-Makes.is c.requires.sound in
-    let same : table.table ≡ s.table = ap (λ (x : State). x.table) c.self.view_is ∙ same-table s c.apply_change.new.self c.in-Makes.change c.args.out.now.items c.apply_change.new.out.items c.in-Ok-apply_change.ensures.ok in
-    let own = same-settings s c.apply_change.new.self c.in-Makes.change c.args.out.now.items c.apply_change.new.out.items effect.0 c.in-Ok-apply_change.ensures.ok in
+    let same : table.table ≡ s.table = ap (λ (x : State). x.table) c.self.view_is ∙ same-table s c.apply_change.new.self c.in-Makes.change (g.O.Outgoing.octets c.args.out.now) (g.O.Outgoing.octets c.apply_change.new.out) c.in-Ok-apply_change.ensures.ok in
+    let own = same-settings s c.apply_change.new.self c.in-Makes.change (g.O.Outgoing.octets c.args.out.now) (g.O.Outgoing.octets c.apply_change.new.out) effect.0 c.in-Ok-apply_change.ensures.ok in
     let limit : table.limit ≡ s.core.own.table = c.self.invariant.1 ∙ ap (λ (x : State). x.core.own.table) c.self.view_is ∙ ap (λ (o : LocalSettings). o.table) own in
     record { belongs = subst (λ (l : ℕ). IsEdit (limited l table.table) edit) (sym limit) (subst (λ (t : Table). IsEdit (limited s.core.own.table t) edit) (sym same) effect.1) }
 
@@ -33,7 +33,7 @@ invariant_of-self g c =
     let effect = subst (λ e. IsSoundEffect s.book (records s) (in_force s.core) (limited s.core.own.table s.table) c.args.edit.now after e) c.in-Makes.is c.requires.sound in
     let held = ap (λ (x : State). x.streams) (sym c.self.view_is) in
     let is = c.block_after-block.ensures ∙ ap (block_after c.in-Makes.shown) c.take_over.ensures in
-    let opened = open-then s c.apply_change.new.self inside.streams c.in-Makes.change (block_after c.in-Makes.shown after) c.args.out.now.items c.apply_change.new.out.items effect.0 effect.2 c.in-Ok-apply_change.ensures.ok
+    let opened = open-then s c.apply_change.new.self inside.streams c.in-Makes.change (block_after c.in-Makes.shown after) (g.O.Outgoing.octets c.args.out.now) (g.O.Outgoing.octets c.apply_change.new.out) effect.0 effect.2 c.in-Ok-apply_change.ensures.ok
     held (c.self.invariant.0.last ∙ ap (λ (x : State). x.core.last) c.self.view_is) in
     (c.self.invariant.0, ap (λ (t : LimitedTable). t.limit) c.commit.ensures ∙ c.self.invariant.1, subst (λ (b : Option OpenBlock). IsOpenFor inside.streams b) (sym is) opened, c.self.invariant.3)
 
@@ -43,16 +43,16 @@ returns-in-Ok-apply_change-clause-ok g c =
     let edit = c.args.edit.now in
     let now = after_of c.args.decoding.now c.args.tentative in
     let change = c.in-Makes.change in
-    let out = c.args.out.now.items in
+    let out = (g.O.Outgoing.octets c.args.out.now) in
     let inside = c.self.inside in
     let held : State = record { book = inside.book.now; config = inside.config; core = inside.core; block = inside.block; table = inside.table.table; streams = inside.streams.streams } in
-    let did = subst (λ (x : State). Does (then_sent change.core.phase (made s change)) out x c.apply_change.new.out.items) (sym c.self.view_is) c.in-Ok-apply_change.ensures.ok in
+    let did = subst (λ (x : State). Does (then_sent change.core.phase (made s change)) out x (g.O.Outgoing.octets c.apply_change.new.out)) (sym c.self.view_is) c.in-Ok-apply_change.ensures.ok in
     let after = edited s.table.entries edit in
     let block = block_after c.in-Makes.shown now in
     let is = c.block_after-block.ensures ∙ ap (block_after c.in-Makes.shown) c.take_over.ensures in
-    let kept : c.commit.new.self.table ≡ after = ap (λ (t : LimitedTable). t.table) c.commit.ensures ∙ ap (λ (t : Table). edited t.entries edit) (same-table s held change out c.apply_change.new.out.items did) in
+    let kept : c.commit.new.self.table ≡ after = ap (λ (t : LimitedTable). t.table) c.commit.ensures ∙ ap (λ (t : Table). edited t.entries edit) (same-table s held change out (g.O.Outgoing.octets c.apply_change.new.out) did) in
     let changed : State = record s { block = block; table = after } in
-    subst (λ e. Does (stepped (rule.concluded s (effect_seen s edit now e))) out (record held { block = c.block_after-block.result; table = c.commit.new.self.table }) c.apply_change.new.out.items) (sym c.in-Makes.is)
-    (subst (λ (b : Option OpenBlock). Does (then_sent change.core.phase (made changed change)) out (record held { block = b; table = c.commit.new.self.table }) c.apply_change.new.out.items) (sym is)
-    (subst (λ (t : Table). Does (then_sent change.core.phase (made changed change)) out (record held { block = block; table = t }) c.apply_change.new.out.items) (sym kept)
-    (rebound s held change block after out c.apply_change.new.out.items did)))
+    subst (λ e. Does (stepped (rule.concluded s (effect_seen s edit now e))) out (record held { block = c.block_after-block.result; table = c.commit.new.self.table }) (g.O.Outgoing.octets c.apply_change.new.out)) (sym c.in-Makes.is)
+    (subst (λ (b : Option OpenBlock). Does (then_sent change.core.phase (made changed change)) out (record held { block = b; table = c.commit.new.self.table }) (g.O.Outgoing.octets c.apply_change.new.out)) (sym is)
+    (subst (λ (t : Table). Does (then_sent change.core.phase (made changed change)) out (record held { block = block; table = t }) (g.O.Outgoing.octets c.apply_change.new.out)) (sym kept)
+    (rebound s held change block after out (g.O.Outgoing.octets c.apply_change.new.out) did)))

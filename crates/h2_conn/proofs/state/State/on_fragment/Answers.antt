@@ -17,8 +17,8 @@ returns-in-Ok-clause-ok g c =
     let mid = c.take_edit-edit.new.self in
     let frag : State → FrameEffect = λ s. headers.fragment s a.shown a.decoding.now a.octets.now a.end_headers in
     let is = subst (λ r. IfOk r (λ e. effect_seen mid edit after e ≡ frag mid)) c.in-Ok.is c.fragment-edit.ensures.effect in
-    let out = c.finish-result.new.out.items in
-    let P : State → FrameEffect → State → Type 0 = λ s e now. OnOk c.finish-result.result (Does (stepped (rule.concluded s e)) a.out.now.items now out) in
+    let out = (g.O.Outgoing.octets c.finish-result.new.out) in
+    let P : State → FrameEffect → State → Type 0 = λ s e now. OnOk c.finish-result.result (Does (stepped (rule.concluded s e)) (g.O.Outgoing.octets a.out.now) now out) in
     subst (λ (t : State). P a.self.now (frag a.self.now) t) (sym c.keep_edit.ensures)
     (subst (λ (s : State). P s (frag s) c.finish-result.new.self) c.take_edit-edit.ensures
     (subst (λ (e : FrameEffect). P mid e c.finish-result.new.self) is c.finish-result.ensures.ok))

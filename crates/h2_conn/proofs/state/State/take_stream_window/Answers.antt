@@ -11,9 +11,9 @@ use Rattle.h2_conn.proofs.state.State.take_stream_window.Goals as goal
 -- looking the record up changes nothing
 pub returns-clause-ok : goal.returns-clause-ok
 returns-clause-ok g c =
-    let out = c.conclude_in_place.new.out.items in
+    let out = (g.O.Outgoing.octets c.conclude_in_place.new.out) in
     let reaction : State → Reaction = λ s. rule.on_window s.core c.args.increment (stream_at s.core.last s.streams c.args.id) in
-    let P : State → Reaction → Type 0 = λ s r. OnOk c.conclude_in_place.result (Does (stepped (rule.concluded s (makes s r))) c.args.out.now.items c.conclude_in_place.new.self out) in
+    let P : State → Reaction → Type 0 = λ s r. OnOk c.conclude_in_place.result (Does (stepped (rule.concluded s (makes s r))) (g.O.Outgoing.octets c.args.out.now) c.conclude_in_place.new.self out) in
     subst (λ (s : State). P s (reaction s)) c.look_up.ensures (subst (λ (r : Reaction). P c.look_up.new.self r) c.on_stream_window-reaction.ensures.rule c.conclude_in_place.ensures.ok)
 
 pub returns-clause-verdict : goal.returns-clause-verdict

@@ -1,0 +1,3 @@
+pub mod CaseLists
+pub mod Lists
+pub mod Readings

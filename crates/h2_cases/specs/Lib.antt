@@ -1,0 +1,4 @@
+pub mod CaseWords
+pub mod Files
+pub mod Lines
+pub mod Shell

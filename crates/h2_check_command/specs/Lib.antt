@@ -1,0 +1,2 @@
+pub mod CaseSetups
+pub mod CheckProgram

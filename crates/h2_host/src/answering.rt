@@ -1,0 +1,228 @@
+//! What the words of the command line ask for is done over the devices that they name, and what there is to say about a fault
+//! is said.
+
+use crate::case_input::{CaseInput, case_input};
+use crate::commands::Commands;
+use crate::ending::{Ending, end};
+use crate::files::NamedFiles;
+use crate::input::{Given, Standard, input_of, is_session, refusal_for_devices};
+use crate::version;
+use h2_console::{Noted, WaitingOutput, Watched};
+use h2_device::{FromRead, IntoWrite, Output};
+use h2_words::Words;
+use h2_words::command::{Devices, Plan, Refusal, devices_of, parse};
+use std::cell::Cell;
+use std::io;
+use std::io::{BufWriter, Write};
+use std::process::ExitCode;
+
+/// How many octets of output are gathered before they are written.
+const GATHERED: usize = 32768;
+
+/// The words of the command line, the program's name first.
+fn words_of(rt: &HostRuntime) -> io::Result<Words> {
+    let mut words = Words::new(rt.alloc());
+    for word in std::env::args(rt)? {
+        words.add(word.as_str())?;
+    }
+    Ok(words)
+}
+
+/// Says why nothing is done: memory was refused, or a word is not UTF-8.
+fn refuse<W: Write>(output: &mut W, error: &io::Error) -> ExitCode {
+    let (text, status) = match error.kind() {
+        io::ErrorKind::InvalidData => ("error: a word of the command line is not UTF-8\n", 2),
+        _ => ("fault 0\n", 1),
+    };
+    match output.write_all(text.as_bytes()) {
+        Ok(()) => ExitCode::from(status),
+        Err(_) => ExitCode::from(3),
+    }
+}
+
+/// What words say of devices that say nothing of them.
+const NO_DEVICES: Devices<'static> = Devices {
+    file: "",
+    raw: false,
+    quiet: false,
+    prompt: "",
+};
+
+/// What the words say of devices. Where memory is refused for that, the words are refused for it.
+fn devices_said<'w>(
+    rt: &HostRuntime,
+    words: &'w Words,
+    asked: &mut Result<Plan<'w>, Refusal>,
+) -> Devices<'w> {
+    match devices_of(rt.alloc(), words) {
+        Some(devices) => devices,
+        None => {
+            if asked.is_ok() {
+                *asked = Err(Refusal::NoMemory);
+            }
+            NO_DEVICES
+        }
+    }
+}
+
+/// Runs a session over an input: its output is looked at on the way.
+fn run_session<C: Commands, O: Output, E: Output>(
+    rt: &HostRuntime,
+    commands: &C,
+    asked: &Result<Plan<'_>, Refusal>,
+    devices: Devices<'_>,
+    given: &mut Given<'_, '_, C>,
+    output: &mut O,
+    errors: &mut E,
+) -> u8 {
+    let mut files = NamedFiles { rt };
+    let has_dots = devices.prompt == "dot";
+    let position = given.position;
+    let line = given.first_command(devices);
+    let mut input = FromRead::new(&mut given.taken);
+    let mut watched = Watched::new(
+        rt.alloc(),
+        output,
+        rt.stderr(),
+        devices.quiet,
+        has_dots,
+        position,
+        line,
+    );
+    commands.carry_out(
+        rt.alloc(),
+        asked,
+        &mut files,
+        &mut input,
+        &mut watched,
+        errors,
+    )
+}
+
+/// Does what the words ask for over an input; gives the status, and whether a sentence was written for the book.
+fn carry_out_over<C: Commands, W: Write>(
+    rt: &HostRuntime,
+    commands: &C,
+    asked: &Result<Plan<'_>, Refusal>,
+    devices: Devices<'_>,
+    given: &mut Given<'_, '_, C>,
+    output: &mut W,
+) -> (u8, bool) {
+    let mut stderr = rt.stderr();
+    let mut errors = IntoWrite::new(&mut stderr);
+    let mut noted = Noted::new(&mut errors);
+    let mut output = IntoWrite::new(output);
+    if is_session(asked) {
+        let status = run_session(rt, commands, asked, devices, given, &mut output, &mut noted);
+        return (status, noted.is_written());
+    }
+    let mut files = NamedFiles { rt };
+    let mut input = FromRead::new(&mut given.taken);
+    let status = commands.carry_out(
+        rt.alloc(),
+        asked,
+        &mut files,
+        &mut input,
+        &mut output,
+        &mut noted,
+    );
+    (status, noted.is_written())
+}
+
+/// Writes why the words are refused, with status 2.
+fn refuse_words<W: Write>(output: &mut W, text: &str) -> ExitCode {
+    if output.write_all(text.as_bytes()).is_err() || output.flush().is_err() {
+        return ExitCode::from(3);
+    }
+    ExitCode::from(2)
+}
+
+/// Does what the words ask for, and says what is to be said about a fault; `case` is the input where that is a case.
+fn answer_over<'w, C: Commands>(
+    rt: &HostRuntime,
+    commands: &C,
+    words: &Words,
+    asked: &mut Result<Plan<'w>, Refusal>,
+    devices: Devices<'w>,
+    case: Option<Vec<u8>>,
+    gathered: &mut BufWriter<Standard<'_>>,
+) -> ExitCode {
+    let position = Cell::new(0usize);
+    let mut given = input_of(rt, commands, asked, devices, case, &position);
+    let (status, is_said) = match &*asked {
+        Ok(Plan::Serve(plan)) => commands.serve(rt, plan, gathered),
+        _ => carry_out_over(rt, commands, asked, devices, &mut given, gathered),
+    };
+    let status = match gathered.flush() {
+        Ok(()) => status,
+        Err(_) => 3,
+    };
+    let ending = Ending {
+        status,
+        is_said,
+        unwritten: gathered.get_ref().failure(),
+    };
+    if !devices.quiet {
+        end(rt, words, asked, &given, ending);
+    }
+    ExitCode::from(status)
+}
+
+/// Does what the words ask for over a case.
+fn answer_case<C: Commands>(
+    rt: &HostRuntime,
+    commands: &C,
+    case: CaseInput,
+    gathered: &mut BufWriter<Standard<'_>>,
+) -> ExitCode {
+    let CaseInput { words, text } = case;
+    let mut asked = parse(rt.alloc(), &words);
+    let devices = devices_said(rt, &words, &mut asked);
+    answer_over(
+        rt,
+        commands,
+        &words,
+        &mut asked,
+        devices,
+        Some(text),
+        gathered,
+    )
+}
+
+/// Does what the words ask for. The output is gathered into larger writes; where there is no memory for that, nothing
+/// is done.
+fn answer_words<C: Commands>(rt: &HostRuntime, commands: &C, words: &Words) -> ExitCode {
+    if version::is_asked(words) {
+        return version::print(rt);
+    }
+    let output = WaitingOutput::new(rt, rt.stdout());
+    let mut gathered = match BufWriter::with_capacity(rt.alloc(), GATHERED, output) {
+        Ok(gathered) => gathered,
+        Err(error) => return refuse(&mut rt.stdout(), &error),
+    };
+    let mut asked = parse(rt.alloc(), words);
+    let devices = devices_said(rt, words, &mut asked);
+    if let Some(text) = refusal_for_devices(&asked, devices) {
+        return refuse_words(&mut gathered, text);
+    }
+    match case_input(rt, words, &mut asked, devices) {
+        Some(case) => answer_case(rt, commands, case, &mut gathered),
+        None => answer_over(
+            rt,
+            commands,
+            words,
+            &mut asked,
+            devices,
+            None,
+            &mut gathered,
+        ),
+    }
+}
+
+/// Does what the words of the command line ask for, by these commands.
+pub fn answer<C: Commands>(rt: &HostRuntime, commands: &C) -> ExitCode {
+    match words_of(rt) {
+        Ok(words) => answer_words(rt, commands, &words),
+        Err(error) => refuse(&mut rt.stdout(), &error),
+    }
+}

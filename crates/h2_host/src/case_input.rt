@@ -1,0 +1,139 @@
+//! A case as the input of `explain FILE` and `debug --in FILE`: the words of its lines `;@` come after those of the command,
+//! and the octets of its script are the input.
+
+use crate::input::read_file;
+use h2_cases::{ShellFault, add_case_words};
+use h2_console::hex_of;
+use h2_device::MAX_INPUT;
+use h2_script::{ScriptFault, assemble};
+use h2_words::Words;
+use h2_words::command::{Devices, Plan, Refusal};
+use std::alloc::{AllocError, Global};
+use std::path::{Path, PathBuf};
+use std::str;
+
+/// What a case gives a command.
+#[derive(Drop)]
+pub struct CaseInput {
+    /// The words of the command, and after them those of the case.
+    pub words: Words,
+    /// The octets of its script, as hex.
+    pub text: Vec<u8>,
+}
+
+/// The path of a file whose octets a command reads, and that may be a case; empty where there is none.
+fn path_of<'w>(asked: &Result<Plan<'w>, Refusal>, devices: Devices<'w>) -> &'w str {
+    match asked {
+        _ if devices.raw => "",
+        Ok(Plan::Explain(explain)) => explain.file,
+        Ok(Plan::Debug(_)) => devices.file,
+        _ => "",
+    }
+}
+
+/// The path of a book that a case names, which starts from the directory of the case.
+fn book_place(alloc: Global, case: &str, book: &str) -> Result<PathBuf, AllocError> {
+    match Path::new(case).parent() {
+        Some(directory) => directory.join(alloc, book),
+        None => Path::new("").join(alloc, book),
+    }
+}
+
+/// Appends the words of a case to those of a command.
+fn add_all(
+    alloc: Global,
+    case: &str,
+    case_words: &Words,
+    words: &mut Words,
+) -> Result<(), AllocError> {
+    let mut names_book = false;
+    for word in case_words.as_slice() {
+        if names_book {
+            words.add(book_place(alloc, case, word)?.as_str())?;
+        } else if let Some(book) = word.strip_prefix("--book=") {
+            words.add("--book")?;
+            words.add(book_place(alloc, case, book)?.as_str())?;
+        } else {
+            words.add(word)?;
+        }
+        names_book = !names_book && word.as_str() == "--book";
+    }
+    Ok(())
+}
+
+/// The words of a command, and after them those of a case; `None` where a quote in the case is not closed.
+fn words_with(
+    alloc: Global,
+    words: &Words,
+    path: &str,
+    text: &str,
+) -> Result<Option<Words>, AllocError> {
+    let mut lines = Vec::new(alloc);
+    for line in text.split('\n') {
+        lines.push(line.as_bytes())?;
+    }
+    let mut case_words = Words::new(alloc);
+    match add_case_words(alloc, lines.as_slice(), &mut case_words) {
+        Ok(()) => {}
+        Err(ShellFault::NoMemory) => return Err(AllocError),
+        Err(ShellFault::Open) => return Ok(None),
+    }
+    let mut all = Words::new(alloc);
+    for word in words.as_slice() {
+        all.add(word)?;
+    }
+    add_all(alloc, path, &case_words, &mut all)?;
+    Ok(Some(all))
+}
+
+/// Whether a text is one case. Hex does not begin with a comment.
+fn is_case(text: &str) -> bool {
+    text.starts_with(';') && text.lines().filter(|line| line.starts_with(";# ")).count() < 2
+}
+
+/// What a file gives a command, where it is a case that can be read.
+fn case_at(rt: &HostRuntime, words: &Words, path: &str) -> Result<Option<CaseInput>, AllocError> {
+    let Ok(octets) = read_file(rt, path, MAX_INPUT) else {
+        return Ok(None);
+    };
+    let Ok(text) = str::from_utf8(octets.as_slice()) else {
+        return Ok(None);
+    };
+    if !is_case(text) {
+        return Ok(None);
+    }
+    let script = match assemble(rt.alloc(), text) {
+        Ok(script) => script,
+        Err(ScriptFault::NoMemory) => return Err(AllocError),
+        Err(_) => return Ok(None),
+    };
+    match words_with(rt.alloc(), words, path, text)? {
+        Some(words) => {
+            Ok(Some(CaseInput {
+                words,
+                text: hex_of(rt.alloc(), script.as_slice())?,
+            }))
+        }
+        None => Ok(None),
+    }
+}
+
+/// What a case gives a command, where its file is one. Where memory for that is refused, the words are refused for it.
+pub fn case_input<'w>(
+    rt: &HostRuntime,
+    words: &Words,
+    asked: &mut Result<Plan<'w>, Refusal>,
+    devices: Devices<'w>,
+) -> Option<CaseInput> {
+    let path = path_of(asked, devices);
+    if path.is_empty() {
+        return None;
+    }
+    match case_at(rt, words, path) {
+        Ok(case) => case,
+        Err(_) => {
+            *asked = Err(Refusal::NoMemory);
+            None
+        }
+    }
+}

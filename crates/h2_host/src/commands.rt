@@ -1,0 +1,29 @@
+//! What does the commands. The program gives h2_bench; nothing here knows what a command prints.
+
+ghost use Rattle.std.specs.Prelude.{◌≡◌, false};
+
+use h2_book::Files;
+use h2_device::{Input, Output};
+use h2_words::command::{Plan, Refusal, Serve};
+use std::alloc::Global;
+use std::io::Write;
+
+/// What does the commands that words ask for.
+pub trait Commands {
+    /// Does what was asked for over an input, unless that is to serve, and gives the exit status. Why an entry of the book
+    /// is refused is written to `errors`, and nothing else.
+    fn carry_out<F: Files, I: Input, O: Output, E: Output>(
+        &self,
+        alloc: Global,
+        asked: &Result<Plan<'_>, Refusal>,
+        files: &mut F,
+        input: &mut I,
+        output: &mut O,
+        errors: &mut E,
+    ) -> u8
+        requires reader { I.has_failed input.old ≡ false }
+        requires writer { O.has_failed output.old ≡ false };
+
+    /// Serves, as the words ask for; gives the exit status, and whether a sentence says why already.
+    fn serve<W: Write>(&self, rt: &HostRuntime, plan: &Serve<'_>, output: &mut W) -> (u8, bool);
+}

@@ -1,0 +1,155 @@
+//! What is said on standard error once a command has ended.
+
+use crate::commands::Commands;
+use crate::files::failure_of;
+use crate::input::{Given, read_file};
+use h2_console::{Outcome, say_outcome, say_refused_words};
+use h2_device::MAX_INPUT;
+use h2_reasons::{InputSource, say_unread};
+use h2_words::Words;
+use h2_words::command::{Check, Plan, Refusal};
+use std::io::{ErrorKind, Write};
+use std::net::{IpAddr, Ipv4Addr, SocketAddr, TcpListener};
+use std::rt::Files;
+
+/// How a command ended.
+#[derive(Clone, Copy)]
+pub struct Ending {
+    /// The exit status.
+    pub status: u8,
+    /// Whether a sentence was written already, for the book.
+    pub is_said: bool,
+    /// Why the output was not written.
+    pub unwritten: Option<ErrorKind>,
+}
+
+/// The octets of a file that was read already. A pipe can't be read again, and is not.
+fn read_again(rt: &HostRuntime, path: &str) -> Result<Vec<u8>, Option<ErrorKind>> {
+    match rt.metadata(path) {
+        Ok(about) if about.is_file() || about.is_dir() => match read_file(rt, path, MAX_INPUT) {
+            Ok(octets) => Ok(octets),
+            Err(kind) => Err(Some(kind)),
+        },
+        Ok(_) => Err(None),
+        Err(error) => Err(Some(error.kind())),
+    }
+}
+
+/// The outcome of a command over its input.
+fn outcome_of<'o, C: Commands>(given: &'o Given<'_, '_, C>, ending: Ending) -> Outcome<'o> {
+    Outcome {
+        status: ending.status,
+        is_said: ending.is_said,
+        source: given.source,
+        seen: given.taken.seen(),
+        is_cut: given.taken.is_cut(),
+        failure: given.taken.failure(),
+        unwritten: ending.unwritten,
+    }
+}
+
+/// Says what is to be said about the octets of a file that a command read itself.
+fn say_of_file(
+    rt: &HostRuntime,
+    plan: &Plan<'_>,
+    path: &str,
+    outcome: Outcome<'_>,
+    out: &mut h2_reasons::TextBuilder,
+) {
+    let source = InputSource::File(path);
+    match read_again(rt, path) {
+        Ok(octets) => {
+            let seen = octets.as_slice();
+            say_outcome(
+                rt.alloc(),
+                plan,
+                Outcome {
+                    source,
+                    seen,
+                    ..outcome
+                },
+                out,
+            );
+        }
+        Err(None) => {}
+        Err(failure) => say_outcome(
+            rt.alloc(),
+            plan,
+            Outcome {
+                source,
+                failure,
+                ..outcome
+            },
+            out,
+        ),
+    }
+}
+
+/// Why a port can't be listened on now, if it can't.
+fn failure_of_port(rt: &HostRuntime, port: u32) -> Option<ErrorKind> {
+    let port = u16::try_from(port).ok()?;
+    let address = SocketAddr::new(IpAddr::V4(Ipv4Addr::LOCALHOST), port);
+    match TcpListener::bind(rt, address) {
+        Ok(_) => None,
+        Err(error) => Some(error.kind()),
+    }
+}
+
+/// Says why nothing is served, or no more.
+fn say_of_server(
+    rt: &HostRuntime,
+    plan: &Plan<'_>,
+    port: u32,
+    outcome: Outcome<'_>,
+    out: &mut h2_reasons::TextBuilder,
+) {
+    let failure = failure_of_port(rt, port);
+    say_outcome(rt.alloc(), plan, Outcome { failure, ..outcome }, out);
+}
+
+/// Says which files of cases can't be read, and why.
+fn say_of_cases(rt: &HostRuntime, check: &Check<'_>, out: &mut h2_reasons::TextBuilder) {
+    for path in check.files.as_slice() {
+        if let Some(kind) = failure_of(rt, path) {
+            say_unread(InputSource::File(path), kind, out);
+        }
+    }
+}
+
+fn say_of_plan(
+    rt: &HostRuntime,
+    plan: &Plan<'_>,
+    outcome: Outcome<'_>,
+    out: &mut h2_reasons::TextBuilder,
+) {
+    match plan {
+        Plan::Explain(explain) if explain.file != "" && outcome.unwritten.is_none() => {
+            say_of_file(rt, plan, explain.file, outcome, out);
+        }
+        Plan::Check(check) if outcome.unwritten.is_none() && !outcome.is_said => {
+            say_of_cases(rt, check, out);
+        }
+        Plan::Serve(serve) if outcome.status == 1 && !outcome.is_said => {
+            say_of_server(rt, plan, serve.port, outcome, out);
+        }
+        _ => say_outcome(rt.alloc(), plan, outcome, out),
+    }
+}
+
+/// Says on standard error what is to be said about a command that ended.
+pub fn end<C: Commands>(
+    rt: &HostRuntime,
+    words: &Words,
+    asked: &Result<Plan<'_>, Refusal>,
+    given: &Given<'_, '_, C>,
+    ending: Ending,
+) {
+    let mut out = h2_reasons::TextBuilder::new(rt.alloc());
+    match asked {
+        Ok(plan) => say_of_plan(rt, plan, outcome_of(given, ending), &mut out),
+        Err(refusal) => say_refused_words(refusal, words.as_slice(), &mut out),
+    }
+    if let Ok(text) = out.finish() {
+        let _ = rt.stderr().write_all(text.as_bytes());
+    }
+}

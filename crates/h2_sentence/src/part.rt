@@ -1,0 +1,315 @@
+//! The parts of a sentence: words, and the names of values that an item and what was noted before it have. A sentence is
+//! a list of parts, so that what it says is data; the values are looked up when it is put together.
+
+use h2_describe::say::{Cut, FieldCount, HexOctet, OctetCount, Say, TextBuilder};
+use h2_describe::sent::first_of;
+use h2_describe::spelled::Stopped;
+use h2_item::error_context::ErrorContext;
+use h2_item::item::{Explained, Moment};
+use h2_item::notes::StreamNote;
+use h2_spec::frames::{FrameType, PREFACE};
+use h2_spec::streams::StreamState;
+use std::alloc::Allocator;
+
+/// A part of a sentence.
+#[derive(Clone, Copy)]
+pub(crate) enum Part {
+    /// These words.
+    Words(&'static str),
+    /// The type of the frame.
+    Type,
+    /// The length of the frame's payload, in octets.
+    Length,
+    /// The Pad Length, the octets after it, and those after all that HEADERS has before its fragment.
+    PadLength,
+    AfterPad,
+    AfterFixed,
+    /// How many octets HEADERS has before its fragment.
+    Fixed,
+    /// The increment of WINDOW_UPDATE.
+    Increment,
+    /// The first line of the octets that are not the preface.
+    FirstLine,
+    /// Which octet is not that of the preface, that octet, and that of the preface.
+    Place,
+    WrongOctet,
+    WantedOctet,
+    /// The stream, and how it closed.
+    Stream,
+    HowClosed,
+    /// The highest stream that was opened.
+    Highest,
+    /// The limits of the server: a frame's length, the header table, live streams.
+    FrameLimit,
+    TableLimit,
+    StreamLimit,
+    /// The maximum of the header table.
+    TableMaximum,
+    /// The windows of the connection and of the stream.
+    ConnectionReceive,
+    ConnectionSend,
+    StreamReceive,
+    StreamSend,
+    /// The stream of the open field block, and the item that began it.
+    BlockStream,
+    BlockItem,
+    /// The item that ended the last field block.
+    BlockEnd,
+    /// The octets of the block's fragments.
+    BlockOctets,
+    /// The octets of the instruction that the block ends in.
+    CutOctets,
+    /// How many fields the block has, and what their list counts.
+    Fields,
+    ListSize,
+    /// The index, or the size, at which the second decoder stopped.
+    StoppedAt,
+    /// The highest index of both tables.
+    HighestIndex,
+    /// The items that ended the client's side of the stream, and that closed it.
+    EndedAt,
+    ClosedAt,
+    /// The content-length, and the content that came, in octets and as a number.
+    Declared,
+    ReceivedOctets,
+    Received,
+}
+
+/// A value as it is shown.
+#[derive(Clone, Copy)]
+enum Shown<'o> {
+    Words(&'static str),
+    Text(&'o [u8]),
+    Type(FrameType),
+    Number(u64),
+    Signed(i64),
+    Octets(u64),
+    Octet(u8),
+    Fields(usize),
+}
+
+impl Say for Shown<'_> {
+    fn say<A: Allocator>(self, out: &mut TextBuilder<A>) {
+        match self {
+            Shown::Words(words) => words.say(out),
+            Shown::Text(octets) => Cut(octets).say(out),
+            Shown::Type(kind) => kind.say(out),
+            Shown::Number(number) => number.say(out),
+            Shown::Signed(number) => number.say(out),
+            Shown::Octets(count) => OctetCount(count).say(out),
+            Shown::Octet(octet) => HexOctet(octet).say(out),
+            Shown::Fields(count) => FieldCount(count).say(out),
+        }
+    }
+}
+
+/// A value of the frame.
+fn frame_value<A: Allocator + Copy>(
+    part: Part,
+    context: &ErrorContext<'_, '_, A>,
+) -> Shown<'static> {
+    match part {
+        Part::Type => Shown::Type(context.frame_type()),
+        Part::Length => Shown::Octets(context.length()),
+        Part::PadLength => Shown::Number(context.pad()),
+        Part::AfterPad => Shown::Octets(context.length().saturating_sub(1)),
+        Part::AfterFixed => Shown::Octets(context.length().saturating_sub(context.fixed())),
+        Part::Fixed => Shown::Number(context.fixed()),
+        Part::Increment => Shown::Number(u64::from(context.increment())),
+        _ => Shown::Words(""),
+    }
+}
+
+/// Where a line ends: before the first octet that is no visible one of ASCII.
+fn line_in(octets: &[u8]) -> &[u8] {
+    for (place, octet) in octets.iter().enumerate() {
+        if !(b' '..=b'~').contains(octet) {
+            return first_of(octets, place);
+        }
+    }
+    octets
+}
+
+/// The first line of octets, or what they begin with.
+pub(crate) fn first_line(octets: &[u8]) -> &[u8] {
+    line_in(first_of(octets, 4096))
+}
+
+/// A value of the octets that are not the preface: the last one is not that of the preface.
+fn preface_value<'o>(part: Part, item: &Explained<'o>) -> Shown<'o> {
+    let octets = item.octets;
+    let place = octets.len();
+    match part {
+        Part::FirstLine => Shown::Text(first_line(item.ahead)),
+        Part::Place => Shown::Number(place as u64),
+        Part::WrongOctet => Shown::Octet(octets.last().copied().unwrap_or(0)),
+        Part::WantedOctet => {
+            Shown::Octet(PREFACE.get(place.saturating_sub(1)).copied().unwrap_or(0))
+        }
+        _ => Shown::Words(""),
+    }
+}
+
+/// How a stream closed.
+fn how_closed(kind: StreamState) -> &'static str {
+    match kind {
+        StreamState::PeerReset => "reset by the client",
+        StreamState::WeReset => "reset by the server",
+        _ => "both sides ended",
+    }
+}
+
+/// The stream of the open field block, 0 where none is open.
+fn block_stream(before: &Moment) -> u64 {
+    match before.block {
+        Some(block) => u64::from(block.stream),
+        None => 0,
+    }
+}
+
+/// A value of the connection or of the stream, as they were before the item.
+fn moment_value(part: Part, before: &Moment) -> Shown<'static> {
+    match part {
+        Part::Stream => Shown::Number(u64::from(before.stream.id)),
+        Part::HowClosed => Shown::Words(how_closed(before.stream.kind)),
+        Part::Highest => Shown::Number(u64::from(before.counts.last)),
+        Part::FrameLimit => Shown::Number(u64::from(before.counts.own.frame)),
+        Part::TableLimit => Shown::Number(u64::from(before.counts.own.table)),
+        Part::TableMaximum => Shown::Number(u64::from(before.table_max)),
+        Part::ConnectionReceive => Shown::Signed(i64::from(before.counts.recv.value())),
+        Part::ConnectionSend => Shown::Signed(i64::from(before.counts.send.value())),
+        Part::StreamReceive => Shown::Signed(i64::from(before.stream.numbers.recv.value())),
+        Part::StreamSend => Shown::Signed(i64::from(before.stream.numbers.send.value())),
+        Part::BlockStream => Shown::Number(block_stream(before)),
+        Part::Declared => Shown::Number(before.stream.numbers.declared.unwrap_or(0)),
+        _ => Shown::Words(""),
+    }
+}
+
+/// Where the second decoder stopped: at an index, or at a table size update.
+fn stopped_at(stopped: Option<Stopped>) -> u64 {
+    match stopped {
+        Some(Stopped::Index(number) | Stopped::Update(number)) => number,
+        Some(Stopped::Other) | None => 0,
+    }
+}
+
+/// A value of the field block.
+fn block_value<A: Allocator + Copy>(
+    part: Part,
+    context: &ErrorContext<'_, '_, A>,
+) -> Shown<'static> {
+    match part {
+        Part::BlockItem => Shown::Number(context.notes.block),
+        Part::BlockEnd => Shown::Number(context.notes.block_end),
+        Part::BlockOctets => Shown::Octets(block_octets(&context.item.before, context.length())),
+        Part::CutOctets => Shown::Octets(context.reader.cut() as u64),
+        Part::Fields => Shown::Fields(context.fields().len()),
+        Part::ListSize => Shown::Number(context.reader.size() as u64),
+        Part::StoppedAt => Shown::Number(stopped_at(context.reader.stopped())),
+        Part::HighestIndex => Shown::Number(context.reader.highest_index() as u64),
+        _ => Shown::Words(""),
+    }
+}
+
+/// The octets of a block's fragments with one of this length.
+fn block_octets(before: &Moment, length: u64) -> u64 {
+    match before.block {
+        Some(block) => u64::from(block.octets).saturating_add(length),
+        None => length,
+    }
+}
+
+/// How many octets of content a request has once DATA has arrived: those before it, and those of its payload without
+/// padding.
+fn received(item: &Explained<'_>) -> u64 {
+    let before = item.before.stream.numbers.content_received;
+    match item.frame() {
+        Some(frame) => before.saturating_add(content_of(frame)),
+        None => before,
+    }
+}
+
+/// The octets of content that a frame has: none unless it is DATA.
+fn content_of(frame: h2_frame::FrameRef<'_>) -> u64 {
+    match h2_frame::part_of(frame) {
+        Ok(h2_frame::Part::Data(part)) => part.content.len() as u64,
+        _ => 0,
+    }
+}
+
+/// The items that ended the client's side of a stream, and that closed it; 0 where nothing was noted.
+fn noted(note: Option<StreamNote>) -> (u64, u64) {
+    match note {
+        Some(note) => (note.ended, note.closed),
+        None => (0, 0),
+    }
+}
+
+/// A value that was noted of the stream, or of its content, or the limit of streams.
+fn stream_value<A: Allocator + Copy>(
+    part: Part,
+    context: &ErrorContext<'_, '_, A>,
+) -> Shown<'static> {
+    match part {
+        Part::StreamLimit => Shown::Number(u64::from(context.config.streams)),
+        Part::EndedAt => Shown::Number(noted(context.note()).0),
+        Part::ClosedAt => Shown::Number(noted(context.note()).1),
+        Part::ReceivedOctets => Shown::Octets(received(context.item)),
+        Part::Received => Shown::Number(received(context.item)),
+        _ => Shown::Words(""),
+    }
+}
+
+/// A part as it is shown.
+fn value_of<'o, A: Allocator + Copy>(part: Part, context: &ErrorContext<'_, 'o, A>) -> Shown<'o> {
+    match part {
+        Part::Words(words) => Shown::Words(words),
+        Part::Type
+        | Part::Length
+        | Part::PadLength
+        | Part::AfterPad
+        | Part::AfterFixed
+        | Part::Fixed
+        | Part::Increment => frame_value(part, context),
+        Part::FirstLine | Part::Place | Part::WrongOctet | Part::WantedOctet => {
+            preface_value(part, context.item)
+        }
+        Part::Stream
+        | Part::HowClosed
+        | Part::Highest
+        | Part::FrameLimit
+        | Part::TableLimit
+        | Part::TableMaximum
+        | Part::ConnectionReceive
+        | Part::ConnectionSend
+        | Part::StreamReceive
+        | Part::StreamSend
+        | Part::BlockStream
+        | Part::Declared => moment_value(part, &context.item.before),
+        Part::BlockItem
+        | Part::BlockEnd
+        | Part::BlockOctets
+        | Part::CutOctets
+        | Part::Fields
+        | Part::ListSize
+        | Part::StoppedAt
+        | Part::HighestIndex => block_value(part, context),
+        Part::StreamLimit
+        | Part::EndedAt
+        | Part::ClosedAt
+        | Part::ReceivedOctets
+        | Part::Received => stream_value(part, context),
+    }
+}
+
+/// Puts parts last.
+pub(crate) fn say_parts<A: Allocator + Copy>(
+    parts: &'static [Part],
+    context: &ErrorContext<'_, '_, A>,
+    out: &mut TextBuilder<A>,
+) {
+    for part in parts {
+        value_of(*part, context).say(out);
+    }
+}
