@@ -28,12 +28,11 @@ fn octets_of<A: Allocator + Copy>(alloc: A, text: &[u8]) -> Result<Octets<A>, Al
 fn entry_of<A: Allocator + Copy>(
     alloc: A,
     path: &[u8],
-    body: &[u8],
+    body: Octets<A>,
     early: bool,
 ) -> Result<Entry<A>, AllocError> {
     let method = octets_of(alloc, b"GET")?;
     let path = octets_of(alloc, path)?;
-    let body = octets_of(alloc, body)?;
     Ok(Entry {
         method,
         path,
@@ -51,7 +50,13 @@ fn add<A: Allocator + Copy>(
     body: &[u8],
     early: bool,
 ) -> Result<(), BookFault> {
-    book.add(entry_of(alloc, path, body, early)?)
+    book.add(entry_of(alloc, path, octets_of(alloc, body)?, early)?)
+}
+
+/// Adds 60,000 octets as the answer to `GET /`.
+fn add_long<A: Allocator + Copy>(alloc: A, book: &mut Book<A>) -> Result<(), BookFault> {
+    let body = Octets::new(b"x".repeat(alloc, 60_000)?);
+    book.add(entry_of(alloc, b"/", body, false)?)
 }
 
 /// Adds the answers of a trial: none at 0; at 1 `hi` to `GET /`; at 2 300 octets to `GET /`, and early `hi` to `GET /early`;
@@ -68,7 +73,7 @@ fn add_answers<A: Allocator + Copy>(
             add(alloc, book, b"/", &[b'x'; 300], false)?;
             add(alloc, book, b"/early", b"hi", true)
         }
-        _ => add(alloc, book, b"/", &[b'x'; 60_000], false),
+        _ => add_long(alloc, book),
     }
 }
 
