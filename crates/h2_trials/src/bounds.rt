@@ -7,11 +7,11 @@ use h2_conn::Conn;
 use h2_frame::{Item, Outbox, Outgoing, Splitter};
 use h2_request::book::Book;
 use linked_list_allocator::LocalHeap;
-use std::alloc::{AllocError, Global};
+use std::alloc::{AllocError, Allocator, Global};
 
 /// Whether a connection takes octets in pieces of 8,000 with the memory that is left, and goes on.
-fn takes_all<'b, 'h, O: Outgoing<'b, &'h LocalHeap>>(
-    conn: &mut Conn<'b, &'h LocalHeap>,
+fn takes_all<'b, A: Allocator + Copy, O: Outgoing<'b, A>>(
+    conn: &mut Conn<'b, A>,
     octets: &[u8],
     out: &mut O,
 ) -> bool {
@@ -43,8 +43,8 @@ pub fn fits(alloc: Global, call: &Call<'_>) -> Result<Answer, AllocError> {
 }
 
 /// Whether a connection takes octets with this book and no more memory than the heap still has, and goes on.
-fn takes_with<'b, 'h, O: Outgoing<'b, &'h LocalHeap>>(
-    book: &'b Book<&'h LocalHeap>,
+fn takes_with<'b, A: Allocator + Copy, O: Outgoing<'b, A>>(
+    book: &'b Book<A>,
     call: &Call<'_>,
     out: &mut O,
 ) -> bool {
