@@ -1,4 +1,3 @@
-pub mod Above
 pub mod Blocks
 pub mod Connection
 pub mod Counts
@@ -10,7 +9,6 @@ pub mod Granted
 pub mod Checkpoint
 pub mod Follows
 pub mod Parted
-pub mod Prepared
+pub mod Records
 pub mod Reports
 pub mod Runs
-pub mod Sending

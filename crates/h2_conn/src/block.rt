@@ -7,7 +7,7 @@ ghost use Rattle.h2_spec.specs.Headers as rule;
 ghost use Rattle.h2_table.specs.Edits.{EditOf, IsEdit};
 ghost use Rattle.h2_conn.specs.Blocks.{IsOpenAt, IsSoundEffect, effect_in, effect_seen, limited};
 ghost use Rattle.h2_conn.specs.Fragments.{IsSized, after_of, before_of};
-ghost use Rattle.h2_conn.specs.Sending.{records};
+ghost use Rattle.h2_conn.specs.Records.{records};
 ghost use Rattle.h2_rules.specs.Sound.{in_force};
 
 use crate::block_end::block_ends;

@@ -14,7 +14,7 @@ ghost use Rattle.h2_spec.specs.declared.causes.Cause.TheVariants.{ContinuationOu
 ghost use Rattle.h2_conn.specs.Blocks.{IsOpenAt, IsSoundEffect, IsStopped, block_after, decoding_of, effect_seen, limited};
 ghost use Rattle.h2_conn.specs.Does.{Does, stepped, stopped};
 ghost use Rattle.h2_conn.specs.Fragments.{IsSized, after_of, before_of};
-ghost use Rattle.h2_conn.specs.Sending.{records};
+ghost use Rattle.h2_conn.specs.Records.{records};
 ghost use Rattle.h2_rules.specs.Block.{cell_of};
 ghost use Rattle.h2_rules.specs.Sound.{in_force};
 

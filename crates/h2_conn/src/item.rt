@@ -26,7 +26,7 @@ ghost use Rattle.h2_conn.specs.Blocks.{IsStopped};
 ghost use Rattle.h2_conn.specs.Counts.{IsCounted};
 ghost use Rattle.h2_conn.specs.Does.{Does, IsShort, stepped};
 ghost use Rattle.h2_conn.specs.Parted.{IsPlain};
-ghost use Rattle.h2_conn.specs.Sending.{records};
+ghost use Rattle.h2_conn.specs.Records.{records};
 ghost use Rattle.h2_rules.specs.Sound.{HasBody, IsSound, IsSoundState, IsSoundStream, in_force};
 
 use crate::state::State;
