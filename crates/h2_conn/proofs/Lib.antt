@@ -1,4 +1,3 @@
-mod BlockLaws
 mod CountsLaws
 mod FeedingLaws
 mod FinishLaws
@@ -12,9 +11,7 @@ mod ApplyChangeLaws
 mod PartLaws
 pub mod Phases
 mod Plays
-mod RequestOutcomeLaws
 mod RestoreLaws
 mod RestLaws
 pub mod Runs
 pub mod Shortest
-mod TentativeLaws

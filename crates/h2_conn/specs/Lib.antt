@@ -4,7 +4,6 @@ pub mod Counts
 pub mod Does
 pub mod Faults
 pub mod First
-pub mod Fragments
 pub mod Granted
 pub mod Checkpoint
 pub mod Follows

@@ -4,7 +4,6 @@
 
 mod apply_change;
 mod block;
-mod block_end;
 mod checkpoint;
 mod conn;
 mod fault;
@@ -18,7 +17,6 @@ pub mod play;
 mod receive;
 pub mod report;
 mod state;
-mod tentative;
 pub mod view;
 
 pub use checkpoint::Checkpoint;

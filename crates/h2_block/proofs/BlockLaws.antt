@@ -14,7 +14,7 @@ use Rattle.h2_spec.specs.Headers.{max_list, request_summary, request_outcome}
 use Rattle.h2_spec.specs.Request.{malformed, request_cause, request_fault}
 use Rattle.h2_spec.specs.Stream.{Records, is_live, is_peer_open, kind_of, not_live, record_of, recorded, stream_at}
 use Rattle.h2_streams.specs.Put.{CanPut, can_become}
-use Rattle.h2_conn.proofs.RequestOutcomeLaws.{large-turn, malformed-turn}
+use Rattle.h2_block.proofs.RequestOutcomeLaws.{large-turn, malformed-turn}
 
 -- a stream that the peer may still send on is live
 pub peer-open-live : (kind : StreamState) → is_peer_open kind ≡ true → is_live kind ≡ true

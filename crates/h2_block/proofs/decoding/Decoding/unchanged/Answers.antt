@@ -1,7 +1,7 @@
 use Rattle.std.proofs.Common.{◌∙◌, ap}
 use Rattle.h2_fields.specs.Rests.{RestChange}
-use Rattle.h2_conn.proofs.TentativeLaws.{grows-not, is-before, is-sized, same-block}
-use Rattle.h2_conn.proofs.state.Decoding.unchanged.Goals as goal
+use Rattle.h2_block.proofs.TentativeLaws.{grows-not, is-before, is-sized, same-block}
+use Rattle.h2_block.proofs.decoding.Decoding.unchanged.Goals as goal
 
 pub returns-clause-before : goal.returns-clause-before
 returns-clause-before g c =

@@ -7,8 +7,8 @@ use Rattle.h2_spec.specs.Change.{only_counts, with_outcome}
 use Rattle.h2_spec.specs.Headers.{request_outcome}
 use Rattle.h2_spec.specs.Stream.{live_count}
 use Rattle.h2_rules.specs.Sound.{IsCalm}
-use Rattle.h2_conn.proofs.BlockLaws.{opening-put, same-opening}
-use Rattle.h2_conn.proofs.block_end.request_ends.Goals as goal
+use Rattle.h2_block.proofs.BlockLaws.{opening-put, same-opening}
+use Rattle.h2_block.proofs.block_end.request_ends.Goals as goal
 
 pub returns-clause-rule : goal.returns-clause-rule
 returns-clause-rule g c = λ b table.

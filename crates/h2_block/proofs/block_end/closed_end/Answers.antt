@@ -2,8 +2,8 @@ use Rattle.std.proofs.Common.{refl, sym, ap, subst, ◌∙◌, max}
 use Rattle.h2_spec.specs.declared.reactions.StreamOutcome.{StreamOutcome}
 use Rattle.h2_streams.specs.Put.{CanPut}
 use Rattle.h2_rules.specs.Sound.{IsCalm, in_force}
-use Rattle.h2_conn.proofs.BlockLaws.{reset-put}
-use Rattle.h2_conn.proofs.block_end.closed_end.Goals as goal
+use Rattle.h2_block.proofs.BlockLaws.{reset-put}
+use Rattle.h2_block.proofs.block_end.closed_end.Goals as goal
 
 pub returns-clause-sound : goal.returns-clause-sound
 returns-clause-sound g c =

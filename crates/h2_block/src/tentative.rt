@@ -6,10 +6,10 @@ ghost use Rattle.std.specs.Prelude.{◌≡◌, ◌≢◌, ◌++◌, length, IfEr
 ghost use Rattle.h2_spec.specs.Block as block;
 ghost use Rattle.h2_fields.specs.declared.fault.BlockFault.TheVariants.{NoMemory};
 ghost use Rattle.h2_table.specs.Edits.{IsEdit, edited};
-ghost use Rattle.h2_conn.specs.Blocks.{bad_end};
-ghost use Rattle.h2_conn.specs.Fragments.{HasFault, IsSized, after_fragment, after_of, before_fragment, before_of};
+ghost use Rattle.h2_block.specs.Blocks.{bad_end};
+ghost use Rattle.h2_block.specs.Fragments.{HasFault, IsSized, after_fragment, after_of, before_fragment, before_of};
 
-use crate::state::Decoding;
+use crate::decoding::Decoding;
 use h2_fields::collected::Savepoint;
 use h2_fields::fault::BlockFault;
 use h2_fields::fragment::decode_piece;
@@ -32,7 +32,7 @@ pub struct Tentative<A: Allocator> {
 }
 
 impl<A: Allocator> Model for Tentative<A> {
-    ghost use Rattle.h2_conn.specs.Fragments as fragments;
+    ghost use Rattle.h2_block.specs.Fragments as fragments;
 
     ghost Value = { fragments.Tentative };
 

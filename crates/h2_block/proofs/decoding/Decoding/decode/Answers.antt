@@ -1,7 +1,7 @@
 use Rattle.std.proofs.Common.{◌∙◌}
 use Rattle.h2_table.specs.Edits.{edited}
-use Rattle.h2_conn.proofs.TentativeLaws.{decoded-answered, faulty-answered, is-before, is-sized, same-block}
-use Rattle.h2_conn.proofs.state.Decoding.decode.Goals as goal
+use Rattle.h2_block.proofs.TentativeLaws.{decoded-answered, faulty-answered, is-before, is-sized, same-block}
+use Rattle.h2_block.proofs.decoding.Decoding.decode.Goals as goal
 
 pub returns-clause-before : goal.returns-clause-before
 returns-clause-before g c =

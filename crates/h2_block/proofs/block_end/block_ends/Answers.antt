@@ -4,7 +4,7 @@ use Rattle.h2_spec.specs.declared.reactions.Change.{Change}
 use Rattle.h2_spec.specs.Headers as rule
 use Rattle.h2_rules.specs.Open.{state_of}
 use Rattle.h2_rules.specs.Sound.{IsSoundChange, in_force}
-use Rattle.h2_conn.proofs.block_end.block_ends.Goals as goal
+use Rattle.h2_block.proofs.block_end.block_ends.Goals as goal
 
 pub returns-in-Request-clause-rule : goal.returns-in-Request-clause-rule
 returns-in-Request-clause-rule g c = λ b table.

@@ -13,7 +13,7 @@ use Rattle.h2_spec.specs.DynamicTable.{Table}
 use Rattle.h2_spec.specs.Field.{Field}
 use Rattle.h2_spec.specs.State.{Decoding}
 use Rattle.h2_spec.specs.declared.connection.Purpose.{Purpose}
-use Rattle.h2_conn.specs.Fragments.{HasFault, after_fragment, before_fragment}
+use Rattle.h2_block.specs.Fragments.{HasFault, after_fragment, before_fragment}
 
 -- the fields before are those in front
 front : (old now : FieldsSoFar) (n : ℕ) → n ≡ length old.fields → Grows old now → take n now.fields ≡ old.fields
