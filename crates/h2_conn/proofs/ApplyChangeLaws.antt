@@ -1,91 +1,57 @@
--- A change is made: what the records have to be for it, and what it results in.
-use Rattle.std.proofs.Common.{◌≡◌, ℕ, ◌-◌, ◌++◌, List, [], ◌∷◌, refl, sym, ap, subst, ◌∙◌, arith, append-nil, append_assoc, ℤ, pos, ◌-ℤ◌}
-use Rattle.std.proofs.lemmas.Grind.{flat_map-append}
+-- A change is made: what it results in, and what is known after it.
+use Rattle.std.proofs.Common.{◌≡◌, ℕ, ◌-◌, ◌++◌, List, [], refl, sym, ap, subst, ◌∙◌, arith, append-nil, ℤ, pos, ◌-ℤ◌}
 use Rattle.std.specs.Prelude.{Option, Some, None}
-use Rattle.std.specs.List.{AllByRecursion}
 use Rattle.h2_spec.specs.declared.connection.ConnectionState.{ConnectionState}
 use Rattle.h2_spec.specs.declared.connection.Phase.{Phase}
 use Rattle.h2_spec.specs.declared.connection.Phase.TheVariants as phase
-use Rattle.h2_spec.specs.declared.flow.LocalSettings.{LocalSettings}
+use Rattle.h2_spec.specs.declared.connection.Purpose.{Purpose}
+use Rattle.h2_spec.specs.declared.connection.Purpose.TheVariants.{Request, Trailers, Closed, TableOnly}
 use Rattle.h2_spec.specs.declared.reactions.Change.{Change}
-use Rattle.h2_spec.specs.declared.reactions.RecordUpdate.{RecordUpdate}
-use Rattle.h2_spec.specs.declared.reactions.RecordUpdate.TheVariants.{Unchanged, Put, Shift, Receive}
 use Rattle.h2_spec.specs.declared.streams.Stream.{Stream}
+use Rattle.h2_spec.specs.declared.streams.StreamState.TheVariants.{WeReset}
 use Rattle.h2_spec.specs.Answer.{Entry}
 use Rattle.h2_spec.specs.Change.{Step, frames_of, made, updated_streams}
-use Rattle.h2_spec.specs.Frame.{Frame, frame_octets, frames_octets}
+use Rattle.h2_spec.specs.Frame.{Frame, frames_octets}
 use Rattle.h2_spec.specs.SendPending.{all_after_sending, send_pending, sent_frames, window_left}
-use Rattle.h2_spec.specs.SettingsFrame.{comes_into_force}
-use Rattle.h2_spec.specs.State.{OpenBlock, State}
-use Rattle.h2_spec.specs.Stream.{Records}
+use Rattle.h2_spec.specs.State.{Decoding, OpenBlock, State}
+use Rattle.h2_spec.specs.Stream.{Records, is_peer_open}
 use Rattle.h2_spec.specs.Trace.{then_sent}
-use Rattle.h2_conn.specs.Blocks.{IsOpenFor, IsStopped}
+use Rattle.h2_streams.specs.Put.{can_become}
+use Rattle.h2_conn.specs.Blocks.{IsDecodedAt, IsOpenAt, IsOpenFor, IsStopped}
 use Rattle.h2_conn.specs.Does.{AreShort, Does}
-use Rattle.h2_conn.specs.Sending.{all_frames, core_after, open_window, open_window_as, records_after, sent_count, streams_after, CanApply, CanSend, CanUndo}
-use Rattle.h2_rules.specs.Sound.{AreInRange, AreSound, HasBody, InForce, IsSoundChange, IsSoundRecordUpdate, IsSoundState, in_force, updated_records}
-use Rattle.h2_conn.proofs.AloneLaws.{after-none, none-spent, sent-none}
-use Rattle.h2_conn.proofs.KindLaws.{open-after-sending}
-use Rattle.h2_conn.proofs.UndoLaws.{can-receive-back, can-shift-back, overflow-back}
-use Rattle.h2_rules.proofs.SoundLaws.{can-receive, changed-sound, in-force-sound, update-can-shift, updated-streams}
-
--- frames, and then others
-pub in-outcome : (out out' out'' : List ℕ) (fs gs : List Frame) → out' ≡ out ++ frames_octets fs → out'' ≡ out' ++ frames_octets gs → out'' ≡ out ++ frames_octets (fs ++ gs)
-in-outcome out out' out'' fs gs first second =
-    second ∙ ap (λ (o : List ℕ). o ++ frames_octets gs) first
-    ∙ append_assoc out (frames_octets fs) (frames_octets gs) ∙ ap (λ (o : List ℕ). out ++ o) (sym (flat_map-append frame_octets fs gs))
+use Rattle.h2_send.specs.Sending.{all_frames, core_after, open_window, open_window_as, records_after, sent_count, streams_after}
+use Rattle.h2_rules.specs.Sound.{IsSoundChange, IsSoundState, in_force, updated_records}
+use Rattle.h2_send.proofs.AloneLaws.{after-none, none-spent, sent-none}
+use Rattle.h2_send.proofs.KindLaws.{sent-kinds}
+use Rattle.h2_rules.proofs.SoundLaws.{updated-streams}
 
 -- what is sound for the records of a state is sound for those that it holds
 pub inside-sound : (book : List Entry) (core : ConnectionState) (r : Records) (c : Change) → IsSoundState book core r →
     IsSoundChange book (record { streams = r.streams; last = core.last }) (in_force core) c → IsSoundChange book r (in_force core) c
 inside-sound book core r c state sound = subst (λ (l : ℕ). IsSoundChange book (record { streams = r.streams; last = l }) (in_force core) c) (sym state.last) sound
 
-can-apply : (book : List Entry) (core : ConnectionState) (r : Records) (c : Change) → IsSoundState book core r → IsSoundChange book r (in_force core) c → CanApply r c.record_update
-can-apply book core r c state sound = at c.record_update sound.1
-  where
-    at : (t : RecordUpdate) → IsSoundRecordUpdate book r (in_force core) c.core t → CanApply r t
-    at Unchanged h = tt
-    at (Put st) h = h.3
-    at (Shift from to) h = update-can-shift book core c.core r from to state h
-    at (Receive from to) h = absurd h
-
-can-undo : (book : List Entry) (core : ConnectionState) (r : Records) (c : Change) → IsSoundState book core r → IsSoundChange book r (in_force core) c → CanUndo r c.record_update
-can-undo book core r c state sound = at c.record_update sound.1
-  where
-    at : (t : RecordUpdate) → IsSoundRecordUpdate book r (in_force core) c.core t → CanUndo r t
-    at Unchanged h = tt
-    at (Put st) h = tt
-    at (Shift from to) h =
-        subst (λ w. CanUndo r (Shift w to)) (sym h.1) (can-shift-back book (in_force core) to r.streams state.records, overflow-back book (in_force core) to r.streams state.records)
-    at (Receive from to) h = absurd h
-
-sound-bodies : (book : List Entry) (f : InForce) (ss : List Stream) → AreSound book f ss → AllByRecursion (HasBody book) ss
-sound-bodies book f [] s = tt
-sound-bodies book f (x ∷ xs) s = (s.0.1, sound-bodies book f xs s.1)
-
--- a sound change of the records can be made and undone, and the pending output after it can be sent
-pub can-send : (book : List Entry) (core : ConnectionState) (r : Records) (c : Change) → IsSoundState book core r → IsSoundChange book r (in_force core) c → CanSend book r c.record_update
-can-send book core r c state sound =
-    let after = changed-sound book core r c state sound in
-    record {
-      made = can-apply book core r c state sound;
-      undone = can-undo book core r c state sound;
-      bodies = subst (AllByRecursion (HasBody book)) (updated-streams c.record_update r) (sound-bodies book (in_force c.core) (updated_records c.record_update r).streams after.records);
-    }
-
--- the server's settings can come into force and be taken back, and the pending output can then be sent
-pub can-come : (book : List Entry) (core : ConnectionState) (own : LocalSettings) (r : Records) → AreInRange own → IsSoundState book core r → CanSend book r (Receive core.own.window own.window)
-can-come book core own r range state =
-    let most = state.counts.4.0 in
-    record {
-      made = can-receive book (in_force core) own.window r.streams range.0 state.records;
-      undone = can-receive-back book (in_force core) own.window r.streams most state.records;
-      bodies = sound-bodies book (in_force (comes_into_force core own).core) (updated_records (Receive core.own.window own.window) r).streams (in-force-sound book core own r range state).records;
-    }
-
 -- of a block that is decoded no more nothing has to be known
 pub stopped-open : (r : Records) (b : Option OpenBlock) → IsStopped b → IsOpenFor r b
 stopped-open r None h = tt
 stopped-open r (Some b) h = rw h tt
+
+-- the stream of an open block stays as the block's end needs it
+pub open-after-sending : (r : Records) (window : ℕ) (block : Option OpenBlock) → IsOpenFor r block → IsOpenFor (record r { streams = all_after_sending window r.streams }) block
+open-after-sending r window None h = tt
+open-after-sending r window (Some b) h = by_decoding b.decoding h
+  where
+    id : ℕ
+    id = b.shown.stream
+
+    by_purpose : (purpose : Purpose) → IsOpenAt r id purpose → IsOpenAt (record r { streams = all_after_sending window r.streams }) id purpose
+    by_purpose Request g = g
+    by_purpose Trailers g = sent-kinds is_peer_open refl refl r.last id window r.streams ∙ g
+    by_purpose Closed g = sent-kinds (λ k. can_become k WeReset) refl refl r.last id window r.streams ∙ g
+    by_purpose TableOnly g = tt
+
+    by_decoding : (d : Option Decoding) → IsDecodedAt r id d → IsDecodedAt (record r { streams = all_after_sending window r.streams }) id d
+    by_decoding None g = tt
+    by_decoding (Some d) g = by_purpose d.purpose g
 
 -- what is known of an open block is known of it after sending
 pub open-after : (core : ConnectionState) (r : Records) (b : Option OpenBlock) → IsOpenFor r b → IsOpenFor (records_after core r) b

@@ -15,7 +15,8 @@ use Rattle.h2_spec.specs.Stream.{Records}
 use Rattle.h2_spec.specs.Trace.{then_sent}
 use Rattle.h2_conn.specs.Blocks.{IsOpenFor}
 use Rattle.h2_conn.specs.Does.{AreShort, Does}
-use Rattle.h2_conn.specs.Sending.{core_after, records, records_after, streams_after}
+use Rattle.h2_conn.specs.Records.{records}
+use Rattle.h2_send.specs.Sending.{core_after, records_after, streams_after}
 use Rattle.h2_rules.specs.Sound.{InForce, IsSoundChange, IsSoundRecordUpdate, in_force, updated_records}
 use Rattle.h2_conn.proofs.ApplyChangeLaws.{made-then, open-after}
 use Rattle.h2_rules.proofs.SoundLaws.{same-own, updated-streams}

@@ -56,7 +56,7 @@ use Rattle.h2_streams.specs.Rebuilt.{is_live_or, is_this, rebuilt}
 use Rattle.h2_streams.proofs.RebuiltLaws.{IsContinued, continues-of, filter-same, rebuilt-is, rise-front}
 use Rattle.h2_conn.specs.Blocks.{IsOpenAt, IsOpenFor}
 use Rattle.h2_conn.specs.Follows.{Follows, Keeps, can_change, ends_in_reset, is_reset_by, resets_in}
-use Rattle.h2_conn.proofs.AboveLaws.{id-after_sending, found_within}
+use Rattle.h2_send.proofs.AboveLaws.{id-after_sending, found_within}
 
 -- ---- one record in a list
 

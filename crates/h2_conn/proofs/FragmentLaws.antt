@@ -20,10 +20,11 @@ use Rattle.h2_spec.specs.Stream.{Records}
 use Rattle.h2_rules.specs.Sound.{IsSoundConnectionState, in_force}
 use Rattle.h2_table.specs.Edits.{EditOf, IsEdit}
 use Rattle.h2_rules.specs.Block.{cause_by}
-use Rattle.h2_conn.specs.Blocks.{IsOpenAt, IsSoundEffect, bad_end, block_after}
+use Rattle.h2_conn.specs.Blocks.{IsOpenAt, IsSoundEffect}
+use Rattle.h2_block.specs.Blocks.{bad_end, block_after}
 use Rattle.h2_conn.specs.declared.block.FragmentEffect.TheVariants.{Makes}
-use Rattle.h2_conn.specs.Sending.{records}
-use Rattle.h2_conn.specs.Fragments.{HasFault, after_fragment, before_fragment}
+use Rattle.h2_conn.specs.Records.{records}
+use Rattle.h2_block.specs.Fragments.{HasFault, after_fragment, before_fragment}
 
 -- the cause of a fault of the octets
 cause-named : (x : Fault) → cause_by (fault_of x) ≡ Some (fault_cause x)

@@ -13,11 +13,10 @@ use Rattle.h2_spec.specs.FrameType.{frame_type}
 use Rattle.h2_spec.specs.Payload.{Part, OfContinuation, part_as, part_of}
 use Rattle.h2_spec.specs.State.{OpenBlock}
 use Rattle.h2_frame.specs.Parts.{part_seen}
-use Rattle.h2_frame.specs.declared.payload.HeadersPart.{HeadersPart}
 use Rattle.h2_frame.specs.declared.payload.Part as code
 use Rattle.h2_frame.specs.declared.payload.Part.TheVariants as variants
 use Rattle.h2_conn.specs.Blocks.{IsStopped}
-use Rattle.h2_conn.specs.Parted.{IsPlain}
+use Rattle.h2_conn.specs.Parted.{IsNoContinuation}
 
 -- what a payload holds is a fragment where the type is CONTINUATION
 pub no-continuation : (kind flags : ℕ) (p : List ℕ) (part : Part) → (let r : Result Part Cause = Ok part in part_as (frame_type kind) flags p ≡ r) → (part ≡ OfContinuation p → ⊥) → (kind == 9) ≡ false
@@ -46,34 +45,22 @@ no-block (Some b) phase h passed other = absurd (none (subst (λ (t : Bool). (if
     none : (let r : Option Cause = Some BlockInterrupted in r ≡ None) → ⊥
     none e = cc
 
--- what is plain is no CONTINUATION
-pub plain-other : (part : code.Part) (p : List ℕ) → IsPlain part → part_seen part ≡ OfContinuation p → ⊥
-plain-other (variants.Data d) p h e = cc
-plain-other (variants.Headers d) p h e = cc
-plain-other variants.Priority p h e = cc
-plain-other (variants.RstStream code) p h e = cc
-plain-other (variants.Settings s) p h e = cc
-plain-other variants.SettingsAck p h e = h
-plain-other variants.PushPromise p h e = cc
-plain-other (variants.Ping octets) p h e = cc
-plain-other (variants.Goaway last code) p h e = cc
-plain-other (variants.WindowUpdate increment) p h e = cc
-plain-other (variants.Continuation fragment) p h e = h
-plain-other variants.Unknown p h e = cc
+-- such a part is no CONTINUATION
+part-other : (part : code.Part) (p : List ℕ) → IsNoContinuation part → part_seen part ≡ OfContinuation p → ⊥
+part-other (variants.Data d) p h e = cc
+part-other (variants.Headers d) p h e = cc
+part-other variants.Priority p h e = cc
+part-other (variants.RstStream code) p h e = cc
+part-other (variants.Settings s) p h e = cc
+part-other variants.SettingsAck p h e = cc
+part-other variants.PushPromise p h e = cc
+part-other (variants.Ping octets) p h e = cc
+part-other (variants.Goaway last code) p h e = cc
+part-other (variants.WindowUpdate increment) p h e = cc
+part-other (variants.Continuation fragment) p h e = h
+part-other variants.Unknown p h e = cc
 
 -- so no block is open where such a frame passes the checks
-pub plain-outside : (b : Option OpenBlock) (phase : Phase) (h : Head) (p : List ℕ) (part : code.Part) → refusal (block_stream b) phase h ≡ None →
-    (let r : Result Part Cause = Ok (part_seen part) in part_of h p ≡ r) → IsPlain part → IsStopped b
-plain-outside b phase h p part passed is plain = no-block b phase h passed (no-continuation h.kind h.flags p (part_seen part) is (plain-other part p plain))
-
--- nor where an acknowledgement does
-pub acknowledged-outside : (b : Option OpenBlock) (phase : Phase) (h : Head) (p : List ℕ) (part : code.Part) → refusal (block_stream b) phase h ≡ None →
-    (let r : Result Part Cause = Ok (part_seen part) in part_of h p ≡ r) → part ≡ variants.SettingsAck → IsStopped b
-acknowledged-outside b phase h p part passed is ack =
-    no-block b phase h passed (no-continuation h.kind h.flags p (part_seen part) is (λ e. let f : part_seen variants.SettingsAck ≡ OfContinuation p = subst (λ x. part_seen x ≡ OfContinuation p) ack e in cc))
-
--- nor where HEADERS do
-pub headers-outside : (b : Option OpenBlock) (phase : Phase) (h : Head) (p : List ℕ) (part : code.Part) (d : HeadersPart) → refusal (block_stream b) phase h ≡ None →
-    (let r : Result Part Cause = Ok (part_seen part) in part_of h p ≡ r) → part ≡ variants.Headers d → IsStopped b
-headers-outside b phase h p part d passed is headers =
-    no-block b phase h passed (no-continuation h.kind h.flags p (part_seen part) is (λ e. let f : part_seen (variants.Headers d) ≡ OfContinuation p = subst (λ x. part_seen x ≡ OfContinuation p) headers e in cc))
+pub part-outside : (b : Option OpenBlock) (phase : Phase) (h : Head) (p : List ℕ) (part : code.Part) → refusal (block_stream b) phase h ≡ None →
+    (let r : Result Part Cause = Ok (part_seen part) in part_of h p ≡ r) → IsNoContinuation part → IsStopped b
+part-outside b phase h p part passed is other = no-block b phase h passed (no-continuation h.kind h.flags p (part_seen part) is (part-other part p other))

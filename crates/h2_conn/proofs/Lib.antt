@@ -1,6 +1,3 @@
-mod AboveLaws
-mod AloneLaws
-mod BlockLaws
 mod CountsLaws
 mod FeedingLaws
 mod FinishLaws
@@ -9,20 +6,12 @@ mod FragmentLaws
 mod GrantedLaws
 pub mod Items
 mod InsideLaws
-mod KindLaws
 pub mod FollowsLaws
 mod ApplyChangeLaws
 mod PartLaws
 pub mod Phases
-mod PiecesLaws
-mod PreparedLaws
 mod Plays
-mod RequestOutcomeLaws
 mod RestoreLaws
 mod RestLaws
 pub mod Runs
 pub mod Shortest
-mod SentLaws
-mod ShortLaws
-mod TentativeLaws
-mod UndoLaws

@@ -6,7 +6,7 @@ use Rattle.h2_spec.specs.declared.connection.Phase.TheVariants.{Preface, Setting
 use Rattle.h2_spec.specs.Frame.{NoItem}
 use Rattle.h2_spec.specs.State.{State}
 use Rattle.h2_spec.specs.Trace.{left_by, next_in, next_item}
-use Rattle.h2_conn.specs.Connection.{Connection, IsAtRest, connection, is_ended}
+use Rattle.h2_conn.specs.Connection.{IsAtRest, connection, is_ended}
 
 left-no_item : (p : Phase) (limit : ℕ) (b : List ℕ) → next_in p limit b ≡ NoItem → next_in p limit (left_by p b) ≡ NoItem
 left-no_item Preface limit b e = e

@@ -1,13 +1,12 @@
 -- Field blocks that are not at their end.
-use Rattle.std.specs.Prelude.{◌≡◌, ℕ, List, length, ◌==◌, Option, Some, None}
-use Rattle.h2_spec.specs.declared.causes.Cause.{Cause}
+use Rattle.std.specs.Prelude.{◌≡◌, ℕ, List, Option, Some, None}
 use Rattle.h2_spec.specs.declared.connection.BlockView.{BlockView}
 use Rattle.h2_spec.specs.Answer.{Entry}
 use Rattle.h2_spec.specs.DynamicTable.{LimitedTable, Table}
 use Rattle.h2_spec.specs.Headers as headers
 use Rattle.h2_spec.specs.State.{Decoding, OpenBlock, State}
 use Rattle.h2_spec.specs.Stream.{Records}
-use Rattle.h2_rules.specs.Block.{refused_end}
+use Rattle.h2_block.specs.Blocks.{block_after}
 pub use Rattle.h2_rules.specs.Open.{IsOpenAt}
 use Rattle.h2_rules.specs.Sound.{InForce, IsSoundChange, updated_records}
 use Rattle.h2_table.specs.Edits.{EditOf, IsEdit, edited}
@@ -31,15 +30,6 @@ IsStopped None = Unit {0}
 IsStopped (Some b) = b.decoding ≡ None
 
 -- ---- what a fragment results in
-
--- why a block can't end here, if it can't (RFC 9113, 4.3)
-abbrev pub bad_end : Decoding → Option Cause
-bad_end d = refused_end (length d.rest == 0) d.due
-
--- the block that is open after it, as it is shown and decoded
-abbrev pub block_after : Option BlockView → Decoding → Option OpenBlock
-block_after None d = None
-block_after (Some shown) d = Some (record { shown = shown; decoding = Some d })
 
 -- in a state with the header table after it, with how far the block is decoded
 abbrev pub effect_in : State → Decoding → FragmentEffect → headers.FrameEffect

@@ -1,17 +1,10 @@
 -- What a call on a state results in.
 use Rattle.std.specs.Prelude.{◌≡◌, ℕ, ◌<◌, ◌^◌, ◌++◌, List, length}
-use Rattle.std.specs.List.{AllByRecursion}
 use Rattle.h2_spec.specs.Change.{Step, only_shown}
-use Rattle.h2_spec.specs.Frame.{Frame, Item, Preface, BadPreface, WholeFrame, Oversize, frames_octets}
+use Rattle.h2_spec.specs.Frame.{Item, Preface, BadPreface, WholeFrame, Oversize, frames_octets}
 use Rattle.h2_spec.specs.State.{State}
 use Rattle.h2_spec.specs.Trace.{then_sent}
-
--- the length of a frame's payload fits the 24 bits that a head has for it (RFC 9113, 4.1)
-abbrev pub IsShortFrame : Frame → Type 0
-IsShortFrame f = length f.payload < 2 ^ 24
-
-abbrev pub AreShort : List Frame → Type 0
-AreShort fs = AllByRecursion IsShortFrame fs
+pub use Rattle.h2_send.specs.Short.{AreShort, IsShortFrame}
 
 -- the state after a step, and its frames after what was sent before
 pub record Does (step : Step) (out : List ℕ) (now : State) (out' : List ℕ) : Type 0 where

@@ -1,16 +1,13 @@
-pub mod Above
 pub mod Blocks
 pub mod Connection
 pub mod Counts
 pub mod Does
 pub mod Faults
 pub mod First
-pub mod Fragments
 pub mod Granted
 pub mod Checkpoint
 pub mod Follows
 pub mod Parted
-pub mod Prepared
+pub mod Records
 pub mod Reports
 pub mod Runs
-pub mod Sending

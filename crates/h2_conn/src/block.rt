@@ -6,17 +6,15 @@ ghost use Rattle.h2_spec.specs.DynamicTable.{LimitedTable, Table};
 ghost use Rattle.h2_spec.specs.Headers as rule;
 ghost use Rattle.h2_table.specs.Edits.{EditOf, IsEdit};
 ghost use Rattle.h2_conn.specs.Blocks.{IsOpenAt, IsSoundEffect, effect_in, effect_seen, limited};
-ghost use Rattle.h2_conn.specs.Fragments.{IsSized, after_of, before_of};
-ghost use Rattle.h2_conn.specs.Sending.{records};
+ghost use Rattle.h2_block.specs.Fragments.{IsSized, after_of, before_of};
+ghost use Rattle.h2_conn.specs.Records.{records};
 ghost use Rattle.h2_rules.specs.Sound.{in_force};
 
-use crate::block_end::block_ends;
-use crate::state::{Decoding, State};
-use crate::tentative::Tentative;
+use crate::state::State;
+use h2_block::{Decoding, Tentative, block_ends};
 use h2_rules::block::{fault_cause, goes_on, is_block_too_large};
 use h2_spec::causes::Cause;
 use h2_spec::connection::BlockView;
-use h2_spec::frames::{END_STREAM, Head};
 use h2_spec::reactions::Change;
 use h2_table::{Draft, Edit};
 use std::alloc::{AllocError, Allocator};
@@ -108,17 +106,5 @@ impl<'b, A: Allocator + Copy> State<'b, A> {
                 None => (edit, tentative, Err(AllocError)),
             },
         }
-    }
-}
-
-/// A block that HEADERS open, before its first fragment.
-pub fn fresh_block(head: &Head) -> BlockView
-    ensures { result ≡ rule.fresh_block head.now }
-{
-    BlockView {
-        stream: head.stream,
-        octets: 0,
-        list_size: 0,
-        ends: head.has(END_STREAM),
     }
 }

@@ -10,7 +10,8 @@ ghost use Rattle.h2_conn.specs.Checkpoint.{IsConsistent, Precedes, checkpoint_of
 ghost use Rattle.h2_conn.specs.Follows.{Follows, is_reset_by};
 
 use crate::conn::Conn;
-use crate::state::{OpenBlock, State, copy_of};
+use crate::state::State;
+use h2_block::{OpenBlock, copy_of};
 use h2_request::book::Book;
 use h2_spec::connection::{Config, ConnectionState, Purpose};
 use h2_streams::Stream;

@@ -11,16 +11,16 @@ ghost use Rattle.h2_spec.specs.State.{is_due};
 ghost use Rattle.h2_spec.specs.Stream.{stream_at};
 ghost use Rattle.h2_spec.specs.ReactionTable.{headers_cell};
 ghost use Rattle.h2_spec.specs.declared.causes.Cause.TheVariants.{ContinuationOutsideBlock};
-ghost use Rattle.h2_conn.specs.Blocks.{IsOpenAt, IsSoundEffect, IsStopped, block_after, decoding_of, effect_seen, limited};
+ghost use Rattle.h2_conn.specs.Blocks.{IsOpenAt, IsSoundEffect, IsStopped, decoding_of, effect_seen, limited};
 ghost use Rattle.h2_conn.specs.Does.{Does, stepped, stopped};
-ghost use Rattle.h2_conn.specs.Fragments.{IsSized, after_of, before_of};
-ghost use Rattle.h2_conn.specs.Sending.{records};
+ghost use Rattle.h2_block.specs.Fragments.{IsSized, after_of, before_of};
+ghost use Rattle.h2_conn.specs.Records.{records};
 ghost use Rattle.h2_rules.specs.Block.{cell_of};
 ghost use Rattle.h2_rules.specs.Sound.{in_force};
 
-use crate::block::{FragmentEffect, fresh_block};
-use crate::state::{Decoding, OpenBlock, State};
-use crate::tentative::Tentative;
+use crate::block::FragmentEffect;
+use crate::state::State;
+use h2_block::{Decoding, OpenBlock, Tentative, block_after, fresh_block};
 use h2_frame::{HeadersPart, Outgoing};
 use h2_rules::block::headers_purpose;
 use h2_spec::causes::Cause;
@@ -29,27 +29,6 @@ use h2_spec::frames::{END_HEADERS, Head};
 use h2_spec::reactions::Verdict;
 use h2_table::Edit;
 use std::alloc::{AllocError, Allocator};
-use std::mem;
-
-/// The block that is open after a fragment, as it is shown and decoded: its decoding is taken out. Where none is open,
-/// the decoding stays, as memory for the next one.
-fn block_after<A: Allocator + Copy>(
-    shown: Option<BlockView>,
-    decoding: &mut Decoding<A>,
-) -> Option<OpenBlock<A>>
-    ensures { result ≡ block_after shown decoding.old }
-{
-    match shown {
-        None => None,
-        Some(shown) => {
-            let none = Decoding::fresh(decoding.collected.allocator(), decoding.purpose, false);
-            Some(OpenBlock {
-                shown,
-                decoding: Some(mem::replace(decoding, none)),
-            })
-        }
-    }
-}
 
 impl<'b, A: Allocator + Copy> State<'b, A> {
     /// What a fragment results in is made: a connection error, or the change, and then block and table; or nothing.

@@ -25,8 +25,7 @@ ghost use Rattle.h2_spec.specs.declared.reactions.Reaction.TheVariants.{Connecti
 ghost use Rattle.h2_conn.specs.Blocks.{IsStopped};
 ghost use Rattle.h2_conn.specs.Counts.{IsCounted};
 ghost use Rattle.h2_conn.specs.Does.{Does, IsShort, stepped};
-ghost use Rattle.h2_conn.specs.Parted.{IsPlain};
-ghost use Rattle.h2_conn.specs.Sending.{records};
+ghost use Rattle.h2_conn.specs.Records.{records};
 ghost use Rattle.h2_rules.specs.Sound.{HasBody, IsSound, IsSoundState, IsSoundStream, in_force};
 
 use crate::state::State;
@@ -397,39 +396,6 @@ impl<'b, A: Allocator + Copy> State<'b, A> {
         self.take_stream_window(id, increment, out)
     }
 
-    /// A frame that is no HEADERS, no CONTINUATION and no acknowledgement of settings, by what it holds.
-    #[inline(always)]
-    fn on_plain<O: Outgoing<'b, A>>(
-        &mut self,
-        head: &Head,
-        payload: &[u8],
-        part: Part<'_>,
-        out: &mut O,
-    ) -> Result<Verdict, AllocError>
-        requires fits { length payload.now < 2 ^ 24 }
-        requires part { part_of head.now payload.now ≡ Ok (part_seen part) }
-        requires plain { IsPlain part }
-        requires stopped { IsStopped self.old.block }
-        ensures ok { OnOk result (Does (stepped (rule.concluded self.old (rule.frame_effect self.old head.now payload.now (part_seen part.entry)))) (O.octets out.old) self.new (O.octets out.new)) }
-        ensures verdict { IfOk result (λ verdict. verdict ≡ rule.effect_verdict (rule.frame_effect self.old head.now payload.now (part_seen part.entry))) }
-        ensures err { OnErr result ((self.new ≡ self.old) × (O.octets out.new ≡ O.octets out.old)) }
-    {
-        match part {
-            Part::Data(part) => self.take_data(head, part, payload, out),
-            Part::RstStream(_) => self.take_reset(head.stream, out),
-            Part::Settings(part) => self.take_settings(part, out),
-            Part::Ping(octets) => self.take_ping(head.has(ACK), octets, out),
-            Part::Goaway(last, code) => self.take_goaway(last, code, out),
-            Part::WindowUpdate(increment) => {
-                self.take_window_update(head.stream, increment, out)
-            }
-            Part::Priority => self.take_ignored(Ignored::Priority, out),
-            Part::Unknown => self.take_ignored(Ignored::UnknownType, out),
-            Part::PushPromise => self.take_push_promise(out),
-            Part::Headers(_) | Part::Continuation(_) | Part::SettingsAck => unreachable!(),
-        }
-    }
-
     /// A frame that has passed the checks, by what it holds.
     fn on_part<O: Outgoing<'b, A>>(
         &mut self,
@@ -446,18 +412,20 @@ impl<'b, A: Allocator + Copy> State<'b, A> {
         ensures err { OnErr result ((self.new ≡ self.old) × (O.octets out.new ≡ O.octets out.old)) }
     {
         match part {
+            Part::Data(part) => self.take_data(head, part, payload, out),
             Part::Headers(part) => self.on_headers(head, part, out),
-            Part::Continuation(octets) => self.on_continuation(head, octets, out),
+            Part::Priority => self.take_ignored(Ignored::Priority, out),
+            Part::RstStream(_) => self.take_reset(head.stream, out),
+            Part::Settings(part) => self.take_settings(part, out),
             Part::SettingsAck => self.on_acknowledged(out),
-            Part::Data(_)
-            | Part::Priority
-            | Part::RstStream(_)
-            | Part::Settings(_)
-            | Part::PushPromise
-            | Part::Ping(_)
-            | Part::Goaway(_, _)
-            | Part::WindowUpdate(_)
-            | Part::Unknown => self.on_plain(head, payload, part, out),
+            Part::PushPromise => self.take_push_promise(out),
+            Part::Ping(octets) => self.take_ping(head.has(ACK), octets, out),
+            Part::Goaway(last, code) => self.take_goaway(last, code, out),
+            Part::WindowUpdate(increment) => {
+                self.take_window_update(head.stream, increment, out)
+            }
+            Part::Continuation(octets) => self.on_continuation(head, octets, out),
+            Part::Unknown => self.take_ignored(Ignored::UnknownType, out),
         }
     }
 

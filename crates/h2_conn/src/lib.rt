@@ -4,7 +4,6 @@
 
 mod apply_change;
 mod block;
-mod block_end;
 mod checkpoint;
 mod conn;
 mod fault;
@@ -14,25 +13,19 @@ mod headers_frame;
 mod item;
 mod look;
 mod one;
-mod opening;
-mod pieces;
 pub mod play;
 mod receive;
 pub mod report;
-mod send_pending;
-mod send_update;
 mod state;
-mod tentative;
 pub mod view;
-mod write;
 
 pub use checkpoint::Checkpoint;
 pub use conn::{Conn, is_ended};
 pub use fault::ConnFault;
+pub use h2_send::write_opening;
 pub use h2_spec::connection::{BlockView, Config, Phase};
 pub use h2_spec::flow::Settings;
 pub use h2_spec::streams::{Numbers, StreamView};
 pub use one::One;
-pub use opening::write_opening;
 pub use report::TakenItem;
 pub use view::View;

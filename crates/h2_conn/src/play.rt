@@ -14,10 +14,10 @@ ghost use Rattle.h2_conn.specs.declared.fault.ConnFault.TheVariants.{NoMemory};
 
 use crate::conn::Conn;
 use crate::fault::ConnFault;
-use crate::pieces::octets_at;
 use crate::view::View;
 use h2_frame::Outgoing;
 use h2_request::book::Book;
+use h2_send::octets_at;
 use h2_spec::connection::Config;
 use h2_spec::octets::octets_from;
 use std::alloc::Allocator;

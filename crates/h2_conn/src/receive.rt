@@ -11,11 +11,11 @@ ghost use Rattle.h2_spec.specs.Trace.{then_sent};
 ghost use Rattle.h2_conn.specs.Blocks.{IsStopped};
 ghost use Rattle.h2_conn.specs.Does.{Does, stepped};
 
-use crate::apply_change::{send_and_update, with_sent};
 use crate::state::State;
 use h2_frame::Outgoing;
 use h2_rules::change::{ignoring, only_counts, verdict_of};
 use h2_rules::settings::comes_into_force;
+use h2_send::{send_and_update, with_sent};
 use h2_spec::ignored::Ignored;
 use h2_spec::reactions::Verdict;
 use std::alloc::{AllocError, Allocator};

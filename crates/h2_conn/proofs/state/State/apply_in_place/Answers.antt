@@ -8,10 +8,12 @@ use Rattle.h2_spec.specs.Trace.{then_sent}
 use Rattle.h2_conn.specs.Blocks.{IsOpenFor}
 use Rattle.h2_conn.specs.Counts.{with_counts}
 use Rattle.h2_conn.specs.Does.{Does}
-use Rattle.h2_conn.specs.Sending.{open_window, records, records_after}
+use Rattle.h2_conn.specs.Records.{records}
+use Rattle.h2_send.specs.Sending.{open_window, records_after}
 use Rattle.h2_rules.specs.Sound.{IsSoundChange, IsSoundState, in_force, updated_records}
-use Rattle.h2_conn.proofs.ApplyChangeLaws.{inside-sound, can-send, open-after, counts-sent, did}
-use Rattle.h2_conn.proofs.SentLaws.{sent-sound}
+use Rattle.h2_conn.proofs.ApplyChangeLaws.{inside-sound, open-after, counts-sent, did}
+use Rattle.h2_send.proofs.SendChangeLaws.{can-send}
+use Rattle.h2_send.proofs.SentLaws.{sent-sound}
 use Rattle.h2_rules.proofs.SoundLaws.{changed-sound, same-own}
 use Rattle.h2_conn.proofs.state.State.apply_in_place.Goals as goal
 

@@ -9,10 +9,11 @@ use Rattle.h2_spec.specs.Stream.{Records}
 use Rattle.h2_spec.specs.Trace.{then_sent}
 use Rattle.h2_conn.specs.Blocks.{IsStopped}
 use Rattle.h2_conn.specs.Does.{Does}
-use Rattle.h2_conn.specs.Sending.{CanSend, open_window, records_after}
+use Rattle.h2_send.specs.Sending.{open_window, records_after, CanSend}
 use Rattle.h2_rules.specs.Sound.{AreInRange, IsSoundState, updated_records}
-use Rattle.h2_conn.proofs.ApplyChangeLaws.{can-come, counts-sent, did, stopped-open}
-use Rattle.h2_conn.proofs.SentLaws.{sent-sound}
+use Rattle.h2_conn.proofs.ApplyChangeLaws.{counts-sent, did, stopped-open}
+use Rattle.h2_send.proofs.SendChangeLaws.{can-come}
+use Rattle.h2_send.proofs.SentLaws.{sent-sound}
 use Rattle.h2_rules.proofs.SoundLaws.{in-force-sound}
 use Rattle.h2_conn.proofs.state.State.come_into_force.Goals as goal
 

@@ -1,6 +1,6 @@
 use Rattle.std.proofs.Common.{refl, subst}
 use Rattle.h2_spec.specs.State.{State}
-use Rattle.h2_conn.specs.Sending.{records}
+use Rattle.h2_conn.specs.Records.{records}
 use Rattle.h2_rules.specs.Sound.{IsSoundState}
 use Rattle.h2_conn.proofs.state.State.core.Goals as goal
 

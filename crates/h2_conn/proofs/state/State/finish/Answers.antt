@@ -6,10 +6,11 @@ use Rattle.h2_spec.specs.Effect as rule
 use Rattle.h2_spec.specs.State.{OpenBlock, State}
 use Rattle.h2_spec.specs.Trace.{then_sent}
 use Rattle.h2_table.specs.Edits.{IsEdit, edited}
-use Rattle.h2_conn.specs.Blocks.{IsOpenFor, IsSoundEffect, block_after, effect_seen, limited}
+use Rattle.h2_conn.specs.Blocks.{IsOpenFor, IsSoundEffect, effect_seen, limited}
+use Rattle.h2_block.specs.Blocks.{block_after}
 use Rattle.h2_conn.specs.Does.{Does, stepped}
-use Rattle.h2_conn.specs.Fragments.{after_of}
-use Rattle.h2_conn.specs.Sending.{records}
+use Rattle.h2_block.specs.Fragments.{after_of}
+use Rattle.h2_conn.specs.Records.{records}
 use Rattle.h2_rules.specs.Sound.{in_force}
 use Rattle.h2_conn.proofs.FinishLaws.{open-then, rebound, same-settings, same-table}
 use Rattle.h2_conn.proofs.state.State.finish.Goals as goal

@@ -1,7 +1,7 @@
 use Rattle.std.proofs.Common.{◌≡◌, ℕ, sym, subst, ap}
 use Rattle.h2_spec.specs.declared.connection.ConnectionState.{ConnectionState}
 use Rattle.h2_spec.specs.Stream.{stream_at}
-use Rattle.h2_conn.specs.Sending.{records}
+use Rattle.h2_conn.specs.Records.{records}
 use Rattle.h2_rules.specs.Sound.{IsSound, in_force}
 use Rattle.h2_conn.proofs.CountsLaws.{counted-by, data-counted}
 use Rattle.h2_conn.proofs.state.State.on_data.Goals as goal

@@ -6,7 +6,7 @@ use Rattle.h2_spec.specs.Headers.{FrameEffect}
 use Rattle.h2_spec.specs.State.{State}
 use Rattle.h2_conn.specs.Blocks.{effect_seen}
 use Rattle.h2_conn.specs.Does.{Does, stepped}
-use Rattle.h2_conn.specs.Fragments.{after_of}
+use Rattle.h2_block.specs.Fragments.{after_of}
 use Rattle.h2_conn.proofs.state.State.on_fragment.Goals as goal
 
 pub returns-in-Ok-clause-ok : goal.returns-in-Ok-clause-ok

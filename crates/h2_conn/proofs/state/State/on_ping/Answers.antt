@@ -1,6 +1,6 @@
 use Rattle.std.proofs.Common.{sym, subst, ap}
 use Rattle.h2_spec.specs.declared.connection.ConnectionState.{ConnectionState}
-use Rattle.h2_conn.specs.Sending.{records}
+use Rattle.h2_conn.specs.Records.{records}
 use Rattle.h2_rules.specs.Sound.{IsSound, in_force}
 use Rattle.h2_conn.proofs.CountsLaws.{counted-by, ping-counted}
 use Rattle.h2_conn.proofs.state.State.on_ping.Goals as goal

@@ -2,7 +2,7 @@ use Rattle.std.proofs.Common.{subst}
 use Rattle.h2_spec.specs.declared.connection.ConnectionState.{ConnectionState}
 use Rattle.h2_spec.specs.State.{State}
 use Rattle.h2_streams.specs.Greatest.{IsGreatest}
-use Rattle.h2_conn.specs.Sending.{records}
+use Rattle.h2_conn.specs.Records.{records}
 use Rattle.h2_rules.specs.Sound.{IsSound, in_force}
 use Rattle.h2_conn.proofs.state.State.on_settings.Goals as goal
 

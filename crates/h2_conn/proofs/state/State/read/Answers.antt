@@ -4,8 +4,8 @@ use Rattle.h2_spec.specs.Headers.{goes_on}
 use Rattle.h2_spec.specs.State.{Decoding, State}
 use Rattle.h2_spec.specs.Stream.{Records}
 use Rattle.h2_conn.specs.Blocks.{IsOpenAt}
-use Rattle.h2_conn.specs.Fragments.{after_of}
-use Rattle.h2_conn.specs.Sending.{records}
+use Rattle.h2_block.specs.Fragments.{after_of}
+use Rattle.h2_conn.specs.Records.{records}
 use Rattle.h2_rules.specs.Sound.{IsSoundChange, IsSoundConnectionState, in_force}
 use Rattle.h2_conn.proofs.FragmentLaws.{goes-on-sound, read-bad, read-begun, read-ended, same-records}
 use Rattle.h2_conn.proofs.state.State.read.Goals as goal

@@ -1,0 +1,15 @@
+-- Field blocks that are not at their end.
+use Rattle.std.specs.Prelude.{length, ◌==◌, Option, Some, None}
+use Rattle.h2_spec.specs.declared.causes.Cause.{Cause}
+use Rattle.h2_spec.specs.declared.connection.BlockView.{BlockView}
+use Rattle.h2_spec.specs.State.{Decoding, OpenBlock}
+use Rattle.h2_rules.specs.Block.{refused_end}
+
+-- why a block can't end here, if it can't (RFC 9113, 4.3)
+abbrev pub bad_end : Decoding → Option Cause
+bad_end d = refused_end (length d.rest == 0) d.due
+
+-- the block that is open after it, as it is shown and decoded
+abbrev pub block_after : Option BlockView → Decoding → Option OpenBlock
+block_after None d = None
+block_after (Some shown) d = Some (record { shown = shown; decoding = Some d })

@@ -1,0 +1,106 @@
+//! A fragment of a field block that is decoded but not taken over: the block can still go back to how far it was
+//! before. Definitions: `decoded` of h2_spec's `specs/Block.antt`, and `specs/Blocks.antt` and `specs/Fragments.antt`
+//! here.
+
+ghost use Rattle.std.specs.Prelude.{◌≡◌, ◌≢◌, ◌++◌, length, IfErr, OnOk};
+ghost use Rattle.h2_spec.specs.Block as block;
+ghost use Rattle.h2_fields.specs.declared.fault.BlockFault.TheVariants.{NoMemory};
+ghost use Rattle.h2_table.specs.Edits.{IsEdit, edited};
+ghost use Rattle.h2_block.specs.Blocks.{bad_end};
+ghost use Rattle.h2_block.specs.Fragments.{HasFault, IsSized, after_fragment, after_of, before_fragment, before_of};
+
+use crate::decoding::Decoding;
+use h2_fields::collected::Savepoint;
+use h2_fields::fault::BlockFault;
+use h2_fields::fragment::decode_piece;
+use h2_fields::rest::{Rest, RestChange};
+use h2_rules::block::refused_end;
+use h2_spec::causes::Cause;
+use h2_table::{DynTable, Edit};
+use std::alloc::Allocator;
+use std::marker::Model;
+use std::mem;
+
+/// What takes a block that is decoded with a fragment more back to how far it was before the fragment, or on to how far
+/// it is after it.
+#[derive(Drop)]
+pub struct Tentative<A: Allocator> {
+    /// The octets that are left before the fragment and after it.
+    rest: RestChange<A>,
+    /// The end of the fields before the fragment.
+    savepoint: Savepoint,
+}
+
+impl<A: Allocator> Model for Tentative<A> {
+    ghost use Rattle.h2_block.specs.Fragments as fragments;
+
+    ghost Value = { fragments.Tentative };
+
+    ghost view = { λ t. record { savepoint = t.savepoint; before = t.rest.before; after = t.rest.after } };
+}
+
+impl<A: Allocator + Copy> Decoding<A> {
+    /// No fragment is decoded. The octets that are left are taken out of the block until it is taken over or given up.
+    pub fn unchanged(&mut self) -> Tentative<A>
+        ensures before { before_of self.new result ≡ self.old }
+        ensures after { after_of self.new result ≡ self.old }
+        ensures sized { IsSized self.new result }
+    {
+        let savepoint = self.collected.savepoint();
+        let none = Rest::new(self.collected.allocator());
+        let rest = RestChange::unchanged(mem::replace(&mut self.rest, none));
+        Tentative { rest, savepoint }
+    }
+
+    /// Decodes a fragment over an edit of the table, which does not change. `edit` may be of any table: its memory is
+    /// used again. The octets that are left are taken out of the block until it is taken over or given up.
+    ///
+    /// # Errors
+    ///
+    /// As those of `decode_piece`.
+    pub fn decode(
+        &mut self,
+        table: &DynTable<A>,
+        edit: Edit<A>,
+        octets: &[u8],
+    ) -> (Edit<A>, Tentative<A>, Result<(), BlockFault>)
+        ensures before { before_of self.new result.1 ≡ self.old }
+        ensures sized { IsSized self.new result.1 }
+        ensures purpose { self.new.purpose ≡ self.old.purpose }
+        ensures belongs { IsEdit table.now result.0 }
+        ensures decoded { OnOk result.2 (block.decoded table.now.limit (before_fragment table.now.table self.old) (self.old.rest ++ octets.now) ≡ after_fragment (edited table.now.table.entries result.0) (after_of self.new result.1)) }
+        ensures faulty { IfErr result.2 (λ fault. fault ≢ NoMemory → HasFault fault (block.decoded table.now.limit (before_fragment table.now.table self.old) (self.old.rest ++ octets.now))) }
+    {
+        let savepoint = self.collected.savepoint();
+        let none = Rest::new(self.collected.allocator());
+        let before = mem::replace(&mut self.rest, none);
+        let (edit, rest, result) = decode_piece(&mut self.collected, table, edit, before, octets);
+        (edit, Tentative { rest, savepoint }, result)
+    }
+
+    /// The block becomes what it was before the fragment.
+    pub fn give_up(&mut self, tentative: Tentative<A>)
+        requires sized { IsSized self.old tentative }
+        ensures { self.new ≡ before_of self.old tentative }
+    {
+        let Tentative { rest, savepoint } = tentative;
+        self.collected.restore(savepoint);
+        self.rest = rest.give_up();
+    }
+
+    /// The block becomes what it is after the fragment.
+    pub fn take_over(&mut self, tentative: Tentative<A>)
+        ensures { self.new ≡ after_of self.old tentative }
+    {
+        let Tentative { rest, savepoint: _ } = tentative;
+        self.rest = rest.take_over();
+    }
+
+    /// Why the block can't end after the fragment, if it can't: an instruction is begun and not ended, or a size update
+    /// is due (RFC 9113, 4.3 and 4.3.1).
+    pub fn bad_end(&self, tentative: &Tentative<A>) -> Option<Cause>
+        ensures { result ≡ bad_end (after_of self.now tentative.now) }
+    {
+        refused_end(tentative.rest.is_whole(), self.collected.is_due())
+    }
+}

@@ -1,0 +1,9 @@
+pub mod AboveLaws
+pub mod AloneLaws
+pub mod KindLaws
+mod PiecesLaws
+pub mod PreparedLaws
+pub mod SendChangeLaws
+pub mod SentLaws
+pub mod ShortLaws
+pub mod UndoLaws

@@ -1,0 +1,4 @@
+pub mod Above
+pub mod Prepared
+pub mod Sending
+pub mod Short
