@@ -151,6 +151,7 @@ impl<A: Allocator + Copy> Explainer<A> {
     fn read_block(&mut self, alloc: A, item: &Explained<'_>) -> Result<bool, AllocError>
         ensures shows { IfOk result (λ shows. shows ≡ shows_fields_with item.now) }
         ensures notes { OnOk result (self.new.notes ≡ record self.old.notes { block = begun_after self.old.notes.block item.now.number item.now.before.block item.now.what }) }
+        ensures full { self.new.is_full ≡ self.old.is_full }
     {
         let Some(frame) = item.frame() else {
             return Ok(false);
@@ -193,6 +194,7 @@ impl<A: Allocator + Copy> Explainer<A> {
         ensures changes { OnOk result (out.new.items ≡ out.old.items ++ changes_of_sent item.now conn.now.state (note_of self.old.notes)) }
         ensures notes { OnOk result (AreNotes self.new.notes (notes_of_sent item.now conn.now.state (note_of self.old.notes))) }
         ensures blocks { OnOk result (KeepsBlocks self.old.notes self.new.notes) }
+        ensures full { self.new.is_full ≡ self.old.is_full }
     {
         let mut rest = item.sent;
         for _frame in 0..item.sent.len() {
@@ -217,6 +219,7 @@ impl<A: Allocator + Copy> Explainer<A> {
         ensures changes { OnOk result (out.new.items ≡ out.old.items ++ changes_since (note_of self.old.notes stream) (stream_at conn.now.state.core.last conn.now.state.streams stream) item.now.after.counts.send) }
         ensures notes { OnOk result (AreNotes self.new.notes (with_later_note (note_of self.old.notes stream) item.now.number (stream_at conn.now.state.core.last conn.now.state.streams stream) (note_of self.old.notes))) }
         ensures blocks { OnOk result (KeepsBlocks self.old.notes self.new.notes) }
+        ensures full { self.new.is_full ≡ self.old.is_full }
     {
         let Some(note) = self.notes.of(stream) else {
             return Ok(());
@@ -308,7 +311,8 @@ impl<A: Allocator + Copy> Explainer<A> {
 
     /// Notes that the server has reset a stream at an item that ended the client's side, if it is so.
     fn note_refused_end(&mut self, item: &Explained<'_>) -> Result<(), AllocError>
-        ensures { self.new.notes ≡ self.old.notes }
+        ensures notes { self.new.notes ≡ self.old.notes }
+        ensures full { self.new.is_full ≡ self.old.is_full }
     {
         let stream = item.after.stream.id;
         match (item.before.stream.kind, item.after.stream.kind) {
@@ -334,6 +338,7 @@ impl<A: Allocator + Copy> Explainer<A> {
         ensures block { OnOk result (self.new.notes.block ≡ self.old.notes.block) }
         ensures block_end { OnOk result (self.new.notes.block_end ≡ block_end_with self.old.notes.block_end item.now.number (head_in item.now.what)) }
         ensures still { OnOk result (moves_windows item.now ≡ false → self.new.notes.streams ≡ self.old.notes.streams) }
+        ensures full { self.new.is_full ≡ self.old.is_full }
     {
         self.note_refused_end(item)?;
         note_moved(alloc, conn, item, &mut self.notes, &mut self.live)?;
@@ -355,7 +360,9 @@ impl<A: Allocator + Copy> Explainer<A> {
         ensures fields { IfOk result (λ account. account.shows_fields ≡ shows_fields_with item.now) }
         ensures warnings { IfOk result (λ account. AreWarnings item.now account.facts account.warnings) }
         ensures changes { IfOk result (λ account. ListsChanges item.now conn.now.state (begun_after self.old.notes.block item.now.number item.now.before.block item.now.what) (note_of self.old.notes) account.changes.items) }
+        ensures texts { IfOk result (λ account. account.is_full ≡ self.old.is_full) }
         ensures notes { OnOk result (NotesItem item.now conn.now.state self.old.notes self.new.notes) }
+        ensures full { self.new.is_full ≡ self.old.is_full }
     {
         let shows_fields = self.read_block(alloc, item)?;
         self.table.follow_refused(alloc, item, &self.reader)?;
@@ -388,7 +395,8 @@ impl<A: Allocator + Copy> Explainer<A> {
         alloc: A,
         item: &Explained<'_>,
     ) -> Result<Vec<EntryChange<A>, A>, AllocError>
-        ensures { self.new.notes ≡ self.old.notes }
+        ensures notes { self.new.notes ≡ self.old.notes }
+        ensures full { self.new.is_full ≡ self.old.is_full }
     {
         let Some(head) = item.head() else {
             return Ok(Vec::new(alloc));
@@ -416,6 +424,7 @@ impl<A: Allocator + Copy> Explainer<A> {
         ensures changes { IfOk result (λ list. ListsChanges item.now conn.now.state self.old.notes.block (note_of self.old.notes) list.items) }
         ensures notes { OnOk result (AreNotes self.new.notes (notes_of_sent item.now conn.now.state (noted_with item.now self.old.notes.block (note_of self.old.notes)))) }
         ensures blocks { OnOk result (KeepsBlocks self.old.notes self.new.notes) }
+        ensures full { self.new.is_full ≡ self.old.is_full }
     {
         let mut list = Vec::new(alloc);
         let (before, after) = (&item.before, &item.after);
