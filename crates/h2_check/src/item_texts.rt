@@ -90,6 +90,16 @@ fn octets_of_lines(alloc: Global, lines: &[&[u8]]) -> Result<Vec<u8>, AllocError
     Ok(octets)
 }
 
+/// The text of these octets. `AllocError` where they are not UTF-8, which those of a text are.
+fn text_with(octets: Vec<u8>) -> Result<String, AllocError>
+    ensures { IfOk result (λ text. string_bytes text ≡ octets.items) }
+{
+    match String::from_utf8(octets) {
+        Ok(text) => Ok(text),
+        Err(_) => Err(AllocError),
+    }
+}
+
 /// The text of an item that a connection has just taken.
 fn text_of(
     alloc: Global,
@@ -99,8 +109,12 @@ fn text_of(
 ) -> Result<String, AllocError>
     ensures { IfOk result (λ text. IsTextOf false false item.now (string_bytes text)) }
 {
-    match explainer.account(alloc, conn, item) {
-        Ok(account) => lines_of(alloc, item, &account, &explainer.reader, Paint(false)),
+    let account = match explainer.account(alloc, conn, item) {
+        Ok(account) => account,
+        Err(error) => return Err(error),
+    };
+    match lines_of(alloc, item, &account, &explainer.reader, Paint(false)) {
+        Ok(octets) => text_with(octets),
         Err(error) => Err(error),
     }
 }

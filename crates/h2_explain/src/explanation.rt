@@ -45,7 +45,7 @@ fn write<O: Output>(output: &mut O, octets: &[u8]) -> Result<(), ExplainFault>
     }
 }
 
-/// The text of an item.
+/// The octets of the text of an item.
 fn item_text<A: Allocator + Copy>(
     alloc: A,
     form: Form,
@@ -53,15 +53,16 @@ fn item_text<A: Allocator + Copy>(
     tally: &mut Tally<A>,
     conn: &Conn<'_, A>,
     item: &Explained<'_>,
-) -> Result<String<A>, AllocError>
-    ensures text { IfOk result (λ text. IsItemText form item.now (string_bytes text)) }
+) -> Result<Vec<u8, A>, AllocError>
+    ensures text { IfOk result (λ octets. IsItemText form item.now octets.items) }
     ensures tally { OnOk result (TalliesItem tally.old item.now tally.new) }
 {
     let account = explainer.account(alloc, conn, item)?;
     tally.note(item, account.facts, account.warnings)?;
     let reader = &explainer.reader;
     if form.json {
-        json_of(alloc, item, &account, reader)
+        let text = json_of(alloc, item, &account, reader)?;
+        Ok(text.into_bytes())
     } else {
         lines_of(alloc, item, &account, reader, Paint(form.color))
     }
@@ -84,7 +85,7 @@ fn write_item<A: Allocator + Copy, O: Output>(
     ensures name { O.name output.new ≡ O.name output.old }
 {
     match item_text(alloc, form, explainer, tally, conn, item) {
-        Ok(text) => write(output, text.as_bytes()),
+        Ok(octets) => write(output, octets.as_slice()),
         Err(_) => Err(ExplainFault::NoMemory),
     }
 }

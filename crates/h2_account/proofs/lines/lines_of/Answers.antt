@@ -10,4 +10,5 @@ pub returns-then-is_silent : goal.returns-then-is_silent
 returns-then-is_silent g c =
     let silent : is_silent c.args.item.now.what ≡ true = sym c.is_silent.ensures ∙ c.if-is_silent.true in
     let said = opening-alone (string_bytes c.in_ok-opening.opening) in
-    (said, sym (ap (λ (b : Bool). lines_unless b c.args.paint.0 c.args.item.now said) silent))
+    let octets = ap (λ (v : Vec g.row.A.Denot). v.items) c.into_bytes.ensures.value in
+    (said, octets ∙ sym (ap (λ (b : Bool). lines_unless b c.args.paint.0 c.args.item.now said) silent))
