@@ -13,7 +13,7 @@ use crate::text::{mode_name, read_answer, say_item};
 use crate::warning_words::put_warnings;
 use h2_changes::changes::{Moved, ShownChange};
 use h2_changes::count::Count;
-use h2_describe::frame_words::say_frame;
+use h2_describe::frame_words::say_frame_in;
 use h2_describe::names::{code_name, kind_name, registered_setting, registered_type, setting_name};
 use h2_describe::say::{Hex, HexOctet, Say, TextBuilder};
 use h2_describe::say_all;
@@ -112,28 +112,31 @@ fn put_settings<A: Allocator>(part: SettingsPart<'_>, out: &mut JsonWords<A>) {
 }
 
 /// What a payload has, by the frame's type; its octets where it has nothing else, or can't be read.
-fn put_parts<A: Allocator>(frame: FrameRef<'_>, out: &mut JsonWords<A>) {
-    match part_of(frame) {
-        Ok(Part::Settings(part)) => put_settings(part, out),
-        Ok(Part::RstStream(number)) => put_code(number, out),
-        Ok(Part::Goaway(last, number)) => put_goaway(last, number, frame.payload, out),
-        Ok(Part::WindowUpdate(increment)) => out.number(member!("increment"), u64::from(increment)),
-        Ok(Part::Data(part)) => {
+fn put_parts<A: Allocator>(frame: FrameRef<'_>, part: Option<Part<'_>>, out: &mut JsonWords<A>) {
+    match part {
+        Some(Part::Settings(part)) => put_settings(part, out),
+        Some(Part::RstStream(number)) => put_code(number, out),
+        Some(Part::Goaway(last, number)) => put_goaway(last, number, frame.payload, out),
+        Some(Part::WindowUpdate(increment)) => out.number(
+            member!("increment"),
+            u64::from(increment),
+        ),
+        Some(Part::Data(part)) => {
             put_octets(member!("content"), part.content, out);
             out.number(member!("padding"), part.padding.len() as u64);
         }
-        Ok(Part::Headers(part)) => put_headers(part, frame.payload, out),
-        Ok(Part::Continuation(fragment)) => {
+        Some(Part::Headers(part)) => put_headers(part, frame.payload, out),
+        Some(Part::Continuation(fragment)) => {
             put_octets(member!("fragment"), fragment, out);
             put_octets(member!("octets"), frame.payload, out);
         }
-        Ok(Part::Priority) => put_priority_frame(frame.payload, out),
-        Ok(Part::SettingsAck) => {
+        Some(Part::Priority) => put_priority_frame(frame.payload, out),
+        Some(Part::SettingsAck) => {
             put_octets(member!("octets"), frame.payload, out);
             out.open_list(member!("settings"));
             out.close_list();
         }
-        Ok(_) | Err(_) => put_octets(member!("octets"), frame.payload, out),
+        Some(_) | None => put_octets(member!("octets"), frame.payload, out),
     }
 }
 
@@ -167,10 +170,10 @@ fn put_priority_frame<A: Allocator>(payload: &[u8], out: &mut JsonWords<A>) {
     }
 }
 
-/// The payload of a frame.
-fn put_payload<A: Allocator>(frame: FrameRef<'_>, out: &mut JsonWords<A>) {
+/// The payload of a frame: what it holds, none where it can't be read.
+fn put_payload<A: Allocator>(frame: FrameRef<'_>, part: Option<Part<'_>>, out: &mut JsonWords<A>) {
     out.open(member!("payload"));
-    put_parts(frame, out);
+    put_parts(frame, part, out);
     out.close();
 }
 
@@ -186,9 +189,14 @@ fn put_goaway<A: Allocator>(last: u32, number: u32, payload: &[u8], out: &mut Js
 }
 
 /// Puts a frame in words in.
-fn put_frame_words<A: Allocator + Copy>(alloc: A, frame: FrameRef<'_>, out: &mut JsonWords<A>) {
+fn put_frame_words<A: Allocator + Copy>(
+    alloc: A,
+    frame: FrameRef<'_>,
+    part: Option<Part<'_>>,
+    out: &mut JsonWords<A>,
+) {
     let mut words = out.empty(alloc);
-    say_frame(frame, &mut words);
+    say_frame_in(frame, part, true, &mut words);
     out.words(member!("words"), words);
 }
 
@@ -215,8 +223,9 @@ fn put_sent_frame<A: Allocator + Copy>(
     out.open(member!("octets"));
     put_hex(out.shown_of(octets), octets, out);
     out.close();
-    put_payload(frame, out);
-    put_frame_words(alloc, frame, out);
+    let part = part_of(frame).ok();
+    put_payload(frame, part, out);
+    put_frame_words(alloc, frame, part, out);
     out.close();
 }
 
@@ -543,7 +552,7 @@ fn put_item<A: Allocator + Copy>(alloc: A, item: &Explained<'_>, out: &mut JsonW
     put_octets(member!("octets"), item.octets, out);
     out.number(member!("offset"), item.offset as u64);
     if let Some(frame) = item.frame() {
-        put_payload(frame, out);
+        put_payload(frame, item.part, out);
     }
     put_sent(alloc, item.sent, out);
 }

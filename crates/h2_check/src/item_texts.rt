@@ -17,6 +17,7 @@ use h2_cases::{Line, line_of};
 use h2_conn::{Conn, ConnFault};
 use h2_describe::sent::first_of;
 use h2_explain::{Explained, Explainer, take_next};
+use h2_item::item::part_in;
 use h2_request::book::Book;
 use h2_script::{LineFault, add_line};
 use h2_spec::connection::Config;
@@ -154,13 +155,15 @@ fn take_text(
     };
     let taken = taking.taken;
     let used = taken.used;
+    let own = first_of(octets, used);
     let item = Explained {
         number: texts.len() as u64 + 1,
         offset,
-        octets: first_of(octets, used),
+        octets: own,
         ahead: octets,
         used,
         what: taken.item,
+        part: part_in(taken.item, own),
         cause: taken.cause,
         ignored: taken.ignored,
         sent: sent.as_slice(),

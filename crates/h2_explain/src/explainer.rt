@@ -4,9 +4,8 @@
 ghost use Rattle.std.specs.Prelude.{◌≡◌, ◌++◌, false, IfOk, OnOk};
 ghost use Rattle.std.specs.BTreeMap.{IsEmpty};
 ghost use Rattle.std.specs.Option.{option_map};
-ghost use Rattle.h2_spec.specs.Payload.{part_of};
 ghost use Rattle.h2_spec.specs.Stream.{stream_at};
-ghost use Rattle.h2_item.specs.Item.{head_in};
+ghost use Rattle.h2_item.specs.Item.{frame_in, head_in, part_in};
 ghost use Rattle.h2_explain.specs.Account.{KeepsBlocks, ListsChanges, NotesItem, begun_after, block_end_with, changes_of_sent, changes_since, ended_with, unread, fragment_in, is_compression, is_of_block, is_of_fields, moves_windows, noted_with, notes_of_sent, reads_fields, shows_fields_with};
 ghost use Rattle.h2_item.specs.Notes.{AreNotes, note_of, with_later_note};
 ghost use Rattle.h2_facts.specs.Warnings.{AreWarnings};
@@ -22,7 +21,7 @@ use h2_facts::facts::{facts_of, others_of, wider_of};
 use h2_facts::request_facts::{RequestFacts, request_facts};
 use h2_facts::special::CaseFacts;
 use h2_facts::warning::{opens_stream, warnings_of};
-use h2_frame::{FrameRef, Part, part_of};
+use h2_frame::Part;
 use h2_item::error_context::ErrorContext;
 use h2_item::header_table::{EntryChange, Followed};
 use h2_item::item::Explained;
@@ -30,7 +29,7 @@ use h2_item::notes::Notes;
 use h2_sentence::sentence::say_sentence;
 use h2_spec::causes::Cause;
 use h2_spec::errors::ErrorCode;
-use h2_spec::frames::{CONTINUATION, END_HEADERS, END_STREAM, FrameType, HEADERS, Head};
+use h2_spec::frames::{CONTINUATION, END_HEADERS, END_STREAM, FrameType, HEADERS, Head, ItemHead};
 use h2_spec::streams::StreamState;
 use std::alloc::{AllocError, Allocator, Global};
 use std::collections::BTreeMap;
@@ -52,13 +51,14 @@ pub struct Explainer<A: Allocator = Global> {
     pub is_full: bool,
 }
 
-/// The fragment of a field block that a frame has, if its payload can be read as one (RFC 9113, 6.2 and 6.10).
-fn fragment_of(frame: FrameRef<'_>) -> Option<&[u8]>
-    ensures { option_map (λ x. x.now) result ≡ fragment_in (part_of frame.entry.head frame.entry.payload.now) }
+/// The fragment of a field block that the frame of an item has, if its payload can be read as one (RFC 9113, 6.2 and
+/// 6.10).
+fn fragment_of<'o>(item: &Explained<'o>) -> Option<&'o [u8]>
+    ensures { option_map (λ x. x.now) result ≡ fragment_in (part_in (frame_in item.now.what item.now.octets.now)) }
 {
-    match part_of(frame) {
-        Ok(Part::Headers(part)) => Some(part.fragment),
-        Ok(Part::Continuation(fragment)) => Some(fragment),
+    match item.part {
+        Some(Part::Headers(part)) => Some(part.fragment),
+        Some(Part::Continuation(fragment)) => Some(fragment),
         _ => None,
     }
 }
@@ -153,10 +153,9 @@ impl<A: Allocator + Copy> Explainer<A> {
         ensures notes { OnOk result (self.new.notes ≡ record self.old.notes { block = begun_after self.old.notes.block item.now.number item.now.before.block item.now.what }) }
         ensures full { self.new.is_full ≡ self.old.is_full }
     {
-        let Some(frame) = item.frame() else {
+        let ItemHead::Frame(head) = item.what else {
             return Ok(false);
         };
-        let head = frame.head;
         if !is_of_block(item, &head) {
             return Ok(false);
         }
@@ -168,7 +167,7 @@ impl<A: Allocator + Copy> Explainer<A> {
         if !reads_fields(item) {
             return Ok(false);
         }
-        if let Some(fragment) = fragment_of(frame) {
+        if let Some(fragment) = fragment_of(item) {
             self.reader.read(alloc, fragment)?;
         }
         Ok(head.has(END_HEADERS) || is_ended(item.after.counts.phase))

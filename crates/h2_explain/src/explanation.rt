@@ -26,7 +26,7 @@ use h2_account::paint::Paint;
 use h2_conn::{Conn, is_ended};
 use h2_describe::sent::first_of;
 use h2_device::Output;
-use h2_item::item::Explained;
+use h2_item::item::{Explained, part_in};
 use h2_spec::octets::octets_from;
 use std::alloc::{AllocError, Allocator, Global};
 use std::mem;
@@ -210,13 +210,15 @@ impl<A: Allocator + Copy> Explanation<A> {
         };
         let taken = taking.taken;
         let used = taken.used;
+        let own = first_of(octets, used);
         let item = Explained {
             number: self.items + 1,
             offset: self.offset,
-            octets: first_of(octets, used),
+            octets: own,
             ahead: octets,
             used,
             what: taken.item,
+            part: part_in(taken.item, own),
             cause: taken.cause,
             ignored: taken.ignored,
             sent: octets_from(out.as_slice(), start),
