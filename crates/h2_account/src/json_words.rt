@@ -4,30 +4,24 @@ use h2_describe::say::{Say, TextBuilder};
 use h2_describe::say_all;
 use std::alloc::{AllocError, Allocator};
 
-/// The name of a member as it is written after another one: in quotes, after a comma and before a colon.
-#[derive(Clone, Copy)]
-pub struct Member(
-    /// All of it, as `,"stream":`.
-    pub &'static str,
-);
+/// The name of a member as it is written after another one, `,"NAME":`. `member!` gives it.
+pub type Member = &'static str;
 
-/// The member of a name that has no character to escape. It is made when the program is compiled, so that it is written
-/// in one part.
+/// The member of a name that has no character to escape. It is put together when the program is compiled, so that it is
+/// written in one part.
 #[macro_export]
 macro_rules! member {
     ($name:literal) => {
-        $crate::json_words::Member(concat!(",\"", $name, "\":"))
+        concat!(",\"", $name, "\":")
     };
 }
 
-impl Member {
-    /// What is written of it after another member, or as the first.
-    fn text(self, follows: bool) -> &'static str {
-        if follows {
-            self.0
-        } else {
-            self.0.get(1..).unwrap_or("")
-        }
+/// What is written of a member after another one, or as the first.
+fn written(member: Member, follows: bool) -> &'static str {
+    if follows {
+        member
+    } else {
+        member.get(1..).unwrap_or("")
     }
 }
 
@@ -128,7 +122,7 @@ impl<A: Allocator> JsonWords<A> {
 
     /// Opens the object that is a member.
     pub fn open(&mut self, member: Member) {
-        say_all!(&mut self.words; member.text(self.follows), '{');
+        say_all!(&mut self.words; written(member, self.follows), '{');
         self.follows = false;
     }
 
@@ -140,7 +134,7 @@ impl<A: Allocator> JsonWords<A> {
 
     /// Opens the list that is a member.
     pub fn open_list(&mut self, member: Member) {
-        say_all!(&mut self.words; member.text(self.follows), '[');
+        say_all!(&mut self.words; written(member, self.follows), '[');
         self.follows = false;
     }
 
@@ -177,7 +171,7 @@ impl<A: Allocator> JsonWords<A> {
 
     /// Puts a member whose value is written in one part, without quotes.
     fn value<S: Say>(&mut self, member: Member, part: S) {
-        say_all!(&mut self.words; member.text(self.follows), part);
+        say_all!(&mut self.words; written(member, self.follows), part);
         self.follows = true;
     }
 
@@ -211,7 +205,7 @@ impl<A: Allocator> JsonWords<A> {
 
     /// Puts a text that has no character to escape.
     pub fn plain<S: Say>(&mut self, member: Member, part: S) {
-        say_all!(&mut self.words; member.text(self.follows), '"', part, '"');
+        say_all!(&mut self.words; written(member, self.follows), '"', part, '"');
         self.follows = true;
     }
 
