@@ -578,8 +578,8 @@ pub fn put_opening<A: Allocator + Copy>(alloc: A, opening: &[u8], out: &mut Json
     out.end_line();
 }
 
-/// The line of an item, before it that of the server's opening, if the item is the first; `reader` has the fields of its
-/// block.
+/// The octets of the line of an item, before it that of the server's opening, if the item is the first; `reader` has the
+/// fields of its block.
 ///
 /// `AllocError` where memory is refused.
 pub fn json_of<A: Allocator + Copy>(
@@ -587,8 +587,8 @@ pub fn json_of<A: Allocator + Copy>(
     item: &Explained<'_>,
     account: &Account<A>,
     reader: &BlockReader<A>,
-) -> Result<String<A>, AllocError>
-    ensures { IfOk result (λ text. EndsLine false (string_bytes text)) }
+) -> Result<Vec<u8, A>, AllocError>
+    ensures { IfOk result (λ octets. EndsLine false octets.items) }
 {
     let mut out = JsonWords::over(account.words(alloc));
     put_opening(alloc, account.opening.as_slice(), &mut out);
@@ -602,7 +602,10 @@ pub fn json_of<A: Allocator + Copy>(
     put_warnings(account.warnings, &mut out);
     put_item_words(alloc, item, &mut out);
     out.close();
-    line_of(out)
+    match line_of(out) {
+        Ok(text) => Ok(text.into_bytes()),
+        Err(error) => Err(error),
+    }
 }
 
 /// What was put together, as a line.

@@ -61,8 +61,7 @@ fn item_text<A: Allocator + Copy>(
     tally.note(item, account.facts, account.warnings)?;
     let reader = &explainer.reader;
     if form.json {
-        let text = json_of(alloc, item, &account, reader)?;
-        Ok(text.into_bytes())
+        json_of(alloc, item, &account, reader)
     } else {
         lines_of(alloc, item, &account, reader, Paint(form.color))
     }
