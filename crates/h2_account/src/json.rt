@@ -7,12 +7,13 @@ ghost use Rattle.std.specs.String.{string_bytes};
 ghost use Rattle.h2_account.specs.Lines.{EndsLine};
 
 use crate::account::Account;
-use crate::json_words::JsonWords;
+use crate::json_words::{JsonWords, Member};
+use crate::member;
 use crate::text::{mode_name, read_answer, say_item};
 use crate::warning_words::put_warnings;
 use h2_changes::changes::{Moved, ShownChange};
 use h2_changes::count::Count;
-use h2_describe::frame_words::say_frame;
+use h2_describe::frame_words::say_frame_in;
 use h2_describe::names::{code_name, kind_name, registered_setting, registered_type, setting_name};
 use h2_describe::say::{Hex, HexOctet, Say, TextBuilder};
 use h2_describe::say_all;
@@ -30,19 +31,19 @@ use std::alloc::{AllocError, Allocator};
 
 /// The octets that are shown of some, as hex, and how many there are where not all are shown.
 fn put_hex<A: Allocator>(shown: &[u8], octets: &[u8], out: &mut JsonWords<A>) {
-    out.plain("hex", Hex(shown));
+    out.plain(member!("hex"), Hex(shown));
     if shown.len() < octets.len() {
-        out.number("length", octets.len() as u64);
+        out.number(member!("length"), octets.len() as u64);
     }
 }
 
 /// Octets as hex, and as text where those that are shown are UTF-8.
-fn put_octets<A: Allocator>(name: &str, octets: &[u8], out: &mut JsonWords<A>) {
+fn put_octets<A: Allocator>(member: Member, octets: &[u8], out: &mut JsonWords<A>) {
     let shown = out.shown_of(octets);
-    out.open(name);
+    out.open(member);
     put_hex(shown, octets, out);
     if let Ok(text) = str::from_utf8(shown) {
-        out.text("text", text);
+        out.text(member!("text"), text);
     }
     out.close();
 }
@@ -50,8 +51,8 @@ fn put_octets<A: Allocator>(name: &str, octets: &[u8], out: &mut JsonWords<A>) {
 /// The name of a type, or its number in words.
 fn put_type<A: Allocator>(kind: u8, out: &mut JsonWords<A>) {
     match FrameType::of(kind) {
-        FrameType::Unknown(kind) => out.plain("type", Unnamed(kind)),
-        known => out.plain("type", known),
+        FrameType::Unknown(kind) => out.plain(member!("type"), Unnamed(kind)),
+        known => out.plain(member!("type"), known),
     }
 }
 
@@ -67,41 +68,41 @@ impl Say for Unnamed {
 
 /// The head of a frame.
 pub(crate) fn put_head<A: Allocator>(head: &Head, out: &mut JsonWords<A>) {
-    out.open("frame");
-    out.number("flags", u64::from(head.flags));
-    out.number("length", u64::from(head.length));
+    out.open(member!("frame"));
+    out.number(member!("flags"), u64::from(head.flags));
+    out.number(member!("length"), u64::from(head.length));
     if let Some(name) = registered_type(head.kind) {
-        out.plain("registered", name);
+        out.plain(member!("registered"), name);
     }
-    out.number("stream", u64::from(head.stream));
+    out.number(member!("stream"), u64::from(head.stream));
     put_type(head.kind, out);
-    out.number("type_number", u64::from(head.kind));
+    out.number(member!("type_number"), u64::from(head.kind));
     out.close();
 }
 
 /// An error code by number and name.
 fn put_code<A: Allocator>(code: u32, out: &mut JsonWords<A>) {
-    out.open("code");
-    out.plain("name", code_name(code).unwrap_or("unknown"));
-    out.number("number", u64::from(code));
+    out.open(member!("code"));
+    out.plain(member!("name"), code_name(code).unwrap_or("unknown"));
+    out.number(member!("number"), u64::from(code));
     out.close();
 }
 
 /// A setting.
 fn put_setting<A: Allocator>(id: u16, value: u32, out: &mut JsonWords<A>) {
     out.open_element();
-    out.number("id", u64::from(id));
-    out.plain("name", setting_name(id).unwrap_or("unknown"));
+    out.number(member!("id"), u64::from(id));
+    out.plain(member!("name"), setting_name(id).unwrap_or("unknown"));
     if let Some(name) = registered_setting(id) {
-        out.plain("registered", name);
+        out.plain(member!("registered"), name);
     }
-    out.number("value", u64::from(value));
+    out.number(member!("value"), u64::from(value));
     out.close();
 }
 
 /// The settings of a frame, in their order.
 fn put_settings<A: Allocator>(part: SettingsPart<'_>, out: &mut JsonWords<A>) {
-    out.open_list("settings");
+    out.open_list(member!("settings"));
     for place in 0..part.count() {
         if let Some((id, value)) = part.pair(place) {
             put_setting(id, value, out);
@@ -111,35 +112,38 @@ fn put_settings<A: Allocator>(part: SettingsPart<'_>, out: &mut JsonWords<A>) {
 }
 
 /// What a payload has, by the frame's type; its octets where it has nothing else, or can't be read.
-fn put_parts<A: Allocator>(frame: FrameRef<'_>, out: &mut JsonWords<A>) {
-    match part_of(frame) {
-        Ok(Part::Settings(part)) => put_settings(part, out),
-        Ok(Part::RstStream(number)) => put_code(number, out),
-        Ok(Part::Goaway(last, number)) => put_goaway(last, number, frame.payload, out),
-        Ok(Part::WindowUpdate(increment)) => out.number("increment", u64::from(increment)),
-        Ok(Part::Data(part)) => {
-            put_octets("content", part.content, out);
-            out.number("padding", part.padding.len() as u64);
+fn put_parts<A: Allocator>(frame: FrameRef<'_>, part: Option<Part<'_>>, out: &mut JsonWords<A>) {
+    match part {
+        Some(Part::Settings(part)) => put_settings(part, out),
+        Some(Part::RstStream(number)) => put_code(number, out),
+        Some(Part::Goaway(last, number)) => put_goaway(last, number, frame.payload, out),
+        Some(Part::WindowUpdate(increment)) => out.number(
+            member!("increment"),
+            u64::from(increment),
+        ),
+        Some(Part::Data(part)) => {
+            put_octets(member!("content"), part.content, out);
+            out.number(member!("padding"), part.padding.len() as u64);
         }
-        Ok(Part::Headers(part)) => put_headers(part, frame.payload, out),
-        Ok(Part::Continuation(fragment)) => {
-            put_octets("fragment", fragment, out);
-            put_octets("octets", frame.payload, out);
+        Some(Part::Headers(part)) => put_headers(part, frame.payload, out),
+        Some(Part::Continuation(fragment)) => {
+            put_octets(member!("fragment"), fragment, out);
+            put_octets(member!("octets"), frame.payload, out);
         }
-        Ok(Part::Priority) => put_priority_frame(frame.payload, out),
-        Ok(Part::SettingsAck) => {
-            put_octets("octets", frame.payload, out);
-            out.open_list("settings");
+        Some(Part::Priority) => put_priority_frame(frame.payload, out),
+        Some(Part::SettingsAck) => {
+            put_octets(member!("octets"), frame.payload, out);
+            out.open_list(member!("settings"));
             out.close_list();
         }
-        Ok(_) | Err(_) => put_octets("octets", frame.payload, out),
+        Some(_) | None => put_octets(member!("octets"), frame.payload, out),
     }
 }
 
 /// The stream that a frame depends on, and whether it does so exclusively (RFC 9113, 5.3.2).
 fn put_dependency<A: Allocator>(bits: u32, out: &mut JsonWords<A>) {
-    out.number("dependency", u64::from(bits % 2_147_483_648));
-    out.flag("exclusive", bits >= 2_147_483_648);
+    out.number(member!("dependency"), u64::from(bits % 2_147_483_648));
+    out.flag(member!("exclusive"), bits >= 2_147_483_648);
 }
 
 /// What HEADERS has: its dependency, its fragment, its padding and its weight, where it has them.
@@ -147,13 +151,13 @@ fn put_headers<A: Allocator>(part: HeadersPart<'_>, payload: &[u8], out: &mut Js
     if let Some((bits, _)) = part.priority {
         put_dependency(bits, out);
     }
-    put_octets("fragment", part.fragment, out);
-    put_octets("octets", payload, out);
+    put_octets(member!("fragment"), part.fragment, out);
+    put_octets(member!("octets"), payload, out);
     if let Some(pad) = part.pad {
-        out.number("padding", u64::from(pad));
+        out.number(member!("padding"), u64::from(pad));
     }
     if let Some((_, weight)) = part.priority {
-        out.number("weight", u64::from(weight).saturating_add(1));
+        out.number(member!("weight"), u64::from(weight).saturating_add(1));
     }
 }
 
@@ -161,30 +165,39 @@ fn put_headers<A: Allocator>(part: HeadersPart<'_>, payload: &[u8], out: &mut Js
 fn put_priority_frame<A: Allocator>(payload: &[u8], out: &mut JsonWords<A>) {
     if let [a, b, c, d, weight] = payload {
         put_dependency(u32::from_be_bytes([*a, *b, *c, *d]), out);
-        put_octets("octets", payload, out);
-        out.number("weight", u64::from(*weight).saturating_add(1));
+        put_octets(member!("octets"), payload, out);
+        out.number(member!("weight"), u64::from(*weight).saturating_add(1));
     }
 }
 
-/// The payload of a frame.
-fn put_payload<A: Allocator>(frame: FrameRef<'_>, out: &mut JsonWords<A>) {
-    out.open("payload");
-    put_parts(frame, out);
+/// The payload of a frame: what it holds, none where it can't be read.
+fn put_payload<A: Allocator>(frame: FrameRef<'_>, part: Option<Part<'_>>, out: &mut JsonWords<A>) {
+    out.open(member!("payload"));
+    put_parts(frame, part, out);
     out.close();
 }
 
 /// What GOAWAY has: its last stream, its code and its debug octets.
 fn put_goaway<A: Allocator>(last: u32, number: u32, payload: &[u8], out: &mut JsonWords<A>) {
     put_code(number, out);
-    put_octets("debug", octets_from(payload, payload.len().min(8)), out);
-    out.number("last_stream", u64::from(last));
+    put_octets(
+        member!("debug"),
+        octets_from(payload, payload.len().min(8)),
+        out,
+    );
+    out.number(member!("last_stream"), u64::from(last));
 }
 
 /// Puts a frame in words in.
-fn put_frame_words<A: Allocator + Copy>(alloc: A, frame: FrameRef<'_>, out: &mut JsonWords<A>) {
+fn put_frame_words<A: Allocator + Copy>(
+    alloc: A,
+    frame: FrameRef<'_>,
+    part: Option<Part<'_>>,
+    out: &mut JsonWords<A>,
+) {
     let mut words = out.empty(alloc);
-    say_frame(frame, &mut words);
-    out.words("words", words);
+    say_frame_in(frame, part, true, &mut words);
+    out.words(member!("words"), words);
 }
 
 /// The fields of HEADERS that were sent.
@@ -207,11 +220,12 @@ fn put_sent_frame<A: Allocator + Copy>(
     out.open_element();
     put_answer(alloc, frame, out);
     put_head(&frame.head, out);
-    out.open("octets");
+    out.open(member!("octets"));
     put_hex(out.shown_of(octets), octets, out);
     out.close();
-    put_payload(frame, out);
-    put_frame_words(alloc, frame, out);
+    let part = part_of(frame).ok();
+    put_payload(frame, part, out);
+    put_frame_words(alloc, frame, part, out);
     out.close();
 }
 
@@ -230,26 +244,26 @@ fn put_frames<A: Allocator + Copy>(alloc: A, octets: &[u8], out: &mut JsonWords<
 
 /// The frames that were sent, in their order.
 fn put_sent<A: Allocator + Copy>(alloc: A, octets: &[u8], out: &mut JsonWords<A>) {
-    out.open_list("sent");
+    out.open_list(member!("sent"));
     put_frames(alloc, octets, out);
     out.close_list();
 }
 
 /// How a field was spelled.
 fn put_spelling<A: Allocator>(spelling: Spelling, out: &mut JsonWords<A>) {
-    out.open("spelling");
+    out.open(member!("spelling"));
     match spelling {
         Spelling::Indexed(index) => {
-            out.number("index", index);
-            out.plain("kind", "indexed");
+            out.number(member!("index"), index);
+            out.plain(member!("kind"), "indexed");
         }
         Spelling::Literal(mode, index, name, value) => {
-            out.plain("kind", mode_name(mode));
+            out.plain(member!("kind"), mode_name(mode));
             match index {
-                Some(index) => out.number("name_index", index),
-                None => out.flag("name_huffman", name),
+                Some(index) => out.number(member!("name_index"), index),
+                None => out.flag(member!("name_huffman"), name),
             }
-            out.flag("value_huffman", value);
+            out.flag(member!("value_huffman"), value);
         }
     }
     out.close();
@@ -258,15 +272,15 @@ fn put_spelling<A: Allocator>(spelling: Spelling, out: &mut JsonWords<A>) {
 /// A field.
 fn put_field<A: Allocator>(field: &SpelledField<A>, out: &mut JsonWords<A>) {
     out.open_element();
-    put_octets("name", field.name.as_slice(), out);
+    put_octets(member!("name"), field.name.as_slice(), out);
     put_spelling(field.spelling, out);
-    put_octets("value", field.value.as_slice(), out);
+    put_octets(member!("value"), field.value.as_slice(), out);
     out.close();
 }
 
 /// The fields of a block.
 fn put_fields<A: Allocator + Copy>(reader: &BlockReader<A>, out: &mut JsonWords<A>) {
-    out.open_list("fields");
+    out.open_list(member!("fields"));
     for field in reader.fields() {
         put_field(field, out);
     }
@@ -275,7 +289,7 @@ fn put_fields<A: Allocator + Copy>(reader: &BlockReader<A>, out: &mut JsonWords<
 
 /// The table size updates of a block.
 fn put_updates<A: Allocator + Copy>(reader: &BlockReader<A>, out: &mut JsonWords<A>) {
-    out.open_list("table_updates");
+    out.open_list(member!("table_updates"));
     for max in reader.updates() {
         out.element(*max);
     }
@@ -285,7 +299,7 @@ fn put_updates<A: Allocator + Copy>(reader: &BlockReader<A>, out: &mut JsonWords
 /// The name of a special case, if a rule is one.
 fn put_case<A: Allocator>(case: Option<SpecialCase>, out: &mut JsonWords<A>) {
     if let Some(case) = case {
-        out.plain("case", case.name());
+        out.plain(member!("case"), case.name());
     }
 }
 
@@ -294,7 +308,7 @@ fn put_also<A: Allocator>(also: &[Cause], out: &mut JsonWords<A>) {
     if also.is_empty() {
         return;
     }
-    out.open_list("also");
+    out.open_list(member!("also"));
     for cause in also {
         out.text_element(cause.name());
     }
@@ -310,47 +324,47 @@ fn put_error<A: Allocator + Copy>(
     out: &mut JsonWords<A>,
 ) {
     let rule = rule_of_cause(cause, case);
-    out.open("error");
+    out.open(member!("error"));
     put_also(account.also.as_slice(), out);
     put_case(case, out);
-    out.plain("cause", cause.name());
-    out.plain("client", rule.client);
-    out.plain("client_section", rule.client_section);
+    out.plain(member!("cause"), cause.name());
+    out.plain(member!("client"), rule.client);
+    out.plain(member!("client_section"), rule.client_section);
     put_code(cause.code().number(), out);
     out.plain(
-        "scope",
+        member!("scope"),
         if is_connection {
             "connection"
         } else {
             "stream"
         },
     );
-    out.plain("section", rule.section);
-    out.text("sentence", account.sentence.as_str());
-    out.plain("server", rule.server);
+    out.plain(member!("section"), rule.section);
+    out.text(member!("sentence"), account.sentence.as_str());
+    out.plain(member!("server"), rule.server);
     out.close();
 }
 
 /// Why a frame is ignored.
 fn put_ignored<A: Allocator>(why: Ignored, case: Option<SpecialCase>, out: &mut JsonWords<A>) {
     let rule = rule_of_reason(why, case);
-    out.open("ignored");
+    out.open(member!("ignored"));
     put_case(case, out);
-    out.plain("client", rule.client);
-    out.plain("client_section", rule.client_section);
-    out.plain("reason", why.name());
-    out.plain("section", rule.section);
-    out.plain("sentence", rule.sentence);
-    out.plain("server", rule.server);
+    out.plain(member!("client"), rule.client);
+    out.plain(member!("client_section"), rule.client_section);
+    out.plain(member!("reason"), why.name());
+    out.plain(member!("section"), rule.section);
+    out.plain(member!("sentence"), rule.sentence);
+    out.plain(member!("server"), rule.server);
     out.close();
 }
 
 /// A number of a change, null where it is absent.
-fn put_number<A: Allocator>(name: &str, what: Count, value: i64, out: &mut JsonWords<A>) {
+fn put_number<A: Allocator>(member: Member, what: Count, value: i64, out: &mut JsonWords<A>) {
     if value == -1 && what.may_be_absent() {
-        out.null(name);
+        out.null(member);
     } else {
-        out.signed(name, value);
+        out.signed(member, value);
     }
 }
 
@@ -358,20 +372,20 @@ fn put_number<A: Allocator>(name: &str, what: Count, value: i64, out: &mut JsonW
 fn put_values<A: Allocator>(change: &ShownChange, out: &mut JsonWords<A>) {
     match change {
         ShownChange::Number(_, what, before, after) => {
-            put_number("after", *what, *after, out);
-            put_number("before", *what, *before, out);
+            put_number(member!("after"), *what, *after, out);
+            put_number(member!("before"), *what, *before, out);
         }
         ShownChange::State(_, before, after) => {
-            out.plain("after", kind_name(*after));
-            out.plain("before", kind_name(*before));
+            out.plain(member!("after"), kind_name(*after));
+            out.plain(member!("before"), kind_name(*before));
         }
         ShownChange::Acknowledged(before, after) => {
-            out.flag("after", *after);
-            out.flag("before", *before);
+            out.flag(member!("after"), *after);
+            out.flag(member!("before"), *before);
         }
         ShownChange::Stops(_, remaining, _, connection) => {
-            out.number("after", *remaining);
-            out.signed("connection_window", *connection);
+            out.number(member!("after"), *remaining);
+            out.signed(member!("connection_window"), *connection);
         }
     }
 }
@@ -400,11 +414,11 @@ fn stream_of(change: &ShownChange) -> u32 {
 fn put_change<A: Allocator>(change: &ShownChange, out: &mut JsonWords<A>) {
     out.open_element();
     put_values(change, out);
-    out.number("stream", u64::from(stream_of(change)));
+    out.number(member!("stream"), u64::from(stream_of(change)));
     if let ShownChange::Stops(_, _, own, _) = change {
-        out.signed("stream_window", *own);
+        out.signed(member!("stream_window"), *own);
     }
-    out.plain("what", what_of(change));
+    out.plain(member!("what"), what_of(change));
     out.close();
 }
 
@@ -412,18 +426,18 @@ fn put_change<A: Allocator>(change: &ShownChange, out: &mut JsonWords<A>) {
 fn put_moved_values<A: Allocator>(moved: &Moved, out: &mut JsonWords<A>) {
     match moved {
         Moved::Opened(_, recv, send, declared) => {
-            out.number_if_any("content_length", *declared);
-            out.signed("receive_window", *recv);
-            out.signed("send_window", *send);
+            out.number_if_any(member!("content_length"), *declared);
+            out.signed(member!("receive_window"), *recv);
+            out.signed(member!("send_window"), *send);
         }
         Moved::Number(_, _, before, after) => {
-            out.signed("after", *after);
-            out.signed("before", *before);
+            out.signed(member!("after"), *after);
+            out.signed(member!("before"), *before);
         }
         Moved::Block(block) => {
-            out.flag("end_stream", block.ends);
-            out.number("list_size", block.list_size);
-            out.number("octets", u64::from(block.octets));
+            out.flag(member!("end_stream"), block.ends);
+            out.number(member!("list_size"), block.list_size);
+            out.number(member!("octets"), u64::from(block.octets));
         }
         Moved::BodySent(_) | Moved::BlockEnds(_) => {}
     }
@@ -455,14 +469,14 @@ fn what_moved(moved: &Moved) -> &'static str {
 fn put_moved<A: Allocator>(moved: &Moved, out: &mut JsonWords<A>) {
     out.open_element();
     put_moved_values(moved, out);
-    out.number("stream", u64::from(stream_moved(moved)));
-    out.plain("what", what_moved(moved));
+    out.number(member!("stream"), u64::from(stream_moved(moved)));
+    out.plain(member!("what"), what_moved(moved));
     out.close();
 }
 
 /// The changes, in their order, and then what changed on streams besides.
 fn put_changes<A: Allocator + Copy>(account: &Account<A>, out: &mut JsonWords<A>) {
-    out.open_list("changes");
+    out.open_list(member!("changes"));
     for change in &account.changes {
         put_change(change, out);
     }
@@ -475,11 +489,11 @@ fn put_changes<A: Allocator + Copy>(account: &Account<A>, out: &mut JsonWords<A>
 /// An entry that was entered or evicted.
 fn put_entry<A: Allocator + Copy>(change: &EntryChange<A>, out: &mut JsonWords<A>) {
     out.open_element();
-    put_octets("name", change.entry.name.as_slice(), out);
-    out.number("octets", change.entry.size() as u64);
-    put_octets("value", change.entry.value.as_slice(), out);
+    put_octets(member!("name"), change.entry.name.as_slice(), out);
+    out.number(member!("octets"), change.entry.size() as u64);
+    put_octets(member!("value"), change.entry.value.as_slice(), out);
     out.plain(
-        "what",
+        member!("what"),
         if change.is_entered {
             "entered"
         } else {
@@ -494,7 +508,7 @@ fn put_entries<A: Allocator + Copy>(entries: &[EntryChange<A>], out: &mut JsonWo
     if entries.is_empty() {
         return;
     }
-    out.open_list("table");
+    out.open_list(member!("table"));
     for change in entries {
         put_entry(change, out);
     }
@@ -529,16 +543,16 @@ fn put_why<A: Allocator + Copy>(
 fn put_item_words<A: Allocator + Copy>(alloc: A, item: &Explained<'_>, out: &mut JsonWords<A>) {
     let mut words = out.empty(alloc);
     say_item(item, &mut words);
-    out.words("words", words);
+    out.words(member!("words"), words);
 }
 
 /// Puts the item in: its number, its octets, and what was sent for it.
 fn put_item<A: Allocator + Copy>(alloc: A, item: &Explained<'_>, out: &mut JsonWords<A>) {
-    out.number("item", item.number);
-    put_octets("octets", item.octets, out);
-    out.number("offset", item.offset as u64);
+    out.number(member!("item"), item.number);
+    put_octets(member!("octets"), item.octets, out);
+    out.number(member!("offset"), item.offset as u64);
     if let Some(frame) = item.frame() {
-        put_payload(frame, out);
+        put_payload(frame, item.part, out);
     }
     put_sent(alloc, item.sent, out);
 }
@@ -552,20 +566,20 @@ pub fn put_opening<A: Allocator + Copy>(alloc: A, opening: &[u8], out: &mut Json
         return;
     }
     out.open_element();
-    out.open_list("changes");
+    out.open_list(member!("changes"));
     out.close_list();
-    out.number("item", 0);
-    put_octets("octets", &[], out);
-    out.number("offset", 0);
+    out.number(member!("item"), 0);
+    put_octets(member!("octets"), &[], out);
+    out.number(member!("offset"), 0);
     put_sent(alloc, opening, out);
-    out.number("version", VERSION);
-    out.plain("words", "the server's opening");
+    out.number(member!("version"), VERSION);
+    out.plain(member!("words"), "the server's opening");
     out.close();
     out.end_line();
 }
 
-/// The line of an item, before it that of the server's opening, if the item is the first; `reader` has the fields of its
-/// block.
+/// The octets of the line of an item, before it that of the server's opening, if the item is the first; `reader` has the
+/// fields of its block.
 ///
 /// `AllocError` where memory is refused.
 pub fn json_of<A: Allocator + Copy>(
@@ -573,8 +587,8 @@ pub fn json_of<A: Allocator + Copy>(
     item: &Explained<'_>,
     account: &Account<A>,
     reader: &BlockReader<A>,
-) -> Result<String<A>, AllocError>
-    ensures { IfOk result (λ text. EndsLine false (string_bytes text)) }
+) -> Result<Vec<u8, A>, AllocError>
+    ensures { IfOk result (λ octets. EndsLine false octets.items) }
 {
     let mut out = JsonWords::over(account.words(alloc));
     put_opening(alloc, account.opening.as_slice(), &mut out);
@@ -588,7 +602,10 @@ pub fn json_of<A: Allocator + Copy>(
     put_warnings(account.warnings, &mut out);
     put_item_words(alloc, item, &mut out);
     out.close();
-    line_of(out)
+    match line_of(out) {
+        Ok(text) => Ok(text.into_bytes()),
+        Err(error) => Err(error),
+    }
 }
 
 /// What was put together, as a line.

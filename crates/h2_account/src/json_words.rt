@@ -4,64 +4,24 @@ use h2_describe::say::{Say, TextBuilder};
 use h2_describe::say_all;
 use std::alloc::{AllocError, Allocator};
 
-/// What was put last. Where something of it is not written yet, that is written with what is put next: so few parts make
-/// up the text.
-#[derive(Clone, Copy)]
-enum Last {
-    /// Nothing of a line, of an object or of a list.
-    Nothing,
-    /// A number, a flag or null, all of which is written.
-    Value,
-    /// A string, but for its last quote.
-    Text,
-    /// An object, but for its last brace.
-    Object,
-    /// A list, but for its last bracket.
-    List,
+/// The name of a member as it is written after another one, `,"NAME":`. `member!` gives it.
+pub type Member = &'static str;
+
+/// The member of a name that has no character to escape. It is put together when the program is compiled, so that it is
+/// written in one part.
+#[macro_export]
+macro_rules! member {
+    ($name:literal) => {
+        concat!(",\"", $name, "\":")
+    };
 }
 
-impl Last {
-    /// What is not written yet.
-    fn rest(self) -> &'static str {
-        match self {
-            Last::Nothing | Last::Value => "",
-            Last::Text => "\"",
-            Last::Object => "}",
-            Last::List => "]",
-        }
-    }
-
-    /// The same, and what is before another element.
-    fn before_element(self) -> &'static str {
-        match self {
-            Last::Nothing => "",
-            Last::Value => ",",
-            Last::Text => "\",",
-            Last::Object => "},",
-            Last::List => "],",
-        }
-    }
-
-    /// The same before an object.
-    fn before_object(self) -> &'static str {
-        match self {
-            Last::Nothing => "{",
-            Last::Value => ",{",
-            Last::Text => "\",{",
-            Last::Object => "},{",
-            Last::List => "],{",
-        }
-    }
-
-    /// The same before a string, as is the name of a member.
-    fn before_text(self) -> &'static str {
-        match self {
-            Last::Nothing => "\"",
-            Last::Value => ",\"",
-            Last::Text => "\",\"",
-            Last::Object => "},\"",
-            Last::List => "],\"",
-        }
+/// What is written of a member after another one, or as the first.
+fn written(member: Member, follows: bool) -> &'static str {
+    if follows {
+        member
+    } else {
+        member.get(1..).unwrap_or("")
     }
 }
 
@@ -70,7 +30,8 @@ impl Last {
 #[derive(Drop)]
 pub struct JsonWords<A: Allocator> {
     words: TextBuilder<A>,
-    last: Last,
+    /// Whether what is put next comes after something in its object or list, so that a comma is between them.
+    follows: bool,
 }
 
 /// Whether a character is written as it is in a string (RFC 8259, 7).
@@ -112,14 +73,19 @@ fn say_character<A: Allocator>(character: char, out: &mut TextBuilder<A>) {
     }
 }
 
-/// Puts what is between the quotes of a string last.
-fn say_string<A: Allocator>(text: &str, out: &mut TextBuilder<A>) {
-    if is_all_plain(text) {
-        say_all!(out; text);
-        return;
-    }
-    for character in text.chars() {
-        say_character(character, out);
+/// What is between the quotes of a string.
+#[derive(Clone, Copy)]
+struct Escaped<'a>(&'a str);
+
+impl Say for Escaped<'_> {
+    fn say<A: Allocator>(self, out: &mut TextBuilder<A>) {
+        if is_all_plain(self.0) {
+            say_all!(out; self.0);
+            return;
+        }
+        for character in self.0.chars() {
+            say_character(character, out);
+        }
     }
 }
 
@@ -128,7 +94,7 @@ impl<A: Allocator> JsonWords<A> {
     pub fn over(words: TextBuilder<A>) -> JsonWords<A> {
         JsonWords {
             words,
-            last: Last::Nothing,
+            follows: false,
         }
     }
 
@@ -144,56 +110,44 @@ impl<A: Allocator> JsonWords<A> {
 
     /// The text. `AllocError` where memory for it was refused.
     pub fn finish(self) -> Result<String<A>, AllocError> {
-        let mut json = self;
-        json.settle();
-        json.words.finish()
-    }
-
-    /// Writes what is not written yet of what was put last.
-    fn settle(&mut self) {
-        say_all!(&mut self.words; self.last.rest());
-        self.last = Last::Nothing;
-    }
-
-    /// Puts the name of a member, and what is after it: its last quote first.
-    fn name(&mut self, name: &str, after: &str) {
-        say_all!(&mut self.words; self.last.before_text(), name, after);
+        self.words.finish()
     }
 
     /// Opens an object, as an element or as the whole.
     pub fn open_element(&mut self) {
-        say_all!(&mut self.words; self.last.before_object());
-        self.last = Last::Nothing;
+        let front = if self.follows { ",{" } else { "{" };
+        say_all!(&mut self.words; front);
+        self.follows = false;
     }
 
     /// Opens the object that is a member.
-    pub fn open(&mut self, name: &str) {
-        self.name(name, "\":{");
-        self.last = Last::Nothing;
+    pub fn open(&mut self, member: Member) {
+        say_all!(&mut self.words; written(member, self.follows), '{');
+        self.follows = false;
     }
 
     /// Closes an object.
     pub fn close(&mut self) {
-        self.settle();
-        self.last = Last::Object;
+        say_all!(&mut self.words; '}');
+        self.follows = true;
     }
 
     /// Opens the list that is a member.
-    pub fn open_list(&mut self, name: &str) {
-        self.name(name, "\":[");
-        self.last = Last::Nothing;
+    pub fn open_list(&mut self, member: Member) {
+        say_all!(&mut self.words; written(member, self.follows), '[');
+        self.follows = false;
     }
 
     /// Closes a list.
     pub fn close_list(&mut self) {
-        self.settle();
-        self.last = Last::List;
+        say_all!(&mut self.words; ']');
+        self.follows = true;
     }
 
     /// Ends a line: another text begins.
     pub fn end_line(&mut self) {
-        self.settle();
-        say_all!(&mut self.words; "\n");
+        say_all!(&mut self.words; '\n');
+        self.follows = false;
     }
 
     /// Memory for what belongs into the text was refused.
@@ -203,65 +157,67 @@ impl<A: Allocator> JsonWords<A> {
 
     /// Puts a number, as an element.
     pub(crate) fn element(&mut self, number: u64) {
-        say_all!(&mut self.words; self.last.before_element(), number);
-        self.last = Last::Value;
+        let front = if self.follows { "," } else { "" };
+        say_all!(&mut self.words; front, number);
+        self.follows = true;
     }
 
     /// Puts a text that has no character to escape, as an element.
     pub(crate) fn text_element(&mut self, text: &str) {
-        say_all!(&mut self.words; self.last.before_text(), text);
-        self.last = Last::Text;
+        let front = if self.follows { ",\"" } else { "\"" };
+        say_all!(&mut self.words; front, text, '"');
+        self.follows = true;
+    }
+
+    /// Puts a member whose value is written in one part, without quotes.
+    fn value<S: Say>(&mut self, member: Member, part: S) {
+        say_all!(&mut self.words; written(member, self.follows), part);
+        self.follows = true;
     }
 
     /// Puts a number.
-    pub fn number(&mut self, name: &str, number: u64) {
-        say_all!(&mut self.words; self.last.before_text(), name, "\":", number);
-        self.last = Last::Value;
+    pub fn number(&mut self, member: Member, number: u64) {
+        self.value(member, number);
     }
 
     /// Puts a number that may be below 0.
-    pub fn signed(&mut self, name: &str, number: i64) {
-        say_all!(&mut self.words; self.last.before_text(), name, "\":", number);
-        self.last = Last::Value;
+    pub fn signed(&mut self, member: Member, number: i64) {
+        self.value(member, number);
     }
 
     /// Puts that a value is missing.
-    pub fn null(&mut self, name: &str) {
-        self.name(name, "\":null");
-        self.last = Last::Value;
+    pub fn null(&mut self, member: Member) {
+        self.value(member, "null");
     }
 
     /// Puts a number that may be missing.
-    pub fn number_if_any(&mut self, name: &str, number: Option<u64>) {
+    pub fn number_if_any(&mut self, member: Member, number: Option<u64>) {
         match number {
-            Some(number) => self.number(name, number),
-            None => self.null(name),
+            Some(number) => self.number(member, number),
+            None => self.null(member),
         }
     }
 
     /// Puts a flag.
-    pub fn flag(&mut self, name: &str, flag: bool) {
-        self.name(name, if flag { "\":true" } else { "\":false" });
-        self.last = Last::Value;
+    pub fn flag(&mut self, member: Member, flag: bool) {
+        self.value(member, if flag { "true" } else { "false" });
     }
 
     /// Puts a text that has no character to escape.
-    pub fn plain<S: Say>(&mut self, name: &str, part: S) {
-        say_all!(&mut self.words; self.last.before_text(), name, "\":\"", part);
-        self.last = Last::Text;
+    pub fn plain<S: Say>(&mut self, member: Member, part: S) {
+        say_all!(&mut self.words; written(member, self.follows), '"', part, '"');
+        self.follows = true;
     }
 
     /// Puts a text.
-    pub fn text(&mut self, name: &str, text: &str) {
-        self.name(name, "\":\"");
-        say_string(text, &mut self.words);
-        self.last = Last::Text;
+    pub fn text(&mut self, member: Member, text: &str) {
+        self.plain(member, Escaped(text));
     }
 
     /// Puts a text in words.
-    pub(crate) fn words(&mut self, name: &str, words: TextBuilder<A>) {
+    pub(crate) fn words(&mut self, member: Member, words: TextBuilder<A>) {
         match words.finish() {
-            Ok(text) => self.text(name, text.as_str()),
+            Ok(text) => self.text(member, text.as_str()),
             Err(_) => self.words.refuse(),
         }
     }

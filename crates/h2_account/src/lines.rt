@@ -3,7 +3,6 @@
 //! `specs/Lines.antt`, the format: docs/FORMATS.md.
 
 ghost use Rattle.std.specs.Prelude.{◌≡◌, IfOk};
-ghost use Rattle.std.specs.String.{string_bytes};
 ghost use Rattle.h2_account.specs.Lines.{Words as Said, blanks, cause_lines, error_lines, first_line, ignored_lines, is_silent, lines, lines_of, reason_lines, rule_lines, scope};
 ghost use Rattle.h2_facts.specs.Special.{rule_of_cause, rule_of_reason};
 
@@ -16,7 +15,7 @@ use crate::warning_words::say_warnings;
 use h2_describe::names::{error_name, scope_word};
 use h2_describe::say::TextBuilder;
 use h2_describe::spelled::BlockReader;
-use h2_device::{DeviceFault, Number, Output, Text, string_with, texts};
+use h2_device::{DeviceFault, Gathered, Number, Output, Text, texts};
 use h2_facts::special::{Rule, case_of_error, case_of_reason, rule_of_cause, rule_of_reason};
 use h2_item::item::Explained;
 use h2_spec::causes::Cause;
@@ -310,6 +309,24 @@ fn room_for(has_rule: bool, words: usize, opening: &str, sentence: &str) -> usiz
         .saturating_add(rule)
 }
 
+/// The octets of a text, with memory for this many from the first on.
+fn octets_with<A: Allocator, T: Text>(
+    alloc: A,
+    room: usize,
+    text: &T,
+) -> Result<Vec<u8, A>, AllocError>
+    ensures { IfOk result (λ octets. octets.items ≡ T.text text.now) }
+{
+    let mut gathered = Gathered {
+        octets: Vec::with_capacity(alloc, room)?,
+        failed: false,
+    };
+    match text.write_to(&mut gathered) {
+        Ok(()) => Ok(gathered.octets),
+        Err(_) => Err(AllocError),
+    }
+}
+
 /// The lines of an item with these words.
 fn lines_with<A: Allocator + Copy>(
     alloc: A,
@@ -318,8 +335,8 @@ fn lines_with<A: Allocator + Copy>(
     account: &Account<A>,
     opening: &str,
     paint: Paint,
-) -> Result<String<A>, AllocError>
-    ensures { IfOk result (λ text. (w : Said) × (string_bytes text ≡ lines paint.0 item.now w)) }
+) -> Result<Vec<u8, A>, AllocError>
+    ensures { IfOk result (λ octets. (w : Said) × (octets.items ≡ lines paint.0 item.now w)) }
 {
     let first = FirstLine {
         paint,
@@ -346,7 +363,7 @@ fn lines_with<A: Allocator + Copy>(
     let changes = words.part(words.sent, words.text.len());
     let has_rule = item.cause.is_some() || item.ignored.is_some();
     let room = room_for(has_rule, words.text.len(), opening, sentence);
-    string_with(
+    octets_with(
         alloc,
         room,
         &texts!(opening, first, fields, cause, also, reason, sent, changes),
@@ -363,8 +380,8 @@ fn is_silent(item: ItemHead) -> bool
     }
 }
 
-/// The text of an item, before it that of the server's opening, if the item is the first; that of the preface itself is
-/// empty. `reader` has the fields of its block.
+/// The octets of the text of an item, before it that of the server's opening, if the item is the first; that of the
+/// preface itself is empty. `reader` has the fields of its block.
 ///
 /// `AllocError` where memory is refused.
 pub fn lines_of<A: Allocator + Copy>(
@@ -373,12 +390,12 @@ pub fn lines_of<A: Allocator + Copy>(
     account: &Account<A>,
     reader: &BlockReader<A>,
     paint: Paint,
-) -> Result<String<A>, AllocError>
-    ensures { IfOk result (λ text. (w : Said) × (string_bytes text ≡ lines_of paint.0 item.now w)) }
+) -> Result<Vec<u8, A>, AllocError>
+    ensures { IfOk result (λ octets. (w : Said) × (octets.items ≡ lines_of paint.0 item.now w)) }
 {
     let opening = opening_text(alloc, account.opening.as_slice(), paint)?;
     if is_silent(item.what) {
-        return Ok(opening);
+        return Ok(opening.into_bytes());
     }
     let words = words_of(alloc, item, account, reader, paint)?;
     lines_with(alloc, item, &words, account, opening.as_str(), paint)

@@ -8,6 +8,7 @@ ghost use Rattle.h2_account.specs.Rest.{is_said, missing_of, missing_of_front};
 
 use crate::json::put_head;
 use crate::json_words::JsonWords;
+use crate::member;
 use crate::paint::{Paint, Role};
 use crate::text::say_opening;
 use h2_describe::frame_words::say_head;
@@ -194,17 +195,17 @@ fn put_cut_frame<A: Allocator>(missing: Missing, out: &mut JsonWords<A>) {
 /// Puts what is after the last item in.
 pub fn put_end<A: Allocator>(rest: InputRest, out: &mut JsonWords<A>) {
     match rest.ended {
-        Some(code) => out.number("code", u64::from(code)),
-        None => out.flag("at_least", rest.missing.at_least),
+        Some(code) => out.number(member!("code"), u64::from(code)),
+        None => out.flag(member!("at_least"), rest.missing.at_least),
     }
-    out.flag("ended", rest.ended.is_some());
+    out.flag(member!("ended"), rest.ended.is_some());
     if rest.ended.is_none() {
         put_cut_frame(rest.missing, out);
     }
-    out.number("items", rest.items);
+    out.number(member!("items"), rest.items);
     if rest.ended.is_none() {
-        out.number("needs", rest.missing.needs as u64);
+        out.number(member!("needs"), rest.missing.needs as u64);
     }
-    out.number("octets", rest.octets as u64);
-    out.number("offset", rest.offset as u64);
+    out.number(member!("octets"), rest.octets as u64);
+    out.number(member!("offset"), rest.offset as u64);
 }

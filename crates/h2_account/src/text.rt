@@ -31,7 +31,7 @@ pub(crate) fn say_item<A: Allocator>(item: &Explained<'_>, out: &mut TextBuilder
         }
         ItemHead::Frame(_) => {
             if let Some(frame) = item.frame() {
-                say_frame_in(frame, !item.ends_connection(), out);
+                say_frame_in(frame, item.part, !item.ends_connection(), out);
             }
         }
     }

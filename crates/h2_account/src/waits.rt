@@ -6,6 +6,7 @@ ghost use Rattle.std.specs.Option.{option_map};
 ghost use Rattle.h2_account.specs.Waits.{answer_wait, is_sending, request_wait, wait_of};
 
 use crate::json_words::JsonWords;
+use crate::member;
 use h2_describe::say::{OctetCount, TextBuilder};
 use h2_describe::say_all;
 use h2_spec::connection::{Config, ConnectionState};
@@ -188,28 +189,28 @@ fn put_request<A: Allocator>(
     out: &mut JsonWords<A>,
 ) {
     let Some(request) = request else {
-        out.null("request");
+        out.null(member!("request"));
         return;
     };
-    out.open("request");
-    out.signed("connection_window", request.connection_window);
-    out.number_if_any("missing", request.missing);
-    out.number("owed", u64::from(request.owed));
-    out.number("returned_at", u64::from(config.credit));
-    out.signed("window", request.window);
+    out.open(member!("request"));
+    out.signed(member!("connection_window"), request.connection_window);
+    out.number_if_any(member!("missing"), request.missing);
+    out.number(member!("owed"), u64::from(request.owed));
+    out.number(member!("returned_at"), u64::from(config.credit));
+    out.signed(member!("window"), request.window);
     out.close();
 }
 
 /// Puts what the server has still to send, null where there is nothing.
 fn put_answer<A: Allocator>(answer: Option<AnswerWait>, out: &mut JsonWords<A>) {
     let Some(answer) = answer else {
-        out.null("answer");
+        out.null(member!("answer"));
         return;
     };
-    out.open("answer");
-    out.signed("connection_window", answer.connection_window);
-    out.number("remaining", answer.remaining);
-    out.signed("window", answer.window);
+    out.open(member!("answer"));
+    out.signed(member!("connection_window"), answer.connection_window);
+    out.number(member!("remaining"), answer.remaining);
+    out.signed(member!("window"), answer.window);
     out.close();
 }
 
@@ -218,6 +219,6 @@ pub fn put_wait<A: Allocator>(wait: &Wait, config: &Config, out: &mut JsonWords<
     out.open_element();
     put_answer(wait.answer, out);
     put_request(wait.request, config, out);
-    out.number("stream", u64::from(wait.stream));
+    out.number(member!("stream"), u64::from(wait.stream));
     out.close();
 }

@@ -1,6 +1,7 @@
 //! Warnings as lines of text and as JSON. The form: docs/EXPLAIN.md.
 
 use crate::json_words::JsonWords;
+use crate::member;
 use crate::paint::{Paint, Role};
 use h2_describe::say::TextBuilder;
 use h2_describe::say_all;
@@ -33,9 +34,9 @@ pub(crate) fn say_warnings<A: Allocator>(
 /// Puts a warning, as an element.
 fn put_warning<A: Allocator>(warning: Warning, out: &mut JsonWords<A>) {
     out.open_element();
-    out.plain("name", warning.name());
-    out.plain("section", warning.section());
-    out.plain("sentence", warning.sentence());
+    out.plain(member!("name"), warning.name());
+    out.plain(member!("section"), warning.section());
+    out.plain(member!("sentence"), warning.sentence());
     out.close();
 }
 
@@ -44,7 +45,7 @@ pub fn put_warnings<A: Allocator>(warnings: Warnings, out: &mut JsonWords<A>) {
     if warnings.count() == 0 {
         return;
     }
-    out.open_list("warnings");
+    out.open_list(member!("warnings"));
     for warning in all_warnings() {
         if warnings.has(*warning) {
             put_warning(*warning, out);

@@ -17,6 +17,7 @@ use h2_cases::{Line, line_of};
 use h2_conn::{Conn, ConnFault};
 use h2_describe::sent::first_of;
 use h2_explain::{Explained, Explainer, take_next};
+use h2_item::item::part_in;
 use h2_request::book::Book;
 use h2_script::{LineFault, add_line};
 use h2_spec::connection::Config;
@@ -90,6 +91,16 @@ fn octets_of_lines(alloc: Global, lines: &[&[u8]]) -> Result<Vec<u8>, AllocError
     Ok(octets)
 }
 
+/// The text of these octets. `AllocError` where they are not UTF-8, which those of a text are.
+fn text_with(octets: Vec<u8>) -> Result<String, AllocError>
+    ensures { IfOk result (λ text. string_bytes text ≡ octets.items) }
+{
+    match String::from_utf8(octets) {
+        Ok(text) => Ok(text),
+        Err(_) => Err(AllocError),
+    }
+}
+
 /// The text of an item that a connection has just taken.
 fn text_of(
     alloc: Global,
@@ -99,8 +110,12 @@ fn text_of(
 ) -> Result<String, AllocError>
     ensures { IfOk result (λ text. IsTextOf false false item.now (string_bytes text)) }
 {
-    match explainer.account(alloc, conn, item) {
-        Ok(account) => lines_of(alloc, item, &account, &explainer.reader, Paint(false)),
+    let account = match explainer.account(alloc, conn, item) {
+        Ok(account) => account,
+        Err(error) => return Err(error),
+    };
+    match lines_of(alloc, item, &account, &explainer.reader, Paint(false)) {
+        Ok(octets) => text_with(octets),
         Err(error) => Err(error),
     }
 }
@@ -140,13 +155,15 @@ fn take_text(
     };
     let taken = taking.taken;
     let used = taken.used;
+    let own = first_of(octets, used);
     let item = Explained {
         number: texts.len() as u64 + 1,
         offset,
-        octets: first_of(octets, used),
+        octets: own,
         ahead: octets,
         used,
         what: taken.item,
+        part: part_in(taken.item, own),
         cause: taken.cause,
         ignored: taken.ignored,
         sent: sent.as_slice(),

@@ -141,15 +141,20 @@ fn say_part<A: Allocator>(
 
 /// Puts a frame in words last; its length alone where its payload can't be read.
 pub fn say_frame<A: Allocator>(frame: FrameRef<'_>, out: &mut TextBuilder<A>) {
-    say_frame_in(frame, true, out);
+    say_frame_in(frame, part_of(frame).ok(), true, out);
 }
 
-/// The same of a frame that a connection took: `can_stay` is whether a field block can be open after it, since the frame
-/// did not end the connection.
-pub fn say_frame_in<A: Allocator>(frame: FrameRef<'_>, can_stay: bool, out: &mut TextBuilder<A>) {
+/// The same of a frame whose payload was read already: `part` is what it holds, none where it can't be read. `can_stay` is
+/// whether a field block can be open after the frame: not where it ended the connection.
+pub fn say_frame_in<A: Allocator>(
+    frame: FrameRef<'_>,
+    part: Option<Part<'_>>,
+    can_stay: bool,
+    out: &mut TextBuilder<A>,
+) {
     say_head(&frame.head, out);
-    match part_of(frame) {
-        Ok(part) => say_part(frame, part, can_stay, out),
-        Err(_) => say_all!(out; ", ", OctetCount(u64::from(frame.head.length))),
+    match part {
+        Some(part) => say_part(frame, part, can_stay, out),
+        None => say_all!(out; ", ", OctetCount(u64::from(frame.head.length))),
     }
 }

@@ -1,5 +1,5 @@
 -- What is shown of an item: whether the fields of its block are, and what it changed.
-use Rattle.std.specs.Prelude.{◌≡◌, ℕ, zero, suc, ℤ, Bool, true, false, not, ◌&&◌, ◌||◌, ◌==◌, if◌then◌else◌, List, [], ◌∷◌, ◌++◌, length, Option, Some, None, Result, Ok, Err}
+use Rattle.std.specs.Prelude.{◌≡◌, ℕ, zero, suc, ℤ, Bool, true, false, not, ◌&&◌, ◌||◌, ◌==◌, if◌then◌else◌, List, [], ◌∷◌, ◌++◌, length, Option, Some, None}
 use Rattle.std.specs.List.{All}
 use Rattle.h2_conn.specs.Connection.{is_ended}
 use Rattle.h2_spec.specs.Cause.{code_of}
@@ -44,9 +44,9 @@ fragment_of (OfContinuation fragment) = Some fragment
 fragment_of OfUnknown = None
 
 -- the fragment that a payload has, if it can be read
-abbrev pub fragment_in : Result Part Cause → Option (List ℕ)
-fragment_in (Ok part) = fragment_of part
-fragment_in (Err cause) = None
+abbrev pub fragment_in : Option Part → Option (List ℕ)
+fragment_in None = None
+fragment_in (Some part) = fragment_of part
 
 -- whether a frame belongs to the field block: HEADERS where none is open, CONTINUATION on the stream of the open one
 -- (4.3, 6.10)

@@ -13,6 +13,7 @@ use crate::verdict::{Tally, verdict_at};
 use crate::verdict_words::{put_verdict, say_tally};
 use h2_account::json::{line_of, put_opening};
 use h2_account::json_words::JsonWords;
+use h2_account::member;
 use h2_account::paint::{Paint, Role};
 use h2_account::rest::{InputRest, missing_of, put_end, rest_line, say_place};
 use h2_account::waits::{put_wait, say_wait, wait_of};
@@ -169,7 +170,7 @@ impl<A: Allocator + Copy> End<'_, '_, A> {
         if is_ended(counts.phase) || self.explainer.live.is_empty() {
             return;
         }
-        out.open_list("waits");
+        out.open_list(member!("waits"));
         for stream in self.explainer.live.keys() {
             let wait = wait_of(&self.conn.stream(*stream), &counts);
             put_wait(&wait, &config, out);
@@ -192,7 +193,7 @@ impl<A: Allocator + Copy> End<'_, '_, A> {
         let mut out = JsonWords::over(TextBuilder::new(alloc));
         put_opening(alloc, opening, &mut out);
         out.open_element();
-        out.open("end");
+        out.open(member!("end"));
         put_end(self.rest, &mut out);
         self.put_verdict(&mut out);
         self.put_waits(&mut out);

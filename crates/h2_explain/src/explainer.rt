@@ -4,9 +4,8 @@
 ghost use Rattle.std.specs.Prelude.{◌≡◌, ◌++◌, false, IfOk, OnOk};
 ghost use Rattle.std.specs.BTreeMap.{IsEmpty};
 ghost use Rattle.std.specs.Option.{option_map};
-ghost use Rattle.h2_spec.specs.Payload.{part_of};
 ghost use Rattle.h2_spec.specs.Stream.{stream_at};
-ghost use Rattle.h2_item.specs.Item.{head_in};
+ghost use Rattle.h2_item.specs.Item.{frame_in, head_in, part_in};
 ghost use Rattle.h2_explain.specs.Account.{KeepsBlocks, ListsChanges, NotesItem, begun_after, block_end_with, changes_of_sent, changes_since, ended_with, unread, fragment_in, is_compression, is_of_block, is_of_fields, moves_windows, noted_with, notes_of_sent, reads_fields, shows_fields_with};
 ghost use Rattle.h2_item.specs.Notes.{AreNotes, note_of, with_later_note};
 ghost use Rattle.h2_facts.specs.Warnings.{AreWarnings};
@@ -22,7 +21,7 @@ use h2_facts::facts::{facts_of, others_of, wider_of};
 use h2_facts::request_facts::{RequestFacts, request_facts};
 use h2_facts::special::CaseFacts;
 use h2_facts::warning::{opens_stream, warnings_of};
-use h2_frame::{FrameRef, Part, part_of};
+use h2_frame::Part;
 use h2_item::error_context::ErrorContext;
 use h2_item::header_table::{EntryChange, Followed};
 use h2_item::item::Explained;
@@ -30,7 +29,7 @@ use h2_item::notes::Notes;
 use h2_sentence::sentence::say_sentence;
 use h2_spec::causes::Cause;
 use h2_spec::errors::ErrorCode;
-use h2_spec::frames::{CONTINUATION, END_HEADERS, END_STREAM, FrameType, HEADERS, Head};
+use h2_spec::frames::{CONTINUATION, END_HEADERS, END_STREAM, FrameType, HEADERS, Head, ItemHead};
 use h2_spec::streams::StreamState;
 use std::alloc::{AllocError, Allocator, Global};
 use std::collections::BTreeMap;
@@ -52,13 +51,14 @@ pub struct Explainer<A: Allocator = Global> {
     pub is_full: bool,
 }
 
-/// The fragment of a field block that a frame has, if its payload can be read as one (RFC 9113, 6.2 and 6.10).
-fn fragment_of(frame: FrameRef<'_>) -> Option<&[u8]>
-    ensures { option_map (λ x. x.now) result ≡ fragment_in (part_of frame.entry.head frame.entry.payload.now) }
+/// The fragment of a field block that the frame of an item has, if its payload can be read as one (RFC 9113, 6.2 and
+/// 6.10).
+fn fragment_of<'o>(item: &Explained<'o>) -> Option<&'o [u8]>
+    ensures { option_map (λ x. x.now) result ≡ fragment_in (part_in (frame_in item.now.what item.now.octets.now)) }
 {
-    match part_of(frame) {
-        Ok(Part::Headers(part)) => Some(part.fragment),
-        Ok(Part::Continuation(fragment)) => Some(fragment),
+    match item.part {
+        Some(Part::Headers(part)) => Some(part.fragment),
+        Some(Part::Continuation(fragment)) => Some(fragment),
         _ => None,
     }
 }
@@ -151,11 +151,11 @@ impl<A: Allocator + Copy> Explainer<A> {
     fn read_block(&mut self, alloc: A, item: &Explained<'_>) -> Result<bool, AllocError>
         ensures shows { IfOk result (λ shows. shows ≡ shows_fields_with item.now) }
         ensures notes { OnOk result (self.new.notes ≡ record self.old.notes { block = begun_after self.old.notes.block item.now.number item.now.before.block item.now.what }) }
+        ensures full { self.new.is_full ≡ self.old.is_full }
     {
-        let Some(frame) = item.frame() else {
+        let ItemHead::Frame(head) = item.what else {
             return Ok(false);
         };
-        let head = frame.head;
         if !is_of_block(item, &head) {
             return Ok(false);
         }
@@ -167,7 +167,7 @@ impl<A: Allocator + Copy> Explainer<A> {
         if !reads_fields(item) {
             return Ok(false);
         }
-        if let Some(fragment) = fragment_of(frame) {
+        if let Some(fragment) = fragment_of(item) {
             self.reader.read(alloc, fragment)?;
         }
         Ok(head.has(END_HEADERS) || is_ended(item.after.counts.phase))
@@ -193,6 +193,7 @@ impl<A: Allocator + Copy> Explainer<A> {
         ensures changes { OnOk result (out.new.items ≡ out.old.items ++ changes_of_sent item.now conn.now.state (note_of self.old.notes)) }
         ensures notes { OnOk result (AreNotes self.new.notes (notes_of_sent item.now conn.now.state (note_of self.old.notes))) }
         ensures blocks { OnOk result (KeepsBlocks self.old.notes self.new.notes) }
+        ensures full { self.new.is_full ≡ self.old.is_full }
     {
         let mut rest = item.sent;
         for _frame in 0..item.sent.len() {
@@ -217,6 +218,7 @@ impl<A: Allocator + Copy> Explainer<A> {
         ensures changes { OnOk result (out.new.items ≡ out.old.items ++ changes_since (note_of self.old.notes stream) (stream_at conn.now.state.core.last conn.now.state.streams stream) item.now.after.counts.send) }
         ensures notes { OnOk result (AreNotes self.new.notes (with_later_note (note_of self.old.notes stream) item.now.number (stream_at conn.now.state.core.last conn.now.state.streams stream) (note_of self.old.notes))) }
         ensures blocks { OnOk result (KeepsBlocks self.old.notes self.new.notes) }
+        ensures full { self.new.is_full ≡ self.old.is_full }
     {
         let Some(note) = self.notes.of(stream) else {
             return Ok(());
@@ -308,7 +310,8 @@ impl<A: Allocator + Copy> Explainer<A> {
 
     /// Notes that the server has reset a stream at an item that ended the client's side, if it is so.
     fn note_refused_end(&mut self, item: &Explained<'_>) -> Result<(), AllocError>
-        ensures { self.new.notes ≡ self.old.notes }
+        ensures notes { self.new.notes ≡ self.old.notes }
+        ensures full { self.new.is_full ≡ self.old.is_full }
     {
         let stream = item.after.stream.id;
         match (item.before.stream.kind, item.after.stream.kind) {
@@ -334,6 +337,7 @@ impl<A: Allocator + Copy> Explainer<A> {
         ensures block { OnOk result (self.new.notes.block ≡ self.old.notes.block) }
         ensures block_end { OnOk result (self.new.notes.block_end ≡ block_end_with self.old.notes.block_end item.now.number (head_in item.now.what)) }
         ensures still { OnOk result (moves_windows item.now ≡ false → self.new.notes.streams ≡ self.old.notes.streams) }
+        ensures full { self.new.is_full ≡ self.old.is_full }
     {
         self.note_refused_end(item)?;
         note_moved(alloc, conn, item, &mut self.notes, &mut self.live)?;
@@ -355,7 +359,9 @@ impl<A: Allocator + Copy> Explainer<A> {
         ensures fields { IfOk result (λ account. account.shows_fields ≡ shows_fields_with item.now) }
         ensures warnings { IfOk result (λ account. AreWarnings item.now account.facts account.warnings) }
         ensures changes { IfOk result (λ account. ListsChanges item.now conn.now.state (begun_after self.old.notes.block item.now.number item.now.before.block item.now.what) (note_of self.old.notes) account.changes.items) }
+        ensures texts { IfOk result (λ account. account.is_full ≡ self.old.is_full) }
         ensures notes { OnOk result (NotesItem item.now conn.now.state self.old.notes self.new.notes) }
+        ensures full { self.new.is_full ≡ self.old.is_full }
     {
         let shows_fields = self.read_block(alloc, item)?;
         self.table.follow_refused(alloc, item, &self.reader)?;
@@ -388,7 +394,8 @@ impl<A: Allocator + Copy> Explainer<A> {
         alloc: A,
         item: &Explained<'_>,
     ) -> Result<Vec<EntryChange<A>, A>, AllocError>
-        ensures { self.new.notes ≡ self.old.notes }
+        ensures notes { self.new.notes ≡ self.old.notes }
+        ensures full { self.new.is_full ≡ self.old.is_full }
     {
         let Some(head) = item.head() else {
             return Ok(Vec::new(alloc));
@@ -416,6 +423,7 @@ impl<A: Allocator + Copy> Explainer<A> {
         ensures changes { IfOk result (λ list. ListsChanges item.now conn.now.state self.old.notes.block (note_of self.old.notes) list.items) }
         ensures notes { OnOk result (AreNotes self.new.notes (notes_of_sent item.now conn.now.state (noted_with item.now self.old.notes.block (note_of self.old.notes)))) }
         ensures blocks { OnOk result (KeepsBlocks self.old.notes self.new.notes) }
+        ensures full { self.new.is_full ≡ self.old.is_full }
     {
         let mut list = Vec::new(alloc);
         let (before, after) = (&item.before, &item.after);

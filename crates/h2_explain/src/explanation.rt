@@ -26,7 +26,7 @@ use h2_account::paint::Paint;
 use h2_conn::{Conn, is_ended};
 use h2_describe::sent::first_of;
 use h2_device::Output;
-use h2_item::item::Explained;
+use h2_item::item::{Explained, part_in};
 use h2_spec::octets::octets_from;
 use std::alloc::{AllocError, Allocator, Global};
 use std::mem;
@@ -45,7 +45,7 @@ fn write<O: Output>(output: &mut O, octets: &[u8]) -> Result<(), ExplainFault>
     }
 }
 
-/// The text of an item.
+/// The octets of the text of an item.
 fn item_text<A: Allocator + Copy>(
     alloc: A,
     form: Form,
@@ -53,8 +53,8 @@ fn item_text<A: Allocator + Copy>(
     tally: &mut Tally<A>,
     conn: &Conn<'_, A>,
     item: &Explained<'_>,
-) -> Result<String<A>, AllocError>
-    ensures text { IfOk result (λ text. IsItemText form item.now (string_bytes text)) }
+) -> Result<Vec<u8, A>, AllocError>
+    ensures text { IfOk result (λ octets. IsItemText form item.now octets.items) }
     ensures tally { OnOk result (TalliesItem tally.old item.now tally.new) }
 {
     let account = explainer.account(alloc, conn, item)?;
@@ -84,7 +84,7 @@ fn write_item<A: Allocator + Copy, O: Output>(
     ensures name { O.name output.new ≡ O.name output.old }
 {
     match item_text(alloc, form, explainer, tally, conn, item) {
-        Ok(text) => write(output, text.as_bytes()),
+        Ok(octets) => write(output, octets.as_slice()),
         Err(_) => Err(ExplainFault::NoMemory),
     }
 }
@@ -209,13 +209,15 @@ impl<A: Allocator + Copy> Explanation<A> {
         };
         let taken = taking.taken;
         let used = taken.used;
+        let own = first_of(octets, used);
         let item = Explained {
             number: self.items + 1,
             offset: self.offset,
-            octets: first_of(octets, used),
+            octets: own,
             ahead: octets,
             used,
             what: taken.item,
+            part: part_in(taken.item, own),
             cause: taken.cause,
             ignored: taken.ignored,
             sent: octets_from(out.as_slice(), start),

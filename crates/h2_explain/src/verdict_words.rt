@@ -3,6 +3,7 @@
 
 use crate::verdict::{ClientVerdict, Tally};
 use h2_account::json_words::JsonWords;
+use h2_account::member;
 use h2_describe::say::TextBuilder;
 use h2_describe::say_all;
 use h2_spec::causes::Cause;
@@ -77,15 +78,15 @@ pub(crate) fn say_tally<A: Allocator>(
 /// Puts how many errors a cause has, as an element.
 fn put_count<A: Allocator>(cause: Cause, count: u64, out: &mut JsonWords<A>) {
     out.open_element();
-    out.plain("cause", cause.name());
-    out.number("count", count);
+    out.plain(member!("cause"), cause.name());
+    out.number(member!("count"), count);
     out.close();
 }
 
 /// Puts how many errors each cause has, in the order in which they came first.
 fn put_errors<A: Allocator>(errors: &[Cause], out: &mut JsonWords<A>) {
     let mut counts = counts_of(errors);
-    out.open_list("errors");
+    out.open_list(member!("errors"));
     for cause in errors {
         let count = take_count(&mut counts, *cause);
         if count > 0 {
@@ -102,11 +103,11 @@ pub(crate) fn put_verdict<A: Allocator>(
     warnings: u64,
     out: &mut JsonWords<A>,
 ) {
-    out.open("verdict");
-    out.flag("broken", verdict.broken);
+    out.open(member!("verdict"));
+    out.flag(member!("broken"), verdict.broken);
     put_errors(tally.errors.as_slice(), out);
-    out.flag("limited", verdict.limited);
-    out.flag("unfinished", verdict.unfinished);
-    out.number("warnings", warnings);
+    out.flag(member!("limited"), verdict.limited);
+    out.flag(member!("unfinished"), verdict.unfinished);
+    out.number(member!("warnings"), warnings);
     out.close();
 }

@@ -1,17 +1,15 @@
 //! What a sentence about an error can draw its values from. Definitions: `specs/ErrorContext.antt`.
 
 ghost use Rattle.std.specs.Prelude.{◌≡◌};
-ghost use Rattle.std.specs.Option.{option_map};
-ghost use Rattle.h2_frame.specs.Parts.{part_seen};
-ghost use Rattle.h2_item.specs.Item.{frame_in, head_in, payload_in};
-ghost use Rattle.h2_item.specs.ErrorContext.{fixed_in, increment_in, length_in, pad_in, part_in, setting_in, type_in};
+ghost use Rattle.h2_item.specs.Item.{frame_in, head_in, part_in, payload_in};
+ghost use Rattle.h2_item.specs.ErrorContext.{fixed_in, increment_in, length_in, pad_in, setting_in, type_in};
 ghost use Rattle.h2_item.specs.Notes.{note_of};
 
 use crate::header_table::Followed;
 use crate::item::Explained;
 use crate::notes::{Notes, StreamNote};
 use h2_describe::spelled::{BlockReader, SpelledField};
-use h2_frame::{Part, part_of};
+use h2_frame::Part;
 use h2_spec::connection::Config;
 use h2_spec::frames::{END_STREAM, FrameType, PADDED, WITH_PRIORITY};
 use std::alloc::{AllocError, Allocator};
@@ -107,21 +105,11 @@ impl<A: Allocator + Copy> ErrorContext<'_, '_, A> {
         pad + priority
     }
 
-    /// What the payload of the frame holds, if the item is a whole one and can be read (RFC 9113, 6).
-    fn part(&self) -> Option<Part<'_>>
-        ensures { option_map part_seen result ≡ part_in (frame_in self.now.item.now.what self.now.item.now.octets.now) }
-    {
-        match part_of(self.item.frame()?) {
-            Ok(part) => Some(part),
-            Err(_) => None,
-        }
-    }
-
     /// The increment of WINDOW_UPDATE, 0 to 2147483647; 0 where the item is none (RFC 9113, 6.9).
     pub fn increment(&self) -> u32
         ensures { result ≡ increment_in (part_in (frame_in self.now.item.now.what self.now.item.now.octets.now)) }
     {
-        match self.part() {
+        match self.item.part {
             Some(Part::WindowUpdate(increment)) => increment,
             _ => 0,
         }
@@ -132,7 +120,7 @@ impl<A: Allocator + Copy> ErrorContext<'_, '_, A> {
     pub fn setting(&self, place: usize) -> Option<(u16, u32)>
         ensures { result ≡ setting_in place (part_in (frame_in self.now.item.now.what self.now.item.now.octets.now)) }
     {
-        match self.part() {
+        match self.item.part {
             Some(Part::Settings(part)) => part.pair(place),
             _ => None,
         }

@@ -3,9 +3,10 @@
 ghost use Rattle.std.specs.Prelude.{◌≡◌, is_some};
 ghost use Rattle.std.specs.Option.{option_map};
 ghost use Rattle.h2_spec.specs.State.{ended_code};
-ghost use Rattle.h2_item.specs.Item.{frame_in, frame_seen, head_in, payload_in};
+ghost use Rattle.h2_frame.specs.Parts.{part_seen};
+ghost use Rattle.h2_item.specs.Item.{frame_in, frame_seen, head_in, part_in, payload_in};
 
-use h2_frame::FrameRef;
+use h2_frame::{FrameRef, Part, part_of};
 use h2_spec::causes::Cause;
 use h2_spec::connection::{BlockView, ConnectionState, Phase};
 use h2_spec::frames::{Head, ItemHead};
@@ -45,6 +46,8 @@ pub struct Explained<'o> {
     pub used: usize,
     /// What it is.
     pub what: ItemHead,
+    /// What its payload holds, if it is a whole frame whose payload can be read (RFC 9113, 6): what `part_in` gives.
+    pub part: Option<Part<'o>>,
     /// Why it is a connection error or a stream error, if it is one (RFC 9113, 5.4).
     pub cause: Option<Cause>,
     /// Why it is ignored, if it is.
@@ -55,6 +58,41 @@ pub struct Explained<'o> {
     pub before: Moment,
     /// The connection after it.
     pub after: Moment,
+    /// The part is that of the item's own octets.
+    pub ghost part_is: { option_map part_seen part ≡ part_in (frame_in what octets.now) },
+}
+
+/// The octets of an item after the nine of a frame's head.
+fn payload_in(octets: &[u8]) -> &[u8]
+    ensures { result.now ≡ payload_in octets.now }
+{
+    if octets.len() < 9 {
+        return &[];
+    }
+    octets_from(octets, 9)
+}
+
+/// The frame that an item is, if it is a whole one.
+fn frame_in(what: ItemHead, octets: &[u8]) -> Option<FrameRef<'_>>
+    ensures { option_map frame_seen result ≡ frame_in what octets.now }
+{
+    match what {
+        ItemHead::Frame(head) => Some(FrameRef {
+            head,
+            payload: payload_in(octets),
+        }),
+        ItemHead::Oversize(_) | ItemHead::Preface | ItemHead::BadPreface => None,
+    }
+}
+
+/// What the payload of the frame that an item is holds, if it is a whole one and can be read (RFC 9113, 6).
+pub fn part_in(what: ItemHead, octets: &[u8]) -> Option<Part<'_>>
+    ensures { option_map part_seen result ≡ part_in (frame_in what octets.now) }
+{
+    match part_of(frame_in(what, octets)?) {
+        Ok(part) => Some(part),
+        Err(_) => None,
+    }
 }
 
 impl Explained<'_> {
@@ -73,10 +111,7 @@ impl Explained<'_> {
     pub fn payload(&self) -> &[u8]
         ensures { result.now ≡ payload_in self.now.octets.now }
     {
-        if self.octets.len() < 9 {
-            return &[];
-        }
-        octets_from(self.octets, 9)
+        payload_in(self.octets)
     }
 
     /// Whether it ended the connection, as a connection error (RFC 9113, 5.4.1).
@@ -90,12 +125,6 @@ impl Explained<'_> {
     pub fn frame(&self) -> Option<FrameRef<'_>>
         ensures { option_map frame_seen result ≡ frame_in self.now.what self.now.octets.now }
     {
-        match self.what {
-            ItemHead::Frame(head) => Some(FrameRef {
-                head,
-                payload: self.payload(),
-            }),
-            ItemHead::Oversize(_) | ItemHead::Preface | ItemHead::BadPreface => None,
-        }
+        frame_in(self.what, self.octets)
     }
 }

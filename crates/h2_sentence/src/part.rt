@@ -224,17 +224,9 @@ fn block_octets(before: &Moment, length: u64) -> u64 {
 /// padding.
 fn received(item: &Explained<'_>) -> u64 {
     let before = item.before.stream.numbers.content_received;
-    match item.frame() {
-        Some(frame) => before.saturating_add(content_of(frame)),
-        None => before,
-    }
-}
-
-/// The octets of content that a frame has: none unless it is DATA.
-fn content_of(frame: h2_frame::FrameRef<'_>) -> u64 {
-    match h2_frame::part_of(frame) {
-        Ok(h2_frame::Part::Data(part)) => part.content.len() as u64,
-        _ => 0,
+    match item.part {
+        Some(h2_frame::Part::Data(part)) => before.saturating_add(part.content.len() as u64),
+        _ => before,
     }
 }
 

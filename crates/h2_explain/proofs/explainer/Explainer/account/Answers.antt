@@ -12,4 +12,4 @@ returns-clause-changes g c =
 pub returns-clause-notes : goal.returns-clause-notes
 returns-clause-notes g c =
     notes-item c.args.item.now c.args.conn.now.state c.args.self.now.notes _ _ _ _ c.in_ok-shows_fields.ensures.notes c.in_ok-changes.ensures.blocks c.in_ok-changes.ensures.notes
-    c.in_ok-note_rest.ensures.block c.in_ok-note_rest.ensures.block_end c.in_ok-note_rest.ensures.still c.entries.ensures
+    c.in_ok-note_rest.ensures.block c.in_ok-note_rest.ensures.block_end c.in_ok-note_rest.ensures.still c.entries.ensures.notes

@@ -12,6 +12,7 @@ loop-frame-init g c =
       changes = rw all refl;
       notes = λ id. rw all refl;
       blocks = (refl, refl);
+      full = refl;
     }
 
 pub loop-frame-preserved : goal.loop-frame-preserved
@@ -28,6 +29,7 @@ loop-frame-preserved g c =
       notes = one_noted _ c.args.item.now.number at (note_of c.loop-frame.self.notes) (note_of c.see.new.self.notes) _ left c.loop-frame.rest.now (first_seen (c.in-Some.frame, c.in-Some.after)) most
           (sym c.in-Some.ensures) c.loop-frame.invariant.notes c.in_ok-see.ensures.notes;
       blocks = (c.in_ok-see.ensures.blocks.0 ∙ c.loop-frame.invariant.blocks.0, c.in_ok-see.ensures.blocks.1 ∙ c.loop-frame.invariant.blocks.1);
+      full = c.see.ensures.full ∙ c.loop-frame.invariant.full;
     }
 
 pub returns-in_default-clause-changes : goal.returns-in_default-clause-changes

@@ -13,4 +13,5 @@ invariant-loop-frame g l = record {
       (id : ℕ) → notes_of_sent l.fn.item l.fn.conn.state (note_of l.fn.self.notes) id
       ≡ notes_on l.fn.item.number (stream_at l.fn.conn.state.core.last l.fn.conn.state.streams) (note_of l.self.notes) (streams_of (length l.fn.item.sent.now - l._frame) l.rest) id;
   blocks : KeepsBlocks l.fn.self.notes l.self.notes;
+  full : l.self.is_full ≡ l.fn.self.is_full;
 }

@@ -15,7 +15,7 @@ pub returns-clause-ok : goal.returns-clause-ok
 returns-clause-ok g c =
     let e = c.args.self.now in
     let k = c.in-Ok-Some.taking in
-    let x : Explained = record { number = e.items + 1; offset = e.offset; octets = c.first_of.result; ahead = c.args.octets; used = k.taken.used; what = k.taken.item; cause = k.taken.cause; ignored = k.taken.ignored; sent = c.octets_from.result; before = k.before; after = k.after } in
+    let x : Explained = record { number = e.items + 1; offset = e.offset; octets = c.first_of-own.result; ahead = c.args.octets; used = k.taken.used; what = k.taken.item; part = c.part_in.result; part_is = c.part_in.ensures; cause = k.taken.cause; ignored = k.taken.ignored; sent = c.octets_from.result; before = k.before; after = k.after } in
     let first = rw c.in-Ok-Some.field-0-is at c.in-Ok-Some.ensures.ok in
     let kept = rw c.in-Ok-Some.field-0-is at c.in-Ok-Some.ensures.kept in
     let sent = c.octets_from.ensures ∙ ap₂ (λ (n : ℕ) (l : List ℕ). drop n l) c.start_of-start.ensures.end c.as_slice.ensures.value in
@@ -23,7 +23,7 @@ returns-clause-ok g c =
     record {
       item = x;
       explains = item-explained c.args.conn.now.state c.args.octets.now c.start_of-start.new.out.items c.take_next.new.out.items (e.items + 1) e.offset c.take_next.new.conn k x c.take_next.ensures.ready first kept
-          refl refl c.first_of.ensures refl refl sent refl refl;
+          refl refl c.first_of-own.ensures refl refl sent refl refl;
       used_is = refl;
       written = subst (λ (r : Result (Unit {0}) ExplainFault). Gains (IsWritten (λ (t : List ℕ). IsItemText e.form x t) r) (g.O.Output.written c.args.output.now) (g.O.Output.written c.write_item.new.output)) c.in-Ok.is (c.write_item.ensures.gains well);
       tallied = c.in-Ok.ensures.tally;
