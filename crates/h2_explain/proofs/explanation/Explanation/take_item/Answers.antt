@@ -15,7 +15,7 @@ pub returns-clause-ok : goal.returns-clause-ok
 returns-clause-ok g c =
     let e = c.args.self.now in
     let k = c.in-Ok-Some.taking in
-    let x : Explained = record { number = e.items + 1; offset = e.offset; octets = c.first_of-own.result; ahead = c.args.octets; used = k.taken.used; what = k.taken.item; part = c.part_in.result; part_is = c.part_in.ensures; cause = k.taken.cause; ignored = k.taken.ignored; sent = c.octets_from.result; before = k.before; after = k.after } in
+    let x : Explained = record { number = e.items + 1; offset = e.offset; octets = c.first_of-own.result; ahead = c.args.octets; used = k.taken.used; what = k.taken.item; part = c.part_in.result; part_is = c.item-1.given.0; cause = k.taken.cause; ignored = k.taken.ignored; sent = c.octets_from.result; before = k.before; after = k.after } in
     let first = rw c.in-Ok-Some.field-0-is at c.in-Ok-Some.ensures.ok in
     let kept = rw c.in-Ok-Some.field-0-is at c.in-Ok-Some.ensures.kept in
     let sent = c.octets_from.ensures ∙ ap₂ (λ (n : ℕ) (l : List ℕ). drop n l) c.start_of-start.ensures.end c.as_slice.ensures.value in
