@@ -52,7 +52,7 @@ impl<A: Allocator> Drop for Account<A> {
 
 impl<A: Allocator + Copy> Account<A> {
     /// A text in words that is empty yet; long texts are shown in it as they are asked for.
-    pub(crate) fn words(&self, alloc: A) -> TextBuilder<A> {
+    pub fn words(&self, alloc: A) -> TextBuilder<A> {
         TextBuilder::with(alloc, self.is_full)
     }
 }

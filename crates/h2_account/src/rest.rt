@@ -6,9 +6,6 @@ ghost use Rattle.std.specs.String.{string_bytes};
 ghost use Rattle.h2_account.specs.Lines.{EndsLineIf};
 ghost use Rattle.h2_account.specs.Rest.{is_said, missing_of, missing_of_front};
 
-use crate::json::put_head;
-use crate::json_words::JsonWords;
-use crate::member;
 use crate::paint::{Paint, Role};
 use crate::text::say_opening;
 use h2_describe::frame_words::say_head;
@@ -183,29 +180,4 @@ fn say_missing<A: Allocator>(missing: Missing, out: &mut TextBuilder<A>) {
     }
     let least = if missing.at_least { "at least " } else { "" };
     say_all!(out; ", which needs ", least, missing.needs, " more");
-}
-
-/// Puts the head of the frame that is cut off, if it is there.
-fn put_cut_frame<A: Allocator>(missing: Missing, out: &mut JsonWords<A>) {
-    if let Some(head) = missing.head {
-        put_head(&head, out);
-    }
-}
-
-/// Puts what is after the last item in.
-pub fn put_end<A: Allocator>(rest: InputRest, out: &mut JsonWords<A>) {
-    match rest.ended {
-        Some(code) => out.number(member!("code"), u64::from(code)),
-        None => out.flag(member!("at_least"), rest.missing.at_least),
-    }
-    out.flag(member!("ended"), rest.ended.is_some());
-    if rest.ended.is_none() {
-        put_cut_frame(rest.missing, out);
-    }
-    out.number(member!("items"), rest.items);
-    if rest.ended.is_none() {
-        out.number(member!("needs"), rest.missing.needs as u64);
-    }
-    out.number(member!("octets"), rest.octets as u64);
-    out.number(member!("offset"), rest.offset as u64);
 }

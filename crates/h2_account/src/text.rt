@@ -20,7 +20,7 @@ use h2_spec::frames::{FrameType, ItemHead};
 use std::alloc::{AllocError, Allocator};
 
 /// Puts the item in words last.
-pub(crate) fn say_item<A: Allocator>(item: &Explained<'_>, out: &mut TextBuilder<A>) {
+pub fn say_item<A: Allocator>(item: &Explained<'_>, out: &mut TextBuilder<A>) {
     match item.what {
         ItemHead::Preface => say_all!(out; "the connection preface"),
         ItemHead::BadPreface => say_all!(out;
@@ -38,7 +38,7 @@ pub(crate) fn say_item<A: Allocator>(item: &Explained<'_>, out: &mut TextBuilder
 }
 
 /// What becomes of a literal field.
-pub(crate) fn mode_name(mode: Mode) -> &'static str {
+pub fn mode_name(mode: Mode) -> &'static str {
     match mode {
         Mode::IncrementalIndexing => "literal with indexing",
         Mode::WithoutIndexing => "literal without indexing",
@@ -101,7 +101,7 @@ pub(crate) fn say_fields<A: Allocator + Copy>(
 const ANSWER_TABLE: u32 = 0;
 
 /// The fields of an answer.
-pub(crate) fn read_answer<A: Allocator + Copy>(
+pub fn read_answer<A: Allocator + Copy>(
     alloc: A,
     block: &[u8],
 ) -> Result<BlockReader<A>, AllocError> {

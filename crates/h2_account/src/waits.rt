@@ -5,8 +5,6 @@ ghost use Rattle.std.specs.Prelude.{◌≡◌, ◌-◌};
 ghost use Rattle.std.specs.Option.{option_map};
 ghost use Rattle.h2_account.specs.Waits.{answer_wait, is_sending, request_wait, wait_of};
 
-use crate::json_words::JsonWords;
-use crate::member;
 use h2_describe::say::{OctetCount, TextBuilder};
 use h2_describe::say_all;
 use h2_spec::connection::{Config, ConnectionState};
@@ -180,45 +178,4 @@ pub fn say_wait<A: Allocator>(wait: &Wait, config: &Config, out: &mut TextBuilde
         }
         (None, None) => say_all!(out; "nothing waits"),
     }
-}
-
-/// Puts what the client may still send, null where it has ended its side.
-fn put_request<A: Allocator>(
-    request: Option<RequestWait>,
-    config: &Config,
-    out: &mut JsonWords<A>,
-) {
-    let Some(request) = request else {
-        out.null(member!("request"));
-        return;
-    };
-    out.open(member!("request"));
-    out.signed(member!("connection_window"), request.connection_window);
-    out.number_if_any(member!("missing"), request.missing);
-    out.number(member!("owed"), u64::from(request.owed));
-    out.number(member!("returned_at"), u64::from(config.credit));
-    out.signed(member!("window"), request.window);
-    out.close();
-}
-
-/// Puts what the server has still to send, null where there is nothing.
-fn put_answer<A: Allocator>(answer: Option<AnswerWait>, out: &mut JsonWords<A>) {
-    let Some(answer) = answer else {
-        out.null(member!("answer"));
-        return;
-    };
-    out.open(member!("answer"));
-    out.signed(member!("connection_window"), answer.connection_window);
-    out.number(member!("remaining"), answer.remaining);
-    out.signed(member!("window"), answer.window);
-    out.close();
-}
-
-/// Puts what a stream waits for, as an element.
-pub fn put_wait<A: Allocator>(wait: &Wait, config: &Config, out: &mut JsonWords<A>) {
-    out.open_element();
-    put_answer(wait.answer, out);
-    put_request(wait.request, config, out);
-    out.number(member!("stream"), u64::from(wait.stream));
-    out.close();
 }

@@ -1,7 +1,5 @@
-//! Warnings as lines of text and as JSON. The form: docs/EXPLAIN.md.
+//! Warnings as lines of text. The form: docs/EXPLAIN.md.
 
-use crate::json_words::JsonWords;
-use crate::member;
 use crate::paint::{Paint, Role};
 use h2_describe::say::TextBuilder;
 use h2_describe::say_all;
@@ -29,27 +27,4 @@ pub(crate) fn say_warnings<A: Allocator>(
             say_warning(*warning, paint, out);
         }
     }
-}
-
-/// Puts a warning, as an element.
-fn put_warning<A: Allocator>(warning: Warning, out: &mut JsonWords<A>) {
-    out.open_element();
-    out.plain(member!("name"), warning.name());
-    out.plain(member!("section"), warning.section());
-    out.plain(member!("sentence"), warning.sentence());
-    out.close();
-}
-
-/// Puts the warnings of an item, if there are any.
-pub fn put_warnings<A: Allocator>(warnings: Warnings, out: &mut JsonWords<A>) {
-    if warnings.count() == 0 {
-        return;
-    }
-    out.open_list(member!("warnings"));
-    for warning in all_warnings() {
-        if warnings.has(*warning) {
-            put_warning(*warning, out);
-        }
-    }
-    out.close_list();
 }

@@ -11,19 +11,20 @@ use crate::explainer::{Explainer, opening_of};
 use crate::run::Form;
 use crate::verdict::{Tally, verdict_at};
 use crate::verdict_words::{put_verdict, say_tally};
-use h2_account::json::{line_of, put_opening};
-use h2_account::json_words::JsonWords;
-use h2_account::member;
 use h2_account::paint::{Paint, Role};
-use h2_account::rest::{InputRest, missing_of, put_end, rest_line, say_place};
-use h2_account::waits::{put_wait, say_wait, wait_of};
-use h2_account::warning_words::put_warnings;
+use h2_account::rest::{InputRest, missing_of, rest_line, say_place};
+use h2_account::waits::{say_wait, wait_of};
 use h2_conn::{Conn, is_ended};
 use h2_describe::say::TextBuilder;
 use h2_describe::say_all;
 use h2_device::{string_of, texts};
 use h2_facts::request_facts::RequestFacts;
 use h2_facts::warning::{Warning, Warnings, is_unacknowledged};
+use h2_json::end::{put_end, put_wait};
+use h2_json::json::{line_of, put_opening};
+use h2_json::json_words::JsonWords;
+use h2_json::member;
+use h2_json::warnings::put_warnings;
 use std::alloc::{AllocError, Allocator};
 
 /// What is after the last item of a connection that had that many items; `offset` is how many octets came before these.

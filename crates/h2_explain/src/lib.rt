@@ -1,6 +1,6 @@
 //! What a connection does with the octets of a client, item by item: what each is, what was sent for it, what it
 //! changed, and why it is an error or is ignored.
-//! The values are those of h2_item, h2_changes and h2_facts; h2_account shows them as text and as JSON.
+//! The values are those of h2_item, h2_changes and h2_facts; h2_account shows them as text, h2_json as JSON.
 #![tactic(auto)]
 
 mod end;

@@ -6,11 +6,11 @@ ghost use Rattle.std.specs.Prelude.{◌≡◌, false, IfOk};
 ghost use Rattle.std.specs.String.{string_bytes};
 ghost use Rattle.h2_account.specs.Lines.{EndsLine};
 
-use crate::account::Account;
 use crate::json_words::{JsonWords, Member};
 use crate::member;
-use crate::text::{mode_name, read_answer, say_item};
-use crate::warning_words::put_warnings;
+use crate::warnings::put_warnings;
+use h2_account::account::Account;
+use h2_account::text::{mode_name, read_answer, say_item};
 use h2_changes::changes::{Moved, ShownChange};
 use h2_changes::count::Count;
 use h2_describe::frame_words::say_frame_in;
