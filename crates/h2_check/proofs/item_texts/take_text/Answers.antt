@@ -8,7 +8,7 @@ use Rattle.h2_check.proofs.item_texts.take_text.Goals as goal
 pub returns-clause-takes : goal.returns-clause-takes
 returns-clause-takes c =
     let k = c.in-Ok-Some.taking in
-    let x : Explained = record { number = c.len.result + 1; offset = c.args.offset; octets = c.first_of-own.result; ahead = c.args.octets; used = k.taken.used; what = k.taken.item; part = c.part_in.result; part_is = c.part_in.ensures; cause = k.taken.cause; ignored = k.taken.ignored; sent = c.as_slice.result; before = k.before; after = k.after } in
+    let x : Explained = record { number = c.len.result + 1; offset = c.args.offset; octets = c.first_of-own.result; ahead = c.args.octets; used = k.taken.used; what = k.taken.item; part = c.part_in.result; part_is = c.item-1.given.0; cause = k.taken.cause; ignored = k.taken.ignored; sent = c.as_slice.result; before = k.before; after = k.after } in
     let first = rw c.in-Ok-Some.field-0-is at c.in-Ok-Some.ensures.ok in
     let kept = rw c.in-Ok-Some.field-0-is at c.in-Ok-Some.ensures.kept in
     let number : c.len.result + 1 ≡ length (map string_bytes c.args.texts.now.items) + 1 = ap (λ (n : ℕ). n + 1) (c.len.ensures ∙ c.args.texts.now.ok.0 ∙ sym (length-map c.args.texts.now.items string_bytes)) in
