@@ -1,5 +1,5 @@
 -- A connection that is explained over all octets: its result, and what is written.
-use Rattle.std.specs.Prelude.{◌≡◌, ◌⊎◌, ℕ, ◌+◌, ◌++◌, ◌||◌, ◌==◌, Bool, true, false, List, [], ◌∷◌, length, drop, nat_lt, Option, Some, option_map, Result, Ok, Err}
+use Rattle.std.specs.Prelude.{◌≡◌, ◌⊎◌, ℕ, ◌+◌, ◌++◌, Bool, true, false, List, [], ◌∷◌, length, drop, Option, Some, option_map, Result, Ok, Err}
 use Rattle.h2_spec.specs.Errors.{code_number}
 use Rattle.h2_spec.specs.Parse.{Stop}
 use Rattle.h2_spec.specs.State.{State, ended_code}
