@@ -9,7 +9,7 @@ use Rattle.h2_rules.specs.Block.{refused_end}
 abbrev pub bad_end : Decoding → Option Cause
 bad_end d = refused_end (length d.rest == 0) d.due
 
--- the block that is open after it, as it is shown and decoded
+-- the block that is open after a fragment, as it is shown and decoded
 abbrev pub block_after : Option BlockView → Decoding → Option OpenBlock
 block_after None d = None
 block_after (Some shown) d = Some (record { shown = shown; decoding = Some d })

@@ -178,6 +178,7 @@ fn closed_end<A: Allocator>(
 /// as `request_outcome` says; trailers end the peer's side, or are refused as `trailers_outcome` says; a block on a
 /// stream whose peer's side has ended is a stream error STREAM_CLOSED (5.1); after a stream error of the server the
 /// block changes the header table alone.
+#[inline(always)]
 pub fn block_ends<A: Allocator + Copy>(
     book: &Book<A>,
     config: Config,

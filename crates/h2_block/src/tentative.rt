@@ -41,6 +41,7 @@ impl<A: Allocator> Model for Tentative<A> {
 
 impl<A: Allocator + Copy> Decoding<A> {
     /// No fragment is decoded. The octets that are left are taken out of the block until it is taken over or given up.
+    #[inline(always)]
     pub fn unchanged(&mut self) -> Tentative<A>
         ensures before { before_of self.new result ≡ self.old }
         ensures after { after_of self.new result ≡ self.old }
@@ -58,6 +59,7 @@ impl<A: Allocator + Copy> Decoding<A> {
     /// # Errors
     ///
     /// As those of `decode_piece`.
+    #[inline(always)]
     pub fn decode(
         &mut self,
         table: &DynTable<A>,
@@ -98,6 +100,7 @@ impl<A: Allocator + Copy> Decoding<A> {
 
     /// Why the block can't end after the fragment, if it can't: an instruction is begun and not ended, or a size update
     /// is due (RFC 9113, 4.3 and 4.3.1).
+    #[inline(always)]
     pub fn bad_end(&self, tentative: &Tentative<A>) -> Option<Cause>
         ensures { result ≡ bad_end (after_of self.now tentative.now) }
     {

@@ -28,6 +28,7 @@ pub enum FragmentEffect {
 
 impl<'b, A: Allocator + Copy> State<'b, A> {
     /// A fragment was decoded: the block goes on, or ends with HEADERS or CONTINUATION that have END_HEADERS.
+    #[inline(always)]
     fn read(
         &self,
         shown: BlockView,
@@ -67,6 +68,7 @@ impl<'b, A: Allocator + Copy> State<'b, A> {
     /// # Errors
     ///
     /// `AllocError` where memory for the added entries, the fields or the octets that are left was refused.
+    #[inline(always)]
     pub fn fragment(
         &self,
         edit: Edit<A>,

@@ -46,6 +46,7 @@ use h2_spec::streams::Stream;
 use std::alloc::{AllocError, Allocator};
 
 /// What a frame of DATA brings.
+#[inline(always)]
 fn incoming(head: &Head, payload: &[u8], part: DataPart<'_>) -> ReceivedData
     requires fits { length payload.now < 2 ^ 24 }
     requires part { part_of head.now payload.now ≡ Ok (OfData (data_seen part)) }
@@ -88,6 +89,7 @@ impl<'b, A: Allocator + Copy> State<'b, A> {
     }
 
     /// The length of the body of a stream's answer.
+    #[inline(always)]
     fn body_length(&self, stream: &Stream) -> u64
         requires { HasBody self.now.book stream.now }
         ensures { result ≡ length (picked self.now.book stream.now.pick).body }
@@ -96,6 +98,7 @@ impl<'b, A: Allocator + Copy> State<'b, A> {
     }
 
     /// DATA.
+    #[inline(always)]
     fn on_data(&self, head: &Head, payload: &[u8], part: DataPart<'_>) -> Reaction
         requires fits { length payload.now < 2 ^ 24 }
         requires part { part_of head.now payload.now ≡ Ok (OfData (data_seen part)) }
@@ -110,6 +113,7 @@ impl<'b, A: Allocator + Copy> State<'b, A> {
     }
 
     /// RST_STREAM.
+    #[inline(always)]
     fn on_reset(&self, id: u32) -> Reaction
         ensures rule { result ≡ rule.on_reset self.now.core (stream_at self.now.core.last self.now.streams id) }
         ensures counts { IsCounted self.now.core result }
@@ -119,6 +123,7 @@ impl<'b, A: Allocator + Copy> State<'b, A> {
     }
 
     /// SETTINGS without ACK.
+    #[inline(always)]
     fn on_settings(&self, part: SettingsPart<'_>) -> Reaction
         ensures rule { result ≡ settings.settings_rule self.now.streams self.now.core (settings_in part.entry) }
         ensures sound { IsSound self.now.book (records self.now) (in_force self.now.core) result }
@@ -128,6 +133,7 @@ impl<'b, A: Allocator + Copy> State<'b, A> {
     }
 
     /// WINDOW_UPDATE on a stream.
+    #[inline(always)]
     fn on_stream_window(&self, id: u32, increment: u32) -> Reaction
         ensures rule { result ≡ rule.on_window self.now.core increment (stream_at self.now.core.last self.now.streams id) }
         ensures counts { IsCounted self.now.core result }
@@ -137,6 +143,7 @@ impl<'b, A: Allocator + Copy> State<'b, A> {
     }
 
     /// WINDOW_UPDATE on the connection.
+    #[inline(always)]
     fn on_connection_window(&self, increment: u32) -> Reaction
         ensures rule { result ≡ window.connection_window self.now.core increment }
         ensures counts { IsCounted self.now.core result }
@@ -146,6 +153,7 @@ impl<'b, A: Allocator + Copy> State<'b, A> {
     }
 
     /// PING.
+    #[inline(always)]
     fn on_ping(&self, is_answer: bool, octets: [u8; 8]) -> Reaction
         ensures rule { result ≡ (if is_answer then rule.ignore self.now.core PingAcknowledgement else reactions.Continues (record (changes.only_counts self.now.core) { connection_frame = frames.PingAck octets })) }
         ensures counts { IsCounted self.now.core result }
@@ -155,6 +163,7 @@ impl<'b, A: Allocator + Copy> State<'b, A> {
     }
 
     /// GOAWAY.
+    #[inline(always)]
     fn on_goaway(&self, last: u32, code: u32) -> Reaction
         ensures rule { result ≡ reactions.Continues (changes.only_counts (record self.now.core { goaway = Some (last, code) })) }
         ensures sound { IsSound self.now.book (records self.now) (in_force self.now.core) result }
@@ -163,6 +172,7 @@ impl<'b, A: Allocator + Copy> State<'b, A> {
     }
 
     /// PRIORITY and frames of unknown types: ignored for this reason.
+    #[inline(always)]
     fn on_ignored(&self, reason: Ignored) -> Reaction
         ensures rule { result ≡ rule.ignore self.now.core reason }
         ensures counts { IsCounted self.now.core result }
@@ -172,6 +182,7 @@ impl<'b, A: Allocator + Copy> State<'b, A> {
     }
 
     /// PUSH_PROMISE, which a client may not send (RFC 9113, 8.4).
+    #[inline(always)]
     fn on_push_promise(&self) -> Reaction
         ensures { result ≡ ConnectionError PushPromiseFromClient }
     {
