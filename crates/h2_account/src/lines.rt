@@ -15,7 +15,7 @@ use crate::warning_words::say_warnings;
 use h2_describe::names::{error_name, scope_word};
 use h2_describe::say::TextBuilder;
 use h2_describe::spelled::BlockReader;
-use h2_device::{DeviceFault, Gathered, Number, Output, Text, texts};
+use h2_device::{DeviceFault, Number, Output, Text, octets_with, texts};
 use h2_facts::special::{Rule, case_of_error, case_of_reason, rule_of_cause, rule_of_reason};
 use h2_item::item::Explained;
 use h2_spec::causes::Cause;
@@ -307,24 +307,6 @@ fn room_for(has_rule: bool, words: usize, opening: &str, sentence: &str) -> usiz
         .saturating_add(opening.len())
         .saturating_add(sentence.len())
         .saturating_add(rule)
-}
-
-/// The octets of a text, with memory for this many from the first on.
-fn octets_with<A: Allocator, T: Text>(
-    alloc: A,
-    room: usize,
-    text: &T,
-) -> Result<Vec<u8, A>, AllocError>
-    ensures { IfOk result (λ octets. octets.items ≡ T.text text.now) }
-{
-    let mut gathered = Gathered {
-        octets: Vec::with_capacity(alloc, room)?,
-        failed: false,
-    };
-    match text.write_to(&mut gathered) {
-        Ok(()) => Ok(gathered.octets),
-        Err(_) => Err(AllocError),
-    }
 }
 
 /// The lines of an item with these words.

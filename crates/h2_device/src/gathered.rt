@@ -55,32 +55,34 @@ impl<A: Allocator> Output for Gathered<A> {
     }
 }
 
-/// A text as a string, with memory for this many octets from the first on: where they suffice, it does not grow.
+/// The octets of a text, with memory for this many from the first on: where they suffice, it does not grow.
 ///
-/// `AllocError` where memory for it is refused. A text that is not UTF-8 is refused so too.
-pub fn string_with<A: Allocator, T: Text>(
+/// `AllocError` where memory for it is refused.
+pub fn octets_with<A: Allocator, T: Text>(
     alloc: A,
     room: usize,
     text: &T,
-) -> Result<String<A>, AllocError>
-    ensures { IfOk result (λ string. string_bytes string ≡ T.text text.now) }
+) -> Result<Vec<u8, A>, AllocError>
+    ensures { IfOk result (λ octets. octets.items ≡ T.text text.now) }
 {
     let mut gathered = Gathered {
         octets: Vec::with_capacity(alloc, room)?,
         failed: false,
     };
-    if text.write_to(&mut gathered).is_err() {
-        return Err(AllocError);
-    }
-    match String::from_utf8(gathered.octets) {
-        Ok(string) => Ok(string),
+    match text.write_to(&mut gathered) {
+        Ok(()) => Ok(gathered.octets),
         Err(_) => Err(AllocError),
     }
 }
 
-/// A text as a string, which grows as the text does. Errors are those of `string_with`.
+/// A text as a string, which grows as the text does.
+///
+/// `AllocError` where memory for it is refused. A text that is not UTF-8 is refused so too.
 pub fn string_of<A: Allocator, T: Text>(alloc: A, text: &T) -> Result<String<A>, AllocError>
     ensures { IfOk result (λ string. string_bytes string ≡ T.text text.now) }
 {
-    string_with(alloc, 0, text)
+    match String::from_utf8(octets_with(alloc, 0, text)?) {
+        Ok(string) => Ok(string),
+        Err(_) => Err(AllocError),
+    }
 }

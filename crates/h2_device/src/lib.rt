@@ -10,7 +10,7 @@ mod output;
 mod text;
 mod wrapped;
 
-pub use gathered::{Gathered, string_of, string_with};
+pub use gathered::{Gathered, octets_with, string_of};
 pub use hex_text::HexText;
 pub use input::{Input, MAX_INPUT};
 pub use output::{DeviceFault, Output};
