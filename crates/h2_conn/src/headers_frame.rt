@@ -242,6 +242,7 @@ impl<'b, A: Allocator + Copy> State<'b, A> {
     }
 
     /// What HEADERS on a stream open a block for, or the cause of the connection error.
+    #[inline(always)]
     fn purpose_at(&self, id: u32) -> Result<Purpose, Cause>
         ensures rule { cell_of result ≡ headers_cell id (stream_at self.now.core.last self.now.streams id).kind }
         ensures known { IfOk result (λ purpose. IsOpenAt (records self.now) id purpose) }

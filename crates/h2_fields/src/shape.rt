@@ -144,6 +144,7 @@ fn from_first(octets: &[u8]) -> Result<(Shape<'_>, usize), ShapeFault>
 }
 
 /// A field of the tables (RFC 7541, 6.1).
+#[inline(always)]
 fn indexed(octets: &[u8]) -> Result<(Shape<'_>, usize), ShapeFault>
     requires announced { (more : List ℕ) → spec.instr_at (octets.now ++ more) ≡ read_map spec.Indexed (int_at 7 (octets.now ++ more)) }
     ensures { IsReadOn octets.now Nothing 0 0 result }

@@ -81,6 +81,7 @@ impl<'b, A: Allocator> Lending<'b, A> {
     }
 
     /// Appends a copy of a head, and a payload by reference; nothing where memory is refused.
+    #[inline(always)]
     pub(crate) fn lend(&mut self, head: &[u8; 9], payload: &'b [u8]) -> Result<(), AllocError>
         requires some { 0 < length payload.now }
         ensures ok { OnOk result (self.new ≡ self.old ++ head.now ++ payload.now) }

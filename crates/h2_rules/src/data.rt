@@ -144,6 +144,7 @@ fn data_outcome(threshold: u32, body: u64, incoming: ReceivedData, stream: Strea
 /// - More content than `content-length` declared, or less at END_STREAM: stream error PROTOCOL_ERROR (8.1.1).
 ///
 /// On a stream that the server has reset it is ignored, but that the octets count on the connection.
+#[inline(always)]
 #[tactic(auto, unfolding(h2_spec::specs::Effect::on_data))]
 pub fn on_data(
     config: Config,
@@ -174,6 +175,7 @@ pub fn on_data(
 }
 
 /// DATA that its stream takes.
+#[inline(always)]
 #[tactic(auto, unfolding(h2_spec::specs::Data::data_taken))]
 fn data_taken(
     config: Config,

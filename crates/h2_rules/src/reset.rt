@@ -21,6 +21,7 @@ use h2_streams::not_live;
 /// # Errors
 ///
 /// On an idle stream: connection error PROTOCOL_ERROR.
+#[inline(always)]
 #[tactic(auto, unfolding(h2_spec::specs::Effect::on_reset, h2_spec::specs::Effect::reset_outcome, h2_spec::specs::Stream::octets_waiting))]
 pub fn on_reset(core: ConnectionState, stream: Stream) -> Reaction
     requires core { IsSoundConnectionState core }

@@ -86,6 +86,7 @@ fn settings_applied(
 /// - SETTINGS_ENABLE_PUSH other than 0 and 1, SETTINGS_MAX_FRAME_SIZE below 16384 or above 16777215: PROTOCOL_ERROR.
 /// - SETTINGS_INITIAL_WINDOW_SIZE above 2147483647, or one that takes a send window above it (6.9.2):
 ///   FLOW_CONTROL_ERROR.
+#[inline(always)]
 #[tactic(auto, unfolding(h2_spec::specs::SettingsFrame::settings_rule))]
 pub fn settings_rule(
     greatest: &Option<Window>,

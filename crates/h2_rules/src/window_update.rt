@@ -61,6 +61,7 @@ fn increment_ignored(core: ConnectionState, increment: u32, reason: Ignored) -> 
 /// - On an idle stream: connection error PROTOCOL_ERROR.
 /// - An increment of 0: stream error PROTOCOL_ERROR.
 /// - A window above 2147483647: stream error FLOW_CONTROL_ERROR (6.9.1).
+#[inline(always)]
 #[tactic(auto, unfolding(h2_spec::specs::Effect::on_window))]
 pub fn on_window(core: ConnectionState, increment: u32, stream: Stream) -> Reaction
     requires core { IsSoundConnectionState core }

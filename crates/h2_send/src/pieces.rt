@@ -17,6 +17,7 @@ use std::alloc::{AllocError, Allocator};
 
 /// Writes the frames of a stream's share of its answer's body, whole or in part. The body is given as one DATA that was
 /// made for stream 0 and ends it; where the share is all of it, and a frame may be that long, that DATA is sent.
+#[inline(always)]
 pub fn write_allowance<'b, A: Allocator, O: Outgoing<'b, A>>(
     size: usize,
     allowance: u64,

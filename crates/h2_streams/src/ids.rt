@@ -23,6 +23,7 @@ pub(crate) fn list<A: Allocator>(ids: &mut Vec<u32, A>, id: u32, is_in: bool)
 }
 
 /// Takes an identifier out of a rising list.
+#[inline(always)]
 fn remove<A: Allocator>(ids: &mut Vec<u32, A>, id: u32)
     requires { kept.IdsRise 0 ids.old.items }
     ensures items { ids.new.items ≡ kept.without id ids.old.items }
@@ -34,6 +35,7 @@ fn remove<A: Allocator>(ids: &mut Vec<u32, A>, id: u32)
 }
 
 /// Puts an identifier into a rising list, which has space for it.
+#[inline(always)]
 fn place<A: Allocator>(ids: &mut Vec<u32, A>, id: u32)
     requires rising { kept.IdsRise 0 ids.old.items }
     requires enough { length (kept.placed id ids.old.items) ≤ vec_capacity ids.old }

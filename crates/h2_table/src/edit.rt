@@ -336,6 +336,7 @@ fn evict_own<A: Allocator>(
 impl<A: Allocator> DynTable<A> {
     /// Makes the changes of an edit that belongs to the table. Takes no memory; the places of the edit can be used
     /// again.
+    #[inline(always)]
     pub fn commit(&mut self, edit: &mut Edit<A>)
         requires belongs { IsEdit self.old edit.old }
         ensures { self.new ≡ record self.old { table = edited self.old.table.entries edit.old } }
