@@ -1,5 +1,5 @@
 -- A fragment that is decoded and not taken over, and the block before it.
-use Rattle.std.proofs.Common.{◌≡◌, ◌≢◌, ℕ, Bool, List, [], ◌++◌, length, take, Result, Ok, Err, ap, sym, ◌∙◌}
+use Rattle.std.proofs.Common.{◌≡◌, ◌≢◌, ℕ, Bool, List, [], ◌++◌, length, take, Result, Ok, Err, refl, ap, subst, sym, ◌∙◌}
 use Rattle.std.specs.Prelude.{IfErr, OnOk}
 use Rattle.std.proofs.lemmas.List.{append-nil}
 use Rattle.std.proofs.Math.Seq.{take-append_seam}
@@ -13,7 +13,7 @@ use Rattle.h2_spec.specs.DynamicTable.{Table}
 use Rattle.h2_spec.specs.Field.{Field}
 use Rattle.h2_spec.specs.State.{Decoding}
 use Rattle.h2_spec.specs.declared.connection.Purpose.{Purpose}
-use Rattle.h2_block.specs.Fragments.{HasFault, after_fragment, before_fragment}
+use Rattle.h2_block.specs.Fragments.{HasFault, IsUntouched, Tentative, after_fragment, before_fragment, before_of}
 
 -- the fields before are those in front
 front : (old now : FieldsSoFar) (n : ℕ) → n ≡ length old.fields → Grows old now → take n now.fields ≡ old.fields
@@ -46,6 +46,25 @@ same-block purpose old rest other d view same = ap (λ (left : List ℕ). let d 
 -- no field was added
 pub grows-not : (old : FieldsSoFar) → Grows old old
 grows-not old = ([], sym (append-nil old.fields))
+
+-- of a block that no fragment is decoded of, the savepoint is the end of its fields, and it is the block before the fragment
+pub is-untouched : (purpose : Purpose) (old : FieldsSoFar) (rest before after all : List ℕ) (savepoint : Savepoint) (d : Decoding) (t : Tentative) →
+    record { purpose = purpose; fields = old.fields; due = old.due; rest = rest } ≡ d →
+    record { savepoint = savepoint; before = before; after = after; all = all } ≡ t → IsUntouched d t →
+    (savepoint ≡ record { count = length old.fields; size = list_size old.fields; due = old.due })
+    × (record { purpose = purpose; fields = old.fields; due = old.due; rest = before } ≡ before_of d t) × (before ≡ all)
+is-untouched purpose old rest before after all savepoint d t view shown u =
+    subst (λ (e : Decoding). IsUntouched e t → Known e t) view (subst (λ (s : Tentative). IsUntouched block s → Known block s) shown known) u
+  where
+    block : Decoding
+    block = record { purpose = purpose; fields = old.fields; due = old.due; rest = rest }
+
+    Known : Decoding → Tentative → Type 0
+    Known e s = (savepoint ≡ record { count = length old.fields; size = list_size old.fields; due = old.due })
+        × (record { purpose = purpose; fields = old.fields; due = old.due; rest = before } ≡ before_of e s) × (before ≡ all)
+
+    known : IsUntouched block (record { savepoint = savepoint; before = before; after = after; all = all }) → Known block (record { savepoint = savepoint; before = before; after = after; all = all })
+    known h = (h.0, sym (is-before purpose old old before before savepoint _ refl h.0 refl (grows-not old)), h.1)
 
 -- a fragment of a block, by its fields and the octets that are left
 same-decoded : (limit : ℕ) (table : Table) (old : FieldsSoFar) (rest octets : List ℕ) (purpose : Purpose) (d : Decoding) →

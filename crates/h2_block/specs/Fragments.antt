@@ -1,5 +1,5 @@
 -- A fragment that is decoded over an edit of the table, and not taken over yet.
-use Rattle.std.specs.Prelude.{◌≡◌, ℕ, List, Some, take}
+use Rattle.std.specs.Prelude.{◌≡◌, ℕ, List, Some, length, take}
 use Rattle.h2_fields.specs.declared.collected.Savepoint.{Savepoint}
 use Rattle.h2_fields.specs.Blocks.{faulted}
 use Rattle.h2_fields.specs.declared.fault.BlockFault.{BlockFault}
@@ -7,12 +7,13 @@ use Rattle.h2_spec.specs.Block.{Decoded, Progress, Unfinished, list_size}
 use Rattle.h2_spec.specs.DynamicTable.{Table}
 use Rattle.h2_spec.specs.State.{Decoding}
 
--- what takes a block that is decoded with a fragment more back or on: the end of the fields before the fragment, and
--- the octets that are left before it and after it
+-- what takes a block that is decoded with a fragment more back or on: the end of the fields before the fragment, the
+-- octets that are left before it and after it, and all octets from the first of them to the last
 pub record Tentative : Type 0 where
   pub savepoint : Savepoint
   pub before : List ℕ
   pub after : List ℕ
+  pub all : List ℕ
 
 -- the block as it was before the fragment
 abbrev pub before_of : Decoding → Tentative → Decoding
@@ -21,6 +22,10 @@ before_of d t = record { purpose = d.purpose; fields = take t.savepoint.count d.
 -- the block as it is after it
 abbrev pub after_of : Decoding → Tentative → Decoding
 after_of d t = record d { rest = t.after }
+
+-- no fragment is decoded yet
+abbrev pub IsUntouched : Decoding → Tentative → Type 0
+IsUntouched d t = (t.savepoint ≡ record { count = length d.fields; size = list_size d.fields; due = d.due }) × (t.before ≡ t.all)
 
 -- the size of the fields before it is known
 abbrev pub IsSized : Decoding → Tentative → Type 0

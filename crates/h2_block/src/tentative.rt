@@ -7,7 +7,7 @@ ghost use Rattle.h2_spec.specs.Block as block;
 ghost use Rattle.h2_fields.specs.declared.fault.BlockFault.TheVariants.{NoMemory};
 ghost use Rattle.h2_table.specs.Edits.{IsEdit, edited};
 ghost use Rattle.h2_block.specs.Blocks.{bad_end};
-ghost use Rattle.h2_block.specs.Fragments.{HasFault, IsSized, after_fragment, after_of, before_fragment, before_of};
+ghost use Rattle.h2_block.specs.Fragments.{HasFault, IsSized, IsUntouched, after_fragment, after_of, before_fragment, before_of};
 
 use crate::decoding::Decoding;
 use h2_fields::collected::Savepoint;
@@ -36,7 +36,7 @@ impl<A: Allocator> Model for Tentative<A> {
 
     ghost Value = { fragments.Tentative };
 
-    ghost view = { λ t. record { savepoint = t.savepoint; before = t.rest.before; after = t.rest.after } };
+    ghost view = { λ t. record { savepoint = t.savepoint; before = t.rest.before; after = t.rest.after; all = t.rest.all } };
 }
 
 impl<A: Allocator + Copy> Decoding<A> {
@@ -45,7 +45,7 @@ impl<A: Allocator + Copy> Decoding<A> {
     pub fn unchanged(&mut self) -> Tentative<A>
         ensures before { before_of self.new result ≡ self.old }
         ensures after { after_of self.new result ≡ self.old }
-        ensures sized { IsSized self.new result }
+        ensures untouched { IsUntouched self.new result }
     {
         let savepoint = self.collected.savepoint();
         let none = Rest::new(self.collected.allocator());
@@ -53,8 +53,9 @@ impl<A: Allocator + Copy> Decoding<A> {
         Tentative { rest, savepoint }
     }
 
-    /// Decodes a fragment over an edit of the table, which does not change. `edit` may be of any table: its memory is
-    /// used again. The octets that are left are taken out of the block until it is taken over or given up.
+    /// Decodes a fragment over an edit of the table, which does not change. The octets that were left are taken out of the
+    /// block already, and are in `tentative`; what is left is there until it is taken over or given up. `edit` may be of
+    /// any table: its memory is used again.
     ///
     /// # Errors
     ///
@@ -63,21 +64,25 @@ impl<A: Allocator + Copy> Decoding<A> {
     pub fn decode(
         &mut self,
         table: &DynTable<A>,
-        edit: Edit<A>,
+        edit: &mut Edit<A>,
+        tentative: &mut Tentative<A>,
         octets: &[u8],
-    ) -> (Edit<A>, Tentative<A>, Result<(), BlockFault>)
-        ensures before { before_of self.new result.1 ≡ self.old }
-        ensures sized { IsSized self.new result.1 }
+    ) -> Result<(), BlockFault>
+        requires untouched { IsUntouched self.old tentative.old }
+        ensures before { before_of self.new tentative.new ≡ before_of self.old tentative.old }
+        ensures sized { IsSized self.new tentative.new }
         ensures purpose { self.new.purpose ≡ self.old.purpose }
-        ensures belongs { IsEdit table.now result.0 }
-        ensures decoded { OnOk result.2 (block.decoded table.now.limit (before_fragment table.now.table self.old) (self.old.rest ++ octets.now) ≡ after_fragment (edited table.now.table.entries result.0) (after_of self.new result.1)) }
-        ensures faulty { IfErr result.2 (λ fault. fault ≢ NoMemory → HasFault fault (block.decoded table.now.limit (before_fragment table.now.table self.old) (self.old.rest ++ octets.now))) }
+        ensures belongs { IsEdit table.now edit.new }
+        ensures decoded { OnOk result (block.decoded table.now.limit (before_fragment table.now.table (before_of self.old tentative.old)) (tentative.old.before ++ octets.now) ≡ after_fragment (edited table.now.table.entries edit.new) (after_of self.new tentative.new)) }
+        ensures faulty { IfErr result (λ fault. fault ≢ NoMemory → HasFault fault (block.decoded table.now.limit (before_fragment table.now.table (before_of self.old tentative.old)) (tentative.old.before ++ octets.now))) }
     {
-        let savepoint = self.collected.savepoint();
-        let none = Rest::new(self.collected.allocator());
-        let before = mem::replace(&mut self.rest, none);
-        let (edit, rest, result) = decode_piece(&mut self.collected, table, edit, before, octets);
-        (edit, Tentative { rest, savepoint }, result)
+        decode_piece(
+            &mut self.collected,
+            table,
+            edit,
+            &mut tentative.rest,
+            octets,
+        )
     }
 
     /// The block becomes what it was before the fragment.

@@ -6,7 +6,7 @@ ghost use Rattle.h2_spec.specs.DynamicTable.{LimitedTable, Table};
 ghost use Rattle.h2_spec.specs.Headers as rule;
 ghost use Rattle.h2_table.specs.Edits.{EditOf, IsEdit};
 ghost use Rattle.h2_conn.specs.Blocks.{IsOpenAt, IsSoundEffect, effect_in, effect_seen, limited};
-ghost use Rattle.h2_block.specs.Fragments.{IsSized, after_of, before_of};
+ghost use Rattle.h2_block.specs.Fragments.{IsSized, IsUntouched, after_of, before_of};
 ghost use Rattle.h2_conn.specs.Records.{records};
 ghost use Rattle.h2_rules.specs.Sound.{in_force};
 
@@ -18,6 +18,7 @@ use h2_spec::connection::BlockView;
 use h2_spec::reactions::Change;
 use h2_table::{Draft, Edit};
 use std::alloc::{AllocError, Allocator};
+use std::mem;
 
 /// What a fragment results in: a connection error, or a change and the block that is open after it, as it is shown.
 #[derive(Clone, Copy)]
@@ -61,9 +62,9 @@ impl<'b, A: Allocator + Copy> State<'b, A> {
         }
     }
 
-    /// A fragment of a block whose stream is known by the block's purpose. The state does not change: the answer is the
-    /// edit that makes the header table the one after the fragment (or after its instructions in front of a fault), what
-    /// takes the block back or on, and what the fragment results in. `edit` may be of any table: its memory is used again.
+    /// A fragment of a block whose stream is known by the block's purpose: what it results in. The state does not change:
+    /// `edit` becomes the one that makes the header table the one after the fragment (or after its instructions in front
+    /// of a fault), `tentative` what takes the block back or on. `edit` may be of any table: its memory is used again.
     ///
     /// # Errors
     ///
@@ -71,41 +72,38 @@ impl<'b, A: Allocator + Copy> State<'b, A> {
     #[inline(always)]
     pub fn fragment(
         &self,
-        edit: Edit<A>,
+        edit: &mut Edit<A>,
+        tentative: &mut Tentative<A>,
         shown: BlockView,
         decoding: &mut Decoding<A>,
         octets: &[u8],
         end_headers: bool,
-    ) -> (Edit<A>, Tentative<A>, Result<FragmentEffect, AllocError>)
+    ) -> Result<FragmentEffect, AllocError>
         requires open { IsOpenAt (records self.now) shown.stream decoding.old.purpose }
-        ensures before { before_of decoding.new result.1 ≡ decoding.old }
-        ensures sized { IsSized decoding.new result.1 }
-        ensures effect { IfOk result.2 (λ e. effect_seen self.now result.0 (after_of decoding.new result.1) e ≡ rule.fragment self.now shown decoding.old octets.now end_headers) }
-        ensures sound { IfOk result.2 (λ e. IsSoundEffect self.now.book (records self.now) (in_force self.now.core) (limited self.now.core.own.table self.now.table) result.0 (after_of decoding.new result.1) e) }
+        requires untouched { IsUntouched decoding.old tentative.old }
+        ensures before { before_of decoding.new tentative.new ≡ before_of decoding.old tentative.old }
+        ensures sized { IsSized decoding.new tentative.new }
+        ensures effect { IfOk result (λ e. effect_seen self.now edit.new (after_of decoding.new tentative.new) e ≡ rule.fragment self.now shown (before_of decoding.old tentative.old) octets.now end_headers) }
+        ensures sound { IfOk result (λ e. IsSoundEffect self.now.book (records self.now) (in_force self.now.core) (limited self.now.core.own.table self.now.table) edit.new (after_of decoding.new tentative.new) e) }
     {
         let count = shown.octets as usize + octets.len();
         if is_block_too_large(count) {
-            let none = Draft::start(&self.table, edit).into_edit();
-            let breaks = FragmentEffect::Breaks(Cause::BlockTooLarge);
-            return (none, decoding.unchanged(), Ok(breaks));
+            let none = Edit::new(decoding.collected.allocator());
+            *edit = Draft::start(&self.table, mem::replace(edit, none)).into_edit();
+            return Ok(FragmentEffect::Breaks(Cause::BlockTooLarge));
         }
-        let (edit, tentative, decoded) = decoding.decode(&self.table, edit, octets);
-        match decoded {
+        match decoding.decode(&self.table, edit, tentative, octets) {
             Ok(()) => {
                 let shown = BlockView {
                     octets: count as u32,
                     list_size: decoding.list_size(),
                     ..shown
                 };
-                let effect = self.read(shown, decoding, &tentative, end_headers);
-                (edit, tentative, Ok(effect))
+                Ok(self.read(shown, decoding, tentative, end_headers))
             }
             Err(fault) => match fault_cause(fault) {
-                Some(cause) => {
-                    let breaks = FragmentEffect::Breaks(cause);
-                    (edit, tentative, Ok(breaks))
-                }
-                None => (edit, tentative, Err(AllocError)),
+                Some(cause) => Ok(FragmentEffect::Breaks(cause)),
+                None => Err(AllocError),
             },
         }
     }

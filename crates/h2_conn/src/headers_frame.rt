@@ -180,9 +180,11 @@ impl<'b, A: Allocator + Copy> State<'b, A> {
         ensures verdict { IfOk result (λ verdict. verdict ≡ rule.effect_verdict (headers.fragment self.old shown decoding.old octets.now end_headers)) }
         ensures err { OnErr result ((decoding.new ≡ decoding.old) × (self.new ≡ self.old) × (O.octets out.new ≡ O.octets out.old)) }
     {
-        let edit = self.take_edit(*out.memory());
-        let (mut edit, tentative, effect) = self.fragment(
-            edit,
+        let mut edit = self.take_edit(*out.memory());
+        let mut tentative = decoding.unchanged();
+        let effect = self.fragment(
+            &mut edit,
+            &mut tentative,
             shown,
             decoding,
             octets,
@@ -270,16 +272,15 @@ impl<'b, A: Allocator + Copy> State<'b, A> {
                 let mut decoding = self.begin_decoding(*out.memory(), purpose);
                 let end_headers = head.has(END_HEADERS);
                 let shown = fresh_block(head);
-                match self.on_fragment(shown, &mut decoding, part.fragment, end_headers, out) {
-                    Ok(verdict) => {
-                        self.keep_decoding(decoding);
-                        Ok(verdict)
-                    }
-                    Err(_) => {
-                        self.keep_decoding(decoding);
-                        Err(AllocError)
-                    }
-                }
+                let result = self.on_fragment(
+                    shown,
+                    &mut decoding,
+                    part.fragment,
+                    end_headers,
+                    out,
+                );
+                self.keep_decoding(decoding);
+                result
             }
         }
     }

@@ -1,9 +1,9 @@
 -- A point of octets is a point with more octets after them; what is read from it is the instruction at their front.
-use Rattle.std.proofs.Common.{◌≡◌, ℕ, ◌+◌, ◌≤◌, List, [], ◌++◌, length, take, drop, Result, Ok, Err, refl, ap, sym, ◌∙◌, subst, arith, append_assoc, length-append, length-drop}
+use Rattle.std.proofs.Common.{◌≡◌, ℕ, ◌≤◌, List, [], ◌++◌, length, take, drop, Result, Ok, Err, refl, ap, sym, ◌∙◌, subst, arith, append_assoc, length-append, length-drop}
 use Rattle.std.proofs.lemmas.List.{drop-append-le, take-append-le}
 use Rattle.h2_spec.specs.Instruction as spec
 use Rattle.h2_spec.specs.Instruction.{instr_at}
-use Rattle.h2_fields.specs.Resume.{Nothing, NameLength, NameOctets, ValueLength, ValueOctets, name_at, begun_of, IsNameBefore, IsKnownBefore, IsPoint, IsRest, IsReadOn, IfMore, SameOn}
+use Rattle.h2_fields.specs.Resume.{Nothing, ValueLength, ValueOctets, name_at, begun_of, IsNameBefore, IsKnownBefore, IsPoint, IsRest, IsReadOn, IfMore, SameOn}
 use Rattle.h2_fields.specs.Shapes.{mode_of, shape_of, read_of}
 use Rattle.h2_fields.specs.declared.shape.Known.{Known}
 use Rattle.h2_fields.specs.declared.shape.Known.TheVariants as known

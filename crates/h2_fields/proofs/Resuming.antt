@@ -11,7 +11,6 @@ use Rattle.h2_prim.specs.Readings.{int_read}
 use Rattle.h2_prim.specs.declared.integer.IntRead.{IntRead}
 use Rattle.h2_prim.specs.declared.integer.IntRead.TheVariants as int
 use Rattle.h2_fields.specs.Resume.{Begun, Nothing, NameLength, NameOctets, ValueLength, ValueOctets, read_on, resumed, SameOn, BeginsLiteral, huffman_flag, name_at, begun_of, IsNameBefore, IsKnownBefore, IsPoint, IsIntegerAt, IsStopped, IsReadOn}
-use Rattle.h2_fields.specs.declared.shape.Known.TheVariants as known
 use Rattle.h2_fields.specs.declared.shape.PartialName.{PartialName}
 use Rattle.h2_fields.specs.declared.shape.PartialName.TheVariants as name
 use Rattle.h2_fields.specs.declared.shape.Point.{Point}

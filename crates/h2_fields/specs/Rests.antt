@@ -1,11 +1,17 @@
 -- The rest of a field block before a fragment and after it, and how its decoding is counted.
-use Rattle.std.specs.Prelude.{ℕ, ◌+◌, ◌*◌, ◌-◌, ◌^◌, ◌≤◌, ◌<◌, List}
+use Rattle.std.specs.Prelude.{◌≡◌, ℕ, ◌+◌, ◌*◌, ◌-◌, ◌^◌, ◌≤◌, ◌<◌, List}
 
--- the octets that begin an instruction and do not end it, before a fragment and after it, and the ticks of the fragment
+-- the octets that begin an instruction and do not end it, before a fragment and after it, all octets from the first of
+-- them to the last, and the ticks of the fragment
 pub record RestChange : Type 0 where
   pub before : List ℕ
   pub after : List ℕ
+  pub all : List ℕ
   pub ticks : ℕ
+
+-- no fragment is decoded: there are no octets but those before it
+abbrev pub IsFresh : RestChange → Type 0
+IsFresh r = r.before ≡ r.all
 
 -- the greatest count of ticks: there it stays
 abbrev pub most_ticks : ℕ

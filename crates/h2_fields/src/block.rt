@@ -199,9 +199,10 @@ fn advance<A: Allocator + Copy>(
     ensures limit { table.new.limit ≡ table.old.limit }
 {
     let savepoint = collected.savepoint();
-    let edit = Edit::new(collected.allocator());
+    let mut edit = Edit::new(collected.allocator());
     let before = mem::replace(rest, Rest::new(collected.allocator()));
-    let (mut edit, change, answer) = decode_piece(collected, table, edit, before, piece);
+    let mut change = RestChange::unchanged(before);
+    let answer = decode_piece(collected, table, &mut edit, &mut change, piece);
     if answer == Err(BlockFault::NoMemory) {
         *rest = change.give_up();
         return Err(BlockFault::NoMemory);

@@ -9,18 +9,19 @@ ghost use Rattle.h2_spec.specs.Read.{More};
 ghost use Rattle.h2_table.specs.Edits.{IsEdit, edited};
 ghost use Rattle.h2_fields.specs.Drafts.{Grows, IsStopped, progress_in};
 ghost use Rattle.h2_fields.specs.Resume.{IsPoint, IsRest, huffman_octets};
-ghost use Rattle.h2_fields.specs.Rests.{IsCounted, IsTicked, most_ticks};
+ghost use Rattle.h2_fields.specs.Rests.{IsCounted, IsFresh, IsTicked, most_ticks};
 ghost use Rattle.h2_fields.specs.Shapes.{shape_of};
 ghost use Rattle.h2_fields.specs.declared.fault.BlockFault.TheVariants as faults;
 
 use crate::collected::Collected;
 use crate::effect::apply;
 use crate::fault::BlockFault;
-use crate::rest::{Rest, RestChange};
+use crate::rest::RestChange;
 use crate::shape::{Point, Shape, ShapeFault, shape_from};
 use h2_spec::octets::octets_from;
 use h2_table::{Draft, DynTable, Edit};
-use std::alloc::{AllocError, Allocator};
+use std::alloc::Allocator;
+use std::mem;
 
 /// Does what the whole instructions at the front of the octets say; reading goes on from a point of the first one.
 /// Returns how many octets they take, and the point where reading goes on after them, and counts the steps.
@@ -73,8 +74,8 @@ fn with_instruction(ticks: u64, passed: usize, shape: Shape<'_>) -> u64
 }
 
 /// Decodes the whole instructions at the front of the octets; reading goes on from a point of the first one. Adds their
-/// fields, and returns an edit with their changes of the table, for `DynTable::commit`, how many octets they take, and
-/// the point where reading goes on after them; the table itself does not change. What is after them begins an
+/// fields, makes `edit` one with their changes of the table, for `DynTable::commit`, and `next` the point where reading
+/// goes on after them; returns how many octets they take. The table itself does not change. What is after them begins an
 /// instruction and does not end it, or is empty. `edit` may be of any table: its memory is used again. `ticks` counts
 /// the steps.
 ///
@@ -82,65 +83,72 @@ fn with_instruction(ticks: u64, passed: usize, shape: Shape<'_>) -> u64
 ///
 /// `ZeroIndex`, `Index`, `Integer`, `Huffman`, `LateUpdate` and `LargeUpdate` as RFC 7541 has them, for the first
 /// instruction that is refused: the fields and the edit are those of the instructions before it. `NoMemory` where
-/// memory was refused: the fields are as they were, and the edit should not be committed. The edit is returned in each
-/// case, so that its memory can be used again.
+/// memory was refused: the fields are as they were, and the edit should not be committed. `next` is as it was.
 fn attempt<A: Allocator + Copy>(
     collected: &mut Collected<A>,
     table: &DynTable<A>,
-    edit: Edit<A>,
+    edit: &mut Edit<A>,
     ticks: &mut u64,
+    next: &mut Point,
     from: Point,
     octets: &[u8],
-) -> (Edit<A>, Result<(usize, Point), BlockFault>)
+) -> Result<usize, BlockFault>
     requires point { IsPoint octets.now from }
     requires passed { from.passed ≤ length octets.now }
-    ensures belongs { IsEdit table.now result.0 }
-    ensures used { IfOk result.1 (λ end. (end.0 ≤ length octets.now) × (block.decoded table.now.limit (progress_with table.now.table collected.old) octets.now ≡ record { progress = progress_with (edited table.now.table.entries result.0) collected.new; outcome = Unfinished (drop end.0 octets.now) })) }
-    ensures cut { IfOk result.1 (λ end. instr_at (drop end.0 octets.now) ≡ More) }
-    ensures rest { IfOk result.1 (λ end. IsRest (drop end.0 octets.now) end.1) }
-    ensures ticks { IfOk result.1 (λ end. IsCounted from.passed (length octets.now) end.0 ticks.old ticks.new) }
-    ensures fault { IfErr result.1 (λ fault. IsStopped table.now.limit (progress_with table.now.table collected.old) octets.now (progress_with (edited table.now.table.entries result.0) collected.new) fault) }
-    ensures unchanged { IsErrOf result.1 faults.NoMemory → collected.new ≡ collected.old }
+    ensures belongs { IsEdit table.now edit.new }
+    ensures used { IfOk result (λ used. (used ≤ length octets.now) × (block.decoded table.now.limit (progress_with table.now.table collected.old) octets.now ≡ record { progress = progress_with (edited table.now.table.entries edit.new) collected.new; outcome = Unfinished (drop used octets.now) })) }
+    ensures cut { IfOk result (λ used. instr_at (drop used octets.now) ≡ More) }
+    ensures rest { IfOk result (λ used. IsRest (drop used octets.now) next.new) }
+    ensures ticks { IfOk result (λ used. IsCounted from.passed (length octets.now) used ticks.old ticks.new) }
+    ensures fault { IfErr result (λ fault. IsStopped table.now.limit (progress_with table.now.table collected.old) octets.now (progress_with (edited table.now.table.entries edit.new) collected.new) fault) }
+    ensures stays { IfErr result (λ _. next.new ≡ next.old) }
+    ensures unchanged { IsErrOf result faults.NoMemory → collected.new ≡ collected.old }
     ensures grows { Grows collected.old collected.new }
 {
     let savepoint = collected.savepoint();
-    let mut draft = Draft::start(table, edit);
-    match decode(collected, &mut draft, ticks, from, octets) {
-        Ok(end) => (draft.into_edit(), Ok(end)),
+    let none = Edit::new(collected.allocator());
+    let mut draft = Draft::start(table, mem::replace(edit, none));
+    let answer = decode(collected, &mut draft, ticks, from, octets);
+    *edit = draft.into_edit();
+    match answer {
+        Ok((used, stop)) => {
+            *next = stop;
+            Ok(used)
+        }
         Err(BlockFault::NoMemory) => {
             collected.restore(savepoint);
-            (draft.into_edit(), Err(BlockFault::NoMemory))
+            Err(BlockFault::NoMemory)
         }
-        Err(fault) => (draft.into_edit(), Err(fault)),
+        Err(fault) => Err(fault),
     }
 }
 
-/// Decodes a fragment of a block: the octets in `rest`, which the fragments before it left, from the point where
-/// reading stopped in them, and those of `piece` after them. Adds the fields of the whole instructions, and returns an
-/// edit with their changes of the table, for `DynTable::commit`, and the rest before and after: after it is what begins
-/// an instruction and does not end it. The table does not change here. `edit` may be of any table: its memory is used
-/// again.
+/// Decodes a fragment of a block: the octets of `rest`, which the fragments before it left, from the point where reading
+/// stopped in them, and those of `piece` after them. Adds the fields of the whole instructions, and makes `edit` one with
+/// their changes of the table, for `DynTable::commit`; what is left in `rest` after it begins an instruction and does not
+/// end it. The table does not change here. `edit` may be of any table: its memory is used again.
 ///
 /// # Errors
 ///
 /// `ZeroIndex`, `Index`, `Integer`, `Huffman`, `LateUpdate` and `LargeUpdate` as RFC 7541 has them, for the first
 /// instruction that is refused: the fields and the edit are those of the instructions before it. `NoMemory` where
-/// memory was refused: the fields are as they were, and the edit should not be committed. The edit is returned in each
-/// case, so that its memory can be used again.
+/// memory was refused: the fields are as they were, and the edit should not be committed. What was left before the
+/// fragment stays in `rest` in each case.
 pub fn decode_piece<A: Allocator + Copy>(
     collected: &mut Collected<A>,
     table: &DynTable<A>,
-    edit: Edit<A>,
-    rest: Rest<A>,
+    edit: &mut Edit<A>,
+    rest: &mut RestChange<A>,
     piece: &[u8],
-) -> (Edit<A>, RestChange<A>, Result<(), BlockFault>)
-    ensures belongs { IsEdit table.now result.0 }
-    ensures before { result.1.before ≡ rest }
-    ensures decoded { OnOk result.2 (block.decoded table.now.limit (progress_with table.now.table collected.old) (rest ++ piece.now) ≡ record { progress = progress_with (edited table.now.table.entries result.0) collected.new; outcome = Unfinished result.1.after }) }
-    ensures cut { OnOk result.2 (instr_at result.1.after ≡ More) }
-    ensures ticks { OnOk result.2 (IsTicked (length rest) (length piece.now) (length result.1.after) result.1.ticks) }
-    ensures fault { IfErr result.2 (λ fault. IsStopped table.now.limit (progress_with table.now.table collected.old) (rest ++ piece.now) (progress_with (edited table.now.table.entries result.0) collected.new) fault) }
-    ensures unchanged { IsErrOf result.2 faults.NoMemory → collected.new ≡ collected.old }
+) -> Result<(), BlockFault>
+    requires fresh { IsFresh rest.old }
+    ensures belongs { IsEdit table.now edit.new }
+    ensures before { rest.new.before ≡ rest.old.before }
+    ensures decoded { OnOk result (block.decoded table.now.limit (progress_with table.now.table collected.old) (rest.old.before ++ piece.now) ≡ record { progress = progress_with (edited table.now.table.entries edit.new) collected.new; outcome = Unfinished rest.new.after }) }
+    ensures cut { OnOk result (instr_at rest.new.after ≡ More) }
+    ensures ticks { OnOk result (IsTicked (length rest.old.before) (length piece.now) (length rest.new.after) rest.new.ticks) }
+    ensures fault { IfErr result (λ fault. IsStopped table.now.limit (progress_with table.now.table collected.old) (rest.old.before ++ piece.now) (progress_with (edited table.now.table.entries edit.new) collected.new) fault) }
+    ensures unchanged { IsErrOf result faults.NoMemory → collected.new ≡ collected.old }
     ensures grows { Grows collected.old collected.new }
 {
     if rest.is_empty() {
@@ -154,52 +162,46 @@ pub fn decode_piece<A: Allocator + Copy>(
 fn decode_behind<A: Allocator + Copy>(
     collected: &mut Collected<A>,
     table: &DynTable<A>,
-    edit: Edit<A>,
-    rest: Rest<A>,
+    edit: &mut Edit<A>,
+    rest: &mut RestChange<A>,
     piece: &[u8],
-) -> (Edit<A>, RestChange<A>, Result<(), BlockFault>)
-    ensures belongs { IsEdit table.now result.0 }
-    ensures before { result.1.before ≡ rest }
-    ensures decoded { OnOk result.2 (block.decoded table.now.limit (progress_with table.now.table collected.old) (rest ++ piece.now) ≡ record { progress = progress_with (edited table.now.table.entries result.0) collected.new; outcome = Unfinished result.1.after }) }
-    ensures cut { OnOk result.2 (instr_at result.1.after ≡ More) }
-    ensures ticks { OnOk result.2 (IsTicked (length rest) (length piece.now) (length result.1.after) result.1.ticks) }
-    ensures fault { IfErr result.2 (λ fault. IsStopped table.now.limit (progress_with table.now.table collected.old) (rest ++ piece.now) (progress_with (edited table.now.table.entries result.0) collected.new) fault) }
-    ensures unchanged { IsErrOf result.2 faults.NoMemory → collected.new ≡ collected.old }
+) -> Result<(), BlockFault>
+    requires fresh { IsFresh rest.old }
+    ensures belongs { IsEdit table.now edit.new }
+    ensures before { rest.new.before ≡ rest.old.before }
+    ensures decoded { OnOk result (block.decoded table.now.limit (progress_with table.now.table collected.old) (rest.old.before ++ piece.now) ≡ record { progress = progress_with (edited table.now.table.entries edit.new) collected.new; outcome = Unfinished rest.new.after }) }
+    ensures cut { OnOk result (instr_at rest.new.after ≡ More) }
+    ensures ticks { OnOk result (IsTicked (length rest.old.before) (length piece.now) (length rest.new.after) rest.new.ticks) }
+    ensures fault { IfErr result (λ fault. IsStopped table.now.limit (progress_with table.now.table collected.old) (rest.old.before ++ piece.now) (progress_with (edited table.now.table.entries edit.new) collected.new) fault) }
+    ensures unchanged { IsErrOf result faults.NoMemory → collected.new ≡ collected.old }
     ensures grows { Grows collected.old collected.new }
 {
-    let Rest { mut octets, point } = rest;
-    let kept = octets.len();
-    if octets.extend_from_slice(piece).is_err() {
-        let edit = Draft::start(table, edit).into_edit();
-        let change = RestChange::unchanged(Rest { octets, point });
-        return (edit, change, Err(BlockFault::NoMemory));
+    rest.kept = rest.octets.len();
+    if rest.octets.extend_from_slice(piece).is_err() {
+        *edit = Draft::start(
+            table,
+            mem::replace(edit, Edit::new(collected.allocator())),
+        ).into_edit();
+        return Err(BlockFault::NoMemory);
     }
-    let mut ticks = 0;
-    let all = octets.as_slice();
-    let (edit, answer) = attempt(collected, table, edit, &mut ticks, point, all);
-    match answer {
-        Ok((used, next)) => {
-            let change = RestChange {
-                octets,
-                kept,
-                point,
-                used,
-                next,
-                ticks,
-            };
-            (edit, change, Ok(()))
+    rest.ticks = 0;
+    let all = rest.octets.as_slice();
+    match attempt(
+        collected,
+        table,
+        edit,
+        &mut rest.ticks,
+        &mut rest.next,
+        rest.point,
+        all,
+    ) {
+        Ok(used) => {
+            rest.used = used;
+            Ok(())
         }
         Err(fault) => {
-            octets.truncate(kept);
-            let change = RestChange {
-                octets,
-                kept,
-                point,
-                used: 0,
-                next: point,
-                ticks,
-            };
-            (edit, change, Err(fault))
+            rest.octets.truncate(rest.kept);
+            Err(fault)
         }
     }
 }
@@ -208,70 +210,45 @@ fn decode_behind<A: Allocator + Copy>(
 fn decode_alone<A: Allocator + Copy>(
     collected: &mut Collected<A>,
     table: &DynTable<A>,
-    edit: Edit<A>,
-    rest: Rest<A>,
+    edit: &mut Edit<A>,
+    rest: &mut RestChange<A>,
     piece: &[u8],
-) -> (Edit<A>, RestChange<A>, Result<(), BlockFault>)
-    requires empty { rest ≡ [] }
-    ensures belongs { IsEdit table.now result.0 }
-    ensures before { result.1.before ≡ rest }
-    ensures decoded { OnOk result.2 (block.decoded table.now.limit (progress_with table.now.table collected.old) (rest ++ piece.now) ≡ record { progress = progress_with (edited table.now.table.entries result.0) collected.new; outcome = Unfinished result.1.after }) }
-    ensures cut { OnOk result.2 (instr_at result.1.after ≡ More) }
-    ensures ticks { OnOk result.2 (IsTicked (length rest) (length piece.now) (length result.1.after) result.1.ticks) }
-    ensures fault { IfErr result.2 (λ fault. IsStopped table.now.limit (progress_with table.now.table collected.old) (rest ++ piece.now) (progress_with (edited table.now.table.entries result.0) collected.new) fault) }
-    ensures unchanged { IsErrOf result.2 faults.NoMemory → collected.new ≡ collected.old }
+) -> Result<(), BlockFault>
+    requires empty { rest.old.all ≡ [] }
+    ensures belongs { IsEdit table.now edit.new }
+    ensures before { rest.new.before ≡ [] }
+    ensures decoded { OnOk result (block.decoded table.now.limit (progress_with table.now.table collected.old) piece.now ≡ record { progress = progress_with (edited table.now.table.entries edit.new) collected.new; outcome = Unfinished rest.new.after }) }
+    ensures cut { OnOk result (instr_at rest.new.after ≡ More) }
+    ensures ticks { OnOk result (IsTicked 0 (length piece.now) (length rest.new.after) rest.new.ticks) }
+    ensures fault { IfErr result (λ fault. IsStopped table.now.limit (progress_with table.now.table collected.old) piece.now (progress_with (edited table.now.table.entries edit.new) collected.new) fault) }
+    ensures unchanged { IsErrOf result faults.NoMemory → collected.new ≡ collected.old }
     ensures grows { Grows collected.old collected.new }
 {
     let before = collected.savepoint();
-    let mut ticks = 0;
-    let start = Point::start();
-    let (edit, answer) = attempt(collected, table, edit, &mut ticks, start, piece);
-    match answer {
-        Ok((used, next)) => match left_alone(rest, octets_from(piece, used), next, ticks) {
-            (change, Ok(())) => (edit, change, Ok(())),
-            (change, Err(_)) => {
+    rest.ticks = 0;
+    match attempt(
+        collected,
+        table,
+        edit,
+        &mut rest.ticks,
+        &mut rest.next,
+        Point::start(),
+        piece,
+    ) {
+        Ok(used) => {
+            if rest
+                .octets
+                .extend_from_slice(octets_from(piece, used))
+                .is_err()
+            {
                 collected.restore(before);
-                (edit, change, Err(BlockFault::NoMemory))
+                rest.next = rest.point;
+                return Err(BlockFault::NoMemory);
             }
-        },
-        Err(fault) => {
-            let mut change = RestChange::unchanged(rest);
-            change.ticks = ticks;
-            (edit, change, Err(fault))
+            rest.kept = 0;
+            rest.used = 0;
+            Ok(())
         }
-    }
-}
-
-/// The octets that a fragment leaves where nothing was left before it; nothing where memory was refused.
-fn left_alone<A: Allocator + Copy>(
-    rest: Rest<A>,
-    left: &[u8],
-    next: Point,
-    ticks: u64,
-) -> (RestChange<A>, Result<(), AllocError>)
-    requires empty { rest ≡ [] }
-    requires point { IsRest left.now next }
-    ensures before { result.0.before ≡ [] }
-    ensures after { OnOk result.1 (result.0.after ≡ left.now) }
-    ensures ticks { result.0.ticks ≡ ticks }
-{
-    let Rest { mut octets, point } = rest;
-    match octets.extend_from_slice(left) {
-        Ok(()) => {
-            let change = RestChange {
-                octets,
-                kept: 0,
-                point,
-                used: 0,
-                next,
-                ticks,
-            };
-            (change, Ok(()))
-        }
-        Err(refused) => {
-            let mut change = RestChange::unchanged(Rest { octets, point });
-            change.ticks = ticks;
-            (change, Err(refused))
-        }
+        Err(fault) => Err(fault),
     }
 }

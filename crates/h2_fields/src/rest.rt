@@ -57,7 +57,7 @@ impl<A: Allocator> Model for RestChange<A> {
 
     ghost Value = { rests.RestChange };
 
-    ghost view = { λ r. record { before = take r.kept r.octets.items; after = drop r.used r.octets.items; ticks = r.ticks } };
+    ghost view = { λ r. record { before = take r.kept r.octets.items; after = drop r.used r.octets.items; all = r.octets.items; ticks = r.ticks } };
 
     ghost invariant = { λ r. IsRest (take r.kept r.octets.items) r.point × IsRest (drop r.used r.octets.items) r.next × (r.used ≤ length r.octets.items) };
 }
@@ -111,7 +111,7 @@ impl<A: Allocator + Copy> Rest<A> {
 impl<A: Allocator> RestChange<A> {
     /// No fragment is decoded.
     pub fn unchanged(rest: Rest<A>) -> Self
-        ensures { result ≡ record { before = rest; after = rest; ticks = 0 } }
+        ensures { result ≡ record { before = rest; after = rest; all = rest; ticks = 0 } }
     {
         let Rest { octets, point } = rest;
         let kept = octets.len();
@@ -158,6 +158,13 @@ impl<A: Allocator> RestChange<A> {
             octets,
             point: next,
         }
+    }
+
+    /// Whether there are no octets, before the fragment and after it.
+    pub(crate) fn is_empty(&self) -> bool
+        ensures { result ≡ (length self.now.all == 0) }
+    {
+        self.octets.len() == 0
     }
 
     /// Whether nothing is left after the fragment.

@@ -1,6 +1,6 @@
-use Rattle.std.proofs.Common.{◌∙◌, ap}
+use Rattle.std.proofs.Common.{◌∙◌, ap, sym}
 use Rattle.h2_fields.specs.Rests.{RestChange}
-use Rattle.h2_block.proofs.TentativeLaws.{grows-not, is-before, is-sized, same-block}
+use Rattle.h2_block.proofs.TentativeLaws.{grows-not, is-before, same-block}
 use Rattle.h2_block.proofs.decoding.Decoding.unchanged.Goals as goal
 
 pub returns-clause-before : goal.returns-clause-before
@@ -15,7 +15,6 @@ returns-clause-after g c =
     let same = ap (λ (r : RestChange). r.after) c.unchanged-rest.ensures ∙ c.replace.ensures.value in
     same-block inside.purpose inside.collected inside.rest c.unchanged-rest.result.after c.args.self.now c.self.view_is same
 
-pub returns-clause-sized : goal.returns-clause-sized
-returns-clause-sized g c =
-    let inside = c.self.inside in
-    is-sized inside.collected inside.collected c.savepoint-savepoint.result c.savepoint-savepoint.ensures (grows-not inside.collected)
+pub returns-clause-untouched : goal.returns-clause-untouched
+returns-clause-untouched g c =
+    (c.savepoint-savepoint.ensures, ap (λ (r : RestChange). r.before) c.unchanged-rest.ensures ∙ sym (ap (λ (r : RestChange). r.all) c.unchanged-rest.ensures))

@@ -1,12 +1,14 @@
-use Rattle.std.proofs.Common.{◌≡◌, ◌≢◌, ◌+◌, ◌++◌, ℕ, length, false, nat_lt, Some, sym, subst, ◌∙◌}
+use Rattle.std.proofs.Common.{◌≡◌, ◌≢◌, ◌+◌, ◌++◌, ℕ, length, take, false, nat_lt, Some, ap, sym, subst, ◌∙◌}
+use Rattle.std.proofs.Math.Seq.{take-length}
 use Rattle.std.specs.Prelude.{IfErr, OnOk}
 use Rattle.h2_spec.specs.Block.{decoded, list_size}
 use Rattle.h2_spec.specs.State.{State}
 use Rattle.h2_table.specs.Edits.{Drafted, IsEdit, edited}
+use Rattle.h2_fields.specs.declared.collected.Savepoint.{Savepoint}
 use Rattle.h2_fields.specs.declared.fault.BlockFault.TheVariants.{NoMemory}
 use Rattle.h2_rules.specs.Block.{cause_by}
 use Rattle.h2_conn.specs.Blocks.{limited}
-use Rattle.h2_block.specs.Fragments.{HasFault, after_fragment, after_of, before_fragment}
+use Rattle.h2_block.specs.Fragments.{HasFault, after_fragment, after_of, before_fragment, before_of}
 use Rattle.h2_conn.proofs.FragmentLaws.{fragment-faulty, fragment-read, not-memory}
 use Rattle.h2_conn.proofs.state.State.fragment.Goals as goal
 
@@ -14,38 +16,39 @@ pub returns-in-Ok-clause-effect : goal.returns-in-Ok-clause-effect
 returns-in-Ok-clause-effect g c =
     let a = c.args in
     let table = c.self.inside.table in
-    let decoded_is = c.decode-edit in
-    let now = after_of decoded_is.new.self decoded_is.result.1 in
-    let edit = decoded_is.result.0 in
+    let decoded_is = c.decode in
+    let before = before_of a.decoding.now a.tentative.now in
+    let now = after_of decoded_is.new.self decoded_is.new.tentative in
+    let edit = decoded_is.new.edit in
     let s = a.self.now in
     let few : nat_lt 65536 (a.shown.octets + length a.octets.now) ≡ false = sym c.is_block_too_large.ensures ∙ c.if-is_block_too_large.false in
-    let done = subst (λ r. OnOk r (decoded table.limit (before_fragment table.table a.decoding.now) (a.decoding.now.rest ++ a.octets.now) ≡ after_fragment (edited table.table.entries edit) now)) c.in-Ok.is decoded_is.ensures.decoded in
-    let held = subst (λ (l : ℕ). decoded l (before_fragment table.table a.decoding.now) (a.decoding.now.rest ++ a.octets.now) ≡ after_fragment (edited table.table.entries edit) now) c.self.invariant.1 done in
-    let is = subst (λ (x : State). decoded x.core.own.table (before_fragment x.table a.decoding.now) (a.decoding.now.rest ++ a.octets.now) ≡ after_fragment (edited x.table.entries edit) now) c.self.view_is held in
+    let done = subst (λ r. OnOk r (decoded table.limit (before_fragment table.table before) (a.tentative.now.before ++ a.octets.now) ≡ after_fragment (edited table.table.entries edit) now)) c.in-Ok.is decoded_is.ensures.decoded in
+    let held = subst (λ (l : ℕ). decoded l (before_fragment table.table before) (a.tentative.now.before ++ a.octets.now) ≡ after_fragment (edited table.table.entries edit) now) c.self.invariant.1 done in
+    let is = subst (λ (x : State). decoded x.core.own.table (before_fragment x.table before) (a.tentative.now.before ++ a.octets.now) ≡ after_fragment (edited x.table.entries edit) now) c.self.view_is held in
     let size : c.list_size.result ≡ list_size now.fields = c.list_size.ensures in
-    c.read-effect.ensures.effect (edited s.table.entries edit)
-    ∙ sym (fragment-read s a.shown a.decoding.now now a.octets.now a.end_headers (edited s.table.entries edit) c.list_size.result few decoded_is.ensures.purpose size is)
+    c.read.ensures.effect (edited s.table.entries edit)
+    ∙ sym (fragment-read s a.shown before now a.octets.now a.end_headers (edited s.table.entries edit) c.list_size.result few decoded_is.ensures.purpose size is)
 
 pub returns-in-Ok-clause-sound : goal.returns-in-Ok-clause-sound
 returns-in-Ok-clause-sound g c =
     let table = c.self.inside.table in
     let s = c.args.self.now in
-    let edit = c.decode-edit.result.0 in
-    let held = subst (λ (l : ℕ). IsEdit (limited l table.table) edit) c.self.invariant.1 c.decode-edit.ensures.belongs in
-    c.read-effect.ensures.sound (limited s.core.own.table s.table) edit (subst (λ (x : State). IsEdit (limited x.core.own.table x.table) edit) c.self.view_is held)
+    let edit = c.decode.new.edit in
+    let held = subst (λ (l : ℕ). IsEdit (limited l table.table) edit) c.self.invariant.1 c.decode.ensures.belongs in
+    c.read.ensures.sound (limited s.core.own.table s.table) edit (subst (λ (x : State). IsEdit (limited x.core.own.table x.table) edit) c.self.view_is held)
 
 pub returns-in-Some-clause-sound : goal.returns-in-Some-clause-sound
 returns-in-Some-clause-sound g c =
     let table = c.self.inside.table in
-    let edit = c.decode-edit.result.0 in
-    let held = subst (λ (l : ℕ). IsEdit (limited l table.table) edit) c.self.invariant.1 c.decode-edit.ensures.belongs in
+    let edit = c.decode.new.edit in
+    let held = subst (λ (l : ℕ). IsEdit (limited l table.table) edit) c.self.invariant.1 c.decode.ensures.belongs in
     subst (λ (x : State). IsEdit (limited x.core.own.table x.table) edit) c.self.view_is held
 
 pub returns-then-is_block_too_large-clause-sound : goal.returns-then-is_block_too_large-clause-sound
 returns-then-is_block_too_large-clause-sound g c =
     let table = c.self.inside.table in
-    let edit = c.into_edit-none.result in
-    let belongs = subst (λ (d : Drafted). IsEdit d.base edit) c.start.ensures c.into_edit-none.ensures.belongs in
+    let edit = c.into_edit.result in
+    let belongs = subst (λ (d : Drafted). IsEdit d.base edit) c.start.ensures c.into_edit.ensures.belongs in
     let held = subst (λ (l : ℕ). IsEdit (limited l table.table) edit) c.self.invariant.1 belongs in
     subst (λ (x : State). IsEdit (limited x.core.own.table x.table) edit) c.self.view_is held
 
@@ -53,11 +56,19 @@ pub returns-in-Some-clause-effect : goal.returns-in-Some-clause-effect
 returns-in-Some-clause-effect g c =
     let a = c.args in
     let table = c.self.inside.table in
-    let decoded_is = c.decode-edit in
+    let decoded_is = c.decode in
+    let before = before_of a.decoding.now a.tentative.now in
     let s = a.self.now in
     let few : nat_lt 65536 (a.shown.octets + length a.octets.now) ≡ false = sym c.is_block_too_large.ensures ∙ c.if-is_block_too_large.false in
     let named : cause_by c.in-Err.fault ≡ Some c.in-Some.cause = sym c.fault_cause.ensures ∙ c.in-Some.is in
-    let found = subst (λ r. IfErr r (λ fault. fault ≢ NoMemory → HasFault fault (decoded table.limit (before_fragment table.table a.decoding.now) (a.decoding.now.rest ++ a.octets.now)))) c.in-Err.is decoded_is.ensures.faulty in
-    let held = subst (λ (l : ℕ). HasFault c.in-Err.fault (decoded l (before_fragment table.table a.decoding.now) (a.decoding.now.rest ++ a.octets.now))) c.self.invariant.1 (found (not-memory c.in-Err.fault c.in-Some.cause named)) in
-    let has = subst (λ (x : State). HasFault c.in-Err.fault (decoded x.core.own.table (before_fragment x.table a.decoding.now) (a.decoding.now.rest ++ a.octets.now))) c.self.view_is held in
-    sym (fragment-faulty s a.shown a.decoding.now a.octets.now a.end_headers c.in-Err.fault c.in-Some.cause few has named)
+    let found = subst (λ r. IfErr r (λ fault. fault ≢ NoMemory → HasFault fault (decoded table.limit (before_fragment table.table before) (a.tentative.now.before ++ a.octets.now)))) c.in-Err.is decoded_is.ensures.faulty in
+    let held = subst (λ (l : ℕ). HasFault c.in-Err.fault (decoded l (before_fragment table.table before) (a.tentative.now.before ++ a.octets.now))) c.self.invariant.1 (found (not-memory c.in-Err.fault c.in-Some.cause named)) in
+    let has = subst (λ (x : State). HasFault c.in-Err.fault (decoded x.core.own.table (before_fragment x.table before) (a.tentative.now.before ++ a.octets.now))) c.self.view_is held in
+    sym (fragment-faulty s a.shown before a.octets.now a.end_headers c.in-Err.fault c.in-Some.cause few has named)
+
+pub returns-then-is_block_too_large-clause-sized : goal.returns-then-is_block_too_large-clause-sized
+returns-then-is_block_too_large-clause-sized g c =
+    let fields = c.args.decoding.now.fields in
+    let is = c.requires.untouched.0 in
+    let all : take c.args.tentative.now.savepoint.count fields ≡ fields = ap (λ (m : Savepoint). take m.count fields) is ∙ take-length fields in
+    ap (λ (m : Savepoint). m.size) is ∙ ap list_size (sym all)
