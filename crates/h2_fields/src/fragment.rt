@@ -84,6 +84,7 @@ fn with_instruction(ticks: u64, passed: usize, shape: Shape<'_>) -> u64
 /// `ZeroIndex`, `Index`, `Integer`, `Huffman`, `LateUpdate` and `LargeUpdate` as RFC 7541 has them, for the first
 /// instruction that is refused: the fields and the edit are those of the instructions before it. `NoMemory` where
 /// memory was refused: the fields are as they were, and the edit should not be committed. `next` is as it was.
+#[inline(always)]
 fn attempt<A: Allocator + Copy>(
     collected: &mut Collected<A>,
     table: &DynTable<A>,
@@ -134,6 +135,7 @@ fn attempt<A: Allocator + Copy>(
 /// instruction that is refused: the fields and the edit are those of the instructions before it. `NoMemory` where
 /// memory was refused: the fields are as they were, and the edit should not be committed. What was left before the
 /// fragment stays in `rest` in each case.
+#[inline(always)]
 pub fn decode_piece<A: Allocator + Copy>(
     collected: &mut Collected<A>,
     table: &DynTable<A>,
