@@ -10,5 +10,5 @@ mod tentative;
 
 pub use block_end::block_ends;
 pub use decoding::Decoding;
-pub use open_block::{OpenBlock, block_after, copy_of, fresh_block};
+pub use open_block::{OpenBlock, copy_of, fresh_block, leave_open};
 pub use tentative::Tentative;

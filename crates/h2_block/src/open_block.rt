@@ -1,7 +1,7 @@
 //! A field block that is open between two frames (RFC 9113, 4.3 and 6.10). Definition: `OpenBlock` of h2_spec's
 //! `specs/State.antt`.
 
-ghost use Rattle.std.specs.Prelude.{◌≡◌, IfOk};
+ghost use Rattle.std.specs.Prelude.{◌≡◌, None, Some, IfOk};
 ghost use Rattle.h2_spec.specs.Headers as rule;
 ghost use Rattle.h2_block.specs.Blocks.{block_after};
 
@@ -66,24 +66,47 @@ impl<A: Allocator> OpenBlock<A> {
     }
 }
 
-/// The block that is open after a fragment, as it is shown and decoded: its decoding is taken out. Where none is open,
-/// the decoding stays, as memory for the next one.
-pub fn block_after<A: Allocator + Copy>(
+/// The open block becomes the one after a fragment, as it is shown and decoded: its decoding is taken out. Where none is
+/// open, the decoding stays, as memory for the next one.
+#[inline(always)]
+pub fn leave_open<A: Allocator + Copy>(
+    block: &mut Option<OpenBlock<A>>,
     shown: Option<BlockView>,
     decoding: &mut Decoding<A>,
-) -> Option<OpenBlock<A>>
-    ensures { result ≡ block_after shown decoding.old }
+)
+    ensures { block.new ≡ block_after shown decoding.old }
 {
     match shown {
-        None => None,
-        Some(shown) => {
-            let none = Decoding::fresh(decoding.collected.allocator(), decoding.purpose, false);
-            Some(OpenBlock {
-                shown,
-                decoding: Some(mem::replace(decoding, none)),
-            })
-        }
+        None => match block {
+            None => {}
+            Some(_) => close(block),
+        },
+        Some(shown) => reopen(block, shown, decoding),
     }
+}
+
+/// No block is open any more. Most fragments end a block that they began, so this is apart.
+#[inline(never)]
+fn close<A: Allocator>(block: &mut Option<OpenBlock<A>>)
+    ensures { block.new ≡ None }
+{
+    *block = None;
+}
+
+/// The block goes on, with this decoding, which is taken out.
+#[inline(never)]
+fn reopen<A: Allocator + Copy>(
+    block: &mut Option<OpenBlock<A>>,
+    shown: BlockView,
+    decoding: &mut Decoding<A>,
+)
+    ensures { block.new ≡ block_after (Some shown) decoding.old }
+{
+    let none = Decoding::fresh(decoding.collected.allocator(), decoding.purpose, false);
+    *block = Some(OpenBlock {
+        shown,
+        decoding: Some(mem::replace(decoding, none)),
+    });
 }
 
 /// A block that HEADERS open, before its first fragment.

@@ -12,13 +12,13 @@ ghost use Rattle.h2_rules.specs.Sound.{in_force};
 
 use crate::state::State;
 use h2_block::{Decoding, Tentative, block_ends};
+use h2_fields::fragment::without_changes;
 use h2_rules::block::{fault_cause, goes_on, is_block_too_large};
 use h2_spec::causes::Cause;
 use h2_spec::connection::BlockView;
 use h2_spec::reactions::Change;
-use h2_table::{Draft, Edit};
+use h2_table::Edit;
 use std::alloc::{AllocError, Allocator};
-use std::mem;
 
 /// What a fragment results in: a connection error, or a change and the block that is open after it, as it is shown.
 #[derive(Clone, Copy)]
@@ -88,8 +88,7 @@ impl<'b, A: Allocator + Copy> State<'b, A> {
     {
         let count = shown.octets as usize + octets.len();
         if is_block_too_large(count) {
-            let none = Edit::new(decoding.collected.allocator());
-            *edit = Draft::start(&self.table, mem::replace(edit, none)).into_edit();
+            without_changes(&self.table, edit, decoding.collected.allocator());
             return Ok(FragmentEffect::Breaks(Cause::BlockTooLarge));
         }
         match decoding.decode(&self.table, edit, tentative, octets) {

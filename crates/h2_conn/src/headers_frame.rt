@@ -20,7 +20,7 @@ ghost use Rattle.h2_rules.specs.Sound.{in_force};
 
 use crate::block::FragmentEffect;
 use crate::state::State;
-use h2_block::{Decoding, OpenBlock, Tentative, block_after, fresh_block};
+use h2_block::{Decoding, OpenBlock, Tentative, fresh_block, leave_open};
 use h2_frame::{HeadersPart, Outgoing};
 use h2_rules::block::headers_purpose;
 use h2_spec::causes::Cause;
@@ -62,8 +62,7 @@ impl<'b, A: Allocator + Copy> State<'b, A> {
             FragmentEffect::Makes(shown, change) => match self.apply_change(change, out) {
                 Ok(verdict) => {
                     decoding.take_over(tentative);
-                    let block = block_after(shown, decoding);
-                    self.block = block;
+                    leave_open(&mut self.block, shown, decoding);
                     self.table.commit(edit);
                     Ok(verdict)
                 }

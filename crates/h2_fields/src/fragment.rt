@@ -124,6 +124,15 @@ fn attempt<A: Allocator + Copy>(
     }
 }
 
+/// The edit becomes one without changes of the table. It may be of any table: its memory is used again.
+#[inline(never)]
+pub fn without_changes<A: Allocator + Copy>(table: &DynTable<A>, edit: &mut Edit<A>, alloc: A)
+    ensures belongs { IsEdit table.now edit.new }
+    ensures same { edited table.now.table.entries edit.new ≡ table.now.table }
+{
+    *edit = Draft::start(table, mem::replace(edit, Edit::new(alloc))).into_edit();
+}
+
 /// Decodes a fragment of a block: the octets of `rest`, which the fragments before it left, from the point where reading
 /// stopped in them, and those of `piece` after them. Adds the fields of the whole instructions, and makes `edit` one with
 /// their changes of the table, for `DynTable::commit`; what is left in `rest` after it begins an instruction and does not
@@ -180,10 +189,7 @@ fn decode_behind<A: Allocator + Copy>(
 {
     rest.kept = rest.octets.len();
     if rest.octets.extend_from_slice(piece).is_err() {
-        *edit = Draft::start(
-            table,
-            mem::replace(edit, Edit::new(collected.allocator())),
-        ).into_edit();
+        without_changes(table, edit, collected.allocator());
         return Err(BlockFault::NoMemory);
     }
     rest.ticks = 0;

@@ -33,7 +33,7 @@ invariant_of-self g c =
     let after = after_of c.args.decoding.now c.args.tentative in
     let effect = subst (λ e. IsSoundEffect s.book (records s) (in_force s.core) (limited s.core.own.table s.table) c.args.edit.now after e) c.in-Makes.is c.requires.sound in
     let held = ap (λ (x : State). x.streams) (sym c.self.view_is) in
-    let is = c.block_after-block.ensures ∙ ap (block_after c.in-Makes.shown) c.take_over.ensures in
+    let is = c.leave_open.ensures ∙ ap (block_after c.in-Makes.shown) c.take_over.ensures in
     let opened = open-then s c.apply_change.new.self inside.streams c.in-Makes.change (block_after c.in-Makes.shown after) (g.O.Outgoing.octets c.args.out.now) (g.O.Outgoing.octets c.apply_change.new.out) effect.0 effect.2 c.in-Ok-apply_change.ensures.ok
     held (c.self.invariant.0.last ∙ ap (λ (x : State). x.core.last) c.self.view_is) in
     (c.self.invariant.0, ap (λ (t : LimitedTable). t.limit) c.commit.ensures ∙ c.self.invariant.1, subst (λ (b : Option OpenBlock). IsOpenFor inside.streams b) (sym is) opened, c.self.invariant.3)
@@ -50,10 +50,10 @@ returns-in-Ok-apply_change-clause-ok g c =
     let did = subst (λ (x : State). Does (then_sent change.core.phase (made s change)) out x (g.O.Outgoing.octets c.apply_change.new.out)) (sym c.self.view_is) c.in-Ok-apply_change.ensures.ok in
     let after = edited s.table.entries edit in
     let block = block_after c.in-Makes.shown now in
-    let is = c.block_after-block.ensures ∙ ap (block_after c.in-Makes.shown) c.take_over.ensures in
+    let is = c.leave_open.ensures ∙ ap (block_after c.in-Makes.shown) c.take_over.ensures in
     let kept : c.commit.new.self.table ≡ after = ap (λ (t : LimitedTable). t.table) c.commit.ensures ∙ ap (λ (t : Table). edited t.entries edit) (same-table s held change out (g.O.Outgoing.octets c.apply_change.new.out) did) in
     let changed : State = record s { block = block; table = after } in
-    subst (λ e. Does (stepped (rule.concluded s (effect_seen s edit now e))) out (record held { block = c.block_after-block.result; table = c.commit.new.self.table }) (g.O.Outgoing.octets c.apply_change.new.out)) (sym c.in-Makes.is)
+    subst (λ e. Does (stepped (rule.concluded s (effect_seen s edit now e))) out (record held { block = c.leave_open.new.block; table = c.commit.new.self.table }) (g.O.Outgoing.octets c.apply_change.new.out)) (sym c.in-Makes.is)
     (subst (λ (b : Option OpenBlock). Does (then_sent change.core.phase (made changed change)) out (record held { block = b; table = c.commit.new.self.table }) (g.O.Outgoing.octets c.apply_change.new.out)) (sym is)
     (subst (λ (t : Table). Does (then_sent change.core.phase (made changed change)) out (record held { block = block; table = t }) (g.O.Outgoing.octets c.apply_change.new.out)) (sym kept)
     (rebound s held change block after out (g.O.Outgoing.octets c.apply_change.new.out) did)))

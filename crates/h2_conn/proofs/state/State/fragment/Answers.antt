@@ -3,7 +3,7 @@ use Rattle.std.proofs.Math.Seq.{take-length}
 use Rattle.std.specs.Prelude.{IfErr, OnOk}
 use Rattle.h2_spec.specs.Block.{decoded, list_size}
 use Rattle.h2_spec.specs.State.{State}
-use Rattle.h2_table.specs.Edits.{Drafted, IsEdit, edited}
+use Rattle.h2_table.specs.Edits.{IsEdit, edited}
 use Rattle.h2_fields.specs.declared.collected.Savepoint.{Savepoint}
 use Rattle.h2_fields.specs.declared.fault.BlockFault.TheVariants.{NoMemory}
 use Rattle.h2_rules.specs.Block.{cause_by}
@@ -47,9 +47,8 @@ returns-in-Some-clause-sound g c =
 pub returns-then-is_block_too_large-clause-sound : goal.returns-then-is_block_too_large-clause-sound
 returns-then-is_block_too_large-clause-sound g c =
     let table = c.self.inside.table in
-    let edit = c.into_edit.result in
-    let belongs = subst (λ (d : Drafted). IsEdit d.base edit) c.start.ensures c.into_edit.ensures.belongs in
-    let held = subst (λ (l : ℕ). IsEdit (limited l table.table) edit) c.self.invariant.1 belongs in
+    let edit = c.without_changes.new.edit in
+    let held = subst (λ (l : ℕ). IsEdit (limited l table.table) edit) c.self.invariant.1 c.without_changes.ensures.belongs in
     subst (λ (x : State). IsEdit (limited x.core.own.table x.table) edit) c.self.view_is held
 
 pub returns-in-Some-clause-effect : goal.returns-in-Some-clause-effect

@@ -17,7 +17,7 @@ returns-in-Ok-clause-ok g c =
     let mid = c.take_edit-edit.new.self in
     let frag : State → FrameEffect = λ s. headers.fragment s a.shown a.decoding.now a.octets.now a.end_headers in
     let is = subst (λ r. IfOk r (λ e. effect_seen mid edit after e ≡ frag mid)) c.in-Ok.is
-          (subst (λ (d : Decoding). IfOk c.fragment-effect.result (λ e. effect_seen mid edit after e ≡ headers.fragment mid a.shown d a.octets.now a.end_headers)) c.unchanged-tentative.ensures.before c.fragment-effect.ensures.effect) in
+    (subst (λ (d : Decoding). IfOk c.fragment-effect.result (λ e. effect_seen mid edit after e ≡ headers.fragment mid a.shown d a.octets.now a.end_headers)) c.unchanged-tentative.ensures.before c.fragment-effect.ensures.effect) in
     let out = (g.O.Outgoing.octets c.finish-result.new.out) in
     let P : State → FrameEffect → State → Type 0 = λ s e now. OnOk c.finish-result.result (Does (stepped (rule.concluded s e)) (g.O.Outgoing.octets a.out.now) now out) in
     subst (λ (t : State). P a.self.now (frag a.self.now) t) (sym c.keep_edit.ensures)
@@ -32,6 +32,6 @@ returns-in-Ok-clause-verdict g c =
     let mid = c.take_edit-edit.new.self in
     let frag : State → FrameEffect = λ s. headers.fragment s a.shown a.decoding.now a.octets.now a.end_headers in
     let is = subst (λ r. IfOk r (λ e. effect_seen mid edit after e ≡ frag mid)) c.in-Ok.is
-          (subst (λ (d : Decoding). IfOk c.fragment-effect.result (λ e. effect_seen mid edit after e ≡ headers.fragment mid a.shown d a.octets.now a.end_headers)) c.unchanged-tentative.ensures.before c.fragment-effect.ensures.effect) in
+    (subst (λ (d : Decoding). IfOk c.fragment-effect.result (λ e. effect_seen mid edit after e ≡ headers.fragment mid a.shown d a.octets.now a.end_headers)) c.unchanged-tentative.ensures.before c.fragment-effect.ensures.effect) in
     let Q : FrameEffect → Type 0 = λ e. IfOk c.finish-result.result (λ verdict. verdict ≡ rule.effect_verdict e) in
     subst (λ (s : State). Q (frag s)) c.take_edit-edit.ensures (subst Q is c.finish-result.ensures.verdict)
