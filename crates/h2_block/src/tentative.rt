@@ -53,9 +53,9 @@ impl<A: Allocator + Copy> Decoding<A> {
         Tentative { rest, savepoint }
     }
 
-    /// Decodes a fragment over an edit of the table, which does not change. The octets that were left are taken out of the
-    /// block already, and are in `tentative`; what is left is there until it is taken over or given up. `edit` may be of
-    /// any table: its memory is used again.
+    /// Decodes a fragment over an edit of the table, which does not change. `tentative` has the octets that were left before
+    /// the fragment, and then those after it too: they are out of the block until it is taken over or given up. `edit` may
+    /// be of any table: its memory is used again.
     ///
     /// # Errors
     ///

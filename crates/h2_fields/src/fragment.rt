@@ -135,7 +135,7 @@ pub fn without_changes<A: Allocator + Copy>(table: &DynTable<A>, edit: &mut Edit
 
 /// Decodes a fragment of a block: the octets of `rest`, which the fragments before it left, from the point where reading
 /// stopped in them, and those of `piece` after them. Adds the fields of the whole instructions, and makes `edit` one with
-/// their changes of the table, for `DynTable::commit`; what is left in `rest` after it begins an instruction and does not
+/// their changes of the table, for `DynTable::commit`; what `rest` has after it begins an instruction and does not
 /// end it. The table does not change here. `edit` may be of any table: its memory is used again.
 ///
 /// # Errors
