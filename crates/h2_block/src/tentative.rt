@@ -86,6 +86,7 @@ impl<A: Allocator + Copy> Decoding<A> {
     }
 
     /// The block becomes what it was before the fragment.
+    #[inline(always)]
     pub fn give_up(&mut self, tentative: Tentative<A>)
         requires sized { IsSized self.old tentative }
         ensures { self.new ≡ before_of self.old tentative }

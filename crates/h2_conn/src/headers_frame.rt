@@ -209,7 +209,7 @@ impl<'b, A: Allocator + Copy> State<'b, A> {
     }
 
     /// HEADERS: a block is opened for what the written table says of the stream, or an error.
-    #[inline(never)]
+    #[inline(always)]
     pub fn on_headers<O: Outgoing<'b, A>>(
         &mut self,
         head: &Head,

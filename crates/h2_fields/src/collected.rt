@@ -105,6 +105,7 @@ impl<A: Allocator> Collected<A> {
 
     /// Removes all fields, for a new block; `due` says whether it must begin with a table size update. The memory is
     /// kept.
+    #[inline(always)]
     pub fn clear(&mut self, due: bool)
         ensures { self.new ≡ record { fields = []; due = due } }
     {

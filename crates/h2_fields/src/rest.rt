@@ -126,6 +126,7 @@ impl<A: Allocator> RestChange<A> {
     }
 
     /// What was left before the fragment.
+    #[inline(always)]
     pub fn give_up(self) -> Rest<A>
         ensures { result ≡ self.before }
     {
