@@ -135,6 +135,8 @@ impl<'b, A: Allocator + Copy> Checkpoint<'b, A> {
             core: self.core,
             block,
             table,
+            edit: None,
+            spare: None,
             streams,
         })
     }

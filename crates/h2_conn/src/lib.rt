@@ -16,7 +16,6 @@ mod one;
 pub mod play;
 mod receive;
 pub mod report;
-mod scratch;
 mod state;
 pub mod view;
 
