@@ -135,8 +135,6 @@ impl<'b, A: Allocator + Copy> Checkpoint<'b, A> {
             core: self.core,
             block,
             table,
-            edit: None,
-            spare: None,
             streams,
         })
     }

@@ -25,6 +25,7 @@ use crate::feeding::{take_one, take_piece};
 use crate::first::empty_splitter;
 use crate::one::One;
 use crate::report::{TakenItem, report_first_in_order};
+use crate::scratch::Scratch;
 use crate::state::State;
 use crate::view::View;
 use h2_device::{DeviceFault, Output, Text, string_of};
@@ -74,6 +75,8 @@ fn refused(failed: &mut bool) -> ConnFault
 pub struct Conn<'b, A: Allocator> {
     splitter: Splitter<A>,
     state: State<'b, A>,
+    /// Memory for fragments of field blocks.
+    scratch: Scratch<A>,
     failed: bool,
 }
 
@@ -94,6 +97,7 @@ impl<'b, A: Allocator> Drop for Conn<'b, A> {
         let Self {
             splitter: _,
             state: _,
+            scratch: _,
             failed: _,
         } = self;
     }
@@ -127,6 +131,7 @@ impl<'b, A: Allocator + Copy> Conn<'b, A> {
         Ok(Conn {
             splitter: Splitter::new(alloc),
             state,
+            scratch: Scratch::new(alloc),
             failed: false,
         })
     }
@@ -153,7 +158,13 @@ impl<'b, A: Allocator + Copy> Conn<'b, A> {
         if self.failed {
             return Err(ConnFault::Failed);
         }
-        match take_piece(&mut self.splitter, &mut self.state, piece, out) {
+        match take_piece(
+            &mut self.splitter,
+            &mut self.state,
+            &mut self.scratch,
+            piece,
+            out,
+        ) {
             Ok(count) => Ok(count),
             Err(_) => Err(refused(&mut self.failed)),
         }
@@ -180,7 +191,13 @@ impl<'b, A: Allocator + Copy> Conn<'b, A> {
         if self.failed {
             return Err(ConnFault::Failed);
         }
-        match take_one(&mut self.splitter, &mut self.state, piece, out) {
+        match take_one(
+            &mut self.splitter,
+            &mut self.state,
+            &mut self.scratch,
+            piece,
+            out,
+        ) {
             Ok(one) => Ok(one),
             Err(_) => Err(refused(&mut self.failed)),
         }
@@ -205,7 +222,7 @@ impl<'b, A: Allocator + Copy> Conn<'b, A> {
         ensures follows { OnOk result (Follows self.old.state self.new.state) }
         ensures unchanged { OnErr result ((self.new ≡ self.old) × (O.octets out.new ≡ O.octets out.old)) }
     {
-        let taken = report_first_in_order(&mut self.state, octets, out)?;
+        let taken = report_first_in_order(&mut self.state, &mut self.scratch, octets, out)?;
         if taken.is_some() {
             self.splitter.expect_preface(false);
         }
@@ -224,6 +241,7 @@ impl<'b, A: Allocator + Copy> Conn<'b, A> {
         Ok(Conn {
             splitter,
             state,
+            scratch: Scratch::new(self.scratch.decoding.collected.allocator()),
             failed: self.failed,
         })
     }
@@ -236,6 +254,7 @@ impl<'b, A: Allocator + Copy> Conn<'b, A> {
         Conn {
             splitter,
             state,
+            scratch: Scratch::new(alloc),
             failed: false,
         }
     }

@@ -9,6 +9,7 @@ ghost use Rattle.h2_conn.specs.Runs.{Advances, Feeds, FeedsOne, Halts};
 use crate::conn::is_ended;
 use crate::first::{awaits_preface, take_all, take_first};
 use crate::one::One;
+use crate::scratch::Scratch;
 use crate::state::State;
 use h2_frame::{Outgoing, Splitter};
 use h2_spec::octets::{octets_from, octets_up_to};
@@ -18,6 +19,7 @@ use std::alloc::{AllocError, Allocator};
 fn advance<'b, A: Allocator + Copy, O: Outgoing<'b, A>>(
     splitter: &mut Splitter<A>,
     state: &mut State<'b, A>,
+    scratch: &mut Scratch<A>,
     out: &mut O,
 ) -> Result<bool, AllocError>
     requires { Fits splitter.old state.old.core.phase }
@@ -30,7 +32,7 @@ fn advance<'b, A: Allocator + Copy, O: Outgoing<'b, A>>(
     }
     match splitter.next(state.limit()) {
         None => Ok(false),
-        Some(item) => match state.item(&item, out) {
+        Some(item) => match state.item(&item, scratch, out) {
             Ok(_) => Ok(true),
             Err(error) => Err(error),
         },
@@ -41,6 +43,7 @@ fn advance<'b, A: Allocator + Copy, O: Outgoing<'b, A>>(
 fn offer<'b, A: Allocator + Copy, O: Outgoing<'b, A>>(
     splitter: &mut Splitter<A>,
     state: &mut State<'b, A>,
+    scratch: &mut Scratch<A>,
     octets: &[u8],
     out: &mut O,
 ) -> Result<bool, AllocError>
@@ -50,7 +53,7 @@ fn offer<'b, A: Allocator + Copy, O: Outgoing<'b, A>>(
     ensures err { OnErr result ((state.new ≡ state.old) × (O.octets out.new ≡ O.octets out.old)) }
 {
     splitter.push(octets)?;
-    advance(splitter, state, out)
+    advance(splitter, state, scratch, out)
 }
 
 /// Takes the item that is held with the octets that it lacks, and no octets after it; where these are not all there,
@@ -58,6 +61,7 @@ fn offer<'b, A: Allocator + Copy, O: Outgoing<'b, A>>(
 fn complete<'b, A: Allocator + Copy, O: Outgoing<'b, A>>(
     splitter: &mut Splitter<A>,
     state: &mut State<'b, A>,
+    scratch: &mut Scratch<A>,
     piece: &[u8],
     out: &mut O,
 ) -> Result<One, AllocError>
@@ -82,7 +86,7 @@ fn complete<'b, A: Allocator + Copy, O: Outgoing<'b, A>>(
             });
         }
         used += count;
-        if offer(splitter, state, octets_up_to(rest, count), out)? {
+        if offer(splitter, state, scratch, octets_up_to(rest, count), out)? {
             return Ok(One { used, item: true });
         }
     }
@@ -93,6 +97,7 @@ fn complete<'b, A: Allocator + Copy, O: Outgoing<'b, A>>(
 fn take_in_hand<'b, A: Allocator + Copy, O: Outgoing<'b, A>>(
     splitter: &mut Splitter<A>,
     state: &mut State<'b, A>,
+    scratch: &mut Scratch<A>,
     piece: &[u8],
     out: &mut O,
 ) -> Result<One, AllocError>
@@ -103,7 +108,7 @@ fn take_in_hand<'b, A: Allocator + Copy, O: Outgoing<'b, A>>(
     ensures rest { OnOk result (IsAtRest false state.new splitter.new) }
     ensures err { OnErr result ((state.new ≡ state.old) × (O.octets out.new ≡ O.octets out.old)) }
 {
-    match take_first(state, piece, out) {
+    match take_first(state, scratch, piece, out) {
         Ok(Some(used)) => {
             splitter.expect_preface(false);
             Ok(One { used, item: true })
@@ -124,6 +129,7 @@ fn take_in_hand<'b, A: Allocator + Copy, O: Outgoing<'b, A>>(
 pub(crate) fn take_one<'b, A: Allocator + Copy, O: Outgoing<'b, A>>(
     splitter: &mut Splitter<A>,
     state: &mut State<'b, A>,
+    scratch: &mut Scratch<A>,
     piece: &[u8],
     out: &mut O,
 ) -> Result<One, AllocError>
@@ -141,9 +147,9 @@ pub(crate) fn take_one<'b, A: Allocator + Copy, O: Outgoing<'b, A>>(
         });
     }
     if splitter.rest_len() == 0 {
-        return take_in_hand(splitter, state, piece, out);
+        return take_in_hand(splitter, state, scratch, piece, out);
     }
-    complete(splitter, state, piece, out)
+    complete(splitter, state, scratch, piece, out)
 }
 
 /// Takes all items of octets, where none are held, and says how many; the rest of the octets is held. Where memory is
@@ -151,6 +157,7 @@ pub(crate) fn take_one<'b, A: Allocator + Copy, O: Outgoing<'b, A>>(
 fn take_rest<'b, A: Allocator + Copy, O: Outgoing<'b, A>>(
     splitter: &mut Splitter<A>,
     state: &mut State<'b, A>,
+    scratch: &mut Scratch<A>,
     octets: &[u8],
     out: &mut O,
 ) -> Result<usize, AllocError>
@@ -161,7 +168,7 @@ fn take_rest<'b, A: Allocator + Copy, O: Outgoing<'b, A>>(
     ensures few { IfOk result (λ count. count ≤ length octets.now) }
     ensures err { OnErr result (Halts (going state.old []) octets.now (O.octets out.old) (halted state.new) (O.octets out.new)) }
 {
-    let all = take_all(state, octets, out)?;
+    let all = take_all(state, scratch, octets, out)?;
     let phase = state.phase();
     if is_ended(phase) {
         return Ok(all.items);
@@ -176,6 +183,7 @@ fn take_rest<'b, A: Allocator + Copy, O: Outgoing<'b, A>>(
 pub(crate) fn take_piece<'b, A: Allocator + Copy, O: Outgoing<'b, A>>(
     splitter: &mut Splitter<A>,
     state: &mut State<'b, A>,
+    scratch: &mut Scratch<A>,
     piece: &[u8],
     out: &mut O,
 ) -> Result<usize, AllocError>
@@ -189,12 +197,12 @@ pub(crate) fn take_piece<'b, A: Allocator + Copy, O: Outgoing<'b, A>>(
         return Ok(0);
     }
     if splitter.rest_len() == 0 {
-        return take_rest(splitter, state, piece, out);
+        return take_rest(splitter, state, scratch, piece, out);
     }
-    let one = complete(splitter, state, piece, out)?;
+    let one = complete(splitter, state, scratch, piece, out)?;
     if !one.item {
         return Ok(0);
     }
-    let count = take_rest(splitter, state, octets_from(piece, one.used), out)?;
+    let count = take_rest(splitter, state, scratch, octets_from(piece, one.used), out)?;
     Ok(count + 1)
 }

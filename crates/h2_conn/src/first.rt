@@ -7,6 +7,7 @@ ghost use Rattle.h2_conn.specs.First.{TakesIfAny};
 ghost use Rattle.h2_conn.specs.Runs.{Halted, Ran};
 
 use crate::conn::is_ended;
+use crate::scratch::Scratch;
 use crate::state::State;
 use h2_frame::{Outgoing, Splitter, first_item};
 use h2_spec::connection::Phase;
@@ -35,6 +36,7 @@ pub(crate) fn empty_splitter<A: Allocator>(phase: Phase, alloc: A) -> Splitter<A
 #[inline(always)]
 pub(crate) fn take_first<'b, A: Allocator + Copy, O: Outgoing<'b, A>>(
     state: &mut State<'b, A>,
+    scratch: &mut Scratch<A>,
     octets: &[u8],
     out: &mut O,
 ) -> Result<Option<usize>, AllocError>
@@ -47,7 +49,7 @@ pub(crate) fn take_first<'b, A: Allocator + Copy, O: Outgoing<'b, A>>(
     }
     match first_item(octets, awaits_preface(phase), state.limit()) {
         None => Ok(None),
-        Some((item, used)) => match state.item(&item, out) {
+        Some((item, used)) => match state.item(&item, scratch, out) {
             Ok(_) => Ok(Some(used)),
             Err(error) => Err(error),
         },
@@ -66,6 +68,7 @@ pub(crate) struct Taken {
 /// Takes all items of octets one after another. Where memory is refused, those before it are taken.
 pub(crate) fn take_all<'b, A: Allocator + Copy, O: Outgoing<'b, A>>(
     state: &mut State<'b, A>,
+    scratch: &mut Scratch<A>,
     octets: &[u8],
     out: &mut O,
 ) -> Result<Taken, AllocError>
@@ -76,7 +79,7 @@ pub(crate) fn take_all<'b, A: Allocator + Copy, O: Outgoing<'b, A>>(
     let mut items = 0usize;
     let mut used = 0usize;
     while used < octets.len() {
-        match take_first(state, octets_from(octets, used), out) {
+        match take_first(state, scratch, octets_from(octets, used), out) {
             Ok(Some(more)) => {
                 items += 1;
                 used += more;

@@ -19,6 +19,7 @@ ghost use Rattle.h2_rules.specs.Block.{cell_of};
 ghost use Rattle.h2_rules.specs.Sound.{in_force};
 
 use crate::block::FragmentEffect;
+use crate::scratch::Scratch;
 use crate::state::State;
 use h2_block::{Decoding, OpenBlock, Tentative, fresh_block, leave_open};
 use h2_frame::{HeadersPart, Outgoing};
@@ -112,52 +113,11 @@ impl<'b, A: Allocator + Copy> State<'b, A> {
         });
     }
 
-    /// The memory of an edit.
-    fn take_edit(&mut self, alloc: A) -> Edit<A>
-        ensures { self.new ≡ self.old }
-    {
-        match self.edit.take() {
-            Some(edit) => edit,
-            None => Edit::new(alloc),
-        }
-    }
-
-    /// Keeps the memory of an edit for the next fragment.
-    fn keep_edit(&mut self, edit: Edit<A>)
-        ensures { self.new ≡ self.old }
-    {
-        self.edit = Some(edit);
-    }
-
     /// Whether the next block has to begin with a size update (RFC 7541, 4.2).
     fn is_due(&self) -> bool
         ensures { result ≡ is_due self.now }
     {
         self.table.due()
-    }
-
-    /// The decoding of a block of which nothing has arrived, in the memory that is kept for it.
-    fn begin_decoding(&mut self, alloc: A, purpose: Purpose) -> Decoding<A>
-        ensures same { self.new ≡ self.old }
-        ensures fresh { result ≡ headers.fresh_decoding self.old purpose }
-    {
-        let due = self.is_due();
-        match self.spare.take() {
-            Some(mut spare) => {
-                spare.renew(purpose, due);
-                spare
-            }
-            None => Decoding::fresh(alloc, purpose, due),
-        }
-    }
-
-    /// Keeps the memory of a block's decoding for the next block.
-    fn keep_decoding(&mut self, mut decoding: Decoding<A>)
-        ensures { self.new ≡ self.old }
-    {
-        let purpose = decoding.purpose;
-        decoding.renew(purpose, false);
-        self.spare = Some(decoding);
     }
 
     /// What a fragment of a block results in. The block's decoding is taken out where it goes on.
@@ -169,6 +129,7 @@ impl<'b, A: Allocator + Copy> State<'b, A> {
         &mut self,
         shown: BlockView,
         decoding: &mut Decoding<A>,
+        edit: &mut Edit<A>,
         octets: &[u8],
         end_headers: bool,
         out: &mut O,
@@ -179,24 +140,11 @@ impl<'b, A: Allocator + Copy> State<'b, A> {
         ensures verdict { IfOk result (λ verdict. verdict ≡ rule.effect_verdict (headers.fragment self.old shown decoding.old octets.now end_headers)) }
         ensures err { OnErr result ((decoding.new ≡ decoding.old) × (self.new ≡ self.old) × (O.octets out.new ≡ O.octets out.old)) }
     {
-        let mut edit = self.take_edit(*out.memory());
         let mut tentative = decoding.unchanged();
-        let effect = self.fragment(
-            &mut edit,
-            &mut tentative,
-            shown,
-            decoding,
-            octets,
-            end_headers,
-        );
+        let effect = self.fragment(edit, &mut tentative, shown, decoding, octets, end_headers);
         match effect {
-            Ok(effect) => {
-                let result = self.finish(effect, decoding, tentative, &mut edit, out);
-                self.keep_edit(edit);
-                result
-            }
+            Ok(effect) => { self.finish(effect, decoding, tentative, edit, out) }
             Err(_) => {
-                self.keep_edit(edit);
                 decoding.give_up(tentative);
                 Err(AllocError)
             }
@@ -218,6 +166,7 @@ impl<'b, A: Allocator + Copy> State<'b, A> {
         &mut self,
         head: &Head,
         octets: &[u8],
+        scratch: &mut Scratch<A>,
         out: &mut O,
     ) -> Result<Verdict, AllocError>
         ensures ok { OnOk result (Does (stepped (rule.concluded self.old (headers.continuation self.old self.old.block octets.now (frames.has head.now.flags frames.END_HEADERS)))) (O.octets out.old) self.new (O.octets out.new)) }
@@ -228,9 +177,16 @@ impl<'b, A: Allocator + Copy> State<'b, A> {
             None => self.not_open(out),
             Some((shown, mut decoding)) => {
                 let end_headers = head.has(END_HEADERS);
-                match self.on_fragment(shown, &mut decoding, octets, end_headers, out) {
+                match self.on_fragment(
+                    shown,
+                    &mut decoding,
+                    &mut scratch.edit,
+                    octets,
+                    end_headers,
+                    out,
+                ) {
                     Ok(verdict) => {
-                        self.keep_decoding(decoding);
+                        scratch.keep(decoding);
                         Ok(verdict)
                     }
                     Err(_) => {
@@ -253,11 +209,12 @@ impl<'b, A: Allocator + Copy> State<'b, A> {
     }
 
     /// HEADERS: a block is opened for what the written table says of the stream, or an error.
-    #[inline(never)]
+    #[inline(always)]
     pub fn on_headers<O: Outgoing<'b, A>>(
         &mut self,
         head: &Head,
         part: HeadersPart<'_>,
+        scratch: &mut Scratch<A>,
         out: &mut O,
     ) -> Result<Verdict, AllocError>
         requires stopped { IsStopped self.old.block }
@@ -268,17 +225,18 @@ impl<'b, A: Allocator + Copy> State<'b, A> {
         match self.purpose_at(head.stream) {
             Err(cause) => self.fail(cause, out),
             Ok(purpose) => {
-                let mut decoding = self.begin_decoding(*out.memory(), purpose);
+                scratch.decoding.renew(purpose, self.is_due());
                 let end_headers = head.has(END_HEADERS);
                 let shown = fresh_block(head);
                 let result = self.on_fragment(
                     shown,
-                    &mut decoding,
+                    &mut scratch.decoding,
+                    &mut scratch.edit,
                     part.fragment,
                     end_headers,
                     out,
                 );
-                self.keep_decoding(decoding);
+                scratch.decoding.renew(purpose, false);
                 result
             }
         }

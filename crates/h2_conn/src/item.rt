@@ -28,6 +28,7 @@ ghost use Rattle.h2_conn.specs.Does.{Does, IsShort, stepped};
 ghost use Rattle.h2_conn.specs.Records.{records};
 ghost use Rattle.h2_rules.specs.Sound.{HasBody, IsSound, IsSoundState, IsSoundStream, in_force};
 
+use crate::scratch::Scratch;
 use crate::state::State;
 use h2_frame::{DataPart, FrameRef, Item, Outgoing, Part, SettingsPart, part_of};
 use h2_rules::change::only_counts;
@@ -413,6 +414,7 @@ impl<'b, A: Allocator + Copy> State<'b, A> {
         head: &Head,
         payload: &[u8],
         part: Part<'_>,
+        scratch: &mut Scratch<A>,
         out: &mut O,
     ) -> Result<Verdict, AllocError>
         requires fits { length payload.now < 2 ^ 24 }
@@ -424,7 +426,7 @@ impl<'b, A: Allocator + Copy> State<'b, A> {
     {
         match part {
             Part::Data(part) => self.take_data(head, part, payload, out),
-            Part::Headers(part) => self.on_headers(head, part, out),
+            Part::Headers(part) => self.on_headers(head, part, scratch, out),
             Part::Priority => self.take_ignored(Ignored::Priority, out),
             Part::RstStream(_) => self.take_reset(head.stream, out),
             Part::Settings(part) => self.take_settings(part, out),
@@ -435,7 +437,7 @@ impl<'b, A: Allocator + Copy> State<'b, A> {
             Part::WindowUpdate(increment) => {
                 self.take_window_update(head.stream, increment, out)
             }
-            Part::Continuation(octets) => self.on_continuation(head, octets, out),
+            Part::Continuation(octets) => self.on_continuation(head, octets, scratch, out),
             Part::Unknown => self.take_ignored(Ignored::UnknownType, out),
         }
     }
@@ -445,6 +447,7 @@ impl<'b, A: Allocator + Copy> State<'b, A> {
     fn on_frame<O: Outgoing<'b, A>>(
         &mut self,
         frame: FrameRef<'_>,
+        scratch: &mut Scratch<A>,
         out: &mut O,
     ) -> Result<Verdict, AllocError>
         requires fits { length frame.payload.now < 2 ^ 24 }
@@ -456,7 +459,7 @@ impl<'b, A: Allocator + Copy> State<'b, A> {
             Some(cause) => self.fail(cause, out),
             None => match part_of(frame) {
                 Err(cause) => self.fail(cause, out),
-                Ok(part) => self.on_part(&frame.head, frame.payload, part, out),
+                Ok(part) => self.on_part(&frame.head, frame.payload, part, scratch, out),
             },
         }
     }
@@ -485,6 +488,7 @@ impl<'b, A: Allocator + Copy> State<'b, A> {
     pub fn item<O: Outgoing<'b, A>>(
         &mut self,
         item: &Item<'_>,
+        scratch: &mut Scratch<A>,
         out: &mut O,
     ) -> Result<Verdict, AllocError>
         requires short { IsShort (item_of item.now) }
@@ -496,7 +500,7 @@ impl<'b, A: Allocator + Copy> State<'b, A> {
             Item::Preface => self.on_preface(out),
             Item::BadPreface => self.fail(Cause::BadPreface, out),
             Item::Oversize(head) => self.fail(oversize(head), out),
-            Item::Frame(frame) => self.on_frame(*frame, out),
+            Item::Frame(frame) => self.on_frame(*frame, scratch, out),
         }
     }
 }

@@ -16,6 +16,7 @@ mod one;
 pub mod play;
 mod receive;
 pub mod report;
+mod scratch;
 mod state;
 pub mod view;
 

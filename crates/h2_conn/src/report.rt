@@ -11,6 +11,7 @@ ghost use Rattle.h2_conn.specs.Reports.{item_head, reported, used_by};
 
 use crate::conn::is_ended;
 use crate::first::awaits_preface;
+use crate::scratch::Scratch;
 use crate::state::State;
 use h2_frame::{Item, Outgoing, first_item};
 use h2_spec::causes::Cause;
@@ -47,6 +48,7 @@ fn item_head(item: &Item<'_>) -> ItemHead
 /// ignored; none after the end. Where memory is refused nothing of it is done.
 fn report_first<'b, A: Allocator + Copy, O: Outgoing<'b, A>>(
     state: &mut State<'b, A>,
+    scratch: &mut Scratch<A>,
     octets: &[u8],
     out: &mut O,
 ) -> Result<Option<TakenItem>, AllocError>
@@ -61,7 +63,7 @@ fn report_first<'b, A: Allocator + Copy, O: Outgoing<'b, A>>(
     match first_item(octets, awaits_preface(phase), state.limit()) {
         None => Ok(None),
         Some((item, used)) => {
-            match state.item(&item, out) {
+            match state.item(&item, scratch, out) {
                 Ok(verdict) => Ok(Some(TakenItem {
                     used,
                     item: item_head(&item),
@@ -77,6 +79,7 @@ fn report_first<'b, A: Allocator + Copy, O: Outgoing<'b, A>>(
 /// The same, where it matters what the item leaves of the records of streams.
 pub(crate) fn report_first_in_order<'b, A: Allocator + Copy, O: Outgoing<'b, A>>(
     state: &mut State<'b, A>,
+    scratch: &mut Scratch<A>,
     octets: &[u8],
     out: &mut O,
 ) -> Result<Option<TakenItem>, AllocError>
@@ -86,5 +89,5 @@ pub(crate) fn report_first_in_order<'b, A: Allocator + Copy, O: Outgoing<'b, A>>
     ensures err { OnErr result ((state.new ≡ state.old) × (O.octets out.new ≡ O.octets out.old)) }
 {
     let _rising = state.streams.last();
-    report_first(state, octets, out)
+    report_first(state, scratch, octets, out)
 }

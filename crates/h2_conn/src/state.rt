@@ -5,18 +5,16 @@ ghost use Rattle.std.specs.Prelude.{◌≡◌, IfOk};
 ghost use Rattle.h2_rules.specs.Sound.{AreInRange};
 ghost use Rattle.h2_spec.specs.State.{configured, opening, opening_core};
 
-use h2_block::{Decoding, OpenBlock, copy_of};
+use h2_block::{OpenBlock, copy_of};
 use h2_request::book::Book;
 use h2_spec::connection::{Config, ConnectionState, Phase};
 use h2_spec::flow::{Credit, LocalSettings, Settings, Window};
 use h2_streams::Streams;
-use h2_table::{DynTable, Edit};
+use h2_table::DynTable;
 use std::alloc::{AllocError, Allocator};
 use std::marker::Model;
 
-/// All that an item can change, and the book and the limits that it is changed by. `edit` is memory that is used
-/// again for each fragment, and `spare` memory that is used again for each field block, while none is open; between
-/// two items they mean nothing.
+/// All that an item can change, and the book and the limits that it is changed by.
 pub struct State<'b, A: Allocator> {
     /// The answers.
     pub book: &'b Book<A>,
@@ -28,10 +26,6 @@ pub struct State<'b, A: Allocator> {
     pub block: Option<OpenBlock<A>>,
     /// The dynamic table of the client's field blocks (RFC 7541, 2.3.2).
     pub table: DynTable<A>,
-    /// Memory for the edit of the next fragment.
-    pub edit: Option<Edit<A>>,
-    /// Memory for the decoding of the next field block, while none is open.
-    pub spare: Option<Decoding<A>>,
     /// The records of all streams that were opened (RFC 9113, 5.1).
     pub streams: Streams<A>,
 }
@@ -59,8 +53,6 @@ impl<'b, A: Allocator> Drop for State<'b, A> {
             core: _,
             block: _,
             table: _,
-            edit: _,
-            spare: _,
             streams: _,
         } = self;
     }
@@ -98,8 +90,6 @@ impl<'b, A: Allocator + Copy> State<'b, A> {
             core: opening_core(),
             block: None,
             table,
-            edit: None,
-            spare: None,
             streams: Streams::new(alloc),
         })
     }
@@ -119,8 +109,6 @@ impl<'b, A: Allocator + Copy> State<'b, A> {
             core: self.core,
             block,
             table,
-            edit: None,
-            spare: None,
             streams,
         })
     }

@@ -43,8 +43,7 @@ returns-in-Ok-clause-ok g c =
     let taken = subst (λ (t : State). Q t (headers.fragment t x.0 x.1 octets c.has-end_headers.result)) c.take_decoding.ensures.stopped c.in-Ok.ensures.ok in
     let flagged = subst (λ (b : Bool). Q (stopped s) (headers.fragment s x.0 x.1 octets b)) c.has-end_headers.ensures taken in
     let whole = subst (λ (e : Step). Does (stepped e) (g.O.Outgoing.octets c.args.out.now) c.on_fragment.new.self (g.O.Outgoing.octets c.on_fragment.new.out)) (concluded-stopped s (headers.fragment s x.0 x.1 octets ends)) flagged in
-    let done = subst (λ (e : FrameEffect). Q s e) (sym (goes-on s s.block x octets ends c.in-Some.ensures.taken)) whole in
-    subst (λ (t : State). Does (stepped (rule.concluded s (headers.continuation s s.block octets ends))) (g.O.Outgoing.octets c.args.out.now) t (g.O.Outgoing.octets c.on_fragment.new.out)) (sym c.keep_decoding.ensures) done
+    subst (λ (e : FrameEffect). Q s e) (sym (goes-on s s.block x octets ends c.in-Some.ensures.taken)) whole
 
 -- the verdict is that of the block that was taken out
 pub returns-in-Ok-clause-verdict : goal.returns-in-Ok-clause-verdict
