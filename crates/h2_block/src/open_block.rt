@@ -1,47 +1,93 @@
 //! A field block that is open between two frames (RFC 9113, 4.3 and 6.10). Definition: `OpenBlock` of h2_spec's
 //! `specs/State.antt`.
 
-ghost use Rattle.std.specs.Prelude.{◌≡◌, None, Some, IfOk};
+ghost use Rattle.std.specs.Prelude.{◌≡◌, None, Some, IfOk, option_map};
 ghost use Rattle.h2_spec.specs.Headers as rule;
-ghost use Rattle.h2_block.specs.Blocks.{block_after};
+ghost use Rattle.h2_block.specs.Blocks.{block_after, decoding_in};
 
 use crate::decoding::Decoding;
-use h2_spec::connection::BlockView;
+use h2_spec::connection::{BlockView, Purpose};
 use h2_spec::frames::{END_STREAM, Head};
 use std::alloc::{AllocError, Allocator};
 use std::marker::Model;
 use std::mem;
 
-/// A field block that has begun; after the end of the connection it is shown, and decoded no more.
+/// A field block that has begun; after the end of the connection it is shown, and decoded no more. What it is decoded to
+/// changes places with memory of the caller, so that no fragment moves it.
 #[derive(Drop)]
 pub struct OpenBlock<A: Allocator> {
     /// The block as the state shows it.
-    pub shown: BlockView,
-    /// How far it is decoded; none after the end of the connection.
-    pub decoding: Option<Decoding<A>>,
+    shown: BlockView,
+    /// How far it is decoded where it goes on; else memory alone.
+    decoding: Decoding<A>,
+    /// Whether it is decoded further: not after the end of the connection, and not while its decoding is taken out.
+    goes_on: bool,
 }
 
 impl<A: Allocator> Model for OpenBlock<A> {
     ghost use Rattle.h2_spec.specs.State as state;
+    ghost use Rattle.h2_block.specs.Blocks.{decoding_if};
 
     ghost Value = { state.OpenBlock };
 
-    ghost view = { λ b. record { shown = b.shown; decoding = b.decoding } };
+    ghost view = { λ b. record { shown = b.shown; decoding = decoding_if b.goes_on b.decoding } };
 }
 
 impl<A: Allocator + Copy> OpenBlock<A> {
+    /// A block that goes on with this decoding, which is taken out.
+    fn begun(shown: BlockView, decoding: &mut Decoding<A>) -> Self
+        ensures { Some result ≡ block_after (Some shown) decoding.old }
+    {
+        let none = Decoding::fresh(decoding.collected.allocator(), decoding.purpose, false);
+        OpenBlock {
+            shown,
+            decoding: mem::replace(decoding, none),
+            goes_on: true,
+        }
+    }
+
     /// A copy of the block, in memory of its own.
     fn try_clone(&self) -> Result<OpenBlock<A>, AllocError>
         ensures { IfOk result (λ copy. copy ≡ self.now) }
     {
-        let decoding = match &self.decoding {
-            None => None,
-            Some(decoding) => Some(decoding.try_clone()?),
-        };
         Ok(OpenBlock {
             shown: self.shown,
-            decoding,
+            decoding: self.decoding.try_clone()?,
+            goes_on: self.goes_on,
         })
+    }
+
+    /// The block is decoded no more: it is only shown. Its memory goes where it is large.
+    pub fn stop(&mut self)
+        ensures { self.new ≡ record self.old { decoding = None } }
+    {
+        let purpose = self.decoding.purpose;
+        self.decoding.renew(purpose, false);
+        self.goes_on = false;
+    }
+
+    /// How far the block is decoded, taken out into `decoding`, and the block as it is shown; nothing where it is decoded
+    /// no more. Where it has many fields, copies made from now on share them.
+    pub fn take_out(&mut self, decoding: &mut Decoding<A>) -> Option<BlockView>
+        ensures taken { option_map (λ shown. (shown, decoding.new)) result ≡ decoding_in self.old.shown self.old.decoding }
+        ensures stopped { self.new ≡ record self.old { decoding = None } }
+    {
+        if !self.goes_on {
+            return None;
+        }
+        mem::swap(&mut self.decoding, decoding);
+        decoding.share();
+        self.goes_on = false;
+        Some(self.shown)
+    }
+
+    /// The block goes on, shown like this and with this decoding, which is taken out.
+    fn go_on(&mut self, shown: BlockView, decoding: &mut Decoding<A>)
+        ensures { Some self.new ≡ block_after (Some shown) decoding.old }
+    {
+        mem::swap(&mut self.decoding, decoding);
+        self.shown = shown;
+        self.goes_on = true;
     }
 }
 
@@ -58,6 +104,24 @@ pub fn copy_of<A: Allocator + Copy>(
 }
 
 impl<A: Allocator> OpenBlock<A> {
+    /// The block as the state shows it.
+    pub fn shown(&self) -> BlockView
+        ensures { result ≡ self.now.shown }
+    {
+        self.shown
+    }
+
+    /// What the block is for, while it is decoded further.
+    pub fn purpose(&self) -> Option<Purpose>
+        ensures { result ≡ option_map (λ decoding. decoding.purpose) self.now.decoding }
+    {
+        if self.goes_on {
+            Some(self.decoding.purpose)
+        } else {
+            None
+        }
+    }
+
     /// The stream that the block is on.
     pub fn stream(&self) -> u32
         ensures { result ≡ self.now.shown.stream }
@@ -81,7 +145,10 @@ pub fn leave_open<A: Allocator + Copy>(
             None => {}
             Some(_) => close(block),
         },
-        Some(shown) => reopen(block, shown, decoding),
+        Some(shown) => match block {
+            None => begin(block, shown, decoding),
+            Some(open) => open.go_on(shown, decoding),
+        },
     }
 }
 
@@ -93,20 +160,16 @@ fn close<A: Allocator>(block: &mut Option<OpenBlock<A>>)
     *block = None;
 }
 
-/// The block goes on, with this decoding, which is taken out.
+/// A block is open that goes on with this decoding, which is taken out.
 #[inline(never)]
-fn reopen<A: Allocator + Copy>(
+fn begin<A: Allocator + Copy>(
     block: &mut Option<OpenBlock<A>>,
     shown: BlockView,
     decoding: &mut Decoding<A>,
 )
     ensures { block.new ≡ block_after (Some shown) decoding.old }
 {
-    let none = Decoding::fresh(decoding.collected.allocator(), decoding.purpose, false);
-    *block = Some(OpenBlock {
-        shown,
-        decoding: Some(mem::replace(decoding, none)),
-    });
+    *block = Some(OpenBlock::begun(shown, decoding));
 }
 
 /// A block that HEADERS open, before its first fragment.

@@ -6,7 +6,7 @@ use Rattle.h2_spec.specs.DynamicTable.{LimitedTable, Table}
 use Rattle.h2_spec.specs.Headers as headers
 use Rattle.h2_spec.specs.State.{Decoding, OpenBlock, State}
 use Rattle.h2_spec.specs.Stream.{Records}
-use Rattle.h2_block.specs.Blocks.{block_after}
+use Rattle.h2_block.specs.Blocks.{block_after, decoding_in}
 pub use Rattle.h2_rules.specs.Open.{IsOpenAt}
 use Rattle.h2_rules.specs.Sound.{InForce, IsSoundChange, updated_records}
 use Rattle.h2_table.specs.Edits.{EditOf, IsEdit, edited}
@@ -52,10 +52,6 @@ abbrev pub limited : ℕ → Table → LimitedTable
 limited limit table = record { table = table; limit = limit }
 
 -- what is shown of the open block, and how far it is decoded, if it is decoded further
-abbrev pub decoding_in : BlockView → Option Decoding → Option (BlockView × Decoding)
-decoding_in shown None = None
-decoding_in shown (Some d) = Some (shown, d)
-
 abbrev pub decoding_of : Option OpenBlock → Option (BlockView × Decoding)
 decoding_of None = None
 decoding_of (Some b) = decoding_in b.shown b.decoding

@@ -38,12 +38,12 @@ fn set_counts(core: &mut ConnectionState, after: &ConnectionState, count: u64)
 }
 
 /// Ends the decoding of the block that is open.
-fn stop<A: Allocator>(block: &mut Option<OpenBlock<A>>)
+fn stop<A: Allocator + Copy>(block: &mut Option<OpenBlock<A>>)
     ensures { block.new ≡ changes.only_shown block.old }
 {
     match block {
         None => {}
-        Some(block) => block.decoding = None,
+        Some(block) => block.stop(),
     }
 }
 
@@ -107,7 +107,7 @@ impl<'b, A: Allocator + Copy> State<'b, A> {
     }
 }
 
-impl<'b, A: Allocator> State<'b, A> {
+impl<'b, A: Allocator + Copy> State<'b, A> {
     /// Ends the connection with a GOAWAY, or does nothing; an open block is decoded no more. Answers that the item is an error for
     /// this cause.
     pub fn fail<O: Outgoing<'b, A>>(

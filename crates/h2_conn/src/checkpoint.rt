@@ -66,12 +66,9 @@ fn reset_by<A: Allocator>(block: &Option<OpenBlock<A>>) -> Option<u32>
     let Some(block) = block else {
         return None;
     };
-    let Some(decoding) = &block.decoding else {
-        return None;
-    };
-    match decoding.purpose {
-        Purpose::Closed => Some(block.shown.stream),
-        Purpose::Request | Purpose::Trailers | Purpose::TableOnly => None,
+    match block.purpose() {
+        Some(Purpose::Closed) => Some(block.stream()),
+        Some(Purpose::Request | Purpose::Trailers | Purpose::TableOnly) | None => None,
     }
 }
 

@@ -1,7 +1,7 @@
 //! HEADERS and CONTINUATION on a connection: a block is opened or goes on, and what it results in is made (RFC 9113,
 //! 6.2 and 6.10). Definitions: `on_headers` of h2_spec's `specs/Effect.antt`, `continuation` of `specs/Headers.antt`.
 
-ghost use Rattle.std.specs.Prelude.{◌≡◌, ◌<◌, ◌^◌, length, None, Some, IfNone, IfOk, IfSome, OnOk, OnErr};
+ghost use Rattle.std.specs.Prelude.{◌≡◌, ◌<◌, ◌^◌, length, option_map, None, Some, IfNone, IfOk, IfSome, OnOk, OnErr};
 ghost use Rattle.h2_frame.specs.Parts.{headers_seen};
 ghost use Rattle.h2_spec.specs.Change.{broken};
 ghost use Rattle.h2_spec.specs.Effect as rule;
@@ -21,7 +21,7 @@ ghost use Rattle.h2_rules.specs.Sound.{in_force};
 use crate::block::FragmentEffect;
 use crate::scratch::Scratch;
 use crate::state::State;
-use h2_block::{Decoding, OpenBlock, Tentative, fresh_block, leave_open};
+use h2_block::{Decoding, Tentative, fresh_block, leave_open};
 use h2_frame::{HeadersPart, Outgoing};
 use h2_rules::block::headers_purpose;
 use h2_spec::causes::Cause;
@@ -75,42 +75,26 @@ impl<'b, A: Allocator + Copy> State<'b, A> {
         }
     }
 
-    /// The open block's decoding, taken out of the state: it is only shown until the block is put in again. Where it has
-    /// many fields, copies made from now on share them.
-    fn take_decoding(&mut self) -> Option<(BlockView, Decoding<A>)>
-        ensures taken { result ≡ decoding_of self.old.block }
+    /// The open block as it is shown, and its decoding, taken out of the state into `decoding`: it is only shown until the
+    /// block is put in again.
+    fn take_decoding(&mut self, decoding: &mut Decoding<A>) -> Option<BlockView>
+        ensures taken { option_map (λ shown. (shown, decoding.new)) result ≡ decoding_of self.old.block }
         ensures stopped { self.new ≡ stopped self.old }
         ensures unchanged { IfNone result (self.new ≡ self.old) }
-        ensures known { IfSome result (λ x. IsOpenAt (records self.old) x.0.stream x.1.purpose) }
+        ensures known { IfSome result (λ shown. IsOpenAt (records self.old) shown.stream decoding.new.purpose) }
     {
-        match self.block.take() {
+        match &mut self.block {
             None => None,
-            Some(block) => {
-                let OpenBlock { shown, decoding } = block;
-                self.block = Some(OpenBlock {
-                    shown,
-                    decoding: None,
-                });
-                match decoding {
-                    None => None,
-                    Some(mut decoding) => {
-                        decoding.share();
-                        Some((shown, decoding))
-                    }
-                }
-            }
+            Some(block) => block.take_out(decoding),
         }
     }
 
     /// The block that was taken out of the state, as it was.
-    fn put_back(&mut self, shown: BlockView, decoding: Decoding<A>)
-        requires known { IsOpenAt (records self.old) shown.stream decoding.purpose }
-        ensures { self.new ≡ record self.old { block = Some (record { shown = shown; decoding = Some decoding }) } }
+    fn put_back(&mut self, shown: BlockView, decoding: &mut Decoding<A>)
+        requires known { IsOpenAt (records self.old) shown.stream decoding.old.purpose }
+        ensures { self.new ≡ record self.old { block = Some (record { shown = shown; decoding = Some decoding.old }) } }
     {
-        self.block = Some(OpenBlock {
-            shown,
-            decoding: Some(decoding),
-        });
+        leave_open(&mut self.block, Some(shown), decoding);
     }
 
     /// Whether the next block has to begin with a size update (RFC 7541, 4.2).
@@ -173,27 +157,22 @@ impl<'b, A: Allocator + Copy> State<'b, A> {
         ensures verdict { IfOk result (λ verdict. verdict ≡ rule.effect_verdict (headers.continuation self.old self.old.block octets.now (frames.has head.now.flags frames.END_HEADERS))) }
         ensures err { OnErr result ((self.new ≡ self.old) × (O.octets out.new ≡ O.octets out.old)) }
     {
-        match self.take_decoding() {
+        match self.take_decoding(&mut scratch.decoding) {
             None => self.not_open(out),
-            Some((shown, mut decoding)) => {
+            Some(shown) => {
                 let end_headers = head.has(END_HEADERS);
-                match self.on_fragment(
+                let result = self.on_fragment(
                     shown,
-                    &mut decoding,
+                    &mut scratch.decoding,
                     &mut scratch.edit,
                     octets,
                     end_headers,
                     out,
-                ) {
-                    Ok(verdict) => {
-                        scratch.keep(decoding);
-                        Ok(verdict)
-                    }
-                    Err(_) => {
-                        self.put_back(shown, decoding);
-                        Err(AllocError)
-                    }
+                );
+                if result.is_err() {
+                    self.put_back(shown, &mut scratch.decoding);
                 }
+                result
             }
         }
     }
@@ -228,16 +207,14 @@ impl<'b, A: Allocator + Copy> State<'b, A> {
                 scratch.decoding.renew(purpose, self.is_due());
                 let end_headers = head.has(END_HEADERS);
                 let shown = fresh_block(head);
-                let result = self.on_fragment(
+                self.on_fragment(
                     shown,
                     &mut scratch.decoding,
                     &mut scratch.edit,
                     part.fragment,
                     end_headers,
                     out,
-                );
-                scratch.decoding.renew(purpose, false);
-                result
+                )
             }
         }
     }

@@ -23,11 +23,4 @@ impl<A: Allocator + Copy> Scratch<A> {
             decoding: Decoding::fresh(alloc, Purpose::Request, false),
         }
     }
-
-    /// Keeps the memory of a block's decoding for the next block.
-    pub fn keep(&mut self, mut decoding: Decoding<A>) {
-        let purpose = decoding.purpose;
-        decoding.renew(purpose, false);
-        self.decoding = decoding;
-    }
 }

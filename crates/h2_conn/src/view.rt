@@ -15,7 +15,7 @@ pub(crate) fn shown_block<A: Allocator>(block: &Option<OpenBlock<A>>) -> Option<
     ensures { result ≡ shown_block block.now }
 {
     match block {
-        Some(block) => Some(block.shown),
+        Some(block) => Some(block.shown()),
         None => None,
     }
 }

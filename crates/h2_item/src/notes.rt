@@ -3,7 +3,7 @@
 
 ghost use Rattle.std.specs.Prelude.{◌≡◌, false, true, OnErr, OnOk};
 ghost use Rattle.std.specs.BTreeMap.{IsEmpty, IsUnchanged};
-ghost use Rattle.h2_item.specs.Notes.{Sees, block_end_after, ends_block, first_item, has_client_ended, is_closed, is_noted, is_opened, note_of, note_or, noted, unnoted};
+ghost use Rattle.h2_item.specs.Notes.{Sees, block_end_after, ends_block, first_item, has_client_ended, is_closed, is_noted, is_opened, note_of, noted, unnoted};
 
 use h2_spec::frames::{CONTINUATION, END_HEADERS, HEADERS, Head};
 use h2_spec::streams::{Stream, StreamState};
@@ -74,16 +74,6 @@ fn unnoted(stream: Stream) -> StreamNote
     }
 }
 
-/// The note that there was, or that of a stream of which nothing was noted.
-fn note_or(note: Option<StreamNote>, stream: Stream) -> StreamNote
-    ensures { result ≡ note_or note stream }
-{
-    match note {
-        Some(note) => note,
-        None => unnoted(stream),
-    }
-}
-
 /// An item's number, where there was none before and this is so.
 fn first_item(before: u64, now: bool, number: u64) -> u64
     ensures { result ≡ first_item before now number }
@@ -142,7 +132,11 @@ impl<A: Allocator + Copy> Notes<A> {
         if !is_noted(&stream) {
             return Ok(());
         }
-        let note = noted(note_or(self.of(stream.id), stream), number, ended, stream);
+        if let Some(note) = self.streams.get_mut(&stream.id) {
+            *note = noted(*note, number, ended, stream);
+            return Ok(());
+        }
+        let note = noted(unnoted(stream), number, ended, stream);
         self.streams.insert(stream.id, note)?;
         Ok(())
     }

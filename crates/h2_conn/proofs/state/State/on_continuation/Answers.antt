@@ -7,7 +7,8 @@ use Rattle.h2_spec.specs.FrameType.{END_HEADERS, has}
 use Rattle.h2_spec.specs.Headers as headers
 use Rattle.h2_spec.specs.Headers.{Breaks, FrameEffect, Makes}
 use Rattle.h2_spec.specs.State.{OpenBlock, Decoding, State}
-use Rattle.h2_conn.specs.Blocks.{decoding_in, decoding_of}
+use Rattle.h2_block.specs.Blocks.{decoding_in}
+use Rattle.h2_conn.specs.Blocks.{decoding_of}
 use Rattle.h2_conn.specs.Does.{Does, stepped, stopped}
 use Rattle.h2_conn.proofs.state.State.on_continuation.Goals as goal
 
@@ -37,7 +38,7 @@ pub returns-in-Ok-clause-ok : goal.returns-in-Ok-clause-ok
 returns-in-Ok-clause-ok g c =
     let s = c.args.self.now in
     let octets = c.args.octets.now in
-    let x : BlockView × Decoding = (c.in-Some.shown, c.in-Some.decoding) in
+    let x : BlockView × Decoding = (c.in-Some.shown, c.take_decoding.new.decoding) in
     let ends = has c.args.head.now.flags END_HEADERS in
     let Q : State → FrameEffect → Type 0 = λ t e. Does (stepped (rule.concluded t e)) (g.O.Outgoing.octets c.args.out.now) c.on_fragment.new.self (g.O.Outgoing.octets c.on_fragment.new.out) in
     let taken = subst (λ (t : State). Q t (headers.fragment t x.0 x.1 octets c.has-end_headers.result)) c.take_decoding.ensures.stopped c.in-Ok.ensures.ok in
@@ -50,7 +51,7 @@ pub returns-in-Ok-clause-verdict : goal.returns-in-Ok-clause-verdict
 returns-in-Ok-clause-verdict g c =
     let s = c.args.self.now in
     let octets = c.args.octets.now in
-    let x : BlockView × Decoding = (c.in-Some.shown, c.in-Some.decoding) in
+    let x : BlockView × Decoding = (c.in-Some.shown, c.take_decoding.new.decoding) in
     let Q : FrameEffect → Type 0 = λ e. c.in-Ok.verdict ≡ rule.effect_verdict e in
     let taken = subst (λ (t : State). Q (headers.fragment t x.0 x.1 octets c.has-end_headers.result)) c.take_decoding.ensures.stopped c.in-Ok.ensures.verdict in
     let flagged = subst (λ (b : Bool). Q (headers.fragment (stopped s) x.0 x.1 octets b)) c.has-end_headers.ensures taken in
