@@ -1,4 +1,5 @@
 use Rattle.std.proofs.Common.{◌≡◌, ◌∙◌, ℕ, List, Bool, Option, Some, None, ap, refl, subst, sym}
+use Rattle.std.specs.Prelude.{OnOk}
 use Rattle.h2_spec.specs.declared.connection.BlockView.{BlockView}
 use Rattle.h2_spec.specs.Cause.{code_of}
 use Rattle.h2_spec.specs.Change.{Step, broken, ended, only_shown}
@@ -30,30 +31,16 @@ concluded-stopped : (s : State) (e : FrameEffect) → rule.concluded (stopped s)
 concluded-stopped s (Breaks cause) = ap (λ (b : Option OpenBlock). record (broken s cause) { state = record (ended s (code_of cause)) { block = b } }) (shown-alone s.block)
 concluded-stopped s (Makes t c) = refl
 
--- with the block only shown, a fragment is judged as with the block
-verdict-stopped : (s : State) (shown : BlockView) (d : Decoding) (octets : List ℕ) (ends : Bool) → rule.effect_verdict (headers.fragment (stopped s) shown d octets ends) ≡ rule.effect_verdict (headers.fragment s shown d octets ends)
-verdict-stopped s shown d octets ends = refl
-
-pub returns-in-Ok-clause-ok : goal.returns-in-Ok-clause-ok
-returns-in-Ok-clause-ok g c =
+pub returns-else-is_err-clause-ok : goal.returns-else-is_err-clause-ok
+returns-else-is_err-clause-ok g c =
     let s = c.args.self.now in
     let octets = c.args.octets.now in
     let x : BlockView × Decoding = (c.in-Some.shown, c.take_decoding.new.decoding) in
     let ends = has c.args.head.now.flags END_HEADERS in
-    let Q : State → FrameEffect → Type 0 = λ t e. Does (stepped (rule.concluded t e)) (g.O.Outgoing.octets c.args.out.now) c.on_fragment.new.self (g.O.Outgoing.octets c.on_fragment.new.out) in
-    let taken = subst (λ (t : State). Q t (headers.fragment t x.0 x.1 octets c.has-end_headers.result)) c.take_decoding.ensures.stopped c.in-Ok.ensures.ok in
+    let made = c.on_fragment-result in
+    let P : Step → Type 0 = λ e. OnOk made.result (Does (stepped e) (g.O.Outgoing.octets c.args.out.now) made.new.self (g.O.Outgoing.octets made.new.out)) in
+    let Q : State → FrameEffect → Type 0 = λ t e. P (rule.concluded t e) in
+    let taken = subst (λ (t : State). Q t (headers.fragment t x.0 x.1 octets c.has-end_headers.result)) c.take_decoding.ensures.stopped made.ensures.ok in
     let flagged = subst (λ (b : Bool). Q (stopped s) (headers.fragment s x.0 x.1 octets b)) c.has-end_headers.ensures taken in
-    let whole = subst (λ (e : Step). Does (stepped e) (g.O.Outgoing.octets c.args.out.now) c.on_fragment.new.self (g.O.Outgoing.octets c.on_fragment.new.out)) (concluded-stopped s (headers.fragment s x.0 x.1 octets ends)) flagged in
+    let whole = subst P (concluded-stopped s (headers.fragment s x.0 x.1 octets ends)) flagged in
     subst (λ (e : FrameEffect). Q s e) (sym (goes-on s s.block x octets ends c.in-Some.ensures.taken)) whole
-
--- the verdict is that of the block that was taken out
-pub returns-in-Ok-clause-verdict : goal.returns-in-Ok-clause-verdict
-returns-in-Ok-clause-verdict g c =
-    let s = c.args.self.now in
-    let octets = c.args.octets.now in
-    let x : BlockView × Decoding = (c.in-Some.shown, c.take_decoding.new.decoding) in
-    let Q : FrameEffect → Type 0 = λ e. c.in-Ok.verdict ≡ rule.effect_verdict e in
-    let taken = subst (λ (t : State). Q (headers.fragment t x.0 x.1 octets c.has-end_headers.result)) c.take_decoding.ensures.stopped c.in-Ok.ensures.verdict in
-    let flagged = subst (λ (b : Bool). Q (headers.fragment (stopped s) x.0 x.1 octets b)) c.has-end_headers.ensures taken in
-    let whole = flagged ∙ verdict-stopped s x.0 x.1 octets (has c.args.head.now.flags END_HEADERS) in
-    subst Q (sym (goes-on s s.block x octets (has c.args.head.now.flags END_HEADERS) c.in-Some.ensures.taken)) whole
