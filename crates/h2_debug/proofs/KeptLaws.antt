@@ -1,6 +1,7 @@
 -- What is kept of places.
 use Rattle.std.proofs.Common.{◌≡◌, ◌⊎◌, ◌∙◌, inl, inr, ℕ, zero, suc, Option, Some, None, cond, ◌+◌, ◌-◌, ◌*◌, ◌<◌, ◌≤◌, ◌/◌, List, [], ◌∷◌, ◌++◌, length, drop, Bool, true, false, true≢false, refl, sym, ap, arith}
 use Rattle.std.specs.Prelude.{slice_get, min, max, nat_le, ◌&&◌}
+use Rattle.std.specs.Option.{is_some}
 use Rattle.std.proofs.Math.Nat.{div-mul-le_self, lt-div-mul-add, mul-div-le}
 use Rattle.std.proofs.lemmas.Bool.{cases_lt, cond_both, le-leb, leb-false, leb-true}
 use Rattle.h2_spec.specs.Parse.{Front, Stop, One, Parsed, parse_all, parse_first, parse_upto}
@@ -130,6 +131,29 @@ kept-arrived r now far p far' ks ks' reached replayed k x left more ahead behind
           reached_is = x.place.within;
           few = k.few;
         })
+
+-- what is kept of more places leaves the debugger where it is
+pub kept-more : (r : Source) (now far : Placed) (ks ks' : List Kept) (reached replayed : ℕ) → IsKept r now far ks reached replayed → AreKept r 0 ks' → length ks ≤ length ks' → IsKept r now far ks' reached replayed
+kept-more r now far ks ks' reached replayed k a more = record {
+  now = k.now;
+  far_is = k.far_is;
+  kept_is = a;
+  below = omega (arith, k.below, more);
+  due = λ e. k.due (omega (arith, e, more, k.below));
+  within = k.within;
+  reached_is = k.reached_is;
+  few = k.few;
+}
+
+-- where no other place is the farthest one, it is the present one
+pub farthest-none : (o : Option Placed) (p : Placed) → is_some o ≡ false → farthest_or o p ≡ p
+farthest-none None p h = refl
+farthest-none (Some far) p h = absurd (true≢false h)
+
+-- where another place is the farthest one, it is so whichever is the present one
+pub farthest-some : (o : Option Placed) (p q : Placed) → is_some o ≡ true → farthest_or o p ≡ farthest_or o q
+farthest-some None p q h = absurd (true≢false (sym h))
+farthest-some (Some far) p q h = refl
 
 -- the debugger takes one item where it is
 pub kept-stepped : (r : Source) (now p : Placed) (o : Option Placed) (ks ks' : List Kept) (reached replayed : ℕ) → IsKept r now (farthest_or o now) ks reached replayed → IsReached r p ks' → p.position ≡ now.position + 1

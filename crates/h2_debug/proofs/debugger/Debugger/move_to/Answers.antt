@@ -1,8 +1,38 @@
-use Rattle.std.proofs.Common.{rules, ◌≡◌, ◌<◌, ◌≤◌, ◌*◌, arith, length}
+use Rattle.std.proofs.Common.{rules, ◌≡◌, ◌<◌, ◌≤◌, ◌*◌, arith, length, subst, sym}
 use Rattle.std.specs.Prelude.{max}
-use Rattle.h2_debug.specs.Debugging.{farthest_or}
-use Rattle.h2_debug.proofs.KeptLaws.{kept-arrived}
+use Rattle.h2_debug.specs.Debugging.{Debugging, farthest_or}
+use Rattle.h2_debug.specs.Places.{IsAt}
+use Rattle.h2_debug.proofs.KeptLaws.{kept-arrived, kept-more}
 use Rattle.h2_debug.proofs.debugger.Debugger.move_to.Goals as goal
+
+pub invariant_of-self : goal.invariant_of-self
+invariant_of-self g c =
+    let s = c.self.inside in
+    kept-more _ s.present (farthest_or s.farthest s.present) s.kept.items _ s.reached s.replayed c.self.invariant (c.keep_if_due.ensures.kept _ c.self.invariant.now c.self.invariant.kept_is) c.keep_if_due.ensures.more
+
+pub forward_to-requires-clause-reached : goal.forward_to-requires-clause-reached
+forward_to-requires-clause-reached g c =
+    let at = subst (λ (d : Debugging). IsAt d.run c.args.place) (sym c.self.view_is) c.requires.place in
+    let known = subst (λ (d : Debugging). c.args.place.position ≤ d.reached) (sym c.self.view_is) c.requires.known in
+    rw c.as_slice.ensures.value (record {
+      place = at;
+      kept_is = c.keep_if_due.ensures.kept _ c.self.invariant.now c.self.invariant.kept_is;
+      below = omega (arith, known, c.self.invariant.below, c.keep_if_due.ensures.more);
+    })
+
+pub invariant_of-self-in_err-forward_to : goal.invariant_of-self-in_err-forward_to
+invariant_of-self-in_err-forward_to g c =
+    let s = c.self.inside in
+    let there = rw c.as_slice.ensures.value at c.forward_to.ensures.reached in
+    let more : length s.kept.items ≤ length c.forward_to.new.kept.items = omega (arith, c.keep_if_due.ensures.more, c.forward_to.ensures.more) in
+    kept-more _ s.present (farthest_or s.farthest s.present) s.kept.items _ s.reached s.replayed c.self.invariant there.kept_is more
+
+pub invariant_of-self-then-position-least : goal.invariant_of-self-then-position-least
+invariant_of-self-then-position-least g c =
+    let s = c.self.inside in
+    let there = rw c.as_slice.ensures.value at c.forward_to.ensures.reached in
+    let more : length s.kept.items ≤ length c.forward_to.new.kept.items = omega (arith, c.keep_if_due.ensures.more, c.forward_to.ensures.more) in
+    kept-more _ s.present (farthest_or s.farthest s.present) s.kept.items _ s.reached s.replayed c.self.invariant there.kept_is more
 
 pub invariant_of-self-2 : goal.invariant_of-self-2
 invariant_of-self-2 g c =

@@ -1,8 +1,24 @@
-use Rattle.std.proofs.Common.{rules, ◌≡◌, ◌*◌, ◌<◌, ◌≤◌, arith, length}
+use Rattle.std.proofs.Common.{rules, ◌≡◌, ◌*◌, ◌<◌, ◌≤◌, arith, length, subst, sym}
 use Rattle.std.specs.Prelude.{max}
-use Rattle.h2_debug.specs.Debugging.{farthest_or}
-use Rattle.h2_debug.proofs.KeptLaws.{kept-arrived}
+use Rattle.h2_debug.specs.Debugging.{Debugging, farthest_or}
+use Rattle.h2_debug.specs.Places.{IsAt}
+use Rattle.h2_debug.proofs.KeptLaws.{kept-arrived, kept-more}
 use Rattle.h2_debug.proofs.debugger.Debugger.run_on.Goals as goal
+
+pub invariant_of-self : goal.invariant_of-self
+invariant_of-self g c =
+    let s = c.self.inside in
+    kept-more _ s.present (farthest_or s.farthest s.present) s.kept.items _ s.reached s.replayed c.self.invariant (c.keep_if_due.ensures.kept _ c.self.invariant.now c.self.invariant.kept_is) c.keep_if_due.ensures.more
+
+pub forward_to_stop-requires : goal.forward_to_stop-requires
+forward_to_stop-requires g c =
+    let at = subst (λ (d : Debugging). IsAt d.run c.in_ok-stop.stop) (sym c.self.view_is) c.in_ok-stop.ensures.0 in
+    let here : c.in_ok-stop.stop.position ≡ c.self.inside.present.position = subst (λ (d : Debugging). c.in_ok-stop.stop.position ≡ d.position) (sym c.self.view_is) c.in_ok-stop.ensures.1 in
+    rw c.as_slice.ensures.value (record {
+      place = at;
+      kept_is = c.keep_if_due.ensures.kept _ c.self.invariant.now c.self.invariant.kept_is;
+      below = omega (arith, here, c.in_ok-keep_if_due.ensures.below);
+    })
 
 pub invariant_of-self-2 : goal.invariant_of-self-2
 invariant_of-self-2 g c =

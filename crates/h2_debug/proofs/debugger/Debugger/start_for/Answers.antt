@@ -1,4 +1,4 @@
-use Rattle.std.proofs.Common.{rules, ◌≡◌, ◌∙◌, ◌*◌, ◌/◌, ◌≤◌, ap, sym, subst, refl, arith, false}
+use Rattle.std.proofs.Common.{rules, ◌≡◌, ◌∙◌, ◌*◌, ◌/◌, ◌≤◌, ap, sym, subst, refl, arith, false, true}
 use Rattle.std.specs.Prelude.{◌&&◌, nat_le, min}
 use Rattle.std.proofs.lemmas.Result.{IfOk-weaker}
 use Rattle.h2_debug.specs.Debugging.{Debugging}
@@ -33,3 +33,10 @@ returns g c =
     let follows = place-follows _ p c.farthest_place.result.now found.0.here at (omega (arith, found.1, least, far, kept)) in
     rw (← c.self.view_is, near)
     (IfOk-weaker c.restore.result _ _ (λ q same. rw (same p found.0.same (place-goes _ p found.0.here) follows) (place-anew _ p found.0.here, omega (arith, kept, found.1, least), refl)) c.restore.ensures)
+
+pub returns-then-near : goal.returns-then-near
+returns-then-near g c =
+    let least : c.min-index.result ≡ min c.args.target c.self.inside.reached = search rules in
+    let near : (nat_le c.self.inside.present.position c.args.target && nat_le (min c.args.target c.self.inside.reached / 64 * 64) c.self.inside.present.position) ≡ true = rw (← least, ← c.position.ensures) (sym c.is_between-near.ensures ∙ c.if-near.true) in
+    let now : (nat_le c.args.self.now.position c.args.target && nat_le (min c.args.target c.args.self.now.reached / 64 * 64) c.args.self.now.position) ≡ true = subst (λ (d : Debugging). (nat_le d.position c.args.target && nat_le (min c.args.target d.reached / 64 * 64) d.position) ≡ true) c.self.view_is near in
+    rw (c.count_anew.ensures, now) (place-anew _ _ c.in_ok-place.ensures.0, c.in_ok-place.ensures.1, refl)
