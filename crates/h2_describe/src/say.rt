@@ -17,8 +17,8 @@ pub struct TextBuilder<A: Allocator = Global> {
 /// How many octets of a long text are shown, where it is not shown whole.
 const SHOWN: usize = 100;
 
-/// How many octets a text has space for at first.
-const ROOM: usize = 240;
+/// How many octets a text has space for at first: the lines of a GET and of its answer fit.
+const ROOM: usize = 1000;
 
 impl<A: Allocator> TextBuilder<A> {
     /// No part yet; of a long text the first 100 octets are shown. Takes no memory.
