@@ -16,7 +16,8 @@
 #     there;
 #   - `serve`: with `fault 0` behind `listening PORT`, or with `connection 1 fault 0`; the client has received the first octets of what it
 #     receives with ample memory.
-# Nothing may be written to standard error. The last line is `N passed, M failed`, a run each.
+# Standard error has sentences of the run with ample memory, those that say that memory is out, and, of a server, that a connection could not be accepted, and nothing
+# else. The last line is `N passed, M failed`, a run each.
 set -eu
 top=$(cd "$(dirname "$0")/.." && pwd)
 stored=
@@ -158,6 +159,7 @@ refuse_each() {
     shift 2
     run 0 "$@"
     cp "$made/output" "$made/whole"
+    cp "$made/errors" "$made/whole-errors"
     whole_status=$status
     if [ "$whole_status" != 0 ]; then fail 0 "status $status with ample memory"; fi
     rm -f "$made"/session-*
@@ -169,7 +171,7 @@ refuse_each() {
         [ -s "$made/refused" ] || break
         if ! ends_well; then
             fail "$call" "status $status, output: $(head -c 300 "$made/output")"
-        elif grep -qv '^\(standard input, line [0-9]*: \|debug: \)\?out of memory' "$made/errors"; then
+        elif grep -vxF -f "$made/whole-errors" "$made/errors" | grep -qv '^\([^:]*: \)\?out of memory'; then
             fail "$call" "standard error: $(head -c 300 "$made/errors")"
         else
             right=$((right + 1))
@@ -259,7 +261,7 @@ refuse_each_served() {
         [ -s "$made/refused" ] || break
         if ! serves_well; then
             fail "$call" "status $status, output: $(head -c 300 "$made/output")"
-        elif grep -qv '^\(standard input, line [0-9]*: \|debug: \)\?out of memory' "$made/errors"; then
+        elif grep -qv '^\(connection 1: \)\?out of memory\|^port [0-9]* of 127.0.0.1 was listened on, and a connection could not be accepted' "$made/errors"; then
             fail "$call" "standard error: $(head -c 300 "$made/errors")"
         else
             right=$((right + 1))
