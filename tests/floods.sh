@@ -294,7 +294,7 @@ FLOODS = [
 
 
 # What the program prints first, and the statuses of a run that ended as it should: `explain` has 4 for a connection error.
-FRONTS = {"play": (b"sent ", (0,)), "explain": (b"#2 @24", (0, 4))}
+FRONTS = {"play": (b"sent ", (0,)), "explain": (b"#0 @0 ", (0, 4))}
 
 
 def measured(program, words, path, limit):
