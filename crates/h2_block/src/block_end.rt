@@ -177,8 +177,8 @@ fn closed_end<A: Allocator>(
 /// What a block results in at its end, by its purpose (RFC 9113, 4.3 and 8.1). A request opens its stream, or is refused
 /// as `request_outcome` says; trailers end the peer's side, or are refused as `trailers_outcome` says; a block on a
 /// stream whose peer's side has ended is a stream error STREAM_CLOSED (5.1); after a stream error of the server the
-/// block changes the header table alone.
-#[inline(always)]
+/// block changes the header table alone. It is apart, so that its caller reads the change where it lies.
+#[inline(never)]
 pub fn block_ends<A: Allocator + Copy>(
     book: &Book<A>,
     config: Config,

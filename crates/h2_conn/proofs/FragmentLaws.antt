@@ -1,5 +1,5 @@
 -- What a fragment that is decoded results in.
-use Rattle.std.proofs.Common.{◌≡◌, ◌≢◌, ℕ, Bool, true, false, cond, ◌+◌, nat_lt, List, ◌++◌, length, Some, None, not, refl, sym, ap, subst, ◌∙◌, ◌==◌}
+use Rattle.std.proofs.Common.{◌≡◌, ◌≢◌, ℕ, Bool, false, cond, ◌+◌, nat_lt, List, ◌++◌, length, Some, refl, sym, ap, ◌∙◌}
 use Rattle.std.proofs.lemmas.Option.{none-some}
 use Rattle.h2_fields.specs.Blocks.{faulted}
 use Rattle.h2_fields.specs.declared.fault.BlockFault.{BlockFault}
@@ -7,23 +7,14 @@ use Rattle.h2_fields.specs.declared.fault.BlockFault.TheVariants as fault
 use Rattle.h2_spec.specs.declared.connection.BlockView.{BlockView}
 use Rattle.h2_spec.specs.declared.connection.Purpose.{Purpose}
 use Rattle.h2_spec.specs.declared.causes.Cause.{Cause}
-use Rattle.h2_spec.specs.declared.causes.Cause.TheVariants.{BlockTooLarge, BlockTruncated, SizeUpdateMissing}
+use Rattle.h2_spec.specs.declared.causes.Cause.TheVariants.{BlockTooLarge}
 use Rattle.h2_fields.specs.Faults.{fault_of}
 use Rattle.h2_spec.specs.Block.{Fault, ZeroIndex, Index, Integer, Huffman, LateUpdate, LargeUpdate, MissingUpdate, Decoded, Faulty, Outcome, Unfinished, decoded, list_size}
-use Rattle.h2_spec.specs.declared.reactions.Change.{Change}
-use Rattle.h2_spec.specs.DynamicTable.{LimitedTable, Table}
-use Rattle.h2_spec.specs.Field.{Field}
+use Rattle.h2_spec.specs.DynamicTable.{Table}
 use Rattle.h2_spec.specs.Headers as headers
-use Rattle.h2_spec.specs.Headers.{FrameEffect, fragment_decoded, fragment_read, fault_cause, goes_on}
+use Rattle.h2_spec.specs.Headers.{FrameEffect, fragment_decoded, fragment_read, fault_cause}
 use Rattle.h2_spec.specs.State as state
-use Rattle.h2_spec.specs.Stream.{Records}
-use Rattle.h2_rules.specs.Sound.{IsSoundConnectionState, in_force}
-use Rattle.h2_table.specs.Edits.{EditOf, IsEdit}
 use Rattle.h2_rules.specs.Block.{cause_by}
-use Rattle.h2_conn.specs.Blocks.{IsOpenAt, IsSoundEffect}
-use Rattle.h2_block.specs.Blocks.{bad_end, block_after}
-use Rattle.h2_conn.specs.declared.block.FragmentEffect.TheVariants.{Makes}
-use Rattle.h2_conn.specs.Records.{records}
 use Rattle.h2_block.specs.Fragments.{HasFault, after_fragment, before_fragment}
 
 -- the cause of a fault of the octets
@@ -76,50 +67,3 @@ fragment-read s b d after octets ends table size few purpose counts e =
     ∙ ap (λ x. fragment_decoded s view d.purpose ends x) e
     ∙ ap (λ (n : ℕ). fragment_read now (record view { list_size = n }) (record after { purpose = d.purpose }) ends) (sym counts)
     ∙ ap (λ (p : Purpose). fragment_read now (record view { list_size = size }) (record after { purpose = p }) ends) (sym purpose)
-
--- ---- the end of a block
-
--- a block that can't end here is a connection error
-pub read-bad : (s : state.State) (b : BlockView) (d : state.Decoding) (ends : Bool) (cause : Cause) → ends ≡ true → bad_end d ≡ Some cause → fragment_read s b d ends ≡ headers.Breaks cause
-read-bad s b d false cause e h = cc
-read-bad s b d true cause e h = at (not (length d.rest == 0)) d.due _ h
-  where
-    at : (short missing : Bool) (effect : FrameEffect) → cond short (Some BlockTruncated) (cond missing (Some SizeUpdateMissing) None) ≡ Some cause → cond short (headers.Breaks BlockTruncated) (cond missing (headers.Breaks SizeUpdateMissing) effect) ≡ headers.Breaks cause
-    at true missing effect h = let same : BlockTruncated ≡ cause = cc in ap (λ (c : Cause). let e : FrameEffect = headers.Breaks c in e) same
-    at false true effect h = let same : SizeUpdateMissing ≡ cause = cc in ap (λ (c : Cause). let e : FrameEffect = headers.Breaks c in e) same
-    at false false effect h = cc
-
--- another block ends as its purpose says
-read-good : (s : state.State) (b : BlockView) (d : state.Decoding) (ends : Bool) → ends ≡ true → bad_end d ≡ None → fragment_read s b d ends ≡ headers.Makes (headers.with_block s None) (headers.block_ends s b.stream b.ends d.fields d.purpose)
-read-good s b d false e h = cc
-read-good s b d true e h = at (not (length d.rest == 0)) d.due _ h
-  where
-    at : (short missing : Bool) (effect : FrameEffect) → cond short (Some BlockTruncated) (cond missing (Some SizeUpdateMissing) None) ≡ None → cond short (headers.Breaks BlockTruncated) (cond missing (headers.Breaks SizeUpdateMissing) effect) ≡ effect
-    at true missing effect h = cc
-    at false true effect h = cc
-    at false false effect h = refl
-
--- a block that ends, by what its end changes
-pub read-ended : (s : state.State) (b : BlockView) (d : state.Decoding) (ends : Bool) (change : Change) (purpose : Purpose) (fields : List Field) → ends ≡ true → bad_end d ≡ None → purpose ≡ d.purpose → fields ≡ d.fields →
-    change ≡ headers.block_ends s b.stream b.ends fields purpose → headers.Makes (headers.with_block s None) change ≡ fragment_read s b d ends
-read-ended s b d ends change purpose fields e h named is rule =
-    ap (λ (c : Change). headers.Makes (headers.with_block s None) c) rule
-    ∙ ap (λ (f : List Field). headers.Makes (headers.with_block s None) (headers.block_ends s b.stream b.ends f purpose)) is
-    ∙ ap (λ (p : Purpose). headers.Makes (headers.with_block s None) (headers.block_ends s b.stream b.ends d.fields p)) named
-    ∙ sym (read-good s b d ends e h)
-
--- a block that goes on
-pub read-begun : (s : state.State) (b : BlockView) (d : state.Decoding) (ends : Bool) (change : Change) → ends ≡ false → change ≡ goes_on s.core d.purpose →
-    headers.Makes (headers.with_block s (block_after (Some b) d)) change ≡ fragment_read s b d ends
-read-begun s b d false change e is = ap (λ (c : Change). headers.Makes (headers.with_block s (block_after (Some b) d)) c) is
-read-begun s b d true change e is = cc
-
--- with the last stream as the counts have it
-pub same-records : (r : Records) (last : ℕ) → r.last ≡ last → record { streams = r.streams; last = last } ≡ r
-same-records r last e = ap (λ (l : ℕ). record { streams = r.streams; last = l }) (sym e)
-
--- it keeps what is true of every connection
-pub goes-on-sound : (s : state.State) (b : BlockView) (d : state.Decoding) (change : Change) (base : LimitedTable) (edit : EditOf) → change ≡ goes_on s.core d.purpose → IsSoundConnectionState s.core → IsEdit base edit → IsOpenAt (records s) b.stream d.purpose →
-    IsSoundEffect s.book (records s) (in_force s.core) base edit d (Makes (Some b) change)
-goes-on-sound s b d change base edit is sound belongs opened =
-    subst (λ (c : Change). IsSoundEffect s.book (records s) (in_force s.core) base edit d (Makes (Some b) c)) (sym is) ((sound, (refl, refl)), belongs, opened)

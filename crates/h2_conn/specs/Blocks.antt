@@ -1,17 +1,15 @@
 -- Field blocks that are not at their end.
-use Rattle.std.specs.Prelude.{◌≡◌, ℕ, List, Option, Some, None}
+use Rattle.std.specs.Prelude.{◌≡◌, ℕ, Bool, Option, Some, None, Result, Ok, Err}
+use Rattle.h2_spec.specs.declared.causes.Cause.{Cause}
 use Rattle.h2_spec.specs.declared.connection.BlockView.{BlockView}
-use Rattle.h2_spec.specs.Answer.{Entry}
+use Rattle.h2_spec.specs.declared.reactions.Change.{Change}
 use Rattle.h2_spec.specs.DynamicTable.{LimitedTable, Table}
 use Rattle.h2_spec.specs.Headers as headers
 use Rattle.h2_spec.specs.State.{Decoding, OpenBlock, State}
 use Rattle.h2_spec.specs.Stream.{Records}
 use Rattle.h2_block.specs.Blocks.{block_after, decoding_in}
 pub use Rattle.h2_rules.specs.Open.{IsOpenAt}
-use Rattle.h2_rules.specs.Sound.{InForce, IsSoundChange, updated_records}
-use Rattle.h2_table.specs.Edits.{EditOf, IsEdit, edited}
-use Rattle.h2_conn.specs.declared.block.FragmentEffect.{FragmentEffect}
-use Rattle.h2_conn.specs.declared.block.FragmentEffect.TheVariants.{Breaks, Makes}
+use Rattle.h2_table.specs.Edits.{EditOf, edited}
 
 -- ---- the stream of an open block
 
@@ -31,21 +29,18 @@ IsStopped (Some b) = b.decoding ≡ None
 
 -- ---- what a fragment results in
 
--- in a state with the header table after it, with how far the block is decoded
-abbrev pub effect_in : State → Decoding → FragmentEffect → headers.FrameEffect
-effect_in s d (Breaks cause) = headers.Breaks cause
-effect_in s d (Makes shown change) = headers.Makes (record s { block = block_after shown d }) change
+-- a state with the header table that this edit makes of its own
+abbrev pub with_table : State → EditOf → State
+with_table s edit = record s { table = edited s.table.entries edit }
 
--- in a state with the header table before it, and the edit that makes it the one after it
-abbrev pub effect_seen : State → EditOf → Decoding → FragmentEffect → headers.FrameEffect
-effect_seen s edit d e = effect_in (record s { table = edited s.table.entries edit }) d e
+-- a fragment that was decoded, in the state with the header table after it: the block as it is shown, or an error
+abbrev pub effect_read : State → Decoding → Bool → Result BlockView Cause → headers.FrameEffect
+effect_read s d end_headers (Err cause) = headers.Breaks cause
+effect_read s d end_headers (Ok shown) = headers.fragment_read s shown d end_headers
 
--- the edit is one of the table; a change keeps what is true of every connection, and an open block is known by its
--- stream, with the records after the change
-abbrev pub IsSoundEffect : List Entry → Records → InForce → LimitedTable → EditOf → Decoding → FragmentEffect → Type 0
-IsSoundEffect book r before base edit d (Breaks cause) = IsEdit base edit
-IsSoundEffect book r before base edit d (Makes shown change) =
-    IsSoundChange book r before change × IsEdit base edit × IsOpenFor (updated_records change.record_update r) (block_after shown d)
+-- a change, with this block and the header table that this edit makes of the state's own
+abbrev pub makes_open : State → EditOf → Option BlockView → Decoding → Change → headers.FrameEffect
+makes_open s edit shown d change = headers.Makes (record (with_table s edit) { block = block_after shown d }) change
 
 -- the header table of a state, with its limit
 abbrev pub limited : ℕ → Table → LimitedTable

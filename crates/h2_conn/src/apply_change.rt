@@ -62,19 +62,19 @@ impl<'b, A: Allocator + Copy> State<'b, A> {
     #[inline(always)]
     pub fn apply_change<O: Outgoing<'b, A>>(
         &mut self,
-        change: Change,
+        change: &Change,
         out: &mut O,
     ) -> Result<Verdict, AllocError>
-        requires kept { IsOpenFor (updated_records change.record_update (records self.old)) self.old.block }
-        requires sound { IsSoundChange self.old.book (records self.old) (in_force self.old.core) change }
-        ensures ok { OnOk result (Does (then_sent change.core.phase (changes.made self.old change)) (O.octets out.old) self.new (O.octets out.new)) }
-        ensures verdict { IfOk result (λ verdict. verdict ≡ record { cause = effect.stream_cause change.stream_frame; ignored = change.ignored }) }
+        requires kept { IsOpenFor (updated_records change.now.record_update (records self.old)) self.old.block }
+        requires sound { IsSoundChange self.old.book (records self.old) (in_force self.old.core) change.now }
+        ensures ok { OnOk result (Does (then_sent change.now.core.phase (changes.made self.old change.now)) (O.octets out.old) self.new (O.octets out.new)) }
+        ensures verdict { IfOk result (λ verdict. verdict ≡ record { cause = effect.stream_cause change.now.stream_frame; ignored = change.now.ignored }) }
         ensures err { OnErr result ((self.new ≡ self.old) × (O.octets out.new ≡ O.octets out.old)) }
     {
-        match send_and_update(self.book, &mut self.streams, &change, out) {
+        match send_and_update(self.book, &mut self.streams, change, out) {
             Ok(count) => {
                 self.core = with_sent(change.core, count);
-                Ok(verdict_of(&change))
+                Ok(verdict_of(change))
             }
             Err(error) => Err(error),
         }

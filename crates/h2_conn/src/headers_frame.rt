@@ -1,7 +1,7 @@
 //! HEADERS and CONTINUATION on a connection: a block is opened or goes on, and what it results in is made (RFC 9113,
 //! 6.2 and 6.10). Definitions: `on_headers` of h2_spec's `specs/Effect.antt`, `continuation` of `specs/Headers.antt`.
 
-ghost use Rattle.std.specs.Prelude.{◌≡◌, ◌<◌, ◌^◌, length, option_map, None, Some, IfNone, IfOk, IfSome, OnOk, OnErr};
+ghost use Rattle.std.specs.Prelude.{◌≡◌, ◌<◌, ◌^◌, false, true, length, option_map, None, Some, IfNone, IfOk, IfSome, OnOk, OnErr};
 ghost use Rattle.h2_frame.specs.Parts.{headers_seen};
 ghost use Rattle.h2_spec.specs.Change.{broken};
 ghost use Rattle.h2_spec.specs.Effect as rule;
@@ -11,35 +11,38 @@ ghost use Rattle.h2_spec.specs.State.{is_due};
 ghost use Rattle.h2_spec.specs.Stream.{stream_at};
 ghost use Rattle.h2_spec.specs.ReactionTable.{headers_cell};
 ghost use Rattle.h2_spec.specs.declared.causes.Cause.TheVariants.{ContinuationOutsideBlock};
-ghost use Rattle.h2_conn.specs.Blocks.{IsOpenAt, IsSoundEffect, IsStopped, decoding_of, effect_seen, limited};
+ghost use Rattle.h2_block.specs.Blocks.{block_after};
+ghost use Rattle.h2_conn.specs.Blocks.{IsOpenAt, IsOpenFor, IsStopped, decoding_of, limited, makes_open, with_table};
 ghost use Rattle.h2_conn.specs.Does.{Does, stepped, stopped};
 ghost use Rattle.h2_block.specs.Fragments.{IsSized, after_of, before_of};
 ghost use Rattle.h2_conn.specs.Records.{records};
 ghost use Rattle.h2_rules.specs.Block.{cell_of};
-ghost use Rattle.h2_rules.specs.Sound.{in_force};
+ghost use Rattle.h2_rules.specs.Sound.{IsSoundChange, in_force, updated_records};
+ghost use Rattle.h2_table.specs.Edits.{IsEdit};
 
-use crate::block::FragmentEffect;
 use crate::scratch::Scratch;
 use crate::state::State;
-use h2_block::{Decoding, Tentative, fresh_block, leave_open};
+use h2_block::{Decoding, Tentative, block_ends, fresh_block, leave_open};
 use h2_frame::{HeadersPart, Outgoing};
-use h2_rules::block::headers_purpose;
+use h2_rules::block::{goes_on, headers_purpose};
 use h2_spec::causes::Cause;
 use h2_spec::connection::{BlockView, Purpose};
 use h2_spec::frames::{END_HEADERS, Head};
-use h2_spec::reactions::Verdict;
+use h2_spec::reactions::{Change, Verdict};
 use h2_table::Edit;
 use std::alloc::{AllocError, Allocator};
 
 impl<'b, A: Allocator + Copy> State<'b, A> {
-    /// What a fragment results in is made: a connection error, or the change, and then block and table; or nothing.
+    /// A change of a fragment is made, and then block and table; or nothing.
     ///
     /// # Errors
     ///
     /// `AllocError` where memory was refused; the block is as it was before the fragment.
+    #[inline(always)]
     fn finish<O: Outgoing<'b, A>>(
         &mut self,
-        effect: FragmentEffect,
+        shown: Option<BlockView>,
+        change: &Change,
         decoding: &mut Decoding<A>,
         tentative: Tentative<A>,
         edit: &mut Edit<A>,
@@ -47,31 +50,104 @@ impl<'b, A: Allocator + Copy> State<'b, A> {
     ) -> Result<Verdict, AllocError>
         requires stopped { IsStopped self.old.block }
         requires sized { IsSized decoding.old tentative }
-        requires sound { IsSoundEffect self.old.book (records self.old) (in_force self.old.core) (limited self.old.core.own.table self.old.table) edit.old (after_of decoding.old tentative) effect }
-        ensures ok { OnOk result (Does (stepped (rule.concluded self.old (effect_seen self.old edit.old (after_of decoding.old tentative) effect))) (O.octets out.old) self.new (O.octets out.new)) }
-        ensures verdict { IfOk result (λ verdict. verdict ≡ rule.effect_verdict (effect_seen self.old edit.old (after_of decoding.old tentative) effect)) }
+        requires belongs { IsEdit (limited self.old.core.own.table self.old.table) edit.old }
+        requires sound { IsSoundChange self.old.book (records self.old) (in_force self.old.core) change.now }
+        requires known { IsOpenFor (updated_records change.now.record_update (records self.old)) (block_after shown (after_of decoding.old tentative)) }
+        ensures ok { OnOk result (Does (stepped (rule.concluded self.old (makes_open self.old edit.old shown (after_of decoding.old tentative) change.now))) (O.octets out.old) self.new (O.octets out.new)) }
+        ensures verdict { IfOk result (λ verdict. verdict ≡ rule.effect_verdict (makes_open self.old edit.old shown (after_of decoding.old tentative) change.now)) }
         ensures err { OnErr result ((decoding.new ≡ before_of decoding.old tentative) × (self.new ≡ self.old) × (O.octets out.new ≡ O.octets out.old)) }
     {
-        match effect {
-            FragmentEffect::Breaks(cause) => match self.fail(cause, out) {
-                Ok(verdict) => Ok(verdict),
-                Err(_) => {
-                    decoding.give_up(tentative);
-                    Err(AllocError)
-                }
-            },
-            FragmentEffect::Makes(shown, change) => match self.apply_change(change, out) {
-                Ok(verdict) => {
-                    decoding.take_over(tentative);
-                    leave_open(&mut self.block, shown, decoding);
-                    self.table.commit(edit);
-                    Ok(verdict)
-                }
-                Err(_) => {
-                    decoding.give_up(tentative);
-                    Err(AllocError)
-                }
-            },
+        match self.apply_change(change, out) {
+            Ok(verdict) => {
+                decoding.take_over(tentative);
+                leave_open(&mut self.block, shown, decoding);
+                self.table.commit(edit);
+                Ok(verdict)
+            }
+            Err(_) => {
+                decoding.give_up(tentative);
+                Err(AllocError)
+            }
+        }
+    }
+
+    /// A fragment is a connection error; or nothing is done, and the block is as it was before the fragment.
+    fn refuse<O: Outgoing<'b, A>>(
+        &mut self,
+        cause: Cause,
+        decoding: &mut Decoding<A>,
+        tentative: Tentative<A>,
+        out: &mut O,
+    ) -> Result<Verdict, AllocError>
+        requires sized { IsSized decoding.old tentative }
+        ensures ok { OnOk result (Does (broken self.old cause) (O.octets out.old) self.new (O.octets out.new)) }
+        ensures verdict { IfOk result (λ verdict. verdict ≡ record { cause = Some cause; ignored = None }) }
+        ensures err { OnErr result ((decoding.new ≡ before_of decoding.old tentative) × (self.new ≡ self.old) × (O.octets out.new ≡ O.octets out.old)) }
+    {
+        match self.fail(cause, out) {
+            Ok(verdict) => Ok(verdict),
+            Err(_) => {
+                decoding.give_up(tentative);
+                Err(AllocError)
+            }
+        }
+    }
+
+    /// A fragment was decoded after which its block goes on; or nothing is done, as `finish` says.
+    #[inline(always)]
+    fn goes_on<O: Outgoing<'b, A>>(
+        &mut self,
+        shown: BlockView,
+        decoding: &mut Decoding<A>,
+        tentative: Tentative<A>,
+        edit: &mut Edit<A>,
+        out: &mut O,
+    ) -> Result<Verdict, AllocError>
+        requires stopped { IsStopped self.old.block }
+        requires sized { IsSized decoding.old tentative }
+        requires belongs { IsEdit (limited self.old.core.own.table self.old.table) edit.old }
+        requires open { IsOpenAt (records self.old) shown.stream decoding.old.purpose }
+        ensures ok { OnOk result (Does (stepped (rule.concluded self.old (headers.fragment_read (with_table self.old edit.old) shown (after_of decoding.old tentative) false))) (O.octets out.old) self.new (O.octets out.new)) }
+        ensures verdict { IfOk result (λ verdict. verdict ≡ rule.effect_verdict (headers.fragment_read (with_table self.old edit.old) shown (after_of decoding.old tentative) false)) }
+        ensures err { OnErr result ((decoding.new ≡ before_of decoding.old tentative) × (self.new ≡ self.old) × (O.octets out.new ≡ O.octets out.old)) }
+    {
+        let change = goes_on(self.core(), decoding.purpose);
+        self.finish(Some(shown), &change, decoding, tentative, edit, out)
+    }
+
+    /// A fragment was decoded that ends its block: HEADERS or CONTINUATION with END_HEADERS; or nothing is done, as `finish`
+    /// says.
+    #[inline(never)]
+    fn ends<O: Outgoing<'b, A>>(
+        &mut self,
+        shown: BlockView,
+        decoding: &mut Decoding<A>,
+        tentative: Tentative<A>,
+        edit: &mut Edit<A>,
+        out: &mut O,
+    ) -> Result<Verdict, AllocError>
+        requires stopped { IsStopped self.old.block }
+        requires sized { IsSized decoding.old tentative }
+        requires belongs { IsEdit (limited self.old.core.own.table self.old.table) edit.old }
+        requires open { IsOpenAt (records self.old) shown.stream decoding.old.purpose }
+        ensures ok { OnOk result (Does (stepped (rule.concluded self.old (headers.fragment_read (with_table self.old edit.old) shown (after_of decoding.old tentative) true))) (O.octets out.old) self.new (O.octets out.new)) }
+        ensures verdict { IfOk result (λ verdict. verdict ≡ rule.effect_verdict (headers.fragment_read (with_table self.old edit.old) shown (after_of decoding.old tentative) true)) }
+        ensures err { OnErr result ((decoding.new ≡ before_of decoding.old tentative) × (self.new ≡ self.old) × (O.octets out.new ≡ O.octets out.old)) }
+    {
+        match decoding.bad_end(&tentative) {
+            Some(cause) => self.refuse(cause, decoding, tentative, out),
+            None => {
+                let change = block_ends(
+                    self.book,
+                    self.config,
+                    self.core(),
+                    &self.streams,
+                    &shown,
+                    decoding.purpose,
+                    &decoding.collected,
+                );
+                self.finish(None, &change, decoding, tentative, edit, out)
+            }
         }
     }
 
@@ -125,9 +201,15 @@ impl<'b, A: Allocator + Copy> State<'b, A> {
         ensures err { OnErr result ((decoding.new ≡ decoding.old) × (self.new ≡ self.old) × (O.octets out.new ≡ O.octets out.old)) }
     {
         let mut tentative = decoding.unchanged();
-        let effect = self.fragment(edit, &mut tentative, shown, decoding, octets, end_headers);
-        match effect {
-            Ok(effect) => { self.finish(effect, decoding, tentative, edit, out) }
+        match self.fragment(edit, &mut tentative, shown, decoding, octets) {
+            Ok(Ok(shown)) => {
+                if end_headers {
+                    self.ends(shown, decoding, tentative, edit, out)
+                } else {
+                    self.goes_on(shown, decoding, tentative, edit, out)
+                }
+            }
+            Ok(Err(cause)) => self.refuse(cause, decoding, tentative, out),
             Err(_) => {
                 decoding.give_up(tentative);
                 Err(AllocError)

@@ -1,7 +1,7 @@
 //! What one item does: the checks, the rule of its frame's type, and then the pending output is sent (RFC 9113, 5 and
 //! 6). Definitions: `effect` of h2_spec's `specs/Effect.antt`, `step` of `specs/Trace.antt`.
 
-ghost use Rattle.std.specs.Prelude.{◌≡◌, ◌<◌, ◌^◌, ◌==◌, [], length, None, Some, Ok, IfOk, OnOk, OnErr, if◌then◌else◌};
+ghost use Rattle.std.specs.Prelude.{◌≡◌, ℕ, true, ◌<◌, ◌^◌, ◌==◌, [], length, None, Some, Ok, IfOk, OnOk, OnErr, if◌then◌else◌};
 ghost use Rattle.h2_frame.specs.Items.{item_of};
 ghost use Rattle.h2_frame.specs.Parts.{data_seen, part_seen, settings_in};
 ghost use Rattle.h2_spec.specs.Answer.{picked};
@@ -26,6 +26,7 @@ ghost use Rattle.h2_conn.specs.Blocks.{IsStopped};
 ghost use Rattle.h2_conn.specs.Counts.{IsCounted};
 ghost use Rattle.h2_conn.specs.Does.{Does, IsShort, stepped};
 ghost use Rattle.h2_conn.specs.Records.{records};
+ghost use Rattle.h2_rules.specs.Plain.{only_raises, only_takes};
 ghost use Rattle.h2_rules.specs.Sound.{HasBody, IsSound, IsSoundState, IsSoundStream, in_force};
 
 use crate::scratch::Scratch;
@@ -34,10 +35,10 @@ use h2_frame::{DataPart, FrameRef, Item, Outgoing, Part, SettingsPart, part_of};
 use h2_rules::change::only_counts;
 use h2_rules::checks::{oversize, refusal};
 use h2_rules::control::{ignore, on_goaway, on_ping};
-use h2_rules::data::on_data;
+use h2_rules::data::{on_data, only_takes, take};
 use h2_rules::reset::on_reset;
 use h2_rules::settings::settings_rule;
-use h2_rules::window_update::{connection_window, on_window};
+use h2_rules::window_update::{connection_window, on_window, only_raises, raise};
 use h2_spec::causes::Cause;
 use h2_spec::connection::{ConnectionState, Phase};
 use h2_spec::frames::{ACK, END_STREAM, Head};
@@ -113,6 +114,20 @@ impl<'b, A: Allocator + Copy> State<'b, A> {
         on_data(self.config, self.core(), body, incoming, stream)
     }
 
+    /// DATA that moves nothing but numbers of its stream and of the connection.
+    #[inline(always)]
+    fn on_taken(&self, incoming: ReceivedData, stream: Stream) -> Reaction
+        requires found { stream ≡ stream_at self.now.core.last self.now.streams stream.id }
+        requires sound { IsSoundStream (in_force self.now.core) stream }
+        requires waits { HasBody self.now.book stream }
+        requires takes { only_takes self.now.core incoming stream ≡ true }
+        ensures rule { (body : ℕ) → result ≡ rule.on_data self.now.config self.now.core body incoming stream }
+        ensures counts { IsCounted self.now.core result }
+        ensures sound { IsSound self.now.book (records self.now) (in_force self.now.core) result }
+    {
+        take(self.config, self.core(), incoming, stream)
+    }
+
     /// RST_STREAM.
     #[inline(always)]
     fn on_reset(&self, id: u32) -> Reaction
@@ -141,6 +156,20 @@ impl<'b, A: Allocator + Copy> State<'b, A> {
         ensures sound { IsSound self.now.book (records self.now) (in_force self.now.core) result }
     {
         on_window(self.core(), increment, self.stream_at(id))
+    }
+
+    /// WINDOW_UPDATE on a stream that it changes in nothing but its send window.
+    #[inline(always)]
+    fn on_raised(&self, increment: u32, stream: Stream) -> Reaction
+        requires found { stream ≡ stream_at self.now.core.last self.now.streams stream.id }
+        requires sound { IsSoundStream (in_force self.now.core) stream }
+        requires waits { HasBody self.now.book stream }
+        requires raises { only_raises increment stream ≡ true }
+        ensures rule { result ≡ rule.on_window self.now.core increment stream }
+        ensures counts { IsCounted self.now.core result }
+        ensures sound { IsSound self.now.book (records self.now) (in_force self.now.core) result }
+    {
+        raise(self.core(), increment, stream)
     }
 
     /// WINDOW_UPDATE on the connection.
@@ -203,8 +232,8 @@ impl<'b, A: Allocator + Copy> State<'b, A> {
         ensures verdict { IfOk result (λ verdict. verdict ≡ rule.effect_verdict (makes self.old reaction)) }
         ensures err { OnErr result ((self.new ≡ self.old) × (O.octets out.new ≡ O.octets out.old)) }
     {
-        match reaction {
-            Reaction::ConnectionError(cause) => self.fail(cause, out),
+        match &reaction {
+            Reaction::ConnectionError(cause) => self.fail(*cause, out),
             Reaction::Continues(change) => self.apply_change(change, out),
         }
     }
@@ -242,6 +271,37 @@ impl<'b, A: Allocator + Copy> State<'b, A> {
     /// DATA is taken.
     #[inline(never)]
     fn take_data<O: Outgoing<'b, A>>(
+        &mut self,
+        head: &Head,
+        part: DataPart<'_>,
+        payload: &[u8],
+        out: &mut O,
+    ) -> Result<Verdict, AllocError>
+        requires fits { length payload.now < 2 ^ 24 }
+        requires part { part_of head.now payload.now ≡ Ok (OfData (data_seen part)) }
+        requires stopped { IsStopped self.old.block }
+        ensures ok { OnOk result (Does (stepped (rule.concluded self.old (makes self.old (rule.on_data self.old.config self.old.core (rule.body_length self.old.book (stream_at self.old.core.last self.old.streams head.now.stream)) (rule.incoming head.now payload.now (data_seen part.entry)) (stream_at self.old.core.last self.old.streams head.now.stream))))) (O.octets out.old) self.new (O.octets out.new)) }
+        ensures verdict { IfOk result (λ verdict. verdict ≡ rule.effect_verdict (makes self.old (rule.on_data self.old.config self.old.core (rule.body_length self.old.book (stream_at self.old.core.last self.old.streams head.now.stream)) (rule.incoming head.now payload.now (data_seen part.entry)) (stream_at self.old.core.last self.old.streams head.now.stream)))) }
+        ensures err { OnErr result ((self.new ≡ self.old) × (O.octets out.new ≡ O.octets out.old)) }
+    {
+        if head.has(END_STREAM) {
+            return self.take_other_data(head, part, payload, out);
+        }
+        self.look_up(head.stream);
+        let stream = self.stream_at(head.stream);
+        let incoming = incoming(head, payload, part);
+        if only_takes(&self.core, incoming, &stream) {
+            let reaction = self.on_taken(incoming, stream);
+            self.conclude_in_place(reaction, out)
+        } else {
+            self.take_other_data(head, part, payload, out)
+        }
+    }
+
+    /// DATA is taken where more comes of it than `only_takes` says: it ends the peer's side, or is refused or ignored. It is
+    /// apart, so that what is frequent moves no values for it.
+    #[inline(never)]
+    fn take_other_data<O: Outgoing<'b, A>>(
         &mut self,
         head: &Head,
         part: DataPart<'_>,
@@ -357,8 +417,30 @@ impl<'b, A: Allocator + Copy> State<'b, A> {
         ensures err { OnErr result ((self.new ≡ self.old) × (O.octets out.new ≡ O.octets out.old)) }
     {
         self.look_up(id);
+        let stream = self.stream_at(id);
+        if only_raises(increment, &stream) {
+            let reaction = self.on_raised(increment, stream);
+            self.conclude_in_place(reaction, out)
+        } else {
+            self.take_other_window(id, increment, out)
+        }
+    }
+
+    /// WINDOW_UPDATE on a stream is taken: it is refused or ignored, which is seldom, so this is apart.
+    #[inline(never)]
+    fn take_other_window<O: Outgoing<'b, A>>(
+        &mut self,
+        id: u32,
+        increment: u32,
+        out: &mut O,
+    ) -> Result<Verdict, AllocError>
+        requires stopped { IsStopped self.old.block }
+        ensures ok { OnOk result (Does (stepped (rule.concluded self.old (makes self.old (rule.on_window self.old.core increment (stream_at self.old.core.last self.old.streams id))))) (O.octets out.old) self.new (O.octets out.new)) }
+        ensures verdict { IfOk result (λ verdict. verdict ≡ rule.effect_verdict (makes self.old (rule.on_window self.old.core increment (stream_at self.old.core.last self.old.streams id)))) }
+        ensures err { OnErr result ((self.new ≡ self.old) × (O.octets out.new ≡ O.octets out.old)) }
+    {
         let reaction = self.on_stream_window(id, increment);
-        self.conclude_in_place(reaction, out)
+        self.conclude(reaction, out)
     }
 
     /// A frame that is ignored for this reason is taken.
@@ -474,7 +556,7 @@ impl<'b, A: Allocator + Copy> State<'b, A> {
             phase: Phase::Settings,
             ..self.core
         });
-        self.apply_change(change, out)
+        self.apply_change(&change, out)
     }
 
     /// One item: what it does, and then the pending output is sent; all or nothing. Answers how it is judged: for which

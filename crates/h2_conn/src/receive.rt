@@ -34,7 +34,7 @@ impl<'b, A: Allocator + Copy> State<'b, A> {
     {
         if self.core.acked {
             let change = ignoring(Ignored::SecondAcknowledgement, only_counts(self.core));
-            self.apply_change(change, out)
+            self.apply_change(&change, out)
         } else {
             self.come_into_force(out)
         }

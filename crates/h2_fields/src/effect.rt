@@ -150,6 +150,7 @@ fn enter_last<A: Allocator + Copy>(
 }
 
 /// The field at an index of the tables, with its mark: 1 to 61 are static, 62 is the newest entry (RFC 7541, 2.3.3).
+#[inline(always)]
 fn field_found<'d, A: Allocator + Copy>(
     draft: &'d Draft<'_, A>,
     index: u64,

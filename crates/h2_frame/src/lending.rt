@@ -75,7 +75,9 @@ impl<'b, A: Allocator> Lending<'b, A> {
     {
         self.own.reserve(9 + (front.len() + rest.len()))?;
         self.own.extend_from_slice(head)?;
-        self.own.extend_from_slice(front)?;
+        if !front.is_empty() {
+            self.own.extend_from_slice(front)?;
+        }
         self.own.extend_from_slice(rest)?;
         Ok(())
     }

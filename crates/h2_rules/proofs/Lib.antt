@@ -1,2 +1,3 @@
+mod PlainLaws
 mod SettingsLaws
 pub mod SoundLaws

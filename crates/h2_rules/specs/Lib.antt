@@ -1,4 +1,5 @@
 pub mod Block
 pub mod OneSetting
 pub mod Open
+pub mod Plain
 pub mod Sound

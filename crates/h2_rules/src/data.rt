@@ -5,7 +5,8 @@ ghost use Rattle.std.specs.Prelude.{◌≡◌, ℕ, ◌<◌, ◌≤◌, true, Li
 ghost use Rattle.h2_spec.specs.Answer.{Entry, picked};
 ghost use Rattle.h2_spec.specs.Data as rule;
 ghost use Rattle.h2_spec.specs.Effect as effect;
-ghost use Rattle.h2_spec.specs.Stream.{Records, is_live, stream_at};
+ghost use Rattle.h2_spec.specs.Stream.{Records, is_live, is_peer_open, stream_at};
+ghost use Rattle.h2_rules.specs.Plain.{only_takes};
 ghost use Rattle.h2_rules.specs.Sound.{HasBody, InForce, IsCalm, IsCredit, IsSound, IsSoundConnectionState, IsSoundStream, IsWindow, in_force, is_recorded};
 
 use crate::change::{ignoring, only_counts, outcome_without_frame, stream_error, with_outcome};
@@ -100,6 +101,14 @@ fn exceeds(window: Window, octets: u32) -> bool
     0 < octets && window.is_below(octets)
 }
 
+/// The content that a stream has received with more of it: as far as 64 bits go, which is far above what can be declared.
+fn content_with(stream: &Stream, incoming: ReceivedData) -> u64
+    ensures { result ≡ rule.content_with stream.now.numbers.content_received incoming.content }
+{
+    let received = stream.numbers.content_received;
+    received.saturating_add(u64::from(incoming.content))
+}
+
 /// DATA on a stream whose peer's side is open: the threshold, and the length of the answer's body.
 #[tactic(auto, unfolding(h2_spec::specs::Data::data_outcome))]
 fn data_outcome(threshold: u32, body: u64, incoming: ReceivedData, stream: Stream) -> StreamOutcome
@@ -172,6 +181,59 @@ pub fn on_data(
         }
         StreamState::WeReset => data_counted(config, core, incoming, Ignored::DataOnReset),
     }
+}
+
+/// Whether the peer may still send on a stream of this state.
+#[inline(always)]
+fn is_peer_open(kind: StreamState) -> bool
+    ensures { result ≡ is_peer_open kind }
+{
+    match kind {
+        StreamState::BothOpen | StreamState::HalfLocal => true,
+        StreamState::Idle
+        | StreamState::Skipped
+        | StreamState::HalfRemote
+        | StreamState::Ended
+        | StreamState::PeerReset
+        | StreamState::WeReset => false,
+    }
+}
+
+/// Whether DATA only moves numbers of its stream and of the connection: the peer's side is open and stays so, both receive
+/// windows hold it, and it is not more than was declared (RFC 9113, 6.1, 6.9 and 8.1.1).
+#[inline(always)]
+pub fn only_takes(core: &ConnectionState, incoming: ReceivedData, stream: &Stream) -> bool
+    ensures { result ≡ only_takes core.now incoming stream.now }
+{
+    is_peer_open(stream.kind)
+        && !incoming.ends
+        && !core.recv.is_below(incoming.octets)
+        && !exceeds(stream.numbers.recv, incoming.octets)
+        && length_broken(
+            stream.numbers.declared,
+            content_with(stream, incoming),
+            false,
+        )
+        .is_none()
+}
+
+/// DATA on a stream, as `on_data`, where it only moves numbers.
+#[inline(always)]
+pub fn take(
+    config: Config,
+    core: ConnectionState,
+    incoming: ReceivedData,
+    stream: Stream,
+) -> Reaction
+    requires core { IsSoundConnectionState core }
+    requires stream { IsSoundStream (in_force core) stream }
+    requires takes { only_takes core incoming stream ≡ true }
+    ensures rule { (body : ℕ) → result ≡ effect.on_data config core body incoming stream }
+    ensures sound { (book : List Entry) (r : Records) → HasBody book stream → stream ≡ stream_at r.last r.streams stream.id → r.last ≡ core.last → IsSound book r (in_force core) result }
+{
+    let change = counted(config.credit, core, incoming.octets);
+    let outcome = returned(config.credit, taken(stream, incoming));
+    Reaction::Continues(with_outcome(change, outcome))
 }
 
 /// DATA that its stream takes.

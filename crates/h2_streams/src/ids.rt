@@ -22,13 +22,16 @@ pub(crate) fn list<A: Allocator>(ids: &mut Vec<u32, A>, id: u32, is_in: bool)
     }
 }
 
-/// Takes an identifier out of a rising list.
+/// Takes an identifier out of a rising list, which most often is empty.
 #[inline(always)]
 fn remove<A: Allocator>(ids: &mut Vec<u32, A>, id: u32)
     requires { kept.IdsRise 0 ids.old.items }
     ensures items { ids.new.items ≡ kept.without id ids.old.items }
     ensures capacity { vec_capacity ids.old ≤ vec_capacity ids.new }
 {
+    if ids.is_empty() {
+        return;
+    }
     if let Ok(place) = ids.binary_search(&id) {
         ids.remove(place);
     }

@@ -1,32 +1,37 @@
 //! An entry of the dynamic table: a name and a value that the table owns, and their mark.
 //! Contracts see it as the record `Field` of the definitions (`h2_spec`, specs/Field.antt).
 
-ghost use Rattle.std.specs.Prelude.{◌≡◌, IfOk};
+ghost use Rattle.std.specs.Prelude.{◌≡◌, ◌++◌, IfOk};
 ghost use Rattle.h2_mark.specs.Mark.{mark_of};
 ghost use Rattle.h2_spec.specs.Field.{field};
 
 use h2_mark::FieldMark;
+use h2_spec::octets::{octets_from, octets_up_to};
 use std::alloc::{AllocError, Allocator};
 use std::marker::Model;
 
-/// A header field in the table.
+/// A header field in the table. Name and value are in one list, so that an entry takes memory once.
 #[derive(Drop)]
 pub struct TableEntry<A: Allocator> {
-    name: Vec<u8, A>,
-    value: Vec<u8, A>,
+    /// The octets of the name, and then those of the value, unless they are apart.
+    octets: Vec<u8, A>,
+    /// How many of the octets are the name's.
+    name_len: usize,
+    /// The octets of the value where it was given in a list of its own.
+    apart: Vec<u8, A>,
     mark: FieldMark,
 }
 
 impl<A: Allocator> Model for TableEntry<A> {
-    ghost use Rattle.std.specs.Prelude.{◌≡◌};
+    ghost use Rattle.std.specs.Prelude.{◌≡◌, ◌<◌, ◌≤◌, ◌++◌, [], drop, length, take};
     ghost use Rattle.h2_mark.specs.Mark.{mark_of};
     ghost use Rattle.h2_spec.specs.Field as spec;
 
     ghost Value = { spec.Field };
 
-    ghost view = { λ e. record { name = e.name.items; value = e.value.items } };
+    ghost view = { λ e. record { name = take e.name_len e.octets.items; value = drop e.name_len e.octets.items ++ e.apart.items } };
 
-    ghost invariant = { λ e. e.mark ≡ mark_of (spec.field e.name.items e.value.items) };
+    ghost invariant = { λ e. (e.name_len ≤ length e.octets.items) × (e.name_len < length e.octets.items → e.apart.items ≡ []) × (e.mark ≡ mark_of (spec.field (take e.name_len e.octets.items) (drop e.name_len e.octets.items ++ e.apart.items))) };
 }
 
 impl<A: Allocator> TableEntry<A> {
@@ -35,26 +40,36 @@ impl<A: Allocator> TableEntry<A> {
         ensures { result ≡ record { name = name.items; value = value.items } }
     {
         let mark = FieldMark::of(name.as_slice(), value.as_slice());
-        TableEntry { name, value, mark }
+        let name_len = name.len();
+        TableEntry {
+            octets: name,
+            name_len,
+            apart: value,
+            mark,
+        }
     }
 
     /// The octets of the name.
     pub fn name(&self) -> &[u8]
         ensures { result.now ≡ self.now.name }
     {
-        self.name.as_slice()
+        octets_up_to(self.octets.as_slice(), self.name_len)
     }
 
     /// The octets of the value.
     pub fn value(&self) -> &[u8]
         ensures { result.now ≡ self.now.value }
     {
-        self.value.as_slice()
+        if self.name_len < self.octets.len() {
+            octets_from(self.octets.as_slice(), self.name_len)
+        } else {
+            self.apart.as_slice()
+        }
     }
 
-    /// How many octets its two lists have places for.
+    /// How many octets it has places for.
     pub(crate) fn places(&self) -> usize {
-        self.name.capacity().saturating_add(self.value.capacity())
+        self.octets.capacity().saturating_add(self.apart.capacity())
     }
 
     /// What the entry can be malformed for by itself.
@@ -81,8 +96,9 @@ impl<A: Allocator + Copy> TableEntry<A> {
         ensures { IfOk result (λ entry. entry ≡ record { name = name.now; value = value.now }) }
     {
         Ok(TableEntry {
-            name: Vec::from_slice(alloc, name)?,
-            value: Vec::from_slice(alloc, value)?,
+            octets: joined(alloc, name, value)?,
+            name_len: name.len(),
+            apart: Vec::new(alloc),
             mark,
         })
     }
@@ -102,9 +118,11 @@ impl<A: Allocator + Copy> TableEntry<A> {
         requires marked { mark ≡ mark_of (field name.now value.now) }
         ensures { IfOk result (λ entry. entry ≡ record { name = name.now; value = value.now }) }
     {
+        let none = Vec::new(*self.octets.allocator());
         Ok(TableEntry {
-            name: refilled(self.name, name)?,
-            value: refilled(self.value, value)?,
+            octets: refilled(self.octets, name, value)?,
+            name_len: name.len(),
+            apart: none,
             mark,
         })
     }
@@ -118,22 +136,42 @@ impl<A: Allocator + Copy> TableEntry<A> {
         ensures same { IfOk result (λ copy. copy ≡ self.now) }
     {
         Ok(TableEntry {
-            name: self.name.clone()?,
-            value: self.value.clone()?,
+            octets: self.octets.clone()?,
+            name_len: self.name_len,
+            apart: self.apart.clone()?,
             mark: self.mark,
         })
     }
 }
 
-/// These octets, in the list's memory where that is enough, and in new memory of just their length elsewhere.
-fn refilled<A: Allocator + Copy>(list: Vec<u8, A>, octets: &[u8]) -> Result<Vec<u8, A>, AllocError>
-    ensures { IfOk result (λ list. list.items ≡ octets.now) }
+/// A name and a value in one list, in memory of just their length.
+fn joined<A: Allocator + Copy>(
+    alloc: A,
+    name: &[u8],
+    value: &[u8],
+) -> Result<Vec<u8, A>, AllocError>
+    ensures { IfOk result (λ list. list.items ≡ name.now ++ value.now) }
 {
-    if list.capacity() < octets.len() {
-        return Vec::from_slice(*list.allocator(), octets);
+    let mut list = Vec::with_capacity(alloc, name.len() + value.len())?;
+    list.extend_from_slice(name)?;
+    list.extend_from_slice(value)?;
+    Ok(list)
+}
+
+/// A name and a value in one list, in its memory where that is enough, and in new memory elsewhere.
+fn refilled<A: Allocator + Copy>(
+    list: Vec<u8, A>,
+    name: &[u8],
+    value: &[u8],
+) -> Result<Vec<u8, A>, AllocError>
+    ensures { IfOk result (λ list. list.items ≡ name.now ++ value.now) }
+{
+    if list.capacity() < name.len() + value.len() {
+        return joined(*list.allocator(), name, value);
     }
     let mut list = list;
     list.clear();
-    list.extend_from_slice(octets)?;
+    list.extend_from_slice(name)?;
+    list.extend_from_slice(value)?;
     Ok(list)
 }

@@ -20,7 +20,7 @@ pub send_and_update-requires : goal.send_and_update-requires
 send_and_update-requires g c =
     let inside = c.self.inside in
     let state = c.self.invariant.0 in
-    let change = c.args.change in
+    let change = c.args.change.now in
     let sound = inside-sound inside.book.now inside.core inside.streams change state (subst (λ (s : State). IsSoundChange s.book (records s) (in_force s.core) change) (sym c.self.view_is) c.requires.sound) in
     λ k. (
       search rules,
@@ -34,7 +34,7 @@ pub invariant_of-self : goal.invariant_of-self
 invariant_of-self g c =
     let inside = c.self.inside in
     let state = c.self.invariant.0 in
-    let change = c.args.change in
+    let change = c.args.change.now in
     let book = inside.book.now in
     let r = updated_records change.record_update inside.streams in
     let sound = inside-sound book inside.core inside.streams change state (subst (λ (s : State). IsSoundChange s.book (records s) (in_force s.core) change) (sym c.self.view_is) c.requires.sound) in
@@ -52,7 +52,7 @@ invariant_of-self g c =
 pub returns-in-Ok-clause-ok : goal.returns-in-Ok-clause-ok
 returns-in-Ok-clause-ok g c =
     let inside = c.self.inside in
-    let change = c.args.change in
+    let change = c.args.change.now in
     let held : State = record { book = inside.book.now; config = inside.config; core = inside.core; block = inside.block; table = inside.table.table; streams = inside.streams.streams } in
     let counts = counts-sent change.core (updated_streams change.record_update inside.streams.streams) c.in-Ok.count c.with_sent-self-inside.result c.in-Ok.ensures.count.0 c.with_sent-self-inside.ensures in
     subst (λ (s : State). Does (then_sent change.core.phase (made s change)) (g.O.Outgoing.octets c.args.out.now)

@@ -13,7 +13,7 @@ use Rattle.h2_conn.proofs.FragmentLaws.{fragment-faulty, fragment-read, not-memo
 use Rattle.h2_conn.proofs.state.State.fragment.Goals as goal
 
 pub returns-in-Ok-clause-effect : goal.returns-in-Ok-clause-effect
-returns-in-Ok-clause-effect g c =
+returns-in-Ok-clause-effect g c = λ end_headers.
     let a = c.args in
     let table = c.self.inside.table in
     let decoded_is = c.decode in
@@ -26,33 +26,31 @@ returns-in-Ok-clause-effect g c =
     let held = subst (λ (l : ℕ). decoded l (before_fragment table.table before) (a.tentative.now.before ++ a.octets.now) ≡ after_fragment (edited table.table.entries edit) now) c.self.invariant.1 done in
     let is = subst (λ (x : State). decoded x.core.own.table (before_fragment x.table before) (a.tentative.now.before ++ a.octets.now) ≡ after_fragment (edited x.table.entries edit) now) c.self.view_is held in
     let size : c.list_size.result ≡ list_size now.fields = c.list_size.ensures in
-    c.read.ensures.effect (edited s.table.entries edit)
-    ∙ sym (fragment-read s a.shown before now a.octets.now a.end_headers (edited s.table.entries edit) c.list_size.result few decoded_is.ensures.purpose size is)
+    sym (fragment-read s a.shown before now a.octets.now end_headers (edited s.table.entries edit) c.list_size.result few decoded_is.ensures.purpose size is)
 
-pub returns-in-Ok-clause-sound : goal.returns-in-Ok-clause-sound
-returns-in-Ok-clause-sound g c =
-    let table = c.self.inside.table in
-    let s = c.args.self.now in
-    let edit = c.decode.new.edit in
-    let held = subst (λ (l : ℕ). IsEdit (limited l table.table) edit) c.self.invariant.1 c.decode.ensures.belongs in
-    c.read.ensures.sound (limited s.core.own.table s.table) edit (subst (λ (x : State). IsEdit (limited x.core.own.table x.table) edit) c.self.view_is held)
-
-pub returns-in-Some-clause-sound : goal.returns-in-Some-clause-sound
-returns-in-Some-clause-sound g c =
+pub returns-in-Ok-clause-belongs : goal.returns-in-Ok-clause-belongs
+returns-in-Ok-clause-belongs g c =
     let table = c.self.inside.table in
     let edit = c.decode.new.edit in
     let held = subst (λ (l : ℕ). IsEdit (limited l table.table) edit) c.self.invariant.1 c.decode.ensures.belongs in
     subst (λ (x : State). IsEdit (limited x.core.own.table x.table) edit) c.self.view_is held
 
-pub returns-then-is_block_too_large-clause-sound : goal.returns-then-is_block_too_large-clause-sound
-returns-then-is_block_too_large-clause-sound g c =
+pub returns-in-Some-clause-belongs : goal.returns-in-Some-clause-belongs
+returns-in-Some-clause-belongs g c =
+    let table = c.self.inside.table in
+    let edit = c.decode.new.edit in
+    let held = subst (λ (l : ℕ). IsEdit (limited l table.table) edit) c.self.invariant.1 c.decode.ensures.belongs in
+    subst (λ (x : State). IsEdit (limited x.core.own.table x.table) edit) c.self.view_is held
+
+pub returns-then-is_block_too_large-clause-belongs : goal.returns-then-is_block_too_large-clause-belongs
+returns-then-is_block_too_large-clause-belongs g c =
     let table = c.self.inside.table in
     let edit = c.without_changes.new.edit in
     let held = subst (λ (l : ℕ). IsEdit (limited l table.table) edit) c.self.invariant.1 c.without_changes.ensures.belongs in
     subst (λ (x : State). IsEdit (limited x.core.own.table x.table) edit) c.self.view_is held
 
 pub returns-in-Some-clause-effect : goal.returns-in-Some-clause-effect
-returns-in-Some-clause-effect g c =
+returns-in-Some-clause-effect g c = λ end_headers.
     let a = c.args in
     let table = c.self.inside.table in
     let decoded_is = c.decode in
@@ -63,7 +61,7 @@ returns-in-Some-clause-effect g c =
     let found = subst (λ r. IfErr r (λ fault. fault ≢ NoMemory → HasFault fault (decoded table.limit (before_fragment table.table before) (a.tentative.now.before ++ a.octets.now)))) c.in-Err.is decoded_is.ensures.faulty in
     let held = subst (λ (l : ℕ). HasFault c.in-Err.fault (decoded l (before_fragment table.table before) (a.tentative.now.before ++ a.octets.now))) c.self.invariant.1 (found (not-memory c.in-Err.fault c.in-Some.cause named)) in
     let has = subst (λ (x : State). HasFault c.in-Err.fault (decoded x.core.own.table (before_fragment x.table before) (a.tentative.now.before ++ a.octets.now))) c.self.view_is held in
-    sym (fragment-faulty s a.shown before a.octets.now a.end_headers c.in-Err.fault c.in-Some.cause few has named)
+    sym (fragment-faulty s a.shown before a.octets.now end_headers c.in-Err.fault c.in-Some.cause few has named)
 
 pub returns-then-is_block_too_large-clause-sized : goal.returns-then-is_block_too_large-clause-sized
 returns-then-is_block_too_large-clause-sized g c =
