@@ -13,7 +13,7 @@ use std::marker::Model;
 use std::mem;
 
 /// A field block that has begun; after the end of the connection it is shown, and decoded no more. What it is decoded to
-/// changes places with memory of the caller, so that no fragment moves it.
+/// changes places with memory of the caller, so that no fragment copies it into memory of its own.
 #[derive(Drop)]
 pub struct OpenBlock<A: Allocator> {
     /// The block as the state shows it.
@@ -34,18 +34,6 @@ impl<A: Allocator> Model for OpenBlock<A> {
 }
 
 impl<A: Allocator + Copy> OpenBlock<A> {
-    /// A block that goes on with this decoding, which is taken out.
-    fn begun(shown: BlockView, decoding: &mut Decoding<A>) -> Self
-        ensures { Some result ≡ block_after (Some shown) decoding.old }
-    {
-        let none = Decoding::fresh(decoding.collected.allocator(), decoding.purpose, false);
-        OpenBlock {
-            shown,
-            decoding: mem::replace(decoding, none),
-            goes_on: true,
-        }
-    }
-
     /// A copy of the block, in memory of its own.
     fn try_clone(&self) -> Result<OpenBlock<A>, AllocError>
         ensures { IfOk result (λ copy. copy ≡ self.now) }
@@ -169,7 +157,12 @@ fn begin<A: Allocator + Copy>(
 )
     ensures { block.new ≡ block_after (Some shown) decoding.old }
 {
-    *block = Some(OpenBlock::begun(shown, decoding));
+    let none = Decoding::fresh(decoding.collected.allocator(), decoding.purpose, false);
+    *block = Some(OpenBlock {
+        shown,
+        decoding: mem::replace(decoding, none),
+        goes_on: true,
+    });
 }
 
 /// A block that HEADERS open, before its first fragment.

@@ -46,7 +46,7 @@ makes_open s edit shown d change = headers.Makes (record (with_table s edit) { b
 abbrev pub limited : ℕ → Table → LimitedTable
 limited limit table = record { table = table; limit = limit }
 
--- what is shown of the open block, and how far it is decoded, if it is decoded further
+-- the same of a block that may be open
 abbrev pub decoding_of : Option OpenBlock → Option (BlockView × Decoding)
 decoding_of None = None
 decoding_of (Some b) = decoding_in b.shown b.decoding

@@ -1,7 +1,8 @@
 //! Octets of its own and octets that are lent, in one order: each loan is at a place among the own ones. Octets leave
 //! from the front and from the end without being moved. Definitions: `specs/Loans.antt`.
 
-ghost use Rattle.std.specs.Prelude.{◌≡◌, ℕ, ◌+◌, ◌-◌, ◌<◌, ◌≤◌, ◌^◌, ◌++◌, [], length, take, drop, IsSome, IsTrue, OnOk, OnErr};
+ghost use Rattle.std.specs.Prelude.{◌≡◌, ℕ, ◌+◌, ◌-◌, ◌<◌, ◌≤◌, ◌^◌, ◌++◌, [], length, take, drop, if◌then◌else◌, is_ok, IsOk, IsSome, IsTrue, OnOk, OnErr};
+ghost use Rattle.std.specs.Vec.{vec_capacity, vec_len};
 ghost use Rattle.h2_frame.specs.Loans.{first_loan, IsPutShorter, IsShortened, IsTaken};
 ghost use Rattle.std.specs.VecDeque.{deque_capacity, deque_len};
 
@@ -35,6 +36,19 @@ impl<'b, A: Allocator> Model for Lending<'b, A> {
     ghost view = { λ l. spread l.gone l.own.items l.loans.items };
 
     ghost invariant = { λ l. AreLoans l.gone (length l.own.items) l.loans.items };
+}
+
+/// Appends the front of a payload, which most often is none; nothing where memory is refused.
+#[inline(always)]
+fn append_front<A: Allocator>(own: &mut Vec<u8, A>, front: &[u8]) -> Result<(), AllocError>
+    ensures items { own.new.items ≡ (if is_ok result then own.old.items ++ front.now else own.old.items) }
+    ensures capacity { vec_capacity own.old ≤ vec_capacity own.new }
+    ensures succeeds { vec_len own.old + length front.now ≤ vec_capacity own.old → IsOk result }
+{
+    if front.is_empty() {
+        return Ok(());
+    }
+    own.extend_from_slice(front)
 }
 
 impl<'b, A: Allocator + Copy> Lending<'b, A> {
@@ -75,9 +89,7 @@ impl<'b, A: Allocator> Lending<'b, A> {
     {
         self.own.reserve(9 + (front.len() + rest.len()))?;
         self.own.extend_from_slice(head)?;
-        if !front.is_empty() {
-            self.own.extend_from_slice(front)?;
-        }
+        append_front(&mut self.own, front)?;
         self.own.extend_from_slice(rest)?;
         Ok(())
     }
