@@ -17,7 +17,7 @@ pub struct Scratch<A: Allocator> {
 
 impl<A: Allocator + Copy> Scratch<A> {
     /// Takes no memory.
-    pub fn new(alloc: A) -> Self {
+    pub(crate) fn new(alloc: A) -> Self {
         Scratch {
             edit: Edit::new(alloc),
             decoding: Decoding::fresh(alloc, Purpose::Request, false),
