@@ -1,6 +1,6 @@
 -- Frames that only move numbers: what their tests say, and which rule they follow.
-use Rattle.std.proofs.Common.{◌≡◌, ℕ, ◌==◌, nat_lt, Bool, true, false, ◌&&◌, not, cond, Option, Some, None, refl, sym, ap, ◌∙◌, pos, ◌+ℤ◌, int_lt}
-use Rattle.std.proofs.lemmas.Bool.{false≢true}
+use Rattle.std.proofs.Common.{◌≡◌, ℕ, nat_lt, Bool, true, false, ◌&&◌, not, cond, Option, Some, None, refl, ap, ◌∙◌, pos, int_lt}
+use Rattle.std.proofs.lemmas.Bool.{false≢true, not-true}
 use Rattle.std.specs.Option.{is_some}
 use Rattle.h2_spec.specs.declared.causes.Cause.{Cause}
 use Rattle.h2_spec.specs.declared.causes.Cause.TheVariants.{ConnectionWindowExceeded, StreamWindowExceeded}
@@ -19,72 +19,43 @@ use Rattle.h2_spec.specs.Effect.{data_rule, ignore, on_data}
 use Rattle.h2_spec.specs.ReactionTable.{Cell, DataRule, Rule, Take, data_cell, run_cell}
 use Rattle.h2_spec.specs.Stream.{is_live, is_peer_open}
 use Rattle.h2_spec.specs.StreamEnds.{peer_ended}
-use Rattle.h2_spec.specs.Window.{is_above_max}
+use Rattle.h2_spec.proofs.Computed.{and-left, and-right}
 use Rattle.h2_rules.specs.Plain.{only_raises, only_takes}
 
 -- an increment that only raises a window is one of a live stream
 pub raises-live : (increment : ℕ) (st : Stream) → only_raises increment st ≡ true → is_live st.kind ≡ true
-raises-live increment st h = by_test (is_live st.kind) h
-  where
-    by_test : (t : Bool) → t && not (increment == 0) && not (is_above_max (st.numbers.send +ℤ pos increment)) ≡ true → t ≡ true
-    by_test true h = refl
-    by_test false h = h
+raises-live increment st h = and-left _ _ (and-left _ _ h)
 
-negated : (t : Bool) → not t ≡ true → t ≡ false
-negated true h = absurd (false≢true h)
-negated false h = refl
-
-all-five : (a b c d e : Bool) → (a && not b && not c && not d && not e) ≡ true → (a ≡ true) × (b ≡ false) × (c ≡ false) × (d ≡ false) × (e ≡ false)
-all-five false b c d e h = absurd (false≢true h)
-all-five true true c d e h = absurd (false≢true h)
-all-five true false true d e h = absurd (false≢true h)
-all-five true false false true e h = absurd (false≢true h)
-all-five true false false false true h = absurd (false≢true h)
-all-five true false false false false h = (refl, refl, refl, refl, refl)
-
-no-cause : (o : Option Cause) → is_some o ≡ false → o ≡ None
+no-cause : (o : Option Cause) → not (is_some o) ≡ true → o ≡ None
 no-cause None h = refl
-no-cause (Some cause) h = absurd (false≢true (sym h))
+no-cause (Some cause) h = absurd (false≢true h)
 
 -- a stream on which the peer may still send is live, and takes DATA
-pub peer-open-live : (kind : StreamState) → is_peer_open kind ≡ true → is_live kind ≡ true
-peer-open-live Idle h = h
-peer-open-live Skipped h = h
-peer-open-live BothOpen h = h
-peer-open-live HalfRemote h = absurd (false≢true h)
-peer-open-live HalfLocal h = h
-peer-open-live Ended h = h
-peer-open-live PeerReset h = h
-peer-open-live WeReset h = h
-
-open-takes : (kind : StreamState) → is_peer_open kind ≡ true → data_cell kind ≡ Rule Take
+open-takes : (kind : StreamState) → is_peer_open kind ≡ true → (is_live kind ≡ true) × (data_cell kind ≡ Rule Take)
 open-takes Idle h = absurd (false≢true h)
 open-takes Skipped h = absurd (false≢true h)
-open-takes BothOpen h = refl
+open-takes BothOpen h = (refl, refl)
 open-takes HalfRemote h = absurd (false≢true h)
-open-takes HalfLocal h = refl
+open-takes HalfLocal h = (refl, refl)
 open-takes Ended h = absurd (false≢true h)
 open-takes PeerReset h = absurd (false≢true h)
 open-takes WeReset h = absurd (false≢true h)
 
--- what the test says, part by part
-abbrev pub declared_broken : ReceivedData → Stream → Option Cause
+-- why DATA without END_STREAM is more than was declared, if it is
+abbrev declared_broken : ReceivedData → Stream → Option Cause
 declared_broken d st = length_broken st.numbers.declared (content_with st.numbers.content_received d.content) false
 
+-- what the test says, part by part
 parts : (core : ConnectionState) (d : ReceivedData) (st : Stream) → only_takes core d st ≡ true →
-    (is_peer_open st.kind ≡ true) × (d.ends ≡ false) × (int_lt core.recv (pos d.octets) ≡ false) × ((nat_lt 0 d.octets && int_lt st.numbers.recv (pos d.octets)) ≡ false) × (is_some (declared_broken d st) ≡ false)
-parts core d st h = all-five (is_peer_open st.kind) d.ends (int_lt core.recv (pos d.octets)) (nat_lt 0 d.octets && int_lt st.numbers.recv (pos d.octets)) (is_some (declared_broken d st)) h
+    (is_peer_open st.kind ≡ true) × (d.ends ≡ false) × (int_lt core.recv (pos d.octets) ≡ false) × ((nat_lt 0 d.octets && int_lt st.numbers.recv (pos d.octets)) ≡ false) × (declared_broken d st ≡ None)
+parts core d st h =
+    let four = and-left _ _ h in
+    let three = and-left _ _ four in
+    let two = and-left _ _ three in
+    (and-left _ _ two, not-true _ (and-right _ _ two), not-true _ (and-right _ _ three), not-true _ (and-right _ _ four), no-cause (declared_broken d st) (and-right _ _ h))
 
 pub takes-live : (core : ConnectionState) (d : ReceivedData) (st : Stream) → only_takes core d st ≡ true → is_live st.kind ≡ true
-takes-live core d st h = peer-open-live st.kind (parts core d st h).0
-
--- the connection's window holds it
-pub takes-within : (core : ConnectionState) (d : ReceivedData) (st : Stream) → only_takes core d st ≡ true → int_lt core.recv (pos d.octets) ≡ false
-takes-within core d st h = (parts core d st h).2
-
--- and the stream's
-pub takes-fits : (core : ConnectionState) (d : ReceivedData) (st : Stream) → only_takes core d st ≡ true → (nat_lt 0 d.octets && int_lt st.numbers.recv (pos d.octets)) ≡ false
-takes-fits core d st h = (parts core d st h).3
+takes-live core d st h = (open-takes st.kind (parts core d st h).0).0
 
 -- what the stream does with it
 outcome-taken : (threshold body : ℕ) (d : ReceivedData) (st : Stream) → d.ends ≡ false → (nat_lt 0 d.octets && int_lt st.numbers.recv (pos d.octets)) ≡ false → declared_broken d st ≡ None →
@@ -103,6 +74,6 @@ pub takes-rule : (config : Config) (core : ConnectionState) (body : ℕ) (d : Re
 unfolding on_data data_taken
 takes-rule config core body d st h =
     let all = parts core d st h in
-    ap (λ (cell : Cell DataRule). run_cell ConnectionError (ignore core) (λ rule. data_rule rule config core body d st) cell) (open-takes st.kind all.0)
+    ap (λ (cell : Cell DataRule). run_cell ConnectionError (ignore core) (λ rule. data_rule rule config core body d st) cell) (open-takes st.kind all.0).1
     ∙ ap (λ (t : Bool). cond t (let r : Reaction = ConnectionError ConnectionWindowExceeded in r) (Continues (with_outcome (counted config.credit core d.octets) (data_outcome config.credit body d st)))) all.2
-    ∙ ap (λ (o : StreamOutcome). Continues (with_outcome (counted config.credit core d.octets) o)) (outcome-taken config.credit body d st all.1 all.3 (no-cause (declared_broken d st) all.4))
+    ∙ ap (λ (o : StreamOutcome). Continues (with_outcome (counted config.credit core d.octets) o)) (outcome-taken config.credit body d st all.1 all.3 all.4)
